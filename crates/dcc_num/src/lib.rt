@@ -1,0 +1,55 @@
+//! Registers, flags and arithmetic of the 8086 (8086 Family User's Manual, chapter 2).
+#![tactic(auto)]
+
+/// The width of an operand.
+#[derive(Clone, Copy, PartialEq, Eq, Debug)]
+pub enum Width {
+    /// 8 bits.
+    Byte,
+    /// 16 bits.
+    Word,
+}
+
+/// A word register, in the order of its number in an instruction, from 0 to 7.
+#[derive(Clone, Copy, PartialEq, Eq, Debug)]
+pub enum Reg {
+    Ax,
+    Cx,
+    Dx,
+    Bx,
+    Sp,
+    Bp,
+    Si,
+    Di,
+}
+
+/// One of the two bytes of AX, CX, DX or BX.
+#[derive(Clone, Copy, PartialEq, Eq, Debug)]
+pub enum Half {
+    /// Bits 0 to 7.
+    Low,
+    /// Bits 8 to 15.
+    High,
+}
+
+/// One of the four modelled flags.
+#[derive(Clone, Copy, PartialEq, Eq, Debug)]
+pub enum FlagName {
+    /// Carry.
+    Cf,
+    /// Zero.
+    Zf,
+    /// Sign.
+    Sf,
+    /// Signed overflow.
+    Of,
+}
+
+/// The values of the four modelled flags.
+#[derive(Clone, Copy, PartialEq, Eq, Debug)]
+pub struct Flags {
+    pub cf: bool,
+    pub zf: bool,
+    pub sf: bool,
+    pub of: bool,
+}

@@ -1,0 +1,14 @@
+//! A program of the 8086: its image, its instructions, and what the analyses find in it.
+#![tactic(auto)]
+
+pub mod frame;
+pub mod image;
+pub mod instr;
+pub mod procedure;
+pub mod refusal;
+
+pub use frame::{Cell, Cells, Exposed, Frame, Heights, Program};
+pub use image::Image;
+pub use instr::{Alu, Cond, Ea, Instr, Op, Operand, Plain, Shift, Unary};
+pub use procedure::{Layout, Node, Proc};
+pub use refusal::{LimitName, Refusal};

@@ -1,0 +1,41 @@
+use crate::instr::Instr;
+use dcc_num::Flags;
+use indexmap::IndexMap;
+use smallvec::SmallVec;
+
+/// An instruction of a procedure, with the offsets of its successors.
+#[derive(Drop)]
+pub struct Node {
+    pub instr: Instr,
+    /// The target and then the next instruction, where an instruction has both.
+    pub succ: SmallVec<u16, 2>,
+}
+
+/// A procedure: its instructions by their offsets in the code segment, in ascending order.
+#[derive(Drop)]
+pub struct Proc {
+    /// The offset of its first instruction.
+    pub entry: u16,
+    pub nodes: IndexMap<u16, Node>,
+}
+
+/// What the prelude of a program sets up.
+#[derive(Drop)]
+pub struct Layout {
+    /// The data segment.
+    pub ds: u16,
+    /// How far the stack segment begins above the data segment, in bytes.
+    pub delta: u16,
+    /// The lowest offset of the stack in the data segment.
+    pub lo: u16,
+    /// The offset in the data segment just above the stack.
+    pub hi: u16,
+    /// The offset in the code segment just behind the prelude.
+    pub start_ip: u16,
+    /// The offset in the code segment just behind the code.
+    pub code_end: u32,
+    /// The word registers after the prelude, by number.
+    pub regs: [u16; 8],
+    /// The flags after the prelude.
+    pub flags: Flags,
+}

@@ -1,0 +1,2 @@
+//! Laws on deterministic runs.
+#![tactic(auto)]
