@@ -1,0 +1,10 @@
+pub mod Tree
+pub mod Types
+pub mod Token
+pub mod Lexing
+pub mod Grammar
+pub mod Rules
+pub mod Value
+pub mod Run
+pub mod Text
+pub mod Written

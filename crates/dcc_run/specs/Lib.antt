@@ -1,0 +1,4 @@
+pub mod End
+pub mod Prefix
+pub mod System
+pub mod Follows

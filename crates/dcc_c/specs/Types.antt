@@ -1,0 +1,61 @@
+-- Number types and conversions (ISO/IEC 9899:1990, 6.1.2.5 and 6.2), on two's complement bit patterns.
+use Rattle.std.specs.Prelude.{ℕ, ◌+◌, ◌-◌, ◌*◌, ◌%◌, ◌^◌, Bool, true, false, ◌&&◌, nat_le, if◌then◌else◌}
+use Rattle.dcc_c.specs.declared.syntax.Base.{Base}
+use Rattle.dcc_c.specs.declared.syntax.Base.TheVariants.{Schar, Uchar, Int, Uint, Long, Ulong}
+use Rattle.dcc_c.specs.declared.syntax.CType.{CType}
+
+-- how many bits a number type has
+abbrev pub bits_of : Base → ℕ
+bits_of Schar = 8
+bits_of Uchar = 8
+bits_of Int = 16
+bits_of Uint = 16
+bits_of Long = 32
+bits_of Ulong = 32
+
+abbrev pub is_signed : Base → Bool
+is_signed Schar = true
+is_signed Uchar = false
+is_signed Int = true
+is_signed Uint = false
+is_signed Long = true
+is_signed Ulong = false
+
+-- the type of an operand: char types become int
+abbrev pub promoted : Base → Base
+promoted Schar = Int
+promoted Uchar = Int
+promoted Int = Int
+promoted Uint = Uint
+promoted Long = Long
+promoted Ulong = Ulong
+
+-- the common type of two promoted types: the first of unsigned long, long, unsigned int, int that one of them has
+abbrev pub common_of_promoted : Base → Base → Base
+common_of_promoted Ulong b = Ulong
+common_of_promoted Long Ulong = Ulong
+common_of_promoted Long _ = Long
+common_of_promoted Uint Ulong = Ulong
+common_of_promoted Uint Long = Long
+common_of_promoted Uint _ = Uint
+common_of_promoted _ b = promoted b
+
+-- the common type of two operands
+abbrev pub common_type : Base → Base → Base
+common_type a b = common_of_promoted (promoted a) (promoted b)
+
+-- the low bits of a number that its type has
+abbrev pub wrapped : Base → ℕ → ℕ
+wrapped type n = n % 2 ^ bits_of type
+
+-- the 32 bits of a value: a negative one is extended by ones
+abbrev pub extended : Base → ℕ → ℕ
+extended type n = if is_signed type && nat_le (2 ^ (bits_of type - 1)) n then n + (2 ^ 32 - 2 ^ bits_of type) else n
+
+-- a value of the first type as one of the second: its low bits, extended where the second is wider
+abbrev pub convert : Base → Base → ℕ → ℕ
+convert from to n = wrapped to (extended from n)
+
+-- a number type
+abbrev pub plain : Base → CType
+plain base = record { base = base; pointer = false }
