@@ -1,0 +1,161 @@
+-- The machine: its registers, flags, memory and console (8086 Family User's Manual, chapter 2).
+use Rattle.std.specs.Prelude.{ℕ, ◌+◌, ◌-◌, ◌*◌, ◌/◌, ◌%◌, Bool, true, false, ◌||◌, if◌then◌else◌, List, [], ◌∷◌, ◌++◌, length, replicate, slice_index, slice_set, Option, Some, None}
+use Rattle.dcc_run.specs.End.{End, Running}
+use Rattle.dcc_num.specs.declared.Width.{Width}
+use Rattle.dcc_num.specs.declared.Width.TheVariants.{Byte as byte_width, Word as word_width}
+use Rattle.dcc_num.specs.declared.Reg.{Reg}
+use Rattle.dcc_num.specs.declared.Reg.TheVariants.{Ax, Cx, Dx, Bx, Sp, Bp, Si, Di}
+use Rattle.dcc_num.specs.declared.Half.{Half}
+use Rattle.dcc_num.specs.declared.Half.TheVariants.{Low, High}
+use Rattle.dcc_num.specs.declared.Flags.{Flags}
+use Rattle.dcc_prog.specs.declared.image.Image.{Image}
+use Rattle.dcc_prog.specs.declared.instr.Ea.{Ea}
+use Rattle.dcc_prog.specs.declared.instr.Operand.{Operand}
+use Rattle.dcc_prog.specs.declared.instr.Operand.TheVariants.{Word, Byte, Seg, Mem, Const}
+
+-- a state of the machine
+pub record State : Type 0 where
+  -- the word registers by number: AX, CX, DX, BX, SP, BP, SI, DI
+  pub regs : List ℕ
+  -- the segment registers by number: ES, CS, SS, DS
+  pub segs : List ℕ
+  pub flags : Flags
+  pub ip : ℕ
+  -- 1,048,576 bytes by physical address
+  pub memory : List ℕ
+  -- the input bytes that are not yet read, and the output so far
+  pub input : List ℕ
+  pub out : List ℕ
+  pub end : End
+
+-- Registers.
+
+-- the number of a word register
+abbrev pub reg_number : Reg → ℕ
+reg_number Ax = 0
+reg_number Cx = 1
+reg_number Dx = 2
+reg_number Bx = 3
+reg_number Sp = 4
+reg_number Bp = 5
+reg_number Si = 6
+reg_number Di = 7
+
+-- what a word register holds
+abbrev pub word_in : State → Reg → ℕ
+word_in s r = slice_index s.regs (reg_number r)
+
+-- one byte of a word
+abbrev pub half_of_word : Half → ℕ → ℕ
+half_of_word Low word = word % 256
+half_of_word High word = word / 256
+
+-- a word after one of its bytes has taken a value
+abbrev pub word_with_half : Half → ℕ → ℕ → ℕ
+word_with_half Low word byte = word / 256 * 256 + byte
+word_with_half High word byte = byte * 256 + word % 256
+
+abbrev pub with_word_in : State → Reg → ℕ → State
+with_word_in s r word = record s { regs = slice_set s.regs (reg_number r) word }
+
+-- the numbers of the segment registers
+abbrev pub code_segment : State → ℕ
+code_segment s = slice_index s.segs 1
+
+abbrev pub stack_segment : State → ℕ
+stack_segment s = slice_index s.segs 2
+
+abbrev pub data_segment : State → ℕ
+data_segment s = slice_index s.segs 3
+
+-- Memory.
+
+-- the physical address of an offset in a segment
+abbrev pub physical : ℕ → ℕ → ℕ
+physical segment offset = (segment * 16 + offset) % 1048576
+
+-- the byte at an offset in a segment
+abbrev pub byte_in : State → ℕ → ℕ → ℕ
+byte_in s segment offset = slice_index s.memory (physical segment offset)
+
+-- the word at an offset in a segment, low byte first; the offset of its second byte wraps
+abbrev pub word_at_offset : State → ℕ → ℕ → ℕ
+word_at_offset s segment offset =
+    byte_in s segment offset + 256 * byte_in s segment ((offset + 1) % 65536)
+
+abbrev pub with_byte_in : State → ℕ → ℕ → ℕ → State
+with_byte_in s segment offset byte =
+    record s { memory = slice_set s.memory (physical segment offset) byte }
+
+abbrev pub with_word_at_offset : State → ℕ → ℕ → ℕ → State
+with_word_at_offset s segment offset word =
+    with_byte_in (with_byte_in s segment offset (word % 256)) segment ((offset + 1) % 65536) (word / 256)
+
+-- Operands.
+
+-- what a part of an address adds to it
+abbrev pub part_of : State → Option Reg → ℕ
+part_of s None = 0
+part_of s (Some r) = word_in s r
+
+-- the offset of a memory operand
+abbrev pub offset_of : State → Ea → ℕ
+offset_of s ea = (part_of s ea.base + part_of s ea.index + ea.disp) % 65536
+
+abbrev pub is_bp : Option Reg → Bool
+is_bp (Some Bp) = true
+is_bp _ = false
+
+-- the segment of a memory operand: that of the stack where BP is used, else that of the data
+abbrev pub segment_of : State → Ea → ℕ
+segment_of s ea = if is_bp ea.base || is_bp ea.index then stack_segment s else data_segment s
+
+-- what an operand holds
+abbrev pub operand_value : State → Operand → ℕ
+operand_value s (Word r) = word_in s r
+operand_value s (Byte r half) = half_of_word half (word_in s r)
+operand_value s (Seg number) = slice_index s.segs number
+operand_value s (Mem byte_width ea) = byte_in s (segment_of s ea) (offset_of s ea)
+operand_value s (Mem word_width ea) = word_at_offset s (segment_of s ea) (offset_of s ea)
+operand_value s (Const width constant) = constant
+
+-- the state after an operand has taken a value
+abbrev pub with_operand : State → Operand → ℕ → State
+with_operand s (Word r) v = with_word_in s r v
+with_operand s (Byte r half) v = with_word_in s r (word_with_half half (word_in s r) v)
+with_operand s (Seg number) v = record s { segs = slice_set s.segs number v }
+with_operand s (Mem byte_width ea) v = with_byte_in s (segment_of s ea) (offset_of s ea) v
+with_operand s (Mem word_width ea) v = with_word_at_offset s (segment_of s ea) (offset_of s ea) v
+with_operand s (Const width constant) v = s
+
+-- the width of an operand
+abbrev pub operand_width : Operand → Width
+operand_width (Word r) = word_width
+operand_width (Byte r half) = byte_width
+operand_width (Seg number) = word_width
+operand_width (Mem width ea) = width
+operand_width (Const width constant) = width
+
+-- The start.
+
+-- memory with the load image at physical address 01100h and 0 elsewhere
+unfoldable pub loaded_memory : List ℕ → List ℕ
+loaded_memory bytes =
+    replicate 0x1100 0 ++ (bytes ++ replicate (1048576 - (0x1100 + length bytes)) 0)
+
+-- no flag is set
+abbrev pub no_flags : Flags
+no_flags = record { cf = false; zf = false; sf = false; of = false }
+
+-- the state in which the image is started, with this input: DS and ES hold the segment of the program prefix
+abbrev pub start_state : Image → List ℕ → State
+start_state image input = record {
+  regs = 0 ∷ 0 ∷ 0 ∷ 0 ∷ image.sp ∷ 0 ∷ 0 ∷ 0 ∷ [];
+  segs = 0x0100 ∷ image.cs ∷ image.ss ∷ 0x0100 ∷ [];
+  flags = no_flags;
+  ip = image.ip;
+  memory = loaded_memory image.bytes.items;
+  input = input;
+  out = [];
+  end = Running;
+}
