@@ -1,6 +1,13 @@
 //! Registers, flags and arithmetic of the 8086 (8086 Family User's Manual, chapter 2).
 #![tactic(auto)]
 
+mod logic;
+mod operand;
+mod sum;
+
+pub use logic::{and, or, xor};
+pub use sum::{add, dec, inc, neg, sub};
+
 /// The width of an operand.
 #[derive(Clone, Copy, PartialEq, Eq, Debug)]
 pub enum Width {

@@ -1,0 +1,10 @@
+use Rattle.dcc_num.proofs.Sums.{sum_computed}
+use Rattle.dcc_num.proofs.sum.add.Goals as goal
+
+pub returns-clause-sum : goal.returns-clause-sum
+returns-clause-sum c =
+    let a = c.signed.ensures in
+    let b = c.signed-2.ensures in
+    sum_computed c.args.w c.args.a c.args.b c.args.carry _ _ _ _ _ _ _ _ _ _
+    c.from.ensures c.from-2.ensures c.from-3.ensures c.limit.ensures c.limit-2.ensures
+    a.value b.value c.from-4.ensures (record { low = a.low; high = a.high }) (record { low = b.low; high = b.high }) c.fits.ensures c.flags_of.ensures

@@ -1,0 +1,70 @@
+//! Operands as numbers, and the flags of a result.
+
+ghost use Rattle.std.specs.Prelude.{◌≡◌, ◌<◌, pos, neg_ℤ, ◌≤ℤ◌, ◌<ℤ◌};
+ghost use Rattle.dcc_num.specs.Numbers.{limit_of, half_of, has_sign, signed_of, fits_signed, result_flags};
+
+use crate::{Flags, Width};
+
+/// The least number that an operand has no room for.
+pub fn limit(w: Width) -> u32
+    ensures { result ≡ limit_of w }
+{
+    match w {
+        Width::Byte => 0x100,
+        Width::Word => 0x1_0000,
+    }
+}
+
+/// The least number with the sign bit.
+pub fn half(w: Width) -> u32
+    ensures { result ≡ half_of w }
+{
+    match w {
+        Width::Byte => 0x80,
+        Width::Word => 0x8000,
+    }
+}
+
+/// Whether the sign bit is set.
+pub fn is_negative(w: Width, a: u16) -> bool
+    ensures { result ≡ has_sign w a }
+{
+    u32::from(a) >= half(w)
+}
+
+/// The number that the bits stand for in two's complement.
+#[tactic(auto, unfolding(crate::specs::Numbers::signed_of))]
+pub fn signed(w: Width, a: u16) -> i32
+    requires { a < limit_of w }
+    ensures value { result ≡ signed_of w a }
+    ensures low { neg_ℤ (pos 32768) ≤ℤ result }
+    ensures high { result <ℤ pos 32768 }
+{
+    if is_negative(w, a) {
+        i32::from(a) - limit(w) as i32
+    } else {
+        i32::from(a)
+    }
+}
+
+/// Whether a number is among those that two's complement has at the width.
+#[tactic(auto, unfolding(crate::specs::Numbers::fits_signed))]
+pub fn fits(w: Width, number: i32) -> bool
+    ensures { result ≡ fits_signed w number }
+{
+    let half = half(w) as i32;
+    -half <= number && number < half
+}
+
+/// ZF and SF of a result, beside the given CF and OF.
+#[tactic(auto, unfolding(crate::specs::Numbers::result_flags))]
+pub fn flags_of(w: Width, value: u16, cf: bool, of: bool) -> Flags
+    ensures { result ≡ result_flags w value cf of }
+{
+    Flags {
+        cf,
+        zf: value == 0,
+        sf: is_negative(w, value),
+        of,
+    }
+}
