@@ -1,0 +1,45 @@
+//! The loader.
+
+ghost use Rattle.std.specs.Prelude.{◌≡◌, IfOk, IfErr, IsErrAnd, IsOkUnless, IfSome, List, ℕ};
+ghost use Rattle.dcc_prog.specs.MzImage.{FormatFault, IsFirstFault, IsImageOf, IsLoaded};
+ghost use Rattle.dcc_prog.specs.declared.image.Image.{Image};
+ghost use Rattle.dcc_mz.specs.Fault.{IsRefusalOrMemory, fault_of};
+
+use crate::checks::checked_header;
+use crate::fault::MzFault;
+use crate::relocation::{loaded, relocate};
+use dcc_prog::Image;
+use std::alloc::Global;
+
+/// The load image of an MZ executable, from the bytes of its file.
+///
+/// The header's words are those of the EXE file header of the Microsoft MS-DOS Programmer's
+/// Reference. A file that has no image is refused with the first check that it fails.
+pub fn load(alloc: Global, bytes: &Vec<u8>) -> Result<Image, MzFault>
+    ensures image { IfOk result (IsImageOf bytes.now.items) }
+    ensures loaded { IfOk result IsLoaded }
+    ensures refused { IfErr result (IsRefusalOrMemory bytes.now.items) }
+
+    // A file that has an image is refused for want of memory alone.
+    ensures loads { (image : Image) → IsImageOf bytes.now.items image → IsOkUnless result MzFault.Memory }
+    // A file that fails a check is refused, with the first such check or for want of memory.
+    ensures refuses { (fault : FormatFault) → IsFirstFault bytes.now.items fault
+        → IsErrAnd result (λ told. IfSome (fault_of told) (λ known. known ≡ fault)) }
+{
+    let header = checked_header(bytes)?;
+    let unmoved = &bytes[header.image_start()..header.image_end()];
+    let mut image = Vec::from_slice(alloc, unmoved).map_err(|_| MzFault::Memory)?;
+    relocate(bytes, &header, &mut image)?;
+    if header.code_start() + header.ip as usize >= image.len() {
+        return Err(MzFault::EntryOutside);
+    }
+    let code_len = (image.len() - header.code_start()).min(65_536);
+    Ok(Image {
+        bytes: image,
+        code_len: code_len as u32,
+        cs: loaded(header.cs),
+        ip: header.ip,
+        ss: loaded(header.ss),
+        sp: header.sp,
+    })
+}

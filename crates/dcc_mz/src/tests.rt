@@ -1,0 +1,88 @@
+//! Files and their images. The values come from a reference loader apart from this one.
+
+use crate::{MzFault, load};
+use std::alloc::{AllocError, Global};
+use std::process::Abort;
+use std::test::Fail;
+
+/// A file of 48 bytes that prints A: a header of two paragraphs with one relocation, then 16 bytes
+/// of code.
+const PRINTS_A: [u8; 48] = [
+    0x4D, 0x5A, 0x30, 0x00, 0x01, 0x00, 0x01, 0x00, 0x02, 0x00, 0x00, 0x00, 0xFF, 0xFF, 0x01, 0x00,
+    0x00, 0x01, 0x00, 0x00, 0x00, 0x00, 0x00, 0x00, 0x1C, 0x00, 0x00, 0x00, 0x01, 0x00, 0x00, 0x00,
+    0xB8, 0x01, 0x00, 0x8E, 0xD8, 0xB2, 0x41, 0xB4, 0x02, 0xCD, 0x21, 0xB8, 0x03, 0x4C, 0xCD, 0x21,
+];
+
+/// A file whose relocations move the words at 1, 2, 1 and 0012h; the first and the stack segment wrap.
+const OVERLAPS: [u8; 80] = [
+    0x4D, 0x5A, 0x50, 0x00, 0x01, 0x00, 0x04, 0x00, 0x03, 0x00, 0x00, 0x00, 0x00, 0x00, 0xF0, 0xFF,
+    0x00, 0x02, 0x00, 0x00, 0x04, 0x00, 0x01, 0x00, 0x1C, 0x00, 0x00, 0x00, 0x01, 0x00, 0x00, 0x00,
+    0x02, 0x00, 0x00, 0x00, 0x01, 0x00, 0x00, 0x00, 0x02, 0x00, 0x01, 0x00, 0x00, 0x00, 0x00, 0x00,
+    0x00, 0xF0, 0xFF, 0x42, 0x00, 0x00, 0x00, 0x00, 0x00, 0x00, 0x00, 0x00, 0x00, 0x00, 0x00, 0x00,
+    0x00, 0x00, 0x34, 0x12, 0x00, 0x00, 0x00, 0x00, 0x00, 0x00, 0x00, 0x00, 0x00, 0x00, 0x00, 0x00,
+];
+
+#[test]
+fn images_are_relocated_in_order(rt: HostRuntime) -> Result<(), Fail> {
+    let image = load(rt.alloc(), &PRINTS_A.to_vec(rt.alloc())?)?;
+    let code = [
+        0xB8, 0x11, 0x01, 0x8E, 0xD8, 0xB2, 0x41, 0xB4, 0x02, 0xCD, 0x21, 0xB8, 0x03, 0x4C, 0xCD,
+        0x21,
+    ];
+    assert_eq!(rt; image.bytes.as_slice(), code.as_slice());
+    assert_eq!(rt; (image.code_len, image.cs, image.ip), (16, 0x0110, 0));
+    assert_eq!(rt; (image.ss, image.sp), (0x0111, 0x0100));
+
+    let image = load(rt.alloc(), &OVERLAPS.to_vec(rt.alloc())?)?;
+    let moved = [
+        0x00, 0x10, 0x12, 0x43, 0x00, 0x00, 0x00, 0x00, 0x00, 0x00, 0x00, 0x00, 0x00, 0x00, 0x00,
+        0x00, 0x00, 0x00, 0x44, 0x13, 0x00, 0x00, 0x00, 0x00, 0x00, 0x00, 0x00, 0x00, 0x00, 0x00,
+        0x00, 0x00,
+    ];
+    assert_eq!(rt; image.bytes.as_slice(), moved.as_slice());
+    assert_eq!(rt; (image.code_len, image.cs, image.ip), (16, 0x0111, 4));
+    assert_eq!(rt; (image.ss, image.sp), (0x0100, 0x0200));
+    Ok(())
+}
+
+/// The number and the place of the fault for which a file is refused.
+fn refusal(alloc: Global, file: &[u8]) -> Result<Option<(MzFault, u8, u32)>, AllocError> {
+    let file = file.to_vec(alloc)?;
+    Ok(
+        load(alloc, &file)
+            .err()
+            .map(|fault| (fault, fault.number(), fault.place())),
+    )
+}
+
+/// The file that prints A, with another byte at an offset.
+fn changed(rt: &impl Abort, at: usize, byte: u8) -> [u8; 48] {
+    let mut file = PRINTS_A;
+    assert!(rt; at < 48);
+    file[at] = byte;
+    file
+}
+
+#[test]
+fn the_first_failing_check_is_told(rt: HostRuntime) -> Result<(), Fail> {
+    let alloc = rt.alloc();
+    let large = Vec::from_elem(alloc, 0x4D, 262_145)?;
+    for (file, fault, number, place) in [
+        ([].as_slice(), MzFault::Short(0), 1, 0),
+        (&PRINTS_A[..27], MzFault::Short(27), 1, 27),
+        (&PRINTS_A[..47], MzFault::Pages, 3, 2),
+        (large.as_slice(), MzFault::TooLarge, 7, 262_144),
+    ] {
+        assert_eq!(rt; refusal(alloc, file)?, Some((fault, number, place)));
+    }
+    for (at, byte, fault, number, place) in [
+        (0x00, 0x4E, MzFault::NotMz, 2, 0),
+        (0x08, 0x04, MzFault::HeaderPastImage, 4, 8),
+        (0x1C, 0x0F, MzFault::Reloc(0), 5, 0),
+        (0x14, 0x10, MzFault::EntryOutside, 6, 20),
+    ] {
+        let file = changed(&rt, at, byte);
+        assert_eq!(rt; refusal(alloc, &file)?, Some((fault, number, place)));
+    }
+    Ok(())
+}
