@@ -1,3 +1,5 @@
 pub mod Machine
 pub mod Step
 pub mod MzImage
+pub mod Operands
+pub mod Table
