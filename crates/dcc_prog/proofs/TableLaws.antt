@@ -1,13 +1,13 @@
 -- Laws of the table of encodings: at most one row matches any bytes, the bounds of an
 -- instruction's length, and on which bytes it depends.
-use Rattle.std.proofs.Common.{◌≡◌, ℕ, zero, suc, ◌+◌, ◌<◌, ◌≤◌, Bool, true, false, cond, ◌&&◌, ◌||◌, nat_le, nat_lt, get_or-take, length-take, List, [], ◌∷◌, length, get_or, take, refl, sym, ◌∙◌, ap, arith}
-use Rattle.std.specs.Prelude.{find, slice_get, Option, Some, None, option_map, if◌then◌else◌, ◌==◌}
+use Rattle.std.proofs.Common.{◌≡◌, ℕ, zero, suc, ◌+◌, ◌<◌, ◌≤◌, Bool, true, false, cond, not, ◌&&◌, ◌||◌, nat_le, nat_lt, get_or-take, length-take, List, [], ◌∷◌, length, get_or, take, refl, sym, ◌∙◌, ap, arith}
+use Rattle.std.specs.Prelude.{filter, find, slice_get, Option, Some, None, option_map, if◌then◌else◌, ◌==◌}
 use Rattle.std.specs.List.{list_all}
 use Rattle.std.proofs.lemmas.Bool.Decides.{nat_tests}
 use Rattle.dcc_prog.specs.declared.instr.Instr.{Instr}
 use Rattle.dcc_prog.specs.declared.instr.Op.{Op}
 use Rattle.dcc_prog.specs.Operands.{displacement_size, displacement_at, byte_at, word_at, sign_extended}
-use Rattle.dcc_prog.specs.Table.{Range, BytePattern, Row, Parts, in_range, fits_byte, fits, has_bytes, ConstantForm, constant_size, constant_at, row_displacement_size, row_length, matches, row_parts, row_instruction, table, instruction_at, IsRow, no_constant, byte_constant, word_constant, signed_constant}
+use Rattle.dcc_prog.specs.Table.{AtMostOneRowMatches, InstructionIsThatOfItsRow, Range, BytePattern, Row, Parts, in_range, fits_byte, fits, has_bytes, ConstantForm, constant_size, constant_at, row_displacement_size, row_length, matches, row_parts, row_instruction, table, instruction_at, IsRow, no_constant, byte_constant, word_constant, signed_constant}
 
 -- Tests ----------------------------------------------------------------------------------------
 
@@ -23,20 +23,20 @@ pub and_both : (a b : Bool) → a ≡ true → b ≡ true → a && b ≡ true
 and_both a b h k = rw h k
 
 -- a test that every element passes is passed by each one
-list_all-get : {X : Type 0} (test : X → Bool) (xs : List X) (k : ℕ) (x : X) → list_all test xs ≡ true → slice_get xs k ≡ Some x → test x ≡ true
+pub list_all-get : {X : Type 0} (test : X → Bool) (xs : List X) (k : ℕ) (x : X) → list_all test xs ≡ true → slice_get xs k ≡ Some x → test x ≡ true
 list_all-get test [] k x h e = cc
 list_all-get test (y ∷ ys) zero x h e = let same : y ≡ x = cc in rw (← same) (and_left (test y) _ h)
 list_all-get test (y ∷ ys) (suc k) x h e = list_all-get test ys k x (and_right (test y) _ h) e
 
 -- what is found is an element that passes
-find-get : {X : Type 0} (test : X → Bool) (xs : List X) (x : X) → find test xs ≡ Some x → (k : ℕ) × (slice_get xs k ≡ Some x)
+pub find-get : {X : Type 0} (test : X → Bool) (xs : List X) (x : X) → find test xs ≡ Some x → (k : ℕ) × (slice_get xs k ≡ Some x)
 find-get test [] x e = cc
 find-get {X} test (y ∷ ys) x e =
     let P : Bool → Type 0 = λ b. cond b (Some y) (find test ys) ≡ Some x → (k : ℕ) × (slice_get (y ∷ ys) k ≡ Some x) in
     let both : (b : Bool) → P b = λ b. elim b as P [ true ↦ λ h. (0, h) | false ↦ λ h. let found = find-get test ys x h in (suc found.0, found.1) ] in
     both (test y) e
 
-find-passes : {X : Type 0} (test : X → Bool) (xs : List X) (x : X) → find test xs ≡ Some x → test x ≡ true
+pub find-passes : {X : Type 0} (test : X → Bool) (xs : List X) (x : X) → find test xs ≡ Some x → test x ≡ true
 find-passes test [] x e = cc
 find-passes {X} test (y ∷ ys) x e =
     let P : Bool → Type 0 = λ b. test y ≡ b → cond b (Some y) (find test ys) ≡ Some x → test x ≡ true in
@@ -61,7 +61,7 @@ patterns_apart (p ∷ ps) (q ∷ qs) = bytes_apart p q || patterns_apart ps qs
 in_neither : (a b : Range) (n : ℕ) → in_range a n ≡ true → in_range b n ≡ true → ranges_apart a b ≡ false
 in_neither a b n h k = grind (arith, nat_tests)
 
-both_false : (a b : Bool) → a ≡ false → b ≡ false → a || b ≡ false
+pub both_false : (a b : Bool) → a ≡ false → b ≡ false → a || b ≡ false
 both_false a b h k = rw h k
 
 no_byte_fits_both : (p q : BytePattern) (b : ℕ) → fits_byte p b ≡ true → fits_byte q b ≡ true → bytes_apart p q ≡ false
@@ -94,23 +94,27 @@ pub rows_apart-table : rows_apart table ≡ true
 unfolding table
 rows_apart-table = refl
 
--- what a row that matches is not: apart from another that does
-apart_no_match : (row other : Row) (bytes : List ℕ) → patterns_apart row.pattern other.pattern ≡ true → matches other bytes ≡ true → matches row bytes ≡ false
-apart_no_match row other bytes apart m =
-    let P : Bool → Type 0 = λ b. matches row bytes ≡ b → matches row bytes ≡ false in
-    let both : (b : Bool) → P b = λ b. elim b as P [ true ↦ λ t. let f = fits-apart row.pattern other.pattern bytes (and_left _ _ t) (and_left _ _ m) in cc | false ↦ λ t. t ] in
-    both (matches row bytes) refl
-
--- the row that matches is the one that is found
-find-only : (rows : List Row) (bytes : List ℕ) (k : ℕ) (row : Row) → rows_apart rows ≡ true → slice_get rows k ≡ Some row → matches row bytes ≡ true → find (λ r. matches r bytes) rows ≡ Some row
-find-only [] bytes k row apart at m = cc
-find-only (r ∷ rows) bytes zero row apart at m = let same : r ≡ row = cc in rw same (rw m refl)
-find-only (r ∷ rows) bytes (suc k) row apart at m =
-    let first : patterns_apart r.pattern row.pattern ≡ true = list_all-get (λ other. patterns_apart r.pattern other.pattern) rows k row (and_left _ _ apart) at in
-    rw (apart_no_match r row bytes first m) (find-only rows bytes k row (and_right _ _ apart) at m)
+-- the one row that passes a test, where only rows whose pattern the bytes fit do, is found
+find-only : (test : Row → Bool) (bytes : List ℕ) (inside : (r : Row) → test r ≡ true → fits r.pattern bytes ≡ true) (rows : List Row) (k : ℕ) (row : Row) → rows_apart rows ≡ true → slice_get rows k ≡ Some row → test row ≡ true → find test rows ≡ Some row
+find-only test bytes inside [] k row apart at m = cc
+find-only test bytes inside (r ∷ rows) zero row apart at m = let same : r ≡ row = cc in rw same (rw m refl)
+find-only test bytes inside (r ∷ rows) (suc k) row apart at m =
+    let from_row : patterns_apart r.pattern row.pattern ≡ true =
+    list_all-get (λ other. patterns_apart r.pattern other.pattern) rows k row (and_left _ _ apart) at in
+    let P : Bool → Type 0 = λ b. test r ≡ b → test r ≡ false in
+    let cases : (b : Bool) → P b = λ b. elim b as P [
+      | true ↦ λ t. let f = fits-apart r.pattern row.pattern bytes (inside r t) (inside row m) in cc
+      | false ↦ λ t. t
+    ] in
+    rw (cases (test r) refl) (find-only test bytes inside rows k row (and_right _ _ apart) at m)
 
 pub find-row : (bytes : List ℕ) (row : Row) → IsRow row → matches row bytes ≡ true → find (λ r. matches r bytes) table ≡ Some row
-find-row bytes row at m = find-only table bytes at.0 row rows_apart-table at.1 m
+find-row bytes row at m =
+    find-only (λ r. matches r bytes) bytes (λ r t. and_left _ _ t) table at.0 row rows_apart-table at.1 m
+
+pub find-fits : (bytes : List ℕ) (row : Row) → IsRow row → fits row.pattern bytes ≡ true → find (λ r. fits r.pattern bytes) table ≡ Some row
+find-fits bytes row at h =
+    find-only (λ r. fits r.pattern bytes) bytes (λ r t. t) table at.0 row rows_apart-table at.1 h
 
 -- The length ------------------------------------------------------------------------------------
 
@@ -219,6 +223,12 @@ constant_at-agree byte_constant n i xs ys h l = h i (omega arith)
 constant_at-agree word_constant n i xs ys h l = word_at-agree n i xs ys h l
 constant_at-agree signed_constant n i xs ys h l = ap sign_extended (h i (omega arith))
 
+instruction-made : (o o' : Op) (n n' : ℕ) → o ≡ o' → n ≡ n' → ◌≡◌ {A = Instr} (record { op = o'; len = n' }) (record { op = o; len = n })
+instruction-made o o' n n' p q = cc
+
+instruction-parts : (i j : Instr) → i.op ≡ j.op → i.len ≡ j.len → j ≡ i
+instruction-parts i j p q = instruction-made i.op j.op i.len j.len p q
+
 parts-same : (f : ℕ → ℕ → ℕ → ℕ → ℕ → Parts) {a a' b b' c c' d d' e e' : ℕ} → a ≡ a' → b ≡ b' → c ≡ c' → d ≡ d' → e ≡ e' → f a b c d e ≡ f a' b' c' d' e'
 parts-same f p q r s t = cc
 
@@ -299,3 +309,65 @@ instruction-prefix offset xs ys instr e t =
     let same : row_instruction r.0 offset ys ≡ row_instruction r.0 offset xs =
     instruction-same (r.0).operation (same_parts r.0 xs ys r.1 t' offset) (same_row_length r.0 xs ys r.1 t') in
     there ∙ ap Some (same ∙ r.3)
+
+-- One row -------------------------------------------------------------------------------------
+
+no_other : (row : Row) (bytes : List ℕ) (rows : List Row) → matches row bytes ≡ true → list_all (λ other. patterns_apart row.pattern other.pattern) rows ≡ true → filter (λ r. matches r bytes) rows ≡ []
+no_other row bytes [] m apart = refl
+no_other row bytes (r ∷ rows) m apart =
+    let P : Bool → Type 0 = λ b. matches r bytes ≡ b → matches r bytes ≡ false in
+    let cases : (b : Bool) → P b = λ b. elim b as P [
+      | true ↦ λ t. let f = fits-apart row.pattern r.pattern bytes (and_left _ _ m) (and_left _ _ t) in let g : patterns_apart row.pattern r.pattern ≡ true = and_left _ _ apart in cc
+      | false ↦ λ t. t
+    ] in
+    rw (cases (matches r bytes) refl) (no_other row bytes rows m (and_right _ _ apart))
+
+at_most_one : (bytes : List ℕ) (rows : List Row) → rows_apart rows ≡ true → length (filter (λ r. matches r bytes) rows) ≤ 1
+at_most_one bytes [] apart = omega arith
+at_most_one bytes (r ∷ rows) apart =
+    let P : Bool → Type 0 = λ b. matches r bytes ≡ b → length (cond b (r ∷ filter (λ s. matches s bytes) rows) (filter (λ s. matches s bytes) rows)) ≤ 1 in
+    let cases : (b : Bool) → P b = λ b. elim b as P [
+      | true ↦ λ t. rw (no_other r bytes rows t (and_left _ _ apart)) (omega arith)
+      | false ↦ λ t. at_most_one bytes rows (and_right _ _ apart)
+    ] in
+    cases (matches r bytes) refl
+
+-- at most one row of the table matches any bytes
+pub at_most_one_row_matches : AtMostOneRowMatches
+at_most_one_row_matches bytes = at_most_one bytes table rows_apart-table
+
+-- some bytes are an instruction exactly where a row matches them, and then it is that row's
+pub instruction_is_that_of_its_row : InstructionIsThatOfItsRow
+instruction_is_that_of_its_row offset bytes instr = (
+  λ e. let r = instruction-row offset bytes instr e in
+      (r.0, r.1, r.2, ap (λ (i : Instr). i.op) (sym r.3), ap (λ (i : Instr). i.len) (sym r.3)),
+  λ r. instruction-of_row offset bytes r.0 r.1 r.2 ∙ ap Some (instruction-parts instr (row_instruction r.0 offset bytes) r.3 r.4),
+)
+
+-- The rows that a form of bytes leaves ----------------------------------------------------------
+
+-- the rows that bytes of a form may fit
+abbrev pub rows_within : List BytePattern → List Row → List Row
+rows_within form rows = filter (λ row. not (patterns_apart form row.pattern)) rows
+
+apart_no_fit : (form : List BytePattern) (row : Row) (bytes : List ℕ) → fits form bytes ≡ true → patterns_apart form row.pattern ≡ true → fits row.pattern bytes ≡ false
+apart_no_fit form row bytes h apart =
+    let P : Bool → Type 0 = λ b. fits row.pattern bytes ≡ b → fits row.pattern bytes ≡ false in
+    let cases : (b : Bool) → P b = λ b. elim b as P [
+      | true ↦ λ t. let f = fits-apart form row.pattern bytes h t in cc
+      | false ↦ λ t. t
+    ] in
+    cases (fits row.pattern bytes) refl
+
+-- where bytes have a form, only the rows that bytes of the form may fit count
+pub find-within : (form : List BytePattern) (bytes : List ℕ) (rows : List Row) → fits form bytes ≡ true → find (λ row. fits row.pattern bytes) rows ≡ find (λ row. fits row.pattern bytes) (rows_within form rows)
+find-within form bytes [] h = refl
+find-within form bytes (row ∷ rows) h =
+    let rest = find-within form bytes rows h in
+    let test : Row → Bool = λ r. fits r.pattern bytes in
+    let P : Bool → Type 0 = λ b. patterns_apart form row.pattern ≡ b → cond (test row) (Some row) (find test rows) ≡ find test (cond (not b) (row ∷ rows_within form rows) (rows_within form rows)) in
+    let cases : (b : Bool) → P b = λ b. elim b as P [
+      | true ↦ λ t. rw (apart_no_fit form row bytes h t) rest
+      | false ↦ λ t. ap (λ (o : Option Row). cond (test row) (Some row) o) rest
+    ] in
+    cases (patterns_apart form row.pattern) refl
