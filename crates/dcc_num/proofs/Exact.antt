@@ -1,5 +1,5 @@
 -- Sums and products of signed operands are exact in 32 bits.
-use Rattle.std.proofs.Common.{arith, ◌≡◌, Bool, true, false, w32, ℤ, pos, neg_ℤ, ◌+ℤ◌, ◌-ℤ◌, ◌≤ℤ◌, ◌<ℤ◌, to_z, of_z}
+use Rattle.std.proofs.Common.{FitsSigned, to_z-of_z, arith, ◌≡◌, Bool, true, false, w32, ℤ, pos, neg_ℤ, ◌+ℤ◌, ◌-ℤ◌, ◌≤ℤ◌, ◌<ℤ◌, to_z, of_z}
 use Rattle.std.specs.Int.{from_bool}
 use Rattle.std.proofs.lemmas.Int.{ints}
 
@@ -7,6 +7,13 @@ use Rattle.std.proofs.lemmas.Int.{ints}
 pub record IsSmall (z : ℤ) : Type 0 where
   pub low : neg_ℤ (pos 32768) ≤ℤ z
   pub high : z <ℤ pos 32768
+
+pub small_fits : {z : ℤ} → IsSmall z → FitsSigned w32 z
+small_fits {z} p = omega (arith, ints)
+
+-- so it passes through the 32 bits as it is
+pub small_passed : {z : ℤ} → IsSmall z → to_z w32 (of_z w32 z) ≡ z
+small_passed {z} p = to_z-of_z (small_fits p)
 
 -- what the code computes for a sum
 pub sum_passed : (x y : ℤ) (carry : Bool) → IsSmall x → IsSmall y

@@ -1,3 +1,4 @@
-pub mod Numbers
-pub mod Sum
 pub mod Logic
+pub mod Numbers
+pub mod Shift
+pub mod Sum

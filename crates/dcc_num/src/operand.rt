@@ -1,9 +1,19 @@
 //! Operands as numbers, and the flags of a result.
 
 ghost use Rattle.std.specs.Prelude.{◌≡◌, ◌<◌, pos, neg_ℤ, ◌≤ℤ◌, ◌<ℤ◌};
-ghost use Rattle.dcc_num.specs.Numbers.{limit_of, half_of, has_sign, signed_of, fits_signed, result_flags};
+ghost use Rattle.dcc_num.specs.Numbers.{bits_of, wrapped_of, sign_extension_of, limit_of, half_of, has_sign, signed_of, fits_signed, result_flags};
 
 use crate::{Flags, Width};
+
+/// The bits of an operand.
+pub fn bits(w: Width) -> u32
+    ensures { result ≡ bits_of w }
+{
+    match w {
+        Width::Byte => 8,
+        Width::Word => 16,
+    }
+}
 
 /// The least number that an operand has no room for.
 pub fn limit(w: Width) -> u32
@@ -67,4 +77,19 @@ pub fn flags_of(w: Width, value: u16, cf: bool, of: bool) -> Flags
         sf: is_negative(w, value),
         of,
     }
+}
+
+/// The bits of a number in two's complement.
+pub fn wrapped(w: Width, number: i32) -> u16
+    ensures { result ≡ wrapped_of w number }
+{
+    number.rem_euclid(limit(w) as i32) as u16
+}
+
+/// CBW: a byte, sign-extended to a word.
+#[tactic(auto, unfolding(crate::specs::Numbers::sign_extension_of))]
+pub fn sign8(a: u8) -> u16
+    ensures { result ≡ sign_extension_of a }
+{
+    wrapped(Width::Word, signed(Width::Byte, u16::from(a)))
 }
