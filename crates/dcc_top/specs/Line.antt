@@ -11,7 +11,6 @@ use Rattle.dcc_prog.specs.declared.instr.Operand.TheVariants.{Word, Byte, Seg, C
 use Rattle.dcc_prog.specs.declared.instr.Op.{Op}
 use Rattle.dcc_prog.specs.declared.instr.Op.TheVariants.{Alu as AluOp, Mov, Int21}
 use Rattle.dcc_prog.specs.declared.instr.Instr.{Instr}
-use Rattle.dcc_prog.specs.declared.image.Image.{Image}
 use Rattle.dcc_prog.specs.Table.{instruction_at}
 use Rattle.dcc_top.specs.declared.form.Form.{Form}
 use Rattle.dcc_top.specs.declared.form.Form.TheVariants.{Move, MoveHalf, Increase, Decrease, MoveSegment, PutChar, Leave}
@@ -123,7 +122,3 @@ pub record StopsAt (code : List ℕ) (entry : ℕ) (named : ℕ) : Type 0 where
   pub comes : Comes code entry at ah before
   pub stops : built_at code at ah ≡ None
   pub name : named ≡ at % 65536
-
--- the bytes of the image from offset 0 of its code segment on, below offset 65536
-unfoldable pub code_of : Image → List ℕ
-code_of image = take image.code_len (drop ((image.cs - 0x0110) * 16) image.bytes.items)
