@@ -1,6 +1,8 @@
 //! The outside of the program: traits for files, input and output, objects in memory, and the real ones.
 #![tactic(auto)]
 
+pub mod memory;
 pub mod outside;
 
+pub use memory::{MemShelf, MemSink, MemSource};
 pub use outside::{Failed, Fetched, Shelf, ShelfFault, Sink, Source, put_all};

@@ -1,10 +1,11 @@
 // What a program meets outside itself: files, input and output, each with counts of what went wrong.
 ghost use Rattle.std.specs.Prelude.{◌≡◌, ◌⊎◌, ◌+◌, ◌<◌, ◌≤◌, ℕ, List, [], ◌∷◌, ◌++◌, length, take, vec_len, Option, Some, IfOk, IsOk, OnOk, OnErr, IsErrOf};
+ghost use Rattle.dcc_io.specs.declared.outside.ShelfFault.TheVariants.{Memory};
 ghost use Rattle.dcc_io.specs.Count.{Rose};
 ghost use Rattle.dcc_io.specs.Told.{WhenTold, append_told, prepend_told, AppendsProperPrefix};
 ghost use Rattle.dcc_io.specs.Fetch.{Answers, KeepsWithin, Records};
 
-use std::alloc::Global;
+use std::alloc::{AllocError, AllocFailed, Global};
 
 /// A read or a write failed.
 #[derive(Clone, Copy, PartialEq, Eq, Debug)]
@@ -28,6 +29,22 @@ pub enum ShelfFault {
     Failed,
     /// Memory was wanting.
     Memory,
+}
+
+impl From<AllocError> for ShelfFault {
+    ghost from_gives = { λ _ fault. fault ≡ Memory };
+
+    fn from(_: AllocError) -> Self {
+        ShelfFault::Memory
+    }
+}
+
+impl<T: Drop> From<AllocFailed<T>> for ShelfFault {
+    ghost from_gives = { λ _ fault. fault ≡ Memory };
+
+    fn from(_: AllocFailed<T>) -> Self {
+        ShelfFault::Memory
+    }
 }
 
 /// Files by their names.
