@@ -59,7 +59,25 @@ impl Shelf for MemShelf {
         name: &str,
         most: usize,
         into: &mut Vec<u8>,
-    ) -> Result<Fetched, ShelfFault> {
+    ) -> Result<Fetched, ShelfFault>
+        requires { vec_len into.old ≡ 0 }
+
+        ensures files { Some (file_named self.new.files) ≡ Some (file_named self.old.files) }
+        ensures asked { Records self.old.asked self.new.asked (name.now, most) result }
+        ensures answer { WhenTold (Some (file_named self.old.files)) (λ file. Answers (file name.now) most result into.new.items) }
+        ensures within { KeepsWithin most result into.new.items }
+        ensures absences { self.old.absences ≤ self.new.absences }
+        ensures absent { IsErrOf result ShelfFault.Absent → Rose self.old.absences self.new.absences }
+        ensures faults { listed_calls self.old.fail self.old.fetches ≤ listed_calls self.new.fail self.new.fetches }
+        ensures failed { IsErrOf result ShelfFault.Failed → Rose (listed_calls self.old.fail self.old.fetches) (listed_calls self.new.fail self.new.fetches) }
+
+        // The fetches that are on the list fail, and no other does.
+        ensures listed { IsTrue (fails_next self.old.fail self.old.fetches) → (result ≡ Err ShelfFault.Failed) ⊎ (result ≡ Err ShelfFault.Memory) }
+        ensures unlisted { result ≡ Err ShelfFault.Failed → IsTrue (fails_next self.old.fail self.old.fetches) }
+        ensures fetches { self.new.fetches ≡ counted self.old.fetches }
+        ensures fail { self.new.fail ≡ self.old.fail }
+        ensures same_files { self.new.files ≡ self.old.files }
+    {
         let fails = self.calls.next_fails();
         let requested = String::from_str(alloc, name)?;
         self.asked.push((requested, most))?;

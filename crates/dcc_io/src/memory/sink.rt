@@ -58,6 +58,7 @@ impl Sink for MemSink {
 
     ghost faults = { sink_faults };
 
+    #[tactic(auto, unfolding(crate::specs::Told::append_told))]
     fn write(&mut self, piece: &[u8]) -> Result<usize, Failed>
         ensures bound { IfOk result (λ count. count ≤ length piece.now) }
         ensures progress { 0 < length piece.now → IfOk result (λ count. 0 < count) }
