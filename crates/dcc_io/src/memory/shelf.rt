@@ -1,7 +1,5 @@
 // Files in memory.
-ghost use Rattle.std.specs.Prelude.{◌≡◌, ◌⊎◌, ◌+◌, ◌-◌, ◌^◌, ◌<◌, ◌≤◌, ℕ, List, [], ◌∷◌, ◌++◌, length, take, min, map, vec_len, None, Some, Ok, Err, IfOk, IsErrOf, OnErr, IsTrue, MatchOption};
-ghost use Rattle.std.specs.Str.{bytes_eq};
-ghost use Rattle.std.specs.List.{IsDistinct};
+ghost use Rattle.std.specs.Prelude.{◌≡◌, ◌⊎◌, ◌+◌, ◌-◌, ◌^◌, ◌<◌, ◌≤◌, ℕ, List, [], ◌∷◌, ◌++◌, length, take, min, map, vec_len, None, Some, Ok, Err, IfOk, IsErrOf, OnErr, IsTrue, MatchOption, AllPairs, ◌≢◌, string_bytes};
 ghost use Rattle.dcc_io.specs.Count.{Rose};
 ghost use Rattle.dcc_io.specs.Told.{WhenTold};
 ghost use Rattle.dcc_io.specs.Fetch.{Answers, KeepsWithin, Records};
@@ -30,9 +28,9 @@ impl Model for MemShelf {
 }
 
 impl MemShelf {
-    /// Files of these names and bytes. The fetches whose numbers are in `fail`, from 1 on, fail.
+    /// Files of these names, which differ, and bytes. The fetches whose numbers are in `fail`, from 1 on, fail.
     pub fn new(alloc: Global, files: Vec<(String, Vec<u8>)>, fail: Vec<u64>) -> MemShelf
-        requires { IsDistinct bytes_eq (map (λ file. file.0) (files_of files.items)) }
+        requires { AllPairs (λ one another. string_bytes one.0 ≢ string_bytes another.0) files.items }
         ensures { result ≡ record { files = files_of files.items; asked = []; fetches = 0; absences = 0; fail = fail.items } }
     {
         MemShelf {

@@ -1,4 +1,4 @@
-use Rattle.std.proofs.Common.{◌-◌, [], length, drop, take, sym, refl, ◌∙◌, ap, arith, length-drop}
+use Rattle.std.proofs.Common.{◌-◌, length, drop, take, sym, refl, ◌∙◌, ap, arith, length-drop}
 use Rattle.dcc_io.proofs.ToldLemmas.{append_told-nil, append_told-take}
 use Rattle.dcc_io.specs.Told.{append_told}
 use Rattle.dcc_io.proofs.outside.put_all.Goals as goal

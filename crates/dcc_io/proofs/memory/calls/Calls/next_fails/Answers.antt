@@ -1,5 +1,4 @@
-use Rattle.std.proofs.Common.{◌+◌, ◌∙◌, ap, if◌then◌else◌, rules}
-use Rattle.dcc_io.specs.Memory.{listed_calls}
+use Rattle.std.proofs.Common.{rules}
 use Rattle.dcc_io.proofs.MemoryLemmas.{listed_calls-next}
 use Rattle.dcc_io.proofs.memory.calls.Calls.next_fails.Goals as goal
 
