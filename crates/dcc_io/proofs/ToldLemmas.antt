@@ -57,3 +57,6 @@ pub tells_rest : (before : List ℕ) (left : Option (List ℕ)) (bytes : List �
 unfolding prepend_told
 tells_rest before None bytes taken = cc
 tells_rest before (Some rest) bytes taken = record { rest = rest; told = refl; split = cc }
+
+-- what follows for several reads or writes
+pub ruleset told_steps = (append_told-nil, append_told-append, append_told-some, append_told-take, prepend_told-nil, prepend_told-append, prepend_told-some)

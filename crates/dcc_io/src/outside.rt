@@ -130,6 +130,7 @@ pub trait Sink {
 
 /// Writes the whole piece, in as many writes as it takes. Where one fails, a part of the piece was
 /// written.
+#[tactic(auto, using(crate::proofs::ToldLemmas::told_steps))]
 pub fn put_all<O: Sink>(sink: &mut O, piece: &[u8]) -> Result<(), Failed>
     ensures whole { OnOk result (O.taken sink.new ≡ append_told (O.taken sink.old) piece.now) }
     ensures part { OnErr result (AppendsProperPrefix (O.taken sink.old) (O.taken sink.new) piece.now) }
