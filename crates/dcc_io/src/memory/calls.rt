@@ -20,6 +20,7 @@ impl Calls {
 
     /// Counts a call, and answers whether it is to fail. A counter at its last value stands still,
     /// and no call is to fail from there on.
+    #[tactic(auto, using(crate::proofs::MemoryLemmas::listed_calls_next))]
     pub(crate) fn next_fails(&mut self) -> bool
         ensures made { self.new.made ≡ counted self.old.made }
         ensures fail { self.new.fail.items ≡ self.old.fail.items }
