@@ -10,7 +10,7 @@ use denote.RawPtr.{null_ptr}
 use Rattle.std.specs.declared.vec.Vec.{Vec}
 use Rattle.std.specs.declared.alloc.Global.{Global}
 use Rattle.dcc_prog.specs.declared.image.Image.{Image}
-use Rattle.dcc_prog.specs.MzImage.{FormatFault, HasEntry, HasGoodHeader, HasHeader, HasImageBytes, HasPages, HasSignature, IsFirstFault, IsImageOf, IsLoaded, IsSmallEnough, RelocationFits, RelocationsFit, bad_pages, bad_relocation, byte_at, entry_outside, header_cs, header_ip, header_past_image, header_sp, header_ss, image_end, image_length, image_start, last_page_bytes, load_segment, loaded_segment, not_mz, page_count, pages_length, relocated_image, relocated_place, relocation_count, relocation_entry, short, too_large, with_word_at, word_at}
+use Rattle.dcc_prog.specs.MzImage.{FormatFault, HasEntry, HasGoodHeader, HasPages, HasSignature, IsFirstFault, IsImageOf, IsLoaded, RelocationFits, RelocationsFit, bad_pages, bad_relocation, byte_at, entry_outside, header_cs, header_ip, header_past_image, header_sp, header_ss, image_end, image_length, image_start, last_page_bytes, load_segment, loaded_segment, not_mz, page_count, relocated_image, relocated_place, relocation_count, relocation_entry, short, too_large, with_word_at, word_at}
 
 -- writing a word keeps the length
 pub length-with_word_at : (bytes : List ℕ) (at word : ℕ) → length (with_word_at bytes at word) ≡ length bytes
@@ -55,10 +55,10 @@ lowest_alone : (P : ℕ → Type 0) (i j : ℕ)
     → ¬ P i → ((k : ℕ) → k < i → P k) → ¬ P j → ((k : ℕ) → k < j → P k) → i ≡ j
 lowest_alone P i j fails below fails' below' =
     elim (cases_lt i j) [
-      inl lt ↦ absurd (fails (below' i lt))
-    | inr ge ↦ elim (cases_lt j i) [
-        inl lt ↦ absurd (fails' (below j lt))
-      | inr le ↦ omega arith
+      | inl lt ↦ absurd (fails (below' i lt))
+      | inr ge ↦ elim (cases_lt j i) [
+        | inl lt ↦ absurd (fails' (below j lt))
+        | inr le ↦ omega arith
       ]
     ]
 
@@ -88,10 +88,10 @@ not_both file image entry_outside is fault = fault.2 is.has_entry
 relocation_fits_or_not : (file : List ℕ) (i : ℕ) → RelocationFits file i ⊎ ¬ RelocationFits file i
 relocation_fits_or_not file i =
     elim (cases_lt (length file) (relocation_entry file i + 4)) [
-      inl past ↦ inr (λ fits. absurd (omega (arith, fits.0)))
-    | inr entry ↦ elim (cases_lt (image_length file) (relocated_place file i + 2)) [
-        inl past ↦ inr (λ fits. absurd (omega (arith, fits.1)))
-      | inr word ↦ inl (entry, word)
+      | inl past ↦ inr (λ fits. absurd (omega (arith, fits.0)))
+      | inr entry ↦ elim (cases_lt (image_length file) (relocated_place file i + 2)) [
+        | inl past ↦ inr (λ fits. absurd (omega (arith, fits.1)))
+        | inr word ↦ inl (entry, word)
       ]
     ]
 
@@ -100,8 +100,8 @@ fits_below : (file : List ℕ) (n : ℕ) → ((j : ℕ) → j < n → Relocation
     → (j : ℕ) → j < suc n → RelocationFits file j
 fits_below file n fit here j h =
     elim (cases_lt j n) [
-      inl lt ↦ fit j lt
-    | inr ge ↦ let e : n ≡ j = omega arith in subst (RelocationFits file) e here
+      | inl lt ↦ fit j lt
+      | inr ge ↦ let e : n ≡ j = omega arith in subst (RelocationFits file) e here
     ]
 
 -- the first n entries fit, or there is a lowest one that does not
@@ -111,10 +111,10 @@ lowest_misfit : (file : List ℕ) (n : ℕ)
 lowest_misfit file zero = inl (λ j h. absurd (omega arith))
 lowest_misfit file (suc n) =
     elim (lowest_misfit file n) [
-      inr misfit ↦ inr (misfit.0, omega (arith, misfit.1), misfit.2, misfit.3)
-    | inl fit ↦ elim (relocation_fits_or_not file n) [
-        inr misfit ↦ inr (n, omega arith, misfit, fit)
-      | inl fits ↦ inl (λ j h. fits_below file n fit fits j h)
+      | inr misfit ↦ inr (misfit.0, omega (arith, misfit.1), misfit.2, misfit.3)
+      | inl fit ↦ elim (relocation_fits_or_not file n) [
+        | inr misfit ↦ inr (n, omega arith, misfit, fit)
+        | inl fits ↦ inl (λ j h. fits_below file n fit fits j h)
       ]
     ]
 
@@ -122,10 +122,10 @@ lowest_misfit file (suc n) =
 equal_or_not : (m n : ℕ) → (m ≡ n) ⊎ (m ≢ n)
 equal_or_not m n =
     elim (cases_lt m n) [
-      inl lt ↦ inr (λ e. absurd (omega arith))
-    | inr ge ↦ elim (cases_lt n m) [
-        inl lt ↦ inr (λ e. absurd (omega arith))
-      | inr le ↦ inl (omega arith)
+      | inl lt ↦ inr (λ e. absurd (omega arith))
+      | inr ge ↦ elim (cases_lt n m) [
+        | inl lt ↦ inr (λ e. absurd (omega arith))
+        | inr le ↦ inl (omega arith)
       ]
     ]
 
@@ -133,10 +133,10 @@ equal_or_not m n =
 signature_or_not : (file : List ℕ) → HasSignature file ⊎ ¬ HasSignature file
 signature_or_not file =
     elim (equal_or_not (byte_at file 0) 0x4D) [
-      inr fails ↦ inr (λ h. fails h.0)
-    | inl m ↦ elim (equal_or_not (byte_at file 1) 0x5A) [
-        inr fails ↦ inr (λ h. fails h.1)
-      | inl z ↦ inl (m, z)
+      | inr fails ↦ inr (λ h. fails h.0)
+      | inl m ↦ elim (equal_or_not (byte_at file 1) 0x5A) [
+        | inr fails ↦ inr (λ h. fails h.1)
+        | inl z ↦ inl (m, z)
       ]
     ]
 
@@ -144,12 +144,12 @@ signature_or_not file =
 pages_or_not : (file : List ℕ) → HasPages file ⊎ ¬ HasPages file
 pages_or_not file =
     elim (cases_lt 0 (page_count file)) [
-      inr fails ↦ inr (λ h. absurd (omega (arith, h.0)))
-    | inl some ↦ elim (cases_lt 512 (last_page_bytes file)) [
-        inl fails ↦ inr (λ h. absurd (omega (arith, h.1)))
-      | inr last ↦ elim (cases_lt (length file) (image_end file)) [
-          inl fails ↦ inr (λ h. absurd (omega (arith, h.2)))
-        | inr end ↦ inl (some, last, end)
+      | inr fails ↦ inr (λ h. absurd (omega (arith, h.0)))
+      | inl some ↦ elim (cases_lt 512 (last_page_bytes file)) [
+        | inl fails ↦ inr (λ h. absurd (omega (arith, h.1)))
+        | inr last ↦ elim (cases_lt (length file) (image_end file)) [
+          | inl fails ↦ inr (λ h. absurd (omega (arith, h.2)))
+          | inr end ↦ inl (some, last, end)
         ]
       ]
     ]
@@ -158,16 +158,16 @@ pages_or_not file =
 good_header_or_fault : (file : List ℕ) → HasGoodHeader file ⊎ ((fault : FormatFault) × IsFirstFault file fault)
 good_header_or_fault file =
     elim (cases_lt 262144 (length file)) [
-      inl large ↦ inr (too_large, λ h. absurd (omega arith))
-    | inr small ↦ elim (cases_lt (length file) 28) [
-        inl few ↦ inr (short (length file), (small, (λ h. absurd (omega arith)), refl))
-      | inr header ↦ elim (signature_or_not file) [
-          inr fails ↦ inr (not_mz, (small, header, fails))
-        | inl signature ↦ elim (pages_or_not file) [
-            inr fails ↦ inr (bad_pages, (small, header, signature, fails))
-          | inl pages ↦ elim (cases_lt (image_end file) (image_start file)) [
-              inl past ↦ inr (header_past_image, (small, header, signature, pages, (λ h. absurd (omega arith))))
-            | inr bytes ↦ inl (record { small_enough = small; header = header; signature = signature; pages = pages; image_bytes = bytes })
+      | inl large ↦ inr (too_large, λ h. absurd (omega arith))
+      | inr small ↦ elim (cases_lt (length file) 28) [
+        | inl few ↦ inr (short (length file), (small, (λ h. absurd (omega arith)), refl))
+        | inr header ↦ elim (signature_or_not file) [
+          | inr fails ↦ inr (not_mz, (small, header, fails))
+          | inl signature ↦ elim (pages_or_not file) [
+            | inr fails ↦ inr (bad_pages, (small, header, signature, fails))
+            | inl pages ↦ elim (cases_lt (image_end file) (image_start file)) [
+              | inl past ↦ inr (header_past_image, (small, header, signature, pages, (λ h. absurd (omega arith))))
+              | inr bytes ↦ inl (record { small_enough = small; header = header; signature = signature; pages = pages; image_bytes = bytes })
             ]
           ]
         ]
@@ -182,19 +182,27 @@ vec_of xs few = record { ptr = null_ptr; len = length xs; cap = length xs; alloc
 image_with : (file : List ℕ) → HasGoodHeader file → RelocationsFit file → HasEntry file
     → length (relocated_image file (relocation_count file)) < 2 ^ 63 → (image : Image) × IsImageOf file image
 unfolding vec_of
-image_with file good fit entry few =
-    (record {
-        bytes = vec_of (relocated_image file (relocation_count file)) few;
-        code_len = min 65536 (image_length file - header_cs file * 16);
-        cs = loaded_segment (header_cs file);
-        ip = header_ip file;
-        ss = loaded_segment (header_ss file);
-        sp = header_sp file
-      },
-      record {
-        good_header = good; relocations_fit = fit; has_entry = entry;
-        bytes = refl; code_len = refl; cs = refl; ip = refl; ss = refl; sp = refl
-      })
+image_with file good fit entry few = (
+  record {
+    bytes = vec_of (relocated_image file (relocation_count file)) few;
+    code_len = min 65536 (image_length file - header_cs file * 16);
+    cs = loaded_segment (header_cs file);
+    ip = header_ip file;
+    ss = loaded_segment (header_ss file);
+    sp = header_sp file;
+  },
+  record {
+    good_header = good;
+    relocations_fit = fit;
+    has_entry = entry;
+    bytes = refl;
+    code_len = refl;
+    cs = refl;
+    ip = refl;
+    ss = refl;
+    sp = refl;
+  },
+)
 
 -- a file that passes the seven checks has an image
 image_of : (file : List ℕ) → HasGoodHeader file → RelocationsFit file → HasEntry file → (image : Image) × IsImageOf file image
@@ -206,12 +214,12 @@ image_of file good fit entry =
 pub image_or_fault : (file : List ℕ) → ((image : Image) × IsImageOf file image) ⊎ ((fault : FormatFault) × IsFirstFault file fault)
 image_or_fault file =
     elim (good_header_or_fault file) [
-      inr fault ↦ inr fault
-    | inl good ↦ elim (lowest_misfit file (relocation_count file)) [
-        inr misfit ↦ inr (bad_relocation misfit.0, (good, misfit.1, misfit.2, misfit.3))
-      | inl fit ↦ elim (cases_lt (header_cs file * 16 + header_ip file) (image_length file)) [
-          inl entry ↦ inl (image_of file good fit entry)
-        | inr fails ↦ inr (entry_outside, (good, fit, (λ h. absurd (omega arith))))
+      | inr fault ↦ inr fault
+      | inl good ↦ elim (lowest_misfit file (relocation_count file)) [
+        | inr misfit ↦ inr (bad_relocation misfit.0, (good, misfit.1, misfit.2, misfit.3))
+        | inl fit ↦ elim (cases_lt (header_cs file * 16 + header_ip file) (image_length file)) [
+          | inl entry ↦ inl (image_of file good fit entry)
+          | inr fails ↦ inr (entry_outside, (good, fit, (λ h. absurd (omega arith))))
         ]
       ]
     ]
@@ -220,8 +228,8 @@ image_or_fault file =
 byte_at-lt : (bytes : List ℕ) (at : ℕ) → All (λ b. b < 256) bytes → byte_at bytes at < 256
 byte_at-lt bytes at all =
     elim (cases_lt at (length bytes)) [
-      inl inside ↦ All-get_or (λ b. b < 256) bytes at 0 inside all
-    | inr past ↦ let e = get_or-eq_default bytes 0 past in omega arith
+      | inl inside ↦ All-get_or (λ b. b < 256) bytes at 0 inside all
+      | inr past ↦ let e = get_or-eq_default bytes 0 past in omega arith
     ]
 
 -- a word of bytes is below 65536

@@ -1,5 +1,5 @@
-use Rattle.std.proofs.Common.{◌≡◌, ◌+◌, ◌-◌, ◌*◌, ◌<◌, ℕ, List, length, min, ap, ◌∙◌, arith, vec_len}
-use Rattle.dcc_prog.specs.MzImage.{HasEntry, header_cs, header_ip, image_length, loaded_segment, relocation_count}
+use Rattle.std.proofs.Common.{length, ap, ◌∙◌, arith}
+use Rattle.dcc_prog.specs.MzImage.{loaded_segment, relocation_count}
 use Rattle.dcc_prog.proofs.MzImageLaws.{length-relocated_image}
 use Rattle.dcc_mz.proofs.loader.checked_image.Goals as goal
 
@@ -25,5 +25,5 @@ returns-clause-image c =
       cs = c.loaded.ensures ∙ ap loaded_segment header.cs;
       ip = header.ip;
       ss = c.loaded-2.ensures ∙ ap loaded_segment header.ss;
-      sp = header.sp
+      sp = header.sp;
     }

@@ -1,5 +1,5 @@
-use Rattle.std.proofs.Common.{◌≡◌, ◌<◌, ◌+◌, ℕ, length, ap, ◌∙◌, arith, below_more}
-use Rattle.dcc_prog.specs.MzImage.{RelocationFits, image_length, relocated_image}
+use Rattle.std.proofs.Common.{length, ap, ◌∙◌, arith, below_more}
+use Rattle.dcc_prog.specs.MzImage.{RelocationFits}
 use Rattle.dcc_prog.proofs.MzImageLaws.{length-relocated_image, relocated_image-more}
 use Rattle.dcc_mz.proofs.relocation.relocate.Goals as goal
 
