@@ -1,11 +1,11 @@
 -- What the code's shifts leave.
-use Rattle.std.proofs.Common.{arith, ◌≡◌, ◌∙◌, sym, ap, ℕ, suc, ◌+◌, ◌-◌, ◌*◌, ◌/◌, ◌%◌, ◌^◌, ◌<◌, ◌≤◌, min, add-zero, inl, inr, nat_eq, refl, ℤ, pos, negsuc, to_z, of_z, w64, subst, lit<}
+use Rattle.std.proofs.Common.{arith, ◌≡◌, ◌∙◌, sym, ap, ℕ, suc, ◌+◌, ◌-◌, ◌*◌, ◌/◌, ◌%◌, ◌^◌, ◌<◌, ◌≤◌, min, add-zero, inl, inr, refl, ℤ, pos, negsuc, to_z, of_z, w64, subst, lit<}
 use Rattle.std.proofs.lemmas.Nat.{pow_pos, pow-add, shl-shr, shr-shr, mod_low, shl_whole, div_below, mod_below, div-add-mod'}
 use Rattle.std.proofs.Math.Nat.{div-eq_of_lt, div-le_self, pow-le-pow_right, mul-le-mul_right, mul_comm, mul-div-mul_right}
 use Rattle.std.proofs.lemmas.Bool.{cases_lt}
 use Rattle.dcc_num.specs.declared.Width.{Width}
 use Rattle.dcc_num.specs.declared.Width.TheVariants.{Byte, Word}
-use Rattle.dcc_num.specs.Numbers.{bits_of, limit_of, is_set, residue_of, halved_of}
+use Rattle.dcc_num.specs.Numbers.{bits_of, limit_of, residue_of, halved_of}
 use Rattle.dcc_num.proofs.Exact.{IsSmall, small_passed}
 use Rattle.std.specs.Int.{int_rem_euclid}
 use Rattle.std.specs.Int.Signed.{shr_z}

@@ -81,7 +81,8 @@ pub fn flags_of(w: Width, value: u16, cf: bool, of: bool) -> Flags
 
 /// The bits of a number in two's complement.
 pub fn wrapped(w: Width, number: i64) -> u16
-    ensures { result ≡ wrapped_of w number }
+    ensures bits { result ≡ wrapped_of w number }
+    ensures width { result < limit_of w }
 {
     number.rem_euclid(i64::from(limit(w))) as u16
 }

@@ -1,4 +1,4 @@
-use Rattle.std.proofs.Common.{◌≡◌, ◌∙◌, ap, ℕ, ℤ, pos, of_z, w64, nat_eq}
+use Rattle.std.proofs.Common.{◌∙◌, ap, ℕ, ℤ, pos, of_z, w64, nat_eq}
 use Rattle.std.specs.Int.{int_rem_euclid}
 use Rattle.dcc_num.specs.Numbers.{signed_of, wrapped_of}
 use Rattle.dcc_num.proofs.Shifts.{signed_down_for, parity_is}
@@ -8,7 +8,7 @@ pub returns-clause-bits : goal.returns-clause-bits
 returns-clause-bits c =
     let z = c.signed.ensures in
     let moved = signed_down_for (signed_of c.args.w c.args.a) _ c.args.count _ z.value c.min.ensures (record { low = z.low; high = z.high }) c.requires.moved in
-    c.wrapped.ensures ∙ ap (wrapped_of c.args.w) moved.1
+    c.wrapped.ensures.bits ∙ ap (wrapped_of c.args.w) moved.1
 
 pub returns-clause-out : goal.returns-clause-out
 returns-clause-out c =
