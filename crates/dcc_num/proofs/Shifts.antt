@@ -1,12 +1,11 @@
 -- What the code's shifts leave.
-use Rattle.std.proofs.Common.{arith, ◌≡◌, ◌∙◌, sym, ap, ℕ, suc, ◌+◌, ◌-◌, ◌*◌, ◌/◌, ◌%◌, ◌^◌, ◌<◌, ◌≤◌, min, add-zero, inl, inr, nat_eq, refl, ℤ, pos, negsuc, to_z, of_z, w32, subst, lit<}
+use Rattle.std.proofs.Common.{arith, ◌≡◌, ◌∙◌, sym, ap, ℕ, suc, ◌+◌, ◌-◌, ◌*◌, ◌/◌, ◌%◌, ◌^◌, ◌<◌, ◌≤◌, min, add-zero, inl, inr, refl, ℤ, pos, negsuc, to_z, of_z, w64, subst, lit<}
 use Rattle.std.proofs.lemmas.Nat.{pow_pos, pow-add, shl-shr, shr-shr, mod_low, shl_whole, div_below, mod_below, div-add-mod'}
 use Rattle.std.proofs.Math.Nat.{div-eq_of_lt, div-le_self, pow-le-pow_right, mul-le-mul_right, mul_comm, mul-div-mul_right}
 use Rattle.std.proofs.lemmas.Bool.{cases_lt}
 use Rattle.dcc_num.specs.declared.Width.{Width}
 use Rattle.dcc_num.specs.declared.Width.TheVariants.{Byte, Word}
-use Rattle.dcc_num.specs.Numbers.{bits_of, limit_of, is_set, residue_of}
-use Rattle.dcc_num.specs.Shift.{halved_of}
+use Rattle.dcc_num.specs.Numbers.{bits_of, limit_of, residue_of, halved_of}
 use Rattle.dcc_num.proofs.Exact.{IsSmall, small_passed}
 use Rattle.std.specs.Int.{int_rem_euclid}
 use Rattle.std.specs.Int.Signed.{shr_z}
@@ -125,21 +124,21 @@ signed_down (negsuc a) k p some =
 
 -- what the code computes for a signed operand, n standing for the places
 pub signed_down_for : (z y : ℤ) (k n : ℕ) → y ≡ z → n ≡ min k 17 → IsSmall y → 0 < k
-    → (to_z w32 (of_z w32 (shr_z (to_z w32 (of_z w32 y)) (2 ^ (n - 1)))) ≡ halved_of z (k - 1))
-    × (to_z w32 (of_z w32 (shr_z (to_z w32 (of_z w32 (shr_z (to_z w32 (of_z w32 y)) (2 ^ (n - 1))))) 2)) ≡ halved_of z k)
+    → (to_z w64 (of_z w64 (shr_z (to_z w64 (of_z w64 y)) (2 ^ (n - 1)))) ≡ halved_of z (k - 1))
+    × (to_z w64 (of_z w64 (shr_z (to_z w64 (of_z w64 (shr_z (to_z w64 (of_z w64 y)) (2 ^ (n - 1))))) 2)) ≡ halved_of z k)
 signed_down_for z y k n ez en p some =
     let m : ℕ = 2 ^ (n - 1) in
     let first = small_passed p in
     let less = small_passed (halved_small y m p) in
     let last = small_passed (halved_small (shr_z y m) 2 (halved_small y m p)) in
-    let step : to_z w32 (of_z w32 (shr_z (to_z w32 (of_z w32 y)) m)) ≡ shr_z y m = ap (λ (x : ℤ). to_z w32 (of_z w32 (shr_z x m))) first ∙ less in
+    let step : to_z w64 (of_z w64 (shr_z (to_z w64 (of_z w64 y)) m)) ≡ shr_z y m = ap (λ (x : ℤ). to_z w64 (of_z w64 (shr_z x m))) first ∙ less in
     let both = signed_down y k p some in
     let places : shr_z y m ≡ shr_z y (2 ^ (min k 17 - 1)) = ap (λ (j : ℕ). shr_z y (2 ^ (j - 1))) en in (
       step ∙ places ∙ both.0 ∙ ap (λ (x : ℤ). halved_of x (k - 1)) ez,
-      ap (λ (x : ℤ). to_z w32 (of_z w32 (shr_z x 2))) step ∙ last ∙ ap (λ (x : ℤ). shr_z x 2) places ∙ both.1 ∙ ap (λ (x : ℤ). halved_of x k) ez,
+      ap (λ (x : ℤ). to_z w64 (of_z w64 (shr_z x 2))) step ∙ last ∙ ap (λ (x : ℤ). shr_z x 2) places ∙ both.1 ∙ ap (λ (x : ℤ). halved_of x k) ez,
     )
 
 -- the lowest bit of a signed number
-pub parity_is : (z : ℤ) → of_z w32 (int_rem_euclid z (pos 2)) ≡ residue_of 2 z
+pub parity_is : (z : ℤ) → of_z w64 (int_rem_euclid z (pos 2)) ≡ residue_of 2 z
 parity_is (pos a) = refl
 parity_is (negsuc a) = refl

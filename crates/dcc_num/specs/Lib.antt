@@ -1,4 +1,6 @@
 pub mod Logic
 pub mod Numbers
+pub mod Product
+pub mod Quotient
 pub mod Shift
 pub mod Sum

@@ -1,6 +1,6 @@
 -- Operands as numbers (8086 Family User's Manual, chapter 2): a byte or a word, read without a sign or in two's complement, and the flags of a result.
 use Rattle.std.specs.Prelude.{ℕ, ◌-◌, ◌%◌, ◌^◌, ◌==◌, nat_le, Bool, true, false, not, ◌&&◌, if◌then◌else◌, ℤ, pos, negsuc, neg_ℤ, ◌-ℤ◌, int_lt, int_le}
-use Rattle.std.specs.Int.{bit_at}
+use Rattle.std.specs.Int.{bit_at, int_div_euclid}
 use Rattle.dcc_num.specs.declared.Width.{Width}
 use Rattle.dcc_num.specs.declared.Width.TheVariants.{Byte, Word}
 use Rattle.dcc_num.specs.declared.Flags.{Flags}
@@ -34,6 +34,10 @@ differ false b = b
 -- the number that the bits stand for in two's complement
 unfoldable pub signed_of : Width → ℕ → ℤ
 signed_of w a = if has_sign w a then pos a -ℤ pos (limit_of w) else pos a
+
+-- a signed number divided by 2 ^ n, rounded down
+abbrev pub halved_of : ℤ → ℕ → ℤ
+halved_of z n = int_div_euclid z (pos (2 ^ n))
 
 -- what is left of a number in m values: the number modulo m, from 0 to m - 1
 abbrev pub residue_of : ℕ → ℤ → ℕ

@@ -1,9 +1,9 @@
 -- SHL, SHR, SAR, ROL, ROR, RCL and RCR: each gives the result and the flags. A count of 0 changes nothing. Counts are not masked, and OF, which the manual leaves open for counts above 1, is clear there.
-use Rattle.std.specs.Prelude.{ℕ, ◌+◌, ◌-◌, ◌*◌, ◌/◌, ◌%◌, ◌^◌, ◌==◌, ◌&&◌, Bool, false, ℤ, pos, if◌then◌else◌}
-use Rattle.std.specs.Int.{from_bool, int_div_euclid}
+use Rattle.std.specs.Prelude.{ℕ, ◌+◌, ◌-◌, ◌*◌, ◌/◌, ◌%◌, ◌^◌, ◌==◌, ◌&&◌, Bool, false, if◌then◌else◌}
+use Rattle.std.specs.Int.{from_bool}
 use Rattle.dcc_num.specs.declared.Width.{Width}
 use Rattle.dcc_num.specs.declared.Flags.{Flags}
-use Rattle.dcc_num.specs.Numbers.{bits_of, limit_of, half_of, has_sign, is_set, differ, residue_of, wrapped_of, signed_of, result_flags}
+use Rattle.dcc_num.specs.Numbers.{bits_of, limit_of, half_of, has_sign, is_set, differ, residue_of, halved_of, wrapped_of, signed_of, result_flags}
 
 -- a shift by a count: for 0 the operand and the flags as they were
 abbrev pub unless_zero : ℕ → ℕ × Flags → ℕ × Flags → ℕ × Flags
@@ -22,11 +22,7 @@ right_shift_of w a count was =
     let r = a / 2 ^ count in
     unless_zero count (a, was) (r, result_flags w r (is_set a (count - 1)) (count == 1 && has_sign w a))
 
--- a signed number divided by 2 ^ n, rounded down
-abbrev pub halved_of : ℤ → ℕ → ℤ
-halved_of z n = int_div_euclid z (pos (2 ^ n))
-
--- the same for signed numbers, so that copies of the sign come in at the top. OF is clear
+-- the signed number divided by 2 ^ count, rounded down, so that copies of the sign come in at the top. CF: the last bit shifted out. OF is clear
 unfoldable pub signed_shift_of : Width → ℕ → ℕ → Flags → ℕ × Flags
 signed_shift_of w a count was =
     let z = signed_of w a in

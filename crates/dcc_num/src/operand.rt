@@ -44,25 +44,25 @@ pub fn is_negative(w: Width, a: u16) -> bool
 
 /// The number that the bits stand for in two's complement.
 #[tactic(auto, unfolding(crate::specs::Numbers::signed_of))]
-pub fn signed(w: Width, a: u16) -> i32
+pub fn signed(w: Width, a: u16) -> i64
     requires { a < limit_of w }
     ensures value { result ≡ signed_of w a }
     ensures low { neg_ℤ (pos 32768) ≤ℤ result }
     ensures high { result <ℤ pos 32768 }
 {
     if is_negative(w, a) {
-        i32::from(a) - limit(w) as i32
+        i64::from(a) - i64::from(limit(w))
     } else {
-        i32::from(a)
+        i64::from(a)
     }
 }
 
 /// Whether a number is among those that two's complement has at the width.
 #[tactic(auto, unfolding(crate::specs::Numbers::fits_signed))]
-pub fn fits(w: Width, number: i32) -> bool
+pub fn fits(w: Width, number: i64) -> bool
     ensures { result ≡ fits_signed w number }
 {
-    let half = half(w) as i32;
+    let half = i64::from(half(w));
     -half <= number && number < half
 }
 
@@ -80,10 +80,11 @@ pub fn flags_of(w: Width, value: u16, cf: bool, of: bool) -> Flags
 }
 
 /// The bits of a number in two's complement.
-pub fn wrapped(w: Width, number: i32) -> u16
-    ensures { result ≡ wrapped_of w number }
+pub fn wrapped(w: Width, number: i64) -> u16
+    ensures bits { result ≡ wrapped_of w number }
+    ensures width { result < limit_of w }
 {
-    number.rem_euclid(limit(w) as i32) as u16
+    number.rem_euclid(i64::from(limit(w))) as u16
 }
 
 /// CBW: a byte, sign-extended to a word.

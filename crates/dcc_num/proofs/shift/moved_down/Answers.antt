@@ -1,5 +1,5 @@
-use Rattle.std.proofs.Common.{◌≡◌, ◌∙◌, ap, ℕ, ◌%◌, ◌/◌, ◌-◌, ◌^◌, min, nat_eq}
-use Rattle.dcc_num.proofs.Shifts.{moved_down_is, moved_down_for}
+use Rattle.std.proofs.Common.{ap, ℕ, ◌%◌, nat_eq}
+use Rattle.dcc_num.proofs.Shifts.{moved_down_for}
 use Rattle.dcc_num.proofs.shift.moved_down.Goals as goal
 
 pub returns-clause-bits : goal.returns-clause-bits

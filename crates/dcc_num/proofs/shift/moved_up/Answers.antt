@@ -1,4 +1,4 @@
-use Rattle.std.proofs.Common.{◌≡◌, ◌∙◌, ap, ℕ, nat_eq}
+use Rattle.std.proofs.Common.{◌∙◌, ap, ℕ, nat_eq}
 use Rattle.dcc_num.proofs.Shifts.{moved_up_is}
 use Rattle.dcc_num.proofs.shift.moved_up.Goals as goal
 

@@ -1,4 +1,4 @@
-use Rattle.std.proofs.Common.{◌<◌, ◌∙◌}
+use Rattle.std.proofs.Common.{◌∙◌}
 use Rattle.dcc_num.proofs.Shifts.{turned_is, limit_small}
 use Rattle.dcc_num.proofs.shift.turned.Goals as goal
 
