@@ -67,3 +67,25 @@ stops-once code entry m n s t =
     let same = same-stop code (Some s.at) (Some t.at) entry None a b in
     let at : s.at ≡ t.at = cc in
     s.name ∙ ap (λ k. k % 65536) at ∙ sym t.name
+
+-- a line begins at its entry
+pub line-starts : (code : List ℕ) (entry at : ℕ) (forms : List Form) → at ≡ entry → forms ≡ [] → Comes code entry at None forms
+line-starts code entry at forms e f =
+    subst (λ a. Comes code entry a None forms) (sym e) (subst (λ l. Comes code entry entry None l) (sym f) at_entry)
+
+-- a line goes on by a built instruction that does not leave
+pub line-goes_on : (code : List ℕ) (entry at at' : ℕ) (ah ah' : Option ℕ) (forms forms' : List Form) (built : Built) → Comes code entry at ah forms → Some built ≡ built_at code at ah → built.form ≢ Leave → at' ≡ at + built.len → ah' ≡ ah_after built.form ah → forms' ≡ forms ++ built.form ∷ [] → Comes code entry at' ah' forms'
+line-goes_on code entry at at' ah ah' forms forms' built comes is ne e h f =
+    subst (λ a. Comes code entry a ah' forms') (sym e) (subst (λ o. Comes code entry (at + built.len) o forms') (sym h) (subst (λ l. Comes code entry (at + built.len) (ah_after built.form ah) l) (sym f) (goes_on built comes (sym is) ne)))
+
+-- a line ends by the call that leaves
+pub line-ends : (code : List ℕ) (entry at : ℕ) (ah : Option ℕ) (before forms : List Form) (built : Built) → Comes code entry at ah before → Some built ≡ built_at code at ah → built.form ≡ Leave → forms ≡ before ++ built.form ∷ [] → Ends code entry forms
+line-ends code entry at ah before forms built comes is leaves f = record {
+  at = at;
+  ah = ah;
+  before = before;
+  comes = comes;
+  len = built.len;
+  leaves = sym is ∙ ap (λ form. Some (record { form = form; len = built.len })) leaves;
+  all = f ∙ ap (λ form. before ++ form ∷ []) leaves;
+}

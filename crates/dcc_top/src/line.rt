@@ -21,8 +21,8 @@ pub fn straight_line(alloc: Global, code: &[u8], entry: u16) -> Result<Vec<Form>
     let mut ah = None;
     let mut forms = Vec::new(alloc);
     while let Some(built) = built_at(code, at, ah) {
-        forms.push(built.form).map_err(|_| Refusal::Memory)?;
-        if built.form == Form::Leave {
+        forms.push(built.form)?;
+        if let Form::Leave = built.form {
             return Ok(forms);
         }
         ah = ah_after(built.form, ah);
