@@ -7,3 +7,4 @@ pub mod LineStatements
 pub mod LineStands
 pub mod LineWritten
 pub mod LineLaws
+pub mod AnswerLaws

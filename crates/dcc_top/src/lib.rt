@@ -8,4 +8,5 @@ pub mod form;
 pub mod line;
 pub mod reply;
 pub mod text;
+pub mod top;
 pub mod words;

@@ -1,26 +1,20 @@
 //! The top call.
 
-ghost use Rattle.std.specs.Prelude.{◌≡◌, ◌⊎◌, ◌≤◌, ◌∷◌, [], ◌++◌, ℕ, List, Some, None, map, string_bytes, IfOk};
-ghost use Rattle.dcc_io.specs.Count.{Rose};
-ghost use Rattle.dcc_prog.specs.MzImage.{FormatFault, IsFirstFault};
-ghost use Rattle.dcc_top.specs.declared.reply.Reply.TheVariants.{Memory};
-ghost use Rattle.dcc_top.specs.Words.{job_of, Decompile, requests_of, greatest_file};
-ghost use Rattle.dcc_top.specs.Answer.{AllowsForBytes, AllowsForFile, Allows, FormatOnly, StopsOnly, DoneOnly};
+ghost use Rattle.std.specs.Prelude.{◌≡◌};
+ghost use Rattle.dcc_prog.specs.MzImage.{IsLoaded};
+ghost use Rattle.dcc_top.specs.Answer.{AllowsForImage, AllowsForBytes, IsExact};
 
 use crate::line::straight_line;
 use crate::reply::Reply;
 use crate::text::line_text;
-use crate::words::file_of;
-use dcc_io::{Fetched, Shelf, ShelfFault};
 use dcc_mz::{MzFault, load};
-use dcc_prog::Refusal;
+use dcc_prog::{Image, Refusal};
 use std::alloc::Global;
 
-/// The greatest length of an executable that is fetched, in bytes.
-const GREATEST_FILE: usize = 262_144;
-
-// The answer for an executable that is an image.
+// The answer for the image of a file.
 fn image_reply(alloc: Global, image: &Image) -> Reply
+    requires { IsLoaded image.now }
+    ensures { AllowsForImage image.now result }
 {
     match straight_line(alloc, image.code(), image.ip) {
         Ok(forms) => match line_text(alloc, &forms) {
@@ -29,5 +23,17 @@ fn image_reply(alloc: Global, image: &Image) -> Reply
         },
         Err(Refusal::NotYet { at }) => Reply::NotYet(at),
         Err(_) => Reply::Memory,
+    }
+}
+
+// The answer for the bytes of a file.
+fn bytes_reply(alloc: Global, bytes: &Vec<u8>) -> Reply
+    ensures allowed { AllowsForBytes bytes.now.items result }
+    ensures exact { IsExact bytes.now.items result }
+{
+    match load(alloc, bytes) {
+        Ok(image) => image_reply(alloc, &image),
+        Err(MzFault::Memory) => Reply::Memory,
+        Err(fault) => Reply::Format(fault),
     }
 }
