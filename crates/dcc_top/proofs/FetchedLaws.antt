@@ -10,7 +10,8 @@ use Rattle.dcc_prog.proofs.MzImageLaws.{one_fault, not_both}
 use Rattle.dcc_top.specs.declared.reply.Reply.{Reply}
 use Rattle.dcc_top.specs.declared.reply.Reply.TheVariants.{Done, Usage, NoFile, FileFault, Memory, Format, NotYet}
 use Rattle.dcc_top.specs.Answer.{Decompiles, StopsInFile, OfFile, AllowsForBytes, AllowsForFile, IsExact, TellsMissing}
-use Rattle.dcc_top.specs.Causes.{Files}
+use Rattle.dcc_top.specs.Words.{Job, Decompile}
+use Rattle.dcc_top.specs.Causes.{Files, Names}
 use Rattle.dcc_top.proofs.AnswerLaws.{exact-format}
 
 -- the shelf gave all of the file
@@ -73,3 +74,10 @@ front-missing told name given gave files e f = let both = sym (gave files e).1 �
 
 pub absent-exact : (told : Files) (name : List ℕ) → WhenTold told (λ files. files name ≡ None) → WhenTold told (λ files. (file : List ℕ) → files name ≡ Some file → IsExact file NoFile)
 absent-exact told name gave files e file f = let both = sym (gave files e) ∙ f in cc
+
+-- the name in the words is the one that was fetched
+pub named-exact : (told : Files) (job : Option Job) (name : List ℕ) (reply : Reply) → job ≡ Some (Decompile name) → WhenTold told (λ files. (file : List ℕ) → files name ≡ Some file → IsExact file reply) → (file : List ℕ) → Names told job file → IsExact file reply
+named-exact told job name reply is exact file n =
+    let both : Some (Decompile n.name) ≡ Some (Decompile name) = sym n.named ∙ is in
+    let same : n.name ≡ name = cc in
+    exact n.files n.tells file (ap n.files (sym same) ∙ n.has)
