@@ -1,6 +1,6 @@
 -- The encodings of the 8086 that this project knows, one row for each (8086 Family User's Manual,
 -- table 4-12), and which instruction some bytes are.
-use Rattle.std.specs.Prelude.{◌≡◌, ◌≤◌, ◌↔◌, IsTrue, slice_get, filter, Some, ℕ, ◌+◌, ◌-◌, ◌/◌, ◌%◌, zero, suc, Bool, true, false, if◌then◌else◌, ◌==◌, ◌&&◌, nat_le, List, [], ◌∷◌, ◌++◌, length, get_or, map, find, Option, None, option_map}
+use Rattle.std.specs.Prelude.{◌<◌, take, ◌≡◌, ◌≤◌, ◌↔◌, IsTrue, slice_get, filter, Some, ℕ, ◌+◌, ◌-◌, ◌/◌, ◌%◌, zero, suc, Bool, true, false, if◌then◌else◌, ◌==◌, ◌&&◌, nat_le, List, [], ◌∷◌, ◌++◌, length, get_or, map, find, Option, None, option_map}
 use Rattle.dcc_num.specs.declared.Reg.TheVariants.{Bx, Si, Di}
 use Rattle.dcc_num.specs.declared.Width.TheVariants.{Byte as byte_width, Word as word_width}
 use Rattle.dcc_prog.specs.declared.instr.Alu.{Alu}
@@ -434,7 +434,7 @@ instruction_at offset bytes =
 
 -- Laws of the table ----------------------------------------------------------------------------
 
--- whether a row of the table is at hand
+-- a row of the table
 abbrev pub IsRow : Row → Type 0
 IsRow row = (k : ℕ) × (slice_get table k ≡ Some row)
 
@@ -454,3 +454,15 @@ InstructionIsThatOfItsRow =
     × (instr.len
     ≡ (length row.pattern + row_displacement_size row bytes)
     + constant_size row.constant_form))
+
+-- an instruction has one to six bytes, all of which are there
+abbrev pub InstructionHasOneToSixBytes : Type 0
+InstructionHasOneToSixBytes =
+    (offset : ℕ) (bytes : List ℕ) (instr : Instr) → instruction_at offset bytes ≡ Some instr
+    → (0 < instr.len) × (instr.len ≤ length bytes) × (instr.len ≤ 6)
+
+-- an instruction depends on its own bytes alone
+abbrev pub InstructionDependsOnItsBytes : Type 0
+InstructionDependsOnItsBytes =
+    (offset : ℕ) (bytes others : List ℕ) (instr : Instr) → instruction_at offset bytes ≡ Some instr
+    → take instr.len others ≡ take instr.len bytes → instruction_at offset others ≡ Some instr
