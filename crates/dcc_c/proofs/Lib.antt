@@ -1,3 +1,4 @@
 pub mod RunLaws
 pub mod LexingLaws
 pub mod WrittenLaws
+pub mod ViewLaws

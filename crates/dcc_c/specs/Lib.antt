@@ -7,4 +7,5 @@ pub mod Rules
 pub mod Value
 pub mod Run
 pub mod Text
+pub mod Views
 pub mod Written
