@@ -2,3 +2,4 @@ pub mod RunLaws
 pub mod LexingLaws
 pub mod WrittenLaws
 pub mod ViewLaws
+pub mod NameLaws

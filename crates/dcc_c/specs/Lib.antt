@@ -8,4 +8,5 @@ pub mod Value
 pub mod Run
 pub mod Text
 pub mod Views
+pub mod Plain
 pub mod Written
