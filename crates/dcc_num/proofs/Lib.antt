@@ -2,4 +2,5 @@ pub mod Exact
 pub mod Products
 pub mod Quotients
 pub mod Shifts
+pub mod Steps
 pub mod Sums

@@ -1,6 +1,7 @@
 //! Registers, flags and arithmetic of the 8086 (8086 Family User's Manual, chapter 2).
 #![tactic(auto)]
 
+mod laws;
 mod logic;
 mod operand;
 mod product;
@@ -8,6 +9,9 @@ mod quotient;
 mod shift;
 mod sum;
 
+pub use laws::{
+    rol_is_repeated, ror_is_repeated, sar_is_repeated, shl_is_repeated, shr_is_repeated,
+};
 pub use logic::{and, or, xor};
 pub use operand::sign8;
 pub use product::{imul, mul};
