@@ -1,3 +1,5 @@
+pub mod Differences
+pub mod Divisions
 pub mod Exact
 pub mod Products
 pub mod Quotients

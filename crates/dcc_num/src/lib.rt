@@ -10,7 +10,9 @@ mod shift;
 mod sum;
 
 pub use laws::{
-    rol_is_repeated, ror_is_repeated, sar_is_repeated, shl_is_repeated, shr_is_repeated,
+    differences_are_exact, differences_compare, divisions_are_exact, products_are_exact, rol_is_repeated,
+    ror_is_repeated, sar_is_repeated, shl_is_repeated, shr_is_repeated, sign_extensions_are_exact,
+    signed_divisions_are_exact, signed_products_are_exact, sums_are_exact,
 };
 pub use logic::{and, or, xor};
 pub use operand::sign8;
