@@ -35,13 +35,14 @@ pub record Stands (w : Width) (a : ℕ) (z : ℤ) : Type 0 where
 
 pub stands : (w : Width) (a : ℕ) → a < limit_of w → Stands w a (signed_of w a)
 stands w a small = elim (signed_cases w a small) [
-  inl low ↦ rw low.1 (up w a low.0)
+  | inl low ↦ rw low.1 (up w a low.0)
   | inr high ↦ rw high.1 (down w a small high.0)
 ]
   where
     up : (w : Width) (a : ℕ) → a < half_of w → Stands w a (pos a)
     up Byte a small = record { range = record { low = omega (arith, ints); high = omega (arith, ints) }; value = inl refl }
     up Word a small = record { range = record { low = omega (arith, ints); high = omega (arith, ints) }; value = inl refl }
+
     down : (w : Width) (a : ℕ) → a < limit_of w → half_of w ≤ a → Stands w a (negsuc (limit_of w - 1 - a))
     down Byte a small high = record { range = record { low = omega (arith, ints); high = omega (arith, ints) }; value = inr (omega (arith, ints)) }
     down Word a small high = record { range = record { low = omega (arith, ints); high = omega (arith, ints) }; value = inr (omega (arith, ints)) }
@@ -64,8 +65,8 @@ unfolding sum_of result_flags
 sums_exact w a b carry first second = record {
   unsigned = whole w a b carry first second;
   signed = λ e. sum_once w a b (from_bool carry) (signed_of w a) (signed_of w b) (signed_of w ((a + b + from_bool carry) % limit_of w))
-    (stands w a first) (stands w b second) (stands w ((a + b + from_bool carry) % limit_of w) (below w (a + b + from_bool carry)))
-    (in_range w (signed_of w a +ℤ signed_of w b +ℤ pos (from_bool carry)) (not_false (fits_signed w (signed_of w a +ℤ signed_of w b +ℤ pos (from_bool carry))) e))
+      (stands w a first) (stands w b second) (stands w ((a + b + from_bool carry) % limit_of w) (below w (a + b + from_bool carry)))
+      (in_range w (signed_of w a +ℤ signed_of w b +ℤ pos (from_bool carry)) (not_false (fits_signed w (signed_of w a +ℤ signed_of w b +ℤ pos (from_bool carry))) e));
 }
   where
     whole : (w : Width) (a b : ℕ) (carry : Bool) → a < limit_of w → b < limit_of w
@@ -101,11 +102,11 @@ signed_wrapped w z p = stands_once w (wrapped_of w z) (signed_of w (wrapped_of w
 difference_at : (w : Width) (a b k n : ℕ) (x y z : ℤ) → n + (b + k) ≡ a + limit_of w → Stands w a x → Stands w b y → Stands w (n % limit_of w) z
     → InRange w (x -ℤ y -ℤ pos k) → z ≡ x -ℤ y -ℤ pos k
 difference_at Byte a b k n x y z e p q r in_it = elim p.value [
-  inl u ↦ elim q.value [ inl v ↦ elim r.value [ inl t ↦ omega (arith, ints) | inr t ↦ omega (arith, ints) ] | inr v ↦ elim r.value [ inl t ↦ omega (arith, ints) | inr t ↦ omega (arith, ints) ] ]
+  | inl u ↦ elim q.value [ inl v ↦ elim r.value [ inl t ↦ omega (arith, ints) | inr t ↦ omega (arith, ints) ] | inr v ↦ elim r.value [ inl t ↦ omega (arith, ints) | inr t ↦ omega (arith, ints) ] ]
   | inr u ↦ elim q.value [ inl v ↦ elim r.value [ inl t ↦ omega (arith, ints) | inr t ↦ omega (arith, ints) ] | inr v ↦ elim r.value [ inl t ↦ omega (arith, ints) | inr t ↦ omega (arith, ints) ] ]
 ]
 difference_at Word a b k n x y z e p q r in_it = elim p.value [
-  inl u ↦ elim q.value [ inl v ↦ elim r.value [ inl t ↦ omega (arith, ints) | inr t ↦ omega (arith, ints) ] | inr v ↦ elim r.value [ inl t ↦ omega (arith, ints) | inr t ↦ omega (arith, ints) ] ]
+  | inl u ↦ elim q.value [ inl v ↦ elim r.value [ inl t ↦ omega (arith, ints) | inr t ↦ omega (arith, ints) ] | inr v ↦ elim r.value [ inl t ↦ omega (arith, ints) | inr t ↦ omega (arith, ints) ] ]
   | inr u ↦ elim q.value [ inl v ↦ elim r.value [ inl t ↦ omega (arith, ints) | inr t ↦ omega (arith, ints) ] | inr v ↦ elim r.value [ inl t ↦ omega (arith, ints) | inr t ↦ omega (arith, ints) ] ]
 ]
 
@@ -118,14 +119,15 @@ unfolding difference_of result_flags
 differences_exact w a b borrow first second = record {
   unsigned = whole w a b borrow first second;
   signed = λ e. difference_once w a b (from_bool borrow) (signed_of w a) (signed_of w b) (signed_of w ((a + limit_of w - (b + from_bool borrow)) % limit_of w))
-    (room borrow second) (stands w a first) (stands w b second)
-    (stands w ((a + limit_of w - (b + from_bool borrow)) % limit_of w) (below w (a + limit_of w - (b + from_bool borrow))))
-    (in_range w (signed_of w a -ℤ signed_of w b -ℤ pos (from_bool borrow)) (not_false (fits_signed w (signed_of w a -ℤ signed_of w b -ℤ pos (from_bool borrow))) e))
+      (room borrow second) (stands w a first) (stands w b second)
+      (stands w ((a + limit_of w - (b + from_bool borrow)) % limit_of w) (below w (a + limit_of w - (b + from_bool borrow))))
+      (in_range w (signed_of w a -ℤ signed_of w b -ℤ pos (from_bool borrow)) (not_false (fits_signed w (signed_of w a -ℤ signed_of w b -ℤ pos (from_bool borrow))) e));
 }
   where
     room : (k : Bool) → b < limit_of w → b + from_bool k ≤ limit_of w
     room true h = omega arith
     room false h = omega arith
+
     whole : (w : Width) (a b : ℕ) (borrow : Bool) → a < limit_of w → b < limit_of w
         → (a + limit_of w - (b + from_bool borrow)) % limit_of w + b + from_bool borrow ≡ a + from_bool (nat_lt a (b + from_bool borrow)) * limit_of w
     whole Byte a b true first second = grind (arith, nat_tests)
@@ -167,23 +169,26 @@ unfolding difference_of result_flags
 differences_compare w a b first second = record {
   below = grind (arith, nat_tests);
   equal = equal w a b first second;
-  less = less (fits_signed w (signed_of w a -ℤ signed_of w b -ℤ pos 0)) refl
+  less = less (fits_signed w (signed_of w a -ℤ signed_of w b -ℤ pos 0)) refl;
 }
   where
     equal : (w : Width) (a b : ℕ) → a < limit_of w → b < limit_of w → nat_eq ((a + limit_of w - (b + 0)) % limit_of w) 0 ≡ nat_eq a b
     equal Byte a b first second = grind (arith, nat_tests)
     equal Word a b first second = grind (arith, nat_tests)
+
     r : ℕ
     r = (a + limit_of w - (b + 0)) % limit_of w
+
     stood : Stands w r (signed_of w r)
     stood = stands w r (below w (a + limit_of w - (b + 0)))
+
     less : (f : Bool) → fits_signed w (signed_of w a -ℤ signed_of w b -ℤ pos 0) ≡ f → differ (has_sign w r) (not f) ≡ int_lt (signed_of w a) (signed_of w b)
     less true e = differ_false (has_sign w r) ∙ sign_is w r (signed_of w r) (below w (a + limit_of w - (b + 0))) stood
-      ∙ same_sign (signed_of w a) (signed_of w b) (signed_of w r)
+        ∙ same_sign (signed_of w a) (signed_of w b) (signed_of w r)
         (difference_once w a b 0 (signed_of w a) (signed_of w b) (signed_of w r) (omega arith) (stands w a first) (stands w b second) stood
-          (in_range w (signed_of w a -ℤ signed_of w b -ℤ pos 0) e))
+        (in_range w (signed_of w a -ℤ signed_of w b -ℤ pos 0) e))
     less false e = differ_true (has_sign w r) ∙ ap not (sign_is w r (signed_of w r) (below w (a + limit_of w - (b + 0))) stood)
-      ∙ turned_sign w a b (signed_of w a) (signed_of w b) (signed_of w r) first second (stands w a first) (stands w b second) stood
+        ∙ turned_sign w a b (signed_of w a) (signed_of w b) (signed_of w r) first second (stands w a first) (stands w b second) stood
         (out_of_range w (signed_of w a -ℤ signed_of w b -ℤ pos 0) e)
 
 -- ---- sign extension

@@ -31,49 +31,41 @@ pub fn ror_is_repeated()
 /// ADD and ADC give the sum of the unsigned numbers, and without overflow that of the signed ones.
 pub fn sums_are_exact()
     ensures { SumsAreExact }
-{
-}
+{}
 
 /// SUB and SBB give the difference of the unsigned numbers, and without overflow that of the
 /// signed ones.
 pub fn differences_are_exact()
     ensures { DifferencesAreExact }
-{
-}
+{}
 
 /// After a comparison the flags tell which operand is less.
 pub fn differences_compare()
     ensures { DifferencesCompare }
-{
-}
+{}
 
 /// A sign-extended byte stands for the same number.
 pub fn sign_extensions_are_exact()
     ensures { SignExtensionsAreExact }
-{
-}
+{}
 
 /// The two halves that MUL gives are the product.
 pub fn products_are_exact()
     ensures { ProductsAreExact }
-{
-}
+{}
 
 /// The two halves that IMUL gives are the product of the signed numbers.
 pub fn signed_products_are_exact()
     ensures { SignedProductsAreExact }
-{
-}
+{}
 
 /// DIV gives the quotient and the remainder, and faults exactly where no quotient fits.
 pub fn divisions_are_exact()
     ensures { DivisionsAreExact }
-{
-}
+{}
 
 /// IDIV gives the quotient and the remainder of the signed numbers, and faults exactly where no
 /// quotient fits.
 pub fn signed_divisions_are_exact()
     ensures { SignedDivisionsAreExact }
-{
-}
+{}

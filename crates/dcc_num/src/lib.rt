@@ -1,19 +1,16 @@
 //! Registers, flags and arithmetic of the 8086 (8086 Family User's Manual, chapter 2).
 #![tactic(auto)]
 
-mod laws;
+pub mod laws;
 mod logic;
 mod operand;
 mod product;
 mod quotient;
 mod shift;
 mod sum;
+#[cfg(test)]
+mod tests;
 
-pub use laws::{
-    differences_are_exact, differences_compare, divisions_are_exact, products_are_exact, rol_is_repeated,
-    ror_is_repeated, sar_is_repeated, shl_is_repeated, shr_is_repeated, sign_extensions_are_exact,
-    signed_divisions_are_exact, signed_products_are_exact, sums_are_exact,
-};
 pub use logic::{and, or, xor};
 pub use operand::sign8;
 pub use product::{imul, mul};
