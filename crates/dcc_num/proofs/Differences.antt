@@ -1,16 +1,14 @@
 -- Sums, differences and comparisons as those of the signed and the unsigned numbers.
-use Rattle.std.proofs.Common.{arith, ◌≡◌, ◌∙◌, sym, ap, refl, subst, ℕ, zero, suc, ◌+◌, ◌-◌, ◌*◌, ◌/◌, ◌%◌, ◌^◌, ◌<◌, ◌≤◌, Bool, true, false, not, nat_eq, nat_le, nat_lt, inl, inr, ℤ, pos, negsuc, neg_ℤ, ◌+ℤ◌, ◌-ℤ◌, ◌≤ℤ◌, ◌<ℤ◌, ◌⊎◌, ◌&&◌}
+use Rattle.std.proofs.Common.{arith, ◌≡◌, ◌∙◌, ap, refl, ℕ, ◌+◌, ◌-◌, ◌*◌, ◌%◌, ◌<◌, ◌≤◌, Bool, true, false, not, nat_eq, nat_le, nat_lt, inl, inr, ℤ, pos, negsuc, neg_ℤ, ◌+ℤ◌, ◌-ℤ◌, ◌≤ℤ◌, ◌<ℤ◌, ◌⊎◌}
 use Rattle.std.specs.Prelude.{int_lt}
 use Rattle.std.specs.Int.{from_bool}
 use Rattle.std.proofs.lemmas.Int.{ints}
-use Rattle.std.proofs.lemmas.Bool.{cases_lt}
 use Rattle.std.proofs.lemmas.Bool.Decides.{nat_tests}
 use Rattle.dcc_num.specs.declared.Width.{Width}
 use Rattle.dcc_num.specs.declared.Width.TheVariants.{Byte, Word}
-use Rattle.dcc_num.specs.declared.Flags.{Flags}
-use Rattle.dcc_num.specs.Numbers.{bits_of, limit_of, half_of, has_sign, differ, result_flags, signed_of, fits_signed, wrapped_of, sign_extension_of}
+use Rattle.dcc_num.specs.Numbers.{limit_of, half_of, has_sign, differ, result_flags, signed_of, fits_signed, wrapped_of, sign_extension_of}
 use Rattle.dcc_num.specs.Sum.{sum_of, difference_of}
-use Rattle.dcc_num.specs.Laws.{IsSum, IsDifference, Compares, SumsAreExact, DifferencesAreExact, DifferencesCompare, SignExtensionsAreExact}
+use Rattle.dcc_num.specs.Laws.{SumsAreExact, DifferencesAreExact, DifferencesCompare, SignExtensionsAreExact}
 use Rattle.dcc_num.proofs.Steps.{signed_cases}
 
 -- a number of the width is in its range

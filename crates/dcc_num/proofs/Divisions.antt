@@ -1,5 +1,5 @@
 -- Products and quotients as those of the signed and the unsigned numbers.
-use Rattle.std.proofs.Common.{arith, ◌≡◌, ◌∙◌, sym, ap, refl, subst, ℕ, zero, suc, ◌+◌, ◌-◌, ◌*◌, ◌/◌, ◌%◌, ◌^◌, ◌<◌, ◌≤◌, Bool, true, false, not, ◌||◌, cond, nat_eq, nat_le, nat_lt, inl, inr, ℤ, pos, negsuc, neg_ℤ, ◌+ℤ◌, ◌-ℤ◌, ◌*ℤ◌, ◌≤ℤ◌, ◌<ℤ◌, ◌⊎◌}
+use Rattle.std.proofs.Common.{arith, ◌≡◌, ◌∙◌, sym, ap, refl, subst, ℕ, zero, suc, ◌+◌, ◌*◌, ◌/◌, ◌%◌, ◌<◌, ◌≤◌, Bool, true, false, not, ◌||◌, cond, nat_eq, nat_le, nat_lt, inl, inr, ℤ, pos, negsuc, neg_ℤ, ◌+ℤ◌, ◌*ℤ◌, ◌⊎◌}
 use Rattle.std.specs.Prelude.{unsigned_abs, int_lt, int_div, int_rem, MatchOption, Some, None}
 use Rattle.std.proofs.Math.Nat.{div-eq_of_lt, mul-le-mul_right, div-mul-le_self}
 use Rattle.std.proofs.Math.IntN.{zero-*ℤ, neg_ℤ-neg_ℤ, neg_ℤ-+ℤ}
@@ -8,11 +8,10 @@ use Rattle.std.proofs.lemmas.Nat.{div-mul-add, div-add-mod', mod_below, mul-le}
 use Rattle.std.proofs.lemmas.Bool.Decides.{nat_tests}
 use Rattle.dcc_num.specs.declared.Width.{Width}
 use Rattle.dcc_num.specs.declared.Width.TheVariants.{Byte, Word}
-use Rattle.dcc_num.specs.declared.Flags.{Flags}
-use Rattle.dcc_num.specs.Numbers.{bits_of, limit_of, half_of, has_sign, signed_of, fits_signed, halved_of, residue_of, wrapped_of}
+use Rattle.dcc_num.specs.Numbers.{bits_of, limit_of, half_of, signed_of, fits_signed, halved_of, wrapped_of}
 use Rattle.dcc_num.specs.Product.{product_of, signed_product_of, extension_of}
 use Rattle.dcc_num.specs.Quotient.{joined_of, signed_joined_of, division_of, signed_division_of}
-use Rattle.dcc_num.specs.Laws.{IsProduct, IsSignedProduct, IsDivision, IsSignedDivision, ProductsAreExact, SignedProductsAreExact, DivisionsAreExact, SignedDivisionsAreExact}
+use Rattle.dcc_num.specs.Laws.{IsDivision, IsSignedDivision, ProductsAreExact, SignedProductsAreExact, DivisionsAreExact, SignedDivisionsAreExact}
 use Rattle.dcc_num.proofs.Steps.{signed_cases}
 use Rattle.dcc_num.proofs.Differences.{InRange, in_range, stands, signed_wrapped}
 

@@ -31,7 +31,7 @@ enum Operation {
 /// An operation, its width, its operands, the carry before it, its result, and the flags that are then set.
 type Row = (Operation, Width, u16, u16, bool, u16, &'static [u8; 4]);
 
-const ROWS: [Row; 162] = [
+static ROWS: [Row; 162] = [
     (Add, Byte, 0x00, 0x00, false, 0x00, b"-z--"),
     (Add, Byte, 0x00, 0x01, false, 0x01, b"----"),
     (Add, Byte, 0x00, 0x80, false, 0x80, b"--s-"),
@@ -199,7 +199,7 @@ const ROWS: [Row; 162] = [
 /// A width, two operands, and the two halves and CF that MUL and IMUL give.
 type Product = (Width, u16, u16, (u16, u16, bool), (u16, u16, bool));
 
-const PRODUCTS: [Product; 12] = [
+static PRODUCTS: [Product; 12] = [
     (Byte, 0x00, 0xFF, (0x00, 0x00, false), (0x00, 0x00, false)),
     (Byte, 0x10, 0x10, (0x00, 0x01, true), (0x00, 0x01, true)),
     (Byte, 0x7F, 0x7F, (0x01, 0x3F, true), (0x01, 0x3F, true)),
@@ -247,7 +247,7 @@ const PRODUCTS: [Product; 12] = [
 /// A width, a dividend by its halves, a divisor, and what DIV and IDIV give.
 type Quotient = (Width, u16, u16, u16, Option<(u16, u16)>, Option<(u16, u16)>);
 
-const QUOTIENTS: [Quotient; 38] = [
+static QUOTIENTS: [Quotient; 38] = [
     (
         Byte,
         0x00,
@@ -365,6 +365,19 @@ const QUOTIENTS: [Quotient; 38] = [
     (Word, 0x8000, 0x0000, 0x8000, None, None),
 ];
 
+/// The rows, as a slice whose values a proof does not look into.
+fn rows() -> &'static [Row] {
+    &ROWS
+}
+
+fn products() -> &'static [Product] {
+    &PRODUCTS
+}
+
+fn quotients() -> &'static [Quotient] {
+    &QUOTIENTS
+}
+
 /// ZF, SF and OF are set before each operation, so that a flag that stays shows.
 fn before(carry: bool) -> Flags {
     Flags {
@@ -411,7 +424,7 @@ fn letters(flags: Flags) -> [u8; 4] {
 
 #[test]
 fn results_and_flags_at_the_corners(rt: HostRuntime) {
-    for (operation, w, a, b, carry, result, flags) in ROWS {
+    for &(operation, w, a, b, carry, result, flags) in rows() {
         assert!(rt; u32::from(a) < limit(w) && u32::from(b) < limit(w));
         let (given, set) = done(operation, w, a, b, carry);
         assert_eq!(rt; given, result);
@@ -421,7 +434,7 @@ fn results_and_flags_at_the_corners(rt: HostRuntime) {
 
 #[test]
 fn products_at_the_corners(rt: HostRuntime) {
-    for (w, a, b, unsigned, signed) in PRODUCTS {
+    for &(w, a, b, unsigned, signed) in products() {
         assert!(rt; u32::from(a) < limit(w) && u32::from(b) < limit(w));
         let (low, high, flags) = mul(w, a, b);
         assert_eq!(rt; (low, high, flags.cf), unsigned);
@@ -434,7 +447,7 @@ fn products_at_the_corners(rt: HostRuntime) {
 
 #[test]
 fn quotients_and_faults_at_the_corners(rt: HostRuntime) {
-    for (w, high, low, by, unsigned, signed) in QUOTIENTS {
+    for &(w, high, low, by, unsigned, signed) in quotients() {
         assert!(rt; u32::from(high) < limit(w) && u32::from(low) < limit(w));
         assert!(rt; u32::from(by) < limit(w));
         assert_eq!(rt; div(w, high, low, by), unsigned);
