@@ -3,3 +3,4 @@ pub mod Step
 pub mod MzImage
 pub mod Operands
 pub mod Table
+pub mod WellFormed
