@@ -1,0 +1,11 @@
+-- How the run of a machine has ended.
+use Rattle.dcc_run.specs.End.{End, Running as running, Exit as exited, Divide as divided, Outside as outside}
+use Rattle.dcc_step.specs.declared.ending.Ending.{Ending}
+use Rattle.dcc_step.specs.declared.ending.Ending.TheVariants.{Running, Exit, Divide, Outside}
+
+-- the end of the run that the code keeps
+abbrev pub end_of : Ending → End
+end_of Running = running
+end_of (Exit code) = exited code
+end_of Divide = divided
+end_of (Outside at) = outside at
