@@ -1,9 +1,11 @@
 -- One step of the machine, and its runs.
-use Rattle.std.specs.Prelude.{ℕ, false, ◌+◌, ◌/◌, ◌%◌, ◌==◌, if◌then◌else◌, List, [], ◌∷◌, ◌++◌, Option, Some, None}
+use Rattle.std.specs.Prelude.{ℕ, Bool, true, false, not, ◌+◌, ◌%◌, ◌==◌, if◌then◌else◌, List, [], ◌∷◌, ◌++◌, map, Option, Some, None}
+use Rattle.std.specs.List.{range_with_len, take_while}
 use Rattle.dcc_run.specs.End.{End, Exit, Outside, is_over}
 use Rattle.dcc_run.specs.System.{System}
 use Rattle.dcc_num.specs.declared.Width.{Width}
 use Rattle.dcc_num.specs.declared.Reg.TheVariants.{Ax, Dx}
+use Rattle.dcc_num.specs.declared.Half.TheVariants.{Low, High}
 use Rattle.dcc_num.specs.declared.Flags.{Flags}
 use Rattle.dcc_num.specs.Sum.{sum_of, difference_of}
 use Rattle.dcc_prog.specs.declared.instr.Alu.{Alu}
@@ -13,7 +15,7 @@ use Rattle.dcc_prog.specs.declared.instr.Op.{Op}
 use Rattle.dcc_prog.specs.declared.instr.Op.TheVariants.{Alu as AluOp, Mov, Int21}
 use Rattle.dcc_prog.specs.declared.instr.Instr.{Instr}
 use Rattle.dcc_prog.specs.Table.{instruction_at}
-use Rattle.dcc_prog.specs.Machine.{Core, State, word_in, half_of_word, code_segment, byte_in, operand_value, with_operand, operand_width}
+use Rattle.dcc_prog.specs.Machine.{Core, State, word_in, half_of_word, word_with_half, with_word_in, code_segment, data_segment, byte_in, operand_value, with_operand, operand_width}
 
 -- The instruction.
 
@@ -59,16 +61,55 @@ mov_step to from m = with_operand m to (operand_value m from)
 abbrev pub on_core : (Core → Core) → State → State
 on_core operation s = record s { core = operation s.core }
 
--- INT 21h with the number in AH: 02h writes DL, and 4Ch ends the run with the exit code in AL
-abbrev pub dos_step : ℕ → ℕ → State → State
-dos_step number at s =
-    if number == 0x02 then record s { out = s.out ++ word_in s.core Dx % 256 ∷ [] } else (if number == 0x4C then on_core (ended (Exit (word_in s.core Ax % 256)) at) s else on_core (ended (Outside at) at) s)
+-- the bytes in a segment from an offset on, which wraps, so many of them
+unfoldable pub bytes_from : Core → ℕ → ℕ → ℕ → List ℕ
+bytes_from m segment offset count =
+    map (λ k. byte_in m segment ((offset + k) % 65536)) (range_with_len 0 count)
+
+-- whether a byte is another than the `$` that ends a string
+abbrev pub is_not_dollar : ℕ → Bool
+is_not_dollar byte = not (byte == 0x24)
+
+-- the bytes from DS:DX on up to the first `$`, which is not one of them, and at most 65,536
+unfoldable pub dos_string : Core → List ℕ
+dos_string m = take_while is_not_dollar (bytes_from m (data_segment m) (word_in m Dx) 65536)
+
+-- AL takes a byte
+abbrev pub with_al : ℕ → Core → Core
+with_al byte m = with_word_in m Ax (word_with_half Low (word_in m Ax) byte)
+
+-- the bytes are written
+abbrev pub writing : List ℕ → State → State
+writing bytes s = record s { out = s.out ++ bytes }
+
+-- AL takes the next input byte, which is written too where it is echoed; at the end of the input AL is 1Ah
+abbrev pub taking_key : Bool → List ℕ → State → State
+taking_key echo [] s = on_core (with_al 0x1A) s
+taking_key echo (byte ∷ rest) s =
+    writing (if echo then byte ∷ [] else []) (record s { core = with_al byte s.core; input = rest })
+
+abbrev pub key_step : Bool → State → State
+key_step echo s = taking_key echo s.input s
+
+-- INT 21h with the number in AH: 01h takes a key and echoes it, 08h takes one, 02h writes DL, 09h writes the string at
+-- DS:DX, and 4Ch ends the run with the exit code in AL. Another number ends the run too
+abbrev pub dos_call : ℕ → ℕ → State → State
+dos_call number at s =
+    if number == 0x01 then key_step true s
+    else if number == 0x08 then key_step false s
+    else if number == 0x02 then writing (half_of_word Low (word_in s.core Dx) ∷ []) s
+    else if number == 0x09 then writing (dos_string s.core) s
+    else if number == 0x4C then on_core (ended (Exit (half_of_word Low (word_in s.core Ax))) at) s
+    else on_core (ended (Outside at) at) s
+
+abbrev pub dos_step : ℕ → State → State
+dos_step at s = dos_call (half_of_word High (word_in s.core Ax)) at s
 
 -- an operation of the instruction at this offset
 abbrev pub op_step : Op → ℕ → State → State
 op_step (AluOp operation a b) at s = on_core (alu_step operation a b at) s
 op_step (Mov to from) at s = on_core (mov_step to from) s
-op_step Int21 at s = dos_step (word_in s.core Ax / 256) at s
+op_step Int21 at s = dos_step at s
 op_step _ at s = on_core (ended (Outside at) at) s
 
 -- the instruction pointer moves behind an instruction of so many bytes, and wraps

@@ -18,7 +18,7 @@ fn physical_address(segment: u16, offset: u16) -> usize
 }
 
 /// One byte of a word.
-fn half_of(half: Half, word: u16) -> u8
+pub fn half_of(half: Half, word: u16) -> u8
     ensures { result ≡ half_of_word half word }
 {
     match half {
@@ -28,7 +28,7 @@ fn half_of(half: Half, word: u16) -> u8
 }
 
 /// A word after one of its bytes has taken a value.
-fn with_half(half: Half, word: u16, byte: u8) -> u16
+pub fn with_half(half: Half, word: u16, byte: u8) -> u16
     ensures { result ≡ word_with_half half word byte }
 {
     match half {
