@@ -1,2 +1,4 @@
-pub mod ToldLemmas
 pub mod CountLemmas
+pub mod ListLemmas
+pub mod MemoryLemmas
+pub mod ToldLemmas

@@ -1,8 +1,9 @@
 -- What several reads or writes do, where the bytes are told.
-use Rattle.std.proofs.Common.{◌≡◌, ℕ, ◌+◌, ◌-◌, List, [], ◌++◌, length, take, drop, refl, sym, ◌∙◌, ap, append_assoc, arith, length-drop}
+use Rattle.std.proofs.Common.{◌≡◌, ℕ, ◌+◌, ◌-◌, List, [], ◌++◌, length, take, drop, refl, sym, ◌∙◌, ap, append_assoc}
 use Rattle.std.proofs.Math.Seq.{take-add}
-use Rattle.std.proofs.lemmas.List.{append-nil, take_all}
+use Rattle.std.proofs.lemmas.List.{append-nil}
 use Rattle.std.specs.Prelude.{Option, None, Some}
+use Rattle.dcc_io.proofs.ListLemmas.{drop_range}
 use Rattle.dcc_io.specs.Told.{append_told, prepend_told}
 
 -- appending nothing
@@ -25,9 +26,8 @@ append_told-some held bytes = refl
 -- the next bytes of a piece, of which the first are appended
 pub append_told-take : (told : Option (List ℕ)) (piece : List ℕ) (m n : ℕ) → append_told (append_told told (take m piece)) (take n (take (length piece - m) (drop m piece))) ≡ append_told told (take (m + n) piece)
 append_told-take told piece m n =
-    let rest : take (length piece - m) (drop m piece) ≡ drop m piece = take_all (length piece - m) (drop m piece) (omega (arith, length-drop m piece)) in
     append_told-append told (take m piece) (take n (take (length piece - m) (drop m piece)))
-    ∙ ap (λ (xs : List ℕ). append_told told (take m piece ++ take n xs)) rest
+    ∙ ap (λ (xs : List ℕ). append_told told (take m piece ++ take n xs)) (drop_range piece m)
     ∙ ap (append_told told) (sym (take-add m n piece))
 
 -- taking nothing
@@ -57,3 +57,6 @@ pub tells_rest : (before : List ℕ) (left : Option (List ℕ)) (bytes : List �
 unfolding prepend_told
 tells_rest before None bytes taken = cc
 tells_rest before (Some rest) bytes taken = record { rest = rest; told = refl; split = cc }
+
+-- what follows for several reads or writes
+pub ruleset told_steps = (append_told-nil, append_told-append, append_told-some, append_told-take, prepend_told-nil, prepend_told-append, prepend_told-some)

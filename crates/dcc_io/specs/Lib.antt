@@ -1,3 +1,4 @@
 pub mod Count
-pub mod Told
 pub mod Fetch
+pub mod Memory
+pub mod Told

@@ -1,10 +1,11 @@
 // What a program meets outside itself: files, input and output, each with counts of what went wrong.
 ghost use Rattle.std.specs.Prelude.{◌≡◌, ◌⊎◌, ◌+◌, ◌<◌, ◌≤◌, ℕ, List, [], ◌∷◌, ◌++◌, length, take, vec_len, Option, Some, IfOk, IsOk, OnOk, OnErr, IsErrOf};
+ghost use Rattle.dcc_io.specs.declared.outside.ShelfFault.TheVariants.{Memory};
 ghost use Rattle.dcc_io.specs.Count.{Rose};
 ghost use Rattle.dcc_io.specs.Told.{WhenTold, append_told, prepend_told, AppendsProperPrefix};
 ghost use Rattle.dcc_io.specs.Fetch.{Answers, KeepsWithin, Records};
 
-use std::alloc::Global;
+use std::alloc::{AllocError, AllocFailed, Global};
 
 /// A read or a write failed.
 #[derive(Clone, Copy, PartialEq, Eq, Debug)]
@@ -28,6 +29,22 @@ pub enum ShelfFault {
     Failed,
     /// Memory was wanting.
     Memory,
+}
+
+impl From<AllocError> for ShelfFault {
+    ghost from_gives = { λ _ fault. fault ≡ Memory };
+
+    fn from(_: AllocError) -> Self {
+        ShelfFault::Memory
+    }
+}
+
+impl<T: Drop> From<AllocFailed<T>> for ShelfFault {
+    ghost from_gives = { λ _ fault. fault ≡ Memory };
+
+    fn from(_: AllocFailed<T>) -> Self {
+        ShelfFault::Memory
+    }
 }
 
 /// Files by their names.
@@ -113,6 +130,7 @@ pub trait Sink {
 
 /// Writes the whole piece, in as many writes as it takes. Where one fails, a part of the piece was
 /// written.
+#[tactic(auto, using(crate::proofs::ToldLemmas::told_steps))]
 pub fn put_all<O: Sink>(sink: &mut O, piece: &[u8]) -> Result<(), Failed>
     ensures whole { OnOk result (O.taken sink.new ≡ append_told (O.taken sink.old) piece.now) }
     ensures part { OnErr result (AppendsProperPrefix (O.taken sink.old) (O.taken sink.new) piece.now) }

@@ -2,6 +2,7 @@
 
 ghost use Rattle.std.specs.Prelude.{◌≡◌};
 
+use std::alloc::AllocError;
 use thiserror::Error;
 
 /// Why a file is not loaded: the first check that it fails, or want of memory.
@@ -31,6 +32,16 @@ pub enum MzFault {
     /// Memory ran out.
     #[error("out of memory")]
     Memory,
+}
+
+impl From<AllocError> for MzFault {
+    ghost use Rattle.dcc_mz.specs.declared.fault.MzFault.TheVariants.{Memory};
+
+    ghost from_gives = { λ _ fault. fault ≡ Memory };
+
+    fn from(_error: AllocError) -> MzFault {
+        MzFault::Memory
+    }
 }
 
 impl MzFault {

@@ -38,6 +38,7 @@ pub struct Header {
 }
 
 /// The little-endian word at an offset in bytes.
+#[tactic(auto, unfolding(dcc_prog::specs::MzImage::word_at))]
 pub fn word(bytes: &[u8], at: usize) -> u16
     requires { at + 2 ≤ length bytes.now }
     ensures { result ≡ word_at bytes.now at }
@@ -74,15 +75,17 @@ impl Header {
     }
 
     /// The offset in the file at which the image ends.
+    #[tactic(auto, unfolding(dcc_prog::specs::MzImage::pages_length))]
     pub fn image_end(&self) -> usize
         requires pages { 0 < self.now.pages }
         requires last_page { self.now.last_page_bytes ≤ 512 }
         ensures { result ≡ pages_length self.now.pages self.now.last_page_bytes }
     {
         let whole = self.pages as usize * PAGE;
-        match self.last_page_bytes {
-            0 => whole,
-            last => whole - (PAGE - last as usize),
+        if self.last_page_bytes == 0 {
+            whole
+        } else {
+            whole - (PAGE - self.last_page_bytes as usize)
         }
     }
 

@@ -7,9 +7,31 @@ ghost use Rattle.dcc_mz.specs.Fault.{IsRefusalOrMemory, fault_of};
 
 use crate::checks::checked_header;
 use crate::fault::MzFault;
-use crate::relocation::{loaded, relocate};
+use crate::relocation::{loaded, relocated};
 use dcc_prog::Image;
 use std::alloc::Global;
+
+/// The image of a file, where the file passes the seven checks.
+fn checked_image(alloc: Global, file: &[u8]) -> Result<Image, MzFault>
+    ensures image { IfOk result (IsImageOf file.now) }
+    ensures refused { IfErr result (IsRefusalOrMemory file.now) }
+{
+    let header = checked_header(file)?;
+    let image = relocated(alloc, file, &header)?;
+    let code_start = header.code_start();
+    if code_start + header.ip as usize >= image.len() {
+        return Err(MzFault::EntryOutside);
+    }
+    let code_len = (image.len() - code_start).min(65_536) as u32;
+    Ok(Image {
+        bytes: image,
+        code_len,
+        cs: loaded(header.cs),
+        ip: header.ip,
+        ss: loaded(header.ss),
+        sp: header.sp,
+    })
+}
 
 /// The load image of an MZ executable, from the bytes of its file.
 ///
@@ -26,20 +48,5 @@ pub fn load(alloc: Global, bytes: &Vec<u8>) -> Result<Image, MzFault>
     ensures refuses { (fault : FormatFault) → IsFirstFault bytes.now.items fault
         → IsErrAnd result (λ told. IfSome (fault_of told) (λ known. known ≡ fault)) }
 {
-    let header = checked_header(bytes)?;
-    let unmoved = &bytes[header.image_start()..header.image_end()];
-    let mut image = Vec::from_slice(alloc, unmoved).map_err(|_| MzFault::Memory)?;
-    relocate(bytes, &header, &mut image)?;
-    if header.code_start() + header.ip as usize >= image.len() {
-        return Err(MzFault::EntryOutside);
-    }
-    let code_len = (image.len() - header.code_start()).min(65_536);
-    Ok(Image {
-        bytes: image,
-        code_len: code_len as u32,
-        cs: loaded(header.cs),
-        ip: header.ip,
-        ss: loaded(header.ss),
-        sp: header.sp,
-    })
+    checked_image(alloc, bytes)
 }

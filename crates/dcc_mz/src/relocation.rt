@@ -1,13 +1,14 @@
 //! The relocations of an image.
 
-ghost use Rattle.std.specs.Prelude.{◌≡◌, ◌≤◌, ◌<◌, ◌+◌, length, OnOk, IfErr, MatchOption};
-ghost use Rattle.dcc_prog.specs.MzImage.{RelocationFits, RelocationsFit, image_length, loaded_segment, relocated_image, relocated_place, relocation_count, with_word_at, word_at};
-ghost use Rattle.dcc_mz.specs.Fault.{IsRefusal};
+ghost use Rattle.std.specs.Prelude.{◌≡◌, ◌≤◌, ◌<◌, ◌+◌, length, OnOk, IfOk, IfErr, MatchOption};
+ghost use Rattle.dcc_prog.specs.MzImage.{HasGoodHeader, RelocationFits, RelocationsFit, image_length, loaded_segment, relocated_image, relocated_place, relocation_count, with_word_at, word_at};
+ghost use Rattle.dcc_mz.specs.Fault.{IsRefusal, IsRefusalOrMemory};
 ghost use Rattle.dcc_mz.specs.Header.{IsHeaderOf};
 
 use crate::fault::MzFault;
 use crate::header::{Header, PARAGRAPH, word};
 use byteorder::{ByteOrder, LittleEndian};
+use std::alloc::Global;
 
 /// The segment at which the image is loaded.
 const LOAD_SEGMENT: u16 = 0x0110;
@@ -46,7 +47,7 @@ fn move_word(image: &mut [u8], at: usize)
 
 /// Applies the relocations to an image, in the order of their table. After an error the image is
 /// of no use.
-pub fn relocate(file: &[u8], header: &Header, image: &mut [u8]) -> Result<(), MzFault>
+fn relocate(file: &[u8], header: &Header, image: &mut [u8]) -> Result<(), MzFault>
     requires header { IsHeaderOf file.now header.now }
     requires good { HasGoodHeader file.now }
     requires unmoved { image.old ≡ relocated_image file.now 0 }
@@ -61,4 +62,19 @@ pub fn relocate(file: &[u8], header: &Header, image: &mut [u8]) -> Result<(), Mz
         }
     }
     Ok(())
+}
+
+/// The image of a file, copied and relocated.
+#[tactic(auto, unfolding(dcc_prog::specs::MzImage::relocated_image))]
+pub fn relocated(alloc: Global, file: &[u8], header: &Header) -> Result<Vec<u8>, MzFault>
+    requires header { IsHeaderOf file.now header.now }
+    requires good { HasGoodHeader file.now }
+    ensures moved { IfOk result (λ image. image.items ≡ relocated_image file.now (relocation_count file.now)) }
+    ensures fit { OnOk result (RelocationsFit file.now) }
+    ensures refused { IfErr result (IsRefusalOrMemory file.now) }
+{
+    let unmoved = &file[header.image_start()..header.image_end()];
+    let mut image = Vec::from_slice(alloc, unmoved)?;
+    relocate(file, header, &mut image)?;
+    Ok(image)
 }

@@ -1,3 +1,6 @@
-pub mod Numbers
-pub mod Sum
 pub mod Logic
+pub mod Numbers
+pub mod Product
+pub mod Quotient
+pub mod Shift
+pub mod Sum

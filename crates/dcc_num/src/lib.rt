@@ -3,9 +3,16 @@
 
 mod logic;
 mod operand;
+mod product;
+mod quotient;
+mod shift;
 mod sum;
 
 pub use logic::{and, or, xor};
+pub use operand::sign8;
+pub use product::{imul, mul};
+pub use quotient::{div, idiv};
+pub use shift::{rcl1, rcr1, rol, ror, sar, shl, shr};
 pub use sum::{add, dec, inc, neg, sub};
 
 /// The width of an operand.

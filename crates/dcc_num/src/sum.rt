@@ -17,7 +17,7 @@ pub fn add(w: Width, a: u16, b: u16, carry: bool) -> (u16, Flags)
 {
     let total = u32::from(a) + u32::from(b) + u32::from(carry);
     let result = (total % limit(w)) as u16;
-    let exact = signed(w, a) + signed(w, b) + i32::from(carry);
+    let exact = signed(w, a) + signed(w, b) + i64::from(carry);
     (
         result,
         flags_of(w, result, total >= limit(w), !fits(w, exact)),
@@ -34,7 +34,7 @@ pub fn sub(w: Width, a: u16, b: u16, borrow: bool) -> (u16, Flags)
 {
     let less = u32::from(b) + u32::from(borrow);
     let result = ((u32::from(a) + limit(w) - less) % limit(w)) as u16;
-    let exact = signed(w, a) - signed(w, b) - i32::from(borrow);
+    let exact = signed(w, a) - signed(w, b) - i64::from(borrow);
     (
         result,
         flags_of(w, result, u32::from(a) < less, !fits(w, exact)),

@@ -4,3 +4,4 @@ pub mod MzImage
 pub mod Operands
 pub mod Table
 pub mod WellFormed
+pub mod Code

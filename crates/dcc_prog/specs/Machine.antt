@@ -13,8 +13,8 @@ use Rattle.dcc_prog.specs.declared.instr.Ea.{Ea}
 use Rattle.dcc_prog.specs.declared.instr.Operand.{Operand}
 use Rattle.dcc_prog.specs.declared.instr.Operand.TheVariants.{Word, Byte, Seg, Mem, Const}
 
--- the machine without its console
-pub record Core : Type 0 where
+-- a state of the machine
+pub record State : Type 0 where
   -- the word registers by number: AX, CX, DX, BX, SP, BP, SI, DI
   pub regs : List ℕ
   -- the segment registers by number: ES, CS, SS, DS
@@ -23,14 +23,10 @@ pub record Core : Type 0 where
   pub ip : ℕ
   -- 1,048,576 bytes by physical address
   pub memory : List ℕ
-  -- how the run has ended, if it has
-  pub end : End
-
--- the machine with its console: the input bytes that are not yet read, and the output so far
-pub record State : Type 0 where
-  pub core : Core
+  -- the input bytes that are not yet read, and the output so far
   pub input : List ℕ
   pub out : List ℕ
+  pub end : End
 
 -- Registers.
 
@@ -46,8 +42,8 @@ reg_number Si = 6
 reg_number Di = 7
 
 -- what a word register holds
-abbrev pub word_in : Core → Reg → ℕ
-word_in m r = slice_index m.regs (reg_number r)
+abbrev pub word_in : State → Reg → ℕ
+word_in s r = slice_index s.regs (reg_number r)
 
 -- one byte of a word
 abbrev pub half_of_word : Half → ℕ → ℕ
@@ -59,18 +55,18 @@ abbrev pub word_with_half : Half → ℕ → ℕ → ℕ
 word_with_half Low word byte = word / 256 * 256 + byte
 word_with_half High word byte = byte * 256 + word % 256
 
-abbrev pub with_word_in : Core → Reg → ℕ → Core
-with_word_in m r word = record m { regs = slice_set m.regs (reg_number r) word }
+abbrev pub with_word_in : State → Reg → ℕ → State
+with_word_in s r word = record s { regs = slice_set s.regs (reg_number r) word }
 
 -- the numbers of the segment registers
-abbrev pub code_segment : Core → ℕ
-code_segment m = slice_index m.segs 1
+abbrev pub code_segment : State → ℕ
+code_segment s = slice_index s.segs 1
 
-abbrev pub stack_segment : Core → ℕ
-stack_segment m = slice_index m.segs 2
+abbrev pub stack_segment : State → ℕ
+stack_segment s = slice_index s.segs 2
 
-abbrev pub data_segment : Core → ℕ
-data_segment m = slice_index m.segs 3
+abbrev pub data_segment : State → ℕ
+data_segment s = slice_index s.segs 3
 
 -- Memory.
 
@@ -79,58 +75,58 @@ abbrev pub physical : ℕ → ℕ → ℕ
 physical segment offset = (segment * 16 + offset) % 1048576
 
 -- the byte at an offset in a segment
-abbrev pub byte_in : Core → ℕ → ℕ → ℕ
-byte_in m segment offset = slice_index m.memory (physical segment offset)
+abbrev pub byte_in : State → ℕ → ℕ → ℕ
+byte_in s segment offset = slice_index s.memory (physical segment offset)
 
 -- the word at an offset in a segment, low byte first; the offset of its second byte wraps
-abbrev pub word_at_offset : Core → ℕ → ℕ → ℕ
-word_at_offset m segment offset =
-    byte_in m segment offset + 256 * byte_in m segment ((offset + 1) % 65536)
+abbrev pub word_at_offset : State → ℕ → ℕ → ℕ
+word_at_offset s segment offset =
+    byte_in s segment offset + 256 * byte_in s segment ((offset + 1) % 65536)
 
-abbrev pub with_byte_in : Core → ℕ → ℕ → ℕ → Core
-with_byte_in m segment offset byte =
-    record m { memory = slice_set m.memory (physical segment offset) byte }
+abbrev pub with_byte_in : State → ℕ → ℕ → ℕ → State
+with_byte_in s segment offset byte =
+    record s { memory = slice_set s.memory (physical segment offset) byte }
 
-abbrev pub with_word_at_offset : Core → ℕ → ℕ → ℕ → Core
-with_word_at_offset m segment offset word =
-    with_byte_in (with_byte_in m segment offset (word % 256)) segment ((offset + 1) % 65536) (word / 256)
+abbrev pub with_word_at_offset : State → ℕ → ℕ → ℕ → State
+with_word_at_offset s segment offset word =
+    with_byte_in (with_byte_in s segment offset (word % 256)) segment ((offset + 1) % 65536) (word / 256)
 
 -- Operands.
 
 -- what a part of an address adds to it
-abbrev pub part_of : Core → Option Reg → ℕ
-part_of m None = 0
-part_of m (Some r) = word_in m r
+abbrev pub part_of : State → Option Reg → ℕ
+part_of s None = 0
+part_of s (Some r) = word_in s r
 
 -- the offset of a memory operand
-abbrev pub offset_of : Core → Ea → ℕ
-offset_of m ea = (part_of m ea.base + part_of m ea.index + ea.disp) % 65536
+abbrev pub offset_of : State → Ea → ℕ
+offset_of s ea = (part_of s ea.base + part_of s ea.index + ea.disp) % 65536
 
 abbrev pub is_bp : Option Reg → Bool
 is_bp (Some Bp) = true
 is_bp _ = false
 
 -- the segment of a memory operand: that of the stack where BP is used, else that of the data
-abbrev pub segment_of : Core → Ea → ℕ
-segment_of m ea = if is_bp ea.base || is_bp ea.index then stack_segment m else data_segment m
+abbrev pub segment_of : State → Ea → ℕ
+segment_of s ea = if is_bp ea.base || is_bp ea.index then stack_segment s else data_segment s
 
 -- what an operand holds
-abbrev pub operand_value : Core → Operand → ℕ
-operand_value m (Word r) = word_in m r
-operand_value m (Byte r half) = half_of_word half (word_in m r)
-operand_value m (Seg number) = slice_index m.segs number
-operand_value m (Mem byte_width ea) = byte_in m (segment_of m ea) (offset_of m ea)
-operand_value m (Mem word_width ea) = word_at_offset m (segment_of m ea) (offset_of m ea)
-operand_value m (Const width constant) = constant
+abbrev pub operand_value : State → Operand → ℕ
+operand_value s (Word r) = word_in s r
+operand_value s (Byte r half) = half_of_word half (word_in s r)
+operand_value s (Seg number) = slice_index s.segs number
+operand_value s (Mem byte_width ea) = byte_in s (segment_of s ea) (offset_of s ea)
+operand_value s (Mem word_width ea) = word_at_offset s (segment_of s ea) (offset_of s ea)
+operand_value s (Const width constant) = constant
 
 -- the state after an operand has taken a value
-abbrev pub with_operand : Core → Operand → ℕ → Core
-with_operand m (Word r) v = with_word_in m r v
-with_operand m (Byte r half) v = with_word_in m r (word_with_half half (word_in m r) v)
-with_operand m (Seg number) v = record m { segs = slice_set m.segs number v }
-with_operand m (Mem byte_width ea) v = with_byte_in m (segment_of m ea) (offset_of m ea) v
-with_operand m (Mem word_width ea) v = with_word_at_offset m (segment_of m ea) (offset_of m ea) v
-with_operand m (Const width constant) v = m
+abbrev pub with_operand : State → Operand → ℕ → State
+with_operand s (Word r) v = with_word_in s r v
+with_operand s (Byte r half) v = with_word_in s r (word_with_half half (word_in s r) v)
+with_operand s (Seg number) v = record s { segs = slice_set s.segs number v }
+with_operand s (Mem byte_width ea) v = with_byte_in s (segment_of s ea) (offset_of s ea) v
+with_operand s (Mem word_width ea) v = with_word_at_offset s (segment_of s ea) (offset_of s ea) v
+with_operand s (Const width constant) v = s
 
 -- the width of an operand
 abbrev pub operand_width : Operand → Width
@@ -151,17 +147,15 @@ loaded_memory bytes =
 abbrev pub no_flags : Flags
 no_flags = record { cf = false; zf = false; sf = false; of = false }
 
--- the machine in which the image is started: DS and ES hold the segment of the program prefix
-abbrev pub start_core : Image → Core
-start_core image = record {
+-- the state in which the image is started, with this input: DS and ES hold the segment of the program prefix
+abbrev pub start_state : Image → List ℕ → State
+start_state image input = record {
   regs = 0 ∷ 0 ∷ 0 ∷ 0 ∷ image.sp ∷ 0 ∷ 0 ∷ 0 ∷ [];
   segs = 0x0100 ∷ image.cs ∷ image.ss ∷ 0x0100 ∷ [];
   flags = no_flags;
   ip = image.ip;
   memory = loaded_memory image.bytes.items;
+  input = input;
+  out = [];
   end = Running;
 }
-
--- the same with a console on which nothing was written yet
-abbrev pub start_state : Image → List ℕ → State
-start_state image input = record { core = start_core image; input = input; out = [] }

@@ -1,6 +1,6 @@
 -- The encodings of the 8086 that this project knows, one row for each (8086 Family User's Manual,
 -- table 4-12), and which instruction some bytes are.
-use Rattle.std.specs.Prelude.{ℕ, ◌+◌, ◌-◌, ◌/◌, ◌%◌, zero, suc, Bool, true, false, if◌then◌else◌, ◌==◌, ◌&&◌, nat_le, List, [], ◌∷◌, ◌++◌, length, get_or, map, find, Option, None, option_map}
+use Rattle.std.specs.Prelude.{◌≡◌, ◌≤◌, ◌↔◌, IsTrue, slice_get, filter, Some, ℕ, ◌+◌, ◌-◌, ◌/◌, ◌%◌, zero, suc, Bool, true, false, if◌then◌else◌, ◌==◌, ◌&&◌, nat_le, List, [], ◌∷◌, ◌++◌, length, get_or, map, find, Option, None, option_map}
 use Rattle.dcc_num.specs.declared.Reg.TheVariants.{Bx, Si, Di}
 use Rattle.dcc_num.specs.declared.Width.TheVariants.{Byte as byte_width, Word as word_width}
 use Rattle.dcc_prog.specs.declared.instr.Alu.{Alu}
@@ -244,7 +244,12 @@ bytes_between first last = record {
 
 -- the one byte
 abbrev pub this_byte : ℕ → BytePattern
-this_byte byte = bytes_between byte byte
+this_byte byte = record {
+  byte = between byte byte;
+  mods = between (mod_field byte) (mod_field byte);
+  regs = between (reg_field byte) (reg_field byte);
+  rms = between (rm_field byte) (rm_field byte);
+}
 
 -- the bytes 8*o + first to 8*o + last, for o from 0 to 7
 abbrev pub each_eight : ℕ → ℕ → BytePattern
@@ -421,3 +426,26 @@ table = arithmetic_rows ++ unary_rows ++ stack_rows ++ move_rows ++ control_rows
 unfoldable pub instruction_at : ℕ → List ℕ → Option Instr
 instruction_at offset bytes =
     option_map (λ row. row_instruction row offset bytes) (find (λ row. matches row bytes) table)
+
+-- Laws of the table ----------------------------------------------------------------------------
+
+-- whether a row of the table is at hand
+abbrev pub IsRow : Row → Type 0
+IsRow row = (k : ℕ) × (slice_get table k ≡ Some row)
+
+-- at most one row of the table matches any bytes
+abbrev pub AtMostOneRowMatches : Type 0
+AtMostOneRowMatches =
+    (bytes : List ℕ) → length (filter (λ row. matches row bytes) table) ≤ 1
+
+-- the bytes are an instruction exactly where a row of the table matches them, and then it is that
+-- row's; its length is that of the opcode and ModRM bytes, the displacement and the constant
+abbrev pub InstructionIsThatOfItsRow : Type 0
+InstructionIsThatOfItsRow =
+    (offset : ℕ) (bytes : List ℕ) (instr : Instr)
+    → (instruction_at offset bytes ≡ Some instr)
+    ↔ ((row : Row) × IsRow row × IsTrue (matches row bytes)
+    × (instr.op ≡ row.operation (row_parts row offset bytes))
+    × (instr.len
+    ≡ (length row.pattern + row_displacement_size row bytes)
+    + constant_size row.constant_form))

@@ -22,6 +22,8 @@ pub enum Refusal {
     Construct { kind: u8, at: u16 },
     /// A count is above its greatest number.
     Limit { what: LimitName, count: u32 },
+    /// The instruction that is reached at the offset is of a form that is not built yet.
+    NotYet { at: u16 },
     /// Memory ran out.
     Memory,
 }

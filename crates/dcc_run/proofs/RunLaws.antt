@@ -39,19 +39,19 @@ module _ {S : Type 0} (system : System S) (law : IsLawful system) where
       ap (λ k. after system.step k s) e ∙ after-add system.step m (n - m) s ∙ after-over (n - m) (after system.step m s) over
 
 -- a run that meets another within a bound follows it within that bound, and within each greater one
-pub follows_from_meets : {S T : Type 0} (first : System S) (s : S) (second : System T) (t : T) (near bound : ℕ → ℕ) → IsLawful second → ((n : ℕ) → near n ≤ bound n) → Meets first s second t near → Follows first s second t bound
-follows_from_meets first s second t near bound law wider meets = record {
-  out = λ n.
-      let m = meets n in
+pub follows_from_meets : {S T : Type 0} (premise : ℕ → Type 0) (first : System S) (s : S) (second : System T) (t : T) (near bound : ℕ → ℕ) → IsLawful second → ((n : ℕ) → near n ≤ bound n) → Meets premise first s second t near → Follows premise first s second t bound
+follows_from_meets premise first s second t near bound law wider meets = record {
+  out = λ n held.
+      let m = meets n held in
       let le : m.0 ≤ bound n = omega (arith, m.1, wider n) in
       subst (λ l. IsPrefix l (out_after second (bound n) t)) m.2.out (out_grows second law m.0 (bound n) t le);
-  end = λ n over.
-      let m = meets n in
+  end = λ n held over.
+      let m = meets n held in
       let le : m.0 ≤ bound n = omega (arith, m.1, wider n) in
       let there : is_over (end_after second m.0 t) ≡ true = ap is_over m.2.end ∙ over in
       ap second.end (over_stays second law m.0 (bound n) t le there) ∙ m.2.end;
-  same = λ n over.
-      let m = meets n in
+  same = λ n held over.
+      let m = meets n held in
       let le : m.0 ≤ bound n = omega (arith, m.1, wider n) in
       let there : is_over (end_after second m.0 t) ≡ true = ap is_over m.2.end ∙ over in
       ap second.out (over_stays second law m.0 (bound n) t le there) ∙ m.2.out;

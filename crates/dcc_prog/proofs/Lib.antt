@@ -1,0 +1,4 @@
+pub mod TableLaws
+pub mod StepLaws
+pub mod FetchLaws
+pub mod MzImageLaws

@@ -1,0 +1,315 @@
+-- The runs of a straight line and of its text go together.
+use Rattle.std.proofs.Common.{◌≡◌, ℕ, zero, suc, ◌+◌, ◌-◌, ◌*◌, ◌/◌, ◌%◌, ◌<◌, ◌≤◌, Bool, true, false, List, [], ◌∷◌, ◌++◌, length, drop, Option, Some, None, inl, inr, refl, sym, ap, ◌∙◌, subst, arith, append_assoc, length-drop}
+use Rattle.std.specs.Prelude.{◌≢◌, ◌&&◌, not, ◌==◌, nat_lt, if◌then◌else◌, ◌⊎◌, option_map, option_and_then, codes, map}
+use Rattle.std.proofs.lemmas.Bool.{ltb-true}
+use Rattle.std.proofs.lemmas.Nat.{div-mul-add}
+use Rattle.std.proofs.Math.Nat.{mod-eq_of_lt, mod-lt}
+use Rattle.dcc_run.specs.End.{End, Running, Exit, Stuck, is_over}
+use Rattle.dcc_run.specs.System.{System, after, out_after, end_after}
+use Rattle.dcc_run.specs.Follows.{Stands}
+use Rattle.dcc_run.proofs.RunLaws.{after-over}
+use Rattle.dcc_num.specs.declared.Reg.{Reg}
+use Rattle.dcc_num.specs.declared.Reg.TheVariants.{Ax, Cx, Dx, Bx, Sp, Bp, Si, Di}
+use Rattle.dcc_num.specs.declared.Half.{Half}
+use Rattle.dcc_num.specs.declared.Half.TheVariants.{Low, High}
+use Rattle.dcc_prog.specs.declared.image.Image.{Image}
+use Rattle.dcc_prog.specs.declared.instr.Instr.{Instr}
+use Rattle.dcc_prog.specs.Table.{instruction_at}
+use Rattle.dcc_prog.specs.Machine as machine
+use Rattle.dcc_prog.specs.Step.{ended, op_step, step, machine_system}
+use Rattle.dcc_prog.specs.Code.{code_of}
+use Rattle.dcc_prog.proofs.StepLaws.{machine_lawful}
+use Rattle.dcc_prog.proofs.TableLaws.{instruction-length, and_left, and_right, and_both}
+use Rattle.dcc_num.specs.declared.Width.TheVariants.{Byte as byte_width, Word as word_width}
+use Rattle.dcc_prog.specs.declared.instr.Alu.TheVariants.{Add as AddOp, Sub as SubOp}
+use Rattle.dcc_prog.specs.declared.instr.Operand.{Operand}
+use Rattle.dcc_prog.specs.declared.instr.Operand.TheVariants.{Word as WordOperand, Byte, Seg, Const}
+use Rattle.dcc_prog.specs.declared.instr.Op.{Op}
+use Rattle.dcc_prog.specs.declared.instr.Op.TheVariants.{Alu as AluOp, Mov, Int21}
+use Rattle.dcc_prog.proofs.FetchLaws.{IsPlaced, length-code_of}
+use Rattle.dcc_c.specs.declared.syntax.Base.TheVariants.{Uint}
+use Rattle.dcc_c.specs.declared.syntax.CBin.TheVariants.{Add, Sub}
+use Rattle.dcc_c.specs.Tree.{Word, Expr, Name, Binary, Stmt, Assign, Call, Lines, no_lines, line}
+use Rattle.dcc_c.specs.Value.{Value, value, value_of, held_by, assigned}
+use Rattle.dcc_c.specs.Run.{Continuation, ends_function, runs, State, as_char, assign_step, dos_step, stmt_step, step_at, step as text_step, text_system}
+use Rattle.dcc_c.proofs.RunLaws.{text_lawful}
+use Rattle.dcc_top.specs.declared.form.Form.{Form}
+use Rattle.dcc_top.specs.declared.form.Form.TheVariants.{Move, MoveHalf, Increase, Decrease, MoveSegment, PutChar, Leave}
+use Rattle.dcc_top.specs.declared.form.Term.{Term}
+use Rattle.dcc_top.specs.declared.form.Term.TheVariants.{Register, Number}
+use Rattle.dcc_top.specs.Line.{Built, built_from, built_at, op_form, ah_after, ah_after_term, ah_after_half, ah_after_sum, Comes, at_entry, goes_on, Ends, has_variable, only_if, dos_form, term_of, register_form}
+use Rattle.dcc_top.specs.LineText.{variable_name, name, number, term_expr, half_expr, dos_call, statement_of, lines_of, line_if, fits_form, fits_term}
+use Rattle.dcc_top.proofs.LineForms.{Words, bindings_of, word_of, with_word, AreWords, binding-read, binding-written, word-fits, term_value, term-value, term-fits, half-value, half-fits, sum-value, difference-value, after_form, form-keeps_words}
+use Rattle.dcc_top.proofs.LineMachine.{only_if-some, register_form-some, dos-cases, out_after_form, MachineAt, HoldsAh, Effect, op-effect, moved-on, step-is}
+
+below_word : (n : ℕ) → n % 65536 < 65536
+below_word n = let pos : 0 < 65536 = omega arith in mod-lt n pos
+
+low_below : (n : ℕ) → n % 256 < 256
+low_below n = let pos : 0 < 256 = omega arith in mod-lt n pos
+
+-- The text's side.
+
+-- the text is about to execute the rest, with these variables, and has put this out
+pub record TextAt (rest : Continuation) (w : Words) (out : List ℕ) (s : State) : Type 0 where
+  pub rest_is : s.rest ≡ rest
+  pub variables : s.variables ≡ bindings_of w
+  pub out_is : s.out ≡ out
+  pub running : s.end ≡ Running
+
+-- the step that executes a statement
+text_step-is : (stmt : Stmt) (at : ℕ) (lines : Lines) (k : Continuation) (w : Words) (out : List ℕ) (s : State) → TextAt (runs (line stmt at lines) k) w out s → text_step s ≡ stmt_step stmt at (record s { rest = runs lines k })
+text_step-is stmt at lines k w out s t =
+    ap (λ e. if is_over e then s else step_at s.rest s) t.running ∙ ap (λ r. step_at r s) t.rest_is
+
+-- an assignment of a word to a register's variable
+pub text-assigns : (r : Reg) (e : Expr) (v at : ℕ) (lines : Lines) (k : Continuation) (w : Words) (out : List ℕ) (s : State) → TextAt (runs (line (Assign (name r) e) at lines) k) w out s → has_variable r ≡ true → value_of (bindings_of w) e ≡ Some (value Uint v) → v < 65536 → TextAt (runs lines k) (with_word w r v) out (text_step s)
+text-assigns r e v at lines k w out s t h is fits =
+    let there : State = record s { rest = runs lines k } in
+    let got = ap (λ b. value_of b e) t.variables ∙ is in
+    let does = text_step-is (Assign (name r) e) at lines k w out s t ∙ ap (λ o. assign_step (variable_name r) o at there) got in
+    let after : TextAt (runs lines k) (with_word w r v) out (assign_step (variable_name r) (Some (value Uint v)) at there) =
+    record {
+      rest_is = refl;
+      variables = ap (λ b. assigned b (variable_name r) (value Uint v)) t.variables ∙ binding-written w r v h fits;
+      out_is = t.out_is;
+      running = t.running;
+    } in
+    subst (λ u. TextAt (runs lines k) (with_word w r v) out u) (sym does) after
+
+-- what the variable of a register holds
+variable-read : (w : Words) (s : State) (r : Reg) → s.variables ≡ bindings_of w → has_variable r ≡ true → value_of s.variables (name r) ≡ Some (value Uint (word_of w r))
+variable-read w s r e h = ap (λ b. held_by b (variable_name r)) e ∙ binding-read w r h
+
+text-puts : (at : ℕ) (lines : Lines) (k : Continuation) (w : Words) (out : List ℕ) (s : State) → TextAt (runs (line (dos_call (codes "dos_putc") Dx) at lines) k) w out s → TextAt (runs lines k) w (out ++ w.dx % 256 ∷ []) (text_step s)
+text-puts at lines k w out s t =
+    let there : State = record s { rest = runs lines k } in
+    let does = text_step-is (dos_call (codes "dos_putc") Dx) at lines k w out s t ∙ ap (λ o. dos_step (codes "dos_putc") o at there) (variable-read w s Dx t.variables refl) in
+    let after : TextAt (runs lines k) w (out ++ w.dx % 256 ∷ []) (dos_step (codes "dos_putc") (Some (value Uint w.dx)) at there) =
+    record {
+      rest_is = refl;
+      variables = t.variables;
+      out_is = ap (λ l. l ++ w.dx % 256 ∷ []) t.out_is;
+      running = t.running;
+    } in
+    subst (λ u. TextAt (runs lines k) w (out ++ w.dx % 256 ∷ []) u) (sym does) after
+
+-- the end by the call that leaves
+pub text-leaves : (at : ℕ) (lines : Lines) (k : Continuation) (w : Words) (out : List ℕ) (s : State) → TextAt (runs (line (dos_call (codes "dos_exit") Ax) at lines) k) w out s → ((text_step s).end ≡ Exit (w.ax % 256)) × ((text_step s).out ≡ out)
+text-leaves at lines k w out s t =
+    let there : State = record s { rest = runs lines k } in
+    let does = text_step-is (dos_call (codes "dos_exit") Ax) at lines k w out s t ∙ ap (λ o. dos_step (codes "dos_exit") o at there) (variable-read w s Ax t.variables refl) in
+    (ap (λ u. u.end) does, ap (λ u. u.out) does ∙ t.out_is)
+
+-- the statement of a form does to the variables what the form does to the registers
+pub text-form : (form : Form) (stmt : Stmt) (at : ℕ) (lines : Lines) (k : Continuation) (w : Words) (out : List ℕ) (s : State) → AreWords w → fits_form form ≡ true → form ≢ Leave → statement_of form ≡ Some stmt → TextAt (runs (line stmt at lines) k) w out s → TextAt (runs lines k) (after_form form w) (out_after_form form w out) (text_step s)
+text-form (Move r t) stmt at lines k w out s a h ne is x =
+    let x' = subst (λ o. TextAt (runs (line o at lines) k) w out s) (let e : stmt ≡ Assign (name r) (term_expr t) = cc in e) x in
+    let fits = and_right (has_variable r) (fits_term t) h in
+    text-assigns r (term_expr t) (term_value w t) at lines k w out s x' (and_left (has_variable r) (fits_term t) h) (term-value w t a fits) (term-fits w t a fits)
+text-form (MoveHalf r half c) stmt at lines k w out s a h ne is x =
+    let x' = subst (λ o. TextAt (runs (line o at lines) k) w out s) (let e : stmt ≡ Assign (name r) (half_expr r half c) = cc in e) x in
+    let has = and_left (has_variable r) (nat_lt c 256) h in
+    let fits = ltb-true c 256 (and_right (has_variable r) (nat_lt c 256) h) in
+    text-assigns r (half_expr r half c) (machine.word_with_half half (word_of w r) c) at lines k w out s x' has (half-value w r half c a has fits) (half-fits half (word_of w r) c (word-fits w r a has) fits)
+text-form (Increase r t) stmt at lines k w out s a h ne is x =
+    let x' = subst (λ o. TextAt (runs (line o at lines) k) w out s) (let e : stmt ≡ Assign (name r) (Binary Add (name r) (term_expr t)) = cc in e) x in
+    let has = and_left (has_variable r) (fits_term t) h in
+    let fits = and_right (has_variable r) (fits_term t) h in
+    text-assigns r (Binary Add (name r) (term_expr t)) ((word_of w r + term_value w t) % 65536) at lines k w out s x' has (sum-value w r t a has fits) (below_word (word_of w r + term_value w t))
+text-form (Decrease r t) stmt at lines k w out s a h ne is x =
+    let x' = subst (λ o. TextAt (runs (line o at lines) k) w out s) (let e : stmt ≡ Assign (name r) (Binary Sub (name r) (term_expr t)) = cc in e) x in
+    let has = and_left (has_variable r) (fits_term t) h in
+    let fits = and_right (has_variable r) (fits_term t) h in
+    text-assigns r (Binary Sub (name r) (term_expr t)) ((word_of w r + 65536 - term_value w t) % 65536) at lines k w out s x' has (difference-value w r t a has fits) (below_word (word_of w r + 65536 - term_value w t))
+text-form MoveSegment stmt at lines k w out s a h ne is x = cc
+text-form PutChar stmt at lines k w out s a h ne is x =
+    let x' = subst (λ o. TextAt (runs (line o at lines) k) w out s) (let e : stmt ≡ dos_call (codes "dos_putc") Dx = cc in e) x in
+    text-puts at lines k w out s x'
+text-form Leave stmt at lines k w out s a h ne is x = absurd (ne refl)
+
+-- What AH is known to hold stays true.
+
+ah-term : (r : Reg) (t : Term) (ah : Option ℕ) (w : Words) → HoldsAh ah w → HoldsAh (ah_after_term r t ah) (with_word w r (term_value w t))
+ah-term Ax (Number c) ah w held number e = cc
+ah-term Ax (Register q) ah w held number e = cc
+ah-term Cx t ah w held number e = held number e
+ah-term Dx t ah w held number e = held number e
+ah-term Bx t ah w held number e = held number e
+ah-term Sp t ah w held number e = held number e
+ah-term Bp t ah w held number e = held number e
+ah-term Si t ah w held number e = held number e
+ah-term Di t ah w held number e = held number e
+
+ah-half : (r : Reg) (half : Half) (c : ℕ) (ah : Option ℕ) (w : Words) → c < 256 → HoldsAh ah w → HoldsAh (ah_after_half r half c ah) (with_word w r (machine.word_with_half half (word_of w r) c))
+ah-half Ax High c ah w fits held number e =
+    let same : c ≡ number = cc in
+    div-mul-add c 256 (w.ax % 256) (low_below w.ax) ∙ same
+ah-half Ax Low c ah w fits held number e = div-mul-add (w.ax / 256) 256 c fits ∙ held number e
+ah-half Cx half c ah w fits held number e = held number e
+ah-half Dx half c ah w fits held number e = held number e
+ah-half Bx half c ah w fits held number e = held number e
+ah-half Sp half c ah w fits held number e = held number e
+ah-half Bp half c ah w fits held number e = held number e
+ah-half Si half c ah w fits held number e = held number e
+ah-half Di half c ah w fits held number e = held number e
+
+ah-sum : (r : Reg) (v : ℕ) (ah : Option ℕ) (w : Words) → HoldsAh ah w → HoldsAh (ah_after_sum r ah) (with_word w r v)
+ah-sum Ax v ah w held number e = cc
+ah-sum Cx v ah w held number e = held number e
+ah-sum Dx v ah w held number e = held number e
+ah-sum Bx v ah w held number e = held number e
+ah-sum Sp v ah w held number e = held number e
+ah-sum Bp v ah w held number e = held number e
+ah-sum Si v ah w held number e = held number e
+ah-sum Di v ah w held number e = held number e
+
+pub form-keeps_ah : (form : Form) (ah : Option ℕ) (w : Words) → fits_form form ≡ true → HoldsAh ah w → HoldsAh (ah_after form ah) (after_form form w)
+form-keeps_ah (Move r t) ah w h held = ah-term r t ah w held
+form-keeps_ah (MoveHalf r half c) ah w h held =
+    ah-half r half c ah w (ltb-true c 256 (and_right (has_variable r) (nat_lt c 256) h)) held
+form-keeps_ah (Increase r t) ah w h held = ah-sum r ((word_of w r + term_value w t) % 65536) ah w held
+form-keeps_ah (Decrease r t) ah w h held = ah-sum r ((word_of w r + 65536 - term_value w t) % 65536) ah w held
+form-keeps_ah MoveSegment ah w h held = held
+form-keeps_ah PutChar ah w h held = held
+form-keeps_ah Leave ah w h held = held
+
+-- What is built at an offset.
+
+-- the instruction behind a built form
+pub record BuiltFrom (code : List ℕ) (at : ℕ) (ah : Option ℕ) (built : Built) : Type 0 where
+  pub instr : Instr
+  pub found : instruction_at at (drop at code) ≡ Some instr
+  pub form : op_form ah instr.len instr.op ≡ Some built.form
+  pub len : built.len ≡ instr.len
+
+pub built-from : (code : List ℕ) (at : ℕ) (ah : Option ℕ) (built : Built) → built_at code at ah ≡ Some built → BuiltFrom code at ah built
+built-from code at ah built h =
+    elim (instruction_at at (drop at code)) as (λ o. instruction_at at (drop at code) ≡ o → option_and_then (built_from ah) o ≡ Some built → BuiltFrom code at ah built) [
+      | Some instr ↦ λ found. elim (op_form ah instr.len instr.op) as (λ f. op_form ah instr.len instr.op ≡ f → option_map (λ form. record { form = form; len = instr.len }) f ≡ Some built → BuiltFrom code at ah built) [
+        | Some form ↦ λ is e. let same : record { form = form; len = instr.len } ≡ built = cc in record {
+          instr = instr;
+          found = found;
+          form = is ∙ ap (λ b. Some b.form) same;
+          len = ap (λ b. b.len) (sym same);
+        }
+        | None ↦ λ is e. cc
+      ] refl
+      | None ↦ λ found e. cc
+    ] refl h
+
+-- A straight line from an offset on, forwards.
+pub data Goes (code : List ℕ) : ℕ → Option ℕ → List Form → Type 0 where
+  leaves : {at : ℕ} {ah : Option ℕ} (len : ℕ) → built_at code at ah ≡ Some (record { form = Leave; len = len }) → Goes code at ah (Leave ∷ [])
+  goes : {at : ℕ} {ah : Option ℕ} {forms : List Form} (built : Built) → built_at code at ah ≡ Some built → built.form ≢ Leave → Goes code (at + built.len) (ah_after built.form ah) forms → Goes code at ah (built.form ∷ forms)
+
+goes-from_comes : (code : List ℕ) (entry at : ℕ) (ah : Option ℕ) (before rest : List Form) → Comes code entry at ah before → Goes code at ah rest → Goes code entry None (before ++ rest)
+goes-from_comes code entry at ah before rest at_entry g = g
+goes-from_comes code entry at ah before rest (goes_on {at = from} {ah = held} {forms = forms} built c is ne) g =
+    let more = goes-from_comes code entry from held forms (built.form ∷ rest) c (goes built is ne g) in
+    subst (λ l. Goes code entry None l) (sym (append_assoc forms (built.form ∷ []) rest)) more
+
+pub goes-from_ends : (code : List ℕ) (entry : ℕ) (forms : List Form) → Ends code entry forms → Goes code entry None forms
+goes-from_ends code entry forms e =
+    subst (λ l. Goes code entry None l) (sym e.all) (goes-from_comes code entry e.at e.ah e.before (Leave ∷ []) e.comes (leaves e.len e.leaves))
+
+-- a line has at most as many forms as there are bytes of code from its offset on
+pub goes-length : (code : List ℕ) (at : ℕ) (ah : Option ℕ) (forms : List Form) → Goes code at ah forms → length forms + at ≤ length code
+goes-length code at ah forms (leaves len is) =
+    let b = built-from code at ah _ is in
+    let bounds = instruction-length at (drop at code) b.instr b.found in
+    omega (arith, bounds.0, bounds.1, length-drop at code)
+goes-length code at ah forms (goes {forms = others} built is ne g) =
+    let b = built-from code at ah built is in
+    let bounds = instruction-length at (drop at code) b.instr b.found in
+    omega (arith, bounds.0, b.len, goes-length code (at + built.len) (ah_after built.form ah) others g)
+
+-- there is code at a line's offset
+pub goes-inside : (code : List ℕ) (at : ℕ) (ah : Option ℕ) (forms : List Form) → Goes code at ah forms → at < length code
+goes-inside code at ah forms (leaves len is) =
+    omega (arith, goes-length code at ah (Leave ∷ []) (leaves len is))
+goes-inside code at ah forms (goes {forms = others} built is ne g) =
+    omega (arith, goes-length code at ah (built.form ∷ others) (goes built is ne g))
+
+-- the form of a built instruction has numbers that fit, and registers that have variables
+only_if-fits : (test : Bool) (f g : Form) → only_if test f ≡ Some g → (test ≡ true → fits_form f ≡ true) → fits_form g ≡ true
+only_if-fits test f g h fits =
+    let is = only_if-some test f g h in
+    subst (λ x. fits_form x ≡ true) is.1 (fits is.0)
+
+term-has_fit : (from : Operand) (t : Term) → term_of from ≡ Some t → fits_term t ≡ true
+term-has_fit (WordOperand q) t h =
+    elim (has_variable q) as (λ b. has_variable q ≡ b → (if b then Some (Register q) else None) ≡ Some t → fits_term t ≡ true) [
+      | true ↦ λ is e. subst (λ x. fits_term x ≡ true) (let same : Register q ≡ t = cc in same) is
+      | false ↦ λ is e. cc
+    ] refl h
+term-has_fit (Const word_width c) t h =
+    elim (nat_lt c 65536) as (λ b. nat_lt c 65536 ≡ b → (if b then Some (Number c) else None) ≡ Some t → fits_term t ≡ true) [
+      | true ↦ λ is e. subst (λ x. fits_term x ≡ true) (let same : Number c ≡ t = cc in same) is
+      | false ↦ λ is e. cc
+    ] refl h
+term-has_fit _ t h = cc
+
+register_form-fits : (make : Reg → Term → Form) (r : Reg) (from : Operand) (form : Form) → ((t : Term) → fits_form (make r t) ≡ has_variable r && fits_term t) → register_form make (WordOperand r) from ≡ Some form → fits_form form ≡ true
+register_form-fits make r from form is h =
+    let some = register_form-some make r from form h in
+    let has : has_variable r ≡ true =
+    elim (has_variable r) as (λ b. (if b then option_map (make r) (term_of from) else None) ≡ Some form → b ≡ true) [ true ↦ λ e. refl | false ↦ λ e. cc ] h in
+    subst (λ x. fits_form x ≡ true) some.2 (is some.0 ∙ and_both (has_variable r) (fits_term some.0) has (term-has_fit from some.0 some.1))
+
+dos-fits : (ah : Option ℕ) (form : Form) → dos_form ah ≡ Some form → fits_form form ≡ true
+dos-fits None form h = cc
+dos-fits (Some number) form h =
+    elim (dos-cases number form h) [
+      | inl (n, f) ↦ subst (λ x. fits_form x ≡ true) f refl
+      | inr (n, f) ↦ subst (λ x. fits_form x ≡ true) f refl
+    ]
+
+pub op-fits : (ah : Option ℕ) (len : ℕ) (op : Op) (form : Form) → op_form ah len op ≡ Some form → fits_form form ≡ true
+op-fits ah len (Mov (WordOperand r) (WordOperand q)) form h = only_if-fits _ _ form h (λ t. t)
+op-fits ah len (Mov (WordOperand r) (Const width c)) form h =
+    only_if-fits _ _ form h (λ t. and_both (has_variable r) (nat_lt c 65536) (and_left _ _ t) (and_right (len == 3) (nat_lt c 65536) (and_right (has_variable r) _ t)))
+op-fits ah len (Mov (Byte r half) (Const width c)) form h =
+    only_if-fits _ _ form h (λ t. and_both (has_variable r) (nat_lt c 256) (and_left _ _ t) (and_right (len == 2) (nat_lt c 256) (and_right (has_variable r) _ t)))
+op-fits ah len (Mov (Seg number) (WordOperand q)) form h = only_if-fits _ _ form h (λ t. refl)
+op-fits ah len (AluOp AddOp (WordOperand r) from) form h = register_form-fits Increase r from form (λ t. refl) h
+op-fits ah len (AluOp SubOp (WordOperand r) from) form h = register_form-fits Decrease r from form (λ t. refl) h
+op-fits ah len Int21 form h = dos-fits ah form h
+op-fits ah len _ form h = cc
+
+-- Both sides together.
+
+-- after each number of the machine's steps the text stands there, after at most so many more
+abbrev pub TextMeets : ℕ → machine.State → State → Type 0
+TextMeets more s t =
+    (n : ℕ) → (k : ℕ) × (k ≤ n + more) × Stands machine_system s n text_system t k
+
+-- after each number of the text's steps the machine stands there, after at most so many, and the text is not stuck
+abbrev pub MachineMeets : ℕ → machine.State → State → Type 0
+MachineMeets most s t =
+    (k : ℕ)
+    → (n : ℕ) × (n ≤ most) × Stands text_system t k machine_system s n × ((at : ℕ) → end_after text_system k t ≢ Stuck at)
+
+-- both stand at the same place
+pub same-place : (image : Image) (at : ℕ) (w : Words) (out : List ℕ) (s : machine.State) (rest : Continuation) (t : State) → MachineAt image at w out s → TextAt rest w out t → Stands machine_system s 0 text_system t 0
+same-place image at w out s rest t m x = record { out = x.out_is ∙ sym m.out_is; end = x.running ∙ sym m.running }
+
+pub same-place_back : (image : Image) (at : ℕ) (w : Words) (out : List ℕ) (s : machine.State) (rest : Continuation) (t : State) → MachineAt image at w out s → TextAt rest w out t → Stands text_system t 0 machine_system s 0
+same-place_back image at w out s rest t m x = record { out = m.out_is ∙ sym x.out_is; end = m.running ∙ sym x.running }
+
+pub running-unstuck : (e : End) → e ≡ Running → (at : ℕ) → e ≢ Stuck at
+running-unstuck e is at stuck = let both : Running ≡ Stuck at = sym is ∙ stuck in cc
+
+pub exit-unstuck : (e : End) (code : ℕ) → e ≡ Exit code → (at : ℕ) → e ≢ Stuck at
+exit-unstuck e code is at stuck = let both : Exit code ≡ Stuck at = sym is ∙ stuck in cc
+
+-- a silent step of the text
+pub text_meets-later : (more : ℕ) (s : machine.State) (t : State) → TextMeets more s (text_step t) → TextMeets (suc more) s t
+text_meets-later more s t meets n =
+    let h = meets n in (suc h.0, omega (arith, h.1), record { out = h.2.out; end = h.2.end })
+
+pub machine_meets-later : (most : ℕ) (s : machine.State) (t : State) → s.out ≡ t.out → s.end ≡ Running → t.end ≡ Running → MachineMeets most s (text_step t) → MachineMeets most s t
+machine_meets-later most s t out sr tr meets zero =
+    (0, omega arith, record { out = out; end = sr ∙ sym tr }, running-unstuck t.end tr)
+machine_meets-later most s t out sr tr meets (suc k) =
+    let h = meets k in (h.0, h.1, record { out = h.2.out; end = h.2.end }, h.3)

@@ -1,0 +1,4 @@
+//! The top call: words, files and answers.
+#![tactic(auto)]
+
+pub mod form;
