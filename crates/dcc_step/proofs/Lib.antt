@@ -1,3 +1,1 @@
 pub mod Loaded
-pub mod Strings
-pub mod Scenes

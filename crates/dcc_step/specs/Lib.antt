@@ -1,2 +1,3 @@
+pub mod Core
 pub mod Ending
 pub mod Stepped

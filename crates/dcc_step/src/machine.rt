@@ -1,8 +1,9 @@
 //! The machine and its state.
 
-ghost use Rattle.std.specs.Prelude.{◌≡◌, ◌<◌, ◌^◌, ℕ, List, slice_index, IfOk};
-ghost use Rattle.dcc_prog.specs.Machine.{start_core, word_in};
+ghost use Rattle.std.specs.Prelude.{◌≡◌, ◌<◌, ◌^◌, ℕ, List, [], slice_index, IfOk};
+ghost use Rattle.dcc_prog.specs.Machine.{start_state, word_in};
 ghost use Rattle.dcc_prog.specs.MzImage.{IsLoaded};
+ghost use Rattle.dcc_step.specs.Core.{with_console, state_of};
 
 use crate::ending::Ending;
 use dcc_num::{Flags, Reg};
@@ -34,7 +35,7 @@ pub struct Machine {
 
 impl Model for Machine {
     ghost use Rattle.std.specs.Prelude.{◌≡◌, ◌^◌, vec_len};
-    ghost use Rattle.dcc_prog.specs.Machine.{Core};
+    ghost use Rattle.dcc_step.specs.Core.{Core};
 
     ghost Value = { Core };
 
@@ -50,7 +51,7 @@ impl Machine {
     /// address 01100h and 0 elsewhere.
     pub fn new(alloc: Global, image: &Image) -> Result<Machine, AllocError>
         requires { IsLoaded image.now }
-        ensures { IfOk result (λ machine. machine ≡ start_core image.now) }
+        ensures { IfOk result (λ machine. (input : List ℕ) → with_console machine input [] ≡ start_state image.now input) }
     {
         let mut memory = Vec::with_capacity(alloc, MEMORY_SIZE)?;
         memory.resize(LOAD_ADDRESS, 0)?;
@@ -73,7 +74,7 @@ impl Machine {
 
     /// What a word register holds.
     pub fn reg(&self, r: Reg) -> u16
-        ensures { result ≡ word_in self.now r }
+        ensures { result ≡ word_in (state_of self.now) r }
     {
         self.regs[r as usize]
     }

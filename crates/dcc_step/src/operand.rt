@@ -4,6 +4,7 @@ ghost use Rattle.std.specs.Prelude.{◌≡◌, ◌<◌, ◌^◌};
 ghost use Rattle.dcc_num.specs.Numbers.{limit_of};
 ghost use Rattle.dcc_prog.specs.Machine.{physical, byte_in, word_at_offset, with_byte_in, with_word_at_offset, word_with_half, half_of_word, with_word_in, code_segment, stack_segment, data_segment, part_of, offset_of, is_bp, segment_of, operand_value, with_operand, operand_width};
 ghost use Rattle.dcc_prog.specs.WellFormed.{IsOperand};
+ghost use Rattle.dcc_step.specs.Core.{core_of, state_of};
 
 use crate::machine::Machine;
 use dcc_num::{Half, Reg, Width};
@@ -47,14 +48,14 @@ fn uses_bp(part: Option<Reg>) -> bool
 impl Machine {
     /// The byte at an offset in a segment.
     pub(crate) fn load_byte(&self, segment: u16, offset: u16) -> u8
-        ensures { result ≡ byte_in self.now segment offset }
+        ensures { result ≡ byte_in (state_of self.now) segment offset }
     {
         self.memory[physical_address(segment, offset)]
     }
 
     /// The word at an offset in a segment; the offset of its second byte wraps.
     pub(crate) fn load_word(&self, segment: u16, offset: u16) -> u16
-        ensures { result ≡ word_at_offset self.now segment offset }
+        ensures { result ≡ word_at_offset (state_of self.now) segment offset }
     {
         let low = self.load_byte(segment, offset);
         let high = self.load_byte(segment, offset.wrapping_add(1));
@@ -62,49 +63,49 @@ impl Machine {
     }
 
     fn store_byte(&mut self, segment: u16, offset: u16, byte: u8)
-        ensures { self.new ≡ with_byte_in self.old segment offset byte }
+        ensures { self.new ≡ core_of (with_byte_in (state_of self.old) segment offset byte) }
     {
         self.memory[physical_address(segment, offset)] = byte;
     }
 
     /// Stores a word, its low byte first; the offset of the second byte wraps.
     pub(crate) fn store_word(&mut self, segment: u16, offset: u16, word: u16)
-        ensures { self.new ≡ with_word_at_offset self.old segment offset word }
+        ensures { self.new ≡ core_of (with_word_at_offset (state_of self.old) segment offset word) }
     {
         self.store_byte(segment, offset, (word % 256) as u8);
         self.store_byte(segment, offset.wrapping_add(1), (word / 256) as u8);
     }
 
     pub(crate) fn set_reg(&mut self, r: Reg, word: u16)
-        ensures { self.new ≡ with_word_in self.old r word }
+        ensures { self.new ≡ core_of (with_word_in (state_of self.old) r word) }
     {
         self.regs[r as usize] = word;
     }
 
     /// The code segment.
     pub(crate) fn cs(&self) -> u16
-        ensures { result ≡ code_segment self.now }
+        ensures { result ≡ code_segment (state_of self.now) }
     {
         self.segs[1]
     }
 
     /// The stack segment.
     pub(crate) fn ss(&self) -> u16
-        ensures { result ≡ stack_segment self.now }
+        ensures { result ≡ stack_segment (state_of self.now) }
     {
         self.segs[2]
     }
 
     /// The data segment.
     pub(crate) fn ds(&self) -> u16
-        ensures { result ≡ data_segment self.now }
+        ensures { result ≡ data_segment (state_of self.now) }
     {
         self.segs[3]
     }
 
     /// What a part of an address adds to it.
     fn part(&self, part: Option<Reg>) -> u16
-        ensures { result ≡ part_of self.now part }
+        ensures { result ≡ part_of (state_of self.now) part }
     {
         match part {
             None => 0,
@@ -114,7 +115,7 @@ impl Machine {
 
     /// The offset of a memory operand.
     pub(crate) fn offset(&self, ea: Ea) -> u16
-        ensures { result ≡ offset_of self.now ea }
+        ensures { result ≡ offset_of (state_of self.now) ea }
     {
         let sum = u32::from(self.part(ea.base)) + u32::from(self.part(ea.index));
         ((sum + u32::from(ea.disp)) % 0x1_0000) as u16
@@ -122,7 +123,7 @@ impl Machine {
 
     /// The segment of a memory operand: that of the stack where the address uses BP.
     fn segment(&self, ea: Ea) -> u16
-        ensures { result ≡ segment_of self.now ea }
+        ensures { result ≡ segment_of (state_of self.now) ea }
     {
         if uses_bp(ea.base) || uses_bp(ea.index) {
             self.ss()
@@ -134,7 +135,7 @@ impl Machine {
     /// What an operand holds.
     pub(crate) fn value(&self, operand: Operand) -> u16
         requires { IsOperand operand }
-        ensures value { result ≡ operand_value self.now operand }
+        ensures value { result ≡ operand_value (state_of self.now) operand }
         ensures width { result < limit_of (operand_width operand) }
     {
         match operand {
@@ -153,7 +154,7 @@ impl Machine {
     pub(crate) fn put(&mut self, operand: Operand, value: u16)
         requires operand { IsOperand operand }
         requires width { value < limit_of (operand_width operand) }
-        ensures { self.new ≡ with_operand self.old operand value }
+        ensures { self.new ≡ core_of (with_operand (state_of self.old) operand value) }
     {
         match operand {
             Operand::Word(r) => self.set_reg(r, value),
