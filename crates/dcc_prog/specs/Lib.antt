@@ -1,4 +1,6 @@
 pub mod Machine
+pub mod Operations
+pub mod Dos
 pub mod Step
 pub mod MzImage
 pub mod Operands
