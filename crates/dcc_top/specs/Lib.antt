@@ -1,3 +1,6 @@
 pub mod Line
 pub mod LineText
 pub mod Agreement
+pub mod Words
+pub mod Answer
+pub mod Delivery
