@@ -1,6 +1,6 @@
 -- The calls of INT 21h (Microsoft MS-DOS Programmer's Reference, functions 01h, 02h, 08h, 09h and 4Ch). Registers and
 -- flags of which nothing is said stay as they are.
-use Rattle.std.specs.Prelude.{ℕ, ◌+◌, ◌%◌, ◌==◌, Bool, true, false, not, if◌then◌else◌, List, [], ◌∷◌, ◌++◌, map}
+use Rattle.std.specs.Prelude.{ℕ, ◌+◌, ◌/◌, ◌%◌, ◌==◌, Bool, true, false, not, if◌then◌else◌, List, [], ◌∷◌, ◌++◌, map}
 use Rattle.std.specs.List.{range_with_len, take_while}
 use Rattle.dcc_run.specs.End.{Exit, Outside}
 use Rattle.dcc_num.specs.declared.Reg.TheVariants.{Ax, Dx}
@@ -43,3 +43,7 @@ dos_step number at s =
     else if number == 0x08 then key_step false s
     else if number == 0x09 then written (dos_string s) s
     else ended (Outside at) at s
+
+-- INT 21h of the instruction at this offset
+abbrev pub dos_call : ℕ → State → State
+dos_call at s = dos_step (word_in s Ax / 256) at s

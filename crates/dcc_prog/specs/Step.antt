@@ -1,15 +1,15 @@
 -- One step of the machine, and its runs.
-use Rattle.std.specs.Prelude.{ℕ, true, not, ◌+◌, ◌/◌, ◌%◌, ◌==◌, if◌then◌else◌, List, [], ◌∷◌, Option, Some, None}
+use Rattle.std.specs.Prelude.{ℕ, true, not, ◌+◌, ◌%◌, ◌==◌, if◌then◌else◌, List, [], ◌∷◌, Option, Some, None}
 use Rattle.dcc_run.specs.End.{Outside, is_over}
 use Rattle.dcc_run.specs.System.{System}
-use Rattle.dcc_num.specs.declared.Reg.TheVariants.{Ax, Cx}
+use Rattle.dcc_num.specs.declared.Reg.TheVariants.{Cx}
 use Rattle.dcc_prog.specs.declared.instr.Op.{Op}
 use Rattle.dcc_prog.specs.declared.instr.Op.TheVariants.{Alu, Unary, Shift, Mov, Xchg, Lea, Push, Pop, Plain, Jump, Branch, Loop, LoopE, LoopNe, Jcxz, Table, Call, Ret, Int21}
 use Rattle.dcc_prog.specs.declared.instr.Instr.{Instr}
 use Rattle.dcc_prog.specs.Table.{instruction_at}
 use Rattle.dcc_prog.specs.Machine.{State, word_in, code_segment, byte_in, operand_value, operand_width}
 pub use Rattle.dcc_prog.specs.Operations.{ended, with_flags, with_result, with_al, mov_step, xchg_step, lea_step, alu_step, unary_step, shift_step, push_step, pop_step, jumped, jumped_if, holds, loop_step, table_step, call_step, ret_step, plain_step}
-pub use Rattle.dcc_prog.specs.Dos.{dos_step}
+pub use Rattle.dcc_prog.specs.Dos.{dos_step, dos_call}
 
 -- the byte at so many bytes behind the instruction pointer, whose offset wraps
 abbrev pub code_byte : State → ℕ → ℕ
@@ -41,7 +41,7 @@ op_step (Jcxz target) at s = jumped_if (word_in s Cx == 0) target s
 op_step (Table r offset) at s = table_step r offset s
 op_step (Call target) at s = call_step target s
 op_step (Ret count) at s = ret_step count s
-op_step Int21 at s = dos_step (word_in s Ax / 256) at s
+op_step Int21 at s = dos_call at s
 
 -- the instruction that was found, or an end where the table has none
 abbrev pub instruction_step : Option Instr → State → State
