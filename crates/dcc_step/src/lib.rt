@@ -1,6 +1,7 @@
 //! The 8086 machine on flat memory, one instruction a step, with the five DOS calls.
 #![tactic(auto)]
 
+mod alu;
 mod dos;
 mod ending;
 mod machine;
