@@ -177,8 +177,8 @@ holds G f = not (f.zf || differ f.sf f.of)
 -- CX falls by 1 without flags, and the jump is made where it is not 0 then and the further condition holds
 abbrev pub loop_step : Bool → ℕ → State → State
 loop_step also target s =
-    let t = with_word_in s Cx ((word_in s Cx + 65535) % 65536) in
-    jumped_if (also && not (word_in t Cx == 0)) target t
+    let left = (word_in s Cx + 65535) % 65536 in
+    jumped_if (also && not (left == 0)) target (with_word_in s Cx left)
 
 -- to the word in the code segment at a register plus an offset
 abbrev pub table_step : Reg → ℕ → State → State

@@ -51,7 +51,7 @@ fn echo_key<O: Sink>(echo: bool, byte: u8, out: &mut O) -> Result<(), Failed>
 }
 
 impl Machine {
-    fn set_al(&mut self, byte: u8)
+    pub(crate) fn set_al(&mut self, byte: u8)
         ensures { self.new ≡ core_of (with_al byte (state_of self.old)) }
     {
         let word = with_half(Half::Low, self.reg(Reg::Ax), byte);

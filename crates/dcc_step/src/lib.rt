@@ -2,10 +2,14 @@
 #![tactic(auto)]
 
 mod alu;
+mod decode;
 mod dos;
 mod ending;
+mod flow;
 mod machine;
 mod operand;
+mod stack;
+mod step;
 
 pub use ending::Stepped;
 pub use machine::Machine;
