@@ -1,3 +1,4 @@
 pub mod Loaded
 pub mod Strings
 pub mod Scenes
+pub mod Steps
