@@ -1,6 +1,7 @@
 -- What steps do to the machine and to what its input and output tell, and when they are refused.
-use Rattle.std.specs.Prelude.{◌≡◌, ℕ, List, [], ◌∷◌, ◌++◌, Option, None, Some}
+use Rattle.std.specs.Prelude.{◌≡◌, ◌<◌, ℕ, List, [], ◌∷◌, ◌++◌, Option, None, Some}
 use Rattle.dcc_run.specs.End.{End, Running as running, Exit as exited, Divide as divided, Outside as outside}
+use Rattle.dcc_run.specs.System.{after}
 use Rattle.dcc_io.specs.Told.{append_told, prepend_told, AppendsProperPrefix}
 use Rattle.dcc_prog.specs.Machine.{State}
 use Rattle.dcc_prog.specs.Step.{step}
@@ -79,3 +80,31 @@ Answers OutFault end = end ≡ running
 abbrev pub fault_answer_of : Fault → Stepped
 fault_answer_of Input = InFault
 fault_answer_of Output = OutFault
+
+-- So many steps were made, one after another, where the input tells what is left: the input gave some bytes and the
+-- output took some, and with just these on its console the machine goes from the one state to the other.
+pub record MakesSteps (count : ℕ) (before now : Scene) : Type 0 where
+  pub given : List ℕ
+  pub written : List ℕ
+  pub took : before.left ≡ prepend_told given now.left
+  pub wrote : now.taken ≡ append_told before.taken written
+  pub made : (rest out : List ℕ) → now.left ≡ Some rest
+      → after step count (with_console before.core (given ++ rest) out) ≡ with_console now.core rest (out ++ written)
+
+-- fewer steps than these were made, and the next one was refused
+pub record StopsShort (fault : Fault) (most : ℕ) (before now : Scene) : Type 0 where
+  pub count : ℕ
+  pub short : count < most
+  pub stop : Scene
+  pub made : MakesSteps count before stop
+  pub refused : IsRefused step fault stop now
+
+-- what a run of at most so many steps leaves, by its answer; a run that has ended stays, so it counts as one of just
+-- so many steps
+abbrev pub Runs : ℕ → Stepped → Scene → Scene → Type 0
+Runs most Running before now = MakesSteps most before now
+Runs most (Exit code) before now = MakesSteps most before now
+Runs most Divide before now = MakesSteps most before now
+Runs most (Outside at) before now = MakesSteps most before now
+Runs most InFault before now = StopsShort Input most before now
+Runs most OutFault before now = StopsShort Output most before now

@@ -10,9 +10,10 @@ ghost use Rattle.dcc_step.specs.Core.{core_of, state_of};
 use crate::ending::Ending;
 use crate::machine::Machine;
 use crate::operand::half_of;
-use dcc_num::{Flags, Half, Reg, Width};
-use dcc_num::{add, and, dec, div, idiv, imul, inc, mul, neg, or, sub, xor};
-use dcc_num::{rcl1, rcr1, rol, ror, sar, shl, shr};
+use dcc_num::{
+    Flags, Half, Reg, Width, add, and, dec, div, idiv, imul, inc, mul, neg, or, rcl1, rcr1, rol,
+    ror, sar, shl, shr, sub, xor,
+};
 use dcc_prog::{Alu, Operand, Shift, Unary};
 
 /// The width of an operand.

@@ -12,8 +12,8 @@ ghost use Rattle.dcc_step.specs.Stepped.{scene, told_bytes, Makes, IsRefused};
 
 use crate::ending::{Ending, Fault};
 use crate::machine::Machine;
-use dcc_io::{Failed, Sink, Source, put_all};
 use crate::operand::{half_of, with_half};
+use dcc_io::{Failed, Sink, Source, put_all};
 use dcc_num::{Half, Reg};
 
 /// AL after a key was asked for at the end of the input.
@@ -43,11 +43,7 @@ fn echo_key<O: Sink>(echo: bool, byte: u8, out: &mut O) -> Result<(), Failed>
     ensures faults { O.faults out.old ≤ O.faults out.new }
     ensures failed { OnErr result (Rose (O.faults out.old) (O.faults out.new)) }
 {
-    if echo {
-        put_all(out, &[byte])
-    } else {
-        Ok(())
-    }
+    if echo { put_all(out, &[byte]) } else { Ok(()) }
 }
 
 impl Machine {

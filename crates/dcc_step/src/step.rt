@@ -7,7 +7,7 @@ ghost use Rattle.dcc_prog.specs.Table.{instruction_at};
 ghost use Rattle.dcc_prog.specs.Step.{code_byte, code_bytes, op_step};
 ghost use Rattle.dcc_prog.specs.WellFormed.{IsOperation};
 ghost use Rattle.dcc_step.specs.Core.{core_of, state_of};
-ghost use Rattle.dcc_step.specs.Stepped.{scene, Makes, IsRefused, Steps, Answers};
+ghost use Rattle.dcc_step.specs.Stepped.{scene, Makes, IsRefused, Steps, Answers, Runs};
 
 use crate::decode::decode_window;
 use crate::ending::{Ending, Fault, Stepped};
@@ -127,6 +127,28 @@ impl Machine {
         if let Err(fault) = self.perform(instr.op, at, input, out) {
             self.ip = at;
             return fault.answer();
+        }
+        self.end.answer()
+    }
+
+    /// Makes steps until one answers something else than Running, at most so many.
+    pub fn run<I: Source, O: Sink>(&mut self, input: &mut I, out: &mut O, most: u64) -> Stepped
+        ensures run { Runs most result
+            (scene self.old (I.left input.old) (O.taken out.old))
+            (scene self.new (I.left input.new) (O.taken out.new)) }
+        ensures answer { Answers result self.new.end }
+
+        // The counts never fall, and a fault comes only where its count rose.
+        ensures input_faults { I.faults input.old ≤ I.faults input.new }
+        ensures output_faults { O.faults out.old ≤ O.faults out.new }
+        ensures read_failed { result ≡ Stepped.InFault → Rose (I.faults input.old) (I.faults input.new) }
+        ensures write_failed { result ≡ Stepped.OutFault → Rose (O.faults out.old) (O.faults out.new) }
+    {
+        for _count in 0..most {
+            match self.step(input, out) {
+                Stepped::Running => {}
+                answer => return answer,
+            }
         }
         self.end.answer()
     }
