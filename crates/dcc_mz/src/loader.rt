@@ -43,7 +43,8 @@ pub fn load(alloc: Global, bytes: &Vec<u8>) -> Result<Image, MzFault>
     ensures refused { IfErr result (IsRefusalOrMemory bytes.now.items) }
 
     // A file that has an image is refused for want of memory alone.
-    ensures loads { (image : Image) → IsImageOf bytes.now.items image → IsOkUnless result MzFault.Memory }
+    ensures loads { (image : Image) → IsImageOf bytes.now.items image
+        → IsOkUnless result MzFault.Memory }
     // A file that fails a check is refused, with the first such check or for want of memory.
     ensures refuses { (fault : FormatFault) → IsFirstFault bytes.now.items fault
         → IsErrAnd result (λ told. IfSome (fault_of told) (λ known. known ≡ fault)) }

@@ -69,7 +69,8 @@ fn relocate(file: &[u8], header: &Header, image: &mut [u8]) -> Result<(), MzFaul
 pub fn relocated(alloc: Global, file: &[u8], header: &Header) -> Result<Vec<u8>, MzFault>
     requires header { IsHeaderOf file.now header.now }
     requires good { HasGoodHeader file.now }
-    ensures moved { IfOk result (λ image. image.items ≡ relocated_image file.now (relocation_count file.now)) }
+    ensures moved { IfOk result (λ image.
+        image.items ≡ relocated_image file.now (relocation_count file.now)) }
     ensures fit { OnOk result (RelocationsFit file.now) }
     ensures refused { IfErr result (IsRefusalOrMemory file.now) }
 {

@@ -14,3 +14,23 @@ pub struct Image {
     /// The stack pointer at the start, an offset in the stack segment.
     pub sp: u16,
 }
+
+/// The segment at which an image is loaded.
+const LOAD_SEGMENT: u16 = 0x0110;
+
+impl Image {
+    ghost use Rattle.std.specs.Prelude.{◌≡◌, ◌≤◌, length};
+    ghost use Rattle.dcc_prog.specs.MzImage.{IsLoaded};
+    ghost use Rattle.dcc_prog.specs.Code.{code_of};
+
+    /// The bytes of the image from offset 0 of its code segment on, below offset 65536.
+    pub fn code(&self) -> &[u8]
+        requires { IsLoaded self.now }
+        ensures code { result.now ≡ code_of self.now }
+        ensures short { length result.now ≤ 65536 }
+    {
+        let start = usize::from(self.cs - LOAD_SEGMENT) * 16;
+        let end = start + self.code_len as usize;
+        &self.bytes[start..end]
+    }
+}

@@ -5,3 +5,6 @@ pub mod LineTogether
 pub mod LineAgrees
 pub mod LineStatements
 pub mod LineStands
+pub mod LineWritten
+pub mod LineLaws
+pub mod AnswerLaws

@@ -116,8 +116,8 @@ Effect image at next w out form s t = MachineAt image next (after_form form w) (
 
 pub register_form-some : (make : Reg → Term → Form) (r : Reg) (from : Operand) (form : Form) → register_form make (Word r) from ≡ Some form → (t : Term) × (term_of from ≡ Some t) × (make r t ≡ form)
 register_form-some make r from form h =
-    elim (has_variable r) as (λ b. (if b then option_map (make r) (term_of from) else None) ≡ Some form → (t : Term) × (term_of from ≡ Some t) × (make r t ≡ form)) [
-      | true ↦ elim (term_of from) as (λ o. option_map (make r) o ≡ Some form → (t : Term) × (o ≡ Some t) × (make r t ≡ form)) [
+    elim (has_variable r) as (λ b. option_map {T = Reg × Term} {U = Form} (λ p. make p.0 p.1) (if b then option_map {T = Term} {U = Reg × Term} (λ t. (r, t)) (term_of from) else None) ≡ Some form → (t : Term) × (term_of from ≡ Some t) × (make r t ≡ form)) [
+      | true ↦ elim (term_of from) as (λ o. option_map {T = Reg × Term} {U = Form} (λ p. make p.0 p.1) (option_map {T = Term} {U = Reg × Term} (λ t. (r, t)) o) ≡ Some form → (t : Term) × (o ≡ Some t) × (make r t ≡ form)) [
         | Some t ↦ λ e. (t, refl, cc)
         | None ↦ λ e. cc
       ]

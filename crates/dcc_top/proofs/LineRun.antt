@@ -254,7 +254,7 @@ register_form-fits : (make : Reg → Term → Form) (r : Reg) (from : Operand) (
 register_form-fits make r from form is h =
     let some = register_form-some make r from form h in
     let has : has_variable r ≡ true =
-    elim (has_variable r) as (λ b. (if b then option_map (make r) (term_of from) else None) ≡ Some form → b ≡ true) [ true ↦ λ e. refl | false ↦ λ e. cc ] h in
+    elim (has_variable r) as (λ b. option_map {T = Reg × Term} {U = Form} (λ p. make p.0 p.1) (if b then option_map {T = Term} {U = Reg × Term} (λ t. (r, t)) (term_of from) else None) ≡ Some form → b ≡ true) [ true ↦ λ e. refl | false ↦ λ e. cc ] h in
     subst (λ x. fits_form x ≡ true) some.2 (is some.0 ∙ and_both (has_variable r) (fits_term some.0) has (term-has_fit from some.0 some.1))
 
 dos-fits : (ah : Option ℕ) (form : Form) → dos_form ah ≡ Some form → fits_form form ≡ true

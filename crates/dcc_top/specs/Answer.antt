@@ -1,10 +1,10 @@
 -- The program's answers: the status, the line on the error stream, and what is due on the output.
-use Rattle.std.specs.Prelude.{◌≡◌, ℕ, ◌+◌, ◌/◌, ◌%◌, nat_lt, if◌then◌else◌, List, [], ◌∷◌, ◌++◌, codes, Option, Some, None, string_bytes}
+use Rattle.std.specs.Prelude.{◌≡◌, ◌⊎◌, ℕ, ◌+◌, ◌/◌, ◌%◌, nat_lt, if◌then◌else◌, List, [], ◌∷◌, ◌++◌, codes, Option, Some, None, string_bytes}
 use Rattle.std.specs.Fmt.{decimal}
-use Rattle.dcc_mz.specs.Fault.{number_of, place_of, IsRefusal}
+use Rattle.dcc_mz.specs.Fault.{number_of, place_of, fault_of, IsRefusal}
 use Rattle.dcc_io.specs.Told.{WhenTold}
 use Rattle.dcc_prog.specs.declared.image.Image.{Image}
-use Rattle.dcc_prog.specs.MzImage.{IsImageOf}
+use Rattle.dcc_prog.specs.MzImage.{IsImageOf, FormatFault, IsFirstFault}
 use Rattle.dcc_prog.specs.Code.{code_of}
 use Rattle.dcc_c.specs.Written.{written}
 use Rattle.dcc_top.specs.declared.form.Form.{Form}
@@ -75,6 +75,22 @@ pub record OfFile (told : Option (List ℕ → Option (List ℕ))) (name : List 
   pub has : ShelfHas told name file
   pub holds : P file
 
+-- the answer is allowed for a file that is this image: the text of its line, or where the line stops
+abbrev pub AllowsForImage : Image → Reply → Type 0
+AllowsForImage image (Done text) =
+    (forms : List Form) × Ends (code_of image) image.ip forms × (string_bytes text ≡ written (tree_of forms))
+AllowsForImage image (NotYet at) = StopsAt (code_of image) image.ip at
+AllowsForImage image Memory = Unit {0}
+AllowsForImage image _ = ⊥
+
+-- the answer is allowed for a file of these bytes
+abbrev pub AllowsForBytes : List ℕ → Reply → Type 0
+AllowsForBytes file (Done text) = Decompiles file (string_bytes text)
+AllowsForBytes file (Format fault) = IsRefusal file fault
+AllowsForBytes file (NotYet at) = StopsInFile file at
+AllowsForBytes file Memory = Unit {0}
+AllowsForBytes file _ = ⊥
+
 -- the answer is allowed for the file of this name
 abbrev pub AllowsForFile : Option (List ℕ → Option (List ℕ)) → List ℕ → Reply → Type 0
 AllowsForFile told name (Done text) = OfFile told name (λ file. Decompiles file (string_bytes text))
@@ -87,5 +103,38 @@ AllowsForFile told name (NotYet at) = OfFile told name (λ file. StopsInFile fil
 
 -- the answer is allowed for the job
 abbrev pub Allows : Option (List ℕ → Option (List ℕ)) → Option Job → Reply → Type 0
-Allows told None reply = reply ≡ Usage
+Allows told None reply = (reply ≡ Usage) ⊎ (reply ≡ Memory)
 Allows told (Some (Decompile name)) reply = AllowsForFile told name reply
+
+-- The answer tells the fault, or the offset, or that the job is done; or the file could not be read, or memory ran out.
+
+abbrev pub TellsFault : FormatFault → Reply → Type 0
+TellsFault fault (Format told) = fault_of told ≡ Some fault
+TellsFault fault FileFault = Unit {0}
+TellsFault fault Memory = Unit {0}
+TellsFault fault _ = ⊥
+
+abbrev pub TellsStop : ℕ → Reply → Type 0
+TellsStop named (NotYet at) = at ≡ named
+TellsStop named FileFault = Unit {0}
+TellsStop named Memory = Unit {0}
+TellsStop named _ = ⊥
+
+abbrev pub TellsDone : Reply → Type 0
+TellsDone (Done text) = Unit {0}
+TellsDone FileFault = Unit {0}
+TellsDone Memory = Unit {0}
+TellsDone _ = ⊥
+
+-- the file's straight line ends by the call that leaves
+pub record EndsInFile (file : List ℕ) : Type 0 where
+  pub image : Image
+  pub is_image : IsImageOf file image
+  pub forms : List Form
+  pub ends : Ends (code_of image) image.ip forms
+
+-- the answer is the one that the bytes of the file ask for
+pub record IsExact (file : List ℕ) (reply : Reply) : Type 0 where
+  pub format : (fault : FormatFault) → IsFirstFault file fault → TellsFault fault reply
+  pub stops : (named : ℕ) → StopsInFile file named → TellsStop named reply
+  pub done : EndsInFile file → TellsDone reply

@@ -11,7 +11,10 @@ use Rattle.dcc_prog.specs.declared.instr.Operand.TheVariants.{Word, Byte, Seg, C
 use Rattle.dcc_prog.specs.declared.instr.Op.{Op}
 use Rattle.dcc_prog.specs.declared.instr.Op.TheVariants.{Alu as AluOp, Mov, Int21}
 use Rattle.dcc_prog.specs.declared.instr.Instr.{Instr}
+use Rattle.dcc_prog.specs.declared.refusal.Refusal.{Refusal}
+use Rattle.dcc_prog.specs.declared.refusal.Refusal.TheVariants.{NotYet, Memory}
 use Rattle.dcc_prog.specs.Table.{instruction_at}
+pub use Rattle.dcc_top.specs.declared.form.Built.{Built}
 use Rattle.dcc_top.specs.declared.form.Form.{Form}
 use Rattle.dcc_top.specs.declared.form.Form.TheVariants.{Move, MoveHalf, Increase, Decrease, MoveSegment, PutChar, Leave}
 use Rattle.dcc_top.specs.declared.form.Term.{Term}
@@ -49,11 +52,14 @@ term_of (Word q) = if has_variable q then Some (Register q) else None
 term_of (Const word_width c) = if nat_lt c 65536 then Some (Number c) else None
 term_of _ = None
 
--- the register that a sum or a difference changes, with its form
+-- the register that a sum or a difference changes, and its right side
+abbrev pub sum_parts : Operand → Operand → Option (Reg × Term)
+sum_parts (Word r) from = if has_variable r then option_map (λ t. (r, t)) (term_of from) else None
+sum_parts _ from = None
+
+-- the form of a sum or a difference
 abbrev pub register_form : (Reg → Term → Form) → Operand → Operand → Option Form
-register_form make (Word r) from =
-    if has_variable r then option_map (make r) (term_of from) else None
-register_form make _ from = None
+register_form make to from = option_map (λ p. make p.0 p.1) (sum_parts to from)
 
 -- what an operation of an instruction of this length does, where AH is known to hold the number
 abbrev pub op_form : Option ℕ → ℕ → Op → Option Form
@@ -63,11 +69,7 @@ op_form ah len (AluOp Sub a b) = register_form Decrease a b
 op_form ah len Int21 = dos_form ah
 op_form ah len _ = None
 
--- an instruction as a form and a length
-pub record Built : Type 0 where
-  pub form : Form
-  pub len : ℕ
-
+-- the form and the length of an instruction, where it is built
 abbrev pub built_from : Option ℕ → Instr → Option Built
 built_from ah instr = option_map (λ form. record { form = form; len = instr.len }) (op_form ah instr.len instr.op)
 
@@ -122,3 +124,9 @@ pub record StopsAt (code : List ℕ) (entry : ℕ) (named : ℕ) : Type 0 where
   pub comes : Comes code entry at ah before
   pub stops : built_at code at ah ≡ None
   pub name : named ≡ at % 65536
+
+-- a refusal of the line: an instruction that is not built yet, or want of memory
+abbrev pub StopsOrMemory : List ℕ → ℕ → Refusal → Type 0
+StopsOrMemory code entry (NotYet named) = StopsAt code entry named
+StopsOrMemory code entry Memory = Unit {0}
+StopsOrMemory code entry _ = ⊥

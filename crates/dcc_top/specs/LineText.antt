@@ -1,5 +1,5 @@
 -- The text of a straight line: a variable for each register, and a statement for each form.
-use Rattle.std.specs.Prelude.{ℕ, ◌+◌, ◌*◌, Bool, true, ◌&&◌, nat_lt, List, [], ◌∷◌, map, codes, Option, Some, None}
+use Rattle.std.specs.Prelude.{ℕ, ◌+◌, ◌*◌, Bool, true, ◌&&◌, nat_lt, List, [], ◌∷◌, ◌++◌, map, codes, Option, Some, None}
 use Rattle.dcc_num.specs.declared.Reg.{Reg}
 use Rattle.dcc_num.specs.declared.Reg.TheVariants.{Ax, Cx, Dx, Bx, Sp, Bp, Si, Di}
 use Rattle.dcc_num.specs.declared.Half.{Half}
@@ -10,6 +10,7 @@ use Rattle.dcc_c.specs.declared.syntax.CBin.TheVariants.{Or, And, Add, Sub}
 use Rattle.dcc_c.specs.declared.syntax.Class.TheVariants.{Plain}
 use Rattle.dcc_c.specs.Types.{plain}
 use Rattle.dcc_c.specs.Tree.{Word, Expr, Number, Name, Binary, Stmt, Assign, Call, Lines, no_lines, line, Variable, Function, Tree}
+use Rattle.dcc_c.specs.Written.{written_expr, written_stmt}
 use Rattle.dcc_top.specs.Line.{has_variable}
 use Rattle.dcc_top.specs.declared.form.Form.{Form}
 use Rattle.dcc_top.specs.declared.form.Form.TheVariants.{Move, MoveHalf, Increase, Decrease, MoveSegment, PutChar, Leave}
@@ -115,3 +116,12 @@ fits_form (Decrease r term) = has_variable r && fits_term term
 fits_form MoveSegment = true
 fits_form PutChar = true
 fits_form Leave = true
+
+-- the bytes of a form's statement, in a function's body
+abbrev pub statement_bytes : Form → Word
+statement_bytes form = elim (statement_of form) [ Some stmt ↦ written_stmt 1 stmt | None ↦ [] ]
+
+-- the bytes of the statement that changes a register's variable by the operator
+abbrev pub operation_bytes : Reg → Word → Term → Word
+operation_bytes r operator term =
+    codes "    " ++ (variable_name r ++ (codes " = " ++ (variable_name r ++ (codes " " ++ (operator ++ (codes " " ++ (written_expr (term_expr term) ++ codes ";\n")))))))

@@ -29,3 +29,10 @@ pub enum Form {
     /// DOS call 4Ch: ends the run with the exit code in AL.
     Leave,
 }
+
+/// A built instruction: what it does, and its length in bytes.
+#[derive(Clone, Copy, PartialEq, Eq, Debug)]
+pub struct Built {
+    pub form: Form,
+    pub len: u8,
+}

@@ -1,5 +1,5 @@
 // The calls of an object in memory.
-ghost use Rattle.std.specs.Prelude.{◌≡◌, ◌+◌, ◌-◌, ◌^◌, ◌<◌, ◌↔◌, IsTrue, min, if◌then◌else◌, Bool};
+ghost use Rattle.std.specs.Prelude.{◌≡◌, ◌+◌, if◌then◌else◌};
 ghost use Rattle.dcc_io.specs.Memory.{counted, fails_next, listed_calls};
 
 /// How many calls were made, and the numbers of those that are to fail, from 1 on.

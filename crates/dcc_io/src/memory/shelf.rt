@@ -1,5 +1,5 @@
 // Files in memory.
-ghost use Rattle.std.specs.Prelude.{◌≡◌, ◌⊎◌, ◌+◌, ◌-◌, ◌^◌, ◌<◌, ◌≤◌, ℕ, List, [], ◌∷◌, ◌++◌, length, take, min, map, vec_len, None, Some, Ok, Err, IfOk, IsErrOf, OnErr, IsTrue, MatchOption, AllPairs, ◌≢◌, string_bytes};
+ghost use Rattle.std.specs.Prelude.{◌≡◌, ◌⊎◌, ◌≤◌, [], vec_len, None, Some, Ok, Err, IsErrOf, OnErr, IsTrue, MatchOption, AllPairs, ◌≢◌, string_bytes};
 ghost use Rattle.dcc_io.specs.Count.{Rose};
 ghost use Rattle.dcc_io.specs.Told.{WhenTold};
 ghost use Rattle.dcc_io.specs.Fetch.{Answers, KeepsWithin, Records};

@@ -1,5 +1,5 @@
 // Input in memory.
-ghost use Rattle.std.specs.Prelude.{◌≡◌, ◌+◌, ◌-◌, ◌^◌, ◌<◌, ◌≤◌, ℕ, List, [], ◌++◌, length, take, drop, min, vec_len, Some, IfOk, OnErr, is_err, IsTrue, ◌↔◌, Ok};
+ghost use Rattle.std.specs.Prelude.{◌≡◌, ◌<◌, ◌≤◌, [], length, take, min, Some, IfOk, OnErr, is_err, Ok};
 ghost use Rattle.dcc_io.specs.Count.{Rose};
 ghost use Rattle.dcc_io.specs.Told.{WhenTold, prepend_told};
 ghost use Rattle.dcc_io.specs.Memory.{counted, fails_next, listed_calls};
