@@ -1,27 +1,18 @@
 -- The memory of a machine that is started.
-use Rattle.std.proofs.Common.{◌≡◌, ℕ, zero, suc, ◌+◌, ◌-◌, ◌≤◌, ◌^◌, List, [], ◌++◌, length, replicate, take, drop, refl, sym, ap, ◌∙◌, append_assoc, arith, length-append}
+use Rattle.std.proofs.Common.{◌≡◌, ℕ, zero, suc, ◌+◌, ◌-◌, ◌≤◌, ◌^◌, List, [], ◌++◌, length, replicate, take, drop, refl, sym, ap, ◌∙◌, append_assoc, arith, length-append, vec_len}
 use Rattle.std.proofs.lemmas.List.{length-replicate, length-take, length-drop, length-set, take_all}
 use Rattle.std.specs.Prelude.{slice_range}
 use Rattle.dcc_prog.specs.declared.image.Image.{Image}
 use Rattle.dcc_prog.specs.Machine.{loaded_memory}
-use Rattle.dcc_prog.specs.MzImage.{IsLoaded, with_word_at, relocated_image, image_start, image_end, relocation_count}
+use Rattle.dcc_prog.specs.MzImage.{IsLoaded, relocation_count}
+use Rattle.dcc_prog.proofs.MzImageLaws.{length-relocated_image}
 
-length-with_word_at : (bytes : List ℕ) (at word : ℕ) → length (with_word_at bytes at word) ≡ length bytes
-unfolding with_word_at
-length-with_word_at bytes at word = simp length-set
-
-relocated_le : (file : List ℕ) (n : ℕ) → length (relocated_image file n) ≤ length file
-unfolding relocated_image
-relocated_le file zero =
-    omega (arith, length-take (image_end file - image_start file) (drop (image_start file) file), length-drop (image_start file) file)
-relocated_le file (suc n) =
-    let le = relocated_le file n in
-    rw length-with_word_at le
-
--- a load image has at most as many bytes as a file may have
-pub image_le : (image : Image) → IsLoaded image → length image.bytes.items ≤ 262144
-image_le image loaded =
-    omega (arith, ap length loaded.is_image.bytes, relocated_le loaded.file (relocation_count loaded.file), loaded.is_image.good_header.small_enough)
+-- a load image fits into memory
+pub loaded_fits : (image : Image) → IsLoaded image → 0x1100 + vec_len image.bytes ≤ 2 ^ 20
+loaded_fits image loaded =
+    let file = loaded.file in
+    let header = loaded.is_image.good_header in
+    omega (arith, image.bytes.ok.0, ap length loaded.is_image.bytes, length-relocated_image file (relocation_count file) header, header.pages.2, header.small_enough)
 
 no_zeros : (start : ℕ) → take {A = ℕ} start [] ++ replicate {A = ℕ} (start - 0) 0 ≡ replicate start 0
 no_zeros start =
@@ -50,7 +41,7 @@ filled start size bytes none first second third m n empty le em en f s t =
     ∙ ap (λ (l : List ℕ). l ++ replicate (size - (start + length bytes)) 0) front
     ∙ append_assoc (replicate start 0) bytes (replicate (size - (start + length bytes)) 0)
 
-pub memory_is : (bytes none first second third : List ℕ) (m n : ℕ) → none ≡ [] → length bytes ≤ 262144
+pub memory_is : (bytes none first second third : List ℕ) (m n : ℕ) → none ≡ [] → 0x1100 + length bytes ≤ 2 ^ 20
     → m ≡ length none → n ≡ length second
     → first ≡ take 0x1100 none ++ replicate (0x1100 - m) 0
     → second ≡ first ++ bytes

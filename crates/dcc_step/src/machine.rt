@@ -1,8 +1,7 @@
 //! The machine and its state.
 
-ghost use Rattle.std.specs.Prelude.{◌≡◌, ◌<◌, ◌^◌, ℕ, List, [], slice_index, IfOk};
+ghost use Rattle.std.specs.Prelude.{◌≡◌, ◌+◌, ◌<◌, ◌≤◌, ◌^◌, ℕ, List, [], vec_len, slice_index, IfOk};
 ghost use Rattle.dcc_prog.specs.Machine.{start_state, word_in};
-ghost use Rattle.dcc_prog.specs.MzImage.{IsLoaded};
 ghost use Rattle.dcc_step.specs.Core.{with_console, state_of};
 
 use crate::ending::Ending;
@@ -50,7 +49,7 @@ impl Machine {
     /// The machine at the start of a loaded program: memory holds the load image at physical
     /// address 01100h and 0 elsewhere.
     pub fn new(alloc: Global, image: &Image) -> Result<Machine, AllocError>
-        requires { IsLoaded image.now }
+        requires { 0x1100 + vec_len image.now.bytes ≤ 2 ^ 20 }
         ensures { IfOk result (λ machine. (input : List ℕ) → with_console machine input [] ≡ start_state image.now input) }
     {
         let mut memory = Vec::with_capacity(alloc, MEMORY_SIZE)?;
