@@ -13,3 +13,6 @@ mod step;
 
 pub use ending::Stepped;
 pub use machine::Machine;
+
+#[cfg(test)]
+mod tests;
