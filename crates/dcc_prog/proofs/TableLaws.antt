@@ -7,7 +7,7 @@ use Rattle.std.proofs.lemmas.Bool.Decides.{nat_tests}
 use Rattle.dcc_prog.specs.declared.instr.Instr.{Instr}
 use Rattle.dcc_prog.specs.declared.instr.Op.{Op}
 use Rattle.dcc_prog.specs.Operands.{displacement_size, displacement_at, byte_at, word_at, sign_extended}
-use Rattle.dcc_prog.specs.Table.{AtMostOneRowMatches, InstructionIsThatOfItsRow, Range, BytePattern, Row, Parts, in_range, fits_byte, fits, has_bytes, ConstantForm, constant_size, constant_at, row_displacement_size, row_length, matches, row_parts, row_instruction, table, instruction_at, IsRow, no_constant, byte_constant, word_constant, signed_constant}
+use Rattle.dcc_prog.specs.Table.{InstructionHasOneToSixBytes, InstructionDependsOnItsBytes, AtMostOneRowMatches, InstructionIsThatOfItsRow, Range, BytePattern, Row, Parts, in_range, fits_byte, fits, has_bytes, ConstantForm, constant_size, constant_at, row_displacement_size, row_length, matches, row_parts, row_instruction, table, instruction_at, IsRow, no_constant, byte_constant, word_constant, signed_constant}
 
 -- Tests ----------------------------------------------------------------------------------------
 
@@ -172,7 +172,7 @@ unfolding instruction_at
 instruction-of_row offset bytes row at m = rw (find-row bytes row at m)
 
 -- an instruction has one to six bytes, all of which are there
-pub instruction-length : (offset : ℕ) (bytes : List ℕ) (instr : Instr) → instruction_at offset bytes ≡ Some instr → (0 < instr.len) × (instr.len ≤ length bytes) × (instr.len ≤ 6)
+pub instruction-length : InstructionHasOneToSixBytes
 instruction-length offset bytes instr e =
     let r = instruction-row offset bytes instr e in
     let bounds = row_length-bounds r.0 bytes (sized-row r.0 r.1) in
@@ -300,7 +300,7 @@ module _ (row : Row) (xs ys : List ℕ) (is_row : IsRow row) (e : take (row_leng
       (length-same_take (row_length row xs) xs ys e (has_bytes-le (row_length row xs) xs (and_right (fits row.pattern xs) _ m)))))
 
 -- an instruction depends on its own bytes alone
-pub instruction-prefix : (offset : ℕ) (xs ys : List ℕ) (instr : Instr) → instruction_at offset xs ≡ Some instr → take instr.len ys ≡ take instr.len xs → instruction_at offset ys ≡ Some instr
+pub instruction-prefix : InstructionDependsOnItsBytes
 instruction-prefix offset xs ys instr e t =
     let r = instruction-row offset xs instr e in
     let len : row_length r.0 xs ≡ instr.len = ap (λ (i : Instr). i.len) r.3 in

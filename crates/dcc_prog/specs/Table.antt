@@ -1,6 +1,6 @@
 -- The encodings of the 8086 that this project knows, one row for each (8086 Family User's Manual,
 -- table 4-12), and which instruction some bytes are.
-use Rattle.std.specs.Prelude.{◌≡◌, ◌≤◌, ◌↔◌, IsTrue, slice_get, filter, Some, ℕ, ◌+◌, ◌-◌, ◌/◌, ◌%◌, zero, suc, Bool, true, false, if◌then◌else◌, ◌==◌, ◌&&◌, nat_le, List, [], ◌∷◌, ◌++◌, length, get_or, map, find, Option, None, option_map}
+use Rattle.std.specs.Prelude.{◌<◌, take, ◌≡◌, ◌≤◌, ◌↔◌, IsTrue, slice_get, filter, Some, ℕ, ◌+◌, ◌-◌, ◌/◌, ◌%◌, zero, suc, Bool, true, false, if◌then◌else◌, ◌==◌, ◌&&◌, nat_le, List, [], ◌∷◌, ◌++◌, length, get_or, map, find, Option, None, option_map}
 use Rattle.dcc_num.specs.declared.Reg.TheVariants.{Bx, Si, Di}
 use Rattle.dcc_num.specs.declared.Width.TheVariants.{Byte as byte_width, Word as word_width}
 use Rattle.dcc_prog.specs.declared.instr.Alu.{Alu}
@@ -163,12 +163,15 @@ ax = register word_width 0
 abbrev pub accumulator : Parts → Operand
 accumulator parts = register (width_of parts.opcode) 0
 
--- the constant as a byte or a word
+-- the constant as a byte, a word, or by the width bit of the opcode
 abbrev pub imm8 : Parts → Operand
 imm8 parts = Const byte_width parts.constant
 
 abbrev pub imm16 : Parts → Operand
 imm16 parts = Const word_width parts.constant
+
+abbrev pub imm : Parts → Operand
+imm parts = Const (width_of parts.opcode) parts.constant
 
 -- the memory at the offset that the constant gives, by the width bit of the opcode
 abbrev pub direct : Parts → Operand
@@ -179,11 +182,13 @@ direct parts =
 abbrev pub target : Parts → ℕ
 target parts = (parts.next + parts.constant) % 65536
 
--- an operation on r/m and r, or on r and r/m where bit 1 of the opcode is set
-abbrev pub two_operands : (Operand → Operand → Op) → Parts → Op
-two_operands operation parts =
-    if parts.opcode / 2 % 2 == 1 then operation (reg parts) (rm parts)
-    else operation (rm parts) (reg parts)
+-- of an operation on r/m and r: the register is the destination where bit 1 of the opcode is set,
+-- else the source
+abbrev pub destination : Parts → Operand
+destination parts = if parts.opcode / 2 % 2 == 1 then reg parts else rm parts
+
+abbrev pub source : Parts → Operand
+source parts = if parts.opcode / 2 % 2 == 1 then rm parts else reg parts
 
 -- the operation on two operands of a number from 0 to 7
 abbrev pub alu_of : ℕ → Alu
@@ -322,17 +327,17 @@ fixed_row bytes constant operation = record {
 -- ADD, OR, ADC, SBB, AND, SUB, XOR, CMP; TEST
 abbrev pub arithmetic_rows : List Row
 arithmetic_rows =
-    modrm_row (each_eight 0 3) any_modrm no_constant (λ p. two_operands (alu_by_opcode p) p)
+    modrm_row (each_eight 0 3) any_modrm no_constant (λ p. alu_by_opcode p (destination p) (source p))
     ∷ row (each_eight 4 4) byte_constant (λ p. alu_by_opcode p al (imm8 p))
     ∷ row (each_eight 5 5) word_constant (λ p. alu_by_opcode p ax (imm16 p))
     ∷ modrm_row (this_byte 0x80) any_modrm byte_constant (λ p. alu_by_reg p (rm8 p) (imm8 p))
     ∷ modrm_row (this_byte 0x81) any_modrm word_constant (λ p. alu_by_reg p (rm16 p) (imm16 p))
     ∷ modrm_row (this_byte 0x83) any_modrm signed_constant (λ p. alu_by_reg p (rm16 p) (imm16 p))
     ∷ modrm_row (bytes_between 0x84 0x85) any_modrm no_constant (λ p. AluOp Test (rm p) (reg p))
-    ∷ row (this_byte 0xa8) byte_constant (λ p. AluOp Test al (imm8 p))
-    ∷ row (this_byte 0xa9) word_constant (λ p. AluOp Test ax (imm16 p))
-    ∷ modrm_row (this_byte 0xf6) (any_operand 0 0) byte_constant (λ p. AluOp Test (rm8 p) (imm8 p))
-    ∷ modrm_row (this_byte 0xf7) (any_operand 0 0) word_constant (λ p. AluOp Test (rm16 p) (imm16 p))
+    ∷ row (this_byte 0xa8) byte_constant (λ p. AluOp Test (accumulator p) (imm p))
+    ∷ row (this_byte 0xa9) word_constant (λ p. AluOp Test (accumulator p) (imm p))
+    ∷ modrm_row (this_byte 0xf6) (any_operand 0 0) byte_constant (λ p. AluOp Test (rm p) (imm p))
+    ∷ modrm_row (this_byte 0xf7) (any_operand 0 0) word_constant (λ p. AluOp Test (rm p) (imm p))
     ∷ []
 
 -- INC, DEC, NOT, NEG, MUL, IMUL, DIV, IDIV; ROL, ROR, RCL, RCR, SHL, SHR, SAR
@@ -369,7 +374,7 @@ abbrev pub move_rows : List Row
 move_rows =
     modrm_row (bytes_between 0x86 0x87) any_modrm no_constant (λ p. Xchg (rm p) (reg p))
     ∷ row (bytes_between 0x91 0x97) no_constant (λ p. Xchg ax (r16 p))
-    ∷ modrm_row (bytes_between 0x88 0x8b) any_modrm no_constant (λ p. two_operands Mov p)
+    ∷ modrm_row (bytes_between 0x88 0x8b) any_modrm no_constant (λ p. Mov (destination p) (source p))
     ∷ modrm_row (this_byte 0x8c) (register_operand 0 3) no_constant (λ p. Mov (rm16 p) (segment p))
     ∷ modrm_row (this_byte 0x8e) (register_operand 0 0) no_constant (λ p. Mov (segment p) (rm16 p))
     ∷ modrm_row (this_byte 0x8e) (register_operand 2 3) no_constant (λ p. Mov (segment p) (rm16 p))
@@ -378,8 +383,8 @@ move_rows =
     ∷ row (bytes_between 0xa2 0xa3) word_constant (λ p. Mov (direct p) (accumulator p))
     ∷ row (bytes_between 0xb0 0xb7) byte_constant (λ p. Mov (r8 p) (imm8 p))
     ∷ row (bytes_between 0xb8 0xbf) word_constant (λ p. Mov (r16 p) (imm16 p))
-    ∷ modrm_row (this_byte 0xc6) (any_operand 0 0) byte_constant (λ p. Mov (rm8 p) (imm8 p))
-    ∷ modrm_row (this_byte 0xc7) (any_operand 0 0) word_constant (λ p. Mov (rm16 p) (imm16 p))
+    ∷ modrm_row (this_byte 0xc6) (any_operand 0 0) byte_constant (λ p. Mov (rm p) (imm p))
+    ∷ modrm_row (this_byte 0xc7) (any_operand 0 0) word_constant (λ p. Mov (rm p) (imm p))
     ∷ []
 
 -- jumps, calls, returns, INT 21h, and the jump to a word at CS:[SI+iw], CS:[DI+iw] or CS:[BX+iw]
@@ -429,7 +434,7 @@ instruction_at offset bytes =
 
 -- Laws of the table ----------------------------------------------------------------------------
 
--- whether a row of the table is at hand
+-- a row of the table
 abbrev pub IsRow : Row → Type 0
 IsRow row = (k : ℕ) × (slice_get table k ≡ Some row)
 
@@ -449,3 +454,15 @@ InstructionIsThatOfItsRow =
     × (instr.len
     ≡ (length row.pattern + row_displacement_size row bytes)
     + constant_size row.constant_form))
+
+-- an instruction has one to six bytes, all of which are there
+abbrev pub InstructionHasOneToSixBytes : Type 0
+InstructionHasOneToSixBytes =
+    (offset : ℕ) (bytes : List ℕ) (instr : Instr) → instruction_at offset bytes ≡ Some instr
+    → (0 < instr.len) × (instr.len ≤ length bytes) × (instr.len ≤ 6)
+
+-- an instruction depends on its own bytes alone
+abbrev pub InstructionDependsOnItsBytes : Type 0
+InstructionDependsOnItsBytes =
+    (offset : ℕ) (bytes others : List ℕ) (instr : Instr) → instruction_at offset bytes ≡ Some instr
+    → take instr.len others ≡ take instr.len bytes → instruction_at offset others ≡ Some instr

@@ -1,0 +1,25 @@
+//! Laws of the table of encodings. The functions do nothing: their contracts are proved for every
+//! list of bytes.
+
+ghost use Rattle.dcc_prog.specs.Table.{AtMostOneRowMatches, InstructionIsThatOfItsRow, InstructionHasOneToSixBytes, InstructionDependsOnItsBytes};
+
+/// At most one row of the table matches any bytes.
+pub fn one_row_at_most()
+    ensures { AtMostOneRowMatches }
+{}
+
+/// Bytes are an instruction exactly where a row matches them, and then it is that row's. Its length
+/// is that of the opcode and ModRM bytes, the displacement and the constant.
+pub fn instruction_of_row()
+    ensures { InstructionIsThatOfItsRow }
+{}
+
+/// An instruction has one to six bytes, which all lie within the code.
+pub fn length_of_instruction()
+    ensures { InstructionHasOneToSixBytes }
+{}
+
+/// An instruction depends on its own bytes alone.
+pub fn bytes_of_instruction()
+    ensures { InstructionDependsOnItsBytes }
+{}

@@ -1,0 +1,465 @@
+//! The operations by their opcodes (8086 Family User's Manual, table 4-12).
+
+ghost use Rattle.std.specs.Prelude.{◌≡◌, ◌≢◌, ◌≤◌, ◌<◌, ◌⊎◌, Some};
+ghost use Rattle.dcc_prog.specs.Table.{alu_of, condition_of, signed_condition_of, shift_of, unary_of};
+ghost use Rattle.dcc_decode.specs.Reading.{operation_of, parts_of};
+
+use crate::fields::Fields;
+use crate::operand;
+use dcc_num::Width;
+use dcc_prog::{Alu, Cond, Op, Operand, Plain, Shift, Unary};
+
+/// The operation of an instruction with these fields, if it is one that this project knows.
+#[tactic(auto, using(crate::proofs::Rows::operation_rules))]
+pub fn operation(fields: Fields) -> Option<Op>
+    requires { fields.opcode ≢ 0xcd }
+    ensures { result ≡ operation_of (parts_of fields) }
+{
+    match fields.opcode >> 4 {
+        0x0..=0x3 => arithmetic(fields),
+        0x4 => Some(step_register(fields)),
+        0x5 => push_or_pop_register(fields),
+        0x7 => branch(fields),
+        0x8 => operand_operation(fields),
+        0x9 => accumulator_operation(fields),
+        0xa => move_or_test_accumulator(fields),
+        0xb => Some(move_constant(fields)),
+        0xc => move_constant_or_return(fields),
+        0xd => shift_or_translate(fields),
+        0xe => loop_or_jump(fields),
+        0xf => group(fields),
+        _ => None,
+    }
+}
+
+/// The operation on two operands of a number.
+fn alu(number: u8) -> Alu
+    requires { number < 8 }
+    ensures { result ≡ alu_of number }
+{
+    match number {
+        0 => Alu::Add,
+        1 => Alu::Or,
+        2 => Alu::Adc,
+        3 => Alu::Sbb,
+        4 => Alu::And,
+        5 => Alu::Sub,
+        6 => Alu::Xor,
+        _ => Alu::Cmp,
+    }
+}
+
+/// 00 to 3F: ADD, OR, ADC, SBB, AND, SUB, XOR, CMP.
+#[tactic(auto, using(crate::proofs::Rows::arithmetic_rules))]
+fn arithmetic(fields: Fields) -> Option<Op>
+    requires { fields.opcode ≤ 0x3f }
+    ensures { result ≡ operation_of (parts_of fields) }
+{
+    let alu = alu(fields.opcode >> 3);
+    match fields.opcode & 7 {
+        0..=3 => Some(Op::Alu(alu, fields.destination(), fields.source())),
+        4 => Some(Op::Alu(
+            alu,
+            operand::register(Width::Byte, 0),
+            fields.constant_operand(Width::Byte),
+        )),
+        5 => Some(Op::Alu(
+            alu,
+            operand::register(Width::Word, 0),
+            fields.constant_operand(Width::Word),
+        )),
+        _ => None,
+    }
+}
+
+/// 40 to 4F: INC and DEC of a word register.
+#[tactic(auto, using(crate::proofs::Rows::register_rules))]
+fn step_register(fields: Fields) -> Op
+    requires low { 0x40 ≤ fields.opcode }
+    requires high { fields.opcode ≤ 0x4f }
+    ensures { Some result ≡ operation_of (parts_of fields) }
+{
+    let operand = fields.opcode_register(Width::Word);
+    if fields.opcode < 0x48 {
+        Op::Unary(Unary::Inc, operand)
+    } else {
+        Op::Unary(Unary::Dec, operand)
+    }
+}
+
+/// 50 to 5F: PUSH and POP of a word register other than SP.
+#[tactic(auto, using(crate::proofs::Rows::register_rules))]
+fn push_or_pop_register(fields: Fields) -> Option<Op>
+    requires low { 0x50 ≤ fields.opcode }
+    requires high { fields.opcode ≤ 0x5f }
+    ensures { result ≡ operation_of (parts_of fields) }
+{
+    let operand = fields.opcode_register(Width::Word);
+    match fields.opcode {
+        0x54 | 0x5c => None,
+        0x50..=0x57 => Some(Op::Push(operand)),
+        _ => Some(Op::Pop(operand)),
+    }
+}
+
+/// The condition of the opcodes 70 to 79, from 0 on.
+fn condition(number: u8) -> Cond
+    requires { number < 10 }
+    ensures { result ≡ condition_of number }
+{
+    match number {
+        0 => Cond::O,
+        1 => Cond::No,
+        2 => Cond::B,
+        3 => Cond::Ae,
+        4 => Cond::Z,
+        5 => Cond::Nz,
+        6 => Cond::Be,
+        7 => Cond::A,
+        8 => Cond::S,
+        _ => Cond::Ns,
+    }
+}
+
+/// The condition of the opcodes 7C to 7F, from 0 on.
+fn signed_condition(number: u8) -> Cond
+    requires { number < 4 }
+    ensures { result ≡ signed_condition_of number }
+{
+    match number {
+        0 => Cond::L,
+        1 => Cond::Ge,
+        2 => Cond::Le,
+        _ => Cond::G,
+    }
+}
+
+/// 70 to 7F: jumps on a condition other than parity.
+#[tactic(auto, using(crate::proofs::Rows::branch_rules))]
+fn branch(fields: Fields) -> Option<Op>
+    requires low { 0x70 ≤ fields.opcode }
+    requires high { fields.opcode ≤ 0x7f }
+    ensures { result ≡ operation_of (parts_of fields) }
+{
+    let target = fields.target();
+    match fields.opcode {
+        0x70..=0x79 => Some(Op::Branch(condition(fields.opcode - 0x70), target)),
+        0x7c..=0x7f => Some(Op::Branch(signed_condition(fields.opcode - 0x7c), target)),
+        _ => None,
+    }
+}
+
+/// 80 to 83: ADD, OR, ADC, SBB, AND, SUB, XOR, CMP with a constant.
+#[tactic(auto, using(crate::proofs::Rows::operand_rules))]
+fn arithmetic_with_constant(fields: Fields) -> Option<Op>
+    requires low { 0x80 ≤ fields.opcode }
+    requires high { fields.opcode ≤ 0x83 }
+    ensures { result ≡ operation_of (parts_of fields) }
+{
+    let alu = alu(fields.reg_field());
+    match fields.opcode {
+        0x80 => Some(Op::Alu(
+            alu,
+            fields.rm_operand(Width::Byte),
+            fields.constant_operand(Width::Byte),
+        )),
+        0x82 => None,
+        _ => Some(Op::Alu(
+            alu,
+            fields.rm_operand(Width::Word),
+            fields.constant_operand(Width::Word),
+        )),
+    }
+}
+
+/// 80 to 8F: arithmetic with a constant, TEST, XCHG, MOV, LEA, POP.
+#[tactic(auto, using(crate::proofs::Rows::operand_rules))]
+fn operand_operation(fields: Fields) -> Option<Op>
+    requires low { 0x80 ≤ fields.opcode }
+    requires high { fields.opcode ≤ 0x8f }
+    ensures { result ≡ operation_of (parts_of fields) }
+{
+    match fields.opcode {
+        0x80..=0x83 => arithmetic_with_constant(fields),
+        0x84..=0x85 => Some(Op::Alu(
+            Alu::Test,
+            fields.rm_operand(fields.width()),
+            fields.reg_operand(),
+        )),
+        0x86..=0x87 => Some(Op::Xchg(fields.rm_operand(fields.width()), fields.reg_operand())),
+        0x88..=0x8b => Some(Op::Mov(fields.destination(), fields.source())),
+        0x8c | 0x8e => move_segment(fields),
+        0x8d => load_address(fields),
+        0x8f => pop_operand(fields),
+        _ => None,
+    }
+}
+
+/// 8C and 8E: MOV of a word register from ES, CS, SS or DS, and to ES, SS or DS.
+#[tactic(auto, using(crate::proofs::Rows::segment_rules))]
+fn move_segment(fields: Fields) -> Option<Op>
+    requires { (fields.opcode ≡ 0x8c) ⊎ (fields.opcode ≡ 0x8e) }
+    ensures { result ≡ operation_of (parts_of fields) }
+{
+    if fields.mod_field() != 3 {
+        return None;
+    }
+    let number = fields.reg_field();
+    let segment = Operand::Seg(number);
+    let word = fields.rm_operand(Width::Word);
+    match fields.opcode {
+        0x8c if number < 4 => Some(Op::Mov(word, segment)),
+        0x8e if number == 0 || number == 2 || number == 3 => Some(Op::Mov(segment, word)),
+        _ => None,
+    }
+}
+
+/// 8D: LEA, whose operand is in memory.
+#[tactic(auto, using(crate::proofs::Rows::address_rules))]
+fn load_address(fields: Fields) -> Option<Op>
+    requires { fields.opcode ≡ 0x8d }
+    ensures { result ≡ operation_of (parts_of fields) }
+{
+    if fields.mod_field() == 3 {
+        return None;
+    }
+    let register = operand::word_register(fields.reg_field());
+    Some(Op::Lea(register, fields.address()))
+}
+
+/// 8F /0: POP of an operand other than SP.
+#[tactic(auto, using(crate::proofs::Rows::pop_rules))]
+fn pop_operand(fields: Fields) -> Option<Op>
+    requires { fields.opcode ≡ 0x8f }
+    ensures { result ≡ operation_of (parts_of fields) }
+{
+    if fields.reg_field() != 0 || fields.names_sp() {
+        return None;
+    }
+    Some(Op::Pop(fields.rm_operand(Width::Word)))
+}
+
+/// 90 to 9F: NOP, XCHG with AX, CBW, CWD.
+#[tactic(auto, using(crate::proofs::Rows::accumulator_rules))]
+fn accumulator_operation(fields: Fields) -> Option<Op>
+    requires low { 0x90 ≤ fields.opcode }
+    requires high { fields.opcode ≤ 0x9f }
+    ensures { result ≡ operation_of (parts_of fields) }
+{
+    match fields.opcode {
+        0x90 => Some(Op::Plain(Plain::Nop)),
+        0x91..=0x97 => Some(Op::Xchg(
+            operand::register(Width::Word, 0),
+            fields.opcode_register(Width::Word),
+        )),
+        0x98 => Some(Op::Plain(Plain::Cbw)),
+        0x99 => Some(Op::Plain(Plain::Cwd)),
+        _ => None,
+    }
+}
+
+/// A0 to AF: MOV between AL or AX and memory, TEST of AL or AX with a constant.
+#[tactic(auto, using(crate::proofs::Rows::direct_rules))]
+fn move_or_test_accumulator(fields: Fields) -> Option<Op>
+    requires low { 0xa0 ≤ fields.opcode }
+    requires high { fields.opcode ≤ 0xaf }
+    ensures { result ≡ operation_of (parts_of fields) }
+{
+    let accumulator = operand::register(fields.width(), 0);
+    match fields.opcode {
+        0xa0..=0xa1 => Some(Op::Mov(accumulator, fields.direct_operand())),
+        0xa2..=0xa3 => Some(Op::Mov(fields.direct_operand(), accumulator)),
+        0xa8..=0xa9 => Some(Op::Alu(
+            Alu::Test,
+            accumulator,
+            fields.constant_operand(fields.width()),
+        )),
+        _ => None,
+    }
+}
+
+/// B0 to BF: MOV of a constant into a register.
+#[tactic(auto, using(crate::proofs::Rows::constant_rules))]
+fn move_constant(fields: Fields) -> Op
+    requires low { 0xb0 ≤ fields.opcode }
+    requires high { fields.opcode ≤ 0xbf }
+    ensures { Some result ≡ operation_of (parts_of fields) }
+{
+    let width = if fields.opcode < 0xb8 {
+        Width::Byte
+    } else {
+        Width::Word
+    };
+    Op::Mov(
+        fields.opcode_register(width),
+        fields.constant_operand(width),
+    )
+}
+
+/// C0 to CF: RET, and MOV of a constant.
+#[tactic(auto, using(crate::proofs::Rows::return_rules))]
+fn move_constant_or_return(fields: Fields) -> Option<Op>
+    requires low { 0xc0 ≤ fields.opcode }
+    requires high { fields.opcode ≤ 0xcf }
+    requires other { fields.opcode ≢ 0xcd }
+    ensures { result ≡ operation_of (parts_of fields) }
+{
+    match fields.opcode {
+        0xc2 => Some(Op::Ret(fields.constant)),
+        0xc3 => Some(Op::Ret(0)),
+        0xc6..=0xc7 if fields.reg_field() == 0 => Some(Op::Mov(
+            fields.rm_operand(fields.width()),
+            fields.constant_operand(fields.width()),
+        )),
+        _ => None,
+    }
+}
+
+/// The shift or rotate of a number other than 6.
+fn shift(number: u8) -> Shift
+    requires { number < 8 }
+    ensures { result ≡ shift_of number }
+{
+    match number {
+        0 => Shift::Rol,
+        1 => Shift::Ror,
+        2 => Shift::Rcl,
+        3 => Shift::Rcr,
+        4 => Shift::Shl,
+        5 => Shift::Shr,
+        _ => Shift::Sar,
+    }
+}
+
+/// D0 to DF: shifts and rotates, XLAT.
+#[tactic(auto, using(crate::proofs::Rows::translate_rules))]
+fn shift_or_translate(fields: Fields) -> Option<Op>
+    requires low { 0xd0 ≤ fields.opcode }
+    requires high { fields.opcode ≤ 0xdf }
+    ensures { result ≡ operation_of (parts_of fields) }
+{
+    match fields.opcode {
+        0xd0..=0xd1 => shift_by_one(fields),
+        0xd2..=0xd3 => shift_by_cl(fields),
+        0xd7 => Some(Op::Plain(Plain::Xlat)),
+        _ => None,
+    }
+}
+
+/// D0 and D1: shifts and rotates by 1.
+#[tactic(auto, using(crate::proofs::Rows::shift_rules))]
+fn shift_by_one(fields: Fields) -> Option<Op>
+    requires low { 0xd0 ≤ fields.opcode }
+    requires high { fields.opcode ≤ 0xd1 }
+    ensures { result ≡ operation_of (parts_of fields) }
+{
+    match fields.reg_field() {
+        6 => None,
+        number => {
+            let operand = fields.rm_operand(fields.width());
+            Some(Op::Shift(shift(number), operand, false))
+        }
+    }
+}
+
+/// D2 and D3: shifts and rotates by CL, but RCL and RCR.
+#[tactic(auto, using(crate::proofs::Rows::shift_rules))]
+fn shift_by_cl(fields: Fields) -> Option<Op>
+    requires low { 0xd2 ≤ fields.opcode }
+    requires high { fields.opcode ≤ 0xd3 }
+    ensures { result ≡ operation_of (parts_of fields) }
+{
+    match fields.reg_field() {
+        2 | 3 | 6 => None,
+        number => {
+            let operand = fields.rm_operand(fields.width());
+            Some(Op::Shift(shift(number), operand, true))
+        }
+    }
+}
+
+/// E0 to EF: LOOPNE, LOOPE, LOOP, JCXZ, CALL, JMP.
+#[tactic(auto, using(crate::proofs::Rows::jump_rules))]
+fn loop_or_jump(fields: Fields) -> Option<Op>
+    requires low { 0xe0 ≤ fields.opcode }
+    requires high { fields.opcode ≤ 0xef }
+    ensures { result ≡ operation_of (parts_of fields) }
+{
+    let target = fields.target();
+    match fields.opcode {
+        0xe0 => Some(Op::LoopNe(target)),
+        0xe1 => Some(Op::LoopE(target)),
+        0xe2 => Some(Op::Loop(target)),
+        0xe3 => Some(Op::Jcxz(target)),
+        0xe8 => Some(Op::Call(target)),
+        0xe9 | 0xeb => Some(Op::Jump(target)),
+        _ => None,
+    }
+}
+
+/// F0 to FF: flags, and the groups that the field reg names.
+#[tactic(auto, using(crate::proofs::Rows::group_rules))]
+fn group(fields: Fields) -> Option<Op>
+    requires { 0xf0 ≤ fields.opcode }
+    ensures { result ≡ operation_of (parts_of fields) }
+{
+    match fields.opcode {
+        0xf5 => Some(Op::Plain(Plain::Cmc)),
+        0xf6..=0xf7 => test_or_unary(fields),
+        0xf8 => Some(Op::Plain(Plain::Clc)),
+        0xf9 => Some(Op::Plain(Plain::Stc)),
+        0xfa => Some(Op::Plain(Plain::Cli)),
+        0xfb => Some(Op::Plain(Plain::Sti)),
+        0xfc => Some(Op::Plain(Plain::Cld)),
+        0xfe..=0xff => step_or_push(fields),
+        _ => None,
+    }
+}
+
+/// The operation of F6 and F7 of a number from 2 to 7.
+fn unary(number: u8) -> Unary
+    requires low { 2 ≤ number }
+    requires high { number < 8 }
+    ensures { result ≡ unary_of number }
+{
+    match number {
+        2 => Unary::Not,
+        3 => Unary::Neg,
+        4 => Unary::Mul,
+        5 => Unary::Imul,
+        6 => Unary::Div,
+        _ => Unary::Idiv,
+    }
+}
+
+/// F6 and F7: TEST with a constant, NOT, NEG, MUL, IMUL, DIV, IDIV.
+#[tactic(auto, using(crate::proofs::Rows::unary_rules))]
+fn test_or_unary(fields: Fields) -> Option<Op>
+    requires low { 0xf6 ≤ fields.opcode }
+    requires high { fields.opcode ≤ 0xf7 }
+    ensures { result ≡ operation_of (parts_of fields) }
+{
+    let operand = fields.rm_operand(fields.width());
+    match fields.reg_field() {
+        0 => Some(Op::Alu(Alu::Test, operand, fields.constant_operand(fields.width()))),
+        1 => None,
+        number => Some(Op::Unary(unary(number), operand)),
+    }
+}
+
+/// FE and FF: INC, DEC; PUSH of a word operand other than SP.
+#[tactic(auto, using(crate::proofs::Rows::step_rules))]
+fn step_or_push(fields: Fields) -> Option<Op>
+    requires { 0xfe ≤ fields.opcode }
+    ensures { result ≡ operation_of (parts_of fields) }
+{
+    let operand = fields.rm_operand(fields.width());
+    match fields.reg_field() {
+        0 => Some(Op::Unary(Unary::Inc, operand)),
+        1 => Some(Op::Unary(Unary::Dec, operand)),
+        6 if fields.opcode == 0xff && !fields.names_sp() => {
+            Some(Op::Push(fields.rm_operand(Width::Word)))
+        }
+        _ => None,
+    }
+}
