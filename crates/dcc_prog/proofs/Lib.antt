@@ -2,3 +2,4 @@ pub mod TableLaws
 pub mod StepLaws
 pub mod FetchLaws
 pub mod MzImageLaws
+pub mod ConsoleLaws

@@ -1,55 +1,61 @@
 -- Laws of the machine's steps.
-use Rattle.std.proofs.Common.{◌≡◌, ℕ, ◌+◌, ◌/◌, ◌%◌, Bool, true, false, List, [], ◌∷◌, ◌++◌, Option, Some, None, refl, sym, ap, subst}
+use Rattle.std.proofs.Common.{◌≡◌, ◌≢◌, ℕ, ◌+◌, ◌/◌, ◌%◌, Bool, true, false, List, [], ◌∷◌, ◌++◌, Option, Some, None, refl, sym, ap, subst}
 use Rattle.std.specs.Prelude.{if◌then◌else◌, ◌==◌}
 use Rattle.dcc_run.specs.End.{Exit, Outside, is_over}
 use Rattle.dcc_run.specs.Prefix.{IsPrefix}
 use Rattle.dcc_run.specs.System.{IsLawful}
 use Rattle.dcc_run.proofs.PrefixLaws.{prefix_refl, prefix_append}
-use Rattle.dcc_num.specs.declared.Width.{Width}
-use Rattle.dcc_num.specs.declared.Flags.{Flags}
-use Rattle.dcc_num.specs.Sum.{sum_of, difference_of}
-use Rattle.dcc_num.specs.declared.Width.TheVariants.{Byte as byte_width, Word as word_width}
 use Rattle.dcc_num.specs.declared.Reg.TheVariants.{Ax, Dx}
-use Rattle.dcc_prog.specs.declared.instr.Alu.{Alu}
-use Rattle.dcc_prog.specs.declared.instr.Alu.TheVariants.{Add, Sub}
-use Rattle.dcc_prog.specs.declared.instr.Operand.{Operand}
-use Rattle.dcc_prog.specs.declared.instr.Operand.TheVariants.{Word, Byte, Seg, Mem, Const}
 use Rattle.dcc_prog.specs.declared.instr.Op.{Op}
-use Rattle.dcc_prog.specs.declared.instr.Op.TheVariants.{Alu as AluOp, Mov, Int21}
+use Rattle.dcc_prog.specs.declared.instr.Op.TheVariants.{Alu, Unary, Shift, Mov, Xchg, Lea, Push, Pop, Plain, Jump, Branch, Loop, LoopE, LoopNe, Jcxz, Table, Call, Ret, Int21}
 use Rattle.dcc_prog.specs.declared.instr.Instr.{Instr}
 use Rattle.dcc_prog.specs.Table.{instruction_at}
-use Rattle.dcc_prog.specs.Machine.{State, word_in, operand_value, operand_width, with_operand}
-use Rattle.dcc_prog.specs.Step.{code_bytes, ended, with_result, alu_step, dos_step, op_step, instruction_step, step, machine_system}
+use Rattle.dcc_prog.specs.Machine.{State, word_in}
+use Rattle.dcc_prog.specs.Dos.{dos_step, dos_string, key_step, with_key, written}
+use Rattle.dcc_prog.specs.Operations.{ended}
+use Rattle.dcc_prog.specs.Step.{code_bytes, op_step, instruction_step, step, machine_system}
+use Rattle.dcc_prog.proofs.ConsoleLaws.{op-keeps_out}
 
--- an operand that takes a value leaves the output
-operand-grows : (s : State) (operand : Operand) (v : ℕ) → IsPrefix s.out (with_operand s operand v).out
-operand-grows s (Word r) v = prefix_refl s.out
-operand-grows s (Byte r half) v = prefix_refl s.out
-operand-grows s (Seg number) v = prefix_refl s.out
-operand-grows s (Mem byte_width ea) v = prefix_refl s.out
-operand-grows s (Mem word_width ea) v = prefix_refl s.out
-operand-grows s (Const width c) v = prefix_refl s.out
+key-grows : (echo : Bool) (input : List ℕ) (s : State) → IsPrefix s.out (with_key echo input s).out
+key-grows echo [] s = prefix_refl s.out
+key-grows echo (byte ∷ rest) s = prefix_append s.out (if echo then byte ∷ [] else [])
 
-result-grows : (operand : Operand) (result : ℕ × Flags) (s : State) → IsPrefix s.out (with_result operand result s).out
-result-grows operand result s = operand-grows (record s { flags = result.1 }) operand result.0
-
-alu-grows : (operation : Alu) (width : Width) (operand : Operand) (a b at : ℕ) (s : State) → IsPrefix s.out (alu_step operation width operand a b at s).out
-alu-grows Add width operand a b at s = result-grows operand (sum_of width a b false) s
-alu-grows Sub width operand a b at s = result-grows operand (difference_of width a b false) s
-alu-grows _ width operand a b at s = prefix_refl s.out
+-- one of two states
+either-grows : (b : Bool) (s t u : State) → IsPrefix s.out t.out → IsPrefix s.out u.out → IsPrefix s.out (if b then t else u).out
+either-grows true s t u p q = p
+either-grows false s t u p q = q
 
 dos-grows : (number at : ℕ) (s : State) → IsPrefix s.out (dos_step number at s).out
 dos-grows number at s =
-    elim (number == 0x02) as (λ b. IsPrefix s.out (if b then record s { out = s.out ++ word_in s Dx % 256 ∷ [] } else (if number == 0x4C then ended (Exit (word_in s Ax % 256)) at s else ended (Outside at) at s)).out) [
-      | true ↦ prefix_append s.out (word_in s Dx % 256 ∷ [])
-      | false ↦ elim (number == 0x4C) as (λ b. IsPrefix s.out (if b then ended (Exit (word_in s Ax % 256)) at s else ended (Outside at) at s).out) [ true ↦ prefix_refl s.out | false ↦ prefix_refl s.out ]
-    ]
+    either-grows (number == 0x02) s _ _ (prefix_append s.out (word_in s Dx % 256 ∷ []))
+    (either-grows (number == 0x4C) s _ _ (prefix_refl s.out)
+    (either-grows (number == 0x01) s _ _ (key-grows true s.input s)
+    (either-grows (number == 0x08) s _ _ (key-grows false s.input s)
+    (either-grows (number == 0x09) s _ _ (prefix_append s.out (dos_string s)) (prefix_refl s.out)))))
+
+quiet-grows : (op : Op) (at : ℕ) (s : State) → op ≢ Int21 → IsPrefix s.out (op_step op at s).out
+quiet-grows op at s other = subst (λ l. IsPrefix s.out l) (sym (op-keeps_out op at other s)) (prefix_refl s.out)
 
 op-grows : (op : Op) (at : ℕ) (s : State) → IsPrefix s.out (op_step op at s).out
-op-grows (Mov to from) at s = operand-grows s to (operand_value s from)
-op-grows (AluOp operation a b) at s = alu-grows operation (operand_width a) a (operand_value s a) (operand_value s b) at s
+op-grows (Alu operation a b) at s = quiet-grows (Alu operation a b) at s (λ e. cc)
+op-grows (Unary operation a) at s = quiet-grows (Unary operation a) at s (λ e. cc)
+op-grows (Shift shift a by_cl) at s = quiet-grows (Shift shift a by_cl) at s (λ e. cc)
+op-grows (Mov to from) at s = quiet-grows (Mov to from) at s (λ e. cc)
+op-grows (Xchg a b) at s = quiet-grows (Xchg a b) at s (λ e. cc)
+op-grows (Lea r ea) at s = prefix_refl s.out
+op-grows (Push a) at s = prefix_refl s.out
+op-grows (Pop a) at s = quiet-grows (Pop a) at s (λ e. cc)
+op-grows (Plain operation) at s = quiet-grows (Plain operation) at s (λ e. cc)
+op-grows (Jump target) at s = prefix_refl s.out
+op-grows (Branch condition target) at s = prefix_refl s.out
+op-grows (Loop target) at s = prefix_refl s.out
+op-grows (LoopE target) at s = prefix_refl s.out
+op-grows (LoopNe target) at s = prefix_refl s.out
+op-grows (Jcxz target) at s = prefix_refl s.out
+op-grows (Table r offset) at s = prefix_refl s.out
+op-grows (Call target) at s = prefix_refl s.out
+op-grows (Ret count) at s = prefix_refl s.out
 op-grows Int21 at s = dos-grows (word_in s Ax / 256) at s
-op-grows _ at s = prefix_refl s.out
 
 instruction-grows : (found : Option Instr) (s : State) → IsPrefix s.out (instruction_step found s).out
 instruction-grows None s = prefix_refl s.out

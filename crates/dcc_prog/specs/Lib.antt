@@ -1,6 +1,9 @@
 pub mod Machine
+pub mod Operations
+pub mod Dos
 pub mod Step
 pub mod MzImage
 pub mod Operands
 pub mod Table
+pub mod WellFormed
 pub mod Code

@@ -1,19 +1,15 @@
 -- One step of the machine, and its runs.
-use Rattle.std.specs.Prelude.{ℕ, false, ◌+◌, ◌/◌, ◌%◌, ◌==◌, if◌then◌else◌, List, [], ◌∷◌, ◌++◌, Option, Some, None}
-use Rattle.dcc_run.specs.End.{End, Exit, Outside, is_over}
+use Rattle.std.specs.Prelude.{ℕ, true, not, ◌+◌, ◌%◌, ◌==◌, if◌then◌else◌, List, [], ◌∷◌, Option, Some, None}
+use Rattle.dcc_run.specs.End.{Outside, is_over}
 use Rattle.dcc_run.specs.System.{System}
-use Rattle.dcc_num.specs.declared.Width.{Width}
-use Rattle.dcc_num.specs.declared.Reg.TheVariants.{Ax, Dx}
-use Rattle.dcc_num.specs.declared.Flags.{Flags}
-use Rattle.dcc_num.specs.Sum.{sum_of, difference_of}
-use Rattle.dcc_prog.specs.declared.instr.Alu.{Alu}
-use Rattle.dcc_prog.specs.declared.instr.Alu.TheVariants.{Add, Sub}
-use Rattle.dcc_prog.specs.declared.instr.Operand.{Operand}
+use Rattle.dcc_num.specs.declared.Reg.TheVariants.{Cx}
 use Rattle.dcc_prog.specs.declared.instr.Op.{Op}
-use Rattle.dcc_prog.specs.declared.instr.Op.TheVariants.{Alu as AluOp, Mov, Int21}
+use Rattle.dcc_prog.specs.declared.instr.Op.TheVariants.{Alu, Unary, Shift, Mov, Xchg, Lea, Push, Pop, Plain, Jump, Branch, Loop, LoopE, LoopNe, Jcxz, Table, Call, Ret, Int21}
 use Rattle.dcc_prog.specs.declared.instr.Instr.{Instr}
 use Rattle.dcc_prog.specs.Table.{instruction_at}
-use Rattle.dcc_prog.specs.Machine.{State, word_in, code_segment, byte_in, operand_value, with_operand, operand_width}
+use Rattle.dcc_prog.specs.Machine.{State, word_in, code_segment, byte_in, operand_value, operand_width}
+pub use Rattle.dcc_prog.specs.Operations.{ended, with_flags, with_result, with_al, mov_step, xchg_step, lea_step, alu_step, unary_step, shift_step, push_step, pop_step, jumped, jumped_if, holds, loop_step, table_step, call_step, ret_step, plain_step}
+pub use Rattle.dcc_prog.specs.Dos.{dos_step, dos_call}
 
 -- the byte at so many bytes behind the instruction pointer, whose offset wraps
 abbrev pub code_byte : State → ℕ → ℕ
@@ -24,32 +20,28 @@ abbrev pub code_bytes : State → List ℕ
 code_bytes s =
     code_byte s 0 ∷ code_byte s 1 ∷ code_byte s 2 ∷ code_byte s 3 ∷ code_byte s 4 ∷ code_byte s 5 ∷ []
 
--- the run ends at the instruction at this offset
-abbrev pub ended : End → ℕ → State → State
-ended end at s = record s { ip = at; end = end }
-
--- an operand takes a result, and the flags are set with it
-abbrev pub with_result : Operand → ℕ × Flags → State → State
-with_result operand result s = with_operand (record s { flags = result.1 }) operand result.0
-
--- an operation on two numbers
-abbrev pub alu_step : Alu → Width → Operand → ℕ → ℕ → ℕ → State → State
-alu_step Add width operand a b at s = with_result operand (sum_of width a b false) s
-alu_step Sub width operand a b at s = with_result operand (difference_of width a b false) s
-alu_step _ width operand a b at s = ended (Outside at) at s
-
--- INT 21h with the number in AH: 02h writes DL, and 4Ch ends the run with the exit code in AL
-abbrev pub dos_step : ℕ → ℕ → State → State
-dos_step number at s =
-    if number == 0x02 then record s { out = s.out ++ word_in s Dx % 256 ∷ [] } else (if number == 0x4C then ended (Exit (word_in s Ax % 256)) at s else ended (Outside at) at s)
-
 -- an operation of the instruction at this offset, with the instruction pointer behind it
 abbrev pub op_step : Op → ℕ → State → State
-op_step (Mov to from) at s = with_operand s to (operand_value s from)
-op_step (AluOp operation a b) at s =
-    alu_step operation (operand_width a) a (operand_value s a) (operand_value s b) at s
-op_step Int21 at s = dos_step (word_in s Ax / 256) at s
-op_step _ at s = ended (Outside at) at s
+op_step (Alu operation a b) at s =
+    alu_step operation (operand_width a) a (operand_value s a) (operand_value s b) s
+op_step (Unary operation a) at s = unary_step operation (operand_width a) a (operand_value s a) at s
+op_step (Shift operation a by_cl) at s = shift_step operation a by_cl s
+op_step (Mov to from) at s = mov_step to from s
+op_step (Xchg a b) at s = xchg_step a b s
+op_step (Lea r ea) at s = lea_step r ea s
+op_step (Push a) at s = push_step a s
+op_step (Pop a) at s = pop_step a s
+op_step (Plain operation) at s = plain_step operation s
+op_step (Jump target) at s = jumped target s
+op_step (Branch condition target) at s = jumped_if (holds condition s.flags) target s
+op_step (Loop target) at s = loop_step true target s
+op_step (LoopE target) at s = loop_step s.flags.zf target s
+op_step (LoopNe target) at s = loop_step (not s.flags.zf) target s
+op_step (Jcxz target) at s = jumped_if (word_in s Cx == 0) target s
+op_step (Table r offset) at s = table_step r offset s
+op_step (Call target) at s = call_step target s
+op_step (Ret count) at s = ret_step count s
+op_step Int21 at s = dos_call at s
 
 -- the instruction that was found, or an end where the table has none
 abbrev pub instruction_step : Option Instr → State → State

@@ -1,0 +1,171 @@
+-- Every operation but a DOS call leaves the console as it is, whatever stands on it.
+use Rattle.std.proofs.Common.{◌≡◌, ◌≢◌, ℕ, ◌+◌, ◌%◌, Bool, List, Option, Some, None, refl, ap, ◌∙◌}
+use Rattle.dcc_num.specs.declared.Width.{Width}
+use Rattle.dcc_num.specs.declared.Width.TheVariants.{Byte as byte_width, Word as word_width}
+use Rattle.dcc_num.specs.declared.Reg.{Reg}
+use Rattle.dcc_num.specs.declared.Flags.{Flags}
+use Rattle.dcc_num.specs.Product.{product_of, signed_product_of}
+use Rattle.dcc_num.specs.Quotient.{division_of, signed_division_of}
+use Rattle.dcc_prog.specs.declared.instr.Alu.{Alu as AluKind}
+use Rattle.dcc_prog.specs.declared.instr.Alu.TheVariants.{Add, Or, Adc, Sbb, And, Sub, Xor, Cmp, Test}
+use Rattle.dcc_prog.specs.declared.instr.Unary.{Unary as UnaryKind}
+use Rattle.dcc_prog.specs.declared.instr.Unary.TheVariants.{Inc, Dec, Neg, Not, Mul, Imul, Div, Idiv}
+use Rattle.dcc_prog.specs.declared.instr.Shift.{Shift as ShiftKind}
+use Rattle.dcc_prog.specs.declared.instr.Plain.{Plain as PlainKind}
+use Rattle.dcc_prog.specs.declared.instr.Plain.TheVariants.{Nop, Cbw, Cwd, Xlat, Clc, Stc, Cmc, Cli, Sti, Cld}
+use Rattle.dcc_prog.specs.declared.instr.Operand.{Operand}
+use Rattle.dcc_prog.specs.declared.instr.Operand.TheVariants.{Word, Byte, Seg, Mem, Const}
+use Rattle.dcc_prog.specs.declared.instr.Ea.{Ea}
+use Rattle.dcc_prog.specs.declared.instr.Op.{Op}
+use Rattle.dcc_prog.specs.declared.instr.Op.TheVariants.{Alu, Unary, Shift, Mov, Xchg, Lea, Push, Pop, Plain, Jump, Branch, Loop, LoopE, LoopNe, Jcxz, Table, Call, Ret, Int21}
+use Rattle.dcc_prog.specs.Machine.{State, part_of, offset_of, segment_of, byte_in, word_at_offset, with_byte_in, with_word_at_offset, operand_value, operand_width, with_operand, with_word_in}
+use Rattle.dcc_prog.specs.Operations.{with_flags, with_result, alu_step, accumulator_in, upper_in, with_product, with_division, unary_step, shift_step, count_in, shifted, pushed, top_word, with_sp_raised, plain_step}
+use Rattle.dcc_prog.specs.Step.{op_step}
+
+-- a state with another console
+abbrev pub with_console_of : List ℕ → List ℕ → State → State
+with_console_of input out s = record s { input = input; out = out }
+
+-- it does the same to the rest of the state beside any console, and leaves that
+abbrev pub KeepsConsole : (State → State) → Type 0
+KeepsConsole f = (input out : List ℕ) (s : State) → f (with_console_of input out s) ≡ with_console_of input out (f s)
+
+part-keeps : (input out : List ℕ) (s : State) (part : Option Reg) → part_of (with_console_of input out s) part ≡ part_of s part
+part-keeps input out s None = refl
+part-keeps input out s (Some r) = refl
+
+offset-keeps : (input out : List ℕ) (s : State) (ea : Ea) → offset_of (with_console_of input out s) ea ≡ offset_of s ea
+offset-keeps input out s ea =
+    ap (λ n. (n + part_of (with_console_of input out s) ea.index + ea.disp) % 65536) (part-keeps input out s ea.base)
+    ∙ ap (λ n. (part_of s ea.base + n + ea.disp) % 65536) (part-keeps input out s ea.index)
+
+-- what an operand holds
+pub value-keeps : (input out : List ℕ) (s : State) (x : Operand) → operand_value (with_console_of input out s) x ≡ operand_value s x
+value-keeps input out s (Word r) = refl
+value-keeps input out s (Byte r half) = refl
+value-keeps input out s (Seg number) = refl
+value-keeps input out s (Mem byte_width ea) = ap (λ n. byte_in s (segment_of s ea) n) (offset-keeps input out s ea)
+value-keeps input out s (Mem word_width ea) =
+    ap (λ n. word_at_offset s (segment_of s ea) n) (offset-keeps input out s ea)
+value-keeps input out s (Const width c) = refl
+
+-- an operand takes a value
+pub operand-keeps : (x : Operand) (v : ℕ) → KeepsConsole (λ s. with_operand s x v)
+operand-keeps (Word r) v input out s = refl
+operand-keeps (Byte r half) v input out s = refl
+operand-keeps (Seg number) v input out s = refl
+operand-keeps (Mem byte_width ea) v input out s =
+    ap (λ n. with_console_of input out (with_byte_in s (segment_of s ea) n v)) (offset-keeps input out s ea)
+operand-keeps (Mem word_width ea) v input out s =
+    ap (λ n. with_console_of input out (with_word_at_offset s (segment_of s ea) n v)) (offset-keeps input out s ea)
+operand-keeps (Const width c) v input out s = refl
+
+result-keeps : (x : Operand) (result : ℕ × Flags) → KeepsConsole (with_result x result)
+result-keeps x result input out s = operand-keeps x result.0 input out (with_flags result.1 s)
+
+alu-keeps : (operation : AluKind) (w : Width) (x : Operand) (a b : ℕ) → KeepsConsole (alu_step operation w x a b)
+alu-keeps Add w x a b input out s = result-keeps x _ input out s
+alu-keeps Or w x a b input out s = result-keeps x _ input out s
+alu-keeps Adc w x a b input out s = result-keeps x _ input out s
+alu-keeps Sbb w x a b input out s = result-keeps x _ input out s
+alu-keeps And w x a b input out s = result-keeps x _ input out s
+alu-keeps Sub w x a b input out s = result-keeps x _ input out s
+alu-keeps Xor w x a b input out s = result-keeps x _ input out s
+alu-keeps Cmp w x a b input out s = refl
+alu-keeps Test w x a b input out s = refl
+
+product-keeps : (w : Width) (product : ℕ × ℕ × Flags) → KeepsConsole (with_product w product)
+product-keeps byte_width product input out s = refl
+product-keeps word_width product input out s = refl
+
+division-keeps : (w : Width) (at : ℕ) (division : Option (ℕ × ℕ)) → KeepsConsole (with_division w at division)
+division-keeps w at None input out s = refl
+division-keeps byte_width at (Some division) input out s = refl
+division-keeps word_width at (Some division) input out s = refl
+
+accumulator-keeps : (w : Width) (input out : List ℕ) (s : State) → accumulator_in w (with_console_of input out s) ≡ accumulator_in w s
+accumulator-keeps byte_width input out s = refl
+accumulator-keeps word_width input out s = refl
+
+upper-keeps : (w : Width) (input out : List ℕ) (s : State) → upper_in w (with_console_of input out s) ≡ upper_in w s
+upper-keeps byte_width input out s = refl
+upper-keeps word_width input out s = refl
+
+unary-keeps : (operation : UnaryKind) (w : Width) (x : Operand) (a at : ℕ) → KeepsConsole (unary_step operation w x a at)
+unary-keeps Inc w x a at input out s = result-keeps x _ input out s
+unary-keeps Dec w x a at input out s = result-keeps x _ input out s
+unary-keeps Neg w x a at input out s = result-keeps x _ input out s
+unary-keeps Not w x a at input out s = operand-keeps x _ input out s
+unary-keeps Mul w x a at input out s =
+    product-keeps w _ input out s
+    ∙ ap (λ n. with_console_of input out (with_product w (product_of w n a) s)) (accumulator-keeps w input out s)
+unary-keeps Imul w x a at input out s =
+    product-keeps w _ input out s
+    ∙ ap (λ n. with_console_of input out (with_product w (signed_product_of w n a) s)) (accumulator-keeps w input out s)
+unary-keeps Div w x a at input out s =
+    let t = with_console_of input out s in
+    division-keeps w at (division_of w (upper_in w t) (accumulator_in w t) a) input out s
+    ∙ ap (λ n. with_console_of input out (with_division w at (division_of w n (accumulator_in w t) a) s)) (upper-keeps w input out s)
+    ∙ ap (λ n. with_console_of input out (with_division w at (division_of w (upper_in w s) n a) s)) (accumulator-keeps w input out s)
+unary-keeps Idiv w x a at input out s =
+    let t = with_console_of input out s in
+    division-keeps w at (signed_division_of w (upper_in w t) (accumulator_in w t) a) input out s
+    ∙ ap (λ n. with_console_of input out (with_division w at (signed_division_of w n (accumulator_in w t) a) s)) (upper-keeps w input out s)
+    ∙ ap (λ n. with_console_of input out (with_division w at (signed_division_of w (upper_in w s) n a) s)) (accumulator-keeps w input out s)
+
+shift-keeps : (shift : ShiftKind) (x : Operand) (by_cl : Bool) → KeepsConsole (shift_step shift x by_cl)
+shift-keeps shift x by_cl input out s =
+    result-keeps x _ input out s
+    ∙ ap (λ n. with_console_of input out (with_result x (shifted shift (operand_width x) n (count_in by_cl s) s.flags) s)) (value-keeps input out s x)
+
+plain-keeps : (operation : PlainKind) → KeepsConsole (plain_step operation)
+plain-keeps Nop input out s = refl
+plain-keeps Cbw input out s = refl
+plain-keeps Cwd input out s = refl
+plain-keeps Xlat input out s = refl
+plain-keeps Clc input out s = refl
+plain-keeps Stc input out s = refl
+plain-keeps Cmc input out s = refl
+plain-keeps Cli input out s = refl
+plain-keeps Sti input out s = refl
+plain-keeps Cld input out s = refl
+
+-- every operation but INT 21h
+pub op-keeps : (op : Op) (at : ℕ) → op ≢ Int21 → KeepsConsole (op_step op at)
+op-keeps (Alu operation a b) at other input out s =
+    alu-keeps operation (operand_width a) a _ _ input out s
+    ∙ ap (λ n. with_console_of input out (alu_step operation (operand_width a) a n (operand_value (with_console_of input out s) b) s)) (value-keeps input out s a)
+    ∙ ap (λ n. with_console_of input out (alu_step operation (operand_width a) a (operand_value s a) n s)) (value-keeps input out s b)
+op-keeps (Unary operation a) at other input out s =
+    unary-keeps operation (operand_width a) a _ at input out s
+    ∙ ap (λ n. with_console_of input out (unary_step operation (operand_width a) a n at s)) (value-keeps input out s a)
+op-keeps (Shift shift a by_cl) at other input out s = shift-keeps shift a by_cl input out s
+op-keeps (Mov to from) at other input out s =
+    operand-keeps to _ input out s
+    ∙ ap (λ n. with_console_of input out (with_operand s to n)) (value-keeps input out s from)
+op-keeps (Xchg a b) at other input out s =
+    let t = with_console_of input out s in
+    ap (λ u. with_operand u b (operand_value t a)) (operand-keeps a (operand_value t b) input out s)
+    ∙ operand-keeps b (operand_value t a) input out (with_operand s a (operand_value t b))
+    ∙ ap (λ n. with_console_of input out (with_operand (with_operand s a n) b (operand_value t a))) (value-keeps input out s b)
+    ∙ ap (λ n. with_console_of input out (with_operand (with_operand s a (operand_value s b)) b n)) (value-keeps input out s a)
+op-keeps (Lea r ea) at other input out s =
+    ap (λ n. with_console_of input out (with_word_in s r n)) (offset-keeps input out s ea)
+op-keeps (Push a) at other input out s =
+    ap (λ n. with_console_of input out (pushed n s)) (value-keeps input out s a)
+op-keeps (Pop a) at other input out s = operand-keeps a (top_word s) input out (with_sp_raised 2 s)
+op-keeps (Plain operation) at other input out s = plain-keeps operation input out s
+op-keeps (Jump target) at other input out s = refl
+op-keeps (Branch condition target) at other input out s = refl
+op-keeps (Loop target) at other input out s = refl
+op-keeps (LoopE target) at other input out s = refl
+op-keeps (LoopNe target) at other input out s = refl
+op-keeps (Jcxz target) at other input out s = refl
+op-keeps (Table r offset) at other input out s = refl
+op-keeps (Call target) at other input out s = refl
+op-keeps (Ret count) at other input out s = refl
+op-keeps Int21 at other input out s = absurd (other refl)
+
+-- so the output stays too
+pub op-keeps_out : (op : Op) (at : ℕ) → op ≢ Int21 → (s : State) → (op_step op at s).out ≡ s.out
+op-keeps_out op at other s = ap (λ (t : State). t.out) (op-keeps op at other s.input s.out s)

@@ -1,0 +1,49 @@
+-- The calls of INT 21h (Microsoft MS-DOS Programmer's Reference, functions 01h, 02h, 08h, 09h and 4Ch). Registers and
+-- flags of which nothing is said stay as they are.
+use Rattle.std.specs.Prelude.{ℕ, ◌+◌, ◌/◌, ◌%◌, ◌==◌, Bool, true, false, not, if◌then◌else◌, List, [], ◌∷◌, ◌++◌, map}
+use Rattle.std.specs.List.{range_with_len, take_while}
+use Rattle.dcc_run.specs.End.{Exit, Outside}
+use Rattle.dcc_num.specs.declared.Reg.TheVariants.{Ax, Dx}
+use Rattle.dcc_prog.specs.Machine.{State, word_in, data_segment, byte_in}
+use Rattle.dcc_prog.specs.Operations.{ended, with_al}
+
+-- the bytes in a segment from an offset on, which wraps, so many of them
+unfoldable pub bytes_from : State → ℕ → ℕ → ℕ → List ℕ
+bytes_from s segment offset count =
+    map (λ k. byte_in s segment ((offset + k) % 65536)) (range_with_len 0 count)
+
+-- whether a byte is another than the `$` that ends a string
+abbrev pub is_not_dollar : ℕ → Bool
+is_not_dollar byte = not (byte == 0x24)
+
+-- the bytes from DS:DX on up to the first `$`, which is not one of them, and at most 65,536
+unfoldable pub dos_string : State → List ℕ
+dos_string s = take_while is_not_dollar (bytes_from s (data_segment s) (word_in s Dx) 65536)
+
+-- the bytes are written
+abbrev pub written : List ℕ → State → State
+written bytes s = record s { out = s.out ++ bytes }
+
+-- AL takes the next of these input bytes, which is written too where it is echoed; where there is none, AL takes 1Ah
+abbrev pub with_key : Bool → List ℕ → State → State
+with_key echo [] s = with_al 0x1A s
+with_key echo (byte ∷ rest) s =
+    written (if echo then byte ∷ [] else []) (with_al byte (record s { input = rest }))
+
+abbrev pub key_step : Bool → State → State
+key_step echo s = with_key echo s.input s
+
+-- INT 21h with this number in AH: 02h writes DL, 4Ch ends the run with the exit code in AL, 01h takes a key and echoes
+-- it, 08h takes a key, 09h writes the string at DS:DX. Another number ends the run too
+abbrev pub dos_step : ℕ → ℕ → State → State
+dos_step number at s =
+    if number == 0x02 then written (word_in s Dx % 256 ∷ []) s
+    else if number == 0x4C then ended (Exit (word_in s Ax % 256)) at s
+    else if number == 0x01 then key_step true s
+    else if number == 0x08 then key_step false s
+    else if number == 0x09 then written (dos_string s) s
+    else ended (Outside at) at s
+
+-- INT 21h of the instruction at this offset
+abbrev pub dos_call : ℕ → State → State
+dos_call at s = dos_step (word_in s Ax / 256) at s

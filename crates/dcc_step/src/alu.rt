@@ -1,0 +1,205 @@
+//! Arithmetic, operations on bits, and shifts.
+
+ghost use Rattle.std.specs.Prelude.{◌≡◌, ◌<◌, ◌-◌, IfSome, Option, Some, None};
+ghost use Rattle.dcc_num.specs.Numbers.{limit_of};
+ghost use Rattle.dcc_prog.specs.Machine.{operand_value, operand_width};
+ghost use Rattle.dcc_prog.specs.Operations.{with_result, accumulator_in, upper_in, with_pair, with_product, with_division, alu_step, unary_step, count_in, shifted, shift_step};
+ghost use Rattle.dcc_prog.specs.WellFormed.{IsOperand, AreOperands};
+ghost use Rattle.dcc_step.specs.Core.{core_of, state_of};
+
+use crate::ending::Ending;
+use crate::machine::Machine;
+use crate::operand::half_of;
+use dcc_num::{
+    Flags, Half, Reg, Width, add, and, dec, div, idiv, imul, inc, mul, neg, or, rcl1, rcr1, rol,
+    ror, sar, shl, shr, sub, xor,
+};
+use dcc_prog::{Alu, Operand, Shift, Unary};
+
+/// The width of an operand.
+fn width_of(operand: Operand) -> Width
+    ensures { result ≡ operand_width operand }
+{
+    match operand {
+        Operand::Word(_) | Operand::Seg(_) => Width::Word,
+        Operand::Byte(..) => Width::Byte,
+        Operand::Mem(width, _) | Operand::Const(width, _) => width,
+    }
+}
+
+/// NOT: the bits that are not in the operand.
+fn complement(w: Width, a: u16) -> u16
+    requires { a < limit_of w }
+    ensures value { result ≡ limit_of w - 1 - a }
+    ensures width { result < limit_of w }
+{
+    match w {
+        Width::Byte => 0xFF - a,
+        Width::Word => 0xFFFF - a,
+    }
+}
+
+/// A shift or rotate by a count; RCL and RCR are by 1 alone.
+fn shift_by(kind: Shift, w: Width, a: u16, count: u8, was: Flags) -> (u16, Flags)
+    requires { a < limit_of w }
+    ensures shift { result ≡ shifted kind w a count was }
+    ensures width { result.0 < limit_of w }
+{
+    match kind {
+        Shift::Rol => rol(w, a, count, was),
+        Shift::Ror => ror(w, a, count, was),
+        Shift::Rcl => rcl1(w, a, was),
+        Shift::Rcr => rcr1(w, a, was),
+        Shift::Shl => shl(w, a, count, was),
+        Shift::Shr => shr(w, a, count, was),
+        Shift::Sar => sar(w, a, count, was),
+    }
+}
+
+impl Machine {
+    /// Gives an operand an outcome, and sets the flags with it.
+    fn put_result(&mut self, operand: Operand, outcome: (u16, Flags))
+        requires operand { IsOperand operand }
+        requires width { outcome.0 < limit_of (operand_width operand) }
+        ensures { self.new ≡ core_of (with_result operand outcome (state_of self.old)) }
+    {
+        self.flags = outcome.1;
+        self.put(operand, outcome.0);
+    }
+
+    /// An operation on two operands.
+    pub(crate) fn alu(&mut self, kind: Alu, a: Operand, b: Operand)
+        requires { AreOperands a b }
+        ensures { self.new ≡ core_of (alu_step kind (operand_width a) a
+            (operand_value (state_of self.old) a) (operand_value (state_of self.old) b) (state_of self.old)) }
+    {
+        let w = width_of(a);
+        let x = self.value(a);
+        let y = self.value(b);
+        match kind {
+            Alu::Add => self.put_result(a, add(w, x, y, false)),
+            Alu::Or => self.put_result(a, or(w, x, y)),
+            Alu::Adc => self.put_result(a, add(w, x, y, self.flags.cf)),
+            Alu::Sbb => self.put_result(a, sub(w, x, y, self.flags.cf)),
+            Alu::And => self.put_result(a, and(w, x, y)),
+            Alu::Sub => self.put_result(a, sub(w, x, y, false)),
+            Alu::Xor => self.put_result(a, xor(w, x, y)),
+            Alu::Cmp => self.flags = sub(w, x, y, false).1,
+            Alu::Test => self.flags = and(w, x, y).1,
+        }
+    }
+
+    /// AL or AX.
+    fn accumulator(&self, w: Width) -> u16
+        ensures value { result ≡ accumulator_in w (state_of self.now) }
+        ensures width { result < limit_of w }
+    {
+        match w {
+            Width::Byte => u16::from(half_of(Half::Low, self.reg(Reg::Ax))),
+            Width::Word => self.reg(Reg::Ax),
+        }
+    }
+
+    /// AH or DX, the upper half of what a division divides.
+    fn upper(&self, w: Width) -> u16
+        ensures value { result ≡ upper_in w (state_of self.now) }
+        ensures width { result < limit_of w }
+    {
+        match w {
+            Width::Byte => u16::from(half_of(Half::High, self.reg(Reg::Ax))),
+            Width::Word => self.reg(Reg::Dx),
+        }
+    }
+
+    /// Gives two values to AL and AH, or to AX and DX.
+    fn set_pair(&mut self, w: Width, low: u16, high: u16)
+        requires low { low < limit_of w }
+        requires high { high < limit_of w }
+        ensures { self.new ≡ core_of (with_pair w low high (state_of self.old)) }
+    {
+        match w {
+            Width::Byte => self.set_reg(Reg::Ax, high * 256 + low),
+            Width::Word => {
+                self.set_reg(Reg::Ax, low);
+                self.set_reg(Reg::Dx, high);
+            }
+        }
+    }
+
+    /// Keeps a product.
+    fn set_product(&mut self, w: Width, product: (u16, u16, Flags))
+        requires low { product.0 < limit_of w }
+        requires high { product.1 < limit_of w }
+        ensures { self.new ≡ core_of (with_product w product (state_of self.old)) }
+    {
+        self.flags = product.2;
+        self.set_pair(w, product.0, product.1);
+    }
+
+    /// Keeps a quotient and a remainder, or ends the run by a divide fault.
+    fn set_division(&mut self, w: Width, division: Option<(u16, u16)>, at: u16)
+        requires { IfSome division (λ x. (x.0 < limit_of w) × (x.1 < limit_of w)) }
+        ensures { self.new ≡ core_of (with_division w at division (state_of self.old)) }
+    {
+        match division {
+            None => self.finish(Ending::Divide, at),
+            Some((quotient, remainder)) => {
+                self.flags = Flags {
+                    cf: false,
+                    zf: false,
+                    sf: false,
+                    of: false,
+                };
+                self.set_pair(w, quotient, remainder);
+            }
+        }
+    }
+
+    /// An operation on one operand of the instruction at an offset.
+    pub(crate) fn unary(&mut self, kind: Unary, x: Operand, at: u16)
+        requires { IsOperand x }
+        ensures { self.new ≡ core_of (unary_step kind (operand_width x) x
+            (operand_value (state_of self.old) x) at (state_of self.old)) }
+    {
+        let w = width_of(x);
+        let a = self.value(x);
+        match kind {
+            Unary::Inc => self.put_result(x, inc(w, a, self.flags)),
+            Unary::Dec => self.put_result(x, dec(w, a, self.flags)),
+            Unary::Neg => self.put_result(x, neg(w, a)),
+            Unary::Not => self.put(x, complement(w, a)),
+            Unary::Mul => self.set_product(w, mul(w, self.accumulator(w), a)),
+            Unary::Imul => self.set_product(w, imul(w, self.accumulator(w), a)),
+            Unary::Div => {
+                let division = div(w, self.upper(w), self.accumulator(w), a);
+                self.set_division(w, division, at);
+            }
+            Unary::Idiv => {
+                let division = idiv(w, self.upper(w), self.accumulator(w), a);
+                self.set_division(w, division, at);
+            }
+        }
+    }
+
+    /// The count of a shift: CL, or 1.
+    fn count(&self, by_cl: bool) -> u8
+        ensures { result ≡ count_in by_cl (state_of self.now) }
+    {
+        if by_cl {
+            half_of(Half::Low, self.reg(Reg::Cx))
+        } else {
+            1
+        }
+    }
+
+    /// A shift or rotate.
+    pub(crate) fn shift(&mut self, kind: Shift, x: Operand, by_cl: bool)
+        requires { IsOperand x }
+        ensures { self.new ≡ core_of (shift_step kind x by_cl (state_of self.old)) }
+    {
+        let w = width_of(x);
+        let a = self.value(x);
+        let outcome = shift_by(kind, w, a, self.count(by_cl), self.flags);
+        self.put_result(x, outcome);
+    }
+}

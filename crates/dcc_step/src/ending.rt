@@ -1,0 +1,66 @@
+//! How a step comes out, and how a run has ended.
+
+ghost use Rattle.std.specs.Prelude.{◌≡◌};
+ghost use Rattle.dcc_step.specs.Ending.{answer_of};
+ghost use Rattle.dcc_step.specs.Stepped.{fault_answer_of};
+
+/// How a step or a run came out.
+#[derive(Clone, Copy, PartialEq, Eq, Debug)]
+pub enum Stepped {
+    /// The run goes on.
+    Running,
+    /// The program ended with this exit code.
+    Exit(u8),
+    /// A division had no quotient.
+    Divide,
+    /// The instruction at this offset of the code segment is none that the machine knows.
+    Outside(u16),
+    /// A read of the input failed; the step was not made.
+    InFault,
+    /// A write to the output failed; the step was not made.
+    OutFault,
+}
+
+/// How the run of a machine has ended, if it has.
+#[derive(Clone, Copy, PartialEq, Eq, Debug)]
+pub enum Ending {
+    Running,
+    Exit(u8),
+    Divide,
+    Outside(u16),
+}
+
+/// Why a step is refused.
+#[derive(Clone, Copy, PartialEq, Eq, Debug)]
+pub enum Fault {
+    /// A read failed.
+    Input,
+    /// A write failed.
+    Output,
+}
+
+impl Ending {
+    /// What a step answers.
+    pub fn answer(self) -> Stepped
+        ensures { result ≡ answer_of self }
+    {
+        match self {
+            Ending::Running => Stepped::Running,
+            Ending::Exit(code) => Stepped::Exit(code),
+            Ending::Divide => Stepped::Divide,
+            Ending::Outside(at) => Stepped::Outside(at),
+        }
+    }
+}
+
+impl Fault {
+    /// What a step answers that is refused.
+    pub fn answer(self) -> Stepped
+        ensures { result ≡ fault_answer_of self }
+    {
+        match self {
+            Fault::Input => Stepped::InFault,
+            Fault::Output => Stepped::OutFault,
+        }
+    }
+}

@@ -1,0 +1,111 @@
+//! Jumps, and operations without operands.
+
+ghost use Rattle.std.specs.Prelude.{◌≡◌};
+ghost use Rattle.dcc_prog.specs.Operations.{jumped, jumped_if, holds, loop_step, table_step, with_carry, plain_step, lea_step, mov_step, xchg_step};
+ghost use Rattle.dcc_prog.specs.WellFormed.{AreOperands};
+ghost use Rattle.dcc_step.specs.Core.{core_of, state_of};
+
+use crate::machine::Machine;
+use crate::operand::half_of;
+use dcc_num::{Flags, Half, Reg, sign8};
+use dcc_prog::{Cond, Ea, Operand, Plain};
+
+/// Whether a condition holds.
+pub fn is_met(condition: Cond, flags: Flags) -> bool
+    ensures { result ≡ holds condition flags }
+{
+    let less = flags.sf != flags.of;
+    match condition {
+        Cond::O => flags.of,
+        Cond::No => !flags.of,
+        Cond::B => flags.cf,
+        Cond::Ae => !flags.cf,
+        Cond::Z => flags.zf,
+        Cond::Nz => !flags.zf,
+        Cond::Be => flags.cf || flags.zf,
+        Cond::A => !(flags.cf || flags.zf),
+        Cond::S => flags.sf,
+        Cond::Ns => !flags.sf,
+        Cond::L => less,
+        Cond::Ge => !less,
+        Cond::Le => flags.zf || less,
+        Cond::G => !(flags.zf || less),
+    }
+}
+
+impl Machine {
+    /// To the target where so, else to the next instruction.
+    pub(crate) fn jump_if(&mut self, so: bool, target: u16)
+        ensures { self.new ≡ core_of (jumped_if so target (state_of self.old)) }
+    {
+        if so {
+            self.ip = target;
+        }
+    }
+
+    /// A LOOP form: CX falls by 1, and the jump is made where it is not 0 then and `also` holds.
+    pub(crate) fn count_down(&mut self, also: bool, target: u16)
+        ensures { self.new ≡ core_of (loop_step also target (state_of self.old)) }
+    {
+        let left = self.reg(Reg::Cx).wrapping_sub(1);
+        self.set_reg(Reg::Cx, left);
+        self.jump_if(also && left != 0, target);
+    }
+
+    /// A jump to the word in the code segment at a register plus an offset.
+    pub(crate) fn jump_by_table(&mut self, r: Reg, offset: u16)
+        ensures { self.new ≡ core_of (table_step r offset (state_of self.old)) }
+    {
+        let target = self.load_word(self.cs(), self.reg(r).wrapping_add(offset));
+        self.ip = target;
+    }
+
+    /// MOV.
+    pub(crate) fn assign(&mut self, to: Operand, from: Operand)
+        requires { AreOperands to from }
+        ensures { self.new ≡ core_of (mov_step to from (state_of self.old)) }
+    {
+        let value = self.value(from);
+        self.put(to, value);
+    }
+
+    /// XCHG: the address of the first operand is taken before either changes.
+    pub(crate) fn exchange(&mut self, a: Operand, b: Operand)
+        requires { AreOperands a b }
+        ensures { self.new ≡ core_of (xchg_step a b (state_of self.old)) }
+    {
+        let x = self.value(a);
+        let y = self.value(b);
+        self.put(a, y);
+        self.put(b, x);
+    }
+
+    /// LEA: the offset of a memory operand.
+    pub(crate) fn load_offset(&mut self, r: Reg, ea: Ea)
+        ensures { self.new ≡ core_of (lea_step r ea (state_of self.old)) }
+    {
+        let offset = self.offset(ea);
+        self.set_reg(r, offset);
+    }
+
+    /// An operation without operands.
+    pub(crate) fn plain(&mut self, kind: Plain)
+        ensures { self.new ≡ core_of (plain_step kind (state_of self.old)) }
+    {
+        let ax = self.reg(Reg::Ax);
+        let al = half_of(Half::Low, ax);
+        match kind {
+            Plain::Nop | Plain::Cli | Plain::Sti | Plain::Cld => {}
+            Plain::Cbw => self.set_reg(Reg::Ax, sign8(al)),
+            Plain::Cwd => self.set_reg(Reg::Dx, if ax >= 0x8000 { 0xFFFF } else { 0 }),
+            Plain::Xlat => {
+                let offset = self.reg(Reg::Bx).wrapping_add(u16::from(al));
+                let byte = self.load_byte(self.ds(), offset);
+                self.set_al(byte);
+            }
+            Plain::Clc => self.flags.cf = false,
+            Plain::Stc => self.flags.cf = true,
+            Plain::Cmc => self.flags.cf = !self.flags.cf,
+        }
+    }
+}

@@ -1,0 +1,18 @@
+//! The 8086 machine on flat memory, one instruction a step, with the five DOS calls.
+#![tactic(auto)]
+
+mod alu;
+mod decode;
+mod dos;
+mod ending;
+mod flow;
+mod machine;
+mod operand;
+mod stack;
+mod step;
+
+pub use ending::Stepped;
+pub use machine::Machine;
+
+#[cfg(test)]
+mod tests;

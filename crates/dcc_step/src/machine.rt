@@ -1,0 +1,95 @@
+//! The machine and its state.
+
+ghost use Rattle.std.specs.Prelude.{◌≡◌, ◌+◌, ◌<◌, ◌≤◌, ◌^◌, ℕ, List, [], vec_len, slice_index, IfOk};
+ghost use Rattle.dcc_prog.specs.Machine.{start_state, word_in};
+ghost use Rattle.dcc_step.specs.Core.{with_console, state_of};
+
+use crate::ending::Ending;
+use dcc_num::{Flags, Reg};
+use dcc_prog::Image;
+use std::alloc::{AllocError, Global};
+use std::marker::Model;
+
+/// The number of bytes in memory: 1 MiB.
+const MEMORY_SIZE: usize = 0x10_0000;
+
+/// The physical address at which the load image begins.
+const LOAD_ADDRESS: usize = 0x1100;
+
+/// The segment of the program prefix, in which DS and ES begin.
+const PREFIX_SEGMENT: u16 = 0x0100;
+
+/// A machine: registers, flags, memory, and how its run has ended.
+#[derive(Drop)]
+pub struct Machine {
+    /// By number: AX, CX, DX, BX, SP, BP, SI, DI.
+    pub(crate) regs: [u16; 8],
+    /// By number: ES, CS, SS, DS.
+    pub(crate) segs: [u16; 4],
+    pub(crate) flags: Flags,
+    pub(crate) ip: u16,
+    pub(crate) memory: Vec<u8>,
+    pub(crate) end: Ending,
+}
+
+impl Model for Machine {
+    ghost use Rattle.std.specs.Prelude.{◌≡◌, ◌^◌, vec_len};
+    ghost use Rattle.dcc_step.specs.Core.{Core};
+
+    ghost Value = { Core };
+
+    ghost use Rattle.dcc_step.specs.Ending.{end_of};
+
+    ghost view = { λ m. record { regs = m.regs; segs = m.segs; flags = m.flags; ip = m.ip; memory = m.memory.items; end = end_of m.end } };
+
+    ghost invariant = { λ m. vec_len m.memory ≡ 2 ^ 20 };
+}
+
+impl Machine {
+    /// The machine at the start of a loaded program: memory holds the load image at physical
+    /// address 01100h and 0 elsewhere.
+    pub fn new(alloc: Global, image: &Image) -> Result<Machine, AllocError>
+        requires { 0x1100 + vec_len image.now.bytes ≤ 2 ^ 20 }
+        ensures { IfOk result (λ machine. (input : List ℕ) → with_console machine input [] ≡ start_state image.now input) }
+    {
+        let mut memory = Vec::with_capacity(alloc, MEMORY_SIZE)?;
+        memory.resize(LOAD_ADDRESS, 0)?;
+        memory.extend_from_slice(&image.bytes)?;
+        memory.resize(MEMORY_SIZE, 0)?;
+        Ok(Machine {
+            regs: [0, 0, 0, 0, image.sp, 0, 0, 0],
+            segs: [PREFIX_SEGMENT, image.cs, image.ss, PREFIX_SEGMENT],
+            flags: Flags {
+                cf: false,
+                zf: false,
+                sf: false,
+                of: false,
+            },
+            ip: image.ip,
+            memory,
+            end: Ending::Running,
+        })
+    }
+
+    /// What a word register holds.
+    pub fn reg(&self, r: Reg) -> u16
+        ensures { result ≡ word_in (state_of self.now) r }
+    {
+        self.regs[r as usize]
+    }
+
+    /// The instruction pointer.
+    pub fn ip(&self) -> u16
+        ensures { result ≡ self.now.ip }
+    {
+        self.ip
+    }
+
+    /// The byte at a physical address.
+    pub fn byte(&self, at: u32) -> u8
+        requires { at < 2 ^ 20 }
+        ensures { result ≡ slice_index self.now.memory at }
+    {
+        self.memory[at as usize]
+    }
+}

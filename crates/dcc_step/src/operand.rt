@@ -1,0 +1,175 @@
+//! Registers, memory and operands: how they are read and written.
+
+ghost use Rattle.std.specs.Prelude.{◌≡◌, ◌<◌, ◌^◌};
+ghost use Rattle.dcc_num.specs.Numbers.{limit_of};
+ghost use Rattle.dcc_prog.specs.Machine.{physical, byte_in, word_at_offset, with_byte_in, with_word_at_offset, word_with_half, half_of_word, with_word_in, code_segment, stack_segment, data_segment, part_of, offset_of, is_bp, segment_of, operand_value, with_operand, operand_width};
+ghost use Rattle.dcc_prog.specs.WellFormed.{IsOperand};
+ghost use Rattle.dcc_step.specs.Core.{core_of, state_of};
+
+use crate::machine::Machine;
+use dcc_num::{Half, Reg, Width};
+use dcc_prog::{Ea, Operand};
+
+/// The physical address of an offset in a segment.
+fn physical_address(segment: u16, offset: u16) -> usize
+    ensures address { result ≡ physical segment offset }
+    ensures within { result < 2 ^ 20 }
+{
+    (usize::from(segment) * 16 + usize::from(offset)) % 0x10_0000
+}
+
+/// One byte of a word.
+pub fn half_of(half: Half, word: u16) -> u8
+    ensures { result ≡ half_of_word half word }
+{
+    match half {
+        Half::Low => (word % 256) as u8,
+        Half::High => (word / 256) as u8,
+    }
+}
+
+/// A word after one of its bytes has taken a value.
+pub fn with_half(half: Half, word: u16, byte: u8) -> u16
+    ensures { result ≡ word_with_half half word byte }
+{
+    match half {
+        Half::Low => word / 256 * 256 + u16::from(byte),
+        Half::High => u16::from(byte) * 256 + word % 256,
+    }
+}
+
+/// Whether a part of an address is BP.
+fn uses_bp(part: Option<Reg>) -> bool
+    ensures { result ≡ is_bp part }
+{
+    matches!(part, Some(Reg::Bp))
+}
+
+impl Machine {
+    /// The byte at an offset in a segment.
+    pub(crate) fn load_byte(&self, segment: u16, offset: u16) -> u8
+        ensures { result ≡ byte_in (state_of self.now) segment offset }
+    {
+        self.memory[physical_address(segment, offset)]
+    }
+
+    /// The word at an offset in a segment; the offset of its second byte wraps.
+    pub(crate) fn load_word(&self, segment: u16, offset: u16) -> u16
+        ensures { result ≡ word_at_offset (state_of self.now) segment offset }
+    {
+        let low = self.load_byte(segment, offset);
+        let high = self.load_byte(segment, offset.wrapping_add(1));
+        u16::from(low) + 256 * u16::from(high)
+    }
+
+    fn store_byte(&mut self, segment: u16, offset: u16, byte: u8)
+        ensures { self.new ≡ core_of (with_byte_in (state_of self.old) segment offset byte) }
+    {
+        self.memory[physical_address(segment, offset)] = byte;
+    }
+
+    /// Stores a word, its low byte first; the offset of the second byte wraps.
+    pub(crate) fn store_word(&mut self, segment: u16, offset: u16, word: u16)
+        ensures { self.new ≡ core_of (with_word_at_offset (state_of self.old) segment offset word) }
+    {
+        self.store_byte(segment, offset, (word % 256) as u8);
+        self.store_byte(segment, offset.wrapping_add(1), (word / 256) as u8);
+    }
+
+    pub(crate) fn set_reg(&mut self, r: Reg, word: u16)
+        ensures { self.new ≡ core_of (with_word_in (state_of self.old) r word) }
+    {
+        self.regs[r as usize] = word;
+    }
+
+    /// The code segment.
+    pub(crate) fn cs(&self) -> u16
+        ensures { result ≡ code_segment (state_of self.now) }
+    {
+        self.segs[1]
+    }
+
+    /// The stack segment.
+    pub(crate) fn ss(&self) -> u16
+        ensures { result ≡ stack_segment (state_of self.now) }
+    {
+        self.segs[2]
+    }
+
+    /// The data segment.
+    pub(crate) fn ds(&self) -> u16
+        ensures { result ≡ data_segment (state_of self.now) }
+    {
+        self.segs[3]
+    }
+
+    /// What a part of an address adds to it.
+    fn part(&self, part: Option<Reg>) -> u16
+        ensures { result ≡ part_of (state_of self.now) part }
+    {
+        match part {
+            None => 0,
+            Some(r) => self.reg(r),
+        }
+    }
+
+    /// The offset of a memory operand.
+    pub(crate) fn offset(&self, ea: Ea) -> u16
+        ensures { result ≡ offset_of (state_of self.now) ea }
+    {
+        let sum = u32::from(self.part(ea.base)) + u32::from(self.part(ea.index));
+        ((sum + u32::from(ea.disp)) % 0x1_0000) as u16
+    }
+
+    /// The segment of a memory operand: that of the stack where the address uses BP.
+    fn segment(&self, ea: Ea) -> u16
+        ensures { result ≡ segment_of (state_of self.now) ea }
+    {
+        if uses_bp(ea.base) || uses_bp(ea.index) {
+            self.ss()
+        } else {
+            self.ds()
+        }
+    }
+
+    /// What an operand holds.
+    pub(crate) fn value(&self, operand: Operand) -> u16
+        requires { IsOperand operand }
+        ensures value { result ≡ operand_value (state_of self.now) operand }
+        ensures width { result < limit_of (operand_width operand) }
+    {
+        match operand {
+            Operand::Word(r) => self.reg(r),
+            Operand::Byte(r, half) => u16::from(half_of(half, self.reg(r))),
+            Operand::Seg(number) => self.segs[number as usize],
+            Operand::Mem(Width::Byte, ea) => {
+                u16::from(self.load_byte(self.segment(ea), self.offset(ea)))
+            }
+            Operand::Mem(Width::Word, ea) => self.load_word(self.segment(ea), self.offset(ea)),
+            Operand::Const(_, constant) => constant,
+        }
+    }
+
+    /// Gives an operand a value.
+    pub(crate) fn put(&mut self, operand: Operand, value: u16)
+        requires operand { IsOperand operand }
+        requires width { value < limit_of (operand_width operand) }
+        ensures { self.new ≡ core_of (with_operand (state_of self.old) operand value) }
+    {
+        match operand {
+            Operand::Word(r) => self.set_reg(r, value),
+            Operand::Byte(r, half) => {
+                let word = with_half(half, self.reg(r), value as u8);
+                self.set_reg(r, word);
+            }
+            Operand::Seg(number) => self.segs[number as usize] = value,
+            Operand::Mem(Width::Byte, ea) => {
+                self.store_byte(self.segment(ea), self.offset(ea), value as u8);
+            }
+            Operand::Mem(Width::Word, ea) => {
+                self.store_word(self.segment(ea), self.offset(ea), value);
+            }
+            Operand::Const(..) => {}
+        }
+    }
+}

@@ -1,0 +1,155 @@
+//! Steps and runs.
+
+ghost use Rattle.std.specs.Prelude.{◌≡◌, ◌≢◌, ◌≤◌, ℕ, IsSome, IfSome, OnOk, IfErr, IsErrOf, Option, Some, None};
+ghost use Rattle.dcc_io.specs.Count.{Rose};
+ghost use Rattle.dcc_prog.specs.declared.instr.Op.{Op};
+ghost use Rattle.dcc_prog.specs.Table.{instruction_at};
+ghost use Rattle.dcc_prog.specs.Step.{code_byte, code_bytes, op_step};
+ghost use Rattle.dcc_prog.specs.WellFormed.{IsOperation};
+ghost use Rattle.dcc_step.specs.Core.{core_of, state_of};
+ghost use Rattle.dcc_step.specs.Stepped.{scene, Makes, IsRefused, Steps, Answers, Runs};
+
+use crate::decode::decode_window;
+use crate::ending::{Ending, Fault, Stepped};
+use crate::flow::is_met;
+use crate::machine::Machine;
+use dcc_io::{Sink, Source};
+use dcc_num::Reg;
+use dcc_prog::{Instr, Op};
+
+impl Machine {
+    /// The byte at so many bytes behind the instruction pointer, whose offset wraps.
+    fn code_byte(&self, k: u16) -> u8
+        ensures { result ≡ code_byte (state_of self.now) k }
+    {
+        self.load_byte(self.cs(), self.ip.wrapping_add(k))
+    }
+
+    /// The instruction at the instruction pointer.
+    fn fetch(&self) -> Option<Instr>
+        ensures found { result ≡ instruction_at self.now.ip (code_bytes (state_of self.now)) }
+        ensures operation { IfSome result (λ instr. IsOperation instr.op) }
+    {
+        let window = [
+            self.code_byte(0),
+            self.code_byte(1),
+            self.code_byte(2),
+            self.code_byte(3),
+            self.code_byte(4),
+            self.code_byte(5),
+        ];
+        decode_window(&window, self.ip)
+    }
+
+    /// An operation of the instruction at an offset, other than INT 21h.
+    fn operate(&mut self, op: Op, at: u16)
+        requires operation { IsOperation op }
+        requires other { op ≢ Op.Int21 }
+        ensures { self.new ≡ core_of (op_step op at (state_of self.old)) }
+    {
+        match op {
+            Op::Alu(kind, a, b) => self.alu(kind, a, b),
+            Op::Unary(kind, x) => self.unary(kind, x, at),
+            Op::Shift(kind, x, by_cl) => self.shift(kind, x, by_cl),
+            Op::Mov(to, from) => self.assign(to, from),
+            Op::Xchg(a, b) => self.exchange(a, b),
+            Op::Lea(r, ea) => self.load_offset(r, ea),
+            Op::Push(x) => self.push(x),
+            Op::Pop(x) => self.pop(x),
+            Op::Plain(kind) => self.plain(kind),
+            Op::Jump(target) => self.ip = target,
+            Op::Branch(condition, target) => self.jump_if(is_met(condition, self.flags), target),
+            Op::Loop(target) => self.count_down(true, target),
+            Op::LoopE(target) => self.count_down(self.flags.zf, target),
+            Op::LoopNe(target) => self.count_down(!self.flags.zf, target),
+            Op::Jcxz(target) => self.jump_if(self.reg(Reg::Cx) == 0, target),
+            Op::Table(r, offset) => self.jump_by_table(r, offset),
+            Op::Call(target) => self.call(target),
+            Op::Ret(count) => self.ret(count),
+            Op::Int21 => unreachable!(),
+        }
+    }
+
+    /// An operation of the instruction at an offset.
+    fn perform<I: Source, O: Sink>(
+        &mut self,
+        op: Op,
+        at: u16,
+        input: &mut I,
+        out: &mut O,
+    ) -> Result<(), Fault>
+        requires { IsOperation op }
+        ensures made { OnOk result (Makes (op_step op at)
+            (scene self.old (I.left input.old) (O.taken out.old))
+            (scene self.new (I.left input.new) (O.taken out.new))) }
+        ensures refused { IfErr result (λ fault. IsRefused (op_step op at) fault
+            (scene self.old (I.left input.old) (O.taken out.old))
+            (scene self.new (I.left input.new) (O.taken out.new))) }
+
+        // The counts never fall, and a fault comes only where its count rose.
+        ensures input_faults { I.faults input.old ≤ I.faults input.new }
+        ensures output_faults { O.faults out.old ≤ O.faults out.new }
+        ensures read_failed { IsErrOf result Fault.Input → Rose (I.faults input.old) (I.faults input.new) }
+        ensures write_failed { IsErrOf result Fault.Output → Rose (O.faults out.old) (O.faults out.new) }
+    {
+        match op {
+            Op::Int21 => self.call_dos(at, input, out),
+            other => {
+                self.operate(other, at);
+                Ok(())
+            }
+        }
+    }
+
+    /// Makes one instruction. A machine whose run has ended answers its end again and changes
+    /// nothing. After a fault the machine is as before; what was read or written stays so.
+    pub fn step<I: Source, O: Sink>(&mut self, input: &mut I, out: &mut O) -> Stepped
+        ensures step { Steps result
+            (scene self.old (I.left input.old) (O.taken out.old))
+            (scene self.new (I.left input.new) (O.taken out.new)) }
+        ensures answer { Answers result self.new.end }
+
+        // The counts never fall, and a fault comes only where its count rose.
+        ensures input_faults { I.faults input.old ≤ I.faults input.new }
+        ensures output_faults { O.faults out.old ≤ O.faults out.new }
+        ensures read_failed { result ≡ Stepped.InFault → Rose (I.faults input.old) (I.faults input.new) }
+        ensures write_failed { result ≡ Stepped.OutFault → Rose (O.faults out.old) (O.faults out.new) }
+    {
+        let Ending::Running = self.end else {
+            return self.end.answer();
+        };
+        let at = self.ip;
+        let Some(instr) = self.fetch() else {
+            self.finish(Ending::Outside(at), at);
+            return self.end.answer();
+        };
+        self.ip = at.wrapping_add(u16::from(instr.len));
+        if let Err(fault) = self.perform(instr.op, at, input, out) {
+            self.ip = at;
+            return fault.answer();
+        }
+        self.end.answer()
+    }
+
+    /// Makes steps until one answers something else than Running, at most so many.
+    pub fn run<I: Source, O: Sink>(&mut self, input: &mut I, out: &mut O, most: u64) -> Stepped
+        ensures run { Runs most result
+            (scene self.old (I.left input.old) (O.taken out.old))
+            (scene self.new (I.left input.new) (O.taken out.new)) }
+        ensures answer { Answers result self.new.end }
+
+        // The counts never fall, and a fault comes only where its count rose.
+        ensures input_faults { I.faults input.old ≤ I.faults input.new }
+        ensures output_faults { O.faults out.old ≤ O.faults out.new }
+        ensures read_failed { result ≡ Stepped.InFault → Rose (I.faults input.old) (I.faults input.new) }
+        ensures write_failed { result ≡ Stepped.OutFault → Rose (O.faults out.old) (O.faults out.new) }
+    {
+        for _count in 0..most {
+            match self.step(input, out) {
+                Stepped::Running => {}
+                answer => return answer,
+            }
+        }
+        self.end.answer()
+    }
+}
