@@ -7,4 +7,6 @@ pub mod Rules
 pub mod Value
 pub mod Run
 pub mod Text
+pub mod Views
+pub mod Plain
 pub mod Written

@@ -1,14 +1,13 @@
 -- What is read from the bytes of an instruction, by the row that they fit.
-use Rattle.std.proofs.Common.{◌≡◌, ℕ, zero, suc, ◌+◌, ◌<◌, ◌≤◌, Bool, true, false, cond, not, ◌&&◌, ◌||◌, nat_le, nat_lt, List, [], ◌∷◌, ◌++◌, length, refl, sym, ◌∙◌, ap, inl, inr, arith}
-use Rattle.std.specs.Prelude.{◌≢◌, ◌⊎◌, IsTrue, IfSome, ◌↔◌, Option, Some, None, option_map, if◌then◌else◌, ◌==◌}
-use Rattle.std.proofs.lemmas.Bool.{cases_lt}
+use Rattle.std.proofs.Common.{◌≡◌, ℕ, ◌+◌, ◌<◌, ◌≤◌, Bool, true, false, nat_le, List, [], ◌∷◌, ◌++◌, length, refl, sym, ◌∙◌, ap, arith}
+use Rattle.std.specs.Prelude.{◌↔◌, Option, Some, None, if◌then◌else◌}
 use Rattle.std.proofs.lemmas.Bool.Decides.{nat_tests}
 use Rattle.dcc_prog.specs.Operands.{byte_at, displacement_size, displacement_at}
-use Rattle.dcc_prog.specs.Table.{BytePattern, Row, Parts, ConstantForm, fits_byte, fits, constant_size, constant_at, row_displacement_size, row_length, row_parts, IsRow}
+use Rattle.dcc_prog.specs.Table.{BytePattern, Row, Parts, ConstantForm, fits_byte, fits, constant_size, constant_at, row_length}
 use Rattle.dcc_prog.proofs.TableLaws.{and_left, and_right, and_both}
 use Rattle.dcc_decode.specs.declared.fields.Constant.{Constant}
 use Rattle.dcc_decode.specs.declared.fields.Fields.{Fields}
-use Rattle.dcc_decode.specs.Reading.{form_of, parts_of, is_plain, IsPlainRow, TellsModrm, TellsConstant, modrm_read, constant_read, head_length, head_of, ReadsHead, ReadsRows, FitsAsRead}
+use Rattle.dcc_decode.specs.Reading.{form_of, IsPlainRow, TellsModrm, TellsConstant, modrm_read, constant_read, head_length, head_of, ReadsHead, ReadsRows, FitsAsRead}
 
 -- patterns that bytes fit are fitted by more bytes
 fits-more : (ps : List BytePattern) (xs ys : List ℕ) → fits ps xs ≡ true → fits ps (xs ++ ys) ≡ true
@@ -17,13 +16,17 @@ fits-more (p ∷ ps) [] ys h = cc
 fits-more (p ∷ ps) (x ∷ xs) ys h = and_both _ _ (and_left _ _ h) (fits-more ps xs ys (and_right _ _ h))
 
 -- one pattern asks for one byte
-fits-first : (ps : List BytePattern) (x : ℕ) (xs ys : List ℕ) → length ps ≡ 1 → fits ps (x ∷ xs) ≡ true → fits ps (x ∷ ys) ≡ true
+fits-first :
+    (ps : List BytePattern) (x : ℕ) (xs ys : List ℕ) → length ps ≡ 1 → fits ps (x ∷ xs) ≡ true
+    → fits ps (x ∷ ys) ≡ true
 fits-first [] x xs ys l h = refl
 fits-first (p ∷ []) x xs ys l h = h
 fits-first (p ∷ q ∷ ps) x xs ys l h = absurd (omega arith)
 
 -- two patterns ask for two
-fits-two : (ps : List BytePattern) (x y : ℕ) (xs : List ℕ) → length ps ≡ 2 → fits ps (x ∷ y ∷ xs) ≡ true → fits ps (x ∷ y ∷ []) ≡ true
+fits-two :
+    (ps : List BytePattern) (x y : ℕ) (xs : List ℕ) → length ps ≡ 2 → fits ps (x ∷ y ∷ xs) ≡ true
+    → fits ps (x ∷ y ∷ []) ≡ true
 fits-two [] x y xs l h = refl
 fits-two (p ∷ []) x y xs l h = h
 fits-two (p ∷ q ∷ []) x y xs l h = h
@@ -45,11 +48,15 @@ plain_without : (row : Row) → IsPlainRow row → row.has_modrm ≡ false → l
 plain_without row at h = let l = plain-length row at in rw h at l
 
 -- the parts of an answer under a test
-chosen : {A : Type 0} (test : Bool) (found x : A) → (if test then Some found else None) ≡ Some x → (test ≡ true) × (found ≡ x)
+chosen :
+    {A : Type 0} (test : Bool) (found x : A) → (if test then Some found else None) ≡ Some x
+    → (test ≡ true) × (found ≡ x)
 chosen true found x e = (refl, cc)
 chosen false found x e = cc
 
-none_chosen : {A : Type 0} (test : Bool) (found : A) → test ≡ true → None ≡ (if test then Some found else None) → ⊥
+none_chosen :
+    {A : Type 0} (test : Bool) (found : A) → test ≡ true
+    → None ≡ (if test then Some found else None) → ⊥
 none_chosen true found t e = cc
 none_chosen false found t e = cc
 
@@ -67,21 +74,30 @@ plain-positive row at =
 first_of_three : {a b c d e f : ℕ} → ◌≡◌ {A = ℕ × ℕ × ℕ} (a, b, c) (d, e, f) → a ≡ d
 first_of_three p = ap (λ (t : ℕ × ℕ × ℕ). t.0) p
 
-modrm_read-some : (b : ℕ) (bytes : List ℕ) (modrm displacement end : ℕ) → modrm_read (b ∷ bytes) ≡ Some (modrm, displacement, end) → (byte_at bytes 0 ≡ modrm) × (1 ≤ length bytes)
+modrm_read-some :
+    (b : ℕ) (bytes : List ℕ) (modrm displacement end : ℕ)
+    → modrm_read (b ∷ bytes) ≡ Some (modrm, displacement, end)
+    → (byte_at bytes 0 ≡ modrm) × (1 ≤ length bytes)
 modrm_read-some b bytes modrm displacement end e =
     let both = chosen (nat_le (2 + displacement_size (byte_at bytes 0)) (length (b ∷ bytes))) (byte_at bytes 0, displacement_at (byte_at bytes 0) (b ∷ bytes) 2, 2 + displacement_size (byte_at bytes 0)) (modrm, displacement, end) e in
     let enough : nat_le (2 + displacement_size (byte_at bytes 0)) (length (b ∷ bytes)) ≡ true = both.0 in
     (first_of_three both.1, grind (arith, nat_tests, enough))
 
 -- the bytes of an instruction with a ModRM byte
-fits-modrm : (row : Row) (b modrm : ℕ) (bytes : List ℕ) → length row.pattern ≡ 2 → byte_at bytes 0 ≡ modrm → 1 ≤ length bytes → (fits row.pattern (b ∷ bytes) ≡ true) ↔ (fits row.pattern (b ∷ modrm ∷ []) ≡ true)
+fits-modrm :
+    (row : Row) (b modrm : ℕ) (bytes : List ℕ) → length row.pattern ≡ 2 → byte_at bytes 0 ≡ modrm
+    → 1 ≤ length bytes
+    → (fits row.pattern (b ∷ bytes) ≡ true) ↔ (fits row.pattern (b ∷ modrm ∷ []) ≡ true)
 fits-modrm row b modrm [] two e l = absurd (omega arith)
 fits-modrm row b modrm (m ∷ bytes) two e l = (
   λ h. rw (← e) (fits-two row.pattern b m bytes two h),
   λ h. fits-more row.pattern (b ∷ m ∷ []) bytes (rw e h),
 )
 
-pub reads_head-modrm : (opcode : ℕ) (bytes : List ℕ) (answer : Option (ℕ × ℕ × ℕ)) → 0 < length bytes → opcode ≡ byte_at bytes 0 → TellsModrm opcode true → answer ≡ modrm_read bytes → ReadsHead opcode bytes answer
+pub reads_head-modrm :
+    (opcode : ℕ) (bytes : List ℕ) (answer : Option (ℕ × ℕ × ℕ)) → 0 < length bytes
+    → opcode ≡ byte_at bytes 0 → TellsModrm opcode true → answer ≡ modrm_read bytes
+    → ReadsHead opcode bytes answer
 reads_head-modrm opcode [] answer l e t r = absurd (omega arith)
 reads_head-modrm opcode (b ∷ bytes) answer l e t r = record {
   of_row = λ row at h.
@@ -97,12 +113,17 @@ reads_head-modrm opcode (b ∷ bytes) answer l e t r = record {
       );
 }
 
-no_head : (row : Row) (b : ℕ) (bytes : List ℕ) → row.has_modrm ≡ false → length row.pattern ≡ 1 → head_of row (b ∷ bytes) ≡ Some (0, 0, 1)
+no_head :
+    (row : Row) (b : ℕ) (bytes : List ℕ) → row.has_modrm ≡ false → length row.pattern ≡ 1
+    → head_of row (b ∷ bytes) ≡ Some (0, 0, 1)
 no_head row b bytes has one =
     let enough : nat_le 1 (length (b ∷ bytes)) ≡ true = grind (arith, nat_tests) in
     rw (has, one) (rw enough refl)
 
-pub reads_head-none : (opcode : ℕ) (bytes : List ℕ) (answer : Option (ℕ × ℕ × ℕ)) → 0 < length bytes → opcode ≡ byte_at bytes 0 → TellsModrm opcode false → answer ≡ Some (0, 0, 1) → ReadsHead opcode bytes answer
+pub reads_head-none :
+    (opcode : ℕ) (bytes : List ℕ) (answer : Option (ℕ × ℕ × ℕ)) → 0 < length bytes
+    → opcode ≡ byte_at bytes 0 → TellsModrm opcode false → answer ≡ Some (0, 0, 1)
+    → ReadsHead opcode bytes answer
 reads_head-none opcode [] answer l e t r = absurd (omega arith)
 reads_head-none opcode (b ∷ bytes) answer l e t r = record {
   of_row = λ row at h.
@@ -118,7 +139,10 @@ reads_head-none opcode (b ∷ bytes) answer l e t r = record {
 
 -- The whole instruction -----------------------------------------------------------------------------
 
-head_some : (row : Row) (bytes : List ℕ) (modrm displacement end : ℕ) → Some (modrm, displacement, end) ≡ head_of row bytes → (nat_le (head_length row bytes) (length bytes) ≡ true) × ((if row.has_modrm then byte_at bytes 1 else 0) ≡ modrm) × ((if row.has_modrm then displacement_at (byte_at bytes 1) bytes (length row.pattern) else 0) ≡ displacement) × (head_length row bytes ≡ end)
+head_some :
+    (row : Row) (bytes : List ℕ) (modrm displacement end : ℕ)
+    → Some (modrm, displacement, end) ≡ head_of row bytes
+    → (nat_le (head_length row bytes) (length bytes) ≡ true) × ((if row.has_modrm then byte_at bytes 1 else 0) ≡ modrm) × ((if row.has_modrm then displacement_at (byte_at bytes 1) bytes (length row.pattern) else 0) ≡ displacement) × (head_length row bytes ≡ end)
 head_some row bytes modrm displacement end e =
     let both = chosen (nat_le (head_length row bytes) (length bytes)) (if row.has_modrm then byte_at bytes 1 else 0, if row.has_modrm then displacement_at (byte_at bytes 1) bytes (length row.pattern) else 0, head_length row bytes) (modrm, displacement, end) (sym e) in
     (both.0, ap (λ (t : ℕ × ℕ × ℕ). t.0) both.1, ap (λ (t : ℕ × ℕ × ℕ). t.1) both.1, ap (λ (t : ℕ × ℕ × ℕ). t.2) both.1)
@@ -128,17 +152,27 @@ abbrev pub fields_with : ℕ → ℕ → ℕ → ℕ → ℕ → ℕ → ℕ →
 fields_with at opcode modrm displacement end size constant =
     record { at = at; opcode = opcode; modrm = modrm; displacement = displacement; constant = constant; len = end + size }
 
-row_form : (row : Row) (bytes : List ℕ) (opcode modrm displacement end : ℕ) (form : Constant) → ReadsHead opcode bytes (Some (modrm, displacement, end)) → TellsConstant opcode modrm form → IsPlainRow row → fits row.pattern bytes ≡ true → row.constant_form ≡ form_of form
+row_form :
+    (row : Row) (bytes : List ℕ) (opcode modrm displacement end : ℕ) (form : Constant)
+    → ReadsHead opcode bytes (Some (modrm, displacement, end)) → TellsConstant opcode modrm form
+    → IsPlainRow row → fits row.pattern bytes ≡ true → row.constant_form ≡ form_of form
 row_form row bytes opcode modrm displacement end form reads tells at h =
     tells.of_row row [] at ((reads.fitting modrm displacement end refl row at).0 h)
 
-whole_length : (row : Row) (bytes : List ℕ) (end : ℕ) (form : ConstantForm) → head_length row bytes ≡ end → row.constant_form ≡ form → end + constant_size form ≡ row_length row bytes
+whole_length :
+    (row : Row) (bytes : List ℕ) (end : ℕ) (form : ConstantForm) → head_length row bytes ≡ end
+    → row.constant_form ≡ form → end + constant_size form ≡ row_length row bytes
 whole_length row bytes end form h k = rw (sym h, sym k) refl
 
-parts_are : {a a' b b' c c' d d' n n' : ℕ} → a ≡ a' → b ≡ b' → c ≡ c' → d ≡ d' → n ≡ n' → ◌≡◌ {A = Parts} (record { opcode = a; modrm = b; displacement = c; constant = d; next = n }) (record { opcode = a'; modrm = b'; displacement = c'; constant = d'; next = n' })
+parts_are :
+    {a a' b b' c c' d d' n n' : ℕ} → a ≡ a' → b ≡ b' → c ≡ c' → d ≡ d' → n ≡ n'
+    → ◌≡◌ {A = Parts} (record { opcode = a; modrm = b; displacement = c; constant = d; next = n }) (record { opcode = a'; modrm = b'; displacement = c'; constant = d'; next = n' })
 parts_are p q r s t = cc
 
-pub reads_rows-none : (bytes : List ℕ) (at opcode modrm displacement end : ℕ) (form : Constant) → ReadsHead opcode bytes (Some (modrm, displacement, end)) → TellsConstant opcode modrm form → None ≡ constant_read (form_of form) bytes end → ReadsRows bytes at None
+pub reads_rows-none :
+    (bytes : List ℕ) (at opcode modrm displacement end : ℕ) (form : Constant)
+    → ReadsHead opcode bytes (Some (modrm, displacement, end)) → TellsConstant opcode modrm form
+    → None ≡ constant_read (form_of form) bytes end → ReadsRows bytes at None
 reads_rows-none bytes at opcode modrm displacement end form reads tells r = record {
   complete = λ row plain h enough.
       let same = row_form row bytes opcode modrm displacement end form reads tells plain h in
@@ -149,7 +183,12 @@ reads_rows-none bytes at opcode modrm displacement end form reads tells r = reco
   cut_short = λ row plain h short. refl;
 }
 
-pub reads_rows-some : (bytes : List ℕ) (at opcode modrm displacement end size constant : ℕ) (form : Constant) → opcode ≡ byte_at bytes 0 → ReadsHead opcode bytes (Some (modrm, displacement, end)) → TellsConstant opcode modrm form → size ≡ constant_size (form_of form) → Some constant ≡ constant_read (form_of form) bytes end → ReadsRows bytes at (Some (fields_with at opcode modrm displacement end size constant))
+pub reads_rows-some :
+    (bytes : List ℕ) (at opcode modrm displacement end size constant : ℕ) (form : Constant)
+    → opcode ≡ byte_at bytes 0 → ReadsHead opcode bytes (Some (modrm, displacement, end))
+    → TellsConstant opcode modrm form → size ≡ constant_size (form_of form)
+    → Some constant ≡ constant_read (form_of form) bytes end
+    → ReadsRows bytes at (Some (fields_with at opcode modrm displacement end size constant))
 reads_rows-some bytes at opcode modrm displacement end size constant form e reads tells s r = record {
   complete = λ row plain h enough.
       let same = row_form row bytes opcode modrm displacement end form reads tells plain h in
@@ -169,7 +208,8 @@ reads_rows-some bytes at opcode modrm displacement end size constant form e read
 }
 
 -- bytes that end within what stands before the constant
-pub reads_rows-cut : (bytes : List ℕ) (at opcode : ℕ) → ReadsHead opcode bytes None → ReadsRows bytes at None
+pub reads_rows-cut :
+    (bytes : List ℕ) (at opcode : ℕ) → ReadsHead opcode bytes None → ReadsRows bytes at None
 reads_rows-cut bytes at opcode reads = record {
   complete = λ row plain h enough.
       let within : nat_le (head_length row bytes) (length bytes) ≡ true = grind (arith, nat_tests) in
@@ -184,7 +224,10 @@ reads_rows-empty [] at l = record {
 }
 reads_rows-empty (b ∷ bytes) at l = absurd (omega arith)
 
-pub fits_as_read : (bytes : List ℕ) (fields : Fields) (displacement end : ℕ) → ReadsHead fields.opcode bytes (Some (fields.modrm, displacement, end)) → FitsAsRead bytes fields
+pub fits_as_read :
+    (bytes : List ℕ) (fields : Fields) (displacement end : ℕ)
+    → ReadsHead fields.opcode bytes (Some (fields.modrm, displacement, end))
+    → FitsAsRead bytes fields
 fits_as_read bytes fields displacement end reads = record {
   of_row = λ row plain. reads.fitting fields.modrm displacement end refl row plain;
 }

@@ -1,17 +1,15 @@
 -- The operation of each row, by its opcode and ModRM byte, and the bytes that have none.
-use Rattle.std.proofs.Common.{◌≡◌, ℕ, ◌+◌, ◌-◌, ◌/◌, ◌%◌, ◌<◌, ◌≤◌, Bool, true, false, not, ◌&&◌, ◌||◌, nat_lt, List, [], ◌∷◌, length, refl, sym, ◌∙◌, ap, inl, inr, arith}
-use Rattle.std.specs.Prelude.{◌≢◌, ◌⊎◌, bit_and, IsTrue, IsFalse, filter, find, slice_get, Option, Some, None, option_map, ◌==◌}
+use Rattle.std.proofs.Common.{◌≡◌, ℕ, ◌-◌, ◌/◌, ◌%◌, ◌<◌, ◌≤◌, Bool, true, false, ◌&&◌, nat_lt, List, [], ◌∷◌, length, refl, ◌∙◌, ap, inl, inr, arith}
+use Rattle.std.specs.Prelude.{◌≢◌, bit_and, find, slice_get, Some, None, ◌==◌}
 use Rattle.std.specs.List.{list_all}
 use Rattle.std.proofs.lemmas.Bool.{cases_lt}
 use Rattle.std.proofs.lemmas.Bool.Decides.{nat_tests}
-use Rattle.dcc_num.specs.declared.Reg.TheVariants.{Bx, Si, Di}
-use Rattle.dcc_num.specs.declared.Width.TheVariants.{Byte as byte_width, Word as word_width}
 use Rattle.dcc_prog.specs.declared.instr.Alu.TheVariants.{Test}
 use Rattle.dcc_prog.specs.declared.instr.Unary.TheVariants.{Inc, Dec}
 use Rattle.dcc_prog.specs.declared.instr.Plain.TheVariants.{Nop, Cbw, Cwd, Xlat, Clc, Stc, Cmc, Cli, Sti, Cld}
-use Rattle.dcc_prog.specs.declared.instr.Op.TheVariants.{Alu as AluOp, Unary as UnaryOp, Shift as ShiftOp, Mov, Xchg, Lea, Push, Pop, Plain as PlainOp, Jump, Branch, Loop, LoopE, LoopNe, Jcxz, Table, Call, Ret, Int21}
-use Rattle.dcc_prog.specs.Operands.{word_register, register, width_of, mod_field, reg_field, rm_field, address, rm_operand}
-use Rattle.dcc_prog.specs.Table.{Range, BytePattern, Row, Parts, fits_byte, fits, table, IsRow, between, bytes_between, this_byte, each_eight, any_modrm, any_operand, memory_operand, register_operand, modrm_bytes, register_below_sp, register_above_sp, rm8, rm16, rm, reg, segment, r8, r16, al, ax, accumulator, imm8, imm16, imm, direct, target, destination, source, alu_of, alu_by_opcode, alu_by_reg, shift_of, shift, unary_of, unary_by_reg, load_address, condition_of, signed_condition_of, branch}
+use Rattle.dcc_prog.specs.declared.instr.Op.TheVariants.{Alu as AluOp, Unary as UnaryOp, Shift as ShiftOp, Mov, Xchg, Push, Pop, Plain as PlainOp, Jump, Loop, LoopE, LoopNe, Jcxz, Call, Ret}
+use Rattle.dcc_prog.specs.Operands.{mod_field, reg_field, rm_field}
+use Rattle.dcc_prog.specs.Table.{Range, BytePattern, Row, Parts, fits_byte, fits, table, between, bytes_between, this_byte, each_eight, modrm_bytes, rm8, rm16, rm, reg, segment, r8, r16, al, ax, accumulator, imm8, imm16, imm, direct, target, destination, source, alu_by_opcode, alu_by_reg, shift_of, shift, unary_by_reg, load_address, condition_of, signed_condition_of, branch}
 use Rattle.dcc_prog.proofs.TableLaws.{and_left, and_right, and_both, find-fits, find-within, rows_within}
 use Rattle.dcc_decode.specs.Reading.{operation_of}
 use Rattle.dcc_decode.proofs.Forms.{fits-between, fits-this, fits-each_eight, fits-modrm, fits-any_operand, fits-one, low_bits}
@@ -19,12 +17,16 @@ use Rattle.dcc_decode.proofs.Forms.{fits-between, fits-this, fits-each_eight, fi
 -- The row that the bytes fit -----------------------------------------------------------------------
 
 -- the row at a place of the table gives the operation where the opcode and the ModRM byte fit it
-of_row : (k : ℕ) (row : Row) (p : Parts) → slice_get table k ≡ Some row → fits row.pattern (p.opcode ∷ p.modrm ∷ []) ≡ true → operation_of p ≡ Some (row.operation p)
+of_row :
+    (k : ℕ) (row : Row) (p : Parts) → slice_get table k ≡ Some row
+    → fits row.pattern (p.opcode ∷ p.modrm ∷ []) ≡ true → operation_of p ≡ Some (row.operation p)
 unfolding operation_of
 of_row k row p at h = rw (find-fits (p.opcode ∷ p.modrm ∷ []) row (k, at) h)
 
 -- no row of more than two bytes fits two
-fits-long : (pattern : List BytePattern) (a b : ℕ) → nat_lt 2 (length pattern) ≡ true → fits pattern (a ∷ b ∷ []) ≡ false
+fits-long :
+    (pattern : List BytePattern) (a b : ℕ) → nat_lt 2 (length pattern) ≡ true
+    → fits pattern (a ∷ b ∷ []) ≡ false
 fits-long [] a b h = cc
 fits-long (p ∷ []) a b h = cc
 fits-long (p ∷ q ∷ []) a b h = cc
@@ -35,7 +37,9 @@ fits-long (p ∷ q ∷ r ∷ rest) a b h = no_third (fits_byte p a) (fits_byte q
     no_third true false = refl
     no_third false y = refl
 
-find-long : (rows : List Row) (a b : ℕ) → list_all (λ row. nat_lt 2 (length row.pattern)) rows ≡ true → find (λ row. fits row.pattern (a ∷ b ∷ [])) rows ≡ None
+find-long :
+    (rows : List Row) (a b : ℕ) → list_all (λ row. nat_lt 2 (length row.pattern)) rows ≡ true
+    → find (λ row. fits row.pattern (a ∷ b ∷ [])) rows ≡ None
 find-long [] a b h = refl
 find-long (row ∷ rows) a b h = rw (fits-long row.pattern a b (and_left _ _ h)) (find-long rows a b (and_right _ _ h))
 
@@ -43,51 +47,78 @@ abbrev empty : List BytePattern → Bool
 empty form = list_all (λ row. nat_lt 2 (length row.pattern)) (rows_within form table)
 
 -- there is no operation where no row of one or two bytes has a part in the form
-none : (form : List BytePattern) (p : Parts) → empty form ≡ true → fits form (p.opcode ∷ p.modrm ∷ []) ≡ true → operation_of p ≡ None
+none :
+    (form : List BytePattern) (p : Parts) → empty form ≡ true
+    → fits form (p.opcode ∷ p.modrm ∷ []) ≡ true → operation_of p ≡ None
 unfolding operation_of
 none form p e h = rw (find-within form (p.opcode ∷ p.modrm ∷ []) table h) (rw (find-long (rows_within form table) p.opcode p.modrm e))
 
 -- the two bytes fit an opcode's pattern, and the ModRM byte's
-one : (first last : ℕ) (p : Parts) → first ≤ p.opcode → p.opcode ≤ last → p.opcode < 256 → fits (bytes_between first last ∷ []) (p.opcode ∷ p.modrm ∷ []) ≡ true
+one :
+    (first last : ℕ) (p : Parts) → first ≤ p.opcode → p.opcode ≤ last → p.opcode < 256
+    → fits (bytes_between first last ∷ []) (p.opcode ∷ p.modrm ∷ []) ≡ true
 one first last p h k l = fits-one _ p.opcode (p.modrm ∷ []) (fits-between first last p.opcode h k l)
 
-eight : (first last : ℕ) (p : Parts) → first ≤ bit_and p.opcode 7 → bit_and p.opcode 7 ≤ last → p.opcode < 64 → fits (each_eight first last ∷ []) (p.opcode ∷ p.modrm ∷ []) ≡ true
+eight :
+    (first last : ℕ) (p : Parts) → first ≤ bit_and p.opcode 7 → bit_and p.opcode 7 ≤ last
+    → p.opcode < 64 → fits (each_eight first last ∷ []) (p.opcode ∷ p.modrm ∷ []) ≡ true
 eight first last p h k l =
     fits-one _ p.opcode (p.modrm ∷ []) (fits-each_eight first last p.opcode (rw low_bits at h) (rw low_bits at k) l)
 
-two : (first last : ℕ) (mods regs rms : Range) (p : Parts) → first ≤ p.opcode → p.opcode ≤ last → p.opcode < 256 → fits_byte (modrm_bytes mods regs rms) p.modrm ≡ true → fits (bytes_between first last ∷ modrm_bytes mods regs rms ∷ []) (p.opcode ∷ p.modrm ∷ []) ≡ true
+two :
+    (first last : ℕ) (mods regs rms : Range) (p : Parts) → first ≤ p.opcode → p.opcode ≤ last
+    → p.opcode < 256 → fits_byte (modrm_bytes mods regs rms) p.modrm ≡ true
+    → fits (bytes_between first last ∷ modrm_bytes mods regs rms ∷ []) (p.opcode ∷ p.modrm ∷ []) ≡ true
 two first last mods regs rms p h k l m =
     and_both _ _ (fits-between first last p.opcode h k l) (fits-one _ p.modrm [] m)
 
-this : (byte : ℕ) (p : Parts) → p.opcode ≡ byte → fits (this_byte byte ∷ []) (p.opcode ∷ p.modrm ∷ []) ≡ true
+-- any ModRM byte
+any :
+    (p : Parts) → p.modrm < 256
+    → fits_byte (modrm_bytes (between 0 3) (between 0 7) (between 0 7)) p.modrm ≡ true
+any p m = fits-any_operand 0 7 p.modrm (omega arith) (omega arith) m
+
+this :
+    (byte : ℕ) (p : Parts) → p.opcode ≡ byte
+    → fits (this_byte byte ∷ []) (p.opcode ∷ p.modrm ∷ []) ≡ true
 this byte p e = fits-one _ p.opcode (p.modrm ∷ []) (fits-this byte p.opcode e)
 
 -- 00 to 3F --------------------------------------------------------------------------------------
 
-pub alu_two : (p : Parts) → p.opcode < 64 → bit_and p.opcode 7 ≤ 3 → p.modrm < 256 → operation_of p ≡ Some (alu_by_opcode p (destination p) (source p))
+pub alu_two :
+    (p : Parts) → p.opcode < 64 → bit_and p.opcode 7 ≤ 3 → p.modrm < 256
+    → operation_of p ≡ Some (alu_by_opcode p (destination p) (source p))
 unfolding table
-alu_two p h k m = of_row 0 _ p refl
-    (and_both _ _ (fits-each_eight 0 3 p.opcode (omega arith) (rw low_bits at k) h) (fits-one _ p.modrm [] (fits-modrm (between 0 3) (between 0 7) (between 0 7) p.modrm (omega arith) (omega arith) (omega arith) (omega arith) (omega arith) (omega arith) m)))
+alu_two p h k m =
+    of_row 0 _ p refl
+    (and_both _ _ (fits-each_eight 0 3 p.opcode (omega arith) (rw low_bits at k) h) (fits-one _ p.modrm [] (any p m)))
 
-pub alu_al : (p : Parts) → p.opcode < 64 → bit_and p.opcode 7 ≡ 4 → operation_of p ≡ Some (alu_by_opcode p al (imm8 p))
+pub alu_al :
+    (p : Parts) → p.opcode < 64 → bit_and p.opcode 7 ≡ 4
+    → operation_of p ≡ Some (alu_by_opcode p al (imm8 p))
 unfolding table
 alu_al p h e = of_row 1 _ p refl (eight 4 4 p (omega arith) (omega arith) h)
 
-pub alu_ax : (p : Parts) → p.opcode < 64 → bit_and p.opcode 7 ≡ 5 → operation_of p ≡ Some (alu_by_opcode p ax (imm16 p))
+pub alu_ax :
+    (p : Parts) → p.opcode < 64 → bit_and p.opcode 7 ≡ 5
+    → operation_of p ≡ Some (alu_by_opcode p ax (imm16 p))
 unfolding table
 alu_ax p h e = of_row 2 _ p refl (eight 5 5 p (omega arith) (omega arith) h)
 
 pub none-eight : (p : Parts) → p.opcode < 64 → 6 ≤ bit_and p.opcode 7 → operation_of p ≡ None
 unfolding table
-none-eight p h k = none (each_eight 6 7 ∷ []) p refl (eight 6 7 p k (rw low_bits (omega arith)) h)
+none-eight p h k =
+    none (each_eight 6 7 ∷ []) p refl (eight 6 7 p k (rw low_bits (omega arith)) h)
 
 -- 40 to 5F --------------------------------------------------------------------------------------
 
-pub inc_register : (p : Parts) → 0x40 ≤ p.opcode → p.opcode ≤ 0x47 → operation_of p ≡ Some (UnaryOp Inc (r16 p))
+pub inc_register :
+    (p : Parts) → 0x40 ≤ p.opcode → p.opcode ≤ 0x47 → operation_of p ≡ Some (UnaryOp Inc (r16 p))
 unfolding table
 inc_register p h k = of_row 11 _ p refl (one 0x40 0x47 p h k (omega arith))
 
-pub dec_register : (p : Parts) → 0x48 ≤ p.opcode → p.opcode ≤ 0x4f → operation_of p ≡ Some (UnaryOp Dec (r16 p))
+pub dec_register :
+    (p : Parts) → 0x48 ≤ p.opcode → p.opcode ≤ 0x4f → operation_of p ≡ Some (UnaryOp Dec (r16 p))
 unfolding table
 dec_register p h k = of_row 12 _ p refl (one 0x48 0x4f p h k (omega arith))
 
@@ -109,48 +140,74 @@ pop_high p h k = of_row 23 _ p refl (one 0x5d 0x5f p h k (omega arith))
 
 pub none-54_54 : (p : Parts) → 0x54 ≤ p.opcode → p.opcode ≤ 0x54 → operation_of p ≡ None
 unfolding table
-none-54_54 p h k = none (bytes_between 0x54 0x54 ∷ []) p refl (one 0x54 0x54 p h k (omega arith))
+none-54_54 p h k =
+    none (bytes_between 0x54 0x54 ∷ []) p refl
+    (one 0x54 0x54 p h k (omega arith))
 
 pub none-5c_5c : (p : Parts) → 0x5c ≤ p.opcode → p.opcode ≤ 0x5c → operation_of p ≡ None
 unfolding table
-none-5c_5c p h k = none (bytes_between 0x5c 0x5c ∷ []) p refl (one 0x5c 0x5c p h k (omega arith))
+none-5c_5c p h k =
+    none (bytes_between 0x5c 0x5c ∷ []) p refl
+    (one 0x5c 0x5c p h k (omega arith))
 
 -- 60 to 7F --------------------------------------------------------------------------------------
 
 pub none-60_6f : (p : Parts) → 0x60 ≤ p.opcode → p.opcode ≤ 0x6f → operation_of p ≡ None
 unfolding table
-none-60_6f p h k = none (bytes_between 0x60 0x6f ∷ []) p refl (one 0x60 0x6f p h k (omega arith))
+none-60_6f p h k =
+    none (bytes_between 0x60 0x6f ∷ []) p refl
+    (one 0x60 0x6f p h k (omega arith))
 
-pub branch_unsigned : (p : Parts) → 0x70 ≤ p.opcode → p.opcode ≤ 0x79 → operation_of p ≡ Some (branch (condition_of (p.opcode - 0x70)) p)
+pub branch_unsigned :
+    (p : Parts) → 0x70 ≤ p.opcode → p.opcode ≤ 0x79
+    → operation_of p ≡ Some (branch (condition_of (p.opcode - 0x70)) p)
 unfolding table
 branch_unsigned p h k = of_row 43 _ p refl (one 0x70 0x79 p h k (omega arith))
 
-pub branch_signed : (p : Parts) → 0x7c ≤ p.opcode → p.opcode ≤ 0x7f → operation_of p ≡ Some (branch (signed_condition_of (p.opcode - 0x7c)) p)
+pub branch_signed :
+    (p : Parts) → 0x7c ≤ p.opcode → p.opcode ≤ 0x7f
+    → operation_of p ≡ Some (branch (signed_condition_of (p.opcode - 0x7c)) p)
 unfolding table
 branch_signed p h k = of_row 44 _ p refl (one 0x7c 0x7f p h k (omega arith))
 
 pub none-7a_7b : (p : Parts) → 0x7a ≤ p.opcode → p.opcode ≤ 0x7b → operation_of p ≡ None
 unfolding table
-none-7a_7b p h k = none (bytes_between 0x7a 0x7b ∷ []) p refl (one 0x7a 0x7b p h k (omega arith))
+none-7a_7b p h k =
+    none (bytes_between 0x7a 0x7b ∷ []) p refl
+    (one 0x7a 0x7b p h k (omega arith))
 
 -- 80 to 8F --------------------------------------------------------------------------------------
 
-pub alu_byte : (p : Parts) → p.opcode ≡ 0x80 → p.modrm < 256 → operation_of p ≡ Some (alu_by_reg p (rm8 p) (imm8 p))
+pub alu_byte :
+    (p : Parts) → p.opcode ≡ 0x80 → p.modrm < 256
+    → operation_of p ≡ Some (alu_by_reg p (rm8 p) (imm8 p))
 unfolding table
-alu_byte p e m = of_row 3 _ p refl
-    (and_both _ _ (fits-this 0x80 p.opcode e) (fits-one _ p.modrm [] (fits-modrm (between 0 3) (between 0 7) (between 0 7) p.modrm (omega arith) (omega arith) (omega arith) (omega arith) (omega arith) (omega arith) m)))
+alu_byte p e m =
+    of_row 3 _ p refl
+    (and_both _ _ (fits-this 0x80 p.opcode e)
+    (fits-one _ p.modrm [] (any p m)))
 
-pub alu_word : (p : Parts) → p.opcode ≡ 0x81 → p.modrm < 256 → operation_of p ≡ Some (alu_by_reg p (rm16 p) (imm16 p))
+pub alu_word :
+    (p : Parts) → p.opcode ≡ 0x81 → p.modrm < 256
+    → operation_of p ≡ Some (alu_by_reg p (rm16 p) (imm16 p))
 unfolding table
-alu_word p e m = of_row 4 _ p refl
-    (and_both _ _ (fits-this 0x81 p.opcode e) (fits-one _ p.modrm [] (fits-modrm (between 0 3) (between 0 7) (between 0 7) p.modrm (omega arith) (omega arith) (omega arith) (omega arith) (omega arith) (omega arith) m)))
+alu_word p e m =
+    of_row 4 _ p refl
+    (and_both _ _ (fits-this 0x81 p.opcode e)
+    (fits-one _ p.modrm [] (any p m)))
 
-pub alu_signed : (p : Parts) → p.opcode ≡ 0x83 → p.modrm < 256 → operation_of p ≡ Some (alu_by_reg p (rm16 p) (imm16 p))
+pub alu_signed :
+    (p : Parts) → p.opcode ≡ 0x83 → p.modrm < 256
+    → operation_of p ≡ Some (alu_by_reg p (rm16 p) (imm16 p))
 unfolding table
-alu_signed p e m = of_row 5 _ p refl
-    (and_both _ _ (fits-this 0x83 p.opcode e) (fits-one _ p.modrm [] (fits-modrm (between 0 3) (between 0 7) (between 0 7) p.modrm (omega arith) (omega arith) (omega arith) (omega arith) (omega arith) (omega arith) m)))
+alu_signed p e m =
+    of_row 5 _ p refl
+    (and_both _ _ (fits-this 0x83 p.opcode e)
+    (fits-one _ p.modrm [] (any p m)))
 
-pub alu_constant_word : (p : Parts) → 0x81 ≤ p.opcode → p.opcode ≤ 0x83 → p.opcode ≢ 0x82 → p.modrm < 256 → operation_of p ≡ Some (alu_by_reg p (rm16 p) (imm16 p))
+pub alu_constant_word :
+    (p : Parts) → 0x81 ≤ p.opcode → p.opcode ≤ 0x83 → p.opcode ≢ 0x82 → p.modrm < 256
+    → operation_of p ≡ Some (alu_by_reg p (rm16 p) (imm16 p))
 alu_constant_word p h k n m =
     elim (cases_lt p.opcode 0x82) [
       | inl l ↦ alu_word p (omega arith) m
@@ -159,100 +216,188 @@ alu_constant_word p h k n m =
 
 pub none-82_82 : (p : Parts) → 0x82 ≤ p.opcode → p.opcode ≤ 0x82 → operation_of p ≡ None
 unfolding table
-none-82_82 p h k = none (bytes_between 0x82 0x82 ∷ []) p refl (one 0x82 0x82 p h k (omega arith))
+none-82_82 p h k =
+    none (bytes_between 0x82 0x82 ∷ []) p refl
+    (one 0x82 0x82 p h k (omega arith))
 
-pub test_two : (p : Parts) → 0x84 ≤ p.opcode → p.opcode ≤ 0x85 → p.modrm < 256 → operation_of p ≡ Some (AluOp Test (rm p) (reg p))
+pub test_two :
+    (p : Parts) → 0x84 ≤ p.opcode → p.opcode ≤ 0x85 → p.modrm < 256
+    → operation_of p ≡ Some (AluOp Test (rm p) (reg p))
 unfolding table
-test_two p h k m = of_row 6 _ p refl
-    (and_both _ _ (fits-between 0x84 0x85 p.opcode h k (omega arith)) (fits-one _ p.modrm [] (fits-modrm (between 0 3) (between 0 7) (between 0 7) p.modrm (omega arith) (omega arith) (omega arith) (omega arith) (omega arith) (omega arith) m)))
+test_two p h k m =
+    of_row 6 _ p refl
+    (and_both _ _ (fits-between 0x84 0x85 p.opcode h k (omega arith))
+    (fits-one _ p.modrm [] (any p m)))
 
-pub xchg_two : (p : Parts) → 0x86 ≤ p.opcode → p.opcode ≤ 0x87 → p.modrm < 256 → operation_of p ≡ Some (Xchg (rm p) (reg p))
+pub xchg_two :
+    (p : Parts) → 0x86 ≤ p.opcode → p.opcode ≤ 0x87 → p.modrm < 256
+    → operation_of p ≡ Some (Xchg (rm p) (reg p))
 unfolding table
-xchg_two p h k m = of_row 30 _ p refl
-    (and_both _ _ (fits-between 0x86 0x87 p.opcode h k (omega arith)) (fits-one _ p.modrm [] (fits-modrm (between 0 3) (between 0 7) (between 0 7) p.modrm (omega arith) (omega arith) (omega arith) (omega arith) (omega arith) (omega arith) m)))
+xchg_two p h k m =
+    of_row 30 _ p refl
+    (and_both _ _ (fits-between 0x86 0x87 p.opcode h k (omega arith))
+    (fits-one _ p.modrm [] (any p m)))
 
-pub mov_two : (p : Parts) → 0x88 ≤ p.opcode → p.opcode ≤ 0x8b → p.modrm < 256 → operation_of p ≡ Some (Mov (destination p) (source p))
+pub mov_two :
+    (p : Parts) → 0x88 ≤ p.opcode → p.opcode ≤ 0x8b → p.modrm < 256
+    → operation_of p ≡ Some (Mov (destination p) (source p))
 unfolding table
-mov_two p h k m = of_row 32 _ p refl
-    (and_both _ _ (fits-between 0x88 0x8b p.opcode h k (omega arith)) (fits-one _ p.modrm [] (fits-modrm (between 0 3) (between 0 7) (between 0 7) p.modrm (omega arith) (omega arith) (omega arith) (omega arith) (omega arith) (omega arith) m)))
+mov_two p h k m =
+    of_row 32 _ p refl
+    (and_both _ _ (fits-between 0x88 0x8b p.opcode h k (omega arith))
+    (fits-one _ p.modrm [] (any p m)))
 
-pub mov_from_segment : (p : Parts) → p.opcode ≡ 0x8c → mod_field p.modrm ≡ 3 → reg_field p.modrm ≤ 3 → p.modrm < 256 → operation_of p ≡ Some (Mov (rm16 p) (segment p))
+pub mov_from_segment :
+    (p : Parts) → p.opcode ≡ 0x8c → mod_field p.modrm ≡ 3 → reg_field p.modrm ≤ 3 → p.modrm < 256
+    → operation_of p ≡ Some (Mov (rm16 p) (segment p))
 unfolding table
-mov_from_segment p e mod_is reg_high m = of_row 33 _ p refl
-    (and_both _ _ (fits-this 0x8c p.opcode e) (fits-one _ p.modrm [] (fits-modrm (between 3 3) (between 0 3) (between 0 7) p.modrm (omega arith) (omega arith) (omega arith) (omega arith) (omega arith) (omega arith) m)))
+mov_from_segment p e mod_is reg_high m =
+    of_row 33 _ p refl
+    (and_both _ _ (fits-this 0x8c p.opcode e)
+    (fits-one _ p.modrm [] (fits-modrm (between 3 3) (between 0 3) (between 0 7) p.modrm
+    (omega arith) (omega arith) (omega arith) (omega arith) (omega arith) (omega arith) m)))
 
-pub mov_to_es : (p : Parts) → p.opcode ≡ 0x8e → mod_field p.modrm ≡ 3 → reg_field p.modrm ≡ 0 → p.modrm < 256 → operation_of p ≡ Some (Mov (segment p) (rm16 p))
+pub mov_to_es :
+    (p : Parts) → p.opcode ≡ 0x8e → mod_field p.modrm ≡ 3 → reg_field p.modrm ≡ 0 → p.modrm < 256
+    → operation_of p ≡ Some (Mov (segment p) (rm16 p))
 unfolding table
-mov_to_es p e mod_is reg_is m = of_row 34 _ p refl
-    (and_both _ _ (fits-this 0x8e p.opcode e) (fits-one _ p.modrm [] (fits-modrm (between 3 3) (between 0 0) (between 0 7) p.modrm (omega arith) (omega arith) (omega arith) (omega arith) (omega arith) (omega arith) m)))
+mov_to_es p e mod_is reg_is m =
+    of_row 34 _ p refl
+    (and_both _ _ (fits-this 0x8e p.opcode e)
+    (fits-one _ p.modrm [] (fits-modrm (between 3 3) (between 0 0) (between 0 7) p.modrm
+    (omega arith) (omega arith) (omega arith) (omega arith) (omega arith) (omega arith) m)))
 
-pub mov_to_segment : (p : Parts) → p.opcode ≡ 0x8e → mod_field p.modrm ≡ 3 → 2 ≤ reg_field p.modrm → reg_field p.modrm ≤ 3 → p.modrm < 256 → operation_of p ≡ Some (Mov (segment p) (rm16 p))
+pub mov_to_segment :
+    (p : Parts) → p.opcode ≡ 0x8e → mod_field p.modrm ≡ 3 → 2 ≤ reg_field p.modrm
+    → reg_field p.modrm ≤ 3 → p.modrm < 256 → operation_of p ≡ Some (Mov (segment p) (rm16 p))
 unfolding table
-mov_to_segment p e mod_is reg_low reg_high m = of_row 35 _ p refl
-    (and_both _ _ (fits-this 0x8e p.opcode e) (fits-one _ p.modrm [] (fits-modrm (between 3 3) (between 2 3) (between 0 7) p.modrm (omega arith) (omega arith) (omega arith) (omega arith) (omega arith) (omega arith) m)))
+mov_to_segment p e mod_is reg_low reg_high m =
+    of_row 35 _ p refl
+    (and_both _ _ (fits-this 0x8e p.opcode e)
+    (fits-one _ p.modrm [] (fits-modrm (between 3 3) (between 2 3) (between 0 7) p.modrm
+    (omega arith) (omega arith) (omega arith) (omega arith) (omega arith) (omega arith) m)))
 
-pub none-8c_memory : (p : Parts) → 0x8c ≤ p.opcode → p.opcode ≤ 0x8c → mod_field p.modrm ≤ 2 → p.modrm < 256 → operation_of p ≡ None
+pub none-8c_memory :
+    (p : Parts) → 0x8c ≤ p.opcode → p.opcode ≤ 0x8c → mod_field p.modrm ≤ 2 → p.modrm < 256
+    → operation_of p ≡ None
 unfolding table
-none-8c_memory p h k mod_high m = none (bytes_between 0x8c 0x8c ∷ modrm_bytes (between 0 2) (between 0 7) (between 0 7) ∷ []) p refl
-    (and_both _ _ (fits-between 0x8c 0x8c p.opcode h k (omega arith)) (fits-one _ p.modrm [] (fits-modrm (between 0 2) (between 0 7) (between 0 7) p.modrm (omega arith) (omega arith) (omega arith) (omega arith) (omega arith) (omega arith) m)))
+none-8c_memory p h k mod_high m =
+    none (bytes_between 0x8c 0x8c ∷ modrm_bytes (between 0 2) (between 0 7) (between 0 7) ∷ []) p refl
+    (and_both _ _ (fits-between 0x8c 0x8c p.opcode h k (omega arith))
+    (fits-one _ p.modrm [] (fits-modrm (between 0 2) (between 0 7) (between 0 7) p.modrm
+    (omega arith) (omega arith) (omega arith) (omega arith) (omega arith) (omega arith) m)))
 
-pub none-8c_high : (p : Parts) → 0x8c ≤ p.opcode → p.opcode ≤ 0x8c → 4 ≤ reg_field p.modrm → p.modrm < 256 → operation_of p ≡ None
+pub none-8c_high :
+    (p : Parts) → 0x8c ≤ p.opcode → p.opcode ≤ 0x8c → 4 ≤ reg_field p.modrm → p.modrm < 256
+    → operation_of p ≡ None
 unfolding table
-none-8c_high p h k reg_low m = none (bytes_between 0x8c 0x8c ∷ modrm_bytes (between 0 3) (between 4 7) (between 0 7) ∷ []) p refl
-    (and_both _ _ (fits-between 0x8c 0x8c p.opcode h k (omega arith)) (fits-one _ p.modrm [] (fits-modrm (between 0 3) (between 4 7) (between 0 7) p.modrm (omega arith) (omega arith) (omega arith) (omega arith) (omega arith) (omega arith) m)))
+none-8c_high p h k reg_low m =
+    none (bytes_between 0x8c 0x8c ∷ modrm_bytes (between 0 3) (between 4 7) (between 0 7) ∷ []) p refl
+    (and_both _ _ (fits-between 0x8c 0x8c p.opcode h k (omega arith))
+    (fits-one _ p.modrm [] (fits-any_operand 4 7 p.modrm (omega arith) (omega arith) m)))
 
-pub none-8e_memory : (p : Parts) → 0x8e ≤ p.opcode → p.opcode ≤ 0x8e → mod_field p.modrm ≤ 2 → p.modrm < 256 → operation_of p ≡ None
+pub none-8e_memory :
+    (p : Parts) → 0x8e ≤ p.opcode → p.opcode ≤ 0x8e → mod_field p.modrm ≤ 2 → p.modrm < 256
+    → operation_of p ≡ None
 unfolding table
-none-8e_memory p h k mod_high m = none (bytes_between 0x8e 0x8e ∷ modrm_bytes (between 0 2) (between 0 7) (between 0 7) ∷ []) p refl
-    (and_both _ _ (fits-between 0x8e 0x8e p.opcode h k (omega arith)) (fits-one _ p.modrm [] (fits-modrm (between 0 2) (between 0 7) (between 0 7) p.modrm (omega arith) (omega arith) (omega arith) (omega arith) (omega arith) (omega arith) m)))
+none-8e_memory p h k mod_high m =
+    none (bytes_between 0x8e 0x8e ∷ modrm_bytes (between 0 2) (between 0 7) (between 0 7) ∷ []) p refl
+    (and_both _ _ (fits-between 0x8e 0x8e p.opcode h k (omega arith))
+    (fits-one _ p.modrm [] (fits-modrm (between 0 2) (between 0 7) (between 0 7) p.modrm
+    (omega arith) (omega arith) (omega arith) (omega arith) (omega arith) (omega arith) m)))
 
-pub none-8e_cs : (p : Parts) → 0x8e ≤ p.opcode → p.opcode ≤ 0x8e → reg_field p.modrm ≡ 1 → p.modrm < 256 → operation_of p ≡ None
+pub none-8e_cs :
+    (p : Parts) → 0x8e ≤ p.opcode → p.opcode ≤ 0x8e → reg_field p.modrm ≡ 1 → p.modrm < 256
+    → operation_of p ≡ None
 unfolding table
-none-8e_cs p h k reg_is m = none (bytes_between 0x8e 0x8e ∷ modrm_bytes (between 0 3) (between 1 1) (between 0 7) ∷ []) p refl
-    (and_both _ _ (fits-between 0x8e 0x8e p.opcode h k (omega arith)) (fits-one _ p.modrm [] (fits-modrm (between 0 3) (between 1 1) (between 0 7) p.modrm (omega arith) (omega arith) (omega arith) (omega arith) (omega arith) (omega arith) m)))
+none-8e_cs p h k reg_is m =
+    none (bytes_between 0x8e 0x8e ∷ modrm_bytes (between 0 3) (between 1 1) (between 0 7) ∷ []) p refl
+    (and_both _ _ (fits-between 0x8e 0x8e p.opcode h k (omega arith))
+    (fits-one _ p.modrm [] (fits-any_operand 1 1 p.modrm (omega arith) (omega arith) m)))
 
-pub none-8e_high : (p : Parts) → 0x8e ≤ p.opcode → p.opcode ≤ 0x8e → 4 ≤ reg_field p.modrm → p.modrm < 256 → operation_of p ≡ None
+pub none-8e_high :
+    (p : Parts) → 0x8e ≤ p.opcode → p.opcode ≤ 0x8e → 4 ≤ reg_field p.modrm → p.modrm < 256
+    → operation_of p ≡ None
 unfolding table
-none-8e_high p h k reg_low m = none (bytes_between 0x8e 0x8e ∷ modrm_bytes (between 0 3) (between 4 7) (between 0 7) ∷ []) p refl
-    (and_both _ _ (fits-between 0x8e 0x8e p.opcode h k (omega arith)) (fits-one _ p.modrm [] (fits-modrm (between 0 3) (between 4 7) (between 0 7) p.modrm (omega arith) (omega arith) (omega arith) (omega arith) (omega arith) (omega arith) m)))
+none-8e_high p h k reg_low m =
+    none (bytes_between 0x8e 0x8e ∷ modrm_bytes (between 0 3) (between 4 7) (between 0 7) ∷ []) p refl
+    (and_both _ _ (fits-between 0x8e 0x8e p.opcode h k (omega arith))
+    (fits-one _ p.modrm [] (fits-any_operand 4 7 p.modrm (omega arith) (omega arith) m)))
 
-pub lea : (p : Parts) → p.opcode ≡ 0x8d → mod_field p.modrm ≤ 2 → p.modrm < 256 → operation_of p ≡ Some (load_address p)
+pub lea :
+    (p : Parts) → p.opcode ≡ 0x8d → mod_field p.modrm ≤ 2 → p.modrm < 256
+    → operation_of p ≡ Some (load_address p)
 unfolding table
-lea p e mod_high m = of_row 36 _ p refl
-    (and_both _ _ (fits-this 0x8d p.opcode e) (fits-one _ p.modrm [] (fits-modrm (between 0 2) (between 0 7) (between 0 7) p.modrm (omega arith) (omega arith) (omega arith) (omega arith) (omega arith) (omega arith) m)))
+lea p e mod_high m =
+    of_row 36 _ p refl
+    (and_both _ _ (fits-this 0x8d p.opcode e)
+    (fits-one _ p.modrm [] (fits-modrm (between 0 2) (between 0 7) (between 0 7) p.modrm
+    (omega arith) (omega arith) (omega arith) (omega arith) (omega arith) (omega arith) m)))
 
-pub none-8d : (p : Parts) → 0x8d ≤ p.opcode → p.opcode ≤ 0x8d → mod_field p.modrm ≡ 3 → p.modrm < 256 → operation_of p ≡ None
+pub none-8d :
+    (p : Parts) → 0x8d ≤ p.opcode → p.opcode ≤ 0x8d → mod_field p.modrm ≡ 3 → p.modrm < 256
+    → operation_of p ≡ None
 unfolding table
-none-8d p h k mod_is m = none (bytes_between 0x8d 0x8d ∷ modrm_bytes (between 3 3) (between 0 7) (between 0 7) ∷ []) p refl
-    (and_both _ _ (fits-between 0x8d 0x8d p.opcode h k (omega arith)) (fits-one _ p.modrm [] (fits-modrm (between 3 3) (between 0 7) (between 0 7) p.modrm (omega arith) (omega arith) (omega arith) (omega arith) (omega arith) (omega arith) m)))
+none-8d p h k mod_is m =
+    none (bytes_between 0x8d 0x8d ∷ modrm_bytes (between 3 3) (between 0 7) (between 0 7) ∷ []) p refl
+    (and_both _ _ (fits-between 0x8d 0x8d p.opcode h k (omega arith))
+    (fits-one _ p.modrm [] (fits-modrm (between 3 3) (between 0 7) (between 0 7) p.modrm
+    (omega arith) (omega arith) (omega arith) (omega arith) (omega arith) (omega arith) m)))
 
-pub pop_memory : (p : Parts) → p.opcode ≡ 0x8f → mod_field p.modrm ≤ 2 → reg_field p.modrm ≡ 0 → p.modrm < 256 → operation_of p ≡ Some (Pop (rm16 p))
+pub pop_memory :
+    (p : Parts) → p.opcode ≡ 0x8f → mod_field p.modrm ≤ 2 → reg_field p.modrm ≡ 0 → p.modrm < 256
+    → operation_of p ≡ Some (Pop (rm16 p))
 unfolding table
-pop_memory p e mod_high reg_is m = of_row 27 _ p refl
-    (and_both _ _ (fits-this 0x8f p.opcode e) (fits-one _ p.modrm [] (fits-modrm (between 0 2) (between 0 0) (between 0 7) p.modrm (omega arith) (omega arith) (omega arith) (omega arith) (omega arith) (omega arith) m)))
+pop_memory p e mod_high reg_is m =
+    of_row 27 _ p refl
+    (and_both _ _ (fits-this 0x8f p.opcode e)
+    (fits-one _ p.modrm [] (fits-modrm (between 0 2) (between 0 0) (between 0 7) p.modrm
+    (omega arith) (omega arith) (omega arith) (omega arith) (omega arith) (omega arith) m)))
 
-pub pop_below_sp : (p : Parts) → p.opcode ≡ 0x8f → mod_field p.modrm ≡ 3 → reg_field p.modrm ≡ 0 → rm_field p.modrm ≤ 3 → p.modrm < 256 → operation_of p ≡ Some (Pop (rm16 p))
+pub pop_below_sp :
+    (p : Parts) → p.opcode ≡ 0x8f → mod_field p.modrm ≡ 3 → reg_field p.modrm ≡ 0
+    → rm_field p.modrm ≤ 3 → p.modrm < 256 → operation_of p ≡ Some (Pop (rm16 p))
 unfolding table
-pop_below_sp p e mod_is reg_is rm_high m = of_row 28 _ p refl
-    (and_both _ _ (fits-this 0x8f p.opcode e) (fits-one _ p.modrm [] (fits-modrm (between 3 3) (between 0 0) (between 0 3) p.modrm (omega arith) (omega arith) (omega arith) (omega arith) (omega arith) (omega arith) m)))
+pop_below_sp p e mod_is reg_is rm_high m =
+    of_row 28 _ p refl
+    (and_both _ _ (fits-this 0x8f p.opcode e)
+    (fits-one _ p.modrm [] (fits-modrm (between 3 3) (between 0 0) (between 0 3) p.modrm
+    (omega arith) (omega arith) (omega arith) (omega arith) (omega arith) (omega arith) m)))
 
-pub pop_above_sp : (p : Parts) → p.opcode ≡ 0x8f → mod_field p.modrm ≡ 3 → reg_field p.modrm ≡ 0 → 5 ≤ rm_field p.modrm → p.modrm < 256 → operation_of p ≡ Some (Pop (rm16 p))
+pub pop_above_sp :
+    (p : Parts) → p.opcode ≡ 0x8f → mod_field p.modrm ≡ 3 → reg_field p.modrm ≡ 0
+    → 5 ≤ rm_field p.modrm → p.modrm < 256 → operation_of p ≡ Some (Pop (rm16 p))
 unfolding table
-pop_above_sp p e mod_is reg_is rm_low m = of_row 29 _ p refl
-    (and_both _ _ (fits-this 0x8f p.opcode e) (fits-one _ p.modrm [] (fits-modrm (between 3 3) (between 0 0) (between 5 7) p.modrm (omega arith) (omega arith) (omega arith) (omega arith) (omega arith) (omega arith) m)))
+pop_above_sp p e mod_is reg_is rm_low m =
+    of_row 29 _ p refl
+    (and_both _ _ (fits-this 0x8f p.opcode e)
+    (fits-one _ p.modrm [] (fits-modrm (between 3 3) (between 0 0) (between 5 7) p.modrm
+    (omega arith) (omega arith) (omega arith) (omega arith) (omega arith) (omega arith) m)))
 
-pub none-8f_group : (p : Parts) → 0x8f ≤ p.opcode → p.opcode ≤ 0x8f → 1 ≤ reg_field p.modrm → p.modrm < 256 → operation_of p ≡ None
+pub none-8f_group :
+    (p : Parts) → 0x8f ≤ p.opcode → p.opcode ≤ 0x8f → 1 ≤ reg_field p.modrm → p.modrm < 256
+    → operation_of p ≡ None
 unfolding table
-none-8f_group p h k reg_low m = none (bytes_between 0x8f 0x8f ∷ modrm_bytes (between 0 3) (between 1 7) (between 0 7) ∷ []) p refl
-    (and_both _ _ (fits-between 0x8f 0x8f p.opcode h k (omega arith)) (fits-one _ p.modrm [] (fits-modrm (between 0 3) (between 1 7) (between 0 7) p.modrm (omega arith) (omega arith) (omega arith) (omega arith) (omega arith) (omega arith) m)))
+none-8f_group p h k reg_low m =
+    none (bytes_between 0x8f 0x8f ∷ modrm_bytes (between 0 3) (between 1 7) (between 0 7) ∷ []) p refl
+    (and_both _ _ (fits-between 0x8f 0x8f p.opcode h k (omega arith))
+    (fits-one _ p.modrm [] (fits-any_operand 1 7 p.modrm (omega arith) (omega arith) m)))
 
-pub none-8f_sp : (p : Parts) → 0x8f ≤ p.opcode → p.opcode ≤ 0x8f → mod_field p.modrm ≡ 3 → rm_field p.modrm ≡ 4 → p.modrm < 256 → operation_of p ≡ None
+pub none-8f_sp :
+    (p : Parts) → 0x8f ≤ p.opcode → p.opcode ≤ 0x8f → mod_field p.modrm ≡ 3 → rm_field p.modrm ≡ 4
+    → p.modrm < 256 → operation_of p ≡ None
 unfolding table
-none-8f_sp p h k mod_is rm_is m = none (bytes_between 0x8f 0x8f ∷ modrm_bytes (between 3 3) (between 0 7) (between 4 4) ∷ []) p refl
-    (and_both _ _ (fits-between 0x8f 0x8f p.opcode h k (omega arith)) (fits-one _ p.modrm [] (fits-modrm (between 3 3) (between 0 7) (between 4 4) p.modrm (omega arith) (omega arith) (omega arith) (omega arith) (omega arith) (omega arith) m)))
+none-8f_sp p h k mod_is rm_is m =
+    none (bytes_between 0x8f 0x8f ∷ modrm_bytes (between 3 3) (between 0 7) (between 4 4) ∷ []) p refl
+    (and_both _ _ (fits-between 0x8f 0x8f p.opcode h k (omega arith))
+    (fits-one _ p.modrm [] (fits-modrm (between 3 3) (between 0 7) (between 4 4) p.modrm
+    (omega arith) (omega arith) (omega arith) (omega arith) (omega arith) (omega arith) m)))
 
 -- the word register SP is excepted
-pub pop_not_sp : (p : Parts) → p.opcode ≡ 0x8f → reg_field p.modrm ≡ 0 → (mod_field p.modrm == 3) && (rm_field p.modrm == 4) ≡ false → p.modrm < 256 → operation_of p ≡ Some (Pop (rm16 p))
+pub pop_not_sp :
+    (p : Parts) → p.opcode ≡ 0x8f → reg_field p.modrm ≡ 0
+    → (mod_field p.modrm == 3) && (rm_field p.modrm == 4) ≡ false → p.modrm < 256
+    → operation_of p ≡ Some (Pop (rm16 p))
 pop_not_sp p e r n m =
     elim (cases_lt (mod_field p.modrm) 3) [
       | inl a ↦ pop_memory p e (omega arith) r m
@@ -266,7 +411,10 @@ pop_not_sp p e r n m =
           ]
     ]
 
-pub pop_sp : (p : Parts) → p.opcode ≡ 0x8f → reg_field p.modrm ≡ 0 → (mod_field p.modrm == 3) && (rm_field p.modrm == 4) ≡ true → p.modrm < 256 → operation_of p ≡ None
+pub pop_sp :
+    (p : Parts) → p.opcode ≡ 0x8f → reg_field p.modrm ≡ 0
+    → (mod_field p.modrm == 3) && (rm_field p.modrm == 4) ≡ true → p.modrm < 256
+    → operation_of p ≡ None
 pop_sp p e r n m =
     let mod_is : mod_field p.modrm ≡ 3 = grind (arith, nat_tests) in
     let rm_is : rm_field p.modrm ≡ 4 = grind (arith, nat_tests) in
@@ -278,7 +426,8 @@ pub nop : (p : Parts) → p.opcode ≡ 0x90 → operation_of p ≡ Some (PlainOp
 unfolding table
 nop p e = of_row 58 _ p refl (this 0x90 p e)
 
-pub xchg_register : (p : Parts) → 0x91 ≤ p.opcode → p.opcode ≤ 0x97 → operation_of p ≡ Some (Xchg ax (r16 p))
+pub xchg_register :
+    (p : Parts) → 0x91 ≤ p.opcode → p.opcode ≤ 0x97 → operation_of p ≡ Some (Xchg ax (r16 p))
 unfolding table
 xchg_register p h k = of_row 31 _ p refl (one 0x91 0x97 p h k (omega arith))
 
@@ -292,13 +441,19 @@ cwd p e = of_row 60 _ p refl (this 0x99 p e)
 
 pub none-9a_9f : (p : Parts) → 0x9a ≤ p.opcode → p.opcode ≤ 0x9f → operation_of p ≡ None
 unfolding table
-none-9a_9f p h k = none (bytes_between 0x9a 0x9f ∷ []) p refl (one 0x9a 0x9f p h k (omega arith))
+none-9a_9f p h k =
+    none (bytes_between 0x9a 0x9f ∷ []) p refl
+    (one 0x9a 0x9f p h k (omega arith))
 
-pub mov_from_direct : (p : Parts) → 0xa0 ≤ p.opcode → p.opcode ≤ 0xa1 → operation_of p ≡ Some (Mov (accumulator p) (direct p))
+pub mov_from_direct :
+    (p : Parts) → 0xa0 ≤ p.opcode → p.opcode ≤ 0xa1
+    → operation_of p ≡ Some (Mov (accumulator p) (direct p))
 unfolding table
 mov_from_direct p h k = of_row 37 _ p refl (one 0xa0 0xa1 p h k (omega arith))
 
-pub mov_to_direct : (p : Parts) → 0xa2 ≤ p.opcode → p.opcode ≤ 0xa3 → operation_of p ≡ Some (Mov (direct p) (accumulator p))
+pub mov_to_direct :
+    (p : Parts) → 0xa2 ≤ p.opcode → p.opcode ≤ 0xa3
+    → operation_of p ≡ Some (Mov (direct p) (accumulator p))
 unfolding table
 mov_to_direct p h k = of_row 38 _ p refl (one 0xa2 0xa3 p h k (omega arith))
 
@@ -312,17 +467,23 @@ test_ax p e = of_row 8 _ p refl (this 0xa9 p e)
 
 pub none-a4_a7 : (p : Parts) → 0xa4 ≤ p.opcode → p.opcode ≤ 0xa7 → operation_of p ≡ None
 unfolding table
-none-a4_a7 p h k = none (bytes_between 0xa4 0xa7 ∷ []) p refl (one 0xa4 0xa7 p h k (omega arith))
+none-a4_a7 p h k =
+    none (bytes_between 0xa4 0xa7 ∷ []) p refl
+    (one 0xa4 0xa7 p h k (omega arith))
 
 pub none-aa_af : (p : Parts) → 0xaa ≤ p.opcode → p.opcode ≤ 0xaf → operation_of p ≡ None
 unfolding table
-none-aa_af p h k = none (bytes_between 0xaa 0xaf ∷ []) p refl (one 0xaa 0xaf p h k (omega arith))
+none-aa_af p h k =
+    none (bytes_between 0xaa 0xaf ∷ []) p refl
+    (one 0xaa 0xaf p h k (omega arith))
 
-pub mov_byte : (p : Parts) → 0xb0 ≤ p.opcode → p.opcode ≤ 0xb7 → operation_of p ≡ Some (Mov (r8 p) (imm8 p))
+pub mov_byte :
+    (p : Parts) → 0xb0 ≤ p.opcode → p.opcode ≤ 0xb7 → operation_of p ≡ Some (Mov (r8 p) (imm8 p))
 unfolding table
 mov_byte p h k = of_row 39 _ p refl (one 0xb0 0xb7 p h k (omega arith))
 
-pub mov_word : (p : Parts) → 0xb8 ≤ p.opcode → p.opcode ≤ 0xbf → operation_of p ≡ Some (Mov (r16 p) (imm16 p))
+pub mov_word :
+    (p : Parts) → 0xb8 ≤ p.opcode → p.opcode ≤ 0xbf → operation_of p ≡ Some (Mov (r16 p) (imm16 p))
 unfolding table
 mov_word p h k = of_row 40 _ p refl (one 0xb8 0xbf p h k (omega arith))
 
@@ -336,61 +497,101 @@ pub ret : (p : Parts) → p.opcode ≡ 0xc3 → operation_of p ≡ Some (Ret 0)
 unfolding table
 ret p e = of_row 53 _ p refl (this 0xc3 p e)
 
-pub mov_operand_byte : (p : Parts) → p.opcode ≡ 0xc6 → reg_field p.modrm ≡ 0 → p.modrm < 256 → operation_of p ≡ Some (Mov (rm p) (imm p))
+pub mov_operand_byte :
+    (p : Parts) → p.opcode ≡ 0xc6 → reg_field p.modrm ≡ 0 → p.modrm < 256
+    → operation_of p ≡ Some (Mov (rm p) (imm p))
 unfolding table
-mov_operand_byte p e reg_is m = of_row 41 _ p refl
-    (and_both _ _ (fits-this 0xc6 p.opcode e) (fits-one _ p.modrm [] (fits-modrm (between 0 3) (between 0 0) (between 0 7) p.modrm (omega arith) (omega arith) (omega arith) (omega arith) (omega arith) (omega arith) m)))
+mov_operand_byte p e reg_is m =
+    of_row 41 _ p refl
+    (and_both _ _ (fits-this 0xc6 p.opcode e)
+    (fits-one _ p.modrm [] (fits-any_operand 0 0 p.modrm (omega arith) (omega arith) m)))
 
-pub mov_operand_word : (p : Parts) → p.opcode ≡ 0xc7 → reg_field p.modrm ≡ 0 → p.modrm < 256 → operation_of p ≡ Some (Mov (rm p) (imm p))
+pub mov_operand_word :
+    (p : Parts) → p.opcode ≡ 0xc7 → reg_field p.modrm ≡ 0 → p.modrm < 256
+    → operation_of p ≡ Some (Mov (rm p) (imm p))
 unfolding table
-mov_operand_word p e reg_is m = of_row 42 _ p refl
-    (and_both _ _ (fits-this 0xc7 p.opcode e) (fits-one _ p.modrm [] (fits-modrm (between 0 3) (between 0 0) (between 0 7) p.modrm (omega arith) (omega arith) (omega arith) (omega arith) (omega arith) (omega arith) m)))
+mov_operand_word p e reg_is m =
+    of_row 42 _ p refl
+    (and_both _ _ (fits-this 0xc7 p.opcode e)
+    (fits-one _ p.modrm [] (fits-any_operand 0 0 p.modrm (omega arith) (omega arith) m)))
 
 pub none-c0_c1 : (p : Parts) → 0xc0 ≤ p.opcode → p.opcode ≤ 0xc1 → operation_of p ≡ None
 unfolding table
-none-c0_c1 p h k = none (bytes_between 0xc0 0xc1 ∷ []) p refl (one 0xc0 0xc1 p h k (omega arith))
+none-c0_c1 p h k =
+    none (bytes_between 0xc0 0xc1 ∷ []) p refl
+    (one 0xc0 0xc1 p h k (omega arith))
 
 pub none-c4_c5 : (p : Parts) → 0xc4 ≤ p.opcode → p.opcode ≤ 0xc5 → operation_of p ≡ None
 unfolding table
-none-c4_c5 p h k = none (bytes_between 0xc4 0xc5 ∷ []) p refl (one 0xc4 0xc5 p h k (omega arith))
+none-c4_c5 p h k =
+    none (bytes_between 0xc4 0xc5 ∷ []) p refl
+    (one 0xc4 0xc5 p h k (omega arith))
 
 pub none-c8_cc : (p : Parts) → 0xc8 ≤ p.opcode → p.opcode ≤ 0xcc → operation_of p ≡ None
 unfolding table
-none-c8_cc p h k = none (bytes_between 0xc8 0xcc ∷ []) p refl (one 0xc8 0xcc p h k (omega arith))
+none-c8_cc p h k =
+    none (bytes_between 0xc8 0xcc ∷ []) p refl
+    (one 0xc8 0xcc p h k (omega arith))
 
 pub none-ce_cf : (p : Parts) → 0xce ≤ p.opcode → p.opcode ≤ 0xcf → operation_of p ≡ None
 unfolding table
-none-ce_cf p h k = none (bytes_between 0xce 0xcf ∷ []) p refl (one 0xce 0xcf p h k (omega arith))
+none-ce_cf p h k =
+    none (bytes_between 0xce 0xcf ∷ []) p refl
+    (one 0xce 0xcf p h k (omega arith))
 
-pub none-c6_c7 : (p : Parts) → 0xc6 ≤ p.opcode → p.opcode ≤ 0xc7 → 1 ≤ reg_field p.modrm → p.modrm < 256 → operation_of p ≡ None
+pub none-c6_c7 :
+    (p : Parts) → 0xc6 ≤ p.opcode → p.opcode ≤ 0xc7 → 1 ≤ reg_field p.modrm → p.modrm < 256
+    → operation_of p ≡ None
 unfolding table
-none-c6_c7 p h k reg_low m = none (bytes_between 0xc6 0xc7 ∷ modrm_bytes (between 0 3) (between 1 7) (between 0 7) ∷ []) p refl
-    (and_both _ _ (fits-between 0xc6 0xc7 p.opcode h k (omega arith)) (fits-one _ p.modrm [] (fits-modrm (between 0 3) (between 1 7) (between 0 7) p.modrm (omega arith) (omega arith) (omega arith) (omega arith) (omega arith) (omega arith) m)))
+none-c6_c7 p h k reg_low m =
+    none (bytes_between 0xc6 0xc7 ∷ modrm_bytes (between 0 3) (between 1 7) (between 0 7) ∷ []) p refl
+    (and_both _ _ (fits-between 0xc6 0xc7 p.opcode h k (omega arith))
+    (fits-one _ p.modrm [] (fits-any_operand 1 7 p.modrm (omega arith) (omega arith) m)))
 
-pub rotate : (p : Parts) → 0xd0 ≤ p.opcode → p.opcode ≤ 0xd3 → reg_field p.modrm ≤ 1 → p.modrm < 256 → operation_of p ≡ Some (shift p)
+pub rotate :
+    (p : Parts) → 0xd0 ≤ p.opcode → p.opcode ≤ 0xd3 → reg_field p.modrm ≤ 1 → p.modrm < 256
+    → operation_of p ≡ Some (shift p)
 unfolding table
-rotate p h k reg_high m = of_row 16 _ p refl
-    (and_both _ _ (fits-between 0xd0 0xd3 p.opcode h k (omega arith)) (fits-one _ p.modrm [] (fits-modrm (between 0 3) (between 0 1) (between 0 7) p.modrm (omega arith) (omega arith) (omega arith) (omega arith) (omega arith) (omega arith) m)))
+rotate p h k reg_high m =
+    of_row 16 _ p refl
+    (and_both _ _ (fits-between 0xd0 0xd3 p.opcode h k (omega arith))
+    (fits-one _ p.modrm [] (fits-any_operand 0 1 p.modrm (omega arith) (omega arith) m)))
 
-pub rotate_carry : (p : Parts) → 0xd0 ≤ p.opcode → p.opcode ≤ 0xd1 → 2 ≤ reg_field p.modrm → reg_field p.modrm ≤ 3 → p.modrm < 256 → operation_of p ≡ Some (shift p)
+pub rotate_carry :
+    (p : Parts) → 0xd0 ≤ p.opcode → p.opcode ≤ 0xd1 → 2 ≤ reg_field p.modrm → reg_field p.modrm ≤ 3
+    → p.modrm < 256 → operation_of p ≡ Some (shift p)
 unfolding table
-rotate_carry p h k reg_low reg_high m = of_row 17 _ p refl
-    (and_both _ _ (fits-between 0xd0 0xd1 p.opcode h k (omega arith)) (fits-one _ p.modrm [] (fits-modrm (between 0 3) (between 2 3) (between 0 7) p.modrm (omega arith) (omega arith) (omega arith) (omega arith) (omega arith) (omega arith) m)))
+rotate_carry p h k reg_low reg_high m =
+    of_row 17 _ p refl
+    (and_both _ _ (fits-between 0xd0 0xd1 p.opcode h k (omega arith))
+    (fits-one _ p.modrm [] (fits-any_operand 2 3 p.modrm (omega arith) (omega arith) m)))
 
-pub shift_left_right : (p : Parts) → 0xd0 ≤ p.opcode → p.opcode ≤ 0xd3 → 4 ≤ reg_field p.modrm → reg_field p.modrm ≤ 5 → p.modrm < 256 → operation_of p ≡ Some (shift p)
+pub shift_left_right :
+    (p : Parts) → 0xd0 ≤ p.opcode → p.opcode ≤ 0xd3 → 4 ≤ reg_field p.modrm → reg_field p.modrm ≤ 5
+    → p.modrm < 256 → operation_of p ≡ Some (shift p)
 unfolding table
-shift_left_right p h k reg_low reg_high m = of_row 18 _ p refl
-    (and_both _ _ (fits-between 0xd0 0xd3 p.opcode h k (omega arith)) (fits-one _ p.modrm [] (fits-modrm (between 0 3) (between 4 5) (between 0 7) p.modrm (omega arith) (omega arith) (omega arith) (omega arith) (omega arith) (omega arith) m)))
+shift_left_right p h k reg_low reg_high m =
+    of_row 18 _ p refl
+    (and_both _ _ (fits-between 0xd0 0xd3 p.opcode h k (omega arith))
+    (fits-one _ p.modrm [] (fits-any_operand 4 5 p.modrm (omega arith) (omega arith) m)))
 
-pub shift_arithmetic : (p : Parts) → 0xd0 ≤ p.opcode → p.opcode ≤ 0xd3 → reg_field p.modrm ≡ 7 → p.modrm < 256 → operation_of p ≡ Some (shift p)
+pub shift_arithmetic :
+    (p : Parts) → 0xd0 ≤ p.opcode → p.opcode ≤ 0xd3 → reg_field p.modrm ≡ 7 → p.modrm < 256
+    → operation_of p ≡ Some (shift p)
 unfolding table
-shift_arithmetic p h k reg_is m = of_row 19 _ p refl
-    (and_both _ _ (fits-between 0xd0 0xd3 p.opcode h k (omega arith)) (fits-one _ p.modrm [] (fits-modrm (between 0 3) (between 7 7) (between 0 7) p.modrm (omega arith) (omega arith) (omega arith) (omega arith) (omega arith) (omega arith) m)))
+shift_arithmetic p h k reg_is m =
+    of_row 19 _ p refl
+    (and_both _ _ (fits-between 0xd0 0xd3 p.opcode h k (omega arith))
+    (fits-one _ p.modrm [] (fits-any_operand 7 7 p.modrm (omega arith) (omega arith) m)))
 
-shift-bit : (p : Parts) (by_cl : Bool) → (p.opcode / 2 % 2 == 1) ≡ by_cl → operation_of p ≡ Some (shift p) → operation_of p ≡ Some (ShiftOp (shift_of (reg_field p.modrm)) (rm p) by_cl)
+shift-bit :
+    (p : Parts) (by_cl : Bool) → (p.opcode / 2 % 2 == 1) ≡ by_cl → operation_of p ≡ Some (shift p)
+    → operation_of p ≡ Some (ShiftOp (shift_of (reg_field p.modrm)) (rm p) by_cl)
 shift-bit p by_cl e h = h ∙ ap (λ (b : Bool). Some (ShiftOp (shift_of (reg_field p.modrm)) (rm p) b)) e
 
-pub shift_by_one : (p : Parts) → 0xd0 ≤ p.opcode → p.opcode ≤ 0xd1 → reg_field p.modrm ≢ 6 → p.modrm < 256 → operation_of p ≡ Some (ShiftOp (shift_of (reg_field p.modrm)) (rm p) false)
+pub shift_by_one :
+    (p : Parts) → 0xd0 ≤ p.opcode → p.opcode ≤ 0xd1 → reg_field p.modrm ≢ 6 → p.modrm < 256
+    → operation_of p ≡ Some (ShiftOp (shift_of (reg_field p.modrm)) (rm p) false)
 shift_by_one p h k n m =
     let bit : (p.opcode / 2 % 2 == 1) ≡ false = grind (arith, nat_tests) in
     shift-bit p false bit
@@ -405,7 +606,10 @@ shift_by_one p h k n m =
       ]
     ])
 
-pub shift_by_cl : (p : Parts) → 0xd2 ≤ p.opcode → p.opcode ≤ 0xd3 → reg_field p.modrm ≢ 2 → reg_field p.modrm ≢ 3 → reg_field p.modrm ≢ 6 → p.modrm < 256 → operation_of p ≡ Some (ShiftOp (shift_of (reg_field p.modrm)) (rm p) true)
+pub shift_by_cl :
+    (p : Parts) → 0xd2 ≤ p.opcode → p.opcode ≤ 0xd3 → reg_field p.modrm ≢ 2 → reg_field p.modrm ≢ 3
+    → reg_field p.modrm ≢ 6 → p.modrm < 256
+    → operation_of p ≡ Some (ShiftOp (shift_of (reg_field p.modrm)) (rm p) true)
 shift_by_cl p h k n2 n3 n m =
     let bit : (p.opcode / 2 % 2 == 1) ≡ true = grind (arith, nat_tests) in
     shift-bit p true bit
@@ -417,15 +621,23 @@ shift_by_cl p h k n2 n3 n m =
       ]
     ])
 
-pub none-d0_d3 : (p : Parts) → 0xd0 ≤ p.opcode → p.opcode ≤ 0xd3 → reg_field p.modrm ≡ 6 → p.modrm < 256 → operation_of p ≡ None
+pub none-d0_d3 :
+    (p : Parts) → 0xd0 ≤ p.opcode → p.opcode ≤ 0xd3 → reg_field p.modrm ≡ 6 → p.modrm < 256
+    → operation_of p ≡ None
 unfolding table
-none-d0_d3 p h k reg_is m = none (bytes_between 0xd0 0xd3 ∷ modrm_bytes (between 0 3) (between 6 6) (between 0 7) ∷ []) p refl
-    (and_both _ _ (fits-between 0xd0 0xd3 p.opcode h k (omega arith)) (fits-one _ p.modrm [] (fits-modrm (between 0 3) (between 6 6) (between 0 7) p.modrm (omega arith) (omega arith) (omega arith) (omega arith) (omega arith) (omega arith) m)))
+none-d0_d3 p h k reg_is m =
+    none (bytes_between 0xd0 0xd3 ∷ modrm_bytes (between 0 3) (between 6 6) (between 0 7) ∷ []) p refl
+    (and_both _ _ (fits-between 0xd0 0xd3 p.opcode h k (omega arith))
+    (fits-one _ p.modrm [] (fits-any_operand 6 6 p.modrm (omega arith) (omega arith) m)))
 
-pub none-d2_d3 : (p : Parts) → 0xd2 ≤ p.opcode → p.opcode ≤ 0xd3 → 2 ≤ reg_field p.modrm → reg_field p.modrm ≤ 3 → p.modrm < 256 → operation_of p ≡ None
+pub none-d2_d3 :
+    (p : Parts) → 0xd2 ≤ p.opcode → p.opcode ≤ 0xd3 → 2 ≤ reg_field p.modrm → reg_field p.modrm ≤ 3
+    → p.modrm < 256 → operation_of p ≡ None
 unfolding table
-none-d2_d3 p h k reg_low reg_high m = none (bytes_between 0xd2 0xd3 ∷ modrm_bytes (between 0 3) (between 2 3) (between 0 7) ∷ []) p refl
-    (and_both _ _ (fits-between 0xd2 0xd3 p.opcode h k (omega arith)) (fits-one _ p.modrm [] (fits-modrm (between 0 3) (between 2 3) (between 0 7) p.modrm (omega arith) (omega arith) (omega arith) (omega arith) (omega arith) (omega arith) m)))
+none-d2_d3 p h k reg_low reg_high m =
+    none (bytes_between 0xd2 0xd3 ∷ modrm_bytes (between 0 3) (between 2 3) (between 0 7) ∷ []) p refl
+    (and_both _ _ (fits-between 0xd2 0xd3 p.opcode h k (omega arith))
+    (fits-one _ p.modrm [] (fits-any_operand 2 3 p.modrm (omega arith) (omega arith) m)))
 
 pub xlat : (p : Parts) → p.opcode ≡ 0xd7 → operation_of p ≡ Some (PlainOp Xlat)
 unfolding table
@@ -433,11 +645,15 @@ xlat p e = of_row 61 _ p refl (this 0xd7 p e)
 
 pub none-d4_d6 : (p : Parts) → 0xd4 ≤ p.opcode → p.opcode ≤ 0xd6 → operation_of p ≡ None
 unfolding table
-none-d4_d6 p h k = none (bytes_between 0xd4 0xd6 ∷ []) p refl (one 0xd4 0xd6 p h k (omega arith))
+none-d4_d6 p h k =
+    none (bytes_between 0xd4 0xd6 ∷ []) p refl
+    (one 0xd4 0xd6 p h k (omega arith))
 
 pub none-d8_df : (p : Parts) → 0xd8 ≤ p.opcode → p.opcode ≤ 0xdf → operation_of p ≡ None
 unfolding table
-none-d8_df p h k = none (bytes_between 0xd8 0xdf ∷ []) p refl (one 0xd8 0xdf p h k (omega arith))
+none-d8_df p h k =
+    none (bytes_between 0xd8 0xdf ∷ []) p refl
+    (one 0xd8 0xdf p h k (omega arith))
 
 pub loop_ne : (p : Parts) → p.opcode ≡ 0xe0 → operation_of p ≡ Some (LoopNe (target p))
 unfolding table
@@ -469,15 +685,21 @@ jump_short p e = of_row 51 _ p refl (this 0xeb p e)
 
 pub none-e4_e7 : (p : Parts) → 0xe4 ≤ p.opcode → p.opcode ≤ 0xe7 → operation_of p ≡ None
 unfolding table
-none-e4_e7 p h k = none (bytes_between 0xe4 0xe7 ∷ []) p refl (one 0xe4 0xe7 p h k (omega arith))
+none-e4_e7 p h k =
+    none (bytes_between 0xe4 0xe7 ∷ []) p refl
+    (one 0xe4 0xe7 p h k (omega arith))
 
 pub none-ea_ea : (p : Parts) → 0xea ≤ p.opcode → p.opcode ≤ 0xea → operation_of p ≡ None
 unfolding table
-none-ea_ea p h k = none (bytes_between 0xea 0xea ∷ []) p refl (one 0xea 0xea p h k (omega arith))
+none-ea_ea p h k =
+    none (bytes_between 0xea 0xea ∷ []) p refl
+    (one 0xea 0xea p h k (omega arith))
 
 pub none-ec_ef : (p : Parts) → 0xec ≤ p.opcode → p.opcode ≤ 0xef → operation_of p ≡ None
 unfolding table
-none-ec_ef p h k = none (bytes_between 0xec 0xef ∷ []) p refl (one 0xec 0xef p h k (omega arith))
+none-ec_ef p h k =
+    none (bytes_between 0xec 0xef ∷ []) p refl
+    (one 0xec 0xef p h k (omega arith))
 
 -- F0 to FF --------------------------------------------------------------------------------------
 
@@ -507,79 +729,142 @@ cld p e = of_row 67 _ p refl (this 0xfc p e)
 
 pub none-f0_f4 : (p : Parts) → 0xf0 ≤ p.opcode → p.opcode ≤ 0xf4 → operation_of p ≡ None
 unfolding table
-none-f0_f4 p h k = none (bytes_between 0xf0 0xf4 ∷ []) p refl (one 0xf0 0xf4 p h k (omega arith))
+none-f0_f4 p h k =
+    none (bytes_between 0xf0 0xf4 ∷ []) p refl
+    (one 0xf0 0xf4 p h k (omega arith))
 
 pub none-fd_fd : (p : Parts) → 0xfd ≤ p.opcode → p.opcode ≤ 0xfd → operation_of p ≡ None
 unfolding table
-none-fd_fd p h k = none (bytes_between 0xfd 0xfd ∷ []) p refl (one 0xfd 0xfd p h k (omega arith))
+none-fd_fd p h k =
+    none (bytes_between 0xfd 0xfd ∷ []) p refl
+    (one 0xfd 0xfd p h k (omega arith))
 
-pub test_byte : (p : Parts) → p.opcode ≡ 0xf6 → reg_field p.modrm ≡ 0 → p.modrm < 256 → operation_of p ≡ Some (AluOp Test (rm p) (imm p))
+pub test_byte :
+    (p : Parts) → p.opcode ≡ 0xf6 → reg_field p.modrm ≡ 0 → p.modrm < 256
+    → operation_of p ≡ Some (AluOp Test (rm p) (imm p))
 unfolding table
-test_byte p e reg_is m = of_row 9 _ p refl
-    (and_both _ _ (fits-this 0xf6 p.opcode e) (fits-one _ p.modrm [] (fits-modrm (between 0 3) (between 0 0) (between 0 7) p.modrm (omega arith) (omega arith) (omega arith) (omega arith) (omega arith) (omega arith) m)))
+test_byte p e reg_is m =
+    of_row 9 _ p refl
+    (and_both _ _ (fits-this 0xf6 p.opcode e)
+    (fits-one _ p.modrm [] (fits-any_operand 0 0 p.modrm (omega arith) (omega arith) m)))
 
-pub test_word : (p : Parts) → p.opcode ≡ 0xf7 → reg_field p.modrm ≡ 0 → p.modrm < 256 → operation_of p ≡ Some (AluOp Test (rm p) (imm p))
+pub test_word :
+    (p : Parts) → p.opcode ≡ 0xf7 → reg_field p.modrm ≡ 0 → p.modrm < 256
+    → operation_of p ≡ Some (AluOp Test (rm p) (imm p))
 unfolding table
-test_word p e reg_is m = of_row 10 _ p refl
-    (and_both _ _ (fits-this 0xf7 p.opcode e) (fits-one _ p.modrm [] (fits-modrm (between 0 3) (between 0 0) (between 0 7) p.modrm (omega arith) (omega arith) (omega arith) (omega arith) (omega arith) (omega arith) m)))
+test_word p e reg_is m =
+    of_row 10 _ p refl
+    (and_both _ _ (fits-this 0xf7 p.opcode e)
+    (fits-one _ p.modrm [] (fits-any_operand 0 0 p.modrm (omega arith) (omega arith) m)))
 
-pub unary_group : (p : Parts) → 0xf6 ≤ p.opcode → p.opcode ≤ 0xf7 → 2 ≤ reg_field p.modrm → p.modrm < 256 → operation_of p ≡ Some (unary_by_reg p (rm p))
+pub unary_group :
+    (p : Parts) → 0xf6 ≤ p.opcode → p.opcode ≤ 0xf7 → 2 ≤ reg_field p.modrm → p.modrm < 256
+    → operation_of p ≡ Some (unary_by_reg p (rm p))
 unfolding table
-unary_group p h k reg_low m = of_row 13 _ p refl
-    (and_both _ _ (fits-between 0xf6 0xf7 p.opcode h k (omega arith)) (fits-one _ p.modrm [] (fits-modrm (between 0 3) (between 2 7) (between 0 7) p.modrm (omega arith) (omega arith) (omega arith) (omega arith) (omega arith) (omega arith) m)))
+unary_group p h k reg_low m =
+    of_row 13 _ p refl
+    (and_both _ _ (fits-between 0xf6 0xf7 p.opcode h k (omega arith))
+    (fits-one _ p.modrm [] (fits-any_operand 2 7 p.modrm (omega arith) (omega arith) m)))
 
-pub none-f6_f7 : (p : Parts) → 0xf6 ≤ p.opcode → p.opcode ≤ 0xf7 → reg_field p.modrm ≡ 1 → p.modrm < 256 → operation_of p ≡ None
+pub none-f6_f7 :
+    (p : Parts) → 0xf6 ≤ p.opcode → p.opcode ≤ 0xf7 → reg_field p.modrm ≡ 1 → p.modrm < 256
+    → operation_of p ≡ None
 unfolding table
-none-f6_f7 p h k reg_is m = none (bytes_between 0xf6 0xf7 ∷ modrm_bytes (between 0 3) (between 1 1) (between 0 7) ∷ []) p refl
-    (and_both _ _ (fits-between 0xf6 0xf7 p.opcode h k (omega arith)) (fits-one _ p.modrm [] (fits-modrm (between 0 3) (between 1 1) (between 0 7) p.modrm (omega arith) (omega arith) (omega arith) (omega arith) (omega arith) (omega arith) m)))
+none-f6_f7 p h k reg_is m =
+    none (bytes_between 0xf6 0xf7 ∷ modrm_bytes (between 0 3) (between 1 1) (between 0 7) ∷ []) p refl
+    (and_both _ _ (fits-between 0xf6 0xf7 p.opcode h k (omega arith))
+    (fits-one _ p.modrm [] (fits-any_operand 1 1 p.modrm (omega arith) (omega arith) m)))
 
-pub inc_operand : (p : Parts) → 0xfe ≤ p.opcode → p.opcode ≤ 0xff → reg_field p.modrm ≡ 0 → p.modrm < 256 → operation_of p ≡ Some (UnaryOp Inc (rm p))
+pub inc_operand :
+    (p : Parts) → 0xfe ≤ p.opcode → p.opcode ≤ 0xff → reg_field p.modrm ≡ 0 → p.modrm < 256
+    → operation_of p ≡ Some (UnaryOp Inc (rm p))
 unfolding table
-inc_operand p h k reg_is m = of_row 14 _ p refl
-    (and_both _ _ (fits-between 0xfe 0xff p.opcode h k (omega arith)) (fits-one _ p.modrm [] (fits-modrm (between 0 3) (between 0 0) (between 0 7) p.modrm (omega arith) (omega arith) (omega arith) (omega arith) (omega arith) (omega arith) m)))
+inc_operand p h k reg_is m =
+    of_row 14 _ p refl
+    (and_both _ _ (fits-between 0xfe 0xff p.opcode h k (omega arith))
+    (fits-one _ p.modrm [] (fits-any_operand 0 0 p.modrm (omega arith) (omega arith) m)))
 
-pub dec_operand : (p : Parts) → 0xfe ≤ p.opcode → p.opcode ≤ 0xff → reg_field p.modrm ≡ 1 → p.modrm < 256 → operation_of p ≡ Some (UnaryOp Dec (rm p))
+pub dec_operand :
+    (p : Parts) → 0xfe ≤ p.opcode → p.opcode ≤ 0xff → reg_field p.modrm ≡ 1 → p.modrm < 256
+    → operation_of p ≡ Some (UnaryOp Dec (rm p))
 unfolding table
-dec_operand p h k reg_is m = of_row 15 _ p refl
-    (and_both _ _ (fits-between 0xfe 0xff p.opcode h k (omega arith)) (fits-one _ p.modrm [] (fits-modrm (between 0 3) (between 1 1) (between 0 7) p.modrm (omega arith) (omega arith) (omega arith) (omega arith) (omega arith) (omega arith) m)))
+dec_operand p h k reg_is m =
+    of_row 15 _ p refl
+    (and_both _ _ (fits-between 0xfe 0xff p.opcode h k (omega arith))
+    (fits-one _ p.modrm [] (fits-any_operand 1 1 p.modrm (omega arith) (omega arith) m)))
 
-pub push_memory : (p : Parts) → p.opcode ≡ 0xff → mod_field p.modrm ≤ 2 → reg_field p.modrm ≡ 6 → p.modrm < 256 → operation_of p ≡ Some (Push (rm16 p))
+pub push_memory :
+    (p : Parts) → p.opcode ≡ 0xff → mod_field p.modrm ≤ 2 → reg_field p.modrm ≡ 6 → p.modrm < 256
+    → operation_of p ≡ Some (Push (rm16 p))
 unfolding table
-push_memory p e mod_high reg_is m = of_row 24 _ p refl
-    (and_both _ _ (fits-this 0xff p.opcode e) (fits-one _ p.modrm [] (fits-modrm (between 0 2) (between 6 6) (between 0 7) p.modrm (omega arith) (omega arith) (omega arith) (omega arith) (omega arith) (omega arith) m)))
+push_memory p e mod_high reg_is m =
+    of_row 24 _ p refl
+    (and_both _ _ (fits-this 0xff p.opcode e)
+    (fits-one _ p.modrm [] (fits-modrm (between 0 2) (between 6 6) (between 0 7) p.modrm
+    (omega arith) (omega arith) (omega arith) (omega arith) (omega arith) (omega arith) m)))
 
-pub push_below_sp : (p : Parts) → p.opcode ≡ 0xff → mod_field p.modrm ≡ 3 → reg_field p.modrm ≡ 6 → rm_field p.modrm ≤ 3 → p.modrm < 256 → operation_of p ≡ Some (Push (rm16 p))
+pub push_below_sp :
+    (p : Parts) → p.opcode ≡ 0xff → mod_field p.modrm ≡ 3 → reg_field p.modrm ≡ 6
+    → rm_field p.modrm ≤ 3 → p.modrm < 256 → operation_of p ≡ Some (Push (rm16 p))
 unfolding table
-push_below_sp p e mod_is reg_is rm_high m = of_row 25 _ p refl
-    (and_both _ _ (fits-this 0xff p.opcode e) (fits-one _ p.modrm [] (fits-modrm (between 3 3) (between 6 6) (between 0 3) p.modrm (omega arith) (omega arith) (omega arith) (omega arith) (omega arith) (omega arith) m)))
+push_below_sp p e mod_is reg_is rm_high m =
+    of_row 25 _ p refl
+    (and_both _ _ (fits-this 0xff p.opcode e)
+    (fits-one _ p.modrm [] (fits-modrm (between 3 3) (between 6 6) (between 0 3) p.modrm
+    (omega arith) (omega arith) (omega arith) (omega arith) (omega arith) (omega arith) m)))
 
-pub push_above_sp : (p : Parts) → p.opcode ≡ 0xff → mod_field p.modrm ≡ 3 → reg_field p.modrm ≡ 6 → 5 ≤ rm_field p.modrm → p.modrm < 256 → operation_of p ≡ Some (Push (rm16 p))
+pub push_above_sp :
+    (p : Parts) → p.opcode ≡ 0xff → mod_field p.modrm ≡ 3 → reg_field p.modrm ≡ 6
+    → 5 ≤ rm_field p.modrm → p.modrm < 256 → operation_of p ≡ Some (Push (rm16 p))
 unfolding table
-push_above_sp p e mod_is reg_is rm_low m = of_row 26 _ p refl
-    (and_both _ _ (fits-this 0xff p.opcode e) (fits-one _ p.modrm [] (fits-modrm (between 3 3) (between 6 6) (between 5 7) p.modrm (omega arith) (omega arith) (omega arith) (omega arith) (omega arith) (omega arith) m)))
+push_above_sp p e mod_is reg_is rm_low m =
+    of_row 26 _ p refl
+    (and_both _ _ (fits-this 0xff p.opcode e)
+    (fits-one _ p.modrm [] (fits-modrm (between 3 3) (between 6 6) (between 5 7) p.modrm
+    (omega arith) (omega arith) (omega arith) (omega arith) (omega arith) (omega arith) m)))
 
-pub none-fe_ff_low : (p : Parts) → 0xfe ≤ p.opcode → p.opcode ≤ 0xff → 2 ≤ reg_field p.modrm → reg_field p.modrm ≤ 5 → p.modrm < 256 → operation_of p ≡ None
+pub none-fe_ff_low :
+    (p : Parts) → 0xfe ≤ p.opcode → p.opcode ≤ 0xff → 2 ≤ reg_field p.modrm → reg_field p.modrm ≤ 5
+    → p.modrm < 256 → operation_of p ≡ None
 unfolding table
-none-fe_ff_low p h k reg_low reg_high m = none (bytes_between 0xfe 0xff ∷ modrm_bytes (between 0 3) (between 2 5) (between 0 7) ∷ []) p refl
-    (and_both _ _ (fits-between 0xfe 0xff p.opcode h k (omega arith)) (fits-one _ p.modrm [] (fits-modrm (between 0 3) (between 2 5) (between 0 7) p.modrm (omega arith) (omega arith) (omega arith) (omega arith) (omega arith) (omega arith) m)))
+none-fe_ff_low p h k reg_low reg_high m =
+    none (bytes_between 0xfe 0xff ∷ modrm_bytes (between 0 3) (between 2 5) (between 0 7) ∷ []) p refl
+    (and_both _ _ (fits-between 0xfe 0xff p.opcode h k (omega arith))
+    (fits-one _ p.modrm [] (fits-any_operand 2 5 p.modrm (omega arith) (omega arith) m)))
 
-pub none-fe_ff_high : (p : Parts) → 0xfe ≤ p.opcode → p.opcode ≤ 0xff → reg_field p.modrm ≡ 7 → p.modrm < 256 → operation_of p ≡ None
+pub none-fe_ff_high :
+    (p : Parts) → 0xfe ≤ p.opcode → p.opcode ≤ 0xff → reg_field p.modrm ≡ 7 → p.modrm < 256
+    → operation_of p ≡ None
 unfolding table
-none-fe_ff_high p h k reg_is m = none (bytes_between 0xfe 0xff ∷ modrm_bytes (between 0 3) (between 7 7) (between 0 7) ∷ []) p refl
-    (and_both _ _ (fits-between 0xfe 0xff p.opcode h k (omega arith)) (fits-one _ p.modrm [] (fits-modrm (between 0 3) (between 7 7) (between 0 7) p.modrm (omega arith) (omega arith) (omega arith) (omega arith) (omega arith) (omega arith) m)))
+none-fe_ff_high p h k reg_is m =
+    none (bytes_between 0xfe 0xff ∷ modrm_bytes (between 0 3) (between 7 7) (between 0 7) ∷ []) p refl
+    (and_both _ _ (fits-between 0xfe 0xff p.opcode h k (omega arith))
+    (fits-one _ p.modrm [] (fits-any_operand 7 7 p.modrm (omega arith) (omega arith) m)))
 
-pub none-fe : (p : Parts) → 0xfe ≤ p.opcode → p.opcode ≤ 0xfe → 2 ≤ reg_field p.modrm → p.modrm < 256 → operation_of p ≡ None
+pub none-fe :
+    (p : Parts) → 0xfe ≤ p.opcode → p.opcode ≤ 0xfe → 2 ≤ reg_field p.modrm → p.modrm < 256
+    → operation_of p ≡ None
 unfolding table
-none-fe p h k reg_low m = none (bytes_between 0xfe 0xfe ∷ modrm_bytes (between 0 3) (between 2 7) (between 0 7) ∷ []) p refl
-    (and_both _ _ (fits-between 0xfe 0xfe p.opcode h k (omega arith)) (fits-one _ p.modrm [] (fits-modrm (between 0 3) (between 2 7) (between 0 7) p.modrm (omega arith) (omega arith) (omega arith) (omega arith) (omega arith) (omega arith) m)))
+none-fe p h k reg_low m =
+    none (bytes_between 0xfe 0xfe ∷ modrm_bytes (between 0 3) (between 2 7) (between 0 7) ∷ []) p refl
+    (and_both _ _ (fits-between 0xfe 0xfe p.opcode h k (omega arith))
+    (fits-one _ p.modrm [] (fits-any_operand 2 7 p.modrm (omega arith) (omega arith) m)))
 
-pub none-ff_sp : (p : Parts) → 0xff ≤ p.opcode → p.opcode ≤ 0xff → mod_field p.modrm ≡ 3 → reg_field p.modrm ≡ 6 → rm_field p.modrm ≡ 4 → p.modrm < 256 → operation_of p ≡ None
+pub none-ff_sp :
+    (p : Parts) → 0xff ≤ p.opcode → p.opcode ≤ 0xff → mod_field p.modrm ≡ 3 → reg_field p.modrm ≡ 6
+    → rm_field p.modrm ≡ 4 → p.modrm < 256 → operation_of p ≡ None
 unfolding table
-none-ff_sp p h k mod_is reg_is rm_is m = none (bytes_between 0xff 0xff ∷ modrm_bytes (between 3 3) (between 6 6) (between 4 4) ∷ []) p refl
-    (and_both _ _ (fits-between 0xff 0xff p.opcode h k (omega arith)) (fits-one _ p.modrm [] (fits-modrm (between 3 3) (between 6 6) (between 4 4) p.modrm (omega arith) (omega arith) (omega arith) (omega arith) (omega arith) (omega arith) m)))
+none-ff_sp p h k mod_is reg_is rm_is m =
+    none (bytes_between 0xff 0xff ∷ modrm_bytes (between 3 3) (between 6 6) (between 4 4) ∷ []) p refl
+    (and_both _ _ (fits-between 0xff 0xff p.opcode h k (omega arith))
+    (fits-one _ p.modrm [] (fits-modrm (between 3 3) (between 6 6) (between 4 4) p.modrm
+    (omega arith) (omega arith) (omega arith) (omega arith) (omega arith) (omega arith) m)))
 
 -- the word register SP is excepted
-pub push_not_sp : (p : Parts) → p.opcode ≡ 0xff → reg_field p.modrm ≡ 6 → (mod_field p.modrm == 3) && (rm_field p.modrm == 4) ≡ false → p.modrm < 256 → operation_of p ≡ Some (Push (rm16 p))
+pub push_not_sp :
+    (p : Parts) → p.opcode ≡ 0xff → reg_field p.modrm ≡ 6
+    → (mod_field p.modrm == 3) && (rm_field p.modrm == 4) ≡ false → p.modrm < 256
+    → operation_of p ≡ Some (Push (rm16 p))
 push_not_sp p e r n m =
     elim (cases_lt (mod_field p.modrm) 3) [
       | inl a ↦ push_memory p e (omega arith) r m
@@ -593,7 +878,10 @@ push_not_sp p e r n m =
           ]
     ]
 
-pub push_sp : (p : Parts) → p.opcode ≡ 0xff → reg_field p.modrm ≡ 6 → (mod_field p.modrm == 3) && (rm_field p.modrm == 4) ≡ true → p.modrm < 256 → operation_of p ≡ None
+pub push_sp :
+    (p : Parts) → p.opcode ≡ 0xff → reg_field p.modrm ≡ 6
+    → (mod_field p.modrm == 3) && (rm_field p.modrm == 4) ≡ true → p.modrm < 256
+    → operation_of p ≡ None
 push_sp p e r n m =
     let mod_is : mod_field p.modrm ≡ 3 = grind (arith, nat_tests) in
     let rm_is : rm_field p.modrm ≡ 4 = grind (arith, nat_tests) in

@@ -1,3 +1,4 @@
+pub mod Laws
 pub mod Logic
 pub mod Numbers
 pub mod Product

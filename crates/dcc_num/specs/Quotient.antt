@@ -1,7 +1,6 @@
--- DIV and IDIV: each gives the quotient and the remainder, or None at a divide fault, where the divisor is 0 or the quotient does not fit. The flags, which the manual leaves open, are then clear.
-use Rattle.std.specs.Prelude.{ℕ, ◌+◌, ◌*◌, ◌/◌, ◌%◌, ◌==◌, nat_le, false, not, ◌||◌, ℤ, pos, ◌+ℤ◌, ◌*ℤ◌, int_div, int_rem, if◌then◌else◌, Option, Some, None}
+-- DIV and IDIV: each gives the quotient and the remainder, or None at a divide fault, where the divisor is 0 or the quotient does not fit.
+use Rattle.std.specs.Prelude.{ℕ, ◌+◌, ◌*◌, ◌/◌, ◌%◌, ◌==◌, nat_le, not, ◌||◌, ℤ, pos, ◌+ℤ◌, ◌*ℤ◌, int_div, int_rem, if◌then◌else◌, Option, Some, None}
 use Rattle.dcc_num.specs.declared.Width.{Width}
-use Rattle.dcc_num.specs.declared.Flags.{Flags}
 use Rattle.dcc_num.specs.Numbers.{limit_of, signed_of, fits_signed, wrapped_of}
 
 -- the number whose upper and lower half are two operands
@@ -26,7 +25,3 @@ signed_division_of w high low by =
     let quotient = int_div dividend (signed_of w by) in
     let remainder = int_rem dividend (signed_of w by) in
     if by == 0 || not (fits_signed w quotient) then None else Some (wrapped_of w quotient, wrapped_of w remainder)
-
--- the flags after a division
-abbrev pub division_flags : Flags
-division_flags = record { cf = false; zf = false; sf = false; of = false }

@@ -1,12 +1,15 @@
 //! Registers, flags and arithmetic of the 8086 (8086 Family User's Manual, chapter 2).
 #![tactic(auto)]
 
+pub mod laws;
 mod logic;
 mod operand;
 mod product;
 mod quotient;
 mod shift;
 mod sum;
+#[cfg(test)]
+mod tests;
 
 pub use logic::{and, or, xor};
 pub use operand::sign8;

@@ -23,20 +23,25 @@ pub and_both : (a b : Bool) → a ≡ true → b ≡ true → a && b ≡ true
 and_both a b h k = rw h k
 
 -- a test that every element passes is passed by each one
-pub list_all-get : {X : Type 0} (test : X → Bool) (xs : List X) (k : ℕ) (x : X) → list_all test xs ≡ true → slice_get xs k ≡ Some x → test x ≡ true
+pub list_all-get :
+    {X : Type 0} (test : X → Bool) (xs : List X) (k : ℕ) (x : X) → list_all test xs ≡ true
+    → slice_get xs k ≡ Some x → test x ≡ true
 list_all-get test [] k x h e = cc
 list_all-get test (y ∷ ys) zero x h e = let same : y ≡ x = cc in rw (← same) (and_left (test y) _ h)
 list_all-get test (y ∷ ys) (suc k) x h e = list_all-get test ys k x (and_right (test y) _ h) e
 
 -- what is found is an element that passes
-pub find-get : {X : Type 0} (test : X → Bool) (xs : List X) (x : X) → find test xs ≡ Some x → (k : ℕ) × (slice_get xs k ≡ Some x)
+pub find-get :
+    {X : Type 0} (test : X → Bool) (xs : List X) (x : X) → find test xs ≡ Some x
+    → (k : ℕ) × (slice_get xs k ≡ Some x)
 find-get test [] x e = cc
 find-get {X} test (y ∷ ys) x e =
     let P : Bool → Type 0 = λ b. cond b (Some y) (find test ys) ≡ Some x → (k : ℕ) × (slice_get (y ∷ ys) k ≡ Some x) in
     let both : (b : Bool) → P b = λ b. elim b as P [ true ↦ λ h. (0, h) | false ↦ λ h. let found = find-get test ys x h in (suc found.0, found.1) ] in
     both (test y) e
 
-pub find-passes : {X : Type 0} (test : X → Bool) (xs : List X) (x : X) → find test xs ≡ Some x → test x ≡ true
+pub find-passes :
+    {X : Type 0} (test : X → Bool) (xs : List X) (x : X) → find test xs ≡ Some x → test x ≡ true
 find-passes test [] x e = cc
 find-passes {X} test (y ∷ ys) x e =
     let P : Bool → Type 0 = λ b. test y ≡ b → cond b (Some y) (find test ys) ≡ Some x → test x ≡ true in
@@ -58,13 +63,16 @@ patterns_apart [] qs = false
 patterns_apart (p ∷ ps) [] = false
 patterns_apart (p ∷ ps) (q ∷ qs) = bytes_apart p q || patterns_apart ps qs
 
-in_neither : (a b : Range) (n : ℕ) → in_range a n ≡ true → in_range b n ≡ true → ranges_apart a b ≡ false
+in_neither :
+    (a b : Range) (n : ℕ) → in_range a n ≡ true → in_range b n ≡ true → ranges_apart a b ≡ false
 in_neither a b n h k = grind (arith, nat_tests)
 
 pub both_false : (a b : Bool) → a ≡ false → b ≡ false → a || b ≡ false
 both_false a b h k = rw h k
 
-no_byte_fits_both : (p q : BytePattern) (b : ℕ) → fits_byte p b ≡ true → fits_byte q b ≡ true → bytes_apart p q ≡ false
+no_byte_fits_both :
+    (p q : BytePattern) (b : ℕ) → fits_byte p b ≡ true → fits_byte q b ≡ true
+    → bytes_apart p q ≡ false
 no_byte_fits_both p q b h k =
     let h3 = and_left _ _ h in let h2 = and_left _ _ h3 in
     let k3 = and_left _ _ k in let k2 = and_left _ _ k3 in
@@ -76,7 +84,9 @@ no_byte_fits_both p q b h k =
     (in_neither p.regs q.regs _ (and_right _ _ h3) (and_right _ _ k3)))
     (in_neither p.rms q.rms _ (and_right _ _ h) (and_right _ _ k))
 
-pub fits-apart : (ps qs : List BytePattern) (bytes : List ℕ) → fits ps bytes ≡ true → fits qs bytes ≡ true → patterns_apart ps qs ≡ false
+pub fits-apart :
+    (ps qs : List BytePattern) (bytes : List ℕ) → fits ps bytes ≡ true → fits qs bytes ≡ true
+    → patterns_apart ps qs ≡ false
 fits-apart [] qs bytes h k = refl
 fits-apart (p ∷ ps) [] bytes h k = refl
 fits-apart (p ∷ ps) (q ∷ qs) [] h k = cc
@@ -95,7 +105,10 @@ unfolding table
 rows_apart-table = refl
 
 -- the one row that passes a test, where only rows whose pattern the bytes fit do, is found
-find-only : (test : Row → Bool) (bytes : List ℕ) (inside : (r : Row) → test r ≡ true → fits r.pattern bytes ≡ true) (rows : List Row) (k : ℕ) (row : Row) → rows_apart rows ≡ true → slice_get rows k ≡ Some row → test row ≡ true → find test rows ≡ Some row
+find-only :
+    (test : Row → Bool) (bytes : List ℕ) (inside : (r : Row) → test r ≡ true → fits r.pattern bytes ≡ true) (rows : List Row) (k : ℕ) (row : Row)
+    → rows_apart rows ≡ true → slice_get rows k ≡ Some row → test row ≡ true
+    → find test rows ≡ Some row
 find-only test bytes inside [] k row apart at m = cc
 find-only test bytes inside (r ∷ rows) zero row apart at m = let same : r ≡ row = cc in rw same (rw m refl)
 find-only test bytes inside (r ∷ rows) (suc k) row apart at m =
@@ -108,11 +121,15 @@ find-only test bytes inside (r ∷ rows) (suc k) row apart at m =
     ] in
     rw (cases (test r) refl) (find-only test bytes inside rows k row (and_right _ _ apart) at m)
 
-pub find-row : (bytes : List ℕ) (row : Row) → IsRow row → matches row bytes ≡ true → find (λ r. matches r bytes) table ≡ Some row
+pub find-row :
+    (bytes : List ℕ) (row : Row) → IsRow row → matches row bytes ≡ true
+    → find (λ r. matches r bytes) table ≡ Some row
 find-row bytes row at m =
     find-only (λ r. matches r bytes) bytes (λ r t. and_left _ _ t) table at.0 row rows_apart-table at.1 m
 
-pub find-fits : (bytes : List ℕ) (row : Row) → IsRow row → fits row.pattern bytes ≡ true → find (λ r. fits r.pattern bytes) table ≡ Some row
+pub find-fits :
+    (bytes : List ℕ) (row : Row) → IsRow row → fits row.pattern bytes ≡ true
+    → find (λ r. fits r.pattern bytes) table ≡ Some row
 find-fits bytes row at h =
     find-only (λ r. fits r.pattern bytes) bytes (λ r t. t) table at.0 row rows_apart-table at.1 h
 
@@ -150,14 +167,18 @@ constant_size-le byte_constant = omega arith
 constant_size-le word_constant = omega arith
 constant_size-le signed_constant = omega arith
 
-row_length-bounds : (row : Row) (bytes : List ℕ) → sized row ≡ true → (0 < row_length row bytes) × (row_length row bytes ≤ 6)
+row_length-bounds :
+    (row : Row) (bytes : List ℕ) → sized row ≡ true
+    → (0 < row_length row bytes) × (row_length row bytes ≤ 6)
 row_length-bounds row bytes h =
     let d = displacement_size-le (get_or bytes 1 0) in
     let c = constant_size-le row.constant_form in
     grind (arith, nat_tests)
 
 -- the row of an instruction
-pub instruction-row : (offset : ℕ) (bytes : List ℕ) (instr : Instr) → instruction_at offset bytes ≡ Some instr → (row : Row) × IsRow row × (matches row bytes ≡ true) × (row_instruction row offset bytes ≡ instr)
+pub instruction-row :
+    (offset : ℕ) (bytes : List ℕ) (instr : Instr) → instruction_at offset bytes ≡ Some instr
+    → (row : Row) × IsRow row × (matches row bytes ≡ true) × (row_instruction row offset bytes ≡ instr)
 unfolding instruction_at
 instruction-row offset bytes instr e =
     let test : Row → Bool = λ row. matches row bytes in
@@ -167,7 +188,9 @@ instruction-row offset bytes instr e =
     cases found refl e
 
 -- a row that matches gives the instruction
-pub instruction-of_row : (offset : ℕ) (bytes : List ℕ) (row : Row) → IsRow row → matches row bytes ≡ true → instruction_at offset bytes ≡ Some (row_instruction row offset bytes)
+pub instruction-of_row :
+    (offset : ℕ) (bytes : List ℕ) (row : Row) → IsRow row → matches row bytes ≡ true
+    → instruction_at offset bytes ≡ Some (row_instruction row offset bytes)
 unfolding instruction_at
 instruction-of_row offset bytes row at m = rw (find-row bytes row at m)
 
@@ -191,7 +214,9 @@ agree : (n : ℕ) (xs ys : List ℕ) → take n ys ≡ take n xs → Agree n xs 
 agree n xs ys e k h =
     sym (get_or-take n ys k 0 h) ∙ (ap (λ (l : List ℕ). get_or l k 0) e ∙ get_or-take n xs k 0 h)
 
-fits-agree : (ps : List BytePattern) (n : ℕ) (xs ys : List ℕ) → take n ys ≡ take n xs → length ps ≤ n → fits ps xs ≡ true → fits ps ys ≡ true
+fits-agree :
+    (ps : List BytePattern) (n : ℕ) (xs ys : List ℕ) → take n ys ≡ take n xs → length ps ≤ n
+    → fits ps xs ≡ true → fits ps ys ≡ true
 fits-agree [] n xs ys e l h = refl
 fits-agree (p ∷ ps) zero xs ys e l h = absurd (omega arith)
 fits-agree (p ∷ ps) (suc n) [] ys e l h = cc
@@ -209,30 +234,42 @@ word_at-agree n i xs ys h l =
     let high = h (1 + i) (omega arith) in
     cc
 
-read_by-agree : (a b : Bool) (n i : ℕ) (xs ys : List ℕ) → Agree n xs ys → i + (if a then 1 else if b then 2 else 0) ≤ n → read_by a b ys i ≡ read_by a b xs i
+read_by-agree :
+    (a b : Bool) (n i : ℕ) (xs ys : List ℕ) → Agree n xs ys
+    → i + (if a then 1 else if b then 2 else 0) ≤ n → read_by a b ys i ≡ read_by a b xs i
 read_by-agree true b n i xs ys h l = ap sign_extended (h i (omega arith))
 read_by-agree false true n i xs ys h l = word_at-agree n i xs ys h l
 read_by-agree false false n i xs ys h l = refl
 
-displacement_at-agree : (modrm n i : ℕ) (xs ys : List ℕ) → Agree n xs ys → i + displacement_size modrm ≤ n → displacement_at modrm ys i ≡ displacement_at modrm xs i
+displacement_at-agree :
+    (modrm n i : ℕ) (xs ys : List ℕ) → Agree n xs ys → i + displacement_size modrm ≤ n
+    → displacement_at modrm ys i ≡ displacement_at modrm xs i
 displacement_at-agree modrm n i xs ys h l = read_by-agree _ _ n i xs ys h l
 
-constant_at-agree : (form : ConstantForm) (n i : ℕ) (xs ys : List ℕ) → Agree n xs ys → i + constant_size form ≤ n → constant_at form ys i ≡ constant_at form xs i
+constant_at-agree :
+    (form : ConstantForm) (n i : ℕ) (xs ys : List ℕ) → Agree n xs ys → i + constant_size form ≤ n
+    → constant_at form ys i ≡ constant_at form xs i
 constant_at-agree no_constant n i xs ys h l = refl
 constant_at-agree byte_constant n i xs ys h l = h i (omega arith)
 constant_at-agree word_constant n i xs ys h l = word_at-agree n i xs ys h l
 constant_at-agree signed_constant n i xs ys h l = ap sign_extended (h i (omega arith))
 
-instruction-made : (o o' : Op) (n n' : ℕ) → o ≡ o' → n ≡ n' → ◌≡◌ {A = Instr} (record { op = o'; len = n' }) (record { op = o; len = n })
+instruction-made :
+    (o o' : Op) (n n' : ℕ) → o ≡ o' → n ≡ n'
+    → ◌≡◌ {A = Instr} (record { op = o'; len = n' }) (record { op = o; len = n })
 instruction-made o o' n n' p q = cc
 
 instruction-parts : (i j : Instr) → i.op ≡ j.op → i.len ≡ j.len → j ≡ i
 instruction-parts i j p q = instruction-made i.op j.op i.len j.len p q
 
-parts-same : (f : ℕ → ℕ → ℕ → ℕ → ℕ → Parts) {a a' b b' c c' d d' e e' : ℕ} → a ≡ a' → b ≡ b' → c ≡ c' → d ≡ d' → e ≡ e' → f a b c d e ≡ f a' b' c' d' e'
+parts-same :
+    (f : ℕ → ℕ → ℕ → ℕ → ℕ → Parts) {a a' b b' c c' d d' e e' : ℕ} → a ≡ a' → b ≡ b' → c ≡ c'
+    → d ≡ d' → e ≡ e' → f a b c d e ≡ f a' b' c' d' e'
 parts-same f p q r s t = cc
 
-instruction-same : (f : Parts → Op) {p q : Parts} {m n : ℕ} → p ≡ q → m ≡ n → ◌≡◌ {A = Instr} (record { op = f p; len = m }) (record { op = f q; len = n })
+instruction-same :
+    (f : Parts → Op) {p q : Parts} {m n : ℕ} → p ≡ q → m ≡ n
+    → ◌≡◌ {A = Instr} (record { op = f p; len = m }) (record { op = f q; len = n })
 instruction-same f e h = cc
 
 length-same_take : (n : ℕ) (xs ys : List ℕ) → take n ys ≡ take n xs → n ≤ length xs → n ≤ length ys
@@ -312,7 +349,10 @@ instruction-prefix offset xs ys instr e t =
 
 -- One row -------------------------------------------------------------------------------------
 
-no_other : (row : Row) (bytes : List ℕ) (rows : List Row) → matches row bytes ≡ true → list_all (λ other. patterns_apart row.pattern other.pattern) rows ≡ true → filter (λ r. matches r bytes) rows ≡ []
+no_other :
+    (row : Row) (bytes : List ℕ) (rows : List Row) → matches row bytes ≡ true
+    → list_all (λ other. patterns_apart row.pattern other.pattern) rows ≡ true
+    → filter (λ r. matches r bytes) rows ≡ []
 no_other row bytes [] m apart = refl
 no_other row bytes (r ∷ rows) m apart =
     let P : Bool → Type 0 = λ b. matches r bytes ≡ b → matches r bytes ≡ false in
@@ -322,7 +362,9 @@ no_other row bytes (r ∷ rows) m apart =
     ] in
     rw (cases (matches r bytes) refl) (no_other row bytes rows m (and_right _ _ apart))
 
-at_most_one : (bytes : List ℕ) (rows : List Row) → rows_apart rows ≡ true → length (filter (λ r. matches r bytes) rows) ≤ 1
+at_most_one :
+    (bytes : List ℕ) (rows : List Row) → rows_apart rows ≡ true
+    → length (filter (λ r. matches r bytes) rows) ≤ 1
 at_most_one bytes [] apart = omega arith
 at_most_one bytes (r ∷ rows) apart =
     let P : Bool → Type 0 = λ b. matches r bytes ≡ b → length (cond b (r ∷ filter (λ s. matches s bytes) rows) (filter (λ s. matches s bytes) rows)) ≤ 1 in
@@ -350,7 +392,9 @@ instruction_is_that_of_its_row offset bytes instr = (
 abbrev pub rows_within : List BytePattern → List Row → List Row
 rows_within form rows = filter (λ row. not (patterns_apart form row.pattern)) rows
 
-apart_no_fit : (form : List BytePattern) (row : Row) (bytes : List ℕ) → fits form bytes ≡ true → patterns_apart form row.pattern ≡ true → fits row.pattern bytes ≡ false
+apart_no_fit :
+    (form : List BytePattern) (row : Row) (bytes : List ℕ) → fits form bytes ≡ true
+    → patterns_apart form row.pattern ≡ true → fits row.pattern bytes ≡ false
 apart_no_fit form row bytes h apart =
     let P : Bool → Type 0 = λ b. fits row.pattern bytes ≡ b → fits row.pattern bytes ≡ false in
     let cases : (b : Bool) → P b = λ b. elim b as P [
@@ -360,7 +404,9 @@ apart_no_fit form row bytes h apart =
     cases (fits row.pattern bytes) refl
 
 -- where bytes have a form, only the rows that bytes of the form may fit count
-pub find-within : (form : List BytePattern) (bytes : List ℕ) (rows : List Row) → fits form bytes ≡ true → find (λ row. fits row.pattern bytes) rows ≡ find (λ row. fits row.pattern bytes) (rows_within form rows)
+pub find-within :
+    (form : List BytePattern) (bytes : List ℕ) (rows : List Row) → fits form bytes ≡ true
+    → find (λ row. fits row.pattern bytes) rows ≡ find (λ row. fits row.pattern bytes) (rows_within form rows)
 find-within form bytes [] h = refl
 find-within form bytes (row ∷ rows) h =
     let rest = find-within form bytes rows h in

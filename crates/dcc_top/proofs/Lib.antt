@@ -8,3 +8,5 @@ pub mod LineStands
 pub mod LineWritten
 pub mod LineLaws
 pub mod AnswerLaws
+pub mod CauseLaws
+pub mod FetchedLaws

@@ -126,6 +126,12 @@ TellsDone FileFault = Unit {0}
 TellsDone Memory = Unit {0}
 TellsDone _ = ⊥
 
+abbrev pub TellsMissing : Reply → Type 0
+TellsMissing NoFile = Unit {0}
+TellsMissing FileFault = Unit {0}
+TellsMissing Memory = Unit {0}
+TellsMissing _ = ⊥
+
 -- the file's straight line ends by the call that leaves
 pub record EndsInFile (file : List ℕ) : Type 0 where
   pub image : Image

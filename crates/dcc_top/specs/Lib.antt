@@ -4,3 +4,4 @@ pub mod Agreement
 pub mod Words
 pub mod Answer
 pub mod Delivery
+pub mod Causes

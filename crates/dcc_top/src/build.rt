@@ -3,8 +3,8 @@
 ghost use Rattle.std.specs.Prelude.{◌≡◌, ◌≤◌, ◌==◌, ◌&&◌, nat_lt, length};
 ghost use Rattle.dcc_top.specs.Line.{has_variable, only_if, dos_form, move_form, term_of, sum_parts, op_form, ah_after, ah_after_term, ah_after_half, ah_after_sum, built_at};
 
-use crate::decode_stub::decode;
 use crate::form::{Built, Form, Term};
+use dcc_decode::decode;
 use dcc_num::{Half, Reg, Width};
 use dcc_prog::{Alu, Op, Operand};
 

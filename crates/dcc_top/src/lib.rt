@@ -2,7 +2,6 @@
 #![tactic(auto)]
 
 mod build;
-mod decode_stub;
 pub mod deliver;
 pub mod form;
 pub mod line;

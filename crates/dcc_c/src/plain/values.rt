@@ -1,0 +1,168 @@
+//! Values and conversions of the C dialect (ISO/IEC 9899:1990, 6.2 and 6.3).
+
+ghost use Rattle.std.specs.Prelude.{◌≡◌, ℕ, ◌+◌, ◌-◌, ◌%◌, ◌^◌, ◌<◌, ◌≤◌, map, option_map, string_bytes};
+ghost use Rattle.dcc_c.specs.Types.{bits_of, promoted, common_type, wrapped, extended, convert};
+ghost use Rattle.dcc_c.specs.Value.{held_by, assigned, binary_value, both_values, value_of};
+ghost use Rattle.dcc_c.specs.Views.{expr_of};
+ghost use Rattle.dcc_c.specs.Plain.{number_of, binding_of};
+
+use crate::syntax::{Base, CBin, CExpr};
+
+/// A number with its type; `bits` is its pattern in two's complement, below `2^bits_of(base)`.
+#[derive(Clone, Copy, PartialEq, Eq, Debug)]
+pub struct Value {
+    pub base: Base,
+    pub bits: u32,
+}
+
+/// A named variable with its value.
+#[derive(Drop)]
+pub struct Binding {
+    pub name: String,
+    pub held: Value,
+}
+
+/// How many bits a number type has.
+pub fn bits_of(base: Base) -> u32
+    ensures { result ≡ bits_of base }
+{
+    match base {
+        Base::Schar | Base::Uchar => 8,
+        Base::Int | Base::Uint => 16,
+        Base::Long | Base::Ulong => 32,
+    }
+}
+
+/// How many patterns a number type has.
+fn modulus_of(base: Base) -> u64
+    ensures { result ≡ 2 ^ bits_of base }
+{
+    match base {
+        Base::Schar | Base::Uchar => 0x100,
+        Base::Int | Base::Uint => 0x1_0000,
+        Base::Long | Base::Ulong => 0x1_0000_0000,
+    }
+}
+
+/// The type that an operand has: a `char` becomes an `int` (6.2.1.1).
+pub fn promoted(base: Base) -> Base
+    ensures { result ≡ promoted base }
+{
+    match base {
+        Base::Schar | Base::Uchar => Base::Int,
+        other => other,
+    }
+}
+
+/// The common type of two operands (6.2.1.5).
+pub fn common_type(a: Base, b: Base) -> Base
+    ensures { result ≡ common_type a b }
+{
+    match (promoted(a), promoted(b)) {
+        (Base::Ulong, _) | (_, Base::Ulong) => Base::Ulong,
+        (Base::Long, _) | (_, Base::Long) => Base::Long,
+        (Base::Uint, _) | (_, Base::Uint) => Base::Uint,
+        _ => Base::Int,
+    }
+}
+
+/// The low bits of a number that its type has.
+fn wrapped(base: Base, n: u64) -> u32
+    ensures value { result ≡ wrapped base n }
+    ensures within { result < 2 ^ bits_of base }
+{
+    (n % modulus_of(base)) as u32
+}
+
+/// The 32 bits of a value: a negative one is extended by ones.
+fn extended(base: Base, bits: u32) -> u64
+    ensures { result ≡ extended base bits }
+{
+    match base {
+        Base::Schar if bits >= 0x80 => u64::from(bits) + 0xFFFF_FF00,
+        Base::Int if bits >= 0x8000 => u64::from(bits) + 0xFFFF_0000,
+        _ => u64::from(bits),
+    }
+}
+
+/// A value of the first type as one of the second: its low bits, extended where the second is wider
+/// (6.2.1.2).
+pub fn convert(from: Base, to: Base, bits: u32) -> u32
+    ensures value { result ≡ convert from to bits }
+    ensures within { result < 2 ^ bits_of to }
+{
+    wrapped(to, extended(from, bits))
+}
+
+/// The value of an operator on two numbers of one type, where the operator has one.
+fn binary_value(operator: CBin, base: Base, a: u32, b: u32) -> Option<Value>
+    requires { b < 2 ^ bits_of base }
+    ensures { option_map number_of result ≡ binary_value operator base a b }
+{
+    let bits = match operator {
+        CBin::Or => a | b,
+        CBin::Xor => a ^ b,
+        CBin::And => a & b,
+        CBin::Add => wrapped(base, u64::from(a) + u64::from(b)),
+        CBin::Sub => wrapped(base, u64::from(a) + modulus_of(base) - u64::from(b)),
+        _ => return None,
+    };
+    Some(Value { base, bits })
+}
+
+/// What the variable with the name holds.
+fn held_by(variables: &[Binding], name: &str) -> Option<Value>
+    ensures { option_map number_of result ≡ held_by (map binding_of variables.now) name.now }
+{
+    for variable in variables {
+        if variable.name.as_str() == name {
+            return Some(variable.held);
+        }
+    }
+    None
+}
+
+/// The value of an expression over these variables, where it has one.
+pub fn value_of(variables: &[Binding], e: &CExpr) -> Option<Value>
+    ensures { option_map number_of result ≡ value_of (map binding_of variables.now) (expr_of e.now) }
+{
+    match e {
+        CExpr::Num(n, base) => Some(Value {
+            base: *base,
+            bits: wrapped(*base, u64::from(*n)),
+        }),
+        CExpr::Name(name) => held_by(variables, name.as_str()),
+        CExpr::Bin(operator, a, b) => both_values(
+            *operator,
+            value_of(variables, a)?,
+            value_of(variables, b)?,
+        ),
+        _ => None,
+    }
+}
+
+/// The value of an operator: both operands are converted to their common type.
+fn both_values(operator: CBin, a: Value, b: Value) -> Option<Value>
+    ensures { option_map number_of result ≡ both_values operator (Some (number_of a)) (Some (number_of b)) }
+{
+    let base = common_type(a.base, b.base);
+    binary_value(
+        operator,
+        base,
+        convert(a.base, base, a.bits),
+        convert(b.base, base, b.bits),
+    )
+}
+
+/// The variable with the name takes a value, converted to its type.
+pub fn assign(variables: &mut [Binding], name: &str, v: Value)
+    ensures { map binding_of variables.new
+        ≡ assigned (map binding_of variables.old) name.now (number_of v) }
+{
+    for variable in variables.iter_mut() {
+        if variable.name.as_str() == name {
+            variable.held.bits = convert(v.base, variable.held.base, v.bits);
+            return;
+        }
+    }
+}
