@@ -8,8 +8,9 @@ mod operation;
 #[cfg(test)]
 mod tests;
 
-ghost use Rattle.std.specs.Prelude.{◌≡◌, ◌≢◌, ◌<◌, ◌∷◌, ℕ, drop, length, slice_index};
+ghost use Rattle.std.specs.Prelude.{◌≡◌, ◌≢◌, ◌<◌, ◌∷◌, ℕ, drop, length, slice_index, IfSome};
 ghost use Rattle.dcc_prog.specs.Table.{instruction_at};
+ghost use Rattle.dcc_prog.specs.WellFormed.{IsOperation};
 
 use dcc_num::Reg;
 use dcc_prog::{Instr, Op};
@@ -23,11 +24,29 @@ pub fn decode(code: &[u8], at: u16) -> Option<Instr>
     ensures { result ≡ instruction_at at (drop at code.now) }
 {
     let bytes = code.get(usize::from(at)..)?;
-    let (opcode, rest) = bytes.split_first()?;
+    decode_window(bytes, at)
+}
+
+/// The instruction whose first byte is the first one of the window, and stands at the offset `at`
+/// of the code segment. It is None where no instruction that this project knows lies wholly within
+/// the window.
+pub fn decode_window(window: &[u8], at: u16) -> Option<Instr>
+    ensures found { result ≡ instruction_at at window.now }
+    ensures operation { IfSome result (λ instr. IsOperation instr.op) }
+{
+    instruction_in(window, at)
+}
+
+/// The instruction that begins with the first byte of a window.
+#[tactic(auto, using(crate::proofs::Decoding::end_rules))]
+fn instruction_in(window: &[u8], at: u16) -> Option<Instr>
+    ensures { result ≡ instruction_at at window.now }
+{
+    let (opcode, rest) = window.split_first()?;
     match *opcode {
         0x2e => table_jump(rest),
         0xcd => interrupt(rest),
-        _ => decode_fields(bytes, at),
+        _ => decode_fields(window, at),
     }
 }
 

@@ -3,3 +3,4 @@ pub mod StepLaws
 pub mod FetchLaws
 pub mod MzImageLaws
 pub mod ConsoleLaws
+pub mod WellFormedLaws
