@@ -19,7 +19,8 @@ use Rattle.dcc_prog.specs.declared.instr.Op.TheVariants.{Alu as AluOp, Mov, Int2
 use Rattle.dcc_prog.specs.declared.instr.Instr.{Instr}
 use Rattle.dcc_prog.specs.Table.{instruction_at}
 use Rattle.dcc_prog.specs.Machine.{State, reg_number, word_in, with_word_in, half_of_word, word_with_half, operand_value, with_operand}
-use Rattle.dcc_prog.specs.Step.{code_bytes, ended, op_step, dos_step, instruction_step, step}
+use Rattle.dcc_prog.specs.Dos.{dos_step}
+use Rattle.dcc_prog.specs.Step.{code_bytes, ended, op_step, instruction_step, step}
 use Rattle.dcc_prog.specs.Code.{code_of}
 use Rattle.dcc_prog.proofs.TableLaws.{and_left, and_right}
 use Rattle.dcc_prog.proofs.FetchLaws.{IsPlaced, HoldsImage, fetched-instruction}
