@@ -13,7 +13,7 @@ use Rattle.dcc_num.specs.Sum.{sum_of, difference_of, negation_of, increment_of, 
 use Rattle.dcc_num.specs.Logic.{conjunction_of, disjunction_of, exclusive_of}
 use Rattle.dcc_num.specs.Shift.{left_shift_of, right_shift_of, signed_shift_of, left_rotation_of, right_rotation_of, left_turn_of, right_turn_of}
 use Rattle.dcc_num.specs.Product.{product_of, signed_product_of, extension_of}
-use Rattle.dcc_num.specs.Quotient.{division_of, signed_division_of, division_flags}
+use Rattle.dcc_num.specs.Quotient.{division_of, signed_division_of}
 use Rattle.dcc_prog.specs.declared.instr.Alu.{Alu}
 use Rattle.dcc_prog.specs.declared.instr.Alu.TheVariants.{Add, Or, Adc, Sbb, And, Sub, Xor, Cmp, Test}
 use Rattle.dcc_prog.specs.declared.instr.Shift.{Shift}
@@ -26,7 +26,7 @@ use Rattle.dcc_prog.specs.declared.instr.Plain.{Plain}
 use Rattle.dcc_prog.specs.declared.instr.Plain.TheVariants.{Nop, Cbw, Cwd, Xlat, Clc, Stc, Cmc, Cli, Sti, Cld}
 use Rattle.dcc_prog.specs.declared.instr.Ea.{Ea}
 use Rattle.dcc_prog.specs.declared.instr.Operand.{Operand}
-use Rattle.dcc_prog.specs.Machine.{State, half_of_word, word_with_half, word_in, with_word_in, code_segment, stack_segment, data_segment, byte_in, word_at_offset, with_word_at_offset, offset_of, operand_value, with_operand, operand_width}
+use Rattle.dcc_prog.specs.Machine.{State, no_flags, half_of_word, word_with_half, word_in, with_word_in, code_segment, stack_segment, data_segment, byte_in, word_at_offset, with_word_at_offset, offset_of, operand_value, with_operand, operand_width}
 
 -- the run ends at the instruction at this offset
 abbrev pub ended : End → ℕ → State → State
@@ -92,7 +92,7 @@ with_product w product s = with_pair w product.0 product.1 (with_flags product.2
 -- the quotient and the remainder; without them the run ends by a divide fault
 abbrev pub with_division : Width → ℕ → Option (ℕ × ℕ) → State → State
 with_division w at None s = ended Divide at s
-with_division w at (Some division) s = with_pair w division.0 division.1 (with_flags division_flags s)
+with_division w at (Some division) s = with_pair w division.0 division.1 (with_flags no_flags s)
 
 abbrev pub unary_step : Unary → Width → Operand → ℕ → ℕ → State → State
 unary_step Inc w x a at s = with_result x (increment_of w a s.flags) s
