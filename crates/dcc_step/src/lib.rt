@@ -2,7 +2,6 @@
 #![tactic(auto)]
 
 mod alu;
-mod decode;
 mod dos;
 mod ending;
 mod flow;

@@ -9,10 +9,10 @@ ghost use Rattle.dcc_prog.specs.WellFormed.{IsOperation};
 ghost use Rattle.dcc_step.specs.Core.{core_of, state_of};
 ghost use Rattle.dcc_step.specs.Stepped.{scene, Makes, IsRefused, Steps, Answers, Runs};
 
-use crate::decode::decode_window;
 use crate::ending::{Ending, Fault, Stepped};
 use crate::flow::is_met;
 use crate::machine::Machine;
+use dcc_decode::decode_window;
 use dcc_io::{Sink, Source};
 use dcc_num::Reg;
 use dcc_prog::{Instr, Op};
