@@ -1,0 +1,105 @@
+//! Files of programs, and calls on them.
+
+use dcc_io::{MemShelf, MemSink, MemSource};
+use dcc_top::top::dcc;
+use std::alloc::{AllocError, Global};
+use std::process::Abort;
+
+/// A program of 48 bytes that prints A and exits with 3: a header of two paragraphs with one relocation,
+/// then 16 bytes of code.
+pub const PRINTS_A: [u8; 48] = [
+    0x4D, 0x5A, 0x30, 0x00, 0x01, 0x00, 0x01, 0x00, 0x02, 0x00, 0x00, 0x00, 0xFF, 0xFF, 0x01, 0x00,
+    0x00, 0x01, 0x00, 0x00, 0x00, 0x00, 0x00, 0x00, 0x1C, 0x00, 0x00, 0x00, 0x01, 0x00, 0x00, 0x00,
+    0xB8, 0x01, 0x00, 0x8E, 0xD8, 0xB2, 0x41, 0xB4, 0x02, 0xCD, 0x21, 0xB8, 0x03, 0x4C, 0xCD, 0x21,
+];
+
+/// The paragraphs of 16 bytes that the code takes behind the two instructions that set DS.
+pub fn paragraphs(rt: &impl Abort, code: &[u8]) -> u16
+    ensures { result ≤ 4096 }
+{
+    let bytes = code.len();
+    assert!(rt; bytes <= 65_531);
+    (5 + bytes).div_ceil(16) as u16
+}
+
+/// The file of a program. The image is `mov ax, p`, `mov ds, ax` and the code, with zeros up to a whole
+/// paragraph; p, the image's paragraphs, is relocated, so that DS and SS are the segment behind the image.
+pub fn program(rt: &impl Abort, alloc: Global, code: &[u8]) -> Result<Vec<u8>, AllocError> {
+    let paragraphs = paragraphs(rt, code);
+    let length = 32 + 16 * u32::from(paragraphs);
+    let header = [
+        (length % 512) as u16,
+        length.div_ceil(512) as u16,
+        1,
+        2,
+        0,
+        0xFFFF,
+        paragraphs,
+        0x0100,
+        0,
+        0,
+        0,
+        0x1C,
+        0,
+    ];
+    let mut file = b"MZ".to_vec(alloc)?;
+    for word in header {
+        file.extend_from_slice(&word.to_le_bytes())?;
+    }
+    // The relocation of the word at offset 1.
+    file.extend_from_slice(&[1, 0, 0, 0, 0xB8])?;
+    file.extend_from_slice(&paragraphs.to_le_bytes())?;
+    file.extend_from_slice(&[0x8E, 0xD8])?;
+    file.extend_from_slice(code)?;
+    file.resize(length as usize, 0)?;
+    Ok(file)
+}
+
+/// The numbers, from 1 on, of a fetch and of writes that fail; 0 where none does.
+#[derive(Clone, Copy)]
+pub struct Faults {
+    pub fetch: u64,
+    pub out: u64,
+    pub err: u64,
+}
+
+/// Nothing fails.
+pub const NO_FAULTS: Faults = Faults {
+    fetch: 0,
+    out: 0,
+    err: 0,
+};
+
+/// What a call answered and wrote.
+#[derive(Drop)]
+pub struct Answer {
+    pub status: u8,
+    pub out: Vec<u8>,
+    pub err: Vec<u8>,
+}
+
+/// Calls the top call with the words, where the shelf has one file, ROW1.EXE, of these bytes. The streams
+/// take at most 8 bytes a write.
+pub fn answered(
+    alloc: Global,
+    words: &[&str],
+    file: &[u8],
+    faults: Faults,
+) -> Result<Answer, AllocError> {
+    let mut command = Vec::new(alloc);
+    for word in words {
+        command.push(String::from_str(alloc, word)?)?;
+    }
+    let mut files = Vec::new(alloc);
+    files.push((String::from_str(alloc, "ROW1.EXE")?, file.to_vec(alloc)?))?;
+    let mut shelf = MemShelf::new(alloc, files, [faults.fetch].to_vec(alloc)?);
+    let mut input = MemSource::new(Vec::new(alloc), Vec::new(alloc), 1);
+    let mut out = MemSink::new(alloc, [faults.out].to_vec(alloc)?, 8);
+    let mut err = MemSink::new(alloc, [faults.err].to_vec(alloc)?, 8);
+    let status = dcc(alloc, &command, &mut shelf, &mut input, &mut out, &mut err);
+    Ok(Answer {
+        status,
+        out: out.taken().clone()?,
+        err: err.taken().clone()?,
+    })
+}

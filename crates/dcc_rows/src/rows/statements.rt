@@ -1,0 +1,223 @@
+//! The statements of each built instruction.
+
+use super::files::{NO_FAULTS, answered, paragraphs, program};
+use std::alloc::{AllocError, Global};
+use std::test::Fail;
+
+/// What stands before the statements of a program's instructions.
+const HEAD: &str = "#pragma dcc text 1
+#pragma dcc stack 0 0
+void start(void)
+{
+    unsigned int v1;
+    unsigned int v2;
+    unsigned int v3;
+    unsigned int v4;
+    unsigned int v5;
+    unsigned int v6;
+    v1 = 0U;
+    v2 = 0U;
+    v3 = 0U;
+    v4 = 0U;
+    v5 = 0U;
+    v6 = 0U;
+";
+
+/// The code behind the instructions that set DS, and its statements. The reference runs each file, and the
+/// text with these statements, to the same output and exit code.
+type StatementRow = (&'static [u8], &'static [&'static str]);
+
+static STATEMENTS: [StatementRow; 11] = [
+    // MOV, and ADD of a register in the encoding 03.
+    (
+        b"\xB8\x40\x00\xBB\x01\x00\x03\xC3\x8B\xD0\xB4\x02\xCD\x21\xB8\x02\x4C\xCD\x21",
+        &[
+            "v1 = 64U;",
+            "v4 = 1U;",
+            "v1 = v1 + v4;",
+            "v3 = v1;",
+            "v1 = (v1 & 255U) | 512U;",
+            "dos_putc(v3);",
+            "v1 = 19458U;",
+            "dos_exit(v1);",
+        ],
+    ),
+    // MOV in the encoding 89, and ADD in 01, which wraps.
+    (
+        b"\xBE\xFF\xFF\xBF\x43\x00\x01\xF7\x89\xFA\xB4\x02\xCD\x21\xB8\x00\x4C\xCD\x21",
+        &[
+            "v5 = 65535U;",
+            "v6 = 67U;",
+            "v6 = v6 + v5;",
+            "v3 = v6;",
+            "v1 = (v1 & 255U) | 512U;",
+            "dos_putc(v3);",
+            "v1 = 19456U;",
+            "dos_exit(v1);",
+        ],
+    ),
+    // SUB in the encodings 29 and 2B.
+    (
+        b"\xB9\x01\x00\xBA\x44\x00\x29\xCA\xB4\x02\xCD\x21\x2B\xD1\xCD\x21\xB8\x01\x4C\xCD\x21",
+        &[
+            "v2 = 1U;",
+            "v3 = 68U;",
+            "v3 = v3 - v2;",
+            "v1 = (v1 & 255U) | 512U;",
+            "dos_putc(v3);",
+            "v3 = v3 - v2;",
+            "dos_putc(v3);",
+            "v1 = 19457U;",
+            "dos_exit(v1);",
+        ],
+    ),
+    // ADD and SUB of a constant on AX.
+    (
+        b"\xB8\xF0\xFF\x05\x51\x00\x8B\xD0\xB4\x02\xCD\x21\x2D\x3F\x00\xB4\x4C\xCD\x21",
+        &[
+            "v1 = 65520U;",
+            "v1 = v1 + 81U;",
+            "v3 = v1;",
+            "v1 = (v1 & 255U) | 512U;",
+            "dos_putc(v3);",
+            "v1 = v1 - 63U;",
+            "v1 = (v1 & 255U) | 19456U;",
+            "dos_exit(v1);",
+        ],
+    ),
+    // ADD and SUB of a word constant, and a sum that wraps.
+    (
+        b"\xBE\xFF\xDB\x81\xC6\x45\x24\x81\xEE\x02\x00\x89\xF2\xB4\x02\xCD\x21\xB8\x00\x4C\xCD\x21",
+        &[
+            "v5 = 56319U;",
+            "v5 = v5 + 9285U;",
+            "v5 = v5 - 2U;",
+            "v3 = v5;",
+            "v1 = (v1 & 255U) | 512U;",
+            "dos_putc(v3);",
+            "v1 = 19456U;",
+            "dos_exit(v1);",
+        ],
+    ),
+    // ADD and SUB of a byte constant, which is sign-extended.
+    (
+        b"\xBA\x44\x00\x83\xC2\xFF\xB4\x02\xCD\x21\x83\xEA\x80\xCD\x21\x83\xC2\x02\xCD\x21\xB8\x04\x4C\xCD\x21",
+        &[
+            "v3 = 68U;",
+            "v3 = v3 + 65535U;",
+            "v1 = (v1 & 255U) | 512U;",
+            "dos_putc(v3);",
+            "v3 = v3 - 65408U;",
+            "dos_putc(v3);",
+            "v3 = v3 + 2U;",
+            "dos_putc(v3);",
+            "v1 = 19460U;",
+            "dos_exit(v1);",
+        ],
+    ),
+    // MOV of constants to all byte registers.
+    (
+        b"\xB1\x30\xB5\x01\xB3\x12\xB7\xFE\x03\xCB\xB6\x77\xB2\x40\x03\xD1\xB4\x02\xCD\x21\xB4\x4C\xB0\x07\xCD\x21",
+        &[
+            "v2 = (v2 & 65280U) | 48U;",
+            "v2 = (v2 & 255U) | 256U;",
+            "v4 = (v4 & 65280U) | 18U;",
+            "v4 = (v4 & 255U) | 65024U;",
+            "v2 = v2 + v4;",
+            "v3 = (v3 & 255U) | 30464U;",
+            "v3 = (v3 & 65280U) | 64U;",
+            "v3 = v3 + v2;",
+            "v1 = (v1 & 255U) | 512U;",
+            "dos_putc(v3);",
+            "v1 = (v1 & 255U) | 19456U;",
+            "v1 = (v1 & 65280U) | 7U;",
+            "dos_exit(v1);",
+        ],
+    ),
+    // Sums and differences of a register with itself, and the last registers.
+    (
+        b"\xBB\x00\x80\x03\xDB\x2B\xDB\x2D\x01\x01\x03\xC0\x8B\xD8\x8B\xFB\x8B\xF7\x8B\xCE\x8B\xD1\xB4\x02\xCD\x21\xB4\x4C\xCD\x21",
+        &[
+            "v4 = 32768U;",
+            "v4 = v4 + v4;",
+            "v4 = v4 - v4;",
+            "v1 = v1 - 257U;",
+            "v1 = v1 + v1;",
+            "v4 = v1;",
+            "v6 = v4;",
+            "v5 = v6;",
+            "v2 = v5;",
+            "v3 = v2;",
+            "v1 = (v1 & 255U) | 512U;",
+            "dos_putc(v3);",
+            "v1 = (v1 & 255U) | 19456U;",
+            "dos_exit(v1);",
+        ],
+    ),
+    // MOV to ES, SS and DS has no statement.
+    (
+        b"\x8E\xC0\xB9\x34\x12\x8E\xD1\x8E\xD9\x8B\xD1\xB4\x02\xCD\x21\x8E\xC2\xCD\x21\xB8\xFF\x4C\xCD\x21",
+        &[
+            "v2 = 4660U;",
+            "v3 = v2;",
+            "v1 = (v1 & 255U) | 512U;",
+            "dos_putc(v3);",
+            "dos_putc(v3);",
+            "v1 = 19711U;",
+            "dos_exit(v1);",
+        ],
+    ),
+    // Differences that wrap.
+    (
+        b"\xBF\x00\x00\xBE\x01\x00\x2B\xFE\x29\xF7\x81\xEF\x00\xFF\x8B\xD7\xB4\x02\xCD\x21\x81\xC7\x05\x01\x89\xF8\xB4\x4C\xCD\x21",
+        &[
+            "v6 = 0U;",
+            "v5 = 1U;",
+            "v6 = v6 - v5;",
+            "v6 = v6 - v5;",
+            "v6 = v6 - 65280U;",
+            "v3 = v6;",
+            "v1 = (v1 & 255U) | 512U;",
+            "dos_putc(v3);",
+            "v6 = v6 + 261U;",
+            "v1 = v6;",
+            "v1 = (v1 & 255U) | 19456U;",
+            "dos_exit(v1);",
+        ],
+    ),
+    // AX is still the segment that DS was set to.
+    (
+        b"\xB4\x4C\xCD\x21",
+        &["v1 = (v1 & 255U) | 19456U;", "dos_exit(v1);"],
+    ),
+];
+
+fn statements() -> &'static [StatementRow] {
+    &STATEMENTS
+}
+
+/// The text with these statements, where the image has that many paragraphs: AX takes the segment behind it.
+fn text(alloc: Global, paragraphs: u16, statements: &[&str]) -> Result<String, AllocError> {
+    let mut text = String::from_str(alloc, HEAD)?;
+    let segment = 0x0110 + u32::from(paragraphs);
+    write!(text, "    v1 = {segment}U;\n")?;
+    for statement in statements {
+        write!(text, "    {statement}\n")?;
+    }
+    text.push_str("}\n")?;
+    Ok(text)
+}
+
+#[test]
+fn built_instructions_have_these_statements(rt: HostRuntime) -> Result<(), Fail> {
+    let alloc = rt.alloc();
+    for (code, statements) in statements() {
+        let file = program(&rt, alloc, code)?;
+        let done = answered(alloc, &["c", "ROW1.EXE"], &file, NO_FAULTS)?;
+        let text = text(alloc, paragraphs(&rt, code), statements)?;
+        assert_eq!(rt; done.out.as_slice(), text.as_bytes(), "{code:?}");
+        assert_eq!(rt; done.status, 0, "{code:?}");
+        assert!(rt; done.err.is_empty(), "{code:?}");
+    }
+    Ok(())
+}

@@ -1,0 +1,126 @@
+//! Runs of texts, as the dialect defines them.
+
+ghost use Rattle.std.specs.Prelude.{◌<◌, IfOk, vec_len};
+
+use dcc_c::plain::{End, run};
+use dcc_c::{Base, CBin, CExpr, CStmt, CType, Class, Func, Line, Unit, Var};
+use std::alloc::{AllocError, Global};
+use std::test::Fail;
+
+fn name(alloc: Global, word: &str) -> Result<CExpr, AllocError> {
+    Ok(CExpr::Name(String::from_str(alloc, word)?))
+}
+
+fn number(n: u32) -> CExpr {
+    CExpr::Num(n, Base::Uint)
+}
+
+fn binary(alloc: Global, operator: CBin, a: CExpr, b: CExpr) -> Result<CExpr, AllocError> {
+    Ok(CExpr::Bin(operator, Box::new(alloc, a)?, Box::new(alloc, b)?))
+}
+
+/// `word = e;`.
+fn assigns(alloc: Global, word: &str, e: CExpr) -> Result<CStmt, AllocError> {
+    Ok(CStmt::Assign(name(alloc, word)?, e))
+}
+
+/// `word = (word & mask) | n;`.
+fn takes_half(alloc: Global, word: &str, mask: u32, n: u32) -> Result<CStmt, AllocError> {
+    let kept = binary(alloc, CBin::And, name(alloc, word)?, number(mask))?;
+    assigns(alloc, word, binary(alloc, CBin::Or, kept, number(n))?)
+}
+
+/// `function(word);`.
+fn calls(alloc: Global, function: &str, word: &str) -> Result<CStmt, AllocError> {
+    let function = String::from_str(alloc, function)?;
+    Ok(CStmt::Call(None, function, vec![in alloc; name(alloc, word)?]?, 2))
+}
+
+const VARIABLES: [&str; 6] = ["v1", "v2", "v3", "v4", "v5", "v6"];
+
+fn variable(alloc: Global, word: &str) -> Result<Var, AllocError> {
+    Ok(Var {
+        name: String::from_str(alloc, word)?,
+        ty: CType {
+            base: Base::Uint,
+            pointer: false,
+        },
+        len: None,
+        class: Class::Plain,
+    })
+}
+
+/// The text whose six variables are cleared before these statements.
+fn text(alloc: Global, statements: Vec<CStmt>) -> Result<Unit, AllocError>
+    ensures { IfOk result (λ unit. 0 < vec_len unit.funcs) }
+{
+    let mut locals = Vec::new(alloc);
+    let mut body = Vec::new(alloc);
+    for word in VARIABLES {
+        locals.push(variable(alloc, word)?)?;
+        let stmt = assigns(alloc, word, number(0))?;
+        body.push(Line { stmt, line: 0 })?;
+    }
+    for stmt in statements {
+        body.push(Line { stmt, line: 0 })?;
+    }
+    let start = Func {
+        name: String::from_str(alloc, "start")?,
+        result: None,
+        params: Vec::new(alloc),
+        locals,
+        body,
+        last: 0,
+    };
+    Ok(Unit {
+        version: 1,
+        lo: 0,
+        hi: 0,
+        globals: Vec::new(alloc),
+        funcs: vec![in alloc; start]?,
+    })
+}
+
+/// The statements of the program that prints A and exits with 3.
+fn prints_a(alloc: Global) -> Result<Vec<CStmt>, AllocError> {
+    let statements = vec![in alloc;
+        assigns(alloc, "v1", number(273))?,
+        takes_half(alloc, "v3", 65280, 65)?,
+        takes_half(alloc, "v1", 255, 512)?,
+        calls(alloc, "dos_putc", "v3")?,
+        assigns(alloc, "v1", number(19459))?,
+        calls(alloc, "dos_exit", "v1")?,
+    ]?;
+    Ok(statements)
+}
+
+/// The statements of the program that prints a sum.
+fn prints_a_sum(alloc: Global) -> Result<Vec<CStmt>, AllocError> {
+    let sum = binary(alloc, CBin::Add, name(alloc, "v1")?, name(alloc, "v4")?)?;
+    let statements = vec![in alloc;
+        assigns(alloc, "v1", number(274))?,
+        assigns(alloc, "v1", number(64))?,
+        assigns(alloc, "v4", number(1))?,
+        assigns(alloc, "v1", sum)?,
+        assigns(alloc, "v3", name(alloc, "v1")?)?,
+        takes_half(alloc, "v1", 255, 512)?,
+        calls(alloc, "dos_putc", "v3")?,
+        assigns(alloc, "v1", number(19458))?,
+        calls(alloc, "dos_exit", "v1")?,
+    ]?;
+    Ok(statements)
+}
+
+#[test]
+fn texts_print_and_exit_as_their_programs_do(rt: HostRuntime) -> Result<(), Fail> {
+    let alloc = rt.alloc();
+    for fill in [0, 0xAAAA] {
+        let ended = run(alloc, &text(alloc, prints_a(alloc)?)?, &[], fill, 100)?;
+        assert_eq!(rt; ended.out.as_slice(), b"A".as_slice());
+        assert_eq!(rt; ended.end, End::Exit(3));
+        let ended = run(alloc, &text(alloc, prints_a_sum(alloc)?)?, &[], fill, 100)?;
+        assert_eq!(rt; ended.out.as_slice(), b"A".as_slice());
+        assert_eq!(rt; ended.end, End::Exit(2));
+    }
+    Ok(())
+}
