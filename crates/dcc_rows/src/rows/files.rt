@@ -1,9 +1,14 @@
-//! Files of programs, and calls on them.
+//! Files of programs, calls on them, and their runs.
+
+ghost use Rattle.std.specs.Prelude.{◌≤◌};
 
 use dcc_io::{MemShelf, MemSink, MemSource};
+use dcc_mz::load;
+use dcc_step::{Machine, Stepped};
 use dcc_top::top::dcc;
 use std::alloc::{AllocError, Global};
 use std::process::Abort;
+use std::test::Fail;
 
 /// A program of 48 bytes that prints A and exits with 3: a header of two paragraphs with one relocation,
 /// then 16 bytes of code.
@@ -102,4 +107,19 @@ pub fn answered(
         out: out.taken().clone()?,
         err: err.taken().clone()?,
     })
+}
+
+/// How the first 100 steps of a file's program end on an empty input, and their output.
+pub fn run_file(
+    rt: &impl Abort,
+    alloc: Global,
+    file: &Vec<u8>,
+) -> Result<(Stepped, Vec<u8>), Fail> {
+    let image = load(alloc, file)?;
+    assert!(rt; image.bytes.len() <= 65_536);
+    let mut machine = Machine::new(alloc, &image)?;
+    let mut input = MemSource::new(Vec::new(alloc), Vec::new(alloc), 1);
+    let mut out = MemSink::new(alloc, Vec::new(alloc), 8);
+    let ended = machine.run(&mut input, &mut out, 100);
+    Ok((ended, out.taken().clone()?))
 }

@@ -2,9 +2,12 @@
 
 ghost use Rattle.std.specs.Prelude.{◌<◌, IfOk, vec_len};
 
+use super::files::{PRINTS_A, program, run_file};
 use dcc_c::plain::{End, run};
 use dcc_c::{Base, CBin, CExpr, CStmt, CType, Class, Func, Line, Unit, Var};
+use dcc_step::Stepped;
 use std::alloc::{AllocError, Global};
+use std::process::Abort;
 use std::test::Fail;
 
 fn name(alloc: Global, word: &str) -> Result<CExpr, AllocError> {
@@ -111,16 +114,32 @@ fn prints_a_sum(alloc: Global) -> Result<Vec<CStmt>, AllocError> {
     Ok(statements)
 }
 
+/// The code of the program that prints a sum, behind the instructions that set DS.
+const SUM: &[u8] = b"\xB8\x40\x00\xBB\x01\x00\x03\xC3\x8B\xD0\xB4\x02\xCD\x21\xB8\x02\x4C\xCD\x21";
+
+/// The text with these statements and the file both print A and exit with the code.
+fn check_runs(
+    rt: &impl Abort,
+    alloc: Global,
+    statements: Vec<CStmt>,
+    file: &Vec<u8>,
+    exit: u8,
+) -> Result<(), Fail> {
+    let unit = text(alloc, statements)?;
+    let of_text = run(alloc, &unit, &[], 0xAAAA, 100)?;
+    assert_eq!(rt; of_text.out.as_slice(), b"A".as_slice());
+    assert_eq!(rt; of_text.end, End::Exit(exit));
+    let (ended, out) = run_file(rt, alloc, file)?;
+    assert_eq!(rt; out.as_slice(), b"A".as_slice());
+    assert_eq!(rt; ended, Stepped::Exit(exit));
+    Ok(())
+}
+
 #[test]
 fn texts_print_and_exit_as_their_programs_do(rt: HostRuntime) -> Result<(), Fail> {
     let alloc = rt.alloc();
-    for fill in [0, 0xAAAA] {
-        let ended = run(alloc, &text(alloc, prints_a(alloc)?)?, &[], fill, 100)?;
-        assert_eq!(rt; ended.out.as_slice(), b"A".as_slice());
-        assert_eq!(rt; ended.end, End::Exit(3));
-        let ended = run(alloc, &text(alloc, prints_a_sum(alloc)?)?, &[], fill, 100)?;
-        assert_eq!(rt; ended.out.as_slice(), b"A".as_slice());
-        assert_eq!(rt; ended.end, End::Exit(2));
-    }
+    check_runs(&rt, alloc, prints_a(alloc)?, &PRINTS_A.to_vec(alloc)?, 3)?;
+    let file = program(&rt, alloc, SUM)?;
+    check_runs(&rt, alloc, prints_a_sum(alloc)?, &file, 2)?;
     Ok(())
 }
