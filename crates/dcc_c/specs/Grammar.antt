@@ -9,7 +9,7 @@ use Rattle.dcc_c.specs.declared.syntax.CBin.{CBin}
 use Rattle.dcc_c.specs.declared.syntax.CBin.TheVariants.{OrOr, AndAnd, Or, Xor, And, Eq, Ne, Lt, Le, Gt, Ge, Shl, Shr, Add, Sub, Mul, Div, Rem}
 use Rattle.dcc_c.specs.declared.syntax.Class.TheVariants.{Plain}
 use Rattle.dcc_c.specs.Token.{Token, WordToken, Decimal, Hex, Mark, Pragma, Suffix, plain_number, version_line, stack_line, decimal_type, hex_type}
-use Rattle.dcc_c.specs.Lexing.{Placed}
+use Rattle.dcc_c.specs.Lexing.{Placed, placed, pragma_tokens}
 use Rattle.dcc_c.specs.Types.{plain}
 use Rattle.dcc_c.specs.Tree.{Word, Expr, Number, Name, Unary, Binary, Conditional, Cast, Stmt, Assign, Call, Lines, no_lines, line, Variable, Function, Tree}
 
@@ -155,13 +155,14 @@ pub data AreFunctions : List Placed → List Function → Type 0 where
   no_function : AreFunctions [] []
   one_function : {all : List Placed} {function : Function} {functions : List Function} (tokens rest : List Placed) → IsFunction tokens function → AreFunctions rest functions → all ≡ tokens ++ rest → AreFunctions all (function ∷ functions)
 
--- The tokens are a text without global variables: the version line, the stack line and one or more functions.
+-- The tokens are a text without global variables: the version line, which is the first line, the stack line with its two
+-- numbers, which is a line of its own, and one or more functions.
 pub record IsUnit (tokens : List Placed) (tree : Tree) : Type 0 where
   pub head : List Placed
   pub rest : List Placed
   pub joins : tokens ≡ head ++ rest
-  pub head_is : tokens_of head ≡ Pragma version_line ∷ (Pragma stack_line ∷ (Decimal tree.lo plain_number ∷ (Decimal tree.hi plain_number ∷ [])))
-  pub first_line : StandsIn 1 head
+  pub stack_at : ℕ
+  pub head_is : head ≡ placed 1 (Pragma version_line) ∷ map (placed stack_at) (pragma_tokens stack_line (tree.lo ∷ tree.hi ∷ []))
   pub version : tree.version ≡ 1
   pub no_globals : tree.globals ≡ []
   pub functions : AreFunctions rest tree.functions

@@ -31,7 +31,7 @@ abbrev pub type_of_name : List Variable → Word → Option CType
 type_of_name [] word = None
 type_of_name (v ∷ variables) word = if same_bytes v.name word then Some v.type else type_of_name variables word
 
--- the number type of the variable with the name
+-- the number type, where the type is one
 abbrev pub number_of_type : CType → Option Base
 number_of_type type = if type.pointer then None else Some type.base
 

@@ -12,3 +12,6 @@ pub use image::Image;
 pub use instr::{Alu, Cond, Ea, Instr, Op, Operand, Plain, Shift, Unary};
 pub use procedure::{Layout, Node, Proc};
 pub use refusal::{LimitName, Refusal};
+
+#[cfg(test)]
+mod tests;

@@ -1,5 +1,5 @@
 -- How a run is made of steps.
-use Rattle.std.proofs.Common.{◌≡◌, ◌≢◌, ℕ, ◌+◌, ◌-◌, ◌<◌, ◌≤◌, Bool, true, List, [], ◌++◌, Some, Option, refl, sym, ap, ◌∙◌, subst, append_assoc, arith}
+use Rattle.std.proofs.Common.{◌≡◌, ◌≢◌, ℕ, zero, suc, ◌+◌, ◌-◌, ◌<◌, ◌≤◌, Bool, true, List, [], ◌++◌, Some, Option, refl, sym, ap, ◌∙◌, subst, append_assoc, arith}
 use Rattle.std.proofs.lemmas.List.{append-nil}
 use Rattle.dcc_run.specs.End.{End, is_over}
 use Rattle.dcc_run.specs.System.{after}
@@ -15,11 +15,25 @@ use Rattle.dcc_step.specs.declared.ending.Stepped.{Stepped}
 use Rattle.dcc_step.specs.declared.ending.Stepped.TheVariants.{Running, Exit, Divide, Outside, InFault, OutFault}
 use Rattle.dcc_step.specs.Core.{Core, with_console}
 use Rattle.dcc_step.specs.Ending.{answer_of}
-use Rattle.dcc_step.specs.Stepped.{Scene, scene, told_bytes, Makes, MakesSteps, StopsShort, Steps, Answers, Runs}
+use Rattle.dcc_step.specs.Stepped.{Scene, scene, told_bytes, Makes, MakesEach, MakesSteps, StopsShort, Steps, Answers, Runs}
+
+-- no step, each by itself
+each_none : (now : Scene) → MakesEach 0 now now
+unfolding MakesEach
+each_none now = refl
+
+-- one step more, each by itself
+each_more : (count : ℕ) (before mid now : Scene) → MakesEach count before mid → Makes step mid now → MakesEach (count + 1) before now
+unfolding MakesEach
+each_more count before mid now first last =
+    let all : MakesEach (suc count) before now = record { before = mid; reached = first; made = last } in
+    let next : suc count ≡ count + 1 = omega arith in
+    subst (λ n. MakesEach n before now) next all
 
 -- no step
 pub no_steps : (now : Scene) → MakesSteps 0 now now
 no_steps now = record {
+  each = each_none now;
   given = [];
   written = [];
   took = sym (prepend_told-nil now.left);
@@ -30,6 +44,7 @@ no_steps now = record {
 -- one step more
 pub one_more : (count : ℕ) (before mid now : Scene) → MakesSteps count before mid → Makes step mid now → MakesSteps (count + 1) before now
 one_more count before mid now first last = record {
+  each = each_more count before mid now first.each last;
   given = first.given ++ last.given;
   written = first.written ++ last.written;
   took = first.took ∙ ap (prepend_told first.given) last.took ∙ prepend_told-append now.left first.given last.given;
@@ -49,9 +64,33 @@ one_more count before mid now first last = record {
       ∙ ap (λ (l : List ℕ). with_console now.core rest l) (append_assoc out first.written last.written);
 }
 
+-- a machine that has ended makes a step without a change
+pub ended_step : (now : Scene) → is_over now.core.end ≡ true → Makes step now now
+ended_step now over = record {
+  given = [];
+  written = [];
+  took = sym (prepend_told-nil now.left);
+  wrote = sym (append_told-nil now.taken);
+  made = λ out.
+      machine_lawful.stays (with_console now.core (told_bytes now.left) out) over
+      ∙ ap (λ (o : List ℕ). with_console now.core (told_bytes now.left) o) (sym (append-nil out));
+}
+
+-- and any number of steps
+ended_each : (more count : ℕ) (before now : Scene) → is_over now.core.end ≡ true → MakesEach count before now → MakesEach (count + more) before now
+ended_each zero count before now over each =
+    let all : count ≡ count + 0 = omega arith in
+    subst (λ n. MakesEach n before now) all each
+ended_each (suc more) count before now over each =
+    let all : count + more + 1 ≡ count + suc more = omega arith in
+    subst (λ n. MakesEach n before now) all (each_more (count + more) before now now (ended_each more count before now over each) (ended_step now over))
+
 -- a run that has ended makes any further steps without a change
 pub ended_run : (count most : ℕ) (before now : Scene) → count ≤ most → is_over now.core.end ≡ true → MakesSteps count before now → MakesSteps most before now
 ended_run count most before now le over run = record {
+  each =
+      let all : count + (most - count) ≡ most = omega arith in
+      subst (λ n. MakesEach n before now) all (ended_each (most - count) count before now over run.each);
   given = run.given;
   written = run.written;
   took = run.took;

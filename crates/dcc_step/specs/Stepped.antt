@@ -1,5 +1,5 @@
 -- What steps do to the machine and to what its input and output tell, and when they are refused.
-use Rattle.std.specs.Prelude.{◌≡◌, ◌<◌, ℕ, List, [], ◌∷◌, ◌++◌, Option, None, Some}
+use Rattle.std.specs.Prelude.{◌≡◌, ◌<◌, ℕ, zero, suc, List, [], ◌∷◌, ◌++◌, Option, None, Some}
 use Rattle.dcc_run.specs.End.{End, Running as running, Exit as exited, Divide as divided, Outside as outside}
 use Rattle.dcc_run.specs.System.{after}
 use Rattle.dcc_io.specs.Told.{append_told, prepend_told, AppendsProperPrefix}
@@ -81,9 +81,21 @@ abbrev pub fault_answer_of : Fault → Stepped
 fault_answer_of Input = InFault
 fault_answer_of Output = OutFault
 
--- So many steps were made, one after another, where the input tells what is left: the input gave some bytes and the
--- output took some, and with just these on its console the machine goes from the one state to the other.
+-- a step from a scene of some kind
+pub record StepsFrom (IsBefore : Scene → Type 0) (now : Scene) : Type 0 where
+  pub before : Scene
+  pub reached : IsBefore before
+  pub made : Makes step before now
+
+-- so many steps were made, one after another, whatever the input and the output tell
+unfoldable pub MakesEach : ℕ → Scene → Scene → Type 0
+MakesEach zero before now = now ≡ before
+MakesEach (suc count) before now = StepsFrom (MakesEach count before) now
+
+-- So many steps were made, one after another. Where the input tells what is left, they are one run: the input gave some
+-- bytes and the output took some, and with just these on its console the machine goes from the one state to the other.
 pub record MakesSteps (count : ℕ) (before now : Scene) : Type 0 where
+  pub each : MakesEach count before now
   pub given : List ℕ
   pub written : List ℕ
   pub took : before.left ≡ prepend_told given now.left

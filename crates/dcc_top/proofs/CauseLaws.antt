@@ -34,7 +34,7 @@ status-or_six reply status s (inl all) = inl all.status_is
 status-or_six reply status s (inr (inl broke)) = inr broke.status_is
 status-or_six reply status s (inr (inr broke)) = inr broke.status_is
 
--- the words have no row
+-- the words are no command
 usage-of : (told : Files) (job : Option Job) (reply : Reply) → Allows told job reply → status_of reply ≡ 2 → job ≡ None
 usage-of told None reply allowed h = refl
 usage-of told (Some (Decompile name)) (Done text) allowed h = absurd (omega (arith, h))
@@ -175,7 +175,7 @@ missing-status (Format fault) h = absurd h
 missing-status (NotYet at) h = absurd h
 
 module _ (told : Files) (job : Option Job) (status : ℕ) (s : Streams) where
-  -- the words have no row where the status says so
+  -- the words are no command where the status says so
   pub usage-cause : IsAnswered told job status s → status ≡ 2 → job ≡ None
   usage-cause a two =
       let all = wrote-all a.reply status s a.delivered (λ six. omega (arith, two, six)) in

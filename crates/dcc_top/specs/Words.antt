@@ -7,7 +7,7 @@ pub data Job : Type 0 where
   -- write the text of the executable with this name
   Decompile : List ℕ → Job
 
--- the job of the words after the program's name, or none where they have no row
+-- the job of the words after the program's name, or none where they are no command
 abbrev pub job_of : List (List ℕ) → Option Job
 job_of (command ∷ (file ∷ [])) =
     if same_bytes command (codes "c") then Some (Decompile file) else None

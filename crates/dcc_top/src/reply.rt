@@ -11,7 +11,7 @@ use std::alloc::{AllocError, Global};
 pub enum Reply {
     /// The text of the executable.
     Done(String),
-    /// The words have no row.
+    /// The words are no command.
     Usage,
     /// There is no file of that name.
     NoFile,

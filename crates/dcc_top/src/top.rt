@@ -90,7 +90,7 @@ fn words_reply<H: Shelf>(alloc: Global, words: &Vec<String>, shelf: &mut H) -> R
 
 /// Does what the words after the program's name say, and answers the exit status.
 ///
-/// `c FILE` writes the text of the executable FILE to `out`; no other words have a row. A status other than
+/// `c FILE` writes the text of the executable FILE to `out`; no other words are a command. A status other than
 /// 0 has one line on `err`, but for 6, which says that a write failed. At 0 the text stands for a tree of
 /// the C dialect, and its runs agree with the runs of the executable.
 pub fn dcc<H: Shelf, I: Source, O: Sink, E: Sink>(
@@ -107,7 +107,7 @@ pub fn dcc<H: Shelf, I: Source, O: Sink, E: Sink>(
     // The text that is written stands for a tree, and agrees with the file.
     ensures text { result ≡ 0 → HasText (H.files shelf.old) (job_of (map string_bytes words.now.items)) (streams (O.taken out.old) (O.taken out.new) (E.taken err.old) (E.taken err.new)) }
 
-    // The words have no row.
+    // The words are no command.
     ensures usage { result ≡ 2 → job_of (map string_bytes words.now.items) ≡ None }
     ensures usage_always { job_of (map string_bytes words.now.items) ≡ None → IsOneOf result (2 ∷ (6 ∷ (7 ∷ []))) }
 

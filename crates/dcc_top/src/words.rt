@@ -14,7 +14,7 @@ fn is_decompile(word: &str) -> bool
     }
 }
 
-/// The name of the executable in the words `c FILE`; all other words have no row.
+/// The name of the executable in the words `c FILE`; all other words are no command.
 pub fn file_of(words: &[String]) -> Option<&str>
     ensures { MatchOption result (job_of (map string_bytes words.now) ≡ None)
         (λ file. job_of (map string_bytes words.now) ≡ Some (Decompile file.now)) }

@@ -72,6 +72,9 @@ impl Shelf for MemShelf {
         // The fetches that are on the list fail, and no other does.
         ensures listed { IsTrue (fails_next self.old.fail self.old.fetches) → (result ≡ Err ShelfFault.Failed) ⊎ (result ≡ Err ShelfFault.Memory) }
         ensures unlisted { result ≡ Err ShelfFault.Failed → IsTrue (fails_next self.old.fail self.old.fetches) }
+        // The absences that are counted are those that were answered.
+        ensures absences_counted { IsErrOf result ShelfFault.Absent → self.new.absences ≡ counted self.old.absences }
+        ensures absences_kept { self.new.absences ≡ self.old.absences ⊎ IsErrOf result ShelfFault.Absent }
         ensures fetches { self.new.fetches ≡ counted self.old.fetches }
         ensures fail { self.new.fail ≡ self.old.fail }
         ensures same_files { self.new.files ≡ self.old.files }
