@@ -1,7 +1,7 @@
 -- Laws of the machine's steps.
-use Rattle.std.proofs.Common.{◌≡◌, ◌≢◌, ℕ, ◌+◌, ◌/◌, ◌%◌, Bool, true, false, List, [], ◌∷◌, ◌++◌, Option, Some, None, refl, sym, ap, subst}
+use Rattle.std.proofs.Common.{◌≢◌, ℕ, ◌+◌, ◌/◌, ◌%◌, Bool, true, false, List, [], ◌∷◌, Option, Some, None, sym, ap, subst}
 use Rattle.std.specs.Prelude.{if◌then◌else◌, ◌==◌}
-use Rattle.dcc_run.specs.End.{Exit, Outside, is_over}
+use Rattle.dcc_run.specs.End.{is_over}
 use Rattle.dcc_run.specs.Prefix.{IsPrefix}
 use Rattle.dcc_run.specs.System.{IsLawful}
 use Rattle.dcc_run.proofs.PrefixLaws.{prefix_refl, prefix_append}
@@ -11,8 +11,7 @@ use Rattle.dcc_prog.specs.declared.instr.Op.TheVariants.{Alu, Unary, Shift, Mov,
 use Rattle.dcc_prog.specs.declared.instr.Instr.{Instr}
 use Rattle.dcc_prog.specs.Table.{instruction_at}
 use Rattle.dcc_prog.specs.Machine.{State, word_in}
-use Rattle.dcc_prog.specs.Dos.{dos_step, dos_string, key_step, with_key, written}
-use Rattle.dcc_prog.specs.Operations.{ended}
+use Rattle.dcc_prog.specs.Dos.{dos_step, dos_string, with_key}
 use Rattle.dcc_prog.specs.Step.{code_bytes, op_step, instruction_step, step, machine_system}
 use Rattle.dcc_prog.proofs.ConsoleLaws.{op-keeps_out}
 

@@ -1,22 +1,17 @@
 -- Every instruction of the table has well-formed operands.
-use Rattle.std.proofs.Common.{◌≡◌, ℕ, zero, suc, ◌+◌, ◌*◌, ◌/◌, ◌%◌, ◌<◌, ◌≤◌, Bool, true, false, cond, ◌&&◌, List, [], ◌∷◌, length, get_or, refl, sym, ◌∙◌, ap, subst, arith}
-use Rattle.std.specs.Prelude.{slice_get, IfSome, Option, Some, None, if◌then◌else◌, ◌==◌, nat_le, nat_lt}
-use Rattle.std.proofs.Math.Nat.{mod-lt}
+use Rattle.std.proofs.Common.{◌≡◌, ℕ, zero, suc, ◌+◌, ◌/◌, ◌%◌, ◌<◌, ◌≤◌, true, false, List, [], ◌∷◌, length, get_or, refl, sym, ◌∙◌, ap, subst, arith}
+use Rattle.std.specs.Prelude.{slice_get, IfSome, Option, Some, None, if◌then◌else◌, ◌==◌, nat_le}
 use Rattle.std.proofs.lemmas.Bool.{leb-true}
 use Rattle.std.proofs.lemmas.Bool.Decides.{nat_tests}
 use Rattle.dcc_num.specs.declared.Width.{Width}
 use Rattle.dcc_num.specs.declared.Width.TheVariants.{Byte as byte_width, Word as word_width}
 use Rattle.dcc_num.specs.Numbers.{limit_of}
-use Rattle.dcc_prog.specs.declared.instr.Alu.{Alu}
-use Rattle.dcc_prog.specs.declared.instr.Alu.TheVariants.{Test}
 use Rattle.dcc_prog.specs.declared.instr.Operand.{Operand}
 use Rattle.dcc_prog.specs.declared.instr.Operand.TheVariants.{Seg, Mem, Const}
-use Rattle.dcc_prog.specs.declared.instr.Op.{Op}
-use Rattle.dcc_prog.specs.declared.instr.Op.TheVariants.{Alu as AluOp, Mov, Xchg}
 use Rattle.dcc_prog.specs.declared.instr.Instr.{Instr}
 use Rattle.dcc_prog.specs.Machine.{operand_width}
-use Rattle.dcc_prog.specs.Operands.{register, rm_operand, mod_field, reg_field, byte_at, word_at, sign_extended, displacement_at, address, width_of}
-use Rattle.dcc_prog.specs.Table.{BytePattern, Row, Parts, in_range, fits_byte, fits, has_bytes, matches, ConstantForm, no_constant, byte_constant, word_constant, signed_constant, constant_at, row_displacement_size, row_length, row_parts, row_instruction, table, instruction_at, IsRow, any_modrm, rm, rm8, rm16, reg, segment, r8, r16, al, ax, accumulator, imm8, imm16, imm, direct, destination, source, this_byte, register_operand}
+use Rattle.dcc_prog.specs.Operands.{register, rm_operand, mod_field, reg_field, byte_at, sign_extended, address, width_of}
+use Rattle.dcc_prog.specs.Table.{BytePattern, Row, Parts, in_range, fits_byte, fits, has_bytes, ConstantForm, no_constant, byte_constant, word_constant, signed_constant, constant_at, row_displacement_size, row_length, row_parts, row_instruction, table, instruction_at, any_modrm, rm, rm8, rm16, reg, segment, r8, r16, al, ax, accumulator, imm8, imm16, imm, direct, destination, source, this_byte, register_operand}
 use Rattle.dcc_prog.specs.WellFormed.{IsOperand, AreOperands, IsWordOperand, IsOperation}
 use Rattle.dcc_prog.proofs.TableLaws.{and_left, and_right, instruction-row}
 

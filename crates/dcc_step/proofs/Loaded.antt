@@ -1,7 +1,6 @@
 -- The memory of a machine that is started.
-use Rattle.std.proofs.Common.{◌≡◌, ℕ, zero, suc, ◌+◌, ◌-◌, ◌≤◌, ◌^◌, List, [], ◌++◌, length, replicate, take, drop, refl, sym, ap, ◌∙◌, append_assoc, arith, length-append, vec_len}
-use Rattle.std.proofs.lemmas.List.{length-replicate, length-take, length-drop, length-set, take_all}
-use Rattle.std.specs.Prelude.{slice_range}
+use Rattle.std.proofs.Common.{◌≡◌, ℕ, ◌+◌, ◌-◌, ◌≤◌, ◌^◌, List, [], ◌++◌, length, replicate, take, refl, ap, ◌∙◌, append_assoc, arith, length-append, vec_len}
+use Rattle.std.proofs.lemmas.List.{length-replicate, take_all}
 use Rattle.dcc_prog.specs.declared.image.Image.{Image}
 use Rattle.dcc_prog.specs.Machine.{loaded_memory}
 use Rattle.dcc_prog.specs.MzImage.{IsLoaded, relocation_count}

@@ -1,21 +1,20 @@
 -- How a run is made of steps.
-use Rattle.std.proofs.Common.{◌≡◌, ◌≢◌, ℕ, zero, suc, ◌+◌, ◌-◌, ◌<◌, ◌≤◌, Bool, true, List, [], ◌++◌, Some, Option, refl, sym, ap, ◌∙◌, subst, append_assoc, arith}
+use Rattle.std.proofs.Common.{◌≡◌, ◌≢◌, ℕ, zero, suc, ◌+◌, ◌-◌, ◌<◌, ◌≤◌, true, List, [], ◌++◌, Some, Option, refl, sym, ap, ◌∙◌, subst, append_assoc, arith}
 use Rattle.std.proofs.lemmas.List.{append-nil}
-use Rattle.dcc_run.specs.End.{End, is_over}
+use Rattle.dcc_run.specs.End.{is_over}
 use Rattle.dcc_run.specs.System.{after}
 use Rattle.dcc_run.proofs.RunLaws.{after-add, after-over}
 use Rattle.dcc_io.specs.Told.{append_told, prepend_told}
 use Rattle.dcc_io.proofs.ToldLemmas.{append_told-nil, append_told-append, prepend_told-nil, prepend_told-append, prepend_told-some}
-use Rattle.dcc_prog.specs.Machine.{State}
 use Rattle.dcc_prog.specs.Step.{step, machine_system}
 use Rattle.dcc_prog.proofs.StepLaws.{machine_lawful}
 use Rattle.dcc_step.specs.declared.ending.Ending.{Ending}
 use Rattle.dcc_step.specs.declared.ending.Ending.TheVariants.{Running as going, Exit as left_with, Divide as faulted, Outside as outside_at}
 use Rattle.dcc_step.specs.declared.ending.Stepped.{Stepped}
 use Rattle.dcc_step.specs.declared.ending.Stepped.TheVariants.{Running, Exit, Divide, Outside, InFault, OutFault}
-use Rattle.dcc_step.specs.Core.{Core, with_console}
+use Rattle.dcc_step.specs.Core.{with_console}
 use Rattle.dcc_step.specs.Ending.{answer_of}
-use Rattle.dcc_step.specs.Stepped.{Scene, scene, told_bytes, Makes, MakesEach, MakesSteps, StopsShort, Steps, Answers, Runs}
+use Rattle.dcc_step.specs.Stepped.{Scene, told_bytes, Makes, MakesEach, MakesSteps, Steps, Answers, Runs}
 
 -- no step, each by itself
 each_none : (now : Scene) → MakesEach 0 now now

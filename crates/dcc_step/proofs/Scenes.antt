@@ -1,5 +1,5 @@
 -- Operations on the machine and its console, made or refused.
-use Rattle.std.proofs.Common.{◌≡◌, ◌≢◌, ℕ, Bool, true, false, List, [], ◌∷◌, ◌++◌, take, refl, sym, ap, ◌∙◌, subst, arith}
+use Rattle.std.proofs.Common.{◌≡◌, ◌≢◌, ℕ, Bool, false, List, [], ◌∷◌, ◌++◌, take, refl, sym, ap, ◌∙◌, arith}
 use Rattle.std.specs.Prelude.{Option, None, Some, if◌then◌else◌, ◌==◌}
 use Rattle.std.proofs.lemmas.Bool.Decides.{nat_tests}
 use Rattle.dcc_run.specs.End.{Outside}
@@ -14,7 +14,7 @@ use Rattle.dcc_prog.specs.Dos.{bytes_from, dos_string, key_step, dos_step, dos_c
 use Rattle.dcc_step.specs.Core.{Core, with_console, core_of, state_of}
 use Rattle.dcc_step.specs.declared.ending.Fault.{Fault}
 use Rattle.dcc_step.specs.declared.ending.Fault.TheVariants.{Input, Output}
-use Rattle.dcc_step.specs.Stepped.{Scene, scene, told_bytes, Makes, IsRefusedRead, IsRefusedWrite, IsRefused}
+use Rattle.dcc_step.specs.Stepped.{Scene, scene, told_bytes, Makes, IsRefusedWrite, IsRefused}
 
 -- nothing is left where a read of no bytes said so
 pub end_told : (before after : Option (List ℕ)) (bytes : List ℕ) (count : ℕ) → count ≡ 0

@@ -101,8 +101,12 @@ impl Machine {
         }
     }
 
-    /// Makes one instruction. A machine whose run has ended answers its end again and changes
-    /// nothing. After a fault the machine is as before; what was read or written stays so.
+    /// Makes one instruction (8086 Family User's Manual, table 2-21). A machine whose run has ended
+    /// answers its end again and changes nothing.
+    ///
+    /// Exit comes from INT 21h with 4Ch, Divide from a quotient that does not fit, and Outside where
+    /// no instruction of the table stands or INT 21h has another number. InFault and OutFault come
+    /// where a read or a write failed: the machine is as before, and what was read or written stays so.
     pub fn step<I: Source, O: Sink>(&mut self, input: &mut I, out: &mut O) -> Stepped
         ensures step { Steps result
             (scene self.old (I.left input.old) (O.taken out.old))

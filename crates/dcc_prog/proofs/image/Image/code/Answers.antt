@@ -1,4 +1,4 @@
-use Rattle.std.proofs.Common.{◌≡◌, ◌≤◌, ◌+◌, ◌-◌, ◌*◌, ℕ, length, take, drop, ap, ◌∙◌, arith, rules}
+use Rattle.std.proofs.Common.{◌≡◌, ◌≤◌, ◌+◌, ◌-◌, ◌*◌, length, take, drop, ap, ◌∙◌, arith, rules}
 use Rattle.dcc_prog.specs.Code.{code_of}
 use Rattle.dcc_prog.proofs.FetchLaws.{image-placed}
 use Rattle.dcc_prog.proofs.image.Image.code.Goals as goal

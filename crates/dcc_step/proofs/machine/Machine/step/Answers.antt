@@ -1,10 +1,10 @@
 use Rattle.std.proofs.Common.{◌≡◌, sym, ap, ◌∙◌, subst}
-use Rattle.dcc_run.specs.End.{End, Running, Outside, is_over}
+use Rattle.dcc_run.specs.End.{Running, Outside, is_over}
 use Rattle.dcc_prog.specs.Operations.{ended}
 use Rattle.dcc_step.specs.Core.{Core, core_of, state_of}
-use Rattle.dcc_step.specs.Ending.{end_of, answer_of}
+use Rattle.dcc_step.specs.Ending.{end_of}
 use Rattle.dcc_step.specs.Stepped.{Steps, Answers, scene}
-use Rattle.dcc_step.proofs.Steps.{answered, answers, over, stays_over, step_outside, step_made, step_refused, refused_step, refused_core, fault_answers}
+use Rattle.dcc_step.proofs.Steps.{answered, answers, over, stays_over, step_outside}
 use Rattle.dcc_step.proofs.machine.Machine.step.Goals as goal
 
 pub returns-in_default-clause-step : goal.returns-in_default-clause-step

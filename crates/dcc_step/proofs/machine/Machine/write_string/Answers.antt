@@ -3,7 +3,6 @@ use Rattle.dcc_io.specs.Told.{append_told}
 use Rattle.dcc_io.proofs.ToldLemmas.{append_told-nil}
 use Rattle.dcc_num.specs.declared.Reg.TheVariants.{Dx}
 use Rattle.dcc_prog.specs.Machine.{byte_in, data_segment, word_in}
-use Rattle.dcc_prog.specs.Dos.{dos_string}
 use Rattle.dcc_step.specs.Core.{state_of}
 use Rattle.dcc_step.proofs.Strings.{AreInString, string_room, none_in_string, string_ends, string_fills, string_goes_on, string_so_far, string_part, other_byte}
 use Rattle.dcc_step.proofs.machine.Machine.write_string.Goals as goal
