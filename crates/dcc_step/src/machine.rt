@@ -85,7 +85,7 @@ impl Machine {
         self.ip
     }
 
-    /// The byte at a physical address.
+    /// The byte at a physical address below 1,048,576.
     pub fn byte(&self, at: u32) -> u8
         requires { at < 2 ^ 20 }
         ensures { result ≡ slice_index self.now.memory at }

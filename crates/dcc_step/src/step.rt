@@ -135,7 +135,8 @@ impl Machine {
         self.end.answer()
     }
 
-    /// Makes steps until one answers something else than Running, at most so many.
+    /// Makes steps until one answers something else than Running, at most so many. After a fault the
+    /// steps before the one that failed stay made.
     pub fn run<I: Source, O: Sink>(&mut self, input: &mut I, out: &mut O, most: u64) -> Stepped
         ensures run { Runs most result
             (scene self.old (I.left input.old) (O.taken out.old))
