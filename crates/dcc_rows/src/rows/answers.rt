@@ -106,8 +106,10 @@ fn files_without_an_image_are_refused(rt: HostRuntime) -> Result<(), Fail> {
     check_format(&rt, alloc, &PRINTS_A[..47], "dcc: format 3 at 2\n")?;
     let text = b"hello, this is a text and not a program\n";
     check_format(&rt, alloc, text, "dcc: format 2 at 0\n")?;
-    let large = Vec::from_elem(alloc, 0x4D, 262_145)?;
-    check_format(&rt, alloc, &large, "dcc: format 7 at 262144\n")?;
+    for length in [262_145, 300_000] {
+        let large = Vec::from_elem(alloc, 0x4D, length)?;
+        check_format(&rt, alloc, &large, "dcc: format 7 at 262144\n")?;
+    }
     for (at, byte, line) in changes() {
         let mut file = PRINTS_A;
         let at = *at;
