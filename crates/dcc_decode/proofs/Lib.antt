@@ -1,4 +1,5 @@
 pub mod Forms
+pub mod LowerRows
 pub mod Rows
 pub mod ReadLaws
 pub mod Decoding
