@@ -1,14 +1,14 @@
 -- Laws of the runs of texts.
-use Rattle.std.proofs.Common.{◌≡◌, ℕ, Bool, true, false, List, [], ◌∷◌, ◌++◌, Option, Some, None, refl, sym, ap, subst}
+use Rattle.std.proofs.Common.{ℕ, true, false, List, [], ◌∷◌, ◌++◌, Option, Some, None, ap}
 use Rattle.std.specs.Prelude.{if◌then◌else◌, codes}
 use Rattle.dcc_run.specs.End.{Exit, Stuck, is_over}
 use Rattle.dcc_run.specs.Prefix.{IsPrefix}
 use Rattle.dcc_run.specs.System.{IsLawful}
 use Rattle.dcc_run.proofs.PrefixLaws.{prefix_refl, prefix_append}
 use Rattle.dcc_c.specs.Token.{same_bytes}
-use Rattle.dcc_c.specs.Tree.{Word, Expr, Name, Stmt, Assign, Call, Lines, no_lines, line}
+use Rattle.dcc_c.specs.Tree.{Word, Expr, Name, Stmt, Assign, Call, no_lines, line}
 use Rattle.dcc_c.specs.Value.{Value, value_of}
-use Rattle.dcc_c.specs.Run.{Continuation, ends_function, runs, State, as_char, ended, assign_step, dos_step, stmt_step, step_at, step, text_system}
+use Rattle.dcc_c.specs.Run.{Continuation, ends_function, runs, State, as_char, ended, assign_step, dos_step, stmt_step, step_at, text_system}
 
 assign-grows : (word : Word) (v : Option Value) (at : ℕ) (s : State) → IsPrefix s.out (assign_step word v at s).out
 assign-grows word (Some v) at s = prefix_refl s.out

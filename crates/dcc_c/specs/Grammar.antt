@@ -1,5 +1,5 @@
 -- The grammar, by cases on the tokens (after ISO/IEC 9899:1990, 6.3, 6.6 and 6.7).
-use Rattle.std.specs.Prelude.{◌≡◌, ℕ, suc, if◌then◌else◌, List, [], ◌∷◌, ◌++◌, map, codes, Option, Some, None}
+use Rattle.std.specs.Prelude.{◌≡◌, ℕ, suc, if◌then◌else◌, List, [], ◌∷◌, ◌++◌, map, codes, Some, None}
 use Rattle.dcc_c.specs.declared.syntax.Base.{Base}
 use Rattle.dcc_c.specs.declared.syntax.Base.TheVariants.{Schar, Uchar, Int, Uint, Long, Ulong}
 use Rattle.dcc_c.specs.declared.syntax.CType.{CType}
@@ -8,9 +8,8 @@ use Rattle.dcc_c.specs.declared.syntax.CUn.TheVariants.{Minus, Complement, Not, 
 use Rattle.dcc_c.specs.declared.syntax.CBin.{CBin}
 use Rattle.dcc_c.specs.declared.syntax.CBin.TheVariants.{OrOr, AndAnd, Or, Xor, And, Eq, Ne, Lt, Le, Gt, Ge, Shl, Shr, Add, Sub, Mul, Div, Rem}
 use Rattle.dcc_c.specs.declared.syntax.Class.TheVariants.{Plain}
-use Rattle.dcc_c.specs.Token.{Token, WordToken, Decimal, Hex, Mark, Pragma, Suffix, plain_number, version_line, stack_line, decimal_type, hex_type}
+use Rattle.dcc_c.specs.Token.{Token, WordToken, Decimal, Hex, Mark, Pragma, Suffix, version_line, stack_line, decimal_type, hex_type}
 use Rattle.dcc_c.specs.Lexing.{Placed, placed, pragma_tokens}
-use Rattle.dcc_c.specs.Types.{plain}
 use Rattle.dcc_c.specs.Tree.{Word, Expr, Number, Name, Unary, Binary, Conditional, Cast, Stmt, Assign, Call, Lines, no_lines, line, Variable, Function, Tree}
 
 -- the tokens without their lines

@@ -1,12 +1,12 @@
 -- What a text keeps to beside the grammar: names, types, places and depth.
-use Rattle.std.specs.Prelude.{◌≡◌, ℕ, suc, ◌+◌, ◌-◌, max, ◌≤◌, nat_le, Bool, true, false, ◌&&◌, ◌||◌, not, if◌then◌else◌, List, [], ◌∷◌, ◌++◌, map, codes, Option, Some, None, option_and_then}
+use Rattle.std.specs.Prelude.{◌≡◌, ℕ, suc, ◌+◌, ◌-◌, max, ◌≤◌, nat_le, Bool, true, false, ◌&&◌, ◌||◌, not, if◌then◌else◌, List, [], ◌∷◌, map, codes, Option, Some, None, option_and_then}
 use Rattle.std.specs.List.{list_any, list_all}
 use Rattle.dcc_c.specs.declared.syntax.Base.{Base}
 use Rattle.dcc_c.specs.declared.syntax.CType.{CType}
 use Rattle.dcc_c.specs.declared.syntax.CBin.{CBin}
 use Rattle.dcc_c.specs.declared.syntax.CBin.TheVariants.{Or, Xor, And, Add, Sub}
 use Rattle.dcc_c.specs.Token.{Token, Mark, same_bytes}
-use Rattle.dcc_c.specs.Types.{common_type, plain}
+use Rattle.dcc_c.specs.Types.{common_type}
 use Rattle.dcc_c.specs.Tree.{Word, Expr, Number, Name, Unary, Binary, Conditional, Cast, Stmt, Assign, Call, Lines, no_lines, line, Variable, Function, Tree}
 use Rattle.dcc_c.specs.Grammar.{keywords}
 

@@ -1,12 +1,12 @@
 -- The run of a text: its state, one step, and the run from the start (ISO/IEC 9899:1990, 6.6).
-use Rattle.std.specs.Prelude.{ℕ, ◌+◌, ◌%◌, Bool, true, false, ◌&&◌, ◌||◌, nat_le, nat_lt, if◌then◌else◌, List, [], ◌∷◌, ◌++◌, map, codes, Option, Some, None}
+use Rattle.std.specs.Prelude.{ℕ, ◌%◌, ◌&&◌, nat_le, nat_lt, if◌then◌else◌, List, [], ◌∷◌, ◌++◌, map, codes, Option, Some, None}
 use Rattle.std.specs.List.{range_with_len}
 use Rattle.dcc_run.specs.End.{End, Running, Exit, Stuck, is_over}
 use Rattle.dcc_run.specs.System.{System}
 use Rattle.dcc_c.specs.declared.syntax.Base.TheVariants.{Uchar, Int}
 use Rattle.dcc_c.specs.Token.{same_bytes}
-use Rattle.dcc_c.specs.Types.{convert, wrapped}
-use Rattle.dcc_c.specs.Tree.{Word, Expr, Name, Stmt, Assign, Call, Lines, no_lines, line, Variable, Function, Tree}
+use Rattle.dcc_c.specs.Types.{convert}
+use Rattle.dcc_c.specs.Tree.{Word, Name, Stmt, Assign, Call, Lines, no_lines, line, Variable, Function, Tree}
 use Rattle.dcc_c.specs.Value.{Value, value, Binding, assigned, value_of}
 
 -- what is still to be executed: statements and what follows them, or the end of the function, in the line of its brace

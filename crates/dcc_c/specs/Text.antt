@@ -1,5 +1,5 @@
 -- A text stands for a tree.
-use Rattle.std.specs.Prelude.{ℕ, ◌≤◌, true, List, length}
+use Rattle.std.specs.Prelude.{ℕ, ◌≤◌, true, List}
 use Rattle.dcc_c.specs.Lexing.{Placed, Lexes}
 use Rattle.dcc_c.specs.Tree.{Tree}
 use Rattle.dcc_c.specs.Grammar.{tokens_of, IsUnit}

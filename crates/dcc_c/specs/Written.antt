@@ -1,12 +1,12 @@
 -- The written form: the one spelling in which a tree is written.
-use Rattle.std.specs.Prelude.{ℕ, ◌*◌, min, Bool, true, false, ◌==◌, if◌then◌else◌, List, [], ◌∷◌, ◌++◌, replicate, codes, Option, Some, None}
+use Rattle.std.specs.Prelude.{ℕ, ◌*◌, min, Bool, true, false, ◌==◌, if◌then◌else◌, List, [], ◌∷◌, ◌++◌, replicate, codes, None}
 use Rattle.std.specs.List.{flat_map}
 use Rattle.std.specs.Fmt.{decimal}
 use Rattle.dcc_c.specs.declared.syntax.Base.{Base}
 use Rattle.dcc_c.specs.declared.syntax.Base.TheVariants.{Schar, Uchar, Int, Uint, Long, Ulong}
 use Rattle.dcc_c.specs.declared.syntax.CType.{CType}
 use Rattle.dcc_c.specs.declared.syntax.CUn.{CUn}
-use Rattle.dcc_c.specs.declared.syntax.CUn.TheVariants.{Minus, Complement, Not, Deref, AddressOf}
+use Rattle.dcc_c.specs.declared.syntax.CUn.TheVariants.{Minus}
 use Rattle.dcc_c.specs.Token.{Suffix, plain_number, unsigned_suffix, long_suffix, unsigned_long_suffix, suffix_bytes, decimal_type}
 use Rattle.dcc_c.specs.Grammar.{unary_mark, binary_mark}
 use Rattle.dcc_c.specs.Tree.{Word, Expr, Number, Name, Unary, Binary, Conditional, Cast, Stmt, Assign, Call, Lines, no_lines, line, Variable, Function, Tree}

@@ -1,9 +1,9 @@
 -- Laws of runs.
-use Rattle.std.proofs.Common.{◌≡◌, ℕ, zero, suc, ◌+◌, ◌-◌, ◌<◌, ◌≤◌, Bool, true, false, List, refl, sym, ap, ◌∙◌, subst, arith}
-use Rattle.dcc_run.specs.End.{End, is_over}
+use Rattle.std.proofs.Common.{◌≡◌, ℕ, zero, suc, ◌+◌, ◌-◌, ◌≤◌, true, refl, sym, ap, ◌∙◌, subst, arith}
+use Rattle.dcc_run.specs.End.{is_over}
 use Rattle.dcc_run.specs.Prefix.{IsPrefix}
 use Rattle.dcc_run.specs.System.{System, after, IsLawful, out_after, end_after}
-use Rattle.dcc_run.specs.Follows.{Follows, Stands, Meets}
+use Rattle.dcc_run.specs.Follows.{Follows, Meets}
 use Rattle.dcc_run.proofs.PrefixLaws.{prefix_refl, prefix_trans}
 
 -- m + n steps are m steps and n more

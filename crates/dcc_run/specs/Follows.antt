@@ -1,6 +1,6 @@
 -- One run goes along with another within a stated number of steps.
-use Rattle.std.specs.Prelude.{◌≡◌, ℕ, ◌≤◌, Bool, true}
-use Rattle.dcc_run.specs.End.{End, is_over}
+use Rattle.std.specs.Prelude.{◌≡◌, ℕ, ◌≤◌, true}
+use Rattle.dcc_run.specs.End.{is_over}
 use Rattle.dcc_run.specs.Prefix.{IsPrefix}
 use Rattle.dcc_run.specs.System.{System, out_after, end_after}
 

@@ -1,5 +1,5 @@
 -- Prefixes of lists.
-use Rattle.std.specs.Prelude.{◌≡◌, ℕ, ◌⊎◌, List, ◌++◌}
+use Rattle.std.specs.Prelude.{◌≡◌, ◌⊎◌, List, ◌++◌}
 
 -- the first list is a prefix of the second; they may be equal
 pub record IsPrefix {A : Type 0} (front whole : List A) : Type 0 where

@@ -1,5 +1,5 @@
 -- Deterministic systems and their runs: a step, the output so far, and the end.
-use Rattle.std.specs.Prelude.{◌≡◌, ℕ, zero, suc, Bool, true, List}
+use Rattle.std.specs.Prelude.{◌≡◌, ℕ, zero, suc, true, List}
 use Rattle.dcc_run.specs.End.{End, is_over}
 use Rattle.dcc_run.specs.Prefix.{IsPrefix}
 
