@@ -20,7 +20,10 @@ fn code_begins_at_the_code_segment(rt: HostRuntime) -> Result<(), Fail> {
     let mut bytes = Vec::new(alloc);
     bytes.resize(32, 0x90)?;
     bytes.extend_from_slice(b"code")?;
-    assert_eq!(rt; image_of(alloc, &bytes, 4, 0x0112)?.code(), b"code".as_slice());
+    assert_eq!(rt;
+        image_of(alloc, &bytes, 4, 0x0112)?.code(),
+        b"code".as_slice()
+    );
     assert_eq!(rt; image_of(alloc, &bytes, 0, 0x0112)?.code(), b"".as_slice());
     let whole = image_of(alloc, &bytes, 36, 0x0110)?;
     assert_eq!(rt; whole.code().len(), 36);
