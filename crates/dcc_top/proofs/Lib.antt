@@ -10,3 +10,5 @@ pub mod LineLaws
 pub mod AnswerLaws
 pub mod CauseLaws
 pub mod FetchedLaws
+pub mod WordsLaws
+pub mod WordsAsked
