@@ -5,3 +5,5 @@ pub mod Words
 pub mod Answer
 pub mod Delivery
 pub mod Causes
+pub mod Execution
+pub mod Finished
