@@ -12,3 +12,4 @@ pub mod CauseLaws
 pub mod FetchedLaws
 pub mod WordsLaws
 pub mod WordsAsked
+pub mod ExecuteLaws

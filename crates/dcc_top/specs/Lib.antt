@@ -6,3 +6,5 @@ pub mod WordsRead
 pub mod Answer
 pub mod Delivery
 pub mod Causes
+pub mod Execution
+pub mod Finished

@@ -3,6 +3,7 @@
 
 mod build;
 pub mod deliver;
+pub mod execute;
 pub mod form;
 pub mod line;
 pub mod reply;
