@@ -7,7 +7,7 @@ use Rattle.dcc_run.proofs.PrefixLaws.{prefix_refl, prefix_nil}
 use Rattle.dcc_prog.specs.MzImage.{FormatFault, IsFirstFault}
 use Rattle.dcc_top.specs.declared.reply.Reply.{Reply}
 use Rattle.dcc_top.specs.declared.reply.Reply.TheVariants.{Done, Usage, NoFile, FileFault, Memory, Format, NotYet}
-use Rattle.dcc_top.specs.Words.{Job, Decompile, requests_of}
+use Rattle.dcc_top.specs.Words.{Job, Decompile, Execute, requests_of}
 use Rattle.dcc_top.specs.Answer.{status_of, line_of, due_of, Decompiles, StopsInFile, EndsInFile, ShelfHas, Allows, AllowsForFile, TellsFault, TellsStop, TellsDone, TellsMissing, IsExact}
 use Rattle.dcc_top.specs.Delivery.{Streams, WroteAll, BrokeOffInText, BrokeOffInLine, Delivers}
 use Rattle.dcc_top.specs.Causes.{Files, IsAnswered, HasText, HasFormatFault, HasStop, Names, IsOneOf, AsksPrefix, AsksAll, IsCutOff, IsMissing}
@@ -44,6 +44,7 @@ usage-of told (Some (Decompile name)) FileFault allowed h = absurd (omega (arith
 usage-of told (Some (Decompile name)) Memory allowed h = absurd (omega (arith, h))
 usage-of told (Some (Decompile name)) (Format fault) allowed h = absurd (omega (arith, h))
 usage-of told (Some (Decompile name)) (NotYet at) allowed h = absurd (omega (arith, h))
+usage-of told (Some (Execute name steps)) reply allowed h = absurd (let e : 7 ≡ 2 = ap status_of (sym allowed) ∙ h in omega (arith, e))
 
 -- the text of the file that the words name
 text-of : (told : Files) (job : Option Job) (s : Streams) (reply : Reply) → Allows told job reply → status_of reply ≡ 0 → s.out_after ≡ append_told s.out_before (due_of reply) → HasText told job s
@@ -56,6 +57,7 @@ text-of told (Some (Decompile name)) s FileFault allowed h w = absurd (omega (ar
 text-of told (Some (Decompile name)) s Memory allowed h w = absurd (omega (arith, h))
 text-of told (Some (Decompile name)) s (Format fault) allowed h w = absurd (omega (arith, h))
 text-of told (Some (Decompile name)) s (NotYet at) allowed h w = absurd (omega (arith, h))
+text-of told (Some (Execute name steps)) s reply allowed h w = absurd (let e : 7 ≡ 0 = ap status_of (sym allowed) ∙ h in omega (arith, e))
 
 -- the first check that the file fails
 format-of : (told : Files) (job : Option Job) (s : Streams) (reply : Reply) → Allows told job reply → status_of reply ≡ 8 → s.err_after ≡ append_told s.err_before (line_of reply) → HasFormatFault told job s
@@ -68,6 +70,7 @@ format-of told (Some (Decompile name)) s FileFault allowed h w = absurd (omega (
 format-of told (Some (Decompile name)) s Memory allowed h w = absurd (omega (arith, h))
 format-of told (Some (Decompile name)) s (Format fault) allowed h w = record { name = name; file = allowed.file; fault = fault; named = refl; has = allowed.has; first = allowed.holds; line = w }
 format-of told (Some (Decompile name)) s (NotYet at) allowed h w = absurd (omega (arith, h))
+format-of told (Some (Execute name steps)) s reply allowed h w = absurd (let e : 7 ≡ 8 = ap status_of (sym allowed) ∙ h in omega (arith, e))
 
 -- where the line stops
 stop-of : (told : Files) (job : Option Job) (s : Streams) (reply : Reply) → Allows told job reply → status_of reply ≡ 12 → s.err_after ≡ append_told s.err_before (line_of reply) → HasStop told job s
@@ -80,6 +83,7 @@ stop-of told (Some (Decompile name)) s FileFault allowed h w = absurd (omega (ar
 stop-of told (Some (Decompile name)) s Memory allowed h w = absurd (omega (arith, h))
 stop-of told (Some (Decompile name)) s (Format fault) allowed h w = absurd (omega (arith, h))
 stop-of told (Some (Decompile name)) s (NotYet at) allowed h w = record { name = name; file = allowed.file; at = at; named = refl; has = allowed.has; stops = allowed.holds; line = w }
+stop-of told (Some (Execute name steps)) s reply allowed h w = absurd (let e : 7 ≡ 12 = ap status_of (sym allowed) ∙ h in omega (arith, e))
 
 -- only a text is due on the output
 nothing-of : (s : Streams) (reply : Reply) → (status_of reply ≡ 0 → ⊥) → s.out_after ≡ append_told s.out_before (due_of reply) → s.out_after ≡ s.out_before
@@ -103,6 +107,7 @@ cut-of told job status s reply allowed six (inr (inr broke)) =
 memory-allowed : (told : Files) (job : Option Job) → Allows told job Memory
 memory-allowed told None = inr refl
 memory-allowed told (Some (Decompile name)) = tt
+memory-allowed told (Some (Execute name steps)) = refl
 
 -- what is known behind the top call: the answer, why it is the one, and what was written of it or of want of memory
 pub record Outcome (told : Files) (job : Option Job) (status : ℕ) (s : Streams) : Type 0 where

@@ -10,3 +10,4 @@ pub mod LineLaws
 pub mod AnswerLaws
 pub mod CauseLaws
 pub mod FetchedLaws
+pub mod WordsLaws

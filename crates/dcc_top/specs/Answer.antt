@@ -13,7 +13,7 @@ use Rattle.dcc_top.specs.declared.reply.Reply.TheVariants.{Done, Usage, NoFile, 
 use Rattle.dcc_top.specs.Line.{Ends, StopsAt}
 use Rattle.dcc_top.specs.LineText.{tree_of}
 use Rattle.dcc_top.specs.Agreement.{Agrees}
-use Rattle.dcc_top.specs.Words.{Job, Decompile}
+use Rattle.dcc_top.specs.Words.{Job, Decompile, Execute}
 
 -- a hexadecimal digit, in upper case
 abbrev pub hex_digit : ℕ → ℕ
@@ -105,6 +105,7 @@ AllowsForFile told name (NotYet at) = OfFile told name (λ file. StopsInFile fil
 abbrev pub Allows : Option (List ℕ → Option (List ℕ)) → Option Job → Reply → Type 0
 Allows told None reply = (reply ≡ Usage) ⊎ (reply ≡ Memory)
 Allows told (Some (Decompile name)) reply = AllowsForFile told name reply
+Allows told (Some (Execute name steps)) reply = reply ≡ Memory
 
 -- The answer tells the fault, or the offset, or that the job is done; or the file could not be read, or memory ran out.
 

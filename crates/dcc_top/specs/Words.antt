@@ -1,17 +1,168 @@
 -- The command line: which words name which job.
-use Rattle.std.specs.Prelude.{ℕ, if◌then◌else◌, List, [], ◌∷◌, codes, Option, Some, None}
-use Rattle.dcc_c.specs.Token.{same_bytes}
+use Rattle.std.specs.Prelude.{◌≡◌, ℕ, ◌≤◌, Bool, true, false, ◌&&◌, not, nat_le, nat_lt, ◌==◌, if◌then◌else◌, List, [], ◌∷◌, ◌++◌, length, codes, Option, Some, None, is_some}
+use Rattle.std.specs.List.{list_all, position_or_len, before_first, after_first}
+use Rattle.std.specs.Option.{option_map, option_and_then, option_copied, option_to_list}
+use Rattle.std.specs.Char.{is_ascii_digit}
+use Rattle.std.specs.Str.{bytes_eq}
+use Rattle.std.specs.Str.Parse.{digits_value}
+use Rattle.dcc_top.specs.declared.words.Command.{Command}
+use Rattle.dcc_top.specs.declared.words.Command.TheVariants.{C, Run}
+use Rattle.dcc_top.specs.declared.words.OptionName.{OptionName}
+use Rattle.dcc_top.specs.declared.words.OptionName.TheVariants.{Steps}
 
 -- what the program is to do
 pub data Job : Type 0 where
   -- write the text of the executable with this name
   Decompile : List ℕ → Job
+  -- run the executable with this name, for at most so many steps
+  Execute : List ℕ → ℕ → Job
 
--- the job of the words after the program's name, or none where they are no command
-abbrev pub job_of : List (List ℕ) → Option Job
-job_of (command ∷ (file ∷ [])) =
-    if same_bytes command (codes "c") then Some (Decompile file) else None
-job_of _ = None
+-- the first word, as a command
+abbrev pub command_word : Command → List ℕ
+command_word C = codes "c"
+command_word Run = codes "run"
+
+-- an option's name, as it is written
+abbrev pub option_word : OptionName → List ℕ
+option_word Steps = codes "--steps"
+
+-- The words after the command are of three sorts: positional words in their order, options, and the first `--` that isn't an
+-- option's value, after which every word is positional. These are the positional words, and the value of each option that stands.
+pub record Parts : Type 0 where
+  pub positional : List (List ℕ)
+  pub steps : Option (List ℕ)
+
+-- positional words alone
+abbrev pub only_positional : List (List ℕ) → Parts
+only_positional words = record { positional = words; steps = None }
+
+-- one more positional word in front
+abbrev pub with_word : List ℕ → Parts → Parts
+with_word word parts = record { positional = word ∷ parts.positional; steps = parts.steps }
+
+-- the value of an option, where it stands
+abbrev pub value_in : OptionName → Parts → Option (List ℕ)
+value_in Steps parts = parts.steps
+
+-- the same with this value of the option
+abbrev pub set_value : OptionName → List ℕ → Parts → Parts
+set_value Steps value parts = record { positional = parts.positional; steps = Some value }
+
+-- the word doesn't begin with `-`, or is `-` alone
+abbrev pub is_positional : List ℕ → Bool
+is_positional [] = true
+is_positional (c ∷ []) = true
+is_positional (c ∷ (d ∷ cs)) = not (c == 45)
+
+-- the words after the command have these parts
+pub data HasParts : List (List ℕ) → Parts → Type 0 where
+  no_word : HasParts [] (only_positional [])
+  positional_word : {word : List ℕ} {words : List (List ℕ)} {parts : Parts} → is_positional word ≡ true → HasParts words parts → HasParts (word ∷ words) (with_word word parts)
+  -- each option at most once
+  option_in_two : (name : OptionName) (value : List ℕ) (words : List (List ℕ)) (parts : Parts) → value_in name parts ≡ None → HasParts words parts → HasParts (option_word name ∷ (value ∷ words)) (set_value name value parts)
+  option_in_one : (name : OptionName) (value : List ℕ) (words : List (List ℕ)) (parts : Parts) → value_in name parts ≡ None → HasParts words parts → HasParts ((option_word name ++ (61 ∷ value)) ∷ words) (set_value name value parts)
+  end_of_options : {words : List (List ℕ)} → HasParts (codes "--" ∷ words) (only_positional words)
+
+-- the word is one or more decimal digits, at most so many, and nothing else
+abbrev pub is_number : ℕ → List ℕ → Bool
+is_number digits word = nat_lt 0 (length word) && (nat_le (length word) digits && list_all is_ascii_digit word)
+
+-- the number that a word of at most so many decimal digits writes, where it is at most the greatest
+abbrev pub number_of : ℕ → ℕ → List ℕ → Option ℕ
+number_of digits greatest word =
+    if is_number digits word && nat_le (digits_value 10 word) greatest then Some (digits_value 10 word) else None
+
+-- the steps of a run: 0 to 1000000000 in at most 10 digits, or 1000000 where the option doesn't stand
+abbrev pub steps_of : Option (List ℕ) → Option ℕ
+steps_of None = Some 1000000
+steps_of (Some word) = number_of 10 1000000000 word
+
+-- the words have this job's row
+pub data HasRow : List (List ℕ) → Job → Type 0 where
+  decompile : {words : List (List ℕ)} {file : List ℕ} → HasParts words (record { positional = file ∷ []; steps = None }) → HasRow (command_word C ∷ words) (Decompile file)
+  execute : {words : List (List ℕ)} {file : List ℕ} {value : Option (List ℕ)} {steps : ℕ} → HasParts words (record { positional = file ∷ []; steps = value }) → steps_of value ≡ Some steps → HasRow (command_word Run ∷ words) (Execute file steps)
+
+-- The same as functions.
+
+-- what a word is by itself, where it isn't an option's value and no `--` stands before it
+pub data Kind : Type 0 where
+  Positional : Kind
+  End : Kind
+  -- the option, whose value is the next word
+  Names : OptionName → Kind
+  -- the option with its value
+  Gives : OptionName → List ℕ → Kind
+  Unknown : Kind
+
+-- the option of this name
+abbrev pub option_of : List ℕ → Option OptionName
+option_of word = if bytes_eq word (codes "--steps") then Some Steps else None
+
+-- the command of this name
+abbrev pub command_of : List ℕ → Option Command
+command_of word = if bytes_eq word (codes "c") then Some C else (if bytes_eq word (codes "run") then Some Run else None)
+
+-- the kind of a word that begins with an option's name
+abbrev pub named : Option OptionName → Kind
+named None = Unknown
+named (Some name) = Names name
+
+abbrev pub given : Option OptionName → List ℕ → Kind
+given None value = Unknown
+given (Some name) value = Gives name value
+
+-- the byte is `=`
+abbrev pub is_equals : ℕ → Bool
+is_equals c = c == 61
+
+-- the word is an option with a value, or an option's name
+abbrev pub option_kind : List ℕ → Kind
+option_kind word =
+    if nat_lt (position_or_len is_equals word) (length word)
+    then given (option_of (before_first is_equals word)) (after_first is_equals word)
+    else named (option_of word)
+
+abbrev pub kind_of : List ℕ → Kind
+kind_of word = if is_positional word then Positional else (if bytes_eq word (codes "--") then End else option_kind word)
+
+-- the parts with one more option, which may not stand there yet
+abbrev pub with_value : OptionName → List ℕ → Option Parts → Option Parts
+with_value name value None = None
+with_value name value (Some parts) = if is_some (value_in name parts) then None else Some (set_value name value parts)
+
+-- the parts of the words; where an option waits for its value, the first word is the value
+abbrev pub parts_after : Option OptionName → List (List ℕ) → Option Parts
+parts_after None [] = Some (only_positional [])
+parts_after None (word ∷ words) = elim (kind_of word) [
+  | Positional ↦ option_map (with_word word) (parts_after None words)
+  | End ↦ Some (only_positional words)
+  | Names name ↦ parts_after (Some name) words
+  | Gives name value ↦ with_value name value (parts_after None words)
+  | Unknown ↦ None
+]
+parts_after (Some name) [] = None
+parts_after (Some name) (value ∷ words) = with_value name value (parts_after None words)
+
+abbrev pub parts_of : List (List ℕ) → Option Parts
+parts_of words = parts_after None words
+
+-- the job of a command with these parts
+abbrev pub job_for : Command → List (List ℕ) → Option (List ℕ) → Option Job
+job_for C (file ∷ []) None = Some (Decompile file)
+job_for Run (file ∷ []) value = option_map (Execute file) (steps_of value)
+job_for _ _ _ = None
+
+-- the job of the words after the program's name, or none where they have no row
+unfoldable pub job_of : List (List ℕ) → Option Job
+job_of [] = None
+job_of (word ∷ words) =
+    option_and_then (λ command. option_and_then (λ parts. job_for command parts.positional parts.steps) (parts_of words)) (command_of word)
+
+-- the job of a command that is built so far
+unfoldable pub built_job : Option Job → Option Job
+built_job None = None
+built_job (Some (Decompile file)) = Some (Decompile file)
+built_job (Some (Execute file steps)) = None
 
 -- the greatest length of an executable that is fetched, in bytes
 abbrev pub greatest_file : ℕ
@@ -21,3 +172,4 @@ greatest_file = 262144
 abbrev pub requests_of : Option Job → List (List ℕ × ℕ)
 requests_of None = []
 requests_of (Some (Decompile file)) = (file, greatest_file) ∷ []
+requests_of (Some (Execute file steps)) = (file, greatest_file) ∷ []

@@ -5,7 +5,7 @@ ghost use Rattle.dcc_io.specs.Count.{Rose};
 ghost use Rattle.dcc_io.specs.Told.{WhenTold, AppendsProperPrefix};
 ghost use Rattle.dcc_prog.specs.MzImage.{IsLoaded, FormatFault, IsFirstFault};
 ghost use Rattle.dcc_top.specs.declared.reply.Reply.TheVariants.{NoFile, FileFault, Memory};
-ghost use Rattle.dcc_top.specs.Words.{Decompile, job_of, greatest_file, requests_of};
+ghost use Rattle.dcc_top.specs.Words.{Decompile, built_job, job_of, greatest_file, requests_of};
 ghost use Rattle.dcc_top.specs.Answer.{AllowsForImage, AllowsForBytes, AllowsForFile, Allows, IsExact, TellsMissing, StopsInFile, EndsInFile, line_of};
 ghost use Rattle.dcc_top.specs.Delivery.{streams};
 ghost use Rattle.dcc_top.specs.Causes.{IsAnswered, HasText, HasFormatFault, HasStop, Names, IsOneOf, AsksPrefix, AsksAll, IsCutOff, IsMissing};
@@ -74,11 +74,11 @@ fn file_reply<H: Shelf>(alloc: Global, name: &str, shelf: &mut H) -> Reply
 
 // The answer for the words.
 fn words_reply<H: Shelf>(alloc: Global, words: &Vec<String>, shelf: &mut H) -> Reply
-    ensures allowed { Allows (H.files shelf.old) (job_of (map string_bytes words.now.items)) result }
-    ensures exact { (file : List ℕ) → Names (H.files shelf.old) (job_of (map string_bytes words.now.items)) file → IsExact file result }
-    ensures missing { IsMissing (H.files shelf.old) (job_of (map string_bytes words.now.items)) → TellsMissing result }
-    ensures asked { result ≢ Memory → AsksAll (job_of (map string_bytes words.now.items)) (H.asked shelf.old) (H.asked shelf.new) }
-    ensures asked_prefix { AsksPrefix (job_of (map string_bytes words.now.items)) (H.asked shelf.old) (H.asked shelf.new) }
+    ensures allowed { Allows (H.files shelf.old) (built_job (job_of (map string_bytes words.now.items))) result }
+    ensures exact { (file : List ℕ) → Names (H.files shelf.old) (built_job (job_of (map string_bytes words.now.items))) file → IsExact file result }
+    ensures missing { IsMissing (H.files shelf.old) (built_job (job_of (map string_bytes words.now.items))) → TellsMissing result }
+    ensures asked { result ≢ Memory → AsksAll (built_job (job_of (map string_bytes words.now.items))) (H.asked shelf.old) (H.asked shelf.new) }
+    ensures asked_prefix { AsksPrefix (built_job (job_of (map string_bytes words.now.items))) (H.asked shelf.old) (H.asked shelf.new) }
     ensures absent { result ≡ NoFile → Rose (H.absences shelf.old) (H.absences shelf.new) }
     ensures failed { result ≡ FileFault → Rose (H.faults shelf.old) (H.faults shelf.new) }
 {
@@ -102,42 +102,42 @@ pub fn dcc<H: Shelf, I: Source, O: Sink, E: Sink>(
     err: &mut E,
 ) -> u8
     // An answer that is allowed for the words is written, as far as the streams take it.
-    ensures answered { IsAnswered (H.files shelf.old) (job_of (map string_bytes words.now.items)) result (streams (O.taken out.old) (O.taken out.new) (E.taken err.old) (E.taken err.new)) }
+    ensures answered { IsAnswered (H.files shelf.old) (built_job (job_of (map string_bytes words.now.items))) result (streams (O.taken out.old) (O.taken out.new) (E.taken err.old) (E.taken err.new)) }
 
     // The text that is written stands for a tree, and agrees with the file.
-    ensures text { result ≡ 0 → HasText (H.files shelf.old) (job_of (map string_bytes words.now.items)) (streams (O.taken out.old) (O.taken out.new) (E.taken err.old) (E.taken err.new)) }
+    ensures text { result ≡ 0 → HasText (H.files shelf.old) (built_job (job_of (map string_bytes words.now.items))) (streams (O.taken out.old) (O.taken out.new) (E.taken err.old) (E.taken err.new)) }
 
-    // The words are no command.
-    ensures usage { result ≡ 2 → job_of (map string_bytes words.now.items) ≡ None }
-    ensures usage_always { job_of (map string_bytes words.now.items) ≡ None → IsOneOf result (2 ∷ (6 ∷ (7 ∷ []))) }
+    // The words are no command that is built.
+    ensures usage { result ≡ 2 → built_job (job_of (map string_bytes words.now.items)) ≡ None }
+    ensures usage_always { built_job (job_of (map string_bytes words.now.items)) ≡ None → IsOneOf result (2 ∷ (6 ∷ (7 ∷ []))) }
 
     // There is no file of the name, or it could not be read.
     ensures absent { result ≡ 3 → Rose (H.absences shelf.old) (H.absences shelf.new) }
-    ensures missing_always { IsMissing (H.files shelf.old) (job_of (map string_bytes words.now.items)) → IsOneOf result (3 ∷ (4 ∷ (6 ∷ (7 ∷ [])))) }
+    ensures missing_always { IsMissing (H.files shelf.old) (built_job (job_of (map string_bytes words.now.items))) → IsOneOf result (3 ∷ (4 ∷ (6 ∷ (7 ∷ [])))) }
     ensures unreadable { result ≡ 4 → Rose (H.faults shelf.old) (H.faults shelf.new) }
 
     // The file has no image.
-    ensures format { result ≡ 8 → HasFormatFault (H.files shelf.old) (job_of (map string_bytes words.now.items)) (streams (O.taken out.old) (O.taken out.new) (E.taken err.old) (E.taken err.new)) }
-    ensures format_always { (file : List ℕ) (fault : FormatFault) → Names (H.files shelf.old) (job_of (map string_bytes words.now.items)) file → IsFirstFault file fault → IsOneOf result (8 ∷ (4 ∷ (6 ∷ (7 ∷ [])))) }
+    ensures format { result ≡ 8 → HasFormatFault (H.files shelf.old) (built_job (job_of (map string_bytes words.now.items))) (streams (O.taken out.old) (O.taken out.new) (E.taken err.old) (E.taken err.new)) }
+    ensures format_always { (file : List ℕ) (fault : FormatFault) → Names (H.files shelf.old) (built_job (job_of (map string_bytes words.now.items))) file → IsFirstFault file fault → IsOneOf result (8 ∷ (4 ∷ (6 ∷ (7 ∷ [])))) }
 
     // The straight line from the entry comes to an instruction that is not built yet.
-    ensures not_yet { result ≡ 12 → HasStop (H.files shelf.old) (job_of (map string_bytes words.now.items)) (streams (O.taken out.old) (O.taken out.new) (E.taken err.old) (E.taken err.new)) }
-    ensures not_yet_always { (file : List ℕ) (at : ℕ) → Names (H.files shelf.old) (job_of (map string_bytes words.now.items)) file → StopsInFile file at → IsOneOf result (12 ∷ (4 ∷ (6 ∷ (7 ∷ [])))) }
+    ensures not_yet { result ≡ 12 → HasStop (H.files shelf.old) (built_job (job_of (map string_bytes words.now.items))) (streams (O.taken out.old) (O.taken out.new) (E.taken err.old) (E.taken err.new)) }
+    ensures not_yet_always { (file : List ℕ) (at : ℕ) → Names (H.files shelf.old) (built_job (job_of (map string_bytes words.now.items))) file → StopsInFile file at → IsOneOf result (12 ∷ (4 ∷ (6 ∷ (7 ∷ [])))) }
 
     // The straight line ends by the call that leaves.
-    ensures done_always { (file : List ℕ) → Names (H.files shelf.old) (job_of (map string_bytes words.now.items)) file → EndsInFile file → IsOneOf result (0 ∷ (4 ∷ (6 ∷ (7 ∷ [])))) }
+    ensures done_always { (file : List ℕ) → Names (H.files shelf.old) (built_job (job_of (map string_bytes words.now.items))) file → EndsInFile file → IsOneOf result (0 ∷ (4 ∷ (6 ∷ (7 ∷ [])))) }
 
     // A write failed.
     ensures write_failed { result ≡ 6 → Rose (O.faults out.old) (O.faults out.new) ⊎ Rose (E.faults err.old) (E.faults err.new) }
 
     // What is written: nothing at a refusal, and where a write failed a part of an answer.
     ensures nothing { result ≢ 0 → result ≢ 6 → O.taken out.new ≡ O.taken out.old }
-    ensures cut_off { result ≡ 6 → IsCutOff (H.files shelf.old) (job_of (map string_bytes words.now.items)) (streams (O.taken out.old) (O.taken out.new) (E.taken err.old) (E.taken err.new)) }
+    ensures cut_off { result ≡ 6 → IsCutOff (H.files shelf.old) (built_job (job_of (map string_bytes words.now.items))) (streams (O.taken out.old) (O.taken out.new) (E.taken err.old) (E.taken err.new)) }
 
     // What is asked of the shelf: at most what the job asks for, and all of it but where memory ran out.
-    ensures asked_prefix { AsksPrefix (job_of (map string_bytes words.now.items)) (H.asked shelf.old) (H.asked shelf.new) }
-    ensures asked { result ≢ 6 → result ≢ 7 → AsksAll (job_of (map string_bytes words.now.items)) (H.asked shelf.old) (H.asked shelf.new) }
-    ensures asked_cut_off { result ≡ 6 → AsksAll (job_of (map string_bytes words.now.items)) (H.asked shelf.old) (H.asked shelf.new)
+    ensures asked_prefix { AsksPrefix (built_job (job_of (map string_bytes words.now.items))) (H.asked shelf.old) (H.asked shelf.new) }
+    ensures asked { result ≢ 6 → result ≢ 7 → AsksAll (built_job (job_of (map string_bytes words.now.items))) (H.asked shelf.old) (H.asked shelf.new) }
+    ensures asked_cut_off { result ≡ 6 → AsksAll (built_job (job_of (map string_bytes words.now.items))) (H.asked shelf.old) (H.asked shelf.new)
         ⊎ AppendsProperPrefix (E.taken err.old) (E.taken err.new) (line_of Memory) }
 
     // No input is read.

@@ -1,32 +1,263 @@
-//! The command line.
+//! The words of the command line.
+//!
+//! The first word is the command. The rest are its positional words in their order and its options in any
+//! place, each option at most once. An option is two words, `--steps N`, or one, `--steps=N`. After a word
+//! `--` that isn't an option's value every word is positional.
 
-ghost use Rattle.std.specs.Prelude.{◌≡◌, MatchOption, Some, None, map, string_bytes, codes};
-ghost use Rattle.dcc_c.specs.Token.{same_bytes};
-ghost use Rattle.dcc_top.specs.Words.{Decompile, job_of};
+ghost use Rattle.std.specs.Prelude.{◌≡◌, ◌≤◌, ◌+◌, ◌++◌, ◌∷◌, [], MatchOption, Some, None, IsSome, map, string_bytes, codes, length};
+ghost use Rattle.std.specs.Char.{is_ascii_digit};
+ghost use Rattle.std.specs.List.{list_all};
+ghost use Rattle.std.specs.Option.{option_copied};
+ghost use Rattle.dcc_top.specs.Words.{Decompile, Parts, built_job, command_of, is_number, is_positional, job_of, kind_of, number_of, option_of, parts_of, set_value, value_in, steps_of};
+ghost use Rattle.dcc_top.specs.WordsRead.{HasTwoFiles, job_read, kind_read, parts_read};
 
-// The word is the command that writes a text.
-fn is_decompile(word: &str) -> bool
-    ensures { result ≡ same_bytes word.now (codes "c") }
+/// What the program is to do.
+#[derive(Clone, Copy, PartialEq, Eq, Debug)]
+pub enum Job<'a> {
+    /// Write the text of the executable of this name.
+    Decompile(&'a str),
+    /// Run the executable of this name for at most so many steps.
+    Execute { file: &'a str, steps: u64 },
+}
+
+/// A command, by its first word.
+#[derive(Clone, Copy, PartialEq, Eq, Debug)]
+pub enum Command {
+    /// `c`
+    C,
+    /// `run`
+    Run,
+}
+
+/// An option, by its name.
+#[derive(Clone, Copy, PartialEq, Eq, Debug)]
+pub enum OptionName {
+    /// `--steps`
+    Steps,
+}
+
+/// What a word is that isn't an option's value and stands before any `--`.
+#[derive(Clone, Copy)]
+pub enum Kind<'a> {
+    Positional,
+    /// The word `--`.
+    End,
+    /// An option whose value is the next word.
+    Names(OptionName),
+    /// An option with its value.
+    Gives(OptionName, &'a str),
+    Unknown,
+}
+
+/// The words after the command: the one positional word and the options' values, as far as they stand.
+#[derive(Clone, Copy)]
+pub struct Found<'a> {
+    pub file: Option<&'a str>,
+    pub steps: Option<&'a str>,
+}
+
+/// The steps of a run where no option gives them.
+const STEPS: u64 = 1_000_000;
+
+const GREATEST_STEPS: u64 = 1_000_000_000;
+
+const STEPS_DIGITS: usize = 10;
+
+// The command of this name.
+fn command_of(word: &str) -> Option<Command>
+    ensures { result ≡ command_of word.now }
 {
-    match word.as_bytes() {
-        [byte] => *byte == b'c',
-        _ => false,
+    if word == "c" {
+        Some(Command::C)
+    } else if word == "run" {
+        Some(Command::Run)
+    } else {
+        None
     }
 }
 
-/// The name of the executable in the words `c FILE`; all other words are no command.
-pub fn file_of(words: &[String]) -> Option<&str>
-    ensures { MatchOption result (job_of (map string_bytes words.now) ≡ None)
-        (λ file. job_of (map string_bytes words.now) ≡ Some (Decompile file.now)) }
+// The option of this name.
+fn option_of(word: &str) -> Option<OptionName>
+    ensures { result ≡ option_of word.now }
 {
-    match words {
-        [command, file] => {
-            if is_decompile(command.as_str()) {
-                Some(file.as_str())
-            } else {
-                None
-            }
-        }
+    if word == "--steps" {
+        Some(OptionName::Steps)
+    } else {
+        None
+    }
+}
+
+// The word doesn't begin with `-`, or is `-` alone.
+fn is_positional(word: &str) -> bool
+    ensures { result ≡ is_positional word.now }
+{
+    match word.as_bytes() {
+        [first, _, ..] => *first != b'-',
+        _ => true,
+    }
+}
+
+fn kind_of(word: &str) -> Kind<'_>
+    ensures { kind_read result ≡ kind_of word.now }
+{
+    if is_positional(word) {
+        return Kind::Positional;
+    }
+    if word == "--" {
+        return Kind::End;
+    }
+    match word.split_once('=') {
+        Some((name, value)) => match option_of(name) {
+            Some(option) => Kind::Gives(option, value),
+            None => Kind::Unknown,
+        },
+        None => match option_of(word) {
+            Some(option) => Kind::Names(option),
+            None => Kind::Unknown,
+        },
+    }
+}
+
+fn has_digits_alone(word: &str) -> bool
+    ensures { result ≡ list_all is_ascii_digit word.now }
+{
+    word.bytes().all(|b| b.is_ascii_digit())
+}
+
+// The word is one or more decimal digits, at most so many, and nothing else.
+fn is_number(digits: usize, word: &str) -> bool
+    ensures { result ≡ is_number digits word.now }
+{
+    !word.is_empty() && word.len() <= digits && has_digits_alone(word)
+}
+
+// The number that a word of at most so many decimal digits writes, where it is at most the greatest.
+fn number_of(digits: usize, greatest: u64, word: &str) -> Option<u64>
+    ensures { result ≡ number_of digits greatest word.now }
+{
+    if !is_number(digits, word) {
+        return None;
+    }
+    match word.parse::<u64>() {
+        Ok(number) if number <= greatest => Some(number),
         _ => None,
+    }
+}
+
+// The steps of a run.
+fn steps_of(value: Option<&str>) -> Option<u64>
+    ensures { result ≡ steps_of (option_copied value.entry) }
+{
+    match value {
+        Some(word) => number_of(STEPS_DIGITS, GREATEST_STEPS, word),
+        None => Some(STEPS),
+    }
+}
+
+impl<'a> Found<'a> {
+    // One more positional word: no command takes two.
+    fn with_word(self, word: &'a str) -> Option<Found<'a>>
+        ensures { MatchOption result (IsSome self.entry.file)
+            (λ found. (self.entry.file ≡ None) × (parts_read found ≡ record { positional = word.now ∷ []; steps = (parts_read self.entry).steps })) }
+    {
+        match self.file {
+            Some(_) => None,
+            None => Some(Found {
+                file: Some(word),
+                steps: self.steps,
+            }),
+        }
+    }
+
+    // The value of one more option, which may stand once.
+    fn with_value(self, option: OptionName, value: &'a str) -> Option<Found<'a>>
+        ensures { MatchOption result (IsSome (value_in option (parts_read self.entry)))
+            (λ found. (value_in option (parts_read self.entry) ≡ None) × (parts_read found ≡ set_value option value.now (parts_read self.entry))) }
+    {
+        match option {
+            OptionName::Steps => match self.steps {
+                Some(_) => None,
+                None => Some(Found {
+                    file: self.file,
+                    steps: Some(value),
+                }),
+            },
+        }
+    }
+
+    // The words after `--`, all positional.
+    fn with_all(self, words: &'a [String]) -> Option<Found<'a>>
+        ensures { MatchOption result (2 ≤ length ((parts_read self.entry).positional ++ map string_bytes words.now))
+            (λ found. parts_read found ≡ record { positional = (parts_read self.entry).positional ++ map string_bytes words.now; steps = (parts_read self.entry).steps }) }
+    {
+        match words {
+            [] => Some(self),
+            [word] => self.with_word(word.as_str()),
+            _ => None,
+        }
+    }
+}
+
+// What stands in the words after the command.
+fn found_in(words: &[String]) -> Option<Found<'_>>
+    ensures { MatchOption result (HasTwoFiles (parts_of (map string_bytes words.now)))
+        (λ found. parts_of (map string_bytes words.now) ≡ Some (parts_read found)) }
+{
+    let mut found = Found {
+        file: None,
+        steps: None,
+    };
+    let mut left = words;
+    while let Some((word, rest)) = left.split_first() {
+        left = rest;
+        let word = word.as_str();
+        match kind_of(word) {
+            Kind::Positional => found = found.with_word(word)?,
+            Kind::End => return found.with_all(left),
+            Kind::Names(option) => {
+                let (value, rest) = left.split_first()?;
+                left = rest;
+                found = found.with_value(option, value.as_str())?;
+            }
+            Kind::Gives(option, value) => found = found.with_value(option, value)?,
+            Kind::Unknown => return None,
+        }
+    }
+    Some(found)
+}
+
+/// The job of the words after the program's name; none where the words have no row.
+///
+/// `c FILE` writes a text. `run FILE` runs, for at most the steps of `--steps N`: 0 to 1000000000 in at most
+/// 10 digits, and 1000000 where the option doesn't stand.
+#[tactic(auto, unfolding(crate::specs::Words::job_of))]
+pub fn job_of(words: &[String]) -> Option<Job<'_>>
+    ensures { MatchOption result (job_of (map string_bytes words.now) ≡ None)
+        (λ job. job_of (map string_bytes words.now) ≡ Some (job_read job)) }
+{
+    let (command, rest) = words.split_first()?;
+    let found = found_in(rest)?;
+    let file = found.file?;
+    match command_of(command.as_str())? {
+        Command::C => match found.steps {
+            Some(_) => None,
+            None => Some(Job::Decompile(file)),
+        },
+        Command::Run => Some(Job::Execute {
+            file,
+            steps: steps_of(found.steps)?,
+        }),
+    }
+}
+
+/// The name of the executable in the words of `c`, the one command that is built so far.
+#[tactic(auto, unfolding(crate::specs::Words::built_job))]
+pub fn file_of(words: &[String]) -> Option<&str>
+    ensures { MatchOption result (built_job (job_of (map string_bytes words.now)) ≡ None)
+        (λ file. built_job (job_of (map string_bytes words.now)) ≡ Some (Decompile file.now)) }
+{
+    match job_of(words)? {
+        Job::Decompile(file) => Some(file),
+        Job::Execute { .. } => None,
     }
 }

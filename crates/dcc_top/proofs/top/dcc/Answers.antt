@@ -1,5 +1,5 @@
 use Rattle.std.proofs.Common.{map, string_bytes}
-use Rattle.dcc_top.specs.Words.{job_of}
+use Rattle.dcc_top.specs.Words.{built_job, job_of}
 use Rattle.dcc_top.specs.Delivery.{Streams, streams}
 use Rattle.dcc_top.proofs.CauseLaws.{Outcome, is-answered, stop-always, done-always, nothing-cause, cut-cause}
 use Rattle.dcc_top.proofs.top.dcc.Given as given
@@ -10,7 +10,7 @@ written : (g : given.Over) (c : goal.Joined-reply g) → Streams
 written g c =
     streams (g.O.Sink.taken c.args.out.now) (g.O.Sink.taken c.answer.new.out) (g.E.Sink.taken c.args.err.now) (g.E.Sink.taken c.answer.new.err)
 
-outcome : (g : given.Over) (c : goal.Joined-reply g) → Outcome (g.H.Shelf.files c.args.shelf.now) (job_of (map string_bytes c.args.words.now.items)) c.answer.result (written g c)
+outcome : (g : given.Over) (c : goal.Joined-reply g) → Outcome (g.H.Shelf.files c.args.shelf.now) (built_job (job_of (map string_bytes c.args.words.now.items))) c.answer.result (written g c)
 unfolding written
 outcome g c = record {
   reply = c.words_reply-reply.result;
