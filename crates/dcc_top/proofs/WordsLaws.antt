@@ -21,7 +21,7 @@ joined front None = None
 joined front (Some parts) = merged front.positional front.steps parts.positional parts.steps
 
 -- what the parts are by the kind of the first word
-by_kind : List ℕ → List (List ℕ) → Kind → Option Parts
+unfoldable pub by_kind : List ℕ → List (List ℕ) → Kind → Option Parts
 by_kind word words Positional = option_map (with_word word) (parts_of words)
 by_kind word words End = Some (only_positional words)
 by_kind word words (Names name) = parts_after (Some name) words
@@ -38,7 +38,7 @@ parts-by_kind word words = elim (kind_of word) as (λ k. (elim k [
   | Unknown ↦ None
 ]) ≡ by_kind word words k) [ Positional ↦ refl | End ↦ refl | Names name ↦ refl | Gives name value ↦ refl | Unknown ↦ refl ]
 
-parts-at_kind : (word : List ℕ) (words : List (List ℕ)) (kind : Kind) → kind ≡ kind_of word → parts_of (word ∷ words) ≡ by_kind word words kind
+pub parts-at_kind : (word : List ℕ) (words : List (List ℕ)) (kind : Kind) → kind ≡ kind_of word → parts_of (word ∷ words) ≡ by_kind word words kind
 parts-at_kind word words kind is = parts-by_kind word words ∙ ap (λ k. by_kind word words k) (sym is)
 
 merged-word : (front : List (List ℕ)) (steps : Option (List ℕ)) (word : List ℕ) (back : List (List ℕ)) (other : Option (List ℕ)) → front ≡ [] →

@@ -1,5 +1,5 @@
 -- The command line: which words name which job.
-use Rattle.std.specs.Prelude.{◌≡◌, ℕ, ◌≤◌, Bool, true, false, ◌&&◌, not, nat_le, nat_lt, ◌==◌, if◌then◌else◌, List, [], ◌∷◌, ◌++◌, length, codes, Option, Some, None, is_some}
+use Rattle.std.specs.Prelude.{◌≡◌, ◌↔◌, ℕ, ◌≤◌, Bool, true, false, ◌&&◌, not, nat_le, nat_lt, ◌==◌, if◌then◌else◌, List, [], ◌∷◌, ◌++◌, length, codes, Option, Some, None, is_some}
 use Rattle.std.specs.List.{list_all, position_or_len, before_first, after_first}
 use Rattle.std.specs.Option.{option_map, option_and_then, option_copied, option_to_list}
 use Rattle.std.specs.Char.{is_ascii_digit}
@@ -157,6 +157,10 @@ unfoldable pub job_of : List (List ℕ) → Option Job
 job_of [] = None
 job_of (word ∷ words) =
     option_and_then (λ command. option_and_then (λ parts. job_for command parts.positional parts.steps) (parts_of words)) (command_of word)
+
+-- a job is that of the words exactly where they have its row
+abbrev pub JobsAreRows : Type 0
+JobsAreRows = (words : List (List ℕ)) (job : Job) → (job_of words ≡ Some job) ↔ HasRow words job
 
 -- the job of a command that is built so far
 unfoldable pub built_job : Option Job → Option Job

@@ -8,7 +8,7 @@ ghost use Rattle.std.specs.Prelude.{◌≡◌, ◌≤◌, ◌+◌, ◌++◌, ◌
 ghost use Rattle.std.specs.Char.{is_ascii_digit};
 ghost use Rattle.std.specs.List.{list_all};
 ghost use Rattle.std.specs.Option.{option_copied};
-ghost use Rattle.dcc_top.specs.Words.{Decompile, Parts, built_job, command_of, is_number, is_positional, job_of, kind_of, number_of, option_of, parts_of, set_value, value_in, steps_of};
+ghost use Rattle.dcc_top.specs.Words.{Decompile, JobsAreRows, Parts, built_job, command_of, is_number, is_positional, job_of, kind_of, number_of, option_of, parts_of, set_value, value_in, steps_of};
 ghost use Rattle.dcc_top.specs.WordsRead.{HasTwoFiles, job_read, kind_read, parts_read};
 
 /// What the program is to do.
@@ -250,6 +250,11 @@ pub fn job_of(words: &[String]) -> Option<Job<'_>>
     }
 }
 
+/// The job of words is that of their row: a law for all words.
+pub fn jobs_are_rows()
+    ensures { JobsAreRows }
+{}
+
 /// The name of the executable in the words of `c`, the one command that is built so far.
 #[tactic(auto, unfolding(crate::specs::Words::built_job))]
 pub fn file_of(words: &[String]) -> Option<&str>
@@ -261,3 +266,6 @@ pub fn file_of(words: &[String]) -> Option<&str>
         Job::Execute { .. } => None,
     }
 }
+
+#[cfg(test)]
+mod tests;

@@ -1,0 +1,82 @@
+//! Words and their jobs. The values come from a reference reader apart from this one.
+
+use super::{Job, job_of};
+use std::alloc::{AllocError, Global};
+use std::test::Fail;
+
+/// The words of a line, which stand between its spaces.
+fn words_of(alloc: Global, line: &str) -> Result<Vec<String>, AllocError> {
+    let mut words = Vec::new(alloc);
+    for word in line.split(' ') {
+        words.push(String::from_str(alloc, word)?)?;
+    }
+    Ok(words)
+}
+
+fn run(file: &str, steps: u64) -> Option<Job<'_>> {
+    Some(Job::Execute { file, steps })
+}
+
+#[test]
+fn words_with_a_row_have_a_job(rt: HostRuntime) -> Result<(), Fail> {
+    let rows = [
+        ("c a", Some(Job::Decompile("a"))),
+        ("c ", Some(Job::Decompile(""))),
+        ("c -", Some(Job::Decompile("-"))),
+        ("c -- -F", Some(Job::Decompile("-F"))),
+        ("c -- --", Some(Job::Decompile("--"))),
+        ("run F", run("F", 1_000_000)),
+        ("run -", run("-", 1_000_000)),
+        ("run a --", run("a", 1_000_000)),
+        ("run -- --steps", run("--steps", 1_000_000)),
+        ("run --steps 7 F", run("F", 7)),
+        ("run F --steps 7", run("F", 7)),
+        ("run --steps=7 -- F", run("F", 7)),
+        ("run F --steps 0", run("F", 0)),
+        ("run F --steps 0000000007", run("F", 7)),
+        ("run F --steps 1000000000", run("F", 1_000_000_000)),
+    ];
+    for (line, job) in rows {
+        let words = words_of(rt.alloc(), line)?;
+        assert_eq!(rt; job_of(&words), job, "{line}");
+    }
+    Ok(())
+}
+
+#[test]
+fn other_words_have_no_row(rt: HostRuntime) -> Result<(), Fail> {
+    assert_eq!(rt; job_of(&[]), None);
+    let lines = [
+        "",
+        "help",
+        "--help",
+        "C a",
+        "c",
+        "c a b",
+        "c -F",
+        "c F --steps 1",
+        "c --steps=1 F",
+        "run",
+        "run  ",
+        "run -x",
+        "run a b",
+        "run a -- b",
+        "run -- a b",
+        "run --step 1 F",
+        "run F --steps",
+        "run F --steps=",
+        "run F --steps --",
+        "run F --steps -- 7",
+        "run F --steps +7",
+        "run --steps=1=2 F",
+        "run F --steps 1000000001",
+        "run F --steps 00000000007",
+        "run a --steps 1 --steps 2",
+        "run a --steps 1 --steps=1",
+    ];
+    for line in lines {
+        let words = words_of(rt.alloc(), line)?;
+        assert_eq!(rt; job_of(&words), None, "{line}");
+    }
+    Ok(())
+}
