@@ -11,4 +11,4 @@ pub mod AnswerLaws
 pub mod CauseLaws
 pub mod FetchedLaws
 pub mod WordsLaws
-pub mod WordsRows
+pub mod WordsAsked

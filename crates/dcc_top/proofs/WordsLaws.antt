@@ -175,8 +175,8 @@ two-no_job C (a ∷ (b ∷ ws)) (Some value) h = refl
 two-no_job Run (a ∷ (b ∷ ws)) None h = refl
 two-no_job Run (a ∷ (b ∷ ws)) (Some value) h = refl
 
-pub two-no_row : (command : Option Command) (parts : Option Parts) → HasTwoFiles parts →
+pub two-no_command : (command : Option Command) (parts : Option Parts) → HasTwoFiles parts →
     option_and_then (λ c. option_and_then (λ p. job_for c p.positional p.steps) parts) command ≡ None
-two-no_row None parts h = refl
-two-no_row (Some command) None h = refl
-two-no_row (Some command) (Some parts) h = two-no_job command parts.positional parts.steps h
+two-no_command None parts h = refl
+two-no_command (Some command) None h = refl
+two-no_command (Some command) (Some parts) h = two-no_job command parts.positional parts.steps h

@@ -48,7 +48,7 @@ value_in Steps parts = parts.steps
 abbrev pub set_value : OptionName → List ℕ → Parts → Parts
 set_value Steps value parts = record { positional = parts.positional; steps = Some value }
 
--- the word doesn't begin with `-`, or is `-` alone
+-- the word doesn't begin with `-`, byte 45, or is `-` alone
 abbrev pub is_positional : List ℕ → Bool
 is_positional [] = true
 is_positional (c ∷ []) = true
@@ -58,7 +58,7 @@ is_positional (c ∷ (d ∷ cs)) = not (c == 45)
 pub data HasParts : List (List ℕ) → Parts → Type 0 where
   no_word : HasParts [] (only_positional [])
   positional_word : {word : List ℕ} {words : List (List ℕ)} {parts : Parts} → is_positional word ≡ true → HasParts words parts → HasParts (word ∷ words) (with_word word parts)
-  -- each option at most once
+  -- an option, at most once: `--steps N` as two words, or `--steps=N` as one (byte 61 is `=`)
   option_in_two : (name : OptionName) (value : List ℕ) (words : List (List ℕ)) (parts : Parts) → value_in name parts ≡ None → HasParts words parts → HasParts (option_word name ∷ (value ∷ words)) (set_value name value parts)
   option_in_one : (name : OptionName) (value : List ℕ) (words : List (List ℕ)) (parts : Parts) → value_in name parts ≡ None → HasParts words parts → HasParts ((option_word name ++ (61 ∷ value)) ∷ words) (set_value name value parts)
   end_of_options : {words : List (List ℕ)} → HasParts (codes "--" ∷ words) (only_positional words)
@@ -77,12 +77,12 @@ abbrev pub steps_of : Option (List ℕ) → Option ℕ
 steps_of None = Some 1000000
 steps_of (Some word) = number_of 10 1000000000 word
 
--- the words have this job's row
-pub data HasRow : List (List ℕ) → Job → Type 0 where
-  decompile : {words : List (List ℕ)} {file : List ℕ} → HasParts words (record { positional = file ∷ []; steps = None }) → HasRow (command_word C ∷ words) (Decompile file)
-  execute : {words : List (List ℕ)} {file : List ℕ} {value : Option (List ℕ)} {steps : ℕ} → HasParts words (record { positional = file ∷ []; steps = value }) → steps_of value ≡ Some steps → HasRow (command_word Run ∷ words) (Execute file steps)
+-- the words ask for this job
+pub data AskFor : List (List ℕ) → Job → Type 0 where
+  decompile : {words : List (List ℕ)} {file : List ℕ} → HasParts words (record { positional = file ∷ []; steps = None }) → AskFor (command_word C ∷ words) (Decompile file)
+  execute : {words : List (List ℕ)} {file : List ℕ} {value : Option (List ℕ)} {steps : ℕ} → HasParts words (record { positional = file ∷ []; steps = value }) → steps_of value ≡ Some steps → AskFor (command_word Run ∷ words) (Execute file steps)
 
--- The same as functions.
+-- The same as functions: the one job that the words ask for, if any.
 
 -- what a word is by itself, where it isn't an option's value and no `--` stands before it
 pub data Kind : Type 0 where
@@ -152,15 +152,15 @@ job_for C (file ∷ []) None = Some (Decompile file)
 job_for Run (file ∷ []) value = option_map (Execute file) (steps_of value)
 job_for _ _ _ = None
 
--- the job of the words after the program's name, or none where they have no row
+-- the job of the words after the program's name, or none where they are no command
 unfoldable pub job_of : List (List ℕ) → Option Job
 job_of [] = None
 job_of (word ∷ words) =
     option_and_then (λ command. option_and_then (λ parts. job_for command parts.positional parts.steps) (parts_of words)) (command_of word)
 
--- a job is that of the words exactly where they have its row
-abbrev pub JobsAreRows : Type 0
-JobsAreRows = (words : List (List ℕ)) (job : Job) → (job_of words ≡ Some job) ↔ HasRow words job
+-- a job is that of the words exactly where they ask for it
+abbrev pub AskForOneJob : Type 0
+AskForOneJob = (words : List (List ℕ)) (job : Job) → (job_of words ≡ Some job) ↔ AskFor words job
 
 -- the job of a command that is built so far
 unfoldable pub built_job : Option Job → Option Job

@@ -8,7 +8,7 @@ ghost use Rattle.std.specs.Prelude.{◌≡◌, ◌≤◌, ◌+◌, ◌++◌, ◌
 ghost use Rattle.std.specs.Char.{is_ascii_digit};
 ghost use Rattle.std.specs.List.{list_all};
 ghost use Rattle.std.specs.Option.{option_copied};
-ghost use Rattle.dcc_top.specs.Words.{Decompile, JobsAreRows, Parts, built_job, command_of, is_number, is_positional, job_of, kind_of, number_of, option_of, parts_of, set_value, value_in, steps_of};
+ghost use Rattle.dcc_top.specs.Words.{Decompile, AskForOneJob, Parts, built_job, command_of, is_number, is_positional, job_of, kind_of, number_of, option_of, parts_of, set_value, value_in, steps_of};
 ghost use Rattle.dcc_top.specs.WordsRead.{HasTwoFiles, job_read, kind_read, parts_read};
 
 /// What the program is to do.
@@ -226,7 +226,7 @@ fn found_in(words: &[String]) -> Option<Found<'_>>
     Some(found)
 }
 
-/// The job of the words after the program's name; none where the words have no row.
+/// The job of the words after the program's name; none where the words are no command.
 ///
 /// `c FILE` writes a text. `run FILE` runs, for at most the steps of `--steps N`: 0 to 1000000000 in at most
 /// 10 digits, and 1000000 where the option doesn't stand.
@@ -250,9 +250,9 @@ pub fn job_of(words: &[String]) -> Option<Job<'_>>
     }
 }
 
-/// The job of words is that of their row: a law for all words.
-pub fn jobs_are_rows()
-    ensures { JobsAreRows }
+/// The job of words is the one that they ask for: a law for all words.
+pub fn words_ask_for_one_job()
+    ensures { AskForOneJob }
 {}
 
 /// The name of the executable in the words of `c`, the one command that is built so far.

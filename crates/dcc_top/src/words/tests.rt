@@ -18,7 +18,7 @@ fn run(file: &str, steps: u64) -> Option<Job<'_>> {
 }
 
 #[test]
-fn words_with_a_row_have_a_job(rt: HostRuntime) -> Result<(), Fail> {
+fn commands_have_a_job(rt: HostRuntime) -> Result<(), Fail> {
     let rows = [
         ("c a", Some(Job::Decompile("a"))),
         ("c ", Some(Job::Decompile(""))),
@@ -44,7 +44,7 @@ fn words_with_a_row_have_a_job(rt: HostRuntime) -> Result<(), Fail> {
 }
 
 #[test]
-fn other_words_have_no_row(rt: HostRuntime) -> Result<(), Fail> {
+fn other_words_are_no_command(rt: HostRuntime) -> Result<(), Fail> {
     assert_eq!(rt; job_of(&[]), None);
     let lines = [
         "",

@@ -1,4 +1,4 @@
--- The two ways to say which words have which job: as a relation and as a function.
+-- The two ways to say which words ask for which job: as a relation and as a function.
 use Rattle.std.proofs.Common.{◌≡◌, ◌⊎◌, ℕ, ◌+◌, ◌<◌, ◌≤◌, Bool, true, false, List, [], ◌∷◌, ◌++◌, length, Option, Some, None, refl, sym, ap, ◌∙◌, subst, take, drop, get_or, suc, add-one, inl, inr, arith}
 use Rattle.std.specs.Prelude.{is_some, IsSome, if◌then◌else◌, codes, nat_lt, ◌==◌}
 use Rattle.std.specs.List.{position_or_len, before_first, after_first}
@@ -7,7 +7,7 @@ use Rattle.std.specs.Str.{bytes_eq}
 use Rattle.std.proofs.lemmas.Bool.{eqb-true, ltb-true, lt-ltb}
 use Rattle.std.proofs.lemmas.List.Sums.{split_at_first, passes_at_first}
 use Rattle.std.proofs.lemmas.Slice.Eq.{bytes_eq-Decides}
-use Rattle.dcc_top.specs.Words.{Job, Decompile, Execute, Parts, only_positional, with_word, with_value, set_value, value_in, is_positional, option_word, command_word, HasParts, no_word, positional_word, option_in_two, option_in_one, end_of_options, HasRow, decompile, execute, steps_of, Kind, Positional, End, Names, Gives, Unknown, option_of, command_of, named, given, is_equals, option_kind, kind_of, parts_after, parts_of, job_for, job_of}
+use Rattle.dcc_top.specs.Words.{Job, Decompile, Execute, Parts, only_positional, with_word, with_value, set_value, value_in, is_positional, option_word, command_word, HasParts, no_word, positional_word, option_in_two, option_in_one, end_of_options, AskFor, decompile, execute, steps_of, Kind, Positional, End, Names, Gives, Unknown, option_of, command_of, named, given, is_equals, option_kind, kind_of, parts_after, parts_of, job_for, job_of}
 use Rattle.dcc_top.specs.declared.words.Command.{Command}
 use Rattle.dcc_top.specs.declared.words.Command.TheVariants.{C, Run}
 use Rattle.dcc_top.specs.declared.words.OptionName.{OptionName}
@@ -45,10 +45,10 @@ parts-is _ _ (option_in_one name value words parts none rest) =
     ∙ ap (λ o. with_value name value o) (parts-is words parts rest) ∙ add-value name value parts none
 parts-is _ _ (end_of_options {words}) = parts-at_kind (codes "--") words End refl
 
-pub row-is : (words : List (List ℕ)) (job : Job) → HasRow words job → job_of words ≡ Some job
+pub asked-is : (words : List (List ℕ)) (job : Job) → AskFor words job → job_of words ≡ Some job
 unfolding job_of
-row-is _ _ (decompile {words} {file} parts) = ap (λ o. option_and_then (λ p. job_for C p.positional p.steps) o) (parts-is words _ parts)
-row-is _ _ (execute {words} {file} {value} {steps} parts is) =
+asked-is _ _ (decompile {words} {file} parts) = ap (λ o. option_and_then (λ p. job_for C p.positional p.steps) o) (parts-is words _ parts)
+asked-is _ _ (execute {words} {file} {value} {steps} parts is) =
     ap (λ o. option_and_then (λ p. job_for Run p.positional p.steps) o) (parts-is words _ parts) ∙ ap (λ o. option_map (λ n. Execute file n) o) is
 
 -- From the function to the relation.
@@ -161,37 +161,37 @@ pub parts-from : (words : List (List ℕ)) (parts : Parts) → parts_of words �
 unfolding Claim
 parts-from words parts h = words-from words None parts h
 
-steps-row : (words : List (List ℕ)) (job : Job) (file : List ℕ) (value : Option (List ℕ)) (steps : Option ℕ) → steps_of value ≡ steps → HasParts words (record { positional = file ∷ []; steps = value }) →
-    option_map (λ n. Execute file n) steps ≡ Some job → HasRow (command_word Run ∷ words) job
-steps-row words job file value None is has h = absurd (let f : ⊥ = cc in f)
-steps-row words job file value (Some n) is has h =
+steps-asked : (words : List (List ℕ)) (job : Job) (file : List ℕ) (value : Option (List ℕ)) (steps : Option ℕ) → steps_of value ≡ steps → HasParts words (record { positional = file ∷ []; steps = value }) →
+    option_map (λ n. Execute file n) steps ≡ Some job → AskFor (command_word Run ∷ words) job
+steps-asked words job file value None is has h = absurd (let f : ⊥ = cc in f)
+steps-asked words job file value (Some n) is has h =
     let same : Execute file n ≡ job = cc in
-    subst (λ j. HasRow (command_word Run ∷ words) j) same (execute has is)
+    subst (λ j. AskFor (command_word Run ∷ words) j) same (execute has is)
 
-job-row : (words : List (List ℕ)) (job : Job) (c : Command) (positional : List (List ℕ)) (steps : Option (List ℕ)) → HasParts words (record { positional = positional; steps = steps }) →
-    job_for c positional steps ≡ Some job → HasRow (command_word c ∷ words) job
-job-row words job C (file ∷ []) None has h =
+job-asked : (words : List (List ℕ)) (job : Job) (c : Command) (positional : List (List ℕ)) (steps : Option (List ℕ)) → HasParts words (record { positional = positional; steps = steps }) →
+    job_for c positional steps ≡ Some job → AskFor (command_word c ∷ words) job
+job-asked words job C (file ∷ []) None has h =
     let same : Decompile file ≡ job = cc in
-    subst (λ j. HasRow (command_word C ∷ words) j) same (decompile has)
-job-row words job C (file ∷ []) (Some value) has h = absurd (let f : ⊥ = cc in f)
-job-row words job C [] steps has h = absurd (let f : ⊥ = cc in f)
-job-row words job C (a ∷ (b ∷ ws)) steps has h = absurd (let f : ⊥ = cc in f)
-job-row words job Run (file ∷ []) steps has h = steps-row words job file steps (steps_of steps) refl has h
-job-row words job Run [] steps has h = absurd (let f : ⊥ = cc in f)
-job-row words job Run (a ∷ (b ∷ ws)) steps has h = absurd (let f : ⊥ = cc in f)
+    subst (λ j. AskFor (command_word C ∷ words) j) same (decompile has)
+job-asked words job C (file ∷ []) (Some value) has h = absurd (let f : ⊥ = cc in f)
+job-asked words job C [] steps has h = absurd (let f : ⊥ = cc in f)
+job-asked words job C (a ∷ (b ∷ ws)) steps has h = absurd (let f : ⊥ = cc in f)
+job-asked words job Run (file ∷ []) steps has h = steps-asked words job file steps (steps_of steps) refl has h
+job-asked words job Run [] steps has h = absurd (let f : ⊥ = cc in f)
+job-asked words job Run (a ∷ (b ∷ ws)) steps has h = absurd (let f : ⊥ = cc in f)
 
-parts-row : (words : List (List ℕ)) (job : Job) (c : Command) (parts : Option Parts) → ((p : Parts) → parts ≡ Some p → HasParts words p) →
-    option_and_then (λ p. job_for c p.positional p.steps) parts ≡ Some job → HasRow (command_word c ∷ words) job
-parts-row words job c None have h = absurd (let f : ⊥ = cc in f)
-parts-row words job c (Some parts) have h = job-row words job c parts.positional parts.steps (have parts refl) h
+parts-asked : (words : List (List ℕ)) (job : Job) (c : Command) (parts : Option Parts) → ((p : Parts) → parts ≡ Some p → HasParts words p) →
+    option_and_then (λ p. job_for c p.positional p.steps) parts ≡ Some job → AskFor (command_word c ∷ words) job
+parts-asked words job c None have h = absurd (let f : ⊥ = cc in f)
+parts-asked words job c (Some parts) have h = job-asked words job c parts.positional parts.steps (have parts refl) h
 
-command-row : (word : List ℕ) (words : List (List ℕ)) (job : Job) (command : Option Command) → command_of word ≡ command →
-    option_and_then (λ c. option_and_then (λ p. job_for c p.positional p.steps) (parts_of words)) command ≡ Some job → HasRow (word ∷ words) job
-command-row word words job None is h = absurd (let f : ⊥ = cc in f)
-command-row word words job (Some c) is h =
-    subst (λ w. HasRow (w ∷ words) job) (sym (command-from word c is)) (parts-row words job c (parts_of words) (λ p e. parts-from words p e) h)
+command-asked : (word : List ℕ) (words : List (List ℕ)) (job : Job) (command : Option Command) → command_of word ≡ command →
+    option_and_then (λ c. option_and_then (λ p. job_for c p.positional p.steps) (parts_of words)) command ≡ Some job → AskFor (word ∷ words) job
+command-asked word words job None is h = absurd (let f : ⊥ = cc in f)
+command-asked word words job (Some c) is h =
+    subst (λ w. AskFor (w ∷ words) job) (sym (command-from word c is)) (parts-asked words job c (parts_of words) (λ p e. parts-from words p e) h)
 
-pub row-from : (words : List (List ℕ)) (job : Job) → job_of words ≡ Some job → HasRow words job
+pub asked-from : (words : List (List ℕ)) (job : Job) → job_of words ≡ Some job → AskFor words job
 unfolding job_of
-row-from [] job h = absurd (let f : ⊥ = cc in f)
-row-from (word ∷ words) job h = command-row word words job (command_of word) refl h
+asked-from [] job h = absurd (let f : ⊥ = cc in f)
+asked-from (word ∷ words) job h = command-asked word words job (command_of word) refl h
