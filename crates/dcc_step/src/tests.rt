@@ -57,8 +57,8 @@ fn check_case(rt: &impl Abort, alloc: Global, case: Case) -> Result<(), Fail> {
 }
 
 #[test]
-fn arithmetic_and_moves(rt: HostRuntime) -> Result<(), Fail> {
-    let cases: [Case; 12] = [
+fn sums_and_logic_give_registers_and_flags(rt: HostRuntime) -> Result<(), Fail> {
+    let cases: [Case; 4] = [
         // A word sum that carries, and ADC.
         (
             b"\xB8\xFF\xFF\x05\x02\x00\x11\xC0\x8B\xD0\x19\xDB",
@@ -91,6 +91,16 @@ fn arithmetic_and_moves(rt: HostRuntime) -> Result<(), Fail> {
             0x0007,
             Stepped::Running,
         ),
+    ];
+    for case in cases {
+        check_case(&rt, rt.alloc(), case)?;
+    }
+    Ok(())
+}
+
+#[test]
+fn shifts_and_rotations_go_past_the_width(rt: HostRuntime) -> Result<(), Fail> {
+    let cases: [Case; 2] = [
         // Shifts by more than the width.
         (
             b"\xB8\x01\x80\xB1\x11\xD3\xF8\xBB\xFF\xFF\xD3\xE3\xD1\xEA",
@@ -107,6 +117,16 @@ fn arithmetic_and_moves(rt: HostRuntime) -> Result<(), Fail> {
             0x000F,
             Stepped::Running,
         ),
+    ];
+    for case in cases {
+        check_case(&rt, rt.alloc(), case)?;
+    }
+    Ok(())
+}
+
+#[test]
+fn products_and_quotients_take_two_registers(rt: HostRuntime) -> Result<(), Fail> {
+    let cases: [Case; 4] = [
         // A product in two words.
         (
             b"\xB8\x34\x12\xBB\x78\x56\xF7\xE3",
@@ -139,6 +159,16 @@ fn arithmetic_and_moves(rt: HostRuntime) -> Result<(), Fail> {
             0x0004,
             Stepped::Running,
         ),
+    ];
+    for case in cases {
+        check_case(&rt, rt.alloc(), case)?;
+    }
+    Ok(())
+}
+
+#[test]
+fn exchanges_swap_registers_and_memory(rt: HostRuntime) -> Result<(), Fail> {
+    let cases: [Case; 2] = [
         // Exchanges.
         (
             b"\xB8\x02\x01\x86\xC4\xBB\x04\x03\x93",
@@ -163,8 +193,8 @@ fn arithmetic_and_moves(rt: HostRuntime) -> Result<(), Fail> {
 }
 
 #[test]
-fn stack_flow_addresses_and_ends(rt: HostRuntime) -> Result<(), Fail> {
-    let cases: [Case; 12] = [
+fn tables_are_read_at_an_index(rt: HostRuntime) -> Result<(), Fail> {
+    let cases: [Case; 2] = [
         // A table of bytes.
         (
             b"\xBB\x00\x20\xB0\x05\xC6\x47\x05\x77\xD7",
@@ -181,6 +211,16 @@ fn stack_flow_addresses_and_ends(rt: HostRuntime) -> Result<(), Fail> {
             0x1234,
             Stepped::Running,
         ),
+    ];
+    for case in cases {
+        check_case(&rt, rt.alloc(), case)?;
+    }
+    Ok(())
+}
+
+#[test]
+fn the_stack_gives_back_what_was_pushed(rt: HostRuntime) -> Result<(), Fail> {
+    let cases: [Case; 2] = [
         // A word that is popped into memory at the top.
         (
             b"\xB8\x34\x12\x50\x8B\xEC\xFF\x76\x00\x8F\x46\xFC\x8B\x56\xFC",
@@ -197,6 +237,16 @@ fn stack_flow_addresses_and_ends(rt: HostRuntime) -> Result<(), Fail> {
             0x000C,
             Stepped::Running,
         ),
+    ];
+    for case in cases {
+        check_case(&rt, rt.alloc(), case)?;
+    }
+    Ok(())
+}
+
+#[test]
+fn jumps_follow_the_count_and_the_carry(rt: HostRuntime) -> Result<(), Fail> {
+    let cases: [Case; 2] = [
         // LOOP forms.
         (
             b"\xB9\x03\x00\x40\xE2\xFD\xE3\x01\x90\x43\xB9\x02\x00\x85\xC0\xE0\xFB",
@@ -205,6 +255,24 @@ fn stack_flow_addresses_and_ends(rt: HostRuntime) -> Result<(), Fail> {
             0x0015,
             Stepped::Running,
         ),
+        // CLC, CMC, STC.
+        (
+            b"\xF8\xF5\x73\x02\xB0\x01\xF9\xF5\x73\x02\xB4\x01",
+            8,
+            [0x0001, 0, 0, 0, 0x0100, 0, 0, 0],
+            0x000E,
+            Stepped::Running,
+        ),
+    ];
+    for case in cases {
+        check_case(&rt, rt.alloc(), case)?;
+    }
+    Ok(())
+}
+
+#[test]
+fn addresses_wrap_in_their_segment(rt: HostRuntime) -> Result<(), Fail> {
+    let cases: [Case; 3] = [
         // A word at the end of a segment.
         (
             b"\xBB\xFF\xFF\xC7\x07\x34\x12\x8A\x07\x8A\x26\x00\x00",
@@ -229,6 +297,16 @@ fn stack_flow_addresses_and_ends(rt: HostRuntime) -> Result<(), Fail> {
             0x0011,
             Stepped::Running,
         ),
+    ];
+    for case in cases {
+        check_case(&rt, rt.alloc(), case)?;
+    }
+    Ok(())
+}
+
+#[test]
+fn runs_end_at_faults_and_outside_the_table(rt: HostRuntime) -> Result<(), Fail> {
+    let cases: [Case; 3] = [
         // A divide fault leaves all.
         (
             b"\xB8\x07\x00\xF9\xB1\x00\xF6\xF1",
@@ -237,7 +315,7 @@ fn stack_flow_addresses_and_ends(rt: HostRuntime) -> Result<(), Fail> {
             0x0006,
             Stepped::Divide,
         ),
-        // No row.
+        // No instruction of the table.
         (
             b"\x90\x0F",
             9,
@@ -252,14 +330,6 @@ fn stack_flow_addresses_and_ends(rt: HostRuntime) -> Result<(), Fail> {
             [0x3000, 0, 0, 0, 0x0100, 0, 0, 0],
             0x0002,
             Stepped::Outside(2),
-        ),
-        // CLC, CMC, STC.
-        (
-            b"\xF8\xF5\x73\x02\xB0\x01\xF9\xF5\x73\x02\xB4\x01",
-            8,
-            [0x0001, 0, 0, 0, 0x0100, 0, 0, 0],
-            0x000E,
-            Stepped::Running,
         ),
     ];
     for case in cases {
