@@ -1,24 +1,20 @@
 -- What the answers for an image and for a file say.
-use Rattle.std.proofs.Common.{◌≡◌, ℕ, ◌<◌, ◌-◌, ◌*◌, Bool, true, List, [], ◌∷◌, length, take, drop, Option, Some, None, Result, Ok, Err, refl, sym, ap, ◌∙◌, subst}
-use Rattle.std.specs.Prelude.{IsErrAnd, IsOkUnless, IfSome, IfOk, IfErr, string_bytes, All, ◌^◌}
+use Rattle.std.proofs.Common.{◌≡◌, ℕ, ◌-◌, ◌*◌, true, List, length, take, drop, Option, Some, None, refl, sym, ap, ◌∙◌, subst}
 use Rattle.std.specs.List.{list_all}
 use Rattle.dcc_mz.specs.declared.fault.MzFault.{MzFault}
-use Rattle.dcc_mz.specs.Fault.{fault_of, IsRefusal, IsRefusalOrMemory}
+use Rattle.dcc_mz.specs.Fault.{fault_of}
 use Rattle.dcc_prog.specs.declared.image.Image.{Image}
 use Rattle.dcc_prog.specs.MzImage.{IsImageOf, FormatFault, IsFirstFault}
 use Rattle.dcc_prog.specs.Code.{code_of}
 use Rattle.dcc_prog.proofs.TableLaws.{and_both}
-use Rattle.dcc_c.specs.Tree.{Function}
 use Rattle.dcc_c.specs.Written.{written}
-use Rattle.dcc_c.specs.Text.{StandsFor}
 use Rattle.dcc_top.specs.declared.form.Form.{Form}
-use Rattle.dcc_top.specs.declared.form.Form.TheVariants.{Leave}
 use Rattle.dcc_top.specs.declared.reply.Reply.{Reply}
 use Rattle.dcc_top.specs.declared.reply.Reply.TheVariants.{Done, Usage, NoFile, FileFault, Memory, Format, NotYet}
 use Rattle.dcc_top.specs.Line.{Ends, StopsAt}
-use Rattle.dcc_top.specs.LineText.{fits_form, tree_of, start_of}
+use Rattle.dcc_top.specs.LineText.{fits_form, tree_of}
 use Rattle.dcc_top.specs.Agreement.{Agrees, RunsAgree}
-use Rattle.dcc_top.specs.Answer.{Decompiles, StopsInFile, EndsInFile, AllowsForImage, AllowsForBytes, TellsFault, TellsStop, TellsDone, IsExact}
+use Rattle.dcc_top.specs.Answer.{StopsInFile, EndsInFile, AllowsForImage, AllowsForBytes, TellsStop, TellsDone, IsExact}
 use Rattle.dcc_top.proofs.LineRun.{Goes, leaves, goes, goes-from_ends, built-from, op-fits}
 use Rattle.dcc_top.proofs.LineLaws.{ends-not_stops, stops-once}
 use Rattle.dcc_top.proofs.LineAgrees.{line-agrees}

@@ -1,16 +1,15 @@
 -- When each status comes: by cases on the answer and on what was written of it.
-use Rattle.std.proofs.Common.{◌≡◌, ℕ, ◌<◌, ◌⊎◌, inl, inr, List, [], ◌∷◌, ◌++◌, length, Option, Some, None, refl, sym, ap, ◌∙◌, subst, arith}
-use Rattle.std.specs.Prelude.{◌≢◌, string_bytes, IfOk}
-use Rattle.dcc_io.specs.Told.{WhenTold, append_told, AppendsProperPrefix}
+use Rattle.std.proofs.Common.{◌≡◌, ℕ, ◌⊎◌, inl, inr, List, [], ◌∷◌, Option, Some, None, refl, sym, ap, ◌∙◌, subst, arith}
+use Rattle.std.specs.Prelude.{◌≢◌, string_bytes}
+use Rattle.dcc_io.specs.Told.{append_told, AppendsProperPrefix}
 use Rattle.dcc_io.proofs.ToldLemmas.{append_told-nil}
-use Rattle.dcc_run.proofs.PrefixLaws.{prefix_refl, prefix_nil}
 use Rattle.dcc_prog.specs.MzImage.{FormatFault, IsFirstFault}
 use Rattle.dcc_top.specs.declared.reply.Reply.{Reply}
 use Rattle.dcc_top.specs.declared.reply.Reply.TheVariants.{Done, Usage, NoFile, FileFault, Memory, Format, NotYet}
-use Rattle.dcc_top.specs.Words.{Job, Decompile, Execute, requests_of}
-use Rattle.dcc_top.specs.Answer.{status_of, line_of, due_of, Decompiles, StopsInFile, EndsInFile, ShelfHas, Allows, AllowsForFile, TellsFault, TellsStop, TellsDone, TellsMissing, IsExact}
-use Rattle.dcc_top.specs.Delivery.{Streams, WroteAll, BrokeOffInText, BrokeOffInLine, Delivers}
-use Rattle.dcc_top.specs.Causes.{Files, IsAnswered, HasText, HasFormatFault, HasStop, Names, IsOneOf, AsksPrefix, AsksAll, IsCutOff, IsMissing}
+use Rattle.dcc_top.specs.Words.{Job, Decompile, Execute}
+use Rattle.dcc_top.specs.Answer.{status_of, line_of, due_of, StopsInFile, EndsInFile, Allows, TellsFault, TellsStop, TellsDone, TellsMissing, IsExact}
+use Rattle.dcc_top.specs.Delivery.{Streams, WroteAll, Delivers}
+use Rattle.dcc_top.specs.Causes.{Files, IsAnswered, HasText, HasFormatFault, HasStop, Names, IsOneOf, IsCutOff, IsMissing}
 
 -- no answer has the status of a failed write
 status-not_six : (reply : Reply) → status_of reply ≡ 6 → ⊥

@@ -1,13 +1,12 @@
 -- From what the machine's run says to how the execution finished.
-use Rattle.std.proofs.Common.{◌≡◌, ℕ, suc, ◌+◌, ◌-◌, ◌<◌, ◌≤◌, List, [], ◌∷◌, ◌++◌, length, take, Option, Some, None, refl, sym, ap, ◌∙◌, subst, arith, append_assoc, length-append}
+use Rattle.std.proofs.Common.{◌≡◌, ℕ, ◌+◌, ◌≤◌, List, [], ◌∷◌, ◌++◌, Option, Some, None, refl, sym, ap, ◌∙◌, subst, arith}
 use Rattle.dcc_io.specs.Told.{append_told, prepend_told, AppendsProperPrefix}
 use Rattle.dcc_io.proofs.ToldLemmas.{AppendsProperPrefix-after, AppendsProperPrefix-longer}
 use Rattle.dcc_run.specs.End.{End}
-use Rattle.dcc_run.specs.Prefix.{IsPrefix}
-use Rattle.dcc_run.specs.System.{after, out_after, end_after}
+use Rattle.dcc_run.specs.System.{after, out_after}
 use Rattle.dcc_run.proofs.RunLaws.{after-add, out_grows}
 use Rattle.dcc_prog.specs.declared.image.Image.{Image}
-use Rattle.dcc_prog.specs.Machine.{State, start_state}
+use Rattle.dcc_prog.specs.Machine.{start_state}
 use Rattle.dcc_prog.specs.Step.{step, machine_system}
 use Rattle.dcc_prog.proofs.StepLaws.{machine_lawful}
 use Rattle.dcc_step.specs.Core.{Core, with_console}
@@ -15,7 +14,7 @@ use Rattle.dcc_step.specs.Stepped.{Scene, scene, MakesSteps, StopsShort, Runs, A
 use Rattle.dcc_step.specs.declared.ending.Stepped.{Stepped}
 use Rattle.dcc_step.specs.declared.ending.Stepped.TheVariants.{Running, Exit, Divide, Outside, InFault, OutFault}
 use Rattle.dcc_step.specs.declared.ending.Fault.TheVariants.{Input, Output}
-use Rattle.dcc_top.specs.Execution.{Console, console, HasRun, StopsAtRead, Finishes}
+use Rattle.dcc_top.specs.Execution.{console, HasRun, StopsAtRead, Finishes}
 use Rattle.dcc_top.specs.Finished.{finish_of}
 
 -- what is left behind bytes that were given, where it is told

@@ -1,11 +1,10 @@
 -- From what the shelf answers to what the program answers.
-use Rattle.std.proofs.Common.{◌≡◌, ℕ, ◌<◌, ◌≤◌, ◌+◌, List, [], ◌∷◌, ◌++◌, length, Option, Some, None, refl, sym, ap, ◌∙◌, subst, arith, length-append}
+use Rattle.std.proofs.Common.{◌≡◌, ℕ, ◌<◌, ◌≤◌, List, [], ◌∷◌, ◌++◌, length, Option, Some, None, refl, sym, ap, ◌∙◌, subst, arith, length-append}
 use Rattle.std.specs.Prelude.{take, string_bytes}
 use Rattle.dcc_io.specs.Told.{WhenTold}
 use Rattle.dcc_mz.specs.declared.fault.MzFault.TheVariants.{TooLarge}
 use Rattle.dcc_mz.specs.Fault.{IsRefusal}
-use Rattle.dcc_prog.specs.declared.image.Image.{Image}
-use Rattle.dcc_prog.specs.MzImage.{IsImageOf, FormatFault, too_large, IsFirstFault}
+use Rattle.dcc_prog.specs.MzImage.{too_large, IsFirstFault}
 use Rattle.dcc_prog.proofs.MzImageLaws.{one_fault, not_both}
 use Rattle.dcc_top.specs.declared.reply.Reply.{Reply}
 use Rattle.dcc_top.specs.declared.reply.Reply.TheVariants.{Done, Usage, NoFile, FileFault, Memory, Format, NotYet}

@@ -1,10 +1,6 @@
 -- The text of a straight line agrees with the program.
-use Rattle.std.proofs.Common.{◌≡◌, ℕ, zero, suc, ◌+◌, ◌*◌, ◌<◌, ◌≤◌, Bool, true, List, [], ◌∷◌, length, Option, None, refl, sym, ap, ◌∙◌, subst, arith}
-use Rattle.std.specs.Prelude.{◌≢◌, All}
+use Rattle.std.proofs.Common.{◌≡◌, ℕ, ◌+◌, ◌*◌, ◌≤◌, true, List, [], ◌∷◌, length, None, refl, sym, ◌∙◌, subst, arith}
 use Rattle.std.proofs.Math.Nat.{mul-le-mul_left}
-use Rattle.dcc_run.specs.End.{Stuck}
-use Rattle.dcc_run.specs.System.{end_after}
-use Rattle.dcc_run.specs.Follows.{Follows, Stands, Meets}
 use Rattle.dcc_run.proofs.RunLaws.{follows_from_meets}
 use Rattle.dcc_num.specs.declared.Reg.{Reg}
 use Rattle.dcc_num.specs.declared.Reg.TheVariants.{Ax, Cx, Dx, Bx, Si, Di}
@@ -14,17 +10,16 @@ use Rattle.dcc_prog.specs.Machine as machine
 use Rattle.dcc_prog.specs.Step.{machine_system}
 use Rattle.dcc_prog.specs.Code.{code_of}
 use Rattle.dcc_prog.proofs.StepLaws.{machine_lawful}
-use Rattle.dcc_prog.proofs.FetchLaws.{IsPlaced, image-placed, HoldsImage, length-code_of}
+use Rattle.dcc_prog.proofs.FetchLaws.{IsPlaced, image-placed, length-code_of}
 use Rattle.dcc_c.specs.declared.syntax.Base.TheVariants.{Int, Uint}
 use Rattle.dcc_c.specs.Types.{convert}
-use Rattle.dcc_c.specs.Tree.{Lines}
 use Rattle.dcc_c.specs.Run.{Continuation, ends_function, runs, State, first_state, step as text_step, text_system}
 use Rattle.dcc_c.proofs.RunLaws.{text_lawful}
 use Rattle.dcc_top.specs.declared.form.Form.{Form}
 use Rattle.dcc_top.specs.Line.{Ends, has_variable}
-use Rattle.dcc_top.specs.LineText.{lines_of, line_behind, cleared, name, number, start_of, tree_of}
+use Rattle.dcc_top.specs.LineText.{lines_of, line_behind, cleared, number, start_of, tree_of}
 use Rattle.dcc_top.specs.Agreement.{IsClean, RunsAgree}
-use Rattle.dcc_top.proofs.LineForms.{Words, AreWords, with_word, number-value}
+use Rattle.dcc_top.proofs.LineForms.{Words, with_word, number-value}
 use Rattle.dcc_top.proofs.LineMachine.{MachineAt}
 use Rattle.dcc_top.proofs.LineRun.{TextAt, text-assigns, Goes, goes-from_ends, goes-length, TextMeets, MachineMeets, text_meets-later, machine_meets-later}
 use Rattle.dcc_top.proofs.LineTogether.{AtLine, text-meets, machine-meets}

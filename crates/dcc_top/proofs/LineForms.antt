@@ -1,9 +1,9 @@
 -- What the forms of a straight line do to registers and variables, on both sides.
-use Rattle.std.proofs.Common.{◌≡◌, ℕ, zero, suc, ◌+◌, ◌-◌, ◌*◌, ◌/◌, ◌%◌, ◌^◌, ◌<◌, ◌≤◌, Bool, true, false, List, [], ◌∷◌, ◌++◌, Option, Some, None, refl, sym, ap, ◌∙◌, subst, arith, ltb}
-use Rattle.std.specs.Prelude.{◌≢◌, ◌&&◌, not, nat_lt, slice_index, slice_set, codes, if◌then◌else◌, bit_and, bit_or, ◌==◌, option_map, option_and_then}
+use Rattle.std.proofs.Common.{◌≡◌, ℕ, ◌+◌, ◌-◌, ◌*◌, ◌/◌, ◌%◌, ◌^◌, ◌<◌, true, List, [], ◌∷◌, Some, refl, sym, ap, ◌∙◌, arith}
+use Rattle.std.specs.Prelude.{slice_index, slice_set, bit_and, bit_or}
 use Rattle.std.proofs.Math.Nat.{mod-eq_of_lt, mod-lt}
 use Rattle.std.proofs.lemmas.Bool.{ltb-true}
-use Rattle.std.proofs.lemmas.Nat.{and_block, and_mask, and_le_l, and_le_r, or_shifted, or_comm, or_of_16, div-mul-add}
+use Rattle.std.proofs.lemmas.Nat.{and_block, and_mask, and_le_l, and_le_r, or_shifted, or_comm}
 use Rattle.std.specs.Int.Bits.{and_zero_r}
 use Rattle.std.proofs.Math.Nat.{div-add-mod', div-lt_iff_lt-mul}
 use Rattle.dcc_prog.proofs.TableLaws.{and_left, and_right}
@@ -16,7 +16,7 @@ use Rattle.dcc_c.specs.declared.syntax.Base.TheVariants.{Uint}
 use Rattle.dcc_c.specs.declared.syntax.CBin.{CBin}
 use Rattle.dcc_c.specs.declared.syntax.CBin.TheVariants.{Or, And, Add, Sub}
 use Rattle.dcc_c.specs.Tree.{Expr, Binary}
-use Rattle.dcc_c.specs.Value.{Value, binary_value, both_values, value, Binding, held_by, assigned, value_of}
+use Rattle.dcc_c.specs.Value.{binary_value, both_values, value, Binding, held_by, assigned, value_of}
 use Rattle.dcc_top.specs.declared.form.Form.{Form}
 use Rattle.dcc_top.specs.declared.form.Form.TheVariants.{Move, MoveHalf, Increase, Decrease, MoveSegment, PutChar, Leave}
 use Rattle.dcc_top.specs.declared.form.Term.{Term}

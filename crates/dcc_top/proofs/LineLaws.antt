@@ -1,12 +1,11 @@
 -- A straight line ends, or stops at one offset, and not both.
-use Rattle.std.proofs.Common.{◌≡◌, ℕ, ◌+◌, ◌-◌, ◌%◌, ◌<◌, ◌≤◌, List, [], ◌∷◌, ◌++◌, length, drop, Option, Some, None, refl, sym, ap, ◌∙◌, subst, arith, length-drop}
-use Rattle.std.specs.Prelude.{◌≢◌, option_and_then}
-use Rattle.dcc_prog.specs.Table.{instruction_at}
+use Rattle.std.proofs.Common.{◌≡◌, ℕ, ◌+◌, ◌%◌, ◌<◌, ◌≤◌, List, [], ◌∷◌, ◌++◌, length, drop, Option, Some, None, refl, sym, ap, ◌∙◌, subst, arith, length-drop}
+use Rattle.std.specs.Prelude.{◌≢◌}
 use Rattle.dcc_prog.proofs.TableLaws.{instruction-length}
 use Rattle.dcc_top.specs.declared.form.Form.{Form}
 use Rattle.dcc_top.specs.declared.form.Form.TheVariants.{Leave}
-use Rattle.dcc_top.specs.Line.{Built, built_from, built_at, ah_after, Comes, at_entry, goes_on, Ends, StopsAt}
-use Rattle.dcc_top.proofs.LineRun.{BuiltFrom, built-from}
+use Rattle.dcc_top.specs.Line.{Built, built_at, ah_after, Comes, at_entry, goes_on, Ends, StopsAt}
+use Rattle.dcc_top.proofs.LineRun.{built-from}
 
 -- a built instruction lies in the code
 pub built-inside : (code : List ℕ) (at : ℕ) (ah : Option ℕ) (built : Built) → built_at code at ah ≡ Some built → (0 < built.len) × (at + built.len ≤ length code)

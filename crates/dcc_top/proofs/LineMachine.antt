@@ -1,13 +1,12 @@
 -- The machine's side of a straight line: what each built instruction does to the state.
-use Rattle.std.proofs.Common.{◌≡◌, ℕ, ◌+◌, ◌-◌, ◌*◌, ◌/◌, ◌%◌, ◌<◌, ◌≤◌, ◌⊎◌, inl, inr, Bool, true, false, List, [], ◌∷◌, ◌++◌, drop, Option, Some, None, refl, sym, ap, ◌∙◌, subst, arith, add-zero}
+use Rattle.std.proofs.Common.{◌≡◌, ℕ, ◌+◌, ◌-◌, ◌/◌, ◌%◌, ◌⊎◌, inl, inr, Bool, true, false, List, [], ◌∷◌, ◌++◌, drop, Option, Some, None, refl, sym, ap, ◌∙◌, subst, add-zero}
 use Rattle.std.specs.Prelude.{◌≢◌, ◌&&◌, not, ◌==◌, nat_lt, slice_index, slice_set, if◌then◌else◌, option_map}
-use Rattle.std.proofs.lemmas.Bool.{eqb-true, eqb-false, ltb-true, not-true}
+use Rattle.std.proofs.lemmas.Bool.{eqb-true, eqb-false, not-true}
 use Rattle.std.proofs.lemmas.List.{get_or-set_other}
-use Rattle.dcc_run.specs.End.{End, Running, Exit, Outside, is_over}
-use Rattle.dcc_num.specs.declared.Width.TheVariants.{Byte as byte_width, Word as word_width}
+use Rattle.dcc_run.specs.End.{Running, Exit, is_over}
+use Rattle.dcc_num.specs.declared.Width.TheVariants.{Word as word_width}
 use Rattle.dcc_num.specs.declared.Reg.{Reg}
 use Rattle.dcc_num.specs.declared.Reg.TheVariants.{Ax, Dx}
-use Rattle.dcc_num.specs.declared.Half.{Half}
 use Rattle.dcc_num.specs.declared.Flags.{Flags}
 use Rattle.dcc_num.specs.Sum.{sum_of, difference_of}
 use Rattle.dcc_prog.specs.declared.image.Image.{Image}
@@ -18,18 +17,17 @@ use Rattle.dcc_prog.specs.declared.instr.Op.{Op}
 use Rattle.dcc_prog.specs.declared.instr.Op.TheVariants.{Alu as AluOp, Mov, Int21}
 use Rattle.dcc_prog.specs.declared.instr.Instr.{Instr}
 use Rattle.dcc_prog.specs.Table.{instruction_at}
-use Rattle.dcc_prog.specs.Machine.{State, reg_number, word_in, with_word_in, half_of_word, word_with_half, operand_value, with_operand}
+use Rattle.dcc_prog.specs.Machine.{State, reg_number, word_in, with_word_in, word_with_half, operand_value}
 use Rattle.dcc_prog.specs.Dos.{dos_step}
 use Rattle.dcc_prog.specs.Step.{code_bytes, ended, op_step, instruction_step, step}
 use Rattle.dcc_prog.specs.Code.{code_of}
 use Rattle.dcc_prog.proofs.TableLaws.{and_left, and_right}
 use Rattle.dcc_prog.proofs.FetchLaws.{IsPlaced, HoldsImage, fetched-instruction}
 use Rattle.dcc_top.specs.declared.form.Form.{Form}
-use Rattle.dcc_top.specs.declared.form.Form.TheVariants.{Move, MoveHalf, Increase, Decrease, MoveSegment, PutChar, Leave}
+use Rattle.dcc_top.specs.declared.form.Form.TheVariants.{Increase, Decrease, PutChar, Leave}
 use Rattle.dcc_top.specs.declared.form.Term.{Term}
 use Rattle.dcc_top.specs.declared.form.Term.TheVariants.{Register, Number}
-use Rattle.dcc_top.specs.Line.{has_variable, only_if, dos_form, move_form, term_of, register_form, op_form}
-use Rattle.dcc_top.specs.LineText.{fits_form}
+use Rattle.dcc_top.specs.Line.{has_variable, only_if, dos_form, term_of, register_form, op_form}
 use Rattle.dcc_top.proofs.LineForms.{Words, list_of, word_of, with_word, list-read, list-written, term_value, after_form}
 
 -- the output after a form

@@ -1,13 +1,12 @@
 -- The runs of a straight line and of its text go together.
-use Rattle.std.proofs.Common.{◌≡◌, ℕ, zero, suc, ◌+◌, ◌-◌, ◌*◌, ◌/◌, ◌%◌, ◌<◌, ◌≤◌, Bool, true, false, List, [], ◌∷◌, ◌++◌, length, drop, Option, Some, None, inl, inr, refl, sym, ap, ◌∙◌, subst, arith, append_assoc, length-drop}
-use Rattle.std.specs.Prelude.{◌≢◌, ◌&&◌, not, ◌==◌, nat_lt, if◌then◌else◌, ◌⊎◌, option_map, option_and_then, codes, map}
+use Rattle.std.proofs.Common.{◌≡◌, ℕ, zero, suc, ◌+◌, ◌-◌, ◌/◌, ◌%◌, ◌<◌, ◌≤◌, Bool, true, false, List, [], ◌∷◌, ◌++◌, length, drop, Option, Some, None, inl, inr, refl, sym, ap, ◌∙◌, subst, arith, append_assoc, length-drop}
+use Rattle.std.specs.Prelude.{◌≢◌, ◌&&◌, ◌==◌, nat_lt, if◌then◌else◌, option_map, option_and_then, codes}
 use Rattle.std.proofs.lemmas.Bool.{ltb-true}
 use Rattle.std.proofs.lemmas.Nat.{div-mul-add}
-use Rattle.std.proofs.Math.Nat.{mod-eq_of_lt, mod-lt}
+use Rattle.std.proofs.Math.Nat.{mod-lt}
 use Rattle.dcc_run.specs.End.{End, Running, Exit, Stuck, is_over}
-use Rattle.dcc_run.specs.System.{System, after, out_after, end_after}
+use Rattle.dcc_run.specs.System.{end_after}
 use Rattle.dcc_run.specs.Follows.{Stands}
-use Rattle.dcc_run.proofs.RunLaws.{after-over}
 use Rattle.dcc_num.specs.declared.Reg.{Reg}
 use Rattle.dcc_num.specs.declared.Reg.TheVariants.{Ax, Cx, Dx, Bx, Sp, Bp, Si, Di}
 use Rattle.dcc_num.specs.declared.Half.{Half}
@@ -16,31 +15,27 @@ use Rattle.dcc_prog.specs.declared.image.Image.{Image}
 use Rattle.dcc_prog.specs.declared.instr.Instr.{Instr}
 use Rattle.dcc_prog.specs.Table.{instruction_at}
 use Rattle.dcc_prog.specs.Machine as machine
-use Rattle.dcc_prog.specs.Step.{ended, op_step, step, machine_system}
-use Rattle.dcc_prog.specs.Code.{code_of}
-use Rattle.dcc_prog.proofs.StepLaws.{machine_lawful}
+use Rattle.dcc_prog.specs.Step.{machine_system}
 use Rattle.dcc_prog.proofs.TableLaws.{instruction-length, and_left, and_right, and_both}
-use Rattle.dcc_num.specs.declared.Width.TheVariants.{Byte as byte_width, Word as word_width}
+use Rattle.dcc_num.specs.declared.Width.TheVariants.{Word as word_width}
 use Rattle.dcc_prog.specs.declared.instr.Alu.TheVariants.{Add as AddOp, Sub as SubOp}
 use Rattle.dcc_prog.specs.declared.instr.Operand.{Operand}
 use Rattle.dcc_prog.specs.declared.instr.Operand.TheVariants.{Word as WordOperand, Byte, Seg, Const}
 use Rattle.dcc_prog.specs.declared.instr.Op.{Op}
 use Rattle.dcc_prog.specs.declared.instr.Op.TheVariants.{Alu as AluOp, Mov, Int21}
-use Rattle.dcc_prog.proofs.FetchLaws.{IsPlaced, length-code_of}
 use Rattle.dcc_c.specs.declared.syntax.Base.TheVariants.{Uint}
 use Rattle.dcc_c.specs.declared.syntax.CBin.TheVariants.{Add, Sub}
-use Rattle.dcc_c.specs.Tree.{Word, Expr, Name, Binary, Stmt, Assign, Call, Lines, no_lines, line}
-use Rattle.dcc_c.specs.Value.{Value, value, value_of, held_by, assigned}
-use Rattle.dcc_c.specs.Run.{Continuation, ends_function, runs, State, as_char, assign_step, dos_step, stmt_step, step_at, step as text_step, text_system}
-use Rattle.dcc_c.proofs.RunLaws.{text_lawful}
+use Rattle.dcc_c.specs.Tree.{Expr, Binary, Stmt, Assign, Lines, line}
+use Rattle.dcc_c.specs.Value.{value, value_of, held_by, assigned}
+use Rattle.dcc_c.specs.Run.{Continuation, runs, State, assign_step, dos_step, stmt_step, step_at, step as text_step, text_system}
 use Rattle.dcc_top.specs.declared.form.Form.{Form}
 use Rattle.dcc_top.specs.declared.form.Form.TheVariants.{Move, MoveHalf, Increase, Decrease, MoveSegment, PutChar, Leave}
 use Rattle.dcc_top.specs.declared.form.Term.{Term}
 use Rattle.dcc_top.specs.declared.form.Term.TheVariants.{Register, Number}
 use Rattle.dcc_top.specs.Line.{Built, built_from, built_at, op_form, ah_after, ah_after_term, ah_after_half, ah_after_sum, Comes, at_entry, goes_on, Ends, has_variable, only_if, dos_form, term_of, register_form}
-use Rattle.dcc_top.specs.LineText.{variable_name, name, number, term_expr, half_expr, dos_call, statement_of, lines_of, line_if, fits_form, fits_term}
-use Rattle.dcc_top.proofs.LineForms.{Words, bindings_of, word_of, with_word, AreWords, binding-read, binding-written, word-fits, term_value, term-value, term-fits, half-value, half-fits, sum-value, difference-value, after_form, form-keeps_words}
-use Rattle.dcc_top.proofs.LineMachine.{only_if-some, register_form-some, dos-cases, out_after_form, MachineAt, HoldsAh, Effect, op-effect, moved-on, step-is}
+use Rattle.dcc_top.specs.LineText.{variable_name, name, number, term_expr, half_expr, dos_call, statement_of, fits_form, fits_term}
+use Rattle.dcc_top.proofs.LineForms.{Words, bindings_of, word_of, with_word, AreWords, binding-read, binding-written, word-fits, term_value, term-value, term-fits, half-value, half-fits, sum-value, difference-value, after_form}
+use Rattle.dcc_top.proofs.LineMachine.{only_if-some, register_form-some, dos-cases, out_after_form, MachineAt, HoldsAh}
 
 below_word : (n : ℕ) → n % 65536 < 65536
 below_word n = let pos : 0 < 65536 = omega arith in mod-lt n pos

@@ -1,26 +1,22 @@
 -- The run of a straight line and that of its text meet at each step.
-use Rattle.std.proofs.Common.{◌≡◌, ℕ, zero, suc, ◌+◌, ◌*◌, ◌/◌, ◌%◌, ◌<◌, ◌≤◌, Bool, true, false, List, [], ◌∷◌, ◌++◌, length, drop, Option, Some, None, refl, sym, ap, ◌∙◌, subst, arith, add-zero}
-use Rattle.std.specs.Prelude.{◌≢◌, codes, map, All}
+use Rattle.std.proofs.Common.{◌≡◌, ℕ, zero, suc, ◌+◌, ◌%◌, ◌<◌, ◌≤◌, true, List, ◌∷◌, length, Option, refl, sym, ap, ◌∙◌, subst, arith}
+use Rattle.std.specs.Prelude.{◌≢◌}
 use Rattle.std.proofs.Math.Nat.{mod-eq_of_lt}
-use Rattle.dcc_run.specs.End.{End, Running, Exit, Stuck, is_over}
-use Rattle.dcc_run.specs.System.{System, after, out_after, end_after}
-use Rattle.dcc_run.specs.Follows.{Stands}
+use Rattle.dcc_run.specs.End.{Running, Exit, is_over}
+use Rattle.dcc_run.specs.System.{after, end_after}
 use Rattle.dcc_run.proofs.RunLaws.{after-over, after-add}
-use Rattle.dcc_num.specs.declared.Reg.{Reg}
-use Rattle.dcc_num.specs.declared.Reg.TheVariants.{Ax, Cx, Dx, Bx, Si, Di}
 use Rattle.dcc_prog.specs.declared.image.Image.{Image}
 use Rattle.dcc_prog.specs.Machine as machine
-use Rattle.dcc_prog.specs.Step.{ended, op_step, step, machine_system}
+use Rattle.dcc_prog.specs.Step.{op_step, step, machine_system}
 use Rattle.dcc_prog.specs.Code.{code_of}
 use Rattle.dcc_prog.proofs.StepLaws.{machine_lawful}
-use Rattle.dcc_prog.proofs.FetchLaws.{IsPlaced, HoldsImage, length-code_of}
-use Rattle.dcc_c.specs.Tree.{Lines}
-use Rattle.dcc_c.specs.Run.{Continuation, ends_function, runs, State, first_state, step as text_step, text_system}
+use Rattle.dcc_prog.proofs.FetchLaws.{IsPlaced, length-code_of}
+use Rattle.dcc_c.specs.Run.{Continuation, runs, State, step as text_step, text_system}
 use Rattle.dcc_c.proofs.RunLaws.{text_lawful}
 use Rattle.dcc_top.specs.declared.form.Form.{Form}
 use Rattle.dcc_top.specs.declared.form.Form.TheVariants.{Move, MoveHalf, Increase, Decrease, MoveSegment, PutChar, Leave}
-use Rattle.dcc_top.specs.Line.{Built, ah_after, op_form}
-use Rattle.dcc_top.specs.LineText.{lines_of, statement_of, name, number, fits_form}
+use Rattle.dcc_top.specs.Line.{Built, ah_after}
+use Rattle.dcc_top.specs.LineText.{lines_of, fits_form}
 use Rattle.dcc_top.proofs.LineForms.{Words, AreWords, after_form, form-keeps_words}
 use Rattle.dcc_top.proofs.LineMachine.{out_after_form, MachineAt, HoldsAh, Effect, op-effect, moved-on, step-is}
 use Rattle.dcc_top.proofs.LineRun.{TextAt, text-form, text-leaves, form-keeps_ah, BuiltFrom, built-from, Goes, leaves, goes, goes-inside, op-fits, TextMeets, MachineMeets, same-place, same-place_back, running-unstuck, exit-unstuck}

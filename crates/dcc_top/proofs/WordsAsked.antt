@@ -1,6 +1,6 @@
 -- The two ways to say which words ask for which job: as a relation and as a function.
-use Rattle.std.proofs.Common.{◌≡◌, ◌⊎◌, ℕ, ◌+◌, ◌<◌, ◌≤◌, Bool, true, false, List, [], ◌∷◌, ◌++◌, length, Option, Some, None, refl, sym, ap, ◌∙◌, subst, take, drop, get_or, suc, add-one, inl, inr, arith}
-use Rattle.std.specs.Prelude.{is_some, IsSome, if◌then◌else◌, codes, nat_lt, ◌==◌}
+use Rattle.std.proofs.Common.{◌≡◌, ◌⊎◌, ℕ, ◌<◌, Bool, true, false, List, [], ◌∷◌, ◌++◌, length, Option, Some, None, refl, sym, ap, ◌∙◌, subst, get_or, inl, inr, arith}
+use Rattle.std.specs.Prelude.{is_some, if◌then◌else◌, codes, nat_lt}
 use Rattle.std.proofs.Common.{◌≡◌, ◌⊎◌, ℕ, ◌<◌, Bool, true, false, List, [], ◌∷◌, ◌++◌, length, Option, Some, None, refl, sym, ap, ◌∙◌, subst, get_or, inl, inr, arith}
 use Rattle.std.specs.Prelude.{is_some, if◌then◌else◌, codes, nat_lt}
 use Rattle.std.specs.List.{position_or_len, before_first, after_first}

@@ -1,5 +1,5 @@
 -- The parts of the words, as they are found one after another.
-use Rattle.std.proofs.Common.{◌≡◌, ℕ, ◌+◌, ◌≤◌, Bool, true, false, List, [], ◌∷◌, ◌++◌, length, Option, Some, None, refl, sym, ap, ◌∙◌, subst, Bor, length-append, append-nil, arith}
+use Rattle.std.proofs.Common.{◌≡◌, ℕ, ◌≤◌, List, [], ◌∷◌, ◌++◌, length, Option, Some, None, refl, sym, ap, ◌∙◌, subst, Bor, length-append, append-nil, arith}
 use Rattle.std.proofs.Common.{◌≡◌, ℕ, ◌≤◌, List, [], ◌∷◌, ◌++◌, length, Option, Some, None, refl, sym, ap, ◌∙◌, subst, Bor, length-append, append-nil, arith}
 use Rattle.std.specs.Prelude.{is_some, IsSome, MatchOption, if◌then◌else◌}
 use Rattle.std.specs.Option.{option_map, option_and_then, option_copied, option_to_list}

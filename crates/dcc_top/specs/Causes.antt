@@ -1,14 +1,13 @@
 -- When each status comes, and what it says.
-use Rattle.std.specs.Prelude.{◌≡◌, ◌⊎◌, ℕ, List, [], ◌∷◌, ◌++◌, Option, Some, None, Contains}
-use Rattle.dcc_io.specs.Told.{WhenTold, append_told, AppendsProperPrefix}
-use Rattle.dcc_prog.specs.MzImage.{FormatFault, IsFirstFault}
+use Rattle.std.specs.Prelude.{◌≡◌, ◌⊎◌, ℕ, List, [], ◌∷◌, ◌++◌, Option, Some, None}
+use Rattle.dcc_io.specs.Told.{append_told, AppendsProperPrefix}
 use Rattle.dcc_mz.specs.declared.fault.MzFault.{MzFault}
 use Rattle.dcc_mz.specs.Fault.{IsRefusal}
 use Rattle.dcc_run.specs.Prefix.{IsPrefix}
 use Rattle.dcc_top.specs.declared.reply.Reply.{Reply}
-use Rattle.dcc_top.specs.declared.reply.Reply.TheVariants.{NoFile, Memory, Format, NotYet, FileFault}
+use Rattle.dcc_top.specs.declared.reply.Reply.TheVariants.{Format, NotYet}
 use Rattle.dcc_top.specs.Words.{Job, Decompile, requests_of}
-use Rattle.dcc_top.specs.Answer.{Allows, line_of, due_of, Decompiles, StopsInFile, EndsInFile, ShelfHas}
+use Rattle.dcc_top.specs.Answer.{Allows, line_of, due_of, Decompiles, StopsInFile, ShelfHas}
 use Rattle.dcc_top.specs.Delivery.{Streams, Delivers}
 
 -- what the shelf tells of its files

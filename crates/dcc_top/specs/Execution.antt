@@ -1,6 +1,6 @@
 -- The run of an executable: what it puts out and takes, and how it ends.
-use Rattle.std.specs.Prelude.{◌≡◌, ℕ, suc, ◌<◌, List, ◌∷◌, Option, Some}
-use Rattle.dcc_io.specs.Told.{WhenTold, append_told, AppendsProperPrefix}
+use Rattle.std.specs.Prelude.{◌≡◌, ℕ, ◌<◌, List, ◌∷◌, Option, Some}
+use Rattle.dcc_io.specs.Told.{append_told, AppendsProperPrefix}
 use Rattle.dcc_run.specs.End.{End, Running, Exit, Divide, Outside}
 use Rattle.dcc_run.specs.System.{after, out_after, end_after}
 use Rattle.dcc_prog.specs.declared.image.Image.{Image}

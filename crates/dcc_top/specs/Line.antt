@@ -1,10 +1,10 @@
 -- The straight line of instructions from a program's entry, and where it stops.
-use Rattle.std.specs.Prelude.{◌≡◌, ◌≢◌, ℕ, ◌+◌, ◌-◌, ◌*◌, ◌/◌, ◌%◌, Bool, true, false, not, ◌&&◌, ◌==◌, nat_lt, if◌then◌else◌, List, [], ◌∷◌, ◌++◌, take, drop, Option, Some, None, option_and_then, option_map}
-use Rattle.dcc_num.specs.declared.Width.TheVariants.{Byte as byte_width, Word as word_width}
+use Rattle.std.specs.Prelude.{◌≡◌, ◌≢◌, ℕ, ◌+◌, ◌/◌, ◌%◌, Bool, true, false, not, ◌&&◌, ◌==◌, nat_lt, if◌then◌else◌, List, [], ◌∷◌, ◌++◌, drop, Option, Some, None, option_and_then, option_map}
+use Rattle.dcc_num.specs.declared.Width.TheVariants.{Word as word_width}
 use Rattle.dcc_num.specs.declared.Reg.{Reg}
-use Rattle.dcc_num.specs.declared.Reg.TheVariants.{Ax, Cx, Dx, Bx, Sp, Bp, Si, Di}
+use Rattle.dcc_num.specs.declared.Reg.TheVariants.{Ax, Sp, Bp}
 use Rattle.dcc_num.specs.declared.Half.{Half}
-use Rattle.dcc_num.specs.declared.Half.TheVariants.{Low, High}
+use Rattle.dcc_num.specs.declared.Half.TheVariants.{High}
 use Rattle.dcc_prog.specs.declared.instr.Alu.TheVariants.{Add, Sub}
 use Rattle.dcc_prog.specs.declared.instr.Operand.{Operand}
 use Rattle.dcc_prog.specs.declared.instr.Operand.TheVariants.{Word, Byte, Seg, Const}

@@ -5,7 +5,6 @@ use Rattle.dcc_num.specs.declared.Reg.TheVariants.{Ax, Cx, Dx, Bx, Sp, Bp, Si, D
 use Rattle.dcc_num.specs.declared.Half.{Half}
 use Rattle.dcc_num.specs.declared.Half.TheVariants.{Low, High}
 use Rattle.dcc_c.specs.declared.syntax.Base.TheVariants.{Uint}
-use Rattle.dcc_c.specs.declared.syntax.CBin.{CBin}
 use Rattle.dcc_c.specs.declared.syntax.CBin.TheVariants.{Or, And, Add, Sub}
 use Rattle.dcc_c.specs.declared.syntax.Class.TheVariants.{Plain}
 use Rattle.dcc_c.specs.Types.{plain}

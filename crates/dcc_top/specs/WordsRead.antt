@@ -1,5 +1,5 @@
 -- What the reader of the command line has read, as the parts of the words.
-use Rattle.std.specs.Prelude.{◌≡◌, ℕ, ◌≤◌, List, [], ◌∷◌, length, Option, Some, None, IfSome}
+use Rattle.std.specs.Prelude.{◌≤◌, length, Option, IfSome}
 use Rattle.std.specs.Prelude.{◌≤◌, length, Option, IfSome}
 use Rattle.std.specs.Option.{option_copied, option_to_list}
 use Rattle.dcc_top.specs.declared.words.Job.{Job as ReadJob}

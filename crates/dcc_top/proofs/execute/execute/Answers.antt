@@ -1,4 +1,4 @@
-use Rattle.std.proofs.Common.{arith, sym, ◌∙◌}
+use Rattle.std.proofs.Common.{arith}
 use Rattle.dcc_prog.proofs.MzImageLaws.{length-loaded}
 use Rattle.dcc_top.proofs.ExecuteLaws.{run-finishes}
 use Rattle.dcc_top.proofs.execute.execute.Goals as goal

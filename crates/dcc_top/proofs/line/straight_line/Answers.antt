@@ -1,5 +1,5 @@
-use Rattle.std.proofs.Common.{◌≡◌, ◌+◌, ◌∙◌, sym, ap, arith}
-use Rattle.dcc_top.proofs.LineLaws.{line-starts, line-goes_on, line-ends, built-inside}
+use Rattle.std.proofs.Common.{◌+◌, sym, ap, arith}
+use Rattle.dcc_top.proofs.LineLaws.{line-starts, line-goes_on, built-inside}
 use Rattle.dcc_top.proofs.line.straight_line.Goals as goal
 
 pub loop-built-init : goal.loop-built-init

@@ -1,10 +1,10 @@
-use Rattle.std.proofs.Common.{◌≡◌, ℕ, List, [], ◌∷◌, map, string_bytes, sym, ap, ◌∙◌, arith}
+use Rattle.std.proofs.Common.{map, string_bytes, ap, ◌∙◌, arith}
 use Rattle.std.proofs.Common.{map, string_bytes, ap, ◌∙◌, arith}
 use Rattle.std.proofs.lemmas.List.{length-map, nil_from_length}
 use Rattle.std.specs.Option.{option_copied, option_to_list}
 use Rattle.dcc_top.specs.Words.{kind_of}
 use Rattle.dcc_top.specs.WordsRead.{parts_read}
-use Rattle.dcc_top.proofs.WordsLaws.{step-word, stop-word, step-given, step-named, stop-missing, stop-unknown, all-answer, all-read, some-file, stop-given, stop-named}
+use Rattle.dcc_top.proofs.WordsLaws.{step-word, stop-word, step-given, step-named, stop-missing, stop-unknown, all-answer, all-read, some-file, stop-named}
 use Rattle.dcc_top.proofs.WordsLaws.{step-word, stop-word, step-given, step-named, stop-missing, stop-unknown, all-answer, all-read, some-file, stop-named}
 use Rattle.dcc_top.proofs.words.found_in.Goals as goal
 
