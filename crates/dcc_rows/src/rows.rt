@@ -3,5 +3,6 @@
 
 mod answers;
 mod files;
+mod runs;
 mod statements;
 mod texts;

@@ -1,22 +1,23 @@
--- What the answers for an image and for a file say.
-use Rattle.std.proofs.Common.{◌≡◌, ℕ, ◌-◌, ◌*◌, true, List, length, take, drop, Option, Some, None, refl, sym, ap, ◌∙◌, subst}
+-- What the answers for an image say of its file.
+use Rattle.std.proofs.Common.{◌≡◌, ℕ, ◌-◌, ◌*◌, true, List, [], length, take, drop, Option, Some, None, refl, sym, ap, ◌∙◌, subst}
 use Rattle.std.specs.List.{list_all}
-use Rattle.dcc_mz.specs.declared.fault.MzFault.{MzFault}
-use Rattle.dcc_mz.specs.Fault.{fault_of}
+use Rattle.dcc_io.proofs.ToldLemmas.{append_told-nil}
 use Rattle.dcc_prog.specs.declared.image.Image.{Image}
-use Rattle.dcc_prog.specs.MzImage.{IsImageOf, FormatFault, IsFirstFault}
+use Rattle.dcc_prog.specs.Machine.{start_state}
+use Rattle.dcc_prog.specs.MzImage.{IsImageOf}
 use Rattle.dcc_prog.specs.Code.{code_of}
 use Rattle.dcc_prog.proofs.TableLaws.{and_both}
 use Rattle.dcc_c.specs.Written.{written}
 use Rattle.dcc_top.specs.declared.form.Form.{Form}
 use Rattle.dcc_top.specs.declared.reply.Reply.{Reply}
-use Rattle.dcc_top.specs.declared.reply.Reply.TheVariants.{Done, Usage, NoFile, FileFault, Memory, Format, NotYet}
+use Rattle.dcc_top.specs.declared.reply.Reply.TheVariants.{Done, Exited, Usage, NoFile, FileFault, InputFault, Memory, Format, NotYet, Unfinished, Divided, Outside}
 use Rattle.dcc_top.specs.Line.{Ends, StopsAt}
 use Rattle.dcc_top.specs.LineText.{fits_form, tree_of}
 use Rattle.dcc_top.specs.Agreement.{Agrees, RunsAgree}
-use Rattle.dcc_top.specs.Answer.{StopsInFile, EndsInFile, AllowsForImage, AllowsForBytes, TellsStop, TellsDone, IsExact}
+use Rattle.dcc_top.specs.Words.{Job, Decompile}
+use Rattle.dcc_top.specs.Causes.{HasReply}
+use Rattle.dcc_top.specs.Answer.{Files, OfFile, HasNoImage, AllowsForImage, AllowsText}
 use Rattle.dcc_top.proofs.LineRun.{Goes, leaves, goes, goes-from_ends, built-from, op-fits}
-use Rattle.dcc_top.proofs.LineLaws.{ends-not_stops, stops-once}
 use Rattle.dcc_top.proofs.LineAgrees.{line-agrees}
 use Rattle.dcc_top.proofs.LineStands.{text_of_line}
 
@@ -49,70 +50,74 @@ same-code file a b p q =
     ∙ ap (λ l. take b.code_len (drop ((b.cs - 0x0110) * 16) l)) (p.bytes ∙ sym q.bytes)
 
 -- a line that ends in one image of the file ends in another
-ends-moved : (file : List ℕ) (a b : Image) (forms : List Form) → IsImageOf file a → IsImageOf file b → Ends (code_of a) a.ip forms → Ends (code_of b) b.ip forms
+pub ends-moved : (file : List ℕ) (a b : Image) (forms : List Form) → IsImageOf file a → IsImageOf file b → Ends (code_of a) a.ip forms → Ends (code_of b) b.ip forms
 ends-moved file a b forms p q e =
     let ip : a.ip ≡ b.ip = p.ip ∙ sym q.ip in
     subst (λ n. Ends (code_of b) n forms) ip (subst (λ c. Ends c a.ip forms) (same-code file a b p q) e)
 
-stops-moved : (file : List ℕ) (a b : Image) (named : ℕ) → IsImageOf file a → IsImageOf file b → StopsAt (code_of a) a.ip named → StopsAt (code_of b) b.ip named
+pub stops-moved : (file : List ℕ) (a b : Image) (named : ℕ) → IsImageOf file a → IsImageOf file b → StopsAt (code_of a) a.ip named → StopsAt (code_of b) b.ip named
 stops-moved file a b named p q s =
     let ip : a.ip ≡ b.ip = p.ip ∙ sym q.ip in
     subst (λ n. StopsAt (code_of b) n named) ip (subst (λ c. StopsAt c a.ip named) (same-code file a b p q) s)
 
--- what is allowed for an image is allowed for its file
-pub bytes-from_image : (file : List ℕ) (image : Image) (reply : Reply) → IsImageOf file image → AllowsForImage image reply → AllowsForBytes file reply
-bytes-from_image file image (Done text) is h = record {
-  image = image;
-  is_image = is;
-  forms = h.0;
-  ends = h.1;
-  written_is = h.2;
-  agrees = subst (λ t. Agrees file t) (sym h.2) (line-decompiles file image h.0 is h.1);
+-- two images of one file begin in the same state
+pub same-start : (file : List ℕ) (a b : Image) (input : List ℕ) → IsImageOf file a → IsImageOf file b → start_state a input ≡ start_state b input
+same-start file a b input p q =
+    let bytes : a.bytes.items ≡ b.bytes.items = p.bytes ∙ sym q.bytes in
+    let cs : a.cs ≡ b.cs = p.cs ∙ sym q.cs in
+    let ip : a.ip ≡ b.ip = p.ip ∙ sym q.ip in
+    let ss : a.ss ≡ b.ss = p.ss ∙ sym q.ss in
+    let sp : a.sp ≡ b.sp = p.sp ∙ sym q.sp in
+    cc
+
+-- what is allowed for an image is allowed for the file that it is the image of
+pub text-of_image : (told : Files) (name : List ℕ) (image : Image) (reply : Reply) → OfFile told name (λ file. IsImageOf file image) → AllowsForImage image reply → AllowsText told name reply
+text-of_image told name image (Done text) f h = record {
+  file = f.file;
+  has = f.has;
+  holds = record {
+    image = image;
+    is_image = f.holds;
+    forms = h.0;
+    ends = h.1;
+    written_is = h.2;
+    agrees = subst (λ t. Agrees f.file t) (sym h.2) (line-decompiles f.file image h.0 f.holds h.1);
+  };
 }
-bytes-from_image file image Usage is h = h
-bytes-from_image file image NoFile is h = h
-bytes-from_image file image FileFault is h = h
-bytes-from_image file image Memory is h = h
-bytes-from_image file image (Format fault) is h = absurd h
-bytes-from_image file image (NotYet at) is h = record { image = image; is_image = is; stops = h }
+text-of_image told name image (Exited code) f h = h
+text-of_image told name image Usage f h = h
+text-of_image told name image NoFile f h = absurd h
+text-of_image told name image FileFault f h = tt
+text-of_image told name image InputFault f h = h
+text-of_image told name image Memory f h = tt
+text-of_image told name image (Format fault) f h = absurd h
+text-of_image told name image (NotYet at) f h =
+    record { file = f.file; has = f.has; holds = record { image = image; is_image = f.holds; stops = h } }
+text-of_image told name image (Unfinished steps) f h = h
+text-of_image told name image Divided f h = h
+text-of_image told name image (Outside at) f h = h
 
-stop-told : (file : List ℕ) (image : Image) (reply : Reply) (named : ℕ) → IsImageOf file image → AllowsForImage image reply → StopsInFile file named → TellsStop named reply
-stop-told file image (Done text) named is h s =
-    absurd (ends-not_stops (code_of image) image.ip named h.0 h.1 (stops-moved file s.image image named s.is_image is s.stops))
-stop-told file image Usage named is h s = h
-stop-told file image NoFile named is h s = h
-stop-told file image FileFault named is h s = tt
-stop-told file image Memory named is h s = tt
-stop-told file image (Format fault) named is h s = h
-stop-told file image (NotYet at) named is h s =
-    stops-once (code_of image) image.ip at named h (stops-moved file s.image image named s.is_image is s.stops)
+-- why there is no image of the file is an answer for its text
+pub text-of_no_image : (told : Files) (name : List ℕ) (reply : Reply) → HasNoImage told name reply → AllowsText told name reply
+text-of_no_image told name (Done text) h = absurd h
+text-of_no_image told name (Exited code) h = h
+text-of_no_image told name Usage h = h
+text-of_no_image told name NoFile h = h
+text-of_no_image told name FileFault h = h
+text-of_no_image told name InputFault h = h
+text-of_no_image told name Memory h = h
+text-of_no_image told name (Format fault) h = h
+text-of_no_image told name (NotYet at) h = absurd h
+text-of_no_image told name (Unfinished steps) h = h
+text-of_no_image told name Divided h = h
+text-of_no_image told name (Outside at) h = h
 
-done-told : (file : List ℕ) (image : Image) (reply : Reply) → IsImageOf file image → AllowsForImage image reply → EndsInFile file → TellsDone reply
-done-told file image (Done text) is h e = tt
-done-told file image Usage is h e = h
-done-told file image NoFile is h e = h
-done-told file image FileFault is h e = tt
-done-told file image Memory is h e = tt
-done-told file image (Format fault) is h e = h
-done-told file image (NotYet at) is h e =
-    ends-not_stops (code_of image) image.ip at e.forms (ends-moved file e.image image e.forms e.is_image is e.ends) h
+-- the answer of words that are no command
+pub usage-reply : (told : Files) (job : Option Job) (left out : Option (List ℕ)) → job ≡ None → HasReply told job left left out out Usage
+usage-reply told job left out none =
+    subst (λ j. HasReply told j left left out out Usage) (sym none) (record { output = []; wrote = sym (append_told-nil out); allowed = (refl, (refl, refl)) })
 
--- the answer for an image is the one that the file asks for
-pub exact-from_image : (file : List ℕ) (image : Image) (reply : Reply) → IsImageOf file image → ((fault : FormatFault) → IsFirstFault file fault → ⊥) → AllowsForImage image reply → IsExact file reply
-exact-from_image file image reply is none h = record {
-  format = λ fault f. absurd (none fault f);
-  stops = λ named s. stop-told file image reply named is h s;
-  done = λ e. done-told file image reply is h e;
-}
-
--- where memory ran out, the answer is what anything asks for
-pub exact-memory : (file : List ℕ) → IsExact file Memory
-exact-memory file = record { format = λ fault f. tt; stops = λ named s. tt; done = λ e. tt }
-
--- the answer for a file without an image
-pub exact-format : (file : List ℕ) (fault : MzFault) → ((known : FormatFault) → IsFirstFault file known → fault_of fault ≡ Some known) → ((image : Image) → IsImageOf file image → ⊥) → IsExact file (Format fault)
-exact-format file fault told none = record {
-  format = told;
-  stops = λ named s. absurd (none s.image s.is_image);
-  done = λ e. absurd (none e.image e.is_image);
-}
+-- the answer of `c`, which has written nothing itself
+pub text-reply : (told : Files) (job : Option Job) (name : List ℕ) (left out : Option (List ℕ)) (reply : Reply) → job ≡ Some (Decompile name) → AllowsText told name reply → HasReply told job left left out out reply
+text-reply told job name left out reply named allowed =
+    subst (λ j. HasReply told j left left out out reply) (sym named) (record { output = []; wrote = sym (append_told-nil out); allowed = (allowed, (refl, refl)) })

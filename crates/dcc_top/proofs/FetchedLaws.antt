@@ -1,17 +1,14 @@
--- From what the shelf answers to what the program answers.
-use Rattle.std.proofs.Common.{◌≡◌, ℕ, ◌<◌, ◌≤◌, List, [], ◌∷◌, ◌++◌, length, Option, Some, None, refl, sym, ap, ◌∙◌, subst, arith, length-append}
-use Rattle.std.specs.Prelude.{take, string_bytes}
+-- From what the shelf answers to the image or to why there is none.
+use Rattle.std.proofs.Common.{◌≡◌, ℕ, ◌<◌, ◌≤◌, List, [], ◌∷◌, ◌++◌, length, Some, None, refl, subst, arith, length-append}
+use Rattle.std.specs.Prelude.{take, Result, Ok, Err, IfOk, IfErr}
 use Rattle.dcc_io.specs.Told.{WhenTold}
 use Rattle.dcc_mz.specs.declared.fault.MzFault.TheVariants.{TooLarge}
 use Rattle.dcc_mz.specs.Fault.{IsRefusal}
-use Rattle.dcc_prog.specs.MzImage.{too_large, IsFirstFault}
-use Rattle.dcc_prog.proofs.MzImageLaws.{one_fault, not_both}
+use Rattle.dcc_prog.specs.declared.image.Image.{Image}
+use Rattle.dcc_prog.specs.MzImage.{IsImageOf}
 use Rattle.dcc_top.specs.declared.reply.Reply.{Reply}
-use Rattle.dcc_top.specs.declared.reply.Reply.TheVariants.{Done, Usage, NoFile, FileFault, Memory, Format, NotYet}
-use Rattle.dcc_top.specs.Answer.{Decompiles, StopsInFile, OfFile, AllowsForBytes, AllowsForFile, IsExact, TellsMissing}
-use Rattle.dcc_top.specs.Words.{Job, Decompile}
-use Rattle.dcc_top.specs.Causes.{Files, Names}
-use Rattle.dcc_top.proofs.AnswerLaws.{exact-format}
+use Rattle.dcc_top.specs.declared.reply.Reply.TheVariants.{Done, Exited, Usage, NoFile, FileFault, InputFault, Memory, Format, NotYet, Unfinished, Divided, Outside}
+use Rattle.dcc_top.specs.Answer.{Files, OfFile, FailsCheck, HasNoImage}
 
 -- the shelf gave all of the file
 abbrev pub GaveWhole : Files → List ℕ → ℕ → List ℕ → Type 0
@@ -22,37 +19,32 @@ abbrev pub GaveFront : Files → List ℕ → ℕ → List ℕ → Type 0
 GaveFront told name most given =
     WhenTold told (λ files. (bytes : List ℕ) × (files name ≡ Some bytes) × (most < length bytes) × (given ≡ take most bytes))
 
-of-whole : (told : Files) (name given : List ℕ) (most : ℕ) (P : List ℕ → Type 0) → GaveWhole told name most given → P given → OfFile told name P
+pub of-whole : (told : Files) (name given : List ℕ) (most : ℕ) (P : List ℕ → Type 0) → GaveWhole told name most given → P given → OfFile told name P
 of-whole told name given most P gave p = record { file = given; has = λ files e. (gave files e).0; holds = p }
 
-pub whole-allowed : (told : Files) (name given : List ℕ) (most : ℕ) (reply : Reply) → GaveWhole told name most given → AllowsForBytes given reply → AllowsForFile told name reply
-whole-allowed told name given most (Done text) gave h =
-    of-whole told name given most (λ file. Decompiles file (string_bytes text)) gave h
-whole-allowed told name given most Usage gave h = h
-whole-allowed told name given most NoFile gave h = absurd h
-whole-allowed told name given most FileFault gave h = tt
-whole-allowed told name given most Memory gave h = tt
-whole-allowed told name given most (Format fault) gave h =
+-- why the bytes that were given have no image is why the file of the name has none
+pub no_image-of_whole : (told : Files) (name given : List ℕ) (most : ℕ) (reply : Reply) → GaveWhole told name most given → FailsCheck given reply → HasNoImage told name reply
+no_image-of_whole told name given most (Done text) gave h = h
+no_image-of_whole told name given most (Exited code) gave h = h
+no_image-of_whole told name given most Usage gave h = h
+no_image-of_whole told name given most NoFile gave h = absurd h
+no_image-of_whole told name given most FileFault gave h = tt
+no_image-of_whole told name given most InputFault gave h = h
+no_image-of_whole told name given most Memory gave h = tt
+no_image-of_whole told name given most (Format fault) gave h =
     of-whole told name given most (λ file. IsRefusal file fault) gave h
-whole-allowed told name given most (NotYet at) gave h =
-    of-whole told name given most (λ file. StopsInFile file at) gave h
+no_image-of_whole told name given most (NotYet at) gave h = h
+no_image-of_whole told name given most (Unfinished steps) gave h = h
+no_image-of_whole told name given most Divided gave h = h
+no_image-of_whole told name given most (Outside at) gave h = h
 
-pub whole-exact : (told : Files) (name given : List ℕ) (most : ℕ) (reply : Reply) → GaveWhole told name most given → IsExact given reply → WhenTold told (λ files. (file : List ℕ) → files name ≡ Some file → IsExact file reply)
-whole-exact told name given most reply gave h files e file f =
-    let both : Some given ≡ Some file = sym (gave files e).0 ∙ f in
-    let same : given ≡ file = cc in
-    subst (λ l. IsExact l reply) same h
-
-pub whole-missing : (told : Files) (name given : List ℕ) (most : ℕ) (reply : Reply) → GaveWhole told name most given → WhenTold told (λ files. files name ≡ None → TellsMissing reply)
-whole-missing told name given most reply gave files e f = let both = sym (gave files e).0 ∙ f in cc
-
-pub front-allowed : (told : Files) (name given : List ℕ) → GaveFront told name 262144 given → length given ≡ 262144 → AllowsForFile told name (Format TooLarge)
-front-allowed None name given gave len = record {
+pub no_image-of_front : (told : Files) (name given : List ℕ) → GaveFront told name 262144 given → length given ≡ 262144 → HasNoImage told name (Format TooLarge)
+no_image-of_front None name given gave len = record {
   file = given ++ 0 ∷ [];
   has = λ files e. cc;
   holds = λ small. omega (arith, length-append given (0 ∷ []), len, small);
 }
-front-allowed (Some files) name given gave len =
+no_image-of_front (Some files) name given gave len =
     let h = gave files refl in
     record {
       file = h.0;
@@ -60,23 +52,11 @@ front-allowed (Some files) name given gave len =
       holds = λ small. omega (arith, h.2, small);
     }
 
-pub front-exact : (told : Files) (name given : List ℕ) → GaveFront told name 262144 given → WhenTold told (λ files. (file : List ℕ) → files name ≡ Some file → IsExact file (Format TooLarge))
-front-exact told name given gave files e file f =
-    let h = gave files e in
-    let both : Some h.0 ≡ Some file = sym h.1 ∙ f in
-    let same : h.0 ≡ file = cc in
-    let large : IsFirstFault file too_large = subst (λ l. IsFirstFault l too_large) same (λ small. omega (arith, h.2, small)) in
-    exact-format file TooLarge (λ known first. ap Some (one_fault file too_large known large first)) (λ image is. not_both file image too_large is large)
+-- the image of the bytes that were given is that of the file of the name
+pub image-of_whole : (told : Files) (name given : List ℕ) (most : ℕ) (result : Result Image Reply) → GaveWhole told name most given → IfOk result (IsImageOf given) → IfOk result (λ image. OfFile told name (λ file. IsImageOf file image))
+image-of_whole told name given most (Ok image) gave h = of-whole told name given most (λ file. IsImageOf file image) gave h
+image-of_whole told name given most (Err reply) gave h = h
 
-pub front-missing : (told : Files) (name given : List ℕ) → GaveFront told name 262144 given → WhenTold told (λ files. files name ≡ None → ⊥)
-front-missing told name given gave files e f = let both = sym (gave files e).1 ∙ f in cc
-
-pub absent-exact : (told : Files) (name : List ℕ) → WhenTold told (λ files. files name ≡ None) → WhenTold told (λ files. (file : List ℕ) → files name ≡ Some file → IsExact file NoFile)
-absent-exact told name gave files e file f = let both = sym (gave files e) ∙ f in cc
-
--- the name in the words is the one that was fetched
-pub named-exact : (told : Files) (job : Option Job) (name : List ℕ) (reply : Reply) → job ≡ Some (Decompile name) → WhenTold told (λ files. (file : List ℕ) → files name ≡ Some file → IsExact file reply) → (file : List ℕ) → Names told job file → IsExact file reply
-named-exact told job name reply is exact file n =
-    let both : Some (Decompile n.name) ≡ Some (Decompile name) = sym n.named ∙ is in
-    let same : n.name ≡ name = cc in
-    exact n.files n.tells file (ap n.files (sym same) ∙ n.has)
+pub refused-of_whole : (told : Files) (name given : List ℕ) (most : ℕ) (result : Result Image Reply) → GaveWhole told name most given → IfErr result (FailsCheck given) → IfErr result (HasNoImage told name)
+refused-of_whole told name given most (Ok image) gave h = h
+refused-of_whole told name given most (Err reply) gave h = no_image-of_whole told name given most reply gave h

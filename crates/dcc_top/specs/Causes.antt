@@ -1,41 +1,78 @@
 -- When each status comes, and what it says.
 use Rattle.std.specs.Prelude.{◌≡◌, ◌⊎◌, ℕ, List, [], ◌∷◌, ◌++◌, Option, Some, None}
+use Rattle.dcc_io.specs.Count.{Rose}
 use Rattle.dcc_io.specs.Told.{append_told, AppendsProperPrefix}
 use Rattle.dcc_mz.specs.declared.fault.MzFault.{MzFault}
 use Rattle.dcc_mz.specs.Fault.{IsRefusal}
+use Rattle.dcc_run.specs.End.{End, Running, Exit, Divide, Outside, Stuck}
 use Rattle.dcc_run.specs.Prefix.{IsPrefix}
 use Rattle.dcc_top.specs.declared.reply.Reply.{Reply}
-use Rattle.dcc_top.specs.declared.reply.Reply.TheVariants.{Format, NotYet}
-use Rattle.dcc_top.specs.Words.{Job, Decompile, requests_of}
-use Rattle.dcc_top.specs.Answer.{Allows, line_of, due_of, Decompiles, StopsInFile, ShelfHas}
-use Rattle.dcc_top.specs.Delivery.{Streams, Delivers}
+use Rattle.dcc_top.specs.declared.reply.Reply.TheVariants.{Memory, Format, NotYet}
+use Rattle.dcc_top.specs.Words.{Job, Decompile, Execute, file_of, requests_of}
+use Rattle.dcc_top.specs.Answer.{Files, Allows, IsDue, Decompiles, StopsInFile, RunsFile, ShelfHas, ShelfLacks, status_of, line_of, text_in}
+use Rattle.dcc_top.specs.Delivery.{Streams, TellsLine, BreaksOff}
 
--- what the shelf tells of its files
-abbrev pub Files : Type 0
-Files = Option (List ℕ → Option (List ℕ))
+-- What a call comes to, from the input that was left before to that which is left. An answer that is allowed for the job
+-- was told, behind all that is due; or its line found no memory, and that was told in its place; or a write of what is due
+-- failed, and a part of it is there.
+pub data IsAnswered (told : Files) (job : Option Job) (before left : Option (List ℕ)) (status : ℕ) (out_failed err_failed : Type 0) (s : Streams) : Type 0 where
+  answered : (reply : Reply) (output : List ℕ) → Allows told job before left reply output → s.out_after ≡ append_told s.out_before (output ++ text_in reply) → TellsLine (line_of reply) (status_of reply) status err_failed s → IsAnswered told job before left status out_failed err_failed s
+  found_no_memory : (reply : Reply) (output : List ℕ) → Allows told job before left reply output → s.out_after ≡ append_told s.out_before output → TellsLine (line_of Memory) (status_of Memory) status err_failed s → IsAnswered told job before left status out_failed err_failed s
+  broke_off : (due : List ℕ) → IsDue told job before due → BreaksOff due status out_failed s → IsAnswered told job before left status out_failed err_failed s
 
--- some answer that is allowed for the job was delivered
-pub record IsAnswered (told : Files) (job : Option Job) (status : ℕ) (s : Streams) : Type 0 where
-  pub reply : Reply
-  pub allowed : Allows told job reply
-  pub delivered : Delivers reply status s
+-- the job has its answer, behind the output that it has written itself by then
+pub record HasReply (told : Files) (job : Option Job) (before left out_before out_after : Option (List ℕ)) (reply : Reply) : Type 0 where
+  pub output : List ℕ
+  pub wrote : out_after ≡ append_told out_before output
+  pub allowed : Allows told job before left reply output
 
--- The text that was appended to the output is that of the file which the words name: it stands for a tree, and agrees with the file.
-pub record HasText (told : Files) (job : Option Job) (s : Streams) : Type 0 where
-  pub name : List ℕ
+-- a write of what is due failed while the job ran
+pub record IsCutShort (told : Files) (job : Option Job) (before out_before out_after : Option (List ℕ)) : Type 0 where
+  pub due : List ℕ
+  pub is_due : IsDue told job before due
+  pub part : AppendsProperPrefix out_before out_after due
+
+-- The text that was appended to the output is that of the file of this name: it stands for a tree, and agrees with the file.
+pub record HasText (told : Files) (name : List ℕ) (s : Streams) : Type 0 where
   pub file : List ℕ
   pub text : List ℕ
-  pub named : job ≡ Some (Decompile name)
   pub has : ShelfHas told name file
   pub appended : s.out_after ≡ append_told s.out_before text
   pub decompiles : Decompiles file text
+
+-- The file of the words was run: its output was appended, the line tells how it finished, and the input has lost what it took.
+pub record HasRunFile (told : Files) (job : Option Job) (before left : Option (List ℕ)) (status : ℕ) (s : Streams) : Type 0 where
+  pub name : List ℕ
+  pub steps : ℕ
+  pub file : List ℕ
+  pub reply : Reply
+  pub output : List ℕ
+  pub named : job ≡ Some (Execute name steps)
+  pub has : ShelfHas told name file
+  pub ran : RunsFile file steps before left reply output
+  pub status_is : status ≡ status_of reply
+  pub appended : s.out_after ≡ append_told s.out_before output
+  pub line : s.err_after ≡ append_told s.err_before (line_of reply)
+
+-- the shelf found no file of the name in the words: it has none, and its absences rose
+pub record IsAbsent (told : Files) (job : Option Job) (before after : ℕ) : Type 0 where
+  pub name : List ℕ
+  pub named : file_of job ≡ Some name
+  pub lacks : ShelfLacks told name
+  pub rose : Rose before after
+
+-- the shelf could not give the file of the words, and its faults rose
+pub record IsUnreadable (job : Option Job) (before after : ℕ) : Type 0 where
+  pub name : List ℕ
+  pub named : file_of job ≡ Some name
+  pub rose : Rose before after
 
 -- the file that the words name fails a check, and the line tells the first one with its place
 pub record HasFormatFault (told : Files) (job : Option Job) (s : Streams) : Type 0 where
   pub name : List ℕ
   pub file : List ℕ
   pub fault : MzFault
-  pub named : job ≡ Some (Decompile name)
+  pub named : file_of job ≡ Some name
   pub has : ShelfHas told name file
   pub first : IsRefusal file fault
   pub line : s.err_after ≡ append_told s.err_before (line_of (Format fault))
@@ -54,14 +91,30 @@ pub record HasStop (told : Files) (job : Option Job) (s : Streams) : Type 0 wher
 pub record Names (told : Files) (job : Option Job) (file : List ℕ) : Type 0 where
   pub name : List ℕ
   pub files : List ℕ → Option (List ℕ)
-  pub named : job ≡ Some (Decompile name)
+  pub named : file_of job ≡ Some name
   pub tells : told ≡ Some files
   pub has : files name ≡ Some file
+
+-- the shelf tells that it has no file under the name of the words
+pub record IsMissing (told : Files) (job : Option Job) : Type 0 where
+  pub name : List ℕ
+  pub files : List ℕ → Option (List ℕ)
+  pub named : file_of job ≡ Some name
+  pub tells : told ≡ Some files
+  pub lacks : files name ≡ None
 
 -- the status is one of these
 abbrev pub IsOneOf : ℕ → List ℕ → Type 0
 IsOneOf status [] = ⊥
 IsOneOf status (n ∷ ns) = (status ≡ n) ⊎ IsOneOf status ns
+
+-- the status of a run that has ended so
+abbrev pub end_status : End → ℕ
+end_status Running = 20
+end_status (Exit code) = 0
+end_status Divide = 21
+end_status (Outside at) = 22
+end_status (Stuck line) = 24
 
 -- what joined the list of requests is a prefix of what the job asks for
 abbrev pub AsksPrefix : Option Job → List (List ℕ × ℕ) → List (List ℕ × ℕ) → Type 0
@@ -71,17 +124,26 @@ AsksPrefix job before after = (asked : List (List ℕ × ℕ)) × IsPrefix asked
 abbrev pub AsksAll : Option Job → List (List ℕ × ℕ) → List (List ℕ × ℕ) → Type 0
 AsksAll job before after = after ≡ before ++ requests_of job
 
--- What is written where a write failed. Either a part of what is due was written, and nothing on the error stream;
--- or all that is due, and a part of the line of an answer that is allowed.
-pub record IsCutOff (told : Files) (job : Option Job) (s : Streams) : Type 0 where
+-- what is written where memory ran out: the output of the job itself, as far as it came, and the line that says so
+pub record IsOutOfMemory (told : Files) (job : Option Job) (before left : Option (List ℕ)) (s : Streams) : Type 0 where
   pub reply : Reply
-  pub allowed : Allows told job reply
-  pub cut : (AppendsProperPrefix s.out_before s.out_after (due_of reply) × (s.err_after ≡ s.err_before)) ⊎ ((s.out_after ≡ append_told s.out_before (due_of reply)) × AppendsProperPrefix s.err_before s.err_after (line_of reply))
+  pub output : List ℕ
+  pub allowed : Allows told job before left reply output
+  pub out : s.out_after ≡ append_told s.out_before output
+  pub line : s.err_after ≡ append_told s.err_before (line_of Memory)
 
--- the shelf tells that it has no file under the name of the words
-pub record IsMissing (told : Files) (job : Option Job) : Type 0 where
-  pub name : List ℕ
-  pub files : List ℕ → Option (List ℕ)
-  pub named : job ≡ Some (Decompile name)
-  pub tells : told ≡ Some files
-  pub lacks : files name ≡ None
+-- A write to the error stream failed: a part of what is due on the output is there, or all of it, and a part of the line
+-- of an answer that is allowed; want of memory may be told in the place of any.
+pub record IsCutInLine (told : Files) (job : Option Job) (before left : Option (List ℕ)) (s : Streams) : Type 0 where
+  pub reply : Reply
+  pub output : List ℕ
+  pub allowed : Allows told job before left reply output
+  pub front : List ℕ
+  pub is_front : IsPrefix front (output ++ text_in reply)
+  pub out : s.out_after ≡ append_told s.out_before front
+  pub err : AppendsProperPrefix s.err_before s.err_after (line_of reply) ⊎ AppendsProperPrefix s.err_before s.err_after (line_of Memory)
+
+-- What is written where a write failed: a part of what is due, and nothing on the error stream; or a part of the line.
+abbrev pub IsCutOff : Files → Option Job → Option (List ℕ) → Option (List ℕ) → ℕ → Type 0 → Type 0 → Streams → Type 0
+IsCutOff told job before left status out_failed err_failed s =
+    ((due : List ℕ) × IsDue told job before due × BreaksOff due status out_failed s) ⊎ (IsCutInLine told job before left s × err_failed)

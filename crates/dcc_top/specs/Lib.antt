@@ -7,4 +7,3 @@ pub mod Answer
 pub mod Delivery
 pub mod Causes
 pub mod Execution
-pub mod Finished

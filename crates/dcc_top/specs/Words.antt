@@ -1,10 +1,8 @@
 -- The command line: which words name which job.
-use Rattle.std.specs.Prelude.{◌≡◌, ◌↔◌, ℕ, Bool, true, ◌&&◌, not, nat_le, nat_lt, ◌==◌, if◌then◌else◌, List, [], ◌∷◌, ◌++◌, length, codes, Option, Some, None, is_some}
+use Rattle.std.specs.Prelude.{◌≡◌, ◌↔◌, ℕ, Bool, true, ◌&&◌, not, nat_le, nat_lt, ◌==◌, if◌then◌else◌, List, [], ◌∷◌, ◌++◌, length, map, codes, Option, Some, None, is_some, String, string_bytes}
+use Rattle.std.specs.declared.alloc.Global.{Global}
 use Rattle.std.specs.List.{list_all, position_or_len, before_first, after_first}
-use Rattle.std.specs.Option.{option_map, option_and_then}
-use Rattle.std.specs.Prelude.{◌≡◌, ◌↔◌, ℕ, Bool, true, ◌&&◌, not, nat_le, nat_lt, ◌==◌, if◌then◌else◌, List, [], ◌∷◌, ◌++◌, length, codes, Option, Some, None, is_some}
-use Rattle.std.specs.List.{list_all, position_or_len, before_first, after_first}
-use Rattle.std.specs.Option.{option_map, option_and_then}
+use Rattle.std.specs.Option.{option_map, option_map_or, option_and_then}
 use Rattle.std.specs.Char.{is_ascii_digit}
 use Rattle.std.specs.Str.{bytes_eq}
 use Rattle.std.specs.Str.Parse.{digits_value}
@@ -165,11 +163,20 @@ job_of (word ∷ words) =
 abbrev pub AskForOneJob : Type 0
 AskForOneJob = (words : List (List ℕ)) (job : Job) → (job_of words ≡ Some job) ↔ AskFor words job
 
--- the job of a command that is built so far
-unfoldable pub built_job : Option Job → Option Job
-built_job None = None
-built_job (Some (Decompile file)) = Some (Decompile file)
-built_job (Some (Execute file steps)) = None
+-- the job of the words, as the program has them
+abbrev pub job_in : List (String Global) → Option Job
+job_in words = job_of (map string_bytes words)
+
+-- the file that a job names
+abbrev pub file_of : Option Job → Option (List ℕ)
+file_of None = None
+file_of (Some (Decompile file)) = Some file
+file_of (Some (Execute file steps)) = Some file
+
+-- the job is to run an executable
+abbrev pub IsExecution : Option Job → Type 0
+IsExecution (Some (Execute file steps)) = Unit {0}
+IsExecution _ = ⊥
 
 -- the greatest length of an executable that is fetched, in bytes
 abbrev pub greatest_file : ℕ
@@ -177,6 +184,4 @@ greatest_file = 262144
 
 -- what a job asks the shelf for: names, each with the greatest number of bytes
 abbrev pub requests_of : Option Job → List (List ℕ × ℕ)
-requests_of None = []
-requests_of (Some (Decompile file)) = (file, greatest_file) ∷ []
-requests_of (Some (Execute file steps)) = (file, greatest_file) ∷ []
+requests_of job = option_map_or (λ file. (file, greatest_file) ∷ []) (file_of job) []

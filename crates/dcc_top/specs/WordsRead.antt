@@ -1,6 +1,5 @@
 -- What the reader of the command line has read, as the parts of the words.
 use Rattle.std.specs.Prelude.{◌≤◌, length, Option, IfSome}
-use Rattle.std.specs.Prelude.{◌≤◌, length, Option, IfSome}
 use Rattle.std.specs.Option.{option_copied, option_to_list}
 use Rattle.dcc_top.specs.declared.words.Job.{Job as ReadJob}
 use Rattle.dcc_top.specs.declared.words.Job.TheVariants.{Decompile as ReadDecompile, Execute as ReadExecute}

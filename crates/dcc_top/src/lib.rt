@@ -4,6 +4,7 @@
 mod build;
 pub mod deliver;
 pub mod execute;
+pub mod fetch;
 pub mod form;
 pub mod line;
 pub mod reply;

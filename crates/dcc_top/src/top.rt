@@ -1,30 +1,32 @@
 //! The top call.
 
-ghost use Rattle.std.specs.Prelude.{◌≡◌, ◌≢◌, ◌⊎◌, ◌++◌, ◌∷◌, [], ℕ, List, Some, None, map, string_bytes};
+ghost use Rattle.std.specs.Prelude.{◌≡◌, ◌≢◌, ◌⊎◌, ◌≤◌, ◌∷◌, [], ℕ, List, Some, None, IfOk, OnErr, MatchResult};
 ghost use Rattle.dcc_io.specs.Count.{Rose};
-ghost use Rattle.dcc_io.specs.Told.{WhenTold, AppendsProperPrefix};
-ghost use Rattle.dcc_prog.specs.MzImage.{IsLoaded, FormatFault, IsFirstFault};
-ghost use Rattle.dcc_top.specs.declared.reply.Reply.TheVariants.{NoFile, FileFault, Memory};
-ghost use Rattle.dcc_top.specs.Words.{Decompile, built_job, job_of, greatest_file, requests_of};
-ghost use Rattle.dcc_top.specs.Answer.{AllowsForImage, AllowsForBytes, AllowsForFile, Allows, IsExact, TellsMissing, StopsInFile, EndsInFile, line_of};
+ghost use Rattle.dcc_io.specs.Told.{AppendsProperPrefix};
+ghost use Rattle.dcc_run.specs.System.{end_after};
+ghost use Rattle.dcc_prog.specs.declared.image.Image.{Image};
+ghost use Rattle.dcc_prog.specs.Machine.{start_state};
+ghost use Rattle.dcc_prog.specs.MzImage.{IsImageOf, IsLoaded, FormatFault, IsFirstFault};
+ghost use Rattle.dcc_prog.specs.Step.{machine_system};
+ghost use Rattle.dcc_top.specs.declared.reply.Reply.TheVariants.{NoFile, FileFault, InputFault, Memory};
+ghost use Rattle.dcc_top.specs.Words.{Decompile, Execute, IsExecution, job_in};
+ghost use Rattle.dcc_top.specs.Answer.{AllowsForImage, AllowsText, StopsInFile, EndsInFile, line_of};
 ghost use Rattle.dcc_top.specs.Delivery.{streams};
-ghost use Rattle.dcc_top.specs.Causes.{IsAnswered, HasText, HasFormatFault, HasStop, Names, IsOneOf, AsksPrefix, AsksAll, IsCutOff, IsMissing};
+ghost use Rattle.dcc_top.specs.Causes.{IsAnswered, HasReply, IsCutShort, HasText, HasRunFile, IsAbsent, IsUnreadable, HasFormatFault, HasStop, Names, IsMissing, IsOneOf, end_status, AsksPrefix, AsksAll, IsOutOfMemory, IsCutOff};
 
-use crate::deliver::answer;
+use crate::deliver::{WRITE_FAULT, answer};
+use crate::execute::execute;
+use crate::fetch::fetch_image;
 use crate::line::straight_line;
 use crate::reply::Reply;
 use crate::text::line_text;
-use crate::words::file_of;
-use dcc_io::{Fetched, Shelf, ShelfFault, Sink, Source};
-use dcc_mz::{MzFault, load};
+use crate::words::{Job, job_of};
+use dcc_io::{Failed, Shelf, Sink, Source};
 use dcc_prog::{Image, Refusal};
 use std::alloc::Global;
 
-/// The greatest length of an executable that is fetched, in bytes.
-const GREATEST_FILE: usize = 262_144;
-
-// The answer for the image of a file.
-fn image_reply(alloc: Global, image: &Image) -> Reply
+// The text of an image, or why there is none.
+fn text_of(alloc: Global, image: &Image) -> Reply
     requires { IsLoaded image.now }
     ensures { AllowsForImage image.now result }
 {
@@ -38,61 +40,80 @@ fn image_reply(alloc: Global, image: &Image) -> Reply
     }
 }
 
-// The answer for the bytes of a file.
-fn bytes_reply(alloc: Global, bytes: &Vec<u8>) -> Reply
-    ensures allowed { AllowsForBytes bytes.now.items result }
-    ensures exact { IsExact bytes.now.items result }
-{
-    match load(alloc, bytes) {
-        Ok(image) => image_reply(alloc, &image),
-        Err(MzFault::Memory) => Reply::Memory,
-        Err(fault) => Reply::Format(fault),
-    }
-}
-
-// The answer for the file of this name.
-fn file_reply<H: Shelf>(alloc: Global, name: &str, shelf: &mut H) -> Reply
-    ensures allowed { AllowsForFile (H.files shelf.old) name.now result }
-    ensures exact { WhenTold (H.files shelf.old) (λ files.
-        (file : List ℕ) → files name.now ≡ Some file → IsExact file result) }
-    ensures missing { WhenTold (H.files shelf.old) (λ files. files name.now ≡ None → TellsMissing result) }
-    ensures asked { result ≢ Memory → H.asked shelf.new ≡ H.asked shelf.old ++ (name.now, greatest_file) ∷ [] }
-    ensures asked_prefix { (H.asked shelf.new ≡ H.asked shelf.old ++ (name.now, greatest_file) ∷ [])
-        ⊎ (H.asked shelf.new ≡ H.asked shelf.old) }
+// The answer of `c` for the file of this name.
+fn text_reply<H: Shelf>(alloc: Global, name: &str, shelf: &mut H) -> Reply
+    ensures allowed { AllowsText (H.files shelf.old) name.now result }
+    ensures asked { (result ≡ Memory) ⊎ AsksAll (Some (Decompile name.now)) (H.asked shelf.old) (H.asked shelf.new) }
+    ensures asked_prefix { AsksPrefix (Some (Decompile name.now)) (H.asked shelf.old) (H.asked shelf.new) }
     ensures absent { result ≡ NoFile → Rose (H.absences shelf.old) (H.absences shelf.new) }
     ensures failed { result ≡ FileFault → Rose (H.faults shelf.old) (H.faults shelf.new) }
 {
-    let mut bytes = Vec::new(alloc);
-    match shelf.fetch(alloc, name, GREATEST_FILE, &mut bytes) {
-        Ok(Fetched::Whole) => bytes_reply(alloc, &bytes),
-        Ok(Fetched::Longer) => Reply::Format(MzFault::TooLarge),
-        Err(ShelfFault::Absent) => Reply::NoFile,
-        Err(ShelfFault::Failed) => Reply::FileFault,
-        Err(ShelfFault::Memory) => Reply::Memory,
+    match fetch_image(alloc, name, shelf) {
+        Ok(image) => text_of(alloc, &image),
+        Err(reply) => reply,
     }
 }
 
-// The answer for the words.
-fn words_reply<H: Shelf>(alloc: Global, words: &Vec<String>, shelf: &mut H) -> Reply
-    ensures allowed { Allows (H.files shelf.old) (built_job (job_of (map string_bytes words.now.items))) result }
-    ensures exact { (file : List ℕ) → Names (H.files shelf.old) (built_job (job_of (map string_bytes words.now.items))) file → IsExact file result }
-    ensures missing { IsMissing (H.files shelf.old) (built_job (job_of (map string_bytes words.now.items))) → TellsMissing result }
-    ensures asked { result ≢ Memory → AsksAll (built_job (job_of (map string_bytes words.now.items))) (H.asked shelf.old) (H.asked shelf.new) }
-    ensures asked_prefix { AsksPrefix (built_job (job_of (map string_bytes words.now.items))) (H.asked shelf.old) (H.asked shelf.new) }
-    ensures absent { result ≡ NoFile → Rose (H.absences shelf.old) (H.absences shelf.new) }
-    ensures failed { result ≡ FileFault → Rose (H.faults shelf.old) (H.faults shelf.new) }
+// The answer of `run` for the file of this name. The error is a failed write of what the program puts out.
+fn run_reply<H: Shelf, I: Source, O: Sink>(
+    alloc: Global,
+    name: &str,
+    steps: u64,
+    shelf: &mut H,
+    input: &mut I,
+    out: &mut O,
+) -> Result<Reply, Failed>
+    ensures allowed { IfOk result (HasReply (H.files shelf.old) (Some (Execute name.now steps)) (I.left input.old) (I.left input.new) (O.taken out.old) (O.taken out.new)) }
+    ensures broke_off { OnErr result (IsCutShort (H.files shelf.old) (Some (Execute name.now steps)) (I.left input.old) (O.taken out.old) (O.taken out.new)) }
+    ensures asked { MatchResult result (λ reply. (reply ≡ Memory) ⊎ AsksAll (Some (Execute name.now steps)) (H.asked shelf.old) (H.asked shelf.new)) (λ _. AsksAll (Some (Execute name.now steps)) (H.asked shelf.old) (H.asked shelf.new)) }
+    ensures asked_prefix { AsksPrefix (Some (Execute name.now steps)) (H.asked shelf.old) (H.asked shelf.new) }
+    ensures absent { IfOk result (λ reply. reply ≡ NoFile → Rose (H.absences shelf.old) (H.absences shelf.new)) }
+    ensures failed { IfOk result (λ reply. reply ≡ FileFault → Rose (H.faults shelf.old) (H.faults shelf.new)) }
+    ensures read_failed { IfOk result (λ reply. reply ≡ InputFault → Rose (I.faults input.old) (I.faults input.new)) }
+    ensures output_faults { O.faults out.old ≤ O.faults out.new }
+    ensures write_failed { OnErr result (Rose (O.faults out.old) (O.faults out.new)) }
 {
-    match file_of(words) {
-        Some(name) => file_reply(alloc, name, shelf),
-        None => Reply::Usage,
+    match fetch_image(alloc, name, shelf) {
+        Ok(image) => execute(alloc, &image, steps, input, out),
+        Err(reply) => Ok(reply),
+    }
+}
+
+// The answer for the words. The error is a failed write of what a program puts out that is run.
+fn reply_for<H: Shelf, I: Source, O: Sink>(
+    alloc: Global,
+    words: &Vec<String>,
+    shelf: &mut H,
+    input: &mut I,
+    out: &mut O,
+) -> Result<Reply, Failed>
+    ensures allowed { IfOk result (HasReply (H.files shelf.old) (job_in words.now.items) (I.left input.old) (I.left input.new) (O.taken out.old) (O.taken out.new)) }
+    ensures broke_off { OnErr result (IsCutShort (H.files shelf.old) (job_in words.now.items) (I.left input.old) (O.taken out.old) (O.taken out.new)) }
+    ensures asked { MatchResult result (λ reply. (reply ≡ Memory) ⊎ AsksAll (job_in words.now.items) (H.asked shelf.old) (H.asked shelf.new)) (λ _. AsksAll (job_in words.now.items) (H.asked shelf.old) (H.asked shelf.new)) }
+    ensures asked_prefix { AsksPrefix (job_in words.now.items) (H.asked shelf.old) (H.asked shelf.new) }
+    ensures absent { IfOk result (λ reply. reply ≡ NoFile → Rose (H.absences shelf.old) (H.absences shelf.new)) }
+    ensures failed { IfOk result (λ reply. reply ≡ FileFault → Rose (H.faults shelf.old) (H.faults shelf.new)) }
+    ensures read_failed { IfOk result (λ reply. reply ≡ InputFault → Rose (I.faults input.old) (I.faults input.new)) }
+    ensures output_faults { O.faults out.old ≤ O.faults out.new }
+    ensures write_failed { OnErr result (Rose (O.faults out.old) (O.faults out.new)) }
+    ensures input { (IsExecution (job_in words.now.items) → ⊥) → input.new ≡ input.old }
+{
+    match job_of(words) {
+        None => Ok(Reply::Usage),
+        Some(Job::Decompile(name)) => Ok(text_reply(alloc, name, shelf)),
+        Some(Job::Execute { file, steps }) => run_reply(alloc, file, steps, shelf, input, out),
     }
 }
 
 /// Does what the words after the program's name say, and answers the exit status.
 ///
-/// `c FILE` writes the text of the executable FILE to `out`; no other words are a command. A status other than
-/// 0 has one line on `err`, but for 6, which says that a write failed. At 0 the text stands for a tree of
-/// the C dialect, and its runs agree with the runs of the executable.
+/// `c FILE` writes the text of the executable FILE to `out`. `run FILE` runs it, on the input and to the output, for
+/// at most the steps of `--steps N`. No other words are a command.
+///
+/// Statuses: 0 where the text is written or the run has ended by its exit; 2 usage, 3 no file, 4 the file could not be
+/// read, 5 the input could not, 6 a write failed, 7 memory ran out, 8 the file is no executable, 12 an instruction is not
+/// built yet, 20 the run goes on after the steps that were asked for, 21 it ended by a divide fault, 22 it came to what
+/// is no instruction. A status other than 0 and 6 has its line on `err`, and the exit of a run too.
 pub fn dcc<H: Shelf, I: Source, O: Sink, E: Sink>(
     alloc: Global,
     words: &Vec<String>,
@@ -102,47 +123,65 @@ pub fn dcc<H: Shelf, I: Source, O: Sink, E: Sink>(
     err: &mut E,
 ) -> u8
     // An answer that is allowed for the words is written, as far as the streams take it.
-    ensures answered { IsAnswered (H.files shelf.old) (built_job (job_of (map string_bytes words.now.items))) result (streams (O.taken out.old) (O.taken out.new) (E.taken err.old) (E.taken err.new)) }
+    ensures answered { IsAnswered (H.files shelf.old) (job_in words.now.items) (I.left input.old) (I.left input.new) result (Rose (O.faults out.old) (O.faults out.new)) (Rose (E.faults err.old) (E.faults err.new)) (streams (O.taken out.old) (O.taken out.new) (E.taken err.old) (E.taken err.new)) }
 
-    // The text that is written stands for a tree, and agrees with the file.
-    ensures text { result ≡ 0 → HasText (H.files shelf.old) (built_job (job_of (map string_bytes words.now.items))) (streams (O.taken out.old) (O.taken out.new) (E.taken err.old) (E.taken err.new)) }
+    // The text that `c` writes stands for a tree, and agrees with the file.
+    ensures text { (name : List ℕ) → job_in words.now.items ≡ Some (Decompile name) → result ≡ 0
+        → HasText (H.files shelf.old) name (streams (O.taken out.old) (O.taken out.new) (E.taken err.old) (E.taken err.new)) }
 
-    // The words are no command that is built.
-    ensures usage { result ≡ 2 → built_job (job_of (map string_bytes words.now.items)) ≡ None }
-    ensures usage_always { built_job (job_of (map string_bytes words.now.items)) ≡ None → IsOneOf result (2 ∷ (6 ∷ (7 ∷ []))) }
+    // What `run` puts out and takes, and how the run has ended, are those of the file.
+    ensures exited { IsExecution (job_in words.now.items) → result ≡ 0
+        → HasRunFile (H.files shelf.old) (job_in words.now.items) (I.left input.old) (I.left input.new) result (streams (O.taken out.old) (O.taken out.new) (E.taken err.old) (E.taken err.new)) }
+    ensures ran { IsOneOf result (5 ∷ (20 ∷ (21 ∷ (22 ∷ []))))
+        → HasRunFile (H.files shelf.old) (job_in words.now.items) (I.left input.old) (I.left input.new) result (streams (O.taken out.old) (O.taken out.new) (E.taken err.old) (E.taken err.new)) }
+    ensures ran_always { (name : List ℕ) (steps : ℕ) (file : List ℕ) (image : Image) (bytes : List ℕ)
+        → job_in words.now.items ≡ Some (Execute name steps) → Names (H.files shelf.old) (job_in words.now.items) file → IsImageOf file image → I.left input.old ≡ Some bytes
+        → IsOneOf result (end_status (end_after machine_system steps (start_state image bytes)) ∷ (4 ∷ (5 ∷ (6 ∷ (7 ∷ []))))) }
+    ensures read_failed { result ≡ 5 → Rose (I.faults input.old) (I.faults input.new) }
+
+    // The words are no command.
+    ensures usage { result ≡ 2 → job_in words.now.items ≡ None }
+    ensures usage_always { job_in words.now.items ≡ None → IsOneOf result (2 ∷ (6 ∷ (7 ∷ []))) }
 
     // There is no file of the name, or it could not be read.
-    ensures absent { result ≡ 3 → Rose (H.absences shelf.old) (H.absences shelf.new) }
-    ensures missing_always { IsMissing (H.files shelf.old) (built_job (job_of (map string_bytes words.now.items))) → IsOneOf result (3 ∷ (4 ∷ (6 ∷ (7 ∷ [])))) }
-    ensures unreadable { result ≡ 4 → Rose (H.faults shelf.old) (H.faults shelf.new) }
+    ensures absent { result ≡ 3 → IsAbsent (H.files shelf.old) (job_in words.now.items) (H.absences shelf.old) (H.absences shelf.new) }
+    ensures absent_always { IsMissing (H.files shelf.old) (job_in words.now.items) → IsOneOf result (3 ∷ (4 ∷ (6 ∷ (7 ∷ [])))) }
+    ensures unreadable { result ≡ 4 → IsUnreadable (job_in words.now.items) (H.faults shelf.old) (H.faults shelf.new) }
 
     // The file has no image.
-    ensures format { result ≡ 8 → HasFormatFault (H.files shelf.old) (built_job (job_of (map string_bytes words.now.items))) (streams (O.taken out.old) (O.taken out.new) (E.taken err.old) (E.taken err.new)) }
-    ensures format_always { (file : List ℕ) (fault : FormatFault) → Names (H.files shelf.old) (built_job (job_of (map string_bytes words.now.items))) file → IsFirstFault file fault → IsOneOf result (8 ∷ (4 ∷ (6 ∷ (7 ∷ [])))) }
+    ensures format { result ≡ 8 → HasFormatFault (H.files shelf.old) (job_in words.now.items) (streams (O.taken out.old) (O.taken out.new) (E.taken err.old) (E.taken err.new)) }
+    ensures format_always { (file : List ℕ) (fault : FormatFault) → Names (H.files shelf.old) (job_in words.now.items) file → IsFirstFault file fault
+        → IsOneOf result (8 ∷ (4 ∷ (6 ∷ (7 ∷ [])))) }
 
     // The straight line from the entry comes to an instruction that is not built yet.
-    ensures not_yet { result ≡ 12 → HasStop (H.files shelf.old) (built_job (job_of (map string_bytes words.now.items))) (streams (O.taken out.old) (O.taken out.new) (E.taken err.old) (E.taken err.new)) }
-    ensures not_yet_always { (file : List ℕ) (at : ℕ) → Names (H.files shelf.old) (built_job (job_of (map string_bytes words.now.items))) file → StopsInFile file at → IsOneOf result (12 ∷ (4 ∷ (6 ∷ (7 ∷ [])))) }
+    ensures not_yet { result ≡ 12 → HasStop (H.files shelf.old) (job_in words.now.items) (streams (O.taken out.old) (O.taken out.new) (E.taken err.old) (E.taken err.new)) }
+    ensures not_yet_always { (name file : List ℕ) (at : ℕ) → job_in words.now.items ≡ Some (Decompile name) → Names (H.files shelf.old) (job_in words.now.items) file → StopsInFile file at
+        → IsOneOf result (12 ∷ (4 ∷ (6 ∷ (7 ∷ [])))) }
 
     // The straight line ends by the call that leaves.
-    ensures done_always { (file : List ℕ) → Names (H.files shelf.old) (built_job (job_of (map string_bytes words.now.items))) file → EndsInFile file → IsOneOf result (0 ∷ (4 ∷ (6 ∷ (7 ∷ [])))) }
+    ensures text_always { (name file : List ℕ) → job_in words.now.items ≡ Some (Decompile name) → Names (H.files shelf.old) (job_in words.now.items) file → EndsInFile file
+        → IsOneOf result (0 ∷ (4 ∷ (6 ∷ (7 ∷ [])))) }
 
     // A write failed.
     ensures write_failed { result ≡ 6 → Rose (O.faults out.old) (O.faults out.new) ⊎ Rose (E.faults err.old) (E.faults err.new) }
 
-    // What is written: nothing at a refusal, and where a write failed a part of an answer.
-    ensures nothing { result ≢ 0 → result ≢ 6 → O.taken out.new ≡ O.taken out.old }
-    ensures cut_off { result ≡ 6 → IsCutOff (H.files shelf.old) (built_job (job_of (map string_bytes words.now.items))) (streams (O.taken out.old) (O.taken out.new) (E.taken err.old) (E.taken err.new)) }
+    // What is written: nothing at a refusal; where memory ran out, what a run had put out by then; where a write
+    // failed, a part of an answer.
+    ensures nothing { IsOneOf result (2 ∷ (3 ∷ (4 ∷ (8 ∷ (12 ∷ []))))) → O.taken out.new ≡ O.taken out.old }
+    ensures out_of_memory { result ≡ 7 → IsOutOfMemory (H.files shelf.old) (job_in words.now.items) (I.left input.old) (I.left input.new) (streams (O.taken out.old) (O.taken out.new) (E.taken err.old) (E.taken err.new)) }
+    ensures cut_off { result ≡ 6 → IsCutOff (H.files shelf.old) (job_in words.now.items) (I.left input.old) (I.left input.new) result (Rose (O.faults out.old) (O.faults out.new)) (Rose (E.faults err.old) (E.faults err.new)) (streams (O.taken out.old) (O.taken out.new) (E.taken err.old) (E.taken err.new)) }
 
     // What is asked of the shelf: at most what the job asks for, and all of it but where memory ran out.
-    ensures asked_prefix { AsksPrefix (built_job (job_of (map string_bytes words.now.items))) (H.asked shelf.old) (H.asked shelf.new) }
-    ensures asked { result ≢ 6 → result ≢ 7 → AsksAll (built_job (job_of (map string_bytes words.now.items))) (H.asked shelf.old) (H.asked shelf.new) }
-    ensures asked_cut_off { result ≡ 6 → AsksAll (built_job (job_of (map string_bytes words.now.items))) (H.asked shelf.old) (H.asked shelf.new)
+    ensures asked_prefix { AsksPrefix (job_in words.now.items) (H.asked shelf.old) (H.asked shelf.new) }
+    ensures asked { result ≢ 6 → result ≢ 7 → AsksAll (job_in words.now.items) (H.asked shelf.old) (H.asked shelf.new) }
+    ensures asked_cut_off { result ≡ 6 → AsksAll (job_in words.now.items) (H.asked shelf.old) (H.asked shelf.new)
         ⊎ AppendsProperPrefix (E.taken err.old) (E.taken err.new) (line_of Memory) }
 
-    // No input is read.
-    ensures input { input.new ≡ input.old }
+    // Only a run reads the input.
+    ensures input { (IsExecution (job_in words.now.items) → ⊥) → input.new ≡ input.old }
 {
-    let reply = words_reply(alloc, words, shelf);
-    answer(alloc, &reply, out, err)
+    match reply_for(alloc, words, shelf, input, out) {
+        Ok(reply) => answer(alloc, &reply, out, err),
+        Err(Failed) => WRITE_FAULT,
+    }
 }

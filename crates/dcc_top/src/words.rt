@@ -8,7 +8,7 @@ ghost use Rattle.std.specs.Prelude.{◌≡◌, ◌≤◌, ◌+◌, ◌++◌, ◌
 ghost use Rattle.std.specs.Char.{is_ascii_digit};
 ghost use Rattle.std.specs.List.{list_all};
 ghost use Rattle.std.specs.Option.{option_copied};
-ghost use Rattle.dcc_top.specs.Words.{Decompile, AskForOneJob, Parts, built_job, command_of, is_number, is_positional, job_of, kind_of, number_of, option_of, parts_of, set_value, value_in, steps_of};
+ghost use Rattle.dcc_top.specs.Words.{AskForOneJob, Parts, command_of, is_number, is_positional, job_of, kind_of, number_of, option_of, parts_of, set_value, value_in, steps_of};
 ghost use Rattle.dcc_top.specs.WordsRead.{HasTwoFiles, job_read, kind_read, parts_read};
 
 /// What the program is to do.
@@ -254,18 +254,6 @@ pub fn job_of(words: &[String]) -> Option<Job<'_>>
 pub fn words_ask_for_one_job()
     ensures { AskForOneJob }
 {}
-
-/// The name of the executable in the words of `c`, the one command that is built so far.
-#[tactic(auto, unfolding(crate::specs::Words::built_job))]
-pub fn file_of(words: &[String]) -> Option<&str>
-    ensures { MatchOption result (built_job (job_of (map string_bytes words.now)) ≡ None)
-        (λ file. built_job (job_of (map string_bytes words.now)) ≡ Some (Decompile file.now)) }
-{
-    match job_of(words)? {
-        Job::Decompile(file) => Some(file),
-        Job::Execute { .. } => None,
-    }
-}
 
 #[cfg(test)]
 mod tests;

@@ -50,14 +50,18 @@ fn check_refused(rt: &impl Abort, given: &Answer, status: u8, line: &str) {
 /// Words, the number of the fetch that fails, the status and the line.
 type WordsRow = (&'static [&'static str], u64, u8, &'static str);
 
-static WORDS: [WordsRow; 7] = [
+static WORDS: [WordsRow; 11] = [
     (&[], 0, 2, "dcc: usage\n"),
     (&["c"], 0, 2, "dcc: usage\n"),
     (&["help"], 0, 2, "dcc: usage\n"),
     (&["c", "a", "b"], 0, 2, "dcc: usage\n"),
     (&["C", "ROW1.EXE"], 0, 2, "dcc: usage\n"),
+    (&["run"], 0, 2, "dcc: usage\n"),
+    (&["run", "a", "--steps", "1", "--steps", "2"], 0, 2, "dcc: usage\n"),
     (&["c", "ROW2.EXE"], 0, 3, "dcc: no file\n"),
+    (&["run", "ROW2.EXE"], 0, 3, "dcc: no file\n"),
     (&["c", "ROW1.EXE"], 1, 4, "dcc: file fault\n"),
+    (&["run", "ROW1.EXE"], 1, 4, "dcc: file fault\n"),
 ];
 
 fn words() -> &'static [WordsRow] {
@@ -69,6 +73,7 @@ fn words_and_shelves_are_refused(rt: HostRuntime) -> Result<(), Fail> {
     for (words, fetch, status, line) in words() {
         let faults = Faults {
             fetch: *fetch,
+            read: 0,
             out: 0,
             err: 0,
         };
@@ -78,10 +83,12 @@ fn words_and_shelves_are_refused(rt: HostRuntime) -> Result<(), Fail> {
     Ok(())
 }
 
-/// A file of these bytes is refused with the line, and with status 8.
+/// A file of these bytes is refused with the line, and with status 8, by each command.
 fn check_format(rt: &impl Abort, alloc: Global, file: &[u8], line: &str) -> Result<(), AllocError> {
-    let given = answered(alloc, &["c", "ROW1.EXE"], file, NO_FAULTS)?;
-    check_refused(rt, &given, 8, line);
+    for command in ["c", "run"] {
+        let given = answered(alloc, &[command, "ROW1.EXE"], file, NO_FAULTS)?;
+        check_refused(rt, &given, 8, line);
+    }
     Ok(())
 }
 
@@ -181,6 +188,7 @@ fn instructions_that_are_not_built_are_named(rt: HostRuntime) -> Result<(), Fail
 fn a_write_that_fails_leaves_a_part_of_the_answer(rt: HostRuntime) -> Result<(), Fail> {
     let second_of_text = Faults {
         fetch: 0,
+        read: 0,
         out: 2,
         err: 0,
     };
@@ -191,6 +199,7 @@ fn a_write_that_fails_leaves_a_part_of_the_answer(rt: HostRuntime) -> Result<(),
 
     let first_of_line = Faults {
         fetch: 0,
+        read: 0,
         out: 0,
         err: 1,
     };

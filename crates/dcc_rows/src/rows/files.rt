@@ -60,10 +60,11 @@ pub fn program(rt: &impl Abort, alloc: Global, code: &[u8]) -> Result<Vec<u8>, A
     Ok(file)
 }
 
-/// The numbers, from 1 on, of a fetch and of writes that fail; 0 where none does.
+/// The numbers, from 1 on, of a fetch, of a read and of writes that fail; 0 where none does.
 #[derive(Clone, Copy)]
 pub struct Faults {
     pub fetch: u64,
+    pub read: u64,
     pub out: u64,
     pub err: u64,
 }
@@ -71,6 +72,7 @@ pub struct Faults {
 /// Nothing fails.
 pub const NO_FAULTS: Faults = Faults {
     fetch: 0,
+    read: 0,
     out: 0,
     err: 0,
 };
@@ -83,12 +85,13 @@ pub struct Answer {
     pub err: Vec<u8>,
 }
 
-/// Calls the top call with the words, where the shelf has one file, ROW1.EXE, of these bytes. The streams
-/// take at most 8 bytes a write.
-pub fn answered(
+/// Calls the top call with the words, where the shelf has one file, ROW1.EXE, of these bytes, and the input has these.
+/// The input gives one byte a read, and the streams take at most 8 bytes a write.
+pub fn answered_on(
     alloc: Global,
     words: &[&str],
     file: &[u8],
+    input: &[u8],
     faults: Faults,
 ) -> Result<Answer, AllocError> {
     let mut command = Vec::new(alloc);
@@ -98,7 +101,7 @@ pub fn answered(
     let mut files = Vec::new(alloc);
     files.push((String::from_str(alloc, "ROW1.EXE")?, file.to_vec(alloc)?))?;
     let mut shelf = MemShelf::new(alloc, files, [faults.fetch].to_vec(alloc)?);
-    let mut input = MemSource::new(Vec::new(alloc), Vec::new(alloc), 1);
+    let mut input = MemSource::new(input.to_vec(alloc)?, [faults.read].to_vec(alloc)?, 1);
     let mut out = MemSink::new(alloc, [faults.out].to_vec(alloc)?, 8);
     let mut err = MemSink::new(alloc, [faults.err].to_vec(alloc)?, 8);
     let status = dcc(alloc, &command, &mut shelf, &mut input, &mut out, &mut err);
@@ -107,6 +110,16 @@ pub fn answered(
         out: out.taken().clone()?,
         err: err.taken().clone()?,
     })
+}
+
+/// Calls the top call with the words on an empty input.
+pub fn answered(
+    alloc: Global,
+    words: &[&str],
+    file: &[u8],
+    faults: Faults,
+) -> Result<Answer, AllocError> {
+    answered_on(alloc, words, file, b"", faults)
 }
 
 /// How the first 100 steps of a file's program end on an empty input, and their output.

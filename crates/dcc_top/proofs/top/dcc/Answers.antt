@@ -1,35 +1,48 @@
-use Rattle.std.proofs.Common.{map, string_bytes}
-use Rattle.dcc_top.specs.Words.{built_job, job_of}
-use Rattle.dcc_top.specs.Delivery.{Streams, streams}
-use Rattle.dcc_top.proofs.CauseLaws.{Outcome, is-answered, stop-always, done-always, nothing-cause, cut-cause}
+use Rattle.std.proofs.Common.{refl}
+use Rattle.dcc_io.proofs.CountLemmas.{Rose-since}
+use Rattle.dcc_io.specs.Count.{Rose}
+use Rattle.dcc_top.specs.Words.{job_in}
+use Rattle.dcc_top.specs.Delivery.{streams}
+use Rattle.dcc_top.specs.Causes.{IsAnswered, broke_off}
+use Rattle.dcc_top.proofs.CauseLaws.{answered-by, text, exited, ran, format-always, not_yet-always, text-always, nothing, out-of_memory, cut-off}
 use Rattle.dcc_top.proofs.top.dcc.Given as given
 use Rattle.dcc_top.proofs.top.dcc.Goals as goal
 
--- what was written to the streams
-written : (g : given.Over) (c : goal.Joined-reply g) → Streams
-written g c =
-    streams (g.O.Sink.taken c.args.out.now) (g.O.Sink.taken c.answer.new.out) (g.E.Sink.taken c.args.err.now) (g.E.Sink.taken c.answer.new.err)
+-- what the call comes to
+what : (g : given.Over) (c : goal.Joined-reply g) → IsAnswered (g.H.Shelf.files c.args.shelf.now) (job_in c.args.words.now.items) (g.I.Source.left c.args.input.now) (g.I.Source.left c.reply_for.new.input) c.answer.result (Rose (g.O.Sink.faults c.args.out.now) (g.O.Sink.faults c.answer.new.out)) (Rose (g.E.Sink.faults c.args.err.now) (g.E.Sink.faults c.answer.new.err)) (streams (g.O.Sink.taken c.args.out.now) (g.O.Sink.taken c.answer.new.out) (g.E.Sink.taken c.args.err.now) (g.E.Sink.taken c.answer.new.err))
+what g c =
+    answered-by _ _ _ _ c.answer.result (Rose (g.O.Sink.faults c.reply_for.new.out) (g.O.Sink.faults c.answer.new.out)) _ _ _ (g.O.Sink.taken c.reply_for.new.out) _ _ _ c.in-Ok.reply c.in-Ok.ensures.allowed (λ rose. Rose-since _ _ _ c.in-Ok.ensures.output_faults rose) c.answer.ensures.delivers
 
-outcome : (g : given.Over) (c : goal.Joined-reply g) → Outcome (g.H.Shelf.files c.args.shelf.now) (built_job (job_of (map string_bytes c.args.words.now.items))) c.answer.result (written g c)
-unfolding written
-outcome g c = record {
-  reply = c.words_reply-reply.result;
-  allowed = c.words_reply-reply.ensures.allowed;
-  exact = c.words_reply-reply.ensures.exact;
-  missing = c.words_reply-reply.ensures.missing;
-  delivered = c.answer.ensures.delivers;
-}
+pub returns-in-Ok-clause-answered : goal.returns-in-Ok-clause-answered
+returns-in-Ok-clause-answered g c = what g c
 
-pub returns-clause-not_yet_always : goal.returns-clause-not_yet_always
-returns-clause-not_yet_always g c = stop-always _ _ _ _ (outcome g c)
+pub returns-in-Ok-clause-text : goal.returns-in-Ok-clause-text
+returns-in-Ok-clause-text g c = text _ _ _ _ _ _ _ _ (what g c)
 
-pub returns-clause-done_always : goal.returns-clause-done_always
-returns-clause-done_always g c = done-always _ _ _ _ (outcome g c)
+pub returns-in-Ok-clause-exited : goal.returns-in-Ok-clause-exited
+returns-in-Ok-clause-exited g c = exited _ _ _ _ _ _ _ _ (what g c)
 
-pub returns-clause-nothing : goal.returns-clause-nothing
-unfolding written
-returns-clause-nothing g c = nothing-cause _ _ _ _ (is-answered _ _ _ _ (outcome g c))
+pub returns-in-Ok-clause-ran : goal.returns-in-Ok-clause-ran
+returns-in-Ok-clause-ran g c = ran _ _ _ _ _ _ _ _ (what g c)
 
-pub returns-clause-cut_off : goal.returns-clause-cut_off
-unfolding written
-returns-clause-cut_off g c = cut-cause _ _ _ _ (is-answered _ _ _ _ (outcome g c))
+pub returns-in-Ok-clause-format_always : goal.returns-in-Ok-clause-format_always
+returns-in-Ok-clause-format_always g c = format-always _ _ _ _ _ _ _ _ (what g c)
+
+pub returns-in-Ok-clause-not_yet_always : goal.returns-in-Ok-clause-not_yet_always
+returns-in-Ok-clause-not_yet_always g c = not_yet-always _ _ _ _ _ _ _ _ (what g c)
+
+pub returns-in-Ok-clause-text_always : goal.returns-in-Ok-clause-text_always
+returns-in-Ok-clause-text_always g c = text-always _ _ _ _ _ _ _ _ (what g c)
+
+pub returns-in-Ok-clause-nothing : goal.returns-in-Ok-clause-nothing
+returns-in-Ok-clause-nothing g c = nothing _ _ _ _ _ _ _ _ (what g c)
+
+pub returns-in-Ok-clause-out_of_memory : goal.returns-in-Ok-clause-out_of_memory
+returns-in-Ok-clause-out_of_memory g c = out-of_memory _ _ _ _ _ _ _ _ (what g c)
+
+pub returns-in-Ok-clause-cut_off : goal.returns-in-Ok-clause-cut_off
+returns-in-Ok-clause-cut_off g c = cut-off _ _ _ _ _ _ _ _ (what g c)
+
+pub returns-in-Err-clause-answered : goal.returns-in-Err-clause-answered
+returns-in-Err-clause-answered g c =
+    broke_off c.in-Err.ensures.broke_off.due c.in-Err.ensures.broke_off.is_due (record { status_is = refl; out = c.in-Err.ensures.broke_off.part; err = refl; failed = c.in-Err.ensures.write_failed })

@@ -1,0 +1,328 @@
+//! Runs of executables by the command.
+
+use super::files::{Answer, Faults, NO_FAULTS, PRINTS_A, answered, answered_on, program};
+use std::alloc::{AllocError, Global};
+use std::process::Abort;
+use std::test::Fail;
+
+/// A program and its run: the code behind the instructions that set DS, the bytes of the data behind the code's
+/// paragraphs, the input, the output, the status and the line. The values come from a reference of the machine.
+struct Run {
+    code: &'static [u8],
+    data: &'static [u8],
+    input: &'static [u8],
+    output: &'static [u8],
+    status: u8,
+    line: &'static str,
+}
+
+static RUNS: [Run; 25] = [
+    // Prints a character.
+    Run {
+        code: b"\xB2\x41\xB4\x02\xCD\x21\xB8\x03\x4C\xCD\x21",
+        data: b"",
+        input: b"",
+        output: b"A",
+        status: 0,
+        line: "exit 3\n",
+    },
+    // The carry of a sum of bytes.
+    Run {
+        code: b"\xB0\xFF\x04\x01\x72\x05\xB8\x00\x4C\xCD\x21\xB8\x01\x4C\xCD\x21",
+        data: b"",
+        input: b"",
+        output: b"",
+        status: 0,
+        line: "exit 1\n",
+    },
+    // A shift by 0 keeps the flags.
+    Run {
+        code: b"\x2B\xC0\x3D\x01\x00\xB1\x00\xD3\xE0\x74\x05\xB8\x00\x4C\xCD\x21\xB8\x01\x4C\xCD\x21",
+        data: b"",
+        input: b"",
+        output: b"",
+        status: 0,
+        line: "exit 0\n",
+    },
+    // 32 shifts of a word leave 0.
+    Run {
+        code: b"\xB8\x01\x00\xB1\x20\xD3\xE0\xB4\x4C\xCD\x21",
+        data: b"",
+        input: b"",
+        output: b"",
+        status: 0,
+        line: "exit 0\n",
+    },
+    // The factorials of 7 and of 9, modulo 65536, by recursion.
+    Run {
+        code: b"\xB8\x07\x00\x50\xE8\x05\x00\x59\xB4\x4C\xCD\x21\x55\x8B\xEC\x8B\x46\x04\x3D\x01\x00\x7E\x09\x48\x50\xE8\xF0\xFF\x59\xF7\x66\x04\x5D\xC3",
+        data: b"",
+        input: b"",
+        output: b"",
+        status: 0,
+        line: "exit 176\n",
+    },
+    Run {
+        code: b"\xB8\x09\x00\x50\xE8\x05\x00\x59\xB4\x4C\xCD\x21\x55\x8B\xEC\x8B\x46\x04\x3D\x01\x00\x7E\x09\x48\x50\xE8\xF0\xFF\x59\xF7\x66\x04\x5D\xC3",
+        data: b"",
+        input: b"",
+        output: b"",
+        status: 0,
+        line: "exit 128\n",
+    },
+    // FFFF0000h compared with a long in memory.
+    Run {
+        code: b"\xBA\xFF\xFF\xB8\x00\x00\x3B\x16\x02\x00\x7C\x0D\x7F\x06\x3B\x06\x00\x00\x72\x05\xB8\x00\x4C\xCD\x21\xB8\x01\x4C\xCD\x21",
+        data: b"\x00\x00\x00\x00",
+        input: b"",
+        output: b"",
+        status: 0,
+        line: "exit 1\n",
+    },
+    Run {
+        code: b"\xBA\xFF\xFF\xB8\x00\x00\x3B\x16\x02\x00\x7C\x0D\x7F\x06\x3B\x06\x00\x00\x72\x05\xB8\x00\x4C\xCD\x21\xB8\x01\x4C\xCD\x21",
+        data: b"\x00\x00\xFF\xFF",
+        input: b"",
+        output: b"",
+        status: 0,
+        line: "exit 0\n",
+    },
+    Run {
+        code: b"\xBA\xFF\xFF\xB8\x00\x00\x3B\x16\x02\x00\x7C\x0D\x7F\x06\x3B\x06\x00\x00\x72\x05\xB8\x00\x4C\xCD\x21\xB8\x01\x4C\xCD\x21",
+        data: b"\x01\x00\xFF\xFF",
+        input: b"",
+        output: b"",
+        status: 0,
+        line: "exit 1\n",
+    },
+    // The address of a local at two depths of calls.
+    Run {
+        code: b"\xE8\x0A\x00\x50\xE8\x06\x00\x58\xB8\x00\x4C\xCD\x21\x55\x8B\xEC\x83\xEC\x02\x8D\x46\xFE\x8B\xD0\xB4\x02\xCD\x21\x8A\xD6\xB4\x02\xCD\x21\x8B\xE5\x5D\xC3",
+        data: b"",
+        input: b"",
+        output: b"\xFA\x00\xF8\x00",
+        status: 0,
+        line: "exit 0\n",
+    },
+    // A buffer of the caller is filled by the callee and written as a string.
+    Run {
+        code: b"\xE8\x05\x00\xB8\x00\x4C\xCD\x21\x55\x8B\xEC\x83\xEC\x16\xC7\x46\xFE\x00\x00\x8D\x7E\xEA\xE8\x0B\x00\x8D\x56\xEA\xB4\x09\xCD\x21\x8B\xE5\x5D\xC3\xB9\x04\x00\xC6\x05\x78\x47\xE2\xFA\xC6\x05\x24\xC3",
+        data: b"",
+        input: b"",
+        output: b"xxxx",
+        status: 0,
+        line: "exit 0\n",
+    },
+    // The callee doubles its argument, which is dropped, or taken back and printed.
+    Run {
+        code: b"\xB8\x05\x00\x50\xE8\x06\x00\x59\xB8\x00\x4C\xCD\x21\x55\x8B\xEC\xD1\x66\x04\x5D\xC3",
+        data: b"",
+        input: b"",
+        output: b"",
+        status: 0,
+        line: "exit 0\n",
+    },
+    Run {
+        code: b"\xB8\x05\x00\x50\xE8\x0C\x00\x58\x8B\xD0\xB4\x02\xCD\x21\xB8\x00\x4C\xCD\x21\x55\x8B\xEC\xD1\x66\x04\x5D\xC3",
+        data: b"",
+        input: b"",
+        output: b"\n",
+        status: 0,
+        line: "exit 0\n",
+    },
+    // A jump through a table: its first and last entries, and two numbers past it.
+    Run {
+        code: b"\xBB\x00\x00\x83\xFB\x03\x77\x19\xD1\xE3\x2E\xFF\xA7\x2A\x00\xB0\x01\xEB\x0A\xB0\x02\xEB\x06\xB0\x03\xEB\x02\xB0\x04\xB4\x4C\xCD\x21\xB0\x09\xEB\xF8\x14\x00\x18\x00\x1C\x00\x20\x00",
+        data: b"",
+        input: b"",
+        output: b"",
+        status: 0,
+        line: "exit 1\n",
+    },
+    Run {
+        code: b"\xBB\x03\x00\x83\xFB\x03\x77\x19\xD1\xE3\x2E\xFF\xA7\x2A\x00\xB0\x01\xEB\x0A\xB0\x02\xEB\x06\xB0\x03\xEB\x02\xB0\x04\xB4\x4C\xCD\x21\xB0\x09\xEB\xF8\x14\x00\x18\x00\x1C\x00\x20\x00",
+        data: b"",
+        input: b"",
+        output: b"",
+        status: 0,
+        line: "exit 4\n",
+    },
+    Run {
+        code: b"\xBB\x04\x00\x83\xFB\x03\x77\x19\xD1\xE3\x2E\xFF\xA7\x2A\x00\xB0\x01\xEB\x0A\xB0\x02\xEB\x06\xB0\x03\xEB\x02\xB0\x04\xB4\x4C\xCD\x21\xB0\x09\xEB\xF8\x14\x00\x18\x00\x1C\x00\x20\x00",
+        data: b"",
+        input: b"",
+        output: b"",
+        status: 0,
+        line: "exit 9\n",
+    },
+    Run {
+        code: b"\xBB\xFF\xFF\x83\xFB\x03\x77\x19\xD1\xE3\x2E\xFF\xA7\x2A\x00\xB0\x01\xEB\x0A\xB0\x02\xEB\x06\xB0\x03\xEB\x02\xB0\x04\xB4\x4C\xCD\x21\xB0\x09\xEB\xF8\x14\x00\x18\x00\x1C\x00\x20\x00",
+        data: b"",
+        input: b"",
+        output: b"",
+        status: 0,
+        line: "exit 9\n",
+    },
+    // Divisions by 0, and of -32768 by -1.
+    Run {
+        code: b"\xB8\x01\x00\xBB\x00\x00\x99\xF7\xFB\xB8\x00\x4C\xCD\x21",
+        data: b"",
+        input: b"",
+        output: b"",
+        status: 21,
+        line: "divide\n",
+    },
+    Run {
+        code: b"\xB8\x00\x80\xBB\xFF\xFF\x99\xF7\xFB\xB8\x00\x4C\xCD\x21",
+        data: b"",
+        input: b"",
+        output: b"",
+        status: 21,
+        line: "divide\n",
+    },
+    // A loop with two entries.
+    Run {
+        code: b"\xB4\x08\xCD\x21\x3C\x30\x74\x01\x43\x41\x83\xF9\x05\x75\xF9\x8A\xC3\xB4\x4C\xCD\x21",
+        data: b"",
+        input: b"0",
+        output: b"",
+        status: 0,
+        line: "exit 4\n",
+    },
+    Run {
+        code: b"\xB4\x08\xCD\x21\x3C\x30\x74\x01\x43\x41\x83\xF9\x05\x75\xF9\x8A\xC3\xB4\x4C\xCD\x21",
+        data: b"",
+        input: b"1",
+        output: b"",
+        status: 0,
+        line: "exit 5\n",
+    },
+    // Two keys with echo, at the end of the input too.
+    Run {
+        code: b"\xB4\x01\xCD\x21\xB4\x01\xCD\x21\xB4\x4C\xCD\x21",
+        data: b"",
+        input: b"",
+        output: b"",
+        status: 0,
+        line: "exit 26\n",
+    },
+    Run {
+        code: b"\xB4\x01\xCD\x21\xB4\x01\xCD\x21\xB4\x4C\xCD\x21",
+        data: b"",
+        input: b"a",
+        output: b"a",
+        status: 0,
+        line: "exit 26\n",
+    },
+    Run {
+        code: b"\xB4\x01\xCD\x21\xB4\x01\xCD\x21\xB4\x4C\xCD\x21",
+        data: b"",
+        input: b"ab",
+        output: b"ab",
+        status: 0,
+        line: "exit 98\n",
+    },
+    // An interrupt other than 21h.
+    Run {
+        code: b"\xCD\x20",
+        data: b"",
+        input: b"",
+        output: b"",
+        status: 22,
+        line: "outside at 0005\n",
+    },
+];
+
+fn runs() -> &'static [Run] {
+    &RUNS
+}
+
+/// The file of a program with data behind its code, where DS begins.
+fn program_with_data(
+    rt: &impl Abort,
+    alloc: Global,
+    code: &[u8],
+    data: &[u8],
+) -> Result<Vec<u8>, AllocError> {
+    let mut file = program(rt, alloc, code)?;
+    file.extend_from_slice(data)?;
+    assert!(rt; file.len() >= 6);
+    assert!(rt; file.len() <= 131_072);
+    let [low, high] = ((file.len() % 512) as u16).to_le_bytes();
+    file[2] = low;
+    file[3] = high;
+    let [low, high] = (file.len().div_ceil(512) as u16).to_le_bytes();
+    file[4] = low;
+    file[5] = high;
+    Ok(file)
+}
+
+/// The call must answer this status, this output and this line.
+fn check(rt: &impl Abort, given: &Answer, status: u8, output: &[u8], line: &str) {
+    assert_eq!(rt; given.err.as_slice(), line.as_bytes());
+    assert_eq!(rt; given.out.as_slice(), output, "{line}");
+    assert_eq!(rt; given.status, status, "{line}");
+}
+
+#[test]
+fn programs_put_out_and_end_as_the_machine_does(rt: HostRuntime) -> Result<(), Fail> {
+    let alloc = rt.alloc();
+    for run in runs() {
+        let file = program_with_data(&rt, alloc, run.code, run.data)?;
+        let words = ["run", "ROW1.EXE"];
+        let given = answered_on(alloc, &words, &file, run.input, NO_FAULTS)?;
+        check(&rt, &given, run.status, run.output, run.line);
+    }
+    Ok(())
+}
+
+#[test]
+fn a_run_stops_after_the_steps_that_were_asked_for(rt: HostRuntime) -> Result<(), Fail> {
+    let alloc = rt.alloc();
+    let jumps_to_itself = program(&rt, alloc, b"\xEB\xFE")?;
+    let words = ["run", "ROW1.EXE", "--steps", "1000"];
+    let given = answered(alloc, &words, &jumps_to_itself, NO_FAULTS)?;
+    check(&rt, &given, 20, b"", "running after 1000 steps\n");
+    let words = ["run", "--steps=0", "--", "ROW1.EXE"];
+    let given = answered(alloc, &words, &PRINTS_A, NO_FAULTS)?;
+    check(&rt, &given, 20, b"", "running after 0 steps\n");
+    let words = ["run", "--steps=7", "--", "ROW1.EXE"];
+    let given = answered(alloc, &words, &PRINTS_A, NO_FAULTS)?;
+    check(&rt, &given, 0, b"A", "exit 3\n");
+    let words = ["run", "--steps=6", "--", "ROW1.EXE"];
+    let given = answered(alloc, &words, &PRINTS_A, NO_FAULTS)?;
+    check(&rt, &given, 20, b"A", "running after 6 steps\n");
+    Ok(())
+}
+
+#[test]
+fn a_fault_of_the_streams_ends_a_run(rt: HostRuntime) -> Result<(), Fail> {
+    let alloc = rt.alloc();
+    let words = ["run", "ROW1.EXE"];
+    let reads = program(&rt, alloc, b"\xB4\x01\xCD\x21\xB4\x01\xCD\x21\xB4\x4C\xCD\x21")?;
+    let first_read = Faults {
+        read: 1,
+        ..NO_FAULTS
+    };
+    let given = answered_on(alloc, &words, &reads, b"ab", first_read)?;
+    check(&rt, &given, 5, b"", "dcc: input fault\n");
+    let second_read = Faults {
+        read: 2,
+        ..NO_FAULTS
+    };
+    let given = answered_on(alloc, &words, &reads, b"ab", second_read)?;
+    check(&rt, &given, 5, b"a", "dcc: input fault\n");
+    let second_write = Faults {
+        out: 2,
+        ..NO_FAULTS
+    };
+    let given = answered_on(alloc, &words, &reads, b"ab", second_write)?;
+    check(&rt, &given, 6, b"a", "");
+    let first_of_line = Faults {
+        err: 1,
+        ..NO_FAULTS
+    };
+    let given = answered_on(alloc, &words, &reads, b"ab", first_of_line)?;
+    check(&rt, &given, 6, b"ab", "");
+    Ok(())
+}
