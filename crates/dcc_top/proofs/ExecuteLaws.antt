@@ -2,7 +2,7 @@
 use Rattle.std.proofs.Common.{◌≡◌, ℕ, ◌+◌, ◌≤◌, inl, List, [], ◌∷◌, ◌++◌, Option, Some, None, refl, sym, ap, ◌∙◌, subst, arith}
 use Rattle.std.specs.Prelude.{Result, Ok, Err, IfOk, OnErr}
 use Rattle.dcc_io.specs.declared.outside.Failed.{Failed}
-use Rattle.dcc_io.specs.Told.{WhenTold, append_told, prepend_told, AppendsProperPrefix}
+use Rattle.dcc_io.specs.Told.{WhenTold, prepend_told, AppendsProperPrefix}
 use Rattle.dcc_io.proofs.ToldLemmas.{AppendsProperPrefix-after, AppendsProperPrefix-longer, append_told-nil}
 use Rattle.dcc_run.specs.End.{End}
 use Rattle.dcc_run.specs.System.{after, out_after}
@@ -20,7 +20,7 @@ use Rattle.dcc_top.specs.declared.reply.Reply.TheVariants.{Memory, InputFault}
 use Rattle.dcc_top.specs.Words.{Execute}
 use Rattle.dcc_top.specs.Answer.{Files, OfFile}
 use Rattle.dcc_top.specs.Causes.{HasReply, IsCutShort}
-use Rattle.dcc_top.specs.Execution.{HasRun, StopsAtRead, PutsOut, Ran, BrokeOff}
+use Rattle.dcc_top.specs.Execution.{HasRun, StopsAtRead, Ran, BrokeOff}
 
 -- the machine, with any input and nothing put out yet, is at the start of the image
 abbrev pub BeginsAt : Core → Image → Type 0

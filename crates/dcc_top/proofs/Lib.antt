@@ -8,7 +8,10 @@ pub mod LineStands
 pub mod LineWritten
 pub mod LineLaws
 pub mod AnswerLaws
+pub mod StatusLaws
+pub mod NamedLaws
 pub mod CauseLaws
+pub mod DeliveredLaws
 pub mod FetchedLaws
 pub mod WordsLaws
 pub mod WordsAsked

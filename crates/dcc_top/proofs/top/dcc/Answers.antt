@@ -4,7 +4,8 @@ use Rattle.dcc_io.specs.Count.{Rose}
 use Rattle.dcc_top.specs.Words.{job_in}
 use Rattle.dcc_top.specs.Delivery.{streams}
 use Rattle.dcc_top.specs.Causes.{IsAnswered, broke_off}
-use Rattle.dcc_top.proofs.CauseLaws.{answered-by, text, exited, ran, format-always, not_yet-always, text-always, nothing, out-of_memory, cut-off}
+use Rattle.dcc_top.proofs.CauseLaws.{text, exited, ran, format-always, not_yet-always, text-always, nothing, out-of_memory, cut-off}
+use Rattle.dcc_top.proofs.DeliveredLaws.{answered-by}
 use Rattle.dcc_top.proofs.top.dcc.Given as given
 use Rattle.dcc_top.proofs.top.dcc.Goals as goal
 
