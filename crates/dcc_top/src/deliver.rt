@@ -16,7 +16,9 @@ pub const WRITE_FAULT: u8 = 6;
 // Writes what is due and then the line. The status is that of the answer, or 6 where a write failed.
 fn deliver<O: Sink, E: Sink>(reply: &Reply, line: &str, out: &mut O, err: &mut E) -> u8
     requires { line.now ≡ line_of reply.now }
-    ensures delivers { Delivers (text_in reply.now) (line_of reply.now) (status_of reply.now) result (Rose (O.faults out.old) (O.faults out.new)) (Rose (E.faults err.old) (E.faults err.new)) (streams (O.taken out.old) (O.taken out.new) (E.taken err.old) (E.taken err.new)) }
+    ensures delivers { Delivers (text_in reply.now) (line_of reply.now) (status_of reply.now) result
+        (Rose (O.faults out.old) (O.faults out.new)) (Rose (E.faults err.old) (E.faults err.new))
+        (streams (O.taken out.old) (O.taken out.new) (E.taken err.old) (E.taken err.new)) }
     ensures output_faults { O.faults out.old ≤ O.faults out.new }
     ensures error_faults { E.faults err.old ≤ E.faults err.new }
 {
@@ -31,8 +33,12 @@ fn deliver<O: Sink, E: Sink>(reply: &Reply, line: &str, out: &mut O, err: &mut E
 
 /// Writes the answer, or that memory ran out where there is none for its line.
 pub fn answer<O: Sink, E: Sink>(alloc: Global, reply: &Reply, out: &mut O, err: &mut E) -> u8
-    ensures delivers { Delivers (text_in reply.now) (line_of reply.now) (status_of reply.now) result (Rose (O.faults out.old) (O.faults out.new)) (Rose (E.faults err.old) (E.faults err.new)) (streams (O.taken out.old) (O.taken out.new) (E.taken err.old) (E.taken err.new))
-        ⊎ Delivers [] (line_of Memory) (status_of Memory) result (Rose (O.faults out.old) (O.faults out.new)) (Rose (E.faults err.old) (E.faults err.new)) (streams (O.taken out.old) (O.taken out.new) (E.taken err.old) (E.taken err.new)) }
+    ensures delivers { Delivers (text_in reply.now) (line_of reply.now) (status_of reply.now) result
+        (Rose (O.faults out.old) (O.faults out.new)) (Rose (E.faults err.old) (E.faults err.new))
+        (streams (O.taken out.old) (O.taken out.new) (E.taken err.old) (E.taken err.new))
+        ⊎ Delivers [] (line_of Memory) (status_of Memory) result
+        (Rose (O.faults out.old) (O.faults out.new)) (Rose (E.faults err.old) (E.faults err.new))
+        (streams (O.taken out.old) (O.taken out.new) (E.taken err.old) (E.taken err.new)) }
     ensures output_faults { O.faults out.old ≤ O.faults out.new }
     ensures error_faults { E.faults err.old ≤ E.faults err.new }
 {

@@ -22,12 +22,15 @@ pub fn execute<I: Source, O: Sink>(
     out: &mut O,
 ) -> Result<Reply, Failed>
     requires { IsLoaded image.now }
-    ensures ran { IfOk result (Ran image.now steps (I.left input.old) (I.left input.new) (O.taken out.old) (O.taken out.new)) }
-    ensures broke_off { OnErr result (BrokeOff image.now steps (I.left input.old) (O.taken out.old) (O.taken out.new)) }
+    ensures ran { IfOk result (Ran image.now steps (I.left input.old) (I.left input.new)
+        (O.taken out.old) (O.taken out.new)) }
+    ensures broke_off { OnErr result (BrokeOff image.now steps (I.left input.old)
+        (O.taken out.old) (O.taken out.new)) }
 
     // The counts never fall, and a fault comes only where its count rose.
     ensures output_faults { O.faults out.old ≤ O.faults out.new }
-    ensures read_failed { IfOk result (λ reply. reply ≡ InputFault → Rose (I.faults input.old) (I.faults input.new)) }
+    ensures read_failed { IfOk result (λ reply. reply ≡ InputFault
+        → Rose (I.faults input.old) (I.faults input.new)) }
     ensures write_failed { OnErr result (Rose (O.faults out.old) (O.faults out.new)) }
 {
     let Ok(mut machine) = Machine::new(alloc, image) else {

@@ -32,7 +32,8 @@ fn image_of(alloc: Global, bytes: &Vec<u8>) -> Result<Image, Reply>
 /// The image of the executable of this name. The error is the answer that says why there is none: the file
 /// could not be had, it fails a check of the format, or memory ran out.
 pub fn fetch_image<H: Shelf>(alloc: Global, name: &str, shelf: &mut H) -> Result<Image, Reply>
-    ensures image { IfOk result (λ image. OfFile (H.files shelf.old) name.now (λ file. IsImageOf file image)) }
+    ensures image { IfOk result (λ image.
+        OfFile (H.files shelf.old) name.now (λ file. IsImageOf file image)) }
     ensures loaded { IfOk result IsLoaded }
     ensures refused { IfErr result (HasNoImage (H.files shelf.old) name.now) }
     ensures asked { IsErrOf result Memory ⊎ (H.asked shelf.new ≡ H.asked shelf.old ++ (name.now, greatest_file) ∷ []) }

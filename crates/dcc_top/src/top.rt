@@ -43,8 +43,10 @@ fn text_of(alloc: Global, image: &Image) -> Reply
 // The answer of `c` for the file of this name.
 fn text_reply<H: Shelf>(alloc: Global, name: &str, shelf: &mut H) -> Reply
     ensures allowed { AllowsText (H.files shelf.old) name.now result }
-    ensures asked { (result ≡ Memory) ⊎ AsksAll (Some (Decompile name.now)) (H.asked shelf.old) (H.asked shelf.new) }
-    ensures asked_prefix { AsksPrefix (Some (Decompile name.now)) (H.asked shelf.old) (H.asked shelf.new) }
+    ensures asked { (result ≡ Memory) ⊎ AsksAll (Some (Decompile name.now))
+        (H.asked shelf.old) (H.asked shelf.new) }
+    ensures asked_prefix { AsksPrefix (Some (Decompile name.now))
+        (H.asked shelf.old) (H.asked shelf.new) }
     ensures absent { result ≡ NoFile → Rose (H.absences shelf.old) (H.absences shelf.new) }
     ensures failed { result ≡ FileFault → Rose (H.faults shelf.old) (H.faults shelf.new) }
 {
@@ -63,13 +65,24 @@ fn run_reply<H: Shelf, I: Source, O: Sink>(
     input: &mut I,
     out: &mut O,
 ) -> Result<Reply, Failed>
-    ensures allowed { IfOk result (HasReply (H.files shelf.old) (Some (Execute name.now steps)) (I.left input.old) (I.left input.new) (O.taken out.old) (O.taken out.new)) }
-    ensures broke_off { OnErr result (IsCutShort (H.files shelf.old) (Some (Execute name.now steps)) (I.left input.old) (O.taken out.old) (O.taken out.new)) }
-    ensures asked { MatchResult result (λ reply. (reply ≡ Memory) ⊎ AsksAll (Some (Execute name.now steps)) (H.asked shelf.old) (H.asked shelf.new)) (λ _. AsksAll (Some (Execute name.now steps)) (H.asked shelf.old) (H.asked shelf.new)) }
-    ensures asked_prefix { AsksPrefix (Some (Execute name.now steps)) (H.asked shelf.old) (H.asked shelf.new) }
-    ensures absent { IfOk result (λ reply. reply ≡ NoFile → Rose (H.absences shelf.old) (H.absences shelf.new)) }
-    ensures failed { IfOk result (λ reply. reply ≡ FileFault → Rose (H.faults shelf.old) (H.faults shelf.new)) }
-    ensures read_failed { IfOk result (λ reply. reply ≡ InputFault → Rose (I.faults input.old) (I.faults input.new)) }
+    ensures allowed { IfOk result (
+        HasReply (H.files shelf.old) (Some (Execute name.now steps))
+        (I.left input.old) (I.left input.new) (O.taken out.old) (O.taken out.new)) }
+    ensures broke_off { OnErr result (
+        IsCutShort (H.files shelf.old) (Some (Execute name.now steps))
+        (I.left input.old) (O.taken out.old) (O.taken out.new)) }
+    ensures asked { MatchResult result (λ reply. (reply ≡ Memory) ⊎
+        AsksAll (Some (Execute name.now steps))
+        (H.asked shelf.old) (H.asked shelf.new)) (λ _.
+        AsksAll (Some (Execute name.now steps)) (H.asked shelf.old) (H.asked shelf.new)) }
+    ensures asked_prefix { AsksPrefix (Some (Execute name.now steps))
+        (H.asked shelf.old) (H.asked shelf.new) }
+    ensures absent { IfOk result (λ reply. reply ≡ NoFile → Rose
+        (H.absences shelf.old) (H.absences shelf.new)) }
+    ensures failed { IfOk result (λ reply. reply ≡ FileFault → Rose (H.faults shelf.old) (H.faults
+        shelf.new)) }
+    ensures read_failed { IfOk result (λ reply. reply ≡ InputFault → Rose (I.faults input.old)
+        (I.faults input.new)) }
     ensures output_faults { O.faults out.old ≤ O.faults out.new }
     ensures write_failed { OnErr result (Rose (O.faults out.old) (O.faults out.new)) }
 {
@@ -87,13 +100,23 @@ fn reply_for<H: Shelf, I: Source, O: Sink>(
     input: &mut I,
     out: &mut O,
 ) -> Result<Reply, Failed>
-    ensures allowed { IfOk result (HasReply (H.files shelf.old) (job_in words.now.items) (I.left input.old) (I.left input.new) (O.taken out.old) (O.taken out.new)) }
-    ensures broke_off { OnErr result (IsCutShort (H.files shelf.old) (job_in words.now.items) (I.left input.old) (O.taken out.old) (O.taken out.new)) }
-    ensures asked { MatchResult result (λ reply. (reply ≡ Memory) ⊎ AsksAll (job_in words.now.items) (H.asked shelf.old) (H.asked shelf.new)) (λ _. AsksAll (job_in words.now.items) (H.asked shelf.old) (H.asked shelf.new)) }
-    ensures asked_prefix { AsksPrefix (job_in words.now.items) (H.asked shelf.old) (H.asked shelf.new) }
-    ensures absent { IfOk result (λ reply. reply ≡ NoFile → Rose (H.absences shelf.old) (H.absences shelf.new)) }
-    ensures failed { IfOk result (λ reply. reply ≡ FileFault → Rose (H.faults shelf.old) (H.faults shelf.new)) }
-    ensures read_failed { IfOk result (λ reply. reply ≡ InputFault → Rose (I.faults input.old) (I.faults input.new)) }
+    ensures allowed { IfOk result (
+        HasReply (H.files shelf.old) (job_in words.now.items)
+        (I.left input.old) (I.left input.new) (O.taken out.old) (O.taken out.new)) }
+    ensures broke_off { OnErr result (
+        IsCutShort (H.files shelf.old) (job_in words.now.items)
+        (I.left input.old) (O.taken out.old) (O.taken out.new)) }
+    ensures asked { MatchResult result (λ reply. (reply ≡ Memory) ⊎
+        AsksAll (job_in words.now.items) (H.asked shelf.old) (H.asked shelf.new))
+        (λ _. AsksAll (job_in words.now.items) (H.asked shelf.old) (H.asked shelf.new)) }
+    ensures asked_prefix { AsksPrefix (job_in words.now.items)
+        (H.asked shelf.old) (H.asked shelf.new) }
+    ensures absent { IfOk result (λ reply. reply ≡ NoFile → Rose
+        (H.absences shelf.old) (H.absences shelf.new)) }
+    ensures failed { IfOk result (λ reply. reply ≡ FileFault → Rose (H.faults shelf.old) (H.faults
+        shelf.new)) }
+    ensures read_failed { IfOk result (λ reply. reply ≡ InputFault → Rose (I.faults input.old)
+        (I.faults input.new)) }
     ensures output_faults { O.faults out.old ≤ O.faults out.new }
     ensures write_failed { OnErr result (Rose (O.faults out.old) (O.faults out.new)) }
     ensures input { (IsExecution (job_in words.now.items) → ⊥) → input.new ≡ input.old }
@@ -107,13 +130,14 @@ fn reply_for<H: Shelf, I: Source, O: Sink>(
 
 /// Does what the words after the program's name say, and answers the exit status.
 ///
-/// `c FILE` writes the text of the executable FILE to `out`. `run FILE` runs it, on the input and to the output, for
-/// at most the steps of `--steps N`. No other words are a command.
+/// `c FILE` writes the text of the executable FILE to `out`. `run FILE` runs it, on the input and to
+/// the output, for at most the steps of `--steps N`. No other words are a command.
 ///
-/// Statuses: 0 where the text is written or the run has ended by its exit; 2 usage, 3 no file, 4 the file could not be
-/// read, 5 the input could not, 6 a write failed, 7 memory ran out, 8 the file is no executable, 12 an instruction is not
-/// built yet, 20 the run goes on after the steps that were asked for, 21 it ended by a divide fault, 22 it came to what
-/// is no instruction. A status other than 0 and 6 has its line on `err`, and the exit of a run too.
+/// Statuses: 0 where the text is written or the run has ended by its exit; 2 usage, 3 no file, 4 the
+/// file could not be read, 5 the input could not, 6 a write failed, 7 memory ran out, 8 the file is no
+/// executable, 12 an instruction is not built yet, 20 the run goes on after the steps that were asked
+/// for, 21 it ended by a divide fault, 22 it came to what is no instruction. A status other than 0 and
+/// 6 has its line on `err`, and the exit of a run too.
 pub fn dcc<H: Shelf, I: Source, O: Sink, E: Sink>(
     alloc: Global,
     words: &Vec<String>,
@@ -123,20 +147,32 @@ pub fn dcc<H: Shelf, I: Source, O: Sink, E: Sink>(
     err: &mut E,
 ) -> u8
     // An answer that is allowed for the words is written, as far as the streams take it.
-    ensures answered { IsAnswered (H.files shelf.old) (job_in words.now.items) (I.left input.old) (I.left input.new) result (Rose (O.faults out.old) (O.faults out.new)) (Rose (E.faults err.old) (E.faults err.new)) (streams (O.taken out.old) (O.taken out.new) (E.taken err.old) (E.taken err.new)) }
+    ensures answered { IsAnswered (H.files shelf.old) (job_in words.now.items)
+        (I.left input.old) (I.left input.new) result
+        (Rose (O.faults out.old) (O.faults out.new)) (Rose (E.faults err.old) (E.faults err.new))
+        (streams (O.taken out.old) (O.taken out.new) (E.taken err.old) (E.taken err.new)) }
 
     // The text that `c` writes stands for a tree, and agrees with the file.
     ensures text { (name : List ℕ) → job_in words.now.items ≡ Some (Decompile name) → result ≡ 0
-        → HasText (H.files shelf.old) name (streams (O.taken out.old) (O.taken out.new) (E.taken err.old) (E.taken err.new)) }
+        → HasText (H.files shelf.old) name
+        (streams (O.taken out.old) (O.taken out.new) (E.taken err.old) (E.taken err.new)) }
 
     // What `run` puts out and takes, and how the run has ended, are those of the file.
     ensures exited { IsExecution (job_in words.now.items) → result ≡ 0
-        → HasRunFile (H.files shelf.old) (job_in words.now.items) (I.left input.old) (I.left input.new) result (streams (O.taken out.old) (O.taken out.new) (E.taken err.old) (E.taken err.new)) }
+        → HasRunFile (H.files shelf.old) (job_in words.now.items)
+        (I.left input.old) (I.left input.new) result
+        (streams (O.taken out.old) (O.taken out.new) (E.taken err.old) (E.taken err.new)) }
     ensures ran { IsOneOf result (5 ∷ (20 ∷ (21 ∷ (22 ∷ []))))
-        → HasRunFile (H.files shelf.old) (job_in words.now.items) (I.left input.old) (I.left input.new) result (streams (O.taken out.old) (O.taken out.new) (E.taken err.old) (E.taken err.new)) }
-    ensures ran_always { (name : List ℕ) (steps : ℕ) (file : List ℕ) (image : Image) (bytes : List ℕ)
-        → job_in words.now.items ≡ Some (Execute name steps) → Names (H.files shelf.old) (job_in words.now.items) file → IsImageOf file image → I.left input.old ≡ Some bytes
-        → IsOneOf result (end_status (end_after machine_system steps (start_state image bytes)) ∷ (4 ∷ (5 ∷ (6 ∷ (7 ∷ []))))) }
+        → HasRunFile (H.files shelf.old) (job_in words.now.items)
+        (I.left input.old) (I.left input.new) result
+        (streams (O.taken out.old) (O.taken out.new) (E.taken err.old) (E.taken err.new)) }
+    ensures ran_always { (name : List ℕ) (steps : ℕ) (file : List ℕ) (image : Image)
+        (bytes : List ℕ)
+        → job_in words.now.items ≡ Some (Execute name steps)
+        → Names (H.files shelf.old) (job_in words.now.items) file
+        → IsImageOf file image → I.left input.old ≡ Some bytes
+        → IsOneOf result (end_status (end_after machine_system steps (start_state image bytes))
+        ∷ (4 ∷ (5 ∷ (6 ∷ (7 ∷ []))))) }
     ensures read_failed { result ≡ 5 → Rose (I.faults input.old) (I.faults input.new) }
 
     // The words are no command.
@@ -144,37 +180,57 @@ pub fn dcc<H: Shelf, I: Source, O: Sink, E: Sink>(
     ensures usage_always { job_in words.now.items ≡ None → IsOneOf result (2 ∷ (6 ∷ (7 ∷ []))) }
 
     // There is no file of the name, or it could not be read.
-    ensures absent { result ≡ 3 → IsAbsent (H.files shelf.old) (job_in words.now.items) (H.absences shelf.old) (H.absences shelf.new) }
-    ensures absent_always { IsMissing (H.files shelf.old) (job_in words.now.items) → IsOneOf result (3 ∷ (4 ∷ (6 ∷ (7 ∷ [])))) }
-    ensures unreadable { result ≡ 4 → IsUnreadable (job_in words.now.items) (H.faults shelf.old) (H.faults shelf.new) }
+    ensures absent { result ≡ 3 → IsAbsent (H.files shelf.old) (job_in words.now.items)
+        (H.absences shelf.old) (H.absences shelf.new) }
+    ensures absent_always { IsMissing (H.files shelf.old) (job_in words.now.items)
+        → IsOneOf result (3 ∷ (4 ∷ (6 ∷ (7 ∷ [])))) }
+    ensures unreadable { result ≡ 4 → IsUnreadable (job_in words.now.items)
+        (H.faults shelf.old) (H.faults shelf.new) }
 
     // The file has no image.
-    ensures format { result ≡ 8 → HasFormatFault (H.files shelf.old) (job_in words.now.items) (streams (O.taken out.old) (O.taken out.new) (E.taken err.old) (E.taken err.new)) }
-    ensures format_always { (file : List ℕ) (fault : FormatFault) → Names (H.files shelf.old) (job_in words.now.items) file → IsFirstFault file fault
+    ensures format { result ≡ 8 → HasFormatFault (H.files shelf.old) (job_in words.now.items)
+        (streams (O.taken out.old) (O.taken out.new) (E.taken err.old) (E.taken err.new)) }
+    ensures format_always { (file : List ℕ) (fault : FormatFault)
+        → Names (H.files shelf.old) (job_in words.now.items) file → IsFirstFault file fault
         → IsOneOf result (8 ∷ (4 ∷ (6 ∷ (7 ∷ [])))) }
 
     // The straight line from the entry comes to an instruction that is not built yet.
-    ensures not_yet { result ≡ 12 → HasStop (H.files shelf.old) (job_in words.now.items) (streams (O.taken out.old) (O.taken out.new) (E.taken err.old) (E.taken err.new)) }
-    ensures not_yet_always { (name file : List ℕ) (at : ℕ) → job_in words.now.items ≡ Some (Decompile name) → Names (H.files shelf.old) (job_in words.now.items) file → StopsInFile file at
+    ensures not_yet { result ≡ 12 → HasStop (H.files shelf.old) (job_in words.now.items)
+        (streams (O.taken out.old) (O.taken out.new) (E.taken err.old) (E.taken err.new)) }
+    ensures not_yet_always { (name file : List ℕ) (at : ℕ)
+        → job_in words.now.items ≡ Some (Decompile name)
+        → Names (H.files shelf.old) (job_in words.now.items) file → StopsInFile file at
         → IsOneOf result (12 ∷ (4 ∷ (6 ∷ (7 ∷ [])))) }
 
     // The straight line ends by the call that leaves.
-    ensures text_always { (name file : List ℕ) → job_in words.now.items ≡ Some (Decompile name) → Names (H.files shelf.old) (job_in words.now.items) file → EndsInFile file
+    ensures text_always { (name file : List ℕ)
+        → job_in words.now.items ≡ Some (Decompile name)
+        → Names (H.files shelf.old) (job_in words.now.items) file → EndsInFile file
         → IsOneOf result (0 ∷ (4 ∷ (6 ∷ (7 ∷ [])))) }
 
     // A write failed.
-    ensures write_failed { result ≡ 6 → Rose (O.faults out.old) (O.faults out.new) ⊎ Rose (E.faults err.old) (E.faults err.new) }
+    ensures write_failed { result ≡ 6
+        → Rose (O.faults out.old) (O.faults out.new) ⊎ Rose (E.faults err.old) (E.faults err.new) }
 
-    // What is written: nothing at a refusal; where memory ran out, what a run had put out by then; where a write
-    // failed, a part of an answer.
-    ensures nothing { IsOneOf result (2 ∷ (3 ∷ (4 ∷ (8 ∷ (12 ∷ []))))) → O.taken out.new ≡ O.taken out.old }
-    ensures out_of_memory { result ≡ 7 → IsOutOfMemory (H.files shelf.old) (job_in words.now.items) (I.left input.old) (I.left input.new) (streams (O.taken out.old) (O.taken out.new) (E.taken err.old) (E.taken err.new)) }
-    ensures cut_off { result ≡ 6 → IsCutOff (H.files shelf.old) (job_in words.now.items) (I.left input.old) (I.left input.new) result (Rose (O.faults out.old) (O.faults out.new)) (Rose (E.faults err.old) (E.faults err.new)) (streams (O.taken out.old) (O.taken out.new) (E.taken err.old) (E.taken err.new)) }
+    // What is written: nothing at a refusal; where memory ran out, what a run had put out by then;
+    // where a write failed, a part of an answer.
+    ensures nothing { IsOneOf result (2 ∷ (3 ∷ (4 ∷ (8 ∷ (12 ∷ [])))))
+        → O.taken out.new ≡ O.taken out.old }
+    ensures out_of_memory { result ≡ 7 → IsOutOfMemory (H.files shelf.old) (job_in words.now.items)
+        (I.left input.old) (I.left input.new)
+        (streams (O.taken out.old) (O.taken out.new) (E.taken err.old) (E.taken err.new)) }
+    ensures cut_off { result ≡ 6 → IsCutOff (H.files shelf.old) (job_in words.now.items)
+        (I.left input.old) (I.left input.new) result
+        (Rose (O.faults out.old) (O.faults out.new)) (Rose (E.faults err.old) (E.faults err.new))
+        (streams (O.taken out.old) (O.taken out.new) (E.taken err.old) (E.taken err.new)) }
 
     // What is asked of the shelf: at most what the job asks for, and all of it but where memory ran out.
-    ensures asked_prefix { AsksPrefix (job_in words.now.items) (H.asked shelf.old) (H.asked shelf.new) }
-    ensures asked { result ≢ 6 → result ≢ 7 → AsksAll (job_in words.now.items) (H.asked shelf.old) (H.asked shelf.new) }
-    ensures asked_cut_off { result ≡ 6 → AsksAll (job_in words.now.items) (H.asked shelf.old) (H.asked shelf.new)
+    ensures asked_prefix { AsksPrefix (job_in words.now.items)
+        (H.asked shelf.old) (H.asked shelf.new) }
+    ensures asked { result ≢ 6 → result ≢ 7 → AsksAll (job_in words.now.items)
+        (H.asked shelf.old) (H.asked shelf.new) }
+    ensures asked_cut_off { result ≡ 6 → AsksAll (job_in words.now.items)
+        (H.asked shelf.old) (H.asked shelf.new)
         ⊎ AppendsProperPrefix (E.taken err.old) (E.taken err.new) (line_of Memory) }
 
     // Only a run reads the input.
