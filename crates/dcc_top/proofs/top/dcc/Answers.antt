@@ -1,11 +1,14 @@
-use Rattle.std.proofs.Common.{refl}
+use Rattle.std.proofs.Common.{◌≡◌, ℕ, refl, sym, ◌∙◌, arith}
+use Rattle.std.specs.Prelude.{◌≢◌}
 use Rattle.dcc_io.proofs.CountLemmas.{Rose-since}
 use Rattle.dcc_io.specs.Count.{Rose}
 use Rattle.dcc_top.specs.Words.{job_in}
 use Rattle.dcc_top.specs.Delivery.{streams}
 use Rattle.dcc_top.specs.Causes.{IsAnswered, broke_off}
-use Rattle.dcc_top.proofs.CauseLaws.{text, exited, ran, format-always, not_yet-always, text-always, nothing, out-of_memory, cut-off}
-use Rattle.dcc_top.proofs.DeliveredLaws.{answered-by}
+use Rattle.dcc_top.proofs.CauseLaws.{usage, usage-always, text, exited, ran, ran-always, format, format-always, absent, absent-always, unreadable, not-yet, not_yet-always, text-always, nothing, out-of_memory, cut-off, write-failed}
+use Rattle.dcc_top.proofs.DeliveredLaws.{answered-by, status-by, asked-by, asked-cut}
+use Rattle.dcc_top.proofs.StatusLaws.{reply-at_3, reply-at_4, reply-at_5}
+use Rattle.dcc_top.specs.Answer.{status_of}
 use Rattle.dcc_top.proofs.top.dcc.Given as given
 use Rattle.dcc_top.proofs.top.dcc.Goals as goal
 
@@ -43,6 +46,51 @@ returns-in-Ok-clause-out_of_memory g c = out-of_memory _ _ _ _ _ _ _ _ (what g c
 
 pub returns-in-Ok-clause-cut_off : goal.returns-in-Ok-clause-cut_off
 returns-in-Ok-clause-cut_off g c = cut-off _ _ _ _ _ _ _ _ (what g c)
+
+pub returns-in-Ok-clause-ran_always : goal.returns-in-Ok-clause-ran_always
+returns-in-Ok-clause-ran_always g c = ran-always _ _ _ _ _ _ _ _ (what g c)
+
+pub returns-in-Ok-clause-usage : goal.returns-in-Ok-clause-usage
+returns-in-Ok-clause-usage g c = usage _ _ _ _ _ _ _ _ (what g c)
+
+pub returns-in-Ok-clause-usage_always : goal.returns-in-Ok-clause-usage_always
+returns-in-Ok-clause-usage_always g c = usage-always _ _ _ _ _ _ _ _ (what g c)
+
+pub returns-in-Ok-clause-absent_always : goal.returns-in-Ok-clause-absent_always
+returns-in-Ok-clause-absent_always g c = absent-always _ _ _ _ _ _ _ _ (what g c)
+
+pub returns-in-Ok-clause-format : goal.returns-in-Ok-clause-format
+returns-in-Ok-clause-format g c = format _ _ _ _ _ _ _ _ (what g c)
+
+pub returns-in-Ok-clause-not_yet : goal.returns-in-Ok-clause-not_yet
+returns-in-Ok-clause-not_yet g c = not-yet _ _ _ _ _ _ _ _ (what g c)
+
+pub returns-in-Ok-clause-write_failed : goal.returns-in-Ok-clause-write_failed
+returns-in-Ok-clause-write_failed g c = write-failed _ _ _ _ _ _ _ _ (what g c)
+
+-- the status of the answer, where it is not that of a failed write or of want of memory
+answer-status : (g : given.Over) (c : goal.Joined-reply g) (n : ℕ) → n ≢ 6 → n ≢ 7 → c.answer.result ≡ n → status_of c.in-Ok.reply ≡ n
+answer-status g c n not_six not_seven is =
+    sym (status-by c.in-Ok.reply c.answer.result _ _ _ c.answer.ensures.delivers (λ e. not_six (sym is ∙ e)) (λ e. not_seven (sym is ∙ e))) ∙ is
+
+pub returns-in-Ok-clause-absent : goal.returns-in-Ok-clause-absent
+returns-in-Ok-clause-absent g c = λ is.
+    absent _ _ _ _ _ _ _ _ _ _ (what g c) is (c.in-Ok.ensures.absent (reply-at_3 c.in-Ok.reply (answer-status g c 3 (λ e. omega (arith, e)) (λ e. omega (arith, e)) is)))
+
+pub returns-in-Ok-clause-unreadable : goal.returns-in-Ok-clause-unreadable
+returns-in-Ok-clause-unreadable g c = λ is.
+    unreadable _ _ _ _ _ _ _ _ _ _ (what g c) is (c.in-Ok.ensures.failed (reply-at_4 c.in-Ok.reply (answer-status g c 4 (λ e. omega (arith, e)) (λ e. omega (arith, e)) is)))
+
+pub returns-in-Ok-clause-read_failed : goal.returns-in-Ok-clause-read_failed
+returns-in-Ok-clause-read_failed g c = λ is.
+    c.in-Ok.ensures.read_failed (reply-at_5 c.in-Ok.reply (answer-status g c 5 (λ e. omega (arith, e)) (λ e. omega (arith, e)) is))
+
+pub returns-in-Ok-clause-asked : goal.returns-in-Ok-clause-asked
+returns-in-Ok-clause-asked g c = asked-by _ c.in-Ok.reply _ _ _ _ c.in-Ok.ensures.asked c.answer.ensures.delivers
+
+pub returns-in-Ok-clause-asked_cut_off : goal.returns-in-Ok-clause-asked_cut_off
+returns-in-Ok-clause-asked_cut_off g c =
+    asked-cut _ c.in-Ok.reply _ _ _ (streams (g.O.Sink.taken c.reply_for.new.out) (g.O.Sink.taken c.answer.new.out) (g.E.Sink.taken c.args.err.now) (g.E.Sink.taken c.answer.new.err)) c.in-Ok.ensures.asked c.answer.ensures.delivers
 
 pub returns-in-Err-clause-answered : goal.returns-in-Err-clause-answered
 returns-in-Err-clause-answered g c =
