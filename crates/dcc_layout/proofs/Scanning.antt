@@ -65,14 +65,14 @@ module _ (image : Image) (at next : ℕ) (registers after : Registers) (kept : P
 
   -- an instruction behind which no prelude may end
   pub scanned-passed : may_end_prelude instr.op ≡ false → Scanned image next after kept
-  scanned-passed no =
+  scanned-passed stays =
       let joins = append_assoc before.front before.rest (instr ∷ []) in
       record {
         front = before.front;
         rest = before.rest ++ instr ∷ [];
         run = subst (λ l. IsRun (code_of image) image.ip l) joins longer-run;
         ends = before.ends;
-        none = none_ends-push before.rest instr before.none no;
+        none = none_ends-push before.rest instr before.none stays;
         at_is = longer-end ∙ ap (end_of image.ip) joins;
         registers_are = longer-registers ∙ ap (λ l. registers_of (executed (start_state image []) l)) joins;
         kept_end = before.kept_end;
@@ -81,14 +81,14 @@ module _ (image : Image) (at next : ℕ) (registers after : Registers) (kept : P
 
   -- an instruction behind which a prelude may end
   pub scanned-kept : (new : Prelude) → may_end_prelude instr.op ≡ true → new.end ≡ next → new.registers ≡ after → Scanned image next after new
-  scanned-kept new yes e r =
+  scanned-kept new ends e r =
       let whole = before.front ++ before.rest ++ instr ∷ [] in
       let none = append-nil whole in
       record {
         front = whole;
         rest = [];
         run = subst (λ l. IsRun (code_of image) image.ip l) (sym none) longer-run;
-        ends = ends_prelude-push (before.front ++ before.rest) instr yes;
+        ends = ends_prelude-push (before.front ++ before.rest) instr ends;
         none = refl;
         at_is = longer-end ∙ ap (end_of image.ip) (sym none);
         registers_are = longer-registers ∙ ap (λ l. registers_of (executed (start_state image []) l)) (sym none);

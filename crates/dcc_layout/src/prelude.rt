@@ -28,8 +28,8 @@ fn form_at(code: &[u8], at: usize) -> Option<Instr>
     ensures none { result ≡ None → (instr : Instr) → ¬ IsFormAt code.now at instr }
 {
     let offset = u16::try_from(at).ok()?;
-    let window = code.get(at..)?;
-    decode_window(window, offset).filter(|instr| is_prelude_form(instr.op))
+    let instr = decode_window(code.get(at..)?, offset)?;
+    is_prelude_form(instr.op).then_some(instr)
 }
 
 /// What the prelude of a loaded program leaves, which is the longest run from the entry of

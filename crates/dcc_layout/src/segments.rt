@@ -1,6 +1,6 @@
 //! The segments of a program, and whether they keep to the small memory model.
 
-ghost use Rattle.std.specs.Prelude.{◌≡◌, ◌≤◌, ◌*◌, ◌+◌, ℕ, length, None, Ok, Err, IfSome, IfOk, IfErr};
+ghost use Rattle.std.specs.Prelude.{◌≡◌, ◌≤◌, ◌*◌, ◌+◌, ◌-◌, ℕ, min, length, None, Ok, Err, IfSome, IfOk, IfErr};
 ghost use Rattle.dcc_prog.specs.declared.procedure.Layout.{Layout};
 ghost use Rattle.dcc_prog.specs.MzImage.{IsLoaded};
 ghost use Rattle.dcc_prog.specs.Layout.{HasLayout, lowest_of_stack};
@@ -44,6 +44,14 @@ fn lowest_of_stack(image: &Image, ds: u16) -> u32
     image_end.saturating_sub(distance(0, ds))
 }
 
+// The offset behind the code, below the data segment and in the image.
+fn code_end(image: &Image, ds: u16) -> u32
+    requires { image.now.cs ≤ ds }
+    ensures { result ≡ min ((ds - image.now.cs) * 16) image.now.code_len }
+{
+    distance(image.cs, ds).min(image.code_len)
+}
+
 // The layout behind a prelude, if one holds. A data segment above the code segment was written by
 // the prelude, since DS begins below the code.
 fn layout_behind(image: &Image, prelude: &Prelude) -> Option<Layout>
@@ -61,7 +69,7 @@ fn layout_behind(image: &Image, prelude: &Prelude) -> Option<Layout>
     let hi = registers.sp().checked_add(delta)?;
     let lo = u16::try_from(lowest_of_stack(image, ds)).ok()?;
     let start_ip = u16::try_from(prelude.end).ok()?;
-    let code_end = distance(image.cs, ds).min(image.code_len);
+    let code_end = code_end(image, ds);
     if lo >= hi || u32::from(start_ip) >= code_end {
         return None;
     }
@@ -90,7 +98,7 @@ pub fn layout(alloc: Global, image: &Image) -> Result<Layout, Refusal>
     // A program that has a layout gets it, and one that has none is refused.
     ensures lays_out { (layout : Layout) → HasLayout image.now layout → result ≡ Ok layout }
     ensures refuses { (at : ℕ) → IsConstruct 1 image.now at
-        → result ≡ Err (Refusal.Construct (record { kind = 1; at = at })) }
+        → result ≡ Err (Refusal.Construct 1 at) }
 {
     let _ = alloc;
     layout_behind(image, &prelude_of(image)).ok_or(Refusal::Construct {
