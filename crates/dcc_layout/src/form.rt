@@ -52,10 +52,7 @@ fn is_word_register(operand: Operand) -> bool
 fn is_prelude_plain(operation: Plain) -> bool
     ensures { result ≡ is_prelude_plain operation }
 {
-    matches!(
-        operation,
-        Plain::Nop | Plain::Cli | Plain::Sti | Plain::Cld
-    )
+    matches!(operation, Plain::Nop | Plain::Cli | Plain::Sti | Plain::Cld)
 }
 
 /// Whether the operation may stand in a prelude.
