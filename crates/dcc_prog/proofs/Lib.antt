@@ -4,3 +4,6 @@ pub mod FetchLaws
 pub mod MzImageLaws
 pub mod ConsoleLaws
 pub mod WellFormedLaws
+pub mod PreludeLaws
+pub mod PreludeSteps
+pub mod LayoutLaws

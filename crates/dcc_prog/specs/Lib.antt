@@ -7,3 +7,5 @@ pub mod Operands
 pub mod Table
 pub mod WellFormed
 pub mod Code
+pub mod Layout
+pub mod Construct

@@ -1,0 +1,3 @@
+pub mod Casts
+pub mod Scanning
+pub mod Values

@@ -1,0 +1,4 @@
+pub mod Registers
+pub mod Prelude
+pub mod Refusal
+pub mod Laws

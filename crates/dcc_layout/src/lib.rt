@@ -1,0 +1,12 @@
+//! The layout of a program of the small memory model: what its prelude sets up.
+#![tactic(auto)]
+
+mod form;
+pub mod laws;
+mod prelude;
+mod registers;
+mod segments;
+#[cfg(test)]
+mod tests;
+
+pub use segments::layout;

@@ -1,0 +1,53 @@
+//! The prelude and what it leaves.
+
+ghost use Rattle.std.specs.Prelude.{◌≡◌, ◌≤◌, length, None, IfSome};
+ghost use Rattle.dcc_prog.specs.declared.instr.Instr.{Instr};
+ghost use Rattle.dcc_prog.specs.Layout.{IsFormAt};
+ghost use Rattle.dcc_prog.specs.MzImage.{IsLoaded};
+ghost use Rattle.dcc_prog.specs.WellFormed.{IsOperation};
+ghost use Rattle.dcc_layout.specs.Prelude.{IsLeft};
+
+use crate::form::{is_prelude_form, may_end_prelude};
+use crate::registers::Registers;
+use dcc_decode::decode_window;
+use dcc_prog::{Image, Instr};
+
+/// What a prelude leaves.
+#[derive(Clone, Copy)]
+pub struct Prelude {
+    pub registers: Registers,
+    /// The offset behind it in the code segment, at most 65,536.
+    pub end: usize,
+}
+
+// The instruction at an offset, wholly in the code, if it may stand in a prelude.
+fn form_at(code: &[u8], at: usize) -> Option<Instr>
+    requires { length code.now ≤ 65536 }
+    ensures found { IfSome result (IsFormAt code.now at) }
+    ensures operation { IfSome result (λ instr. IsOperation instr.op) }
+    ensures none { result ≡ None → (instr : Instr) → ¬ IsFormAt code.now at instr }
+{
+    let offset = u16::try_from(at).ok()?;
+    let instr = decode_window(code.get(at..)?, offset)?;
+    is_prelude_form(instr.op).then_some(instr)
+}
+
+/// What the prelude of a loaded program leaves, which is the longest run from the entry of
+/// instructions that may stand in one, up to the last behind which it may end.
+pub fn prelude_of(image: &Image) -> Prelude
+    requires { IsLoaded image.now }
+    ensures { IsLeft image.now result }
+{
+    let code = image.code();
+    let mut registers = Registers::new(image);
+    let mut at = usize::from(image.ip);
+    let mut prelude = Prelude { registers, end: at };
+    while let Some(instr) = form_at(code, at) {
+        registers.execute(instr.op);
+        at += usize::from(instr.len);
+        if may_end_prelude(instr.op) {
+            prelude = Prelude { registers, end: at };
+        }
+    }
+    prelude
+}

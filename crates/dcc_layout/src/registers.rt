@@ -1,0 +1,167 @@
+//! Registers and flags, on which alone a prelude works.
+
+ghost use Rattle.std.specs.Prelude.{◌≡◌, ◌<◌, true, []};
+ghost use Rattle.dcc_num.specs.Numbers.{limit_of};
+ghost use Rattle.dcc_prog.specs.Layout.{is_prelude_form};
+ghost use Rattle.dcc_prog.specs.Machine.{start_state, half_of_word, word_with_half, word_in, stack_segment, data_segment, operand_value, operand_width, with_operand};
+ghost use Rattle.dcc_prog.specs.Operations.{with_result, count_in};
+ghost use Rattle.dcc_prog.specs.Step.{op_step};
+ghost use Rattle.dcc_prog.specs.WellFormed.{IsOperand, IsOperation};
+ghost use Rattle.dcc_layout.specs.Registers.{has_no_memory, state_of, registers_of};
+
+use crate::form::{DS, SS};
+use dcc_num::{Flags, Half, Reg, Width, add, shl, sub};
+use dcc_prog::{Alu, Image, Op, Operand};
+
+/// The segment of the program prefix, in which DS and ES begin.
+const PREFIX_SEGMENT: u16 = 0x0100;
+
+/// The registers and flags of a machine.
+#[derive(Clone, Copy)]
+pub struct Registers {
+    /// By number: AX, CX, DX, BX, SP, BP, SI, DI.
+    pub regs: [u16; 8],
+    /// By number: ES, CS, SS, DS.
+    pub segs: [u16; 4],
+    pub flags: Flags,
+}
+
+// One byte of a word.
+fn half_of(half: Half, word: u16) -> u8
+    ensures { result ≡ half_of_word half word }
+{
+    match half {
+        Half::Low => (word % 256) as u8,
+        Half::High => (word / 256) as u8,
+    }
+}
+
+// A word after one of its bytes has taken a value.
+fn with_half(half: Half, word: u16, byte: u8) -> u16
+    ensures { result ≡ word_with_half half word byte }
+{
+    match half {
+        Half::Low => word / 256 * 256 + u16::from(byte),
+        Half::High => u16::from(byte) * 256 + word % 256,
+    }
+}
+
+impl Registers {
+    /// The registers at the start of a loaded program.
+    pub fn new(image: &Image) -> Registers
+        ensures { result ≡ registers_of (start_state image.now []) }
+    {
+        Registers {
+            regs: [0, 0, 0, 0, image.sp, 0, 0, 0],
+            segs: [PREFIX_SEGMENT, image.cs, image.ss, PREFIX_SEGMENT],
+            flags: Flags {
+                cf: false,
+                zf: false,
+                sf: false,
+                of: false,
+            },
+        }
+    }
+
+    /// The stack pointer.
+    pub fn sp(&self) -> u16
+        ensures { result ≡ word_in (state_of self.now) Reg.Sp }
+    {
+        self.regs[Reg::Sp as usize]
+    }
+
+    /// The stack segment.
+    pub fn ss(&self) -> u16
+        ensures { result ≡ stack_segment (state_of self.now) }
+    {
+        self.segs[SS as usize]
+    }
+
+    /// The data segment.
+    pub fn ds(&self) -> u16
+        ensures { result ≡ data_segment (state_of self.now) }
+    {
+        self.segs[DS as usize]
+    }
+
+    // What a register or a constant holds.
+    fn value(&self, operand: Operand) -> u16
+        requires operand { IsOperand operand }
+        requires register { has_no_memory operand ≡ true }
+        ensures value { result ≡ operand_value (state_of self.now) operand }
+        ensures width { result < limit_of (operand_width operand) }
+    {
+        match operand {
+            Operand::Word(r) => self.regs[r as usize],
+            Operand::Byte(r, half) => u16::from(half_of(half, self.regs[r as usize])),
+            Operand::Seg(number) => self.segs[number as usize],
+            Operand::Const(_, constant) => constant,
+            Operand::Mem(..) => unreachable!(),
+        }
+    }
+
+    // Gives a register a value.
+    fn put(&mut self, operand: Operand, value: u16)
+        requires operand { IsOperand operand }
+        requires register { has_no_memory operand ≡ true }
+        requires width { value < limit_of (operand_width operand) }
+        ensures { self.new ≡ registers_of (with_operand (state_of self.old) operand value) }
+    {
+        match operand {
+            Operand::Word(r) => self.regs[r as usize] = value,
+            Operand::Byte(r, half) => {
+                let word = self.regs[r as usize];
+                self.regs[r as usize] = with_half(half, word, value as u8);
+            }
+            Operand::Seg(number) => self.segs[number as usize] = value,
+            Operand::Const(..) => {}
+            Operand::Mem(..) => unreachable!(),
+        }
+    }
+
+    // Gives a word register a sum or a difference, and sets the flags with it.
+    fn put_result(&mut self, operand: Operand, outcome: (u16, Flags))
+        requires operand { IsOperand operand }
+        requires register { has_no_memory operand ≡ true }
+        requires width { outcome.0 < limit_of (operand_width operand) }
+        ensures { self.new ≡ registers_of (with_result operand outcome (state_of self.old)) }
+    {
+        self.flags = outcome.1;
+        self.put(operand, outcome.0);
+    }
+
+    // The count of a shift: CL, or 1.
+    fn count(&self, by_cl: bool) -> u8
+        ensures { result ≡ count_in by_cl (state_of self.now) }
+    {
+        if by_cl {
+            half_of(Half::Low, self.regs[Reg::Cx as usize])
+        } else {
+            1
+        }
+    }
+
+    /// Makes an operation that may stand in a prelude.
+    pub fn execute(&mut self, op: Op)
+        requires form { is_prelude_form op ≡ true }
+        requires operation { IsOperation op }
+        ensures { self.new ≡ registers_of (op_step op 0 (state_of self.old)) }
+    {
+        match op {
+            Op::Mov(to, from) => self.put(to, self.value(from)),
+            Op::Alu(Alu::Add, a, b) => {
+                let outcome = add(Width::Word, self.value(a), self.value(b), false);
+                self.put_result(a, outcome);
+            }
+            Op::Alu(Alu::Sub, a, b) => {
+                let outcome = sub(Width::Word, self.value(a), self.value(b), false);
+                self.put_result(a, outcome);
+            }
+            Op::Shift(_, a, by_cl) => {
+                let outcome = shl(Width::Word, self.value(a), self.count(by_cl), self.flags);
+                self.put_result(a, outcome);
+            }
+            _ => {}
+        }
+    }
+}
