@@ -6,3 +6,4 @@ pub mod EdgeLaws
 pub mod GraphLaws
 pub mod StandLaws
 pub mod KeepsLaws
+pub mod ShiftLaws

@@ -6,6 +6,7 @@
 
 pub mod facts;
 pub mod laws;
+pub mod plain;
 pub mod syntax;
 
 pub use facts::{Live, Sum, Sums};

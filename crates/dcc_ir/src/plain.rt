@@ -1,0 +1,3 @@
+//! The plain run of a program: slow, and close to what a program means.
+
+pub mod values;
