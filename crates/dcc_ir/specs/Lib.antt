@@ -16,3 +16,4 @@ pub mod Rules
 pub mod Idioms
 pub mod Joinable
 pub mod Laws
+pub mod Plain

@@ -36,7 +36,7 @@ fn half(width: u8) -> Option<u64>
 }
 
 /// The low bits of a number.
-fn wrapped(width: u8, n: u64) -> Option<u32>
+pub fn wrapped(width: u8, n: u64) -> Option<u32>
     ensures { IfSome result (λ r. r ≡ n % 2 ^ width) }
 {
     let limit = limit(width)?;
@@ -44,7 +44,7 @@ fn wrapped(width: u8, n: u64) -> Option<u32>
 }
 
 /// The number that the bits stand for in two's complement.
-fn signed(width: u8, a: u32) -> Option<i64>
+pub fn signed(width: u8, a: u32) -> Option<i64>
     ensures value { IfSome result (λ z. z ≡ signed_at width a) }
     ensures low { IfSome result (λ z. neg_ℤ (pos (2 ^ 32)) ≤ℤ z) }
     ensures high { IfSome result (λ z. z <ℤ pos (2 ^ 32)) }
@@ -60,7 +60,7 @@ fn signed(width: u8, a: u32) -> Option<i64>
 }
 
 /// The bits of a signed number.
-fn pattern(width: u8, z: i64) -> Option<u32>
+pub fn pattern(width: u8, z: i64) -> Option<u32>
     ensures { IfSome result (λ r. r ≡ pattern_at width z) }
 {
     let limit = limit(width)?;
@@ -94,7 +94,7 @@ fn moved_up(width: u8, a: u32, count: u32) -> Option<u32>
 }
 
 /// The bits moved down, with 0 coming in.
-fn moved_down(a: u32, count: u32) -> u32
+pub fn moved_down(a: u32, count: u32) -> u32
     ensures { result ≡ a / 2 ^ count }
 {
     if count >= ALL_OUT { 0 } else { a >> count }
