@@ -1,9 +1,20 @@
 -- The values and states that those of the plain run stand for.
-use Rattle.std.specs.Prelude.{ℕ, List, fold}
+use Rattle.std.specs.Prelude.{ℕ, List, fold, map, reverse, drop, Option, Some, None}
+use denote.Ref.{Bor}
+use Rattle.dcc_run.specs.End.{End, Running, Exit as ExitWith, Divide, Stuck}
+use Rattle.dcc_ir.specs.declared.syntax.Block.{Block as BlockOf}
 use Rattle.dcc_ir.specs.declared.plain.scene.Held.{Held}
 use Rattle.dcc_ir.specs.declared.plain.scene.View.{View}
+use Rattle.dcc_ir.specs.declared.plain.run.End.{End as Ending}
+use Rattle.dcc_ir.specs.declared.plain.run.End.TheVariants.{Running as StillRunning, Exit as Exits, Divide as Divides, Stuck as IsStuck}
+use Rattle.dcc_ir.specs.declared.plain.run.Activation.{Activation as Called}
+use Rattle.dcc_ir.specs.declared.plain.run.Waiting.{Waiting as Waits}
+use Rattle.dcc_ir.specs.declared.plain.run.PlainRun.{PlainRun}
+use Rattle.dcc_ir.specs.Tree.{Block}
+use Rattle.dcc_ir.specs.Views.{stmt_of, block_of, graph_of}
 use Rattle.dcc_ir.specs.Location.{Values, with_value, filled}
 use Rattle.dcc_ir.specs.Value.{Scene}
+use Rattle.dcc_ir.specs.Run.{Activation, Waiting, State, no_block}
 
 -- the values after locations have taken these, one after another, from the fill on
 abbrev pub values_of : List ℕ → ℕ → List Held → Values
@@ -12,3 +23,41 @@ values_of bits fill held = fold (λ values h. with_value values h.at h.bits) (fi
 -- what the expressions read
 abbrev pub scene_of : View → Scene
 scene_of view = record { bits = view.bits.now; values = values_of view.bits.now view.fill view.held.now; base = view.base; memory = view.memory.now }
+
+-- how a run ends
+abbrev pub end_of : Ending → End
+end_of StillRunning = Running
+end_of (Exits code) = ExitWith code
+end_of Divides = Divide
+end_of (IsStuck entry) = Stuck entry
+
+-- the block, where there is one
+abbrev pub block_or_none : Option (Bor BlockOf) → Block
+block_or_none (Some block) = block_of block.now
+block_or_none None = no_block
+
+-- a call of a graph
+abbrev pub activation_of : ℕ → Called → Activation
+activation_of fill a = record {
+  graph = graph_of a.graph.now;
+  block = block_or_none a.block;
+  rest = map stmt_of a.rest.now;
+  begins = a.begins;
+  values = values_of a.graph.now.bits.items fill a.held.items;
+  base = a.base;
+}
+
+-- a caller that waits
+abbrev pub waiting_of : ℕ → Waits → Waiting
+waiting_of fill w = record { caller = activation_of fill w.caller; results = w.results.now }
+
+-- the state of a run
+abbrev pub state_of : PlainRun → State
+state_of run = record {
+  running = activation_of run.fill run.running;
+  waiting = reverse (map (waiting_of run.fill) run.waiting.items);
+  memory = run.memory.items;
+  input = drop run.taken run.input.items;
+  out = run.out.items;
+  end = end_of run.end;
+}

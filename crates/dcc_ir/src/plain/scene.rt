@@ -18,6 +18,7 @@ pub struct Held {
 }
 
 /// What the expressions of a call read.
+#[derive(Drop)]
 pub struct View<'a> {
     /// The bits of each temporary.
     pub bits: &'a [u8],
