@@ -7,3 +7,4 @@ pub mod GraphLaws
 pub mod StandLaws
 pub mod KeepsLaws
 pub mod ShiftLaws
+pub mod PassLaws

@@ -10,7 +10,8 @@ use Rattle.dcc_ir.specs.declared.plain.run.End.TheVariants.{Running as StillRunn
 use Rattle.dcc_ir.specs.declared.plain.run.Activation.{Activation as Called}
 use Rattle.dcc_ir.specs.declared.plain.run.Waiting.{Waiting as Waits}
 use Rattle.dcc_ir.specs.declared.plain.run.PlainRun.{PlainRun}
-use Rattle.dcc_ir.specs.Tree.{Block}
+use Rattle.dcc_ir.specs.declared.syntax.Graph.{Graph as GraphOf}
+use Rattle.dcc_ir.specs.Tree.{Block, Graph}
 use Rattle.dcc_ir.specs.Views.{stmt_of, block_of, graph_of}
 use Rattle.dcc_ir.specs.Location.{Values, with_value, filled}
 use Rattle.dcc_ir.specs.Value.{Scene}
@@ -31,10 +32,18 @@ end_of (Exits code) = ExitWith code
 end_of Divides = Divide
 end_of (IsStuck entry) = Stuck entry
 
+-- the block that is lent
+abbrev pub shared_block_of : Bor BlockOf → Block
+shared_block_of block = block_of block.now
+
 -- the block, where there is one
 abbrev pub block_or_none : Option (Bor BlockOf) → Block
-block_or_none (Some block) = block_of block.now
+block_or_none (Some block) = shared_block_of block
 block_or_none None = no_block
+
+-- the graph that is lent
+abbrev pub shared_graph_of : Bor GraphOf → Graph
+shared_graph_of graph = graph_of graph.now
 
 -- a call of a graph
 abbrev pub activation_of : ℕ → Called → Activation

@@ -95,10 +95,10 @@ fn store_byte(memory: &mut [u8], address: u32, byte: u8)
 }
 
 /// A number of so many bits is stored at an address, low byte first.
-fn store(memory: &mut [u8], width: u8, address: u32, n: u32) -> Result<(), Refused>
+pub fn store(memory: &mut [u8], width: u8, address: u32, n: u32) -> Result<(), Refused>
     ensures { OnOk result (memory.new ≡ with_bytes_at memory.old (width / 8) address n) }
 {
-    if address >= 0x1_0000 {
+    if address >= 0x8000_0000 {
         return Err(Refused::Wide);
     }
     match width {
@@ -127,7 +127,7 @@ fn store_word(memory: &mut [u8], address: u32, n: u32)
 fn string_at(alloc: Global, memory: &[u8], address: u32) -> Result<Vec<u8>, Refused>
     ensures { IfOk result (λ string. string.items ≡ dos_string memory.now address) }
 {
-    if address >= 0x1_0000 {
+    if address >= 0x8000_0000 {
         return Err(Refused::Wide);
     }
     let string = (0..65_536u32)
@@ -153,16 +153,18 @@ impl<'p> PlainRun<'p> {
     }
 
     /// A location of the running activation takes a value.
-    fn set(&mut self, at: Loc, bits: u32) -> Result<(), Refused>
-        ensures { OnOk result (state_of self.new ≡ inner.setting at bits (state_of self.old)) }
+    pub fn set(&mut self, at: Loc, bits: u32) -> Result<(), Refused>
+        ensures after { OnOk result (state_of self.new ≡ inner.setting at bits (state_of self.old)) }
+        ensures fill { self.new.fill ≡ self.old.fill }
     {
         self.running.held.push(Held { at, bits })?;
         Ok(())
     }
 
     /// The run has no further step.
-    fn stop(&mut self)
-        ensures { state_of self.new ≡ inner.stuck (state_of self.old) }
+    pub fn stop(&mut self)
+        ensures after { state_of self.new ≡ inner.stuck (state_of self.old) }
+        ensures fill { self.new.fill ≡ self.old.fill }
     {
         self.end = End::Stuck(self.running.graph.entry);
     }
@@ -181,7 +183,8 @@ impl<'p> PlainRun<'p> {
 
     /// The place takes a byte, where there is one.
     fn take(&mut self, place: Option<Loc>, byte: u32) -> Result<(), Refused>
-        ensures { OnOk result (state_of self.new ≡ inner.taking place byte (state_of self.old)) }
+        ensures after { OnOk result (state_of self.new ≡ inner.taking place byte (state_of self.old)) }
+        ensures fill { self.new.fill ≡ self.old.fill }
     {
         match place {
             Some(at) => self.set(at, byte),
@@ -191,7 +194,8 @@ impl<'p> PlainRun<'p> {
 
     /// The next byte of the input is taken, and written too where it is echoed; where there is none, 1Ah is taken.
     fn key(&mut self, echo: bool, place: Option<Loc>) -> Result<(), Refused>
-        ensures { OnOk result (state_of self.new ≡ inner.keyed echo place (state_of self.old).input (state_of self.old)) }
+        ensures after { OnOk result (state_of self.new ≡ inner.keyed echo place (state_of self.old).input (state_of self.old)) }
+        ensures fill { self.new.fill ≡ self.old.fill }
     {
         match self.input.get(self.taken).copied() {
             None => self.take(place, 0x1A),
@@ -207,14 +211,9 @@ impl<'p> PlainRun<'p> {
     }
 
     /// A DOS call with the value of its argument.
-    fn dos(
-        &mut self,
-        alloc: Global,
-        number: u8,
-        place: Option<Loc>,
-        n: u32,
-    ) -> Result<(), Refused>
-        ensures { OnOk result (state_of self.new ≡ inner.dos_step number place n (state_of self.old)) }
+    fn dos(&mut self, alloc: Global, number: u8, place: Option<Loc>, n: u32) -> Result<(), Refused>
+        ensures after { OnOk result (state_of self.new ≡ inner.dos_step number place n (state_of self.old)) }
+        ensures fill { self.new.fill ≡ self.old.fill }
     {
         match number {
             0x02 => {
@@ -229,6 +228,42 @@ impl<'p> PlainRun<'p> {
                 self.out.extend_from_slice(&string)?;
             }
             _ => self.stop(),
+        }
+        Ok(())
+    }
+
+    /// One statement that is no call.
+    pub fn execute(&mut self, alloc: Global, stmt: &Stmt) -> Result<(), Refused>
+        ensures after { OnOk result (state_of self.new ≡ inner.stmt_step (stmt_of stmt.now) (state_of self.old)) }
+        ensures fill { self.new.fill ≡ self.old.fill }
+    {
+        match stmt {
+            Stmt::Set(at, e) => {
+                let n = self.value(e)?;
+                self.set(*at, n)?;
+            }
+            Stmt::Load(at, width, address) => {
+                let address = self.value(address)?;
+                let n = bits_at(&self.memory, *width, address).ok_or(Refused::Wide)?;
+                self.set(*at, n)?;
+            }
+            Stmt::Store(width, address, e) => {
+                let address = self.value(address)?;
+                let n = self.value(e)?;
+                store(&mut self.memory, *width, address, n)?;
+            }
+            Stmt::Div(at, e) => match self.division(e)? {
+                Some(n) => self.set(*at, n)?,
+                None => self.end = End::Divide,
+            },
+            Stmt::Dos(number, place, argument) => {
+                let n = match argument {
+                    Some(e) => self.value(e)?,
+                    None => 0,
+                };
+                self.dos(alloc, *number, *place, n)?;
+            }
+            Stmt::Call(_, _, _, _) => self.stop(),
         }
         Ok(())
     }

@@ -139,7 +139,7 @@ fn word_at(memory: &[u8], address: u32) -> u32
 pub fn bits_at(memory: &[u8], width: u8, address: u32) -> Option<u32>
     ensures { IfSome result (λ r. r ≡ bytes_at memory.now (width / 8) address) }
 {
-    if address >= 0x1_0000 {
+    if address >= 0x8000_0000 {
         return None;
     }
     match width {
