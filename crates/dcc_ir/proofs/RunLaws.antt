@@ -1,14 +1,15 @@
 -- Laws of the runs of programs: they are lawful, and they come to blocks of the program alone.
-use Rattle.std.proofs.Common.{◌≡◌, ℕ, true, false, List, [], ◌∷◌, Option, Some, None, refl, sym, ap, ◌∙◌, subst, map, slice_get}
+use Rattle.std.proofs.Common.{◌≡◌, ℕ, true, false, List, [], ◌∷◌, Option, Some, None, refl, sym, ap, ◌∙◌, subst, map, slice_get, ◌≤◌, ◌⊎◌, inl, inr}
 use Rattle.std.specs.Prelude.{if◌then◌else◌, ◌==◌}
 use Rattle.dcc_run.specs.End.{is_over}
 use Rattle.dcc_run.specs.Prefix.{IsPrefix}
-use Rattle.dcc_run.specs.System.{IsLawful}
+use Rattle.dcc_run.specs.System.{IsLawful, after}
+use Rattle.dcc_run.proofs.RunLaws.{over_stays}
 use Rattle.dcc_run.proofs.PrefixLaws.{prefix_refl, prefix_trans}
 use Rattle.dcc_ir.specs.declared.syntax.Loc.{Loc}
 use Rattle.dcc_ir.specs.Tree.{Stmt, Call, Exit, Goto, If, Switch, Ret, Stop, Block, Graph, Program}
 use Rattle.dcc_ir.specs.Location.{filled}
-use Rattle.dcc_ir.specs.Run.{State, Waiting, activation, value_in, stmt_step, entering, passing, callee_base, calling, graph_at, returning, switching, exit_step, block_step, inner_system}
+use Rattle.dcc_ir.specs.Run.{State, Waiting, activation, value_in, stmt_step, entering, passing, callee_base, calling, graph_at, returning, switching, exit_step, block_step, step, inner_system}
 use Rattle.dcc_ir.proofs.StepLaws.{stmt-within, passing-alike, giving-alike}
 
 -- Output only grows.
@@ -64,3 +65,9 @@ inner_lawful p fill = record {
     | false ↦ block-grows p.graphs fill s.running.rest s
   ];
 }
+
+-- A run that has made all steps, or is over before, stands where all steps lead.
+pub stands_at_last : (p : Program) (fill steps done : ℕ) (s first : State) → done ≤ steps → s ≡ after (step p fill) done first → (done ≡ steps) ⊎ (is_over s.end ≡ true) → s ≡ after (step p fill) steps first
+stands_at_last p fill steps done s first within stands (inl all) = stands ∙ ap (λ n. after (step p fill) n first) all
+stands_at_last p fill steps done s first within stands (inr over) =
+    stands ∙ sym (over_stays (inner_system p fill) (inner_lawful p fill) done steps first within (ap (λ t. is_over t.end) (sym stands) ∙ over))

@@ -1,15 +1,15 @@
 -- The values and states that those of the plain run stand for.
-use Rattle.std.specs.Prelude.{ℕ, List, fold, map, reverse, drop, Option, Some, None}
+use Rattle.std.specs.Prelude.{◌%◌, ◌&&◌, nat_le, nat_lt, if◌then◌else◌, slice_index, ℕ, List, fold, map, reverse, drop, Option, Some, None}
 use denote.Ref.{Bor}
 use Rattle.dcc_run.specs.End.{End, Running, Exit as ExitWith, Divide, Stuck}
 use Rattle.dcc_ir.specs.declared.syntax.Block.{Block as BlockOf}
 use Rattle.dcc_ir.specs.declared.plain.scene.Held.{Held}
 use Rattle.dcc_ir.specs.declared.plain.scene.View.{View}
-use Rattle.dcc_ir.specs.declared.plain.run.End.{End as Ending}
-use Rattle.dcc_ir.specs.declared.plain.run.End.TheVariants.{Running as StillRunning, Exit as Exits, Divide as Divides, Stuck as IsStuck}
-use Rattle.dcc_ir.specs.declared.plain.run.Activation.{Activation as Called}
-use Rattle.dcc_ir.specs.declared.plain.run.Waiting.{Waiting as Waits}
-use Rattle.dcc_ir.specs.declared.plain.run.PlainRun.{PlainRun}
+use Rattle.dcc_ir.specs.declared.plain.state.End.{End as Ending}
+use Rattle.dcc_ir.specs.declared.plain.state.End.TheVariants.{Running as StillRunning, Exit as Exits, Divide as Divides, Stuck as IsStuck}
+use Rattle.dcc_ir.specs.declared.plain.state.Activation.{Activation as Called}
+use Rattle.dcc_ir.specs.declared.plain.state.Waiting.{Waiting as Waits}
+use Rattle.dcc_ir.specs.declared.plain.state.PlainRun.{PlainRun}
 use Rattle.dcc_ir.specs.declared.syntax.Graph.{Graph as GraphOf}
 use Rattle.dcc_ir.specs.Tree.{Block, Graph}
 use Rattle.dcc_ir.specs.Views.{stmt_of, block_of, graph_of}
@@ -70,3 +70,7 @@ state_of run = record {
   out = run.out.items;
   end = end_of run.end;
 }
+
+-- the byte of the memory at an address, at the start
+abbrev pub first_byte : List ℕ → ℕ → ℕ → ℕ → ℕ → ℕ
+first_byte image lo hi fill at = if nat_le lo at && nat_lt at hi then fill % 256 else slice_index image at

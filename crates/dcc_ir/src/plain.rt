@@ -1,20 +1,22 @@
 //! The plain run of a program: slow, and close to what a program means.
 
-ghost use Rattle.std.specs.Prelude.{◌≡◌, OnOk, map, option_map};
+ghost use Rattle.std.specs.List.{range_with_len};
+ghost use Rattle.std.specs.Prelude.{◌≡◌, OnOk, IfOk, map, option_map};
+ghost use Rattle.dcc_run.specs.System.{out_after, end_after};
 ghost use Rattle.dcc_run.specs.End.{is_over};
 ghost use Rattle.dcc_ir.specs.Views.{stmt_of, graph_of, program_of};
-ghost use Rattle.dcc_ir.specs.Plain.{end_of, state_of, shared_graph_of};
+ghost use Rattle.dcc_ir.specs.Plain.{first_byte, end_of, state_of, shared_graph_of};
 ghost use Rattle.dcc_ir.specs.Run as inner;
 
 mod calls;
-pub mod run;
 pub mod scene;
+pub mod state;
 pub mod values;
 
 use crate::syntax::{Graph, IrProgram, Stmt};
-pub use run::{Activation, End, PlainRun, Refused, Waiting};
 pub use scene::{Held, View};
-use std::alloc::Global;
+pub use state::{Activation, End, PlainRun, Refused, Waiting};
+use std::alloc::{AllocError, Global};
 
 /// The graph with that entry.
 fn graph_at(graphs: &[Graph], entry: u16) -> Option<&Graph>
@@ -28,7 +30,77 @@ fn graph_at(graphs: &[Graph], entry: u16) -> Option<&Graph>
     None
 }
 
+/// The output of a run so far, and its end.
+#[derive(Drop)]
+pub struct Outcome {
+    pub out: Vec<u8>,
+    pub end: End,
+}
+
+/// The memory at the start: the low byte of the fill from `lo` to below `hi`, elsewhere the image and zeros behind
+/// it.
+fn first_memory(alloc: Global, program: &IrProgram, fill: u16) -> Result<Vec<u8>, AllocError>
+    ensures { IfOk result (λ memory. memory.items ≡ inner.first_memory (program_of program.now) fill) }
+{
+    first_bytes(alloc, &program.image, program.lo, program.hi, fill, 65_536)
+}
+
+/// The first `len` bytes of the memory at the start.
+fn first_bytes(
+    alloc: Global,
+    image: &[u8],
+    lo: u16,
+    hi: u16,
+    fill: u16,
+    len: u32,
+) -> Result<Vec<u8>, AllocError>
+    ensures { IfOk result (λ bytes. bytes.items ≡ map (first_byte image.now lo hi fill) (range_with_len 0 len)) }
+{
+    (0..len)
+        .map(|at| if u32::from(lo) <= at && at < u32::from(hi) {
+            (fill % 256) as u8
+        } else {
+            image.get(at as usize).copied().unwrap_or(0)
+        })
+        .collect(alloc)
+}
+
 impl<'p> PlainRun<'p> {
+    /// The state in which the first graph begins.
+    pub fn new(
+        alloc: Global,
+        program: &'p IrProgram,
+        input: &[u8],
+        fill: u16,
+    ) -> Result<PlainRun<'p>, Refused>
+        ensures state { IfOk result (λ run.
+            state_of run ≡ inner.first_state (program_of program.entry.now) fill input.now) }
+        ensures fill { IfOk result (λ run. run.fill ≡ fill) }
+    {
+        let Some(graph) = program.graphs.first() else {
+            return Err(Refused::Empty);
+        };
+        let mut run = PlainRun {
+            running: Activation {
+                graph,
+                block: None,
+                rest: &[],
+                begins: false,
+                held: Vec::new(alloc),
+                base: program.hi.wrapping_add(2),
+            },
+            waiting: Vec::new(alloc),
+            memory: first_memory(alloc, program, fill)?,
+            input: input.to_vec(alloc)?,
+            taken: 0,
+            out: Vec::new(alloc),
+            end: End::Running,
+            fill,
+        };
+        run.go_to(0);
+        Ok(run)
+    }
+
     /// Whether the run is over.
     pub fn is_over(&self) -> bool
         ensures { result ≡ is_over (end_of self.now.end) }
@@ -81,3 +153,31 @@ impl<'p> PlainRun<'p> {
         self.go_on(alloc, program, self.running.rest)
     }
 }
+
+/// The first `steps` steps of a program.
+pub fn run(
+    alloc: Global,
+    program: &IrProgram,
+    input: &[u8],
+    fill: u16,
+    steps: u64,
+) -> Result<Outcome, Refused>
+    ensures out { IfOk result (λ outcome. outcome.out.items
+        ≡ out_after (inner.inner_system (program_of program.now) fill) steps (inner.first_state (program_of program.now) fill input.now)) }
+    ensures end { IfOk result (λ outcome. end_of outcome.end
+        ≡ end_after (inner.inner_system (program_of program.now) fill) steps (inner.first_state (program_of program.now) fill input.now)) }
+{
+    let mut run = PlainRun::new(alloc, program, input, fill)?;
+    let mut done = 0;
+    while done < steps && !run.is_over() {
+        run.step(alloc, program)?;
+        done += 1;
+    }
+    Ok(Outcome {
+        out: run.out,
+        end: run.end,
+    })
+}
+
+#[cfg(test)]
+mod tests;

@@ -5,7 +5,7 @@ ghost use Rattle.dcc_ir.specs.Views.{expr_of, stmt_of, exit_of};
 ghost use Rattle.dcc_ir.specs.Plain.{state_of, shared_block_of, shared_graph_of};
 ghost use Rattle.dcc_ir.specs.Run as inner;
 
-use super::run::{Activation, PlainRun, Refused, Waiting, store};
+use super::state::{Activation, PlainRun, Refused, Waiting, store};
 use crate::syntax::{Block, End as BlockEnd, Expr, Graph, Loc, Param, Put};
 use std::alloc::Global;
 use std::mem;
@@ -27,7 +27,7 @@ impl<'p> PlainRun<'p> {
     }
 
     /// The running activation comes to the block at that place of its graph.
-    fn go_to(&mut self, place: u32)
+    pub fn go_to(&mut self, place: u32)
         ensures after { state_of self.new ≡ inner.going_to place (state_of self.old) }
         ensures fill { self.new.fill ≡ self.old.fill }
     {

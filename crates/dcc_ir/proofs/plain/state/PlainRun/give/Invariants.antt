@@ -1,7 +1,7 @@
 use Rattle.std.proofs.Common.{◌≡◌, drop}
 use Rattle.dcc_ir.specs.Plain.{state_of}
 use Rattle.dcc_ir.specs.Run.{giving}
-use Rattle.dcc_ir.proofs.plain.run.PlainRun.give.Given as goal
+use Rattle.dcc_ir.proofs.plain.state.PlainRun.give.Given as goal
 
 -- what is left to give takes the state to where giving all takes the first one
 abbrev pub invariant-loop-k : goal.invariant-loop-k

@@ -31,6 +31,8 @@ pub enum Refused {
     Memory,
     /// A number has more than 32 bits, or a byte more than 8.
     Wide,
+    /// The program has no graph.
+    Empty,
 }
 
 impl From<AllocError> for Refused {

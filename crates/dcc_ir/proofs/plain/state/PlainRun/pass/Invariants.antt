@@ -1,7 +1,7 @@
 use Rattle.std.proofs.Common.{◌≡◌, drop}
 use Rattle.dcc_ir.specs.Plain.{state_of}
 use Rattle.dcc_ir.specs.Run.{passing}
-use Rattle.dcc_ir.proofs.plain.run.PlainRun.pass.Given as goal
+use Rattle.dcc_ir.proofs.plain.state.PlainRun.pass.Given as goal
 
 -- what is left to pass takes the state to where passing all takes the first one
 abbrev pub invariant-loop-j : goal.invariant-loop-j

@@ -2,7 +2,7 @@ use Rattle.std.proofs.Common.{◌≡◌, map, take}
 use Rattle.dcc_ir.specs.Views.{expr_of}
 use Rattle.dcc_ir.specs.Plain.{state_of}
 use Rattle.dcc_ir.specs.Run.{value_in}
-use Rattle.dcc_ir.proofs.plain.run.PlainRun.values.Given as goal
+use Rattle.dcc_ir.proofs.plain.state.PlainRun.values.Given as goal
 
 -- the values of the expressions so far
 abbrev pub invariant-loop-e : goal.invariant-loop-e

@@ -3,7 +3,7 @@ use Rattle.dcc_run.specs.End.{is_over}
 use Rattle.dcc_ir.specs.Views.{stmt_of, graph_of}
 use Rattle.dcc_ir.specs.Plain.{state_of, end_of}
 use Rattle.dcc_ir.specs.Run.{block_step}
-use Rattle.dcc_ir.proofs.plain.run.PlainRun.go_on.Given as goal
+use Rattle.dcc_ir.proofs.plain.state.PlainRun.go_on.Given as goal
 
 -- what is left of the block takes the state to where the whole takes the first one
 abbrev pub invariant-loop-i : goal.invariant-loop-i

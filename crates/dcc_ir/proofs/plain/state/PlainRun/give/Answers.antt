@@ -1,6 +1,6 @@
 use Rattle.std.proofs.Common.{◌≡◌, ◌≤◌, ◌∙◌, min, length, sym, arith}
 use Rattle.dcc_ir.proofs.PassLaws.{giving_done}
-use Rattle.dcc_ir.proofs.plain.run.PlainRun.give.Goals as goal
+use Rattle.dcc_ir.proofs.plain.state.PlainRun.give.Goals as goal
 
 pub returns-clause-after : goal.returns-clause-after
 returns-clause-after c =

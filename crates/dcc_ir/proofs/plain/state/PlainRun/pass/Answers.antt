@@ -1,6 +1,6 @@
 use Rattle.std.proofs.Common.{◌≡◌, ◌≤◌, ◌∙◌, min, length, sym, arith}
 use Rattle.dcc_ir.proofs.PassLaws.{passing_done}
-use Rattle.dcc_ir.proofs.plain.run.PlainRun.pass.Goals as goal
+use Rattle.dcc_ir.proofs.plain.state.PlainRun.pass.Goals as goal
 
 pub returns-clause-after : goal.returns-clause-after
 returns-clause-after c =
