@@ -52,10 +52,10 @@ fn a_key_is_taken_and_written(rt: HostRuntime) -> Result<(), Refused> {
     stmts.push(Stmt::Dos(0x4C, None, Some(Expr::Const(8, 3))))?;
     let program = program(alloc, stmts, BlockEnd::Stop)?;
     let some = run(alloc, &program, b"a", 0, 9)?;
-    assert_eq!(rt; some.out.as_slice(), b"a");
+    assert_eq!(rt; some.out.as_slice(), b"a".as_slice());
     assert_eq!(rt; some.end, End::Exit(3));
     let none = run(alloc, &program, b"", 0, 9)?;
-    assert_eq!(rt; none.out.as_slice(), b"\x1A");
+    assert_eq!(rt; none.out.as_slice(), b"\x1A".as_slice());
     Ok(())
 }
 
