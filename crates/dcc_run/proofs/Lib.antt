@@ -1,2 +1,3 @@
 pub mod PrefixLaws
 pub mod RunLaws
+pub mod VisitLaws

@@ -2,3 +2,4 @@ pub mod End
 pub mod Prefix
 pub mod System
 pub mod Follows
+pub mod Visits

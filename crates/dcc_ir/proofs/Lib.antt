@@ -1,0 +1,10 @@
+pub mod StepLaws
+pub mod RunLaws
+pub mod PathLaws
+pub mod FlowLaws
+pub mod EdgeLaws
+pub mod GraphLaws
+pub mod StandLaws
+pub mod KeepsLaws
+pub mod ShiftLaws
+pub mod PassLaws

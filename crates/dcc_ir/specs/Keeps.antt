@@ -1,0 +1,48 @@
+-- What a pass keeps of a program.
+use Rattle.std.specs.Prelude.{◌≡◌, ◌≢◌, ℕ, ◌<◌, ◌==◌, Bool, true, List, [], ◌∷◌, map, find, flat_map, All, Option, Some, None}
+use Rattle.dcc_run.specs.Visits.{VisitsKept}
+use Rattle.dcc_ir.specs.Tree.{Stmt, Call, Block, Program}
+use Rattle.dcc_ir.specs.Run.{graph_at, no_block, inner_system, first_state, block_mark, Place}
+use Rattle.dcc_ir.specs.Flow.{graph_or_none, flow_at, Reached, IsContraction, HaveOneEdge}
+
+-- the program has the block
+abbrev pub has_block : Program → Place → Bool
+has_block p place = (flow_at p place.entry).has place.at
+
+-- a call by the entry of its graph and its depth
+abbrev pub calls_of : Stmt → List (ℕ × ℕ)
+calls_of (Call results entry arguments depth) = (entry, depth) ∷ []
+calls_of _ = []
+
+abbrev pub block_or_none : Option Block → Block
+block_or_none (Some block) = block
+block_or_none None = no_block
+
+-- the block at an address of the graph with that entry
+abbrev pub block_at : Program → ℕ → ℕ → Block
+block_at p entry at = block_or_none (find (λ block. block.at == at) (graph_or_none (graph_at p.graphs entry)).blocks)
+
+-- the calls of that block, in their order
+abbrev pub calls_at : Program → ℕ → ℕ → List (ℕ × ℕ)
+calls_at p entry at = flat_map calls_of (block_at p entry at).stmts
+
+-- The calls stay in their blocks, and the second program has each block that holds a call and each to which such a
+-- block goes.
+pub record KeepsCalls (p q : Program) (entry : ℕ) : Type 0 where
+  pub same : (a : ℕ) → Reached (flow_at p entry) a → (flow_at q entry).has a ≡ true → calls_at q entry a ≡ calls_at p entry a
+  pub kept : (a : ℕ) → Reached (flow_at p entry) a → calls_at p entry a ≢ [] → (flow_at q entry).has a ≡ true
+  pub after : (a b : ℕ) → Reached (flow_at p entry) a → calls_at p entry a ≢ [] → (flow_at p entry).goes a b ≡ true → (flow_at q entry).has b ≡ true
+
+-- The second program has the first one's graphs, each with a part of its blocks. For every fill and input its run
+-- visits those blocks as the first one's run does, with the same outputs, and the two end alike.
+pub record Keeps (p q : Program) : Type 0 where
+  pub entries : map (λ g. g.entry) q.graphs ≡ map (λ g. g.entry) p.graphs
+  pub runs : (fill : ℕ) (input : List ℕ) → fill < 65536 → All (λ byte. byte < 256) input →
+      VisitsKept (has_block q) (inner_system p fill) block_mark (first_state p fill input) (inner_system q fill) block_mark (first_state q fill input)
+  pub flow : (entry : ℕ) → IsContraction (flow_at p entry) (flow_at q entry)
+  pub calls : (entry : ℕ) → KeepsCalls p q entry
+
+-- the same of a single pass, in which each block that goes has one edge in
+pub record KeepsInOne (p q : Program) : Type 0 where
+  pub keeps : Keeps p q
+  pub edges : (entry : ℕ) → HaveOneEdge (flow_at p entry) (flow_at q entry)

@@ -1,0 +1,22 @@
+-- Laws of the inner language's definitions.
+use Rattle.std.specs.Prelude.{◌≡◌, ℕ, true, false}
+use Rattle.dcc_run.specs.System.{IsLawful}
+use Rattle.dcc_ir.specs.Tree.{Program}
+use Rattle.dcc_ir.specs.Run.{inner_system}
+use Rattle.dcc_ir.specs.Flow.{Flow, Reached, Leads, HaveOneEdge}
+use Rattle.dcc_ir.specs.Keeps.{Keeps}
+
+-- a state that has ended stays, and no step takes output back
+abbrev pub RunsAreLawful : Type 0
+RunsAreLawful = (p : Program) (fill : ℕ) → IsLawful (inner_system p fill)
+
+abbrev pub ProgramsKeepThemselves : Type 0
+ProgramsKeepThemselves = (p : Program) → Keeps p p
+
+-- what two passes keep one after another
+abbrev pub KeepsComposes : Type 0
+KeepsComposes = (p q r : Program) → Keeps p q → Keeps q r → Keeps p r
+
+-- where each block that goes has one edge in, it lies behind one block alone that stays
+abbrev pub OneEdgeLiesBehindOne : Type 0
+OneEdgeLiesBehindOne = (p q : Flow) → HaveOneEdge p q → (a b c : ℕ) → Reached p a → Reached p b → q.has a ≡ true → q.has b ≡ true → q.has c ≡ false → Leads p q a c → Leads p q b c → a ≡ b

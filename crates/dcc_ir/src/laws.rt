@@ -1,0 +1,23 @@
+//! Laws of the inner language's definitions. Each function only states a law by its contract, and does nothing.
+
+ghost use Rattle.dcc_ir.specs.Laws.{RunsAreLawful, ProgramsKeepThemselves, KeepsComposes, OneEdgeLiesBehindOne};
+
+/// A run that has ended stays, and no step takes output back.
+pub fn runs_are_lawful()
+    ensures { RunsAreLawful }
+{}
+
+/// A program keeps itself.
+pub fn programs_keep_themselves()
+    ensures { ProgramsKeepThemselves }
+{}
+
+/// What two passes keep one after another is kept from the first program to the last.
+pub fn keeps_composes()
+    ensures { KeepsComposes }
+{}
+
+/// Where each block that a pass drops has one edge in, it lies behind one block alone that the pass leaves.
+pub fn one_edge_lies_behind_one()
+    ensures { OneEdgeLiesBehindOne }
+{}

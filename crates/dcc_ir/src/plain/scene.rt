@@ -1,0 +1,252 @@
+//! What expressions read, and their values.
+
+ghost use Rattle.std.specs.Prelude.{◌≡◌, ℕ, ◌+◌, ◌*◌, ◌/◌, ◌%◌, ◌^◌, ◌<◌, if◌then◌else◌, IfSome};
+ghost use Rattle.dcc_ir.specs.Location.{same_location, location_width, fill_at};
+ghost use Rattle.dcc_ir.specs.Value.{width_of, byte_at, bytes_at, value_of, pattern_at, signed_at};
+ghost use Rattle.dcc_ir.specs.Views.{expr_of};
+ghost use Rattle.dcc_ir.specs.Plain.{values_of, scene_of};
+
+use super::values::{binary_value, limit, moved_down, pattern, signed, unary_value, wrapped};
+use crate::syntax::{BinOp, Expr, Loc, UnOp};
+use dcc_num::{FlagName, Half, Reg};
+
+/// A location that has taken a value.
+#[derive(Clone, Copy, PartialEq, Eq, Debug)]
+pub struct Held {
+    pub at: Loc,
+    pub bits: u32,
+}
+
+/// What the expressions of a call read.
+#[derive(Drop)]
+pub struct View<'a> {
+    /// The bits of each temporary.
+    pub bits: &'a [u8],
+    /// The locations that have taken values, the latest last.
+    pub held: &'a [Held],
+    /// What the others hold, cut or sign-extended.
+    pub fill: u16,
+    /// The base of the frame.
+    pub base: u16,
+    pub memory: &'a [u8],
+}
+
+/// The place of a register among the word registers.
+fn register_number(r: Reg) -> u8
+    ensures { result ≡ Rattle.dcc_ir.specs.Location.register_number r }
+{
+    match r {
+        Reg::Ax => 0,
+        Reg::Cx => 1,
+        Reg::Dx => 2,
+        Reg::Bx => 3,
+        Reg::Sp => 4,
+        Reg::Bp => 5,
+        Reg::Si => 6,
+        Reg::Di => 7,
+    }
+}
+
+/// The place of a half in its word.
+fn half_number(h: Half) -> u8
+    ensures { result ≡ Rattle.dcc_ir.specs.Location.half_number h }
+{
+    match h {
+        Half::Low => 0,
+        Half::High => 1,
+    }
+}
+
+/// The place of a flag among the flags.
+fn flag_number(f: FlagName) -> u8
+    ensures { result ≡ Rattle.dcc_ir.specs.Location.flag_number f }
+{
+    match f {
+        FlagName::Cf => 0,
+        FlagName::Zf => 1,
+        FlagName::Sf => 2,
+        FlagName::Of => 3,
+    }
+}
+
+/// Whether the two are one location.
+pub fn same_location(a: Loc, b: Loc) -> bool
+    ensures { result ≡ same_location a b }
+{
+    match (a, b) {
+        (Loc::Half(r, h), Loc::Half(s, k)) => {
+            register_number(r) == register_number(s) && half_number(h) == half_number(k)
+        }
+        (Loc::Flag(f), Loc::Flag(g)) => flag_number(f) == flag_number(g),
+        (Loc::Cell(n, h), Loc::Cell(m, k)) => n == m && half_number(h) == half_number(k),
+        (Loc::Temp(n), Loc::Temp(m)) => n == m,
+        _ => false,
+    }
+}
+
+/// How many bits a location has; 0 for a temporary that there is not.
+pub fn location_width(bits: &[u8], location: Loc) -> u8
+    ensures { result ≡ location_width bits.now location }
+{
+    match location {
+        Loc::Half(_, _) | Loc::Cell(_, _) => 8,
+        Loc::Flag(_) => 1,
+        Loc::Temp(n) => bits.get(n as usize).copied().unwrap_or(0),
+    }
+}
+
+/// The fill, cut or sign-extended to a width.
+fn fill_at(width: u8, fill: u16) -> Option<u32>
+    ensures { IfSome result (λ r. r ≡ fill_at width fill) }
+{
+    let n = u64::from(fill);
+    wrapped(width, if n >= 0x8000 { n + 0xFFFF_0000 } else { n })
+}
+
+/// What a location holds.
+fn held_by(bits: &[u8], fill: u16, held: &[Held], location: Loc) -> Option<u32>
+    ensures { IfSome result (λ r. r ≡ values_of bits.now fill held.now location) }
+{
+    let mut value = fill_at(location_width(bits, location), fill)?;
+    for h in held {
+        if same_location(location, h.at) {
+            value = h.bits;
+        }
+    }
+    Some(value)
+}
+
+/// The byte at an address, which wraps.
+pub fn byte_at(memory: &[u8], address: u32) -> u8
+    ensures { result ≡ byte_at memory.now address }
+{
+    memory
+        .get((address % 65_536) as usize)
+        .copied()
+        .unwrap_or(0)
+}
+
+/// The word at an address, low byte first.
+fn word_at(memory: &[u8], address: u32) -> u32
+    requires { address + 1 < 2 ^ 32 }
+    ensures word { result ≡ bytes_at memory.now 2 address }
+    ensures within { result < 2 ^ 16 }
+{
+    u32::from(byte_at(memory, address)) + 256 * u32::from(byte_at(memory, address + 1))
+}
+
+/// The number of so many bits at an address; none where it is no byte, word or long, or the address is none.
+pub fn bits_at(memory: &[u8], width: u8, address: u32) -> Option<u32>
+    ensures { IfSome result (λ r. r ≡ bytes_at memory.now (width / 8) address) }
+{
+    if address >= 0x8000_0000 {
+        return None;
+    }
+    match width {
+        8 => Some(u32::from(byte_at(memory, address))),
+        16 => Some(word_at(memory, address)),
+        32 => Some(word_at(memory, address) + 0x1_0000 * word_at(memory, address + 2)),
+        _ => None,
+    }
+}
+
+/// How many bits an expression has, where these are fewer than 256.
+pub fn width_of(bits: &[u8], e: &Expr) -> Option<u8>
+    ensures { IfSome result (λ r. r ≡ width_of bits.now (expr_of e.now)) }
+{
+    match e {
+        Expr::Const(width, _)
+        | Expr::Load(width, _)
+        | Expr::Widen(_, width, _)
+        | Expr::Part(width, _, _) => Some(*width),
+        Expr::Get(location) => Some(location_width(bits, *location)),
+        Expr::Un(operator, width, _) => Some(if is_test(*operator) { 1 } else { *width }),
+        Expr::Bin(operator, width, _, _) => {
+            Some(if is_comparison(*operator) { 1 } else { *width })
+        }
+        Expr::Join(high, low) => width_of(bits, high)?.checked_add(width_of(bits, low)?),
+        Expr::Choose(_, a, _) => width_of(bits, a),
+        Expr::Address(_) => Some(16),
+    }
+}
+
+/// Whether an operator gives one bit.
+fn is_test(operator: UnOp) -> bool
+    ensures { result ≡ Rattle.dcc_ir.specs.Value.is_test operator }
+{
+    match operator {
+        UnOp::IsZero => true,
+        UnOp::Neg | UnOp::Not => false,
+    }
+}
+
+/// Whether an operator gives one bit.
+fn is_comparison(operator: BinOp) -> bool
+    ensures { result ≡ Rattle.dcc_ir.specs.Value.is_comparison operator }
+{
+    match operator {
+        BinOp::Eq | BinOp::LtS | BinOp::LtU | BinOp::LeS | BinOp::LeU => true,
+        _ => false,
+    }
+}
+
+/// A number at a greater width, extended by its sign or by zeros.
+fn widened(by_sign: bool, from: u8, to: u8, n: u32) -> Option<u32>
+    ensures { IfSome result (λ r. r ≡ (if by_sign then pattern_at to (signed_at from n) else n)) }
+{
+    if by_sign {
+        pattern(to, signed(from, n)?)
+    } else {
+        Some(n)
+    }
+}
+
+/// A number from its upper and its lower half, of so many bits, where it has at most 32.
+fn joined(high: u32, width: u8, low: u32) -> Option<u32>
+    ensures { IfSome result (λ r. r ≡ high * 2 ^ width + low) }
+{
+    let n = u64::from(high)
+        .checked_mul(limit(width)?)?
+        .checked_add(u64::from(low))?;
+    u32::try_from(n).ok()
+}
+
+/// The value of an expression, where it and what it is made of have at most 32 bits.
+pub fn value_of(view: &View<'_>, e: &Expr) -> Option<u32>
+    ensures { IfSome result (λ r. r ≡ value_of (scene_of view.now) (expr_of e.now)) }
+{
+    match e {
+        Expr::Const(_, n) => Some(*n),
+        Expr::Get(location) => held_by(view.bits, view.fill, view.held, *location),
+        Expr::Load(width, address) => bits_at(view.memory, *width, value_of(view, address)?),
+        Expr::Un(operator, width, a) => unary_value(*operator, *width, value_of(view, a)?),
+        Expr::Bin(operator, width, a, b) => {
+            binary_value(*operator, *width, value_of(view, a)?, value_of(view, b)?)
+        }
+        Expr::Widen(by_sign, width, a) => {
+            widened(
+                *by_sign,
+                width_of(view.bits, a)?,
+                *width,
+                value_of(view, a)?,
+            )
+        }
+        Expr::Part(width, first, a) => {
+            let moved = moved_down(value_of(view, a)?, u32::from(*first));
+            wrapped(*width, u64::from(moved))
+        }
+        Expr::Join(high, low) => joined(
+            value_of(view, high)?,
+            width_of(view.bits, low)?,
+            value_of(view, low)?,
+        ),
+        Expr::Choose(test, a, b) => {
+            if value_of(view, test)? == 1 {
+                value_of(view, a)
+            } else {
+                value_of(view, b)
+            }
+        }
+        Expr::Address(distance) => Some((u32::from(view.base) + u32::from(*distance)) % 65_536),
+    }
+}

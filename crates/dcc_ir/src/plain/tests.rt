@@ -1,0 +1,114 @@
+// Runs of small programs.
+use super::*;
+use crate::syntax::{BinOp, Block, End as BlockEnd, Expr, Loc, Param, Put};
+use dcc_num::{Half, Reg};
+
+const AL: Loc = Loc::Half(Reg::Ax, Half::Low);
+
+const CL: Loc = Loc::Half(Reg::Cx, Half::Low);
+
+// A program of one graph of one block, whose stack reaches from 16 to 256.
+fn program(alloc: Global, stmts: Vec<Stmt>, end: BlockEnd) -> Result<IrProgram, AllocError> {
+    let mut graphs = Vec::new(alloc);
+    graphs.push(graph(alloc, 5, Vec::new(alloc), stmts, end)?)?;
+    Ok(IrProgram {
+        graphs,
+        image: Vec::new(alloc),
+        lo: 16,
+        hi: 256,
+    })
+}
+
+// A graph of one block.
+fn graph(
+    alloc: Global,
+    entry: u16,
+    params: Vec<Param>,
+    stmts: Vec<Stmt>,
+    end: BlockEnd,
+) -> Result<Graph, AllocError> {
+    let mut blocks = Vec::new(alloc);
+    blocks.push(Block {
+        at: entry,
+        stmts,
+        end,
+    })?;
+    Ok(Graph {
+        entry,
+        params,
+        local: 0,
+        pushed: 0,
+        blocks,
+        bits: Vec::new(alloc),
+    })
+}
+
+#[test]
+fn a_key_is_taken_and_written(rt: HostRuntime) -> Result<(), Refused> {
+    let alloc = rt.alloc();
+    let mut stmts = Vec::new(alloc);
+    stmts.push(Stmt::Dos(0x08, Some(AL), None))?;
+    stmts.push(Stmt::Dos(0x02, None, Some(Expr::Get(AL))))?;
+    stmts.push(Stmt::Dos(0x4C, None, Some(Expr::Const(8, 3))))?;
+    let program = program(alloc, stmts, BlockEnd::Stop)?;
+    let some = run(alloc, &program, b"a", 0, 9)?;
+    assert_eq!(rt; some.out.as_slice(), b"a".as_slice());
+    assert_eq!(rt; some.end, End::Exit(3));
+    let none = run(alloc, &program, b"", 0, 9)?;
+    assert_eq!(rt; none.out.as_slice(), b"\x1A".as_slice());
+    Ok(())
+}
+
+#[test]
+fn a_division_of_the_least_number_by_minus_one_ends_the_run(
+    rt: HostRuntime,
+) -> Result<(), Refused> {
+    let alloc = rt.alloc();
+    let least = Box::new(alloc, Expr::Const(8, 0x80))?;
+    let by = Box::new(alloc, Expr::Const(8, 0xFF))?;
+    let mut stmts = Vec::new(alloc);
+    stmts.push(Stmt::Div(AL, Expr::Bin(BinOp::DivS, 8, least, by)))?;
+    let program = program(alloc, stmts, BlockEnd::Stop)?;
+    assert_eq!(rt; run(alloc, &program, b"", 0, 9)?.end, End::Divide);
+    Ok(())
+}
+
+#[test]
+fn a_call_passes_words_in_memory_and_locations_and_gives_back(
+    rt: HostRuntime,
+) -> Result<(), Refused> {
+    let alloc = rt.alloc();
+    let mut results = Vec::new(alloc);
+    results.push(AL)?;
+    let mut arguments = Vec::new(alloc);
+    arguments.push(Expr::Const(16, 0x1234))?;
+    arguments.push(Expr::Const(8, 5))?;
+    let mut stmts = Vec::new(alloc);
+    stmts.push(Stmt::Call(results, 0x20, arguments, 6))?;
+    stmts.push(Stmt::Dos(0x4C, None, Some(Expr::Get(AL))))?;
+    let mut program = program(alloc, stmts, BlockEnd::Stop)?;
+    let mut params = Vec::new(alloc);
+    params.push(Param {
+        stack: true,
+        put: Put::Memory,
+    })?;
+    params.push(Param {
+        stack: false,
+        put: Put::One(CL),
+    })?;
+    let upper = Expr::Load(8, Box::new(alloc, Expr::Address(1))?);
+    let sum = Expr::Bin(
+        BinOp::Add,
+        8,
+        Box::new(alloc, upper)?,
+        Box::new(alloc, Expr::Get(CL))?,
+    );
+    let mut values = Vec::new(alloc);
+    values.push(sum)?;
+    let callee = graph(alloc, 0x20, params, Vec::new(alloc), BlockEnd::Ret(values))?;
+    program.graphs.push(callee)?;
+    // The call, the return, and the rest of the caller's block.
+    assert_eq!(rt; run(alloc, &program, b"", 0, 2)?.end, End::Running);
+    assert_eq!(rt; run(alloc, &program, b"", 0, 3)?.end, End::Exit(0x17));
+    Ok(())
+}
