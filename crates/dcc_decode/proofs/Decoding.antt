@@ -131,7 +131,7 @@ pub ruleset table_jump_rules = (table_jump_short, table_jump_other, table_jump_m
 
 -- The other instructions -------------------------------------------------------------------------------
 
--- a row that begins with another byte than 2E and CD has an opcode and a ModRM byte at most
+-- a row that begins with another byte than 0x2E and 0xCD has an opcode and a ModRM byte at most
 plain_row :
     (b : ℕ) (bytes : List ℕ) (row : Row) → b < 256 → b ≢ 0x2e → b ≢ 0xcd → IsRow row
     → fits row.pattern (b ∷ bytes) ≡ true → IsPlainRow row
@@ -240,7 +240,7 @@ nothing at (b ∷ bytes) l = absurd (omega arith)
 pub past_end : (at : ℕ) (code : List ℕ) → length code ≤ at → instruction_at at (drop at code) ≡ None
 past_end at code l = nothing at (drop at code) (simp length-drop (omega arith))
 
--- bytes that begin with another one than 2E and CD
+-- bytes that begin with another one than 0x2E and 0xCD
 pub record Begins (bytes : List ℕ) : Type 0 where
   pub some : 0 < length bytes
   pub byte : slice_index bytes 0 < 256

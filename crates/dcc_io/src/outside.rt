@@ -1,4 +1,5 @@
-// What a program meets outside itself: files, input and output, each with counts of what went wrong.
+//! What a program meets outside itself: files, input and output, each with counts of what went wrong.
+
 ghost use Rattle.std.specs.Prelude.{◌≡◌, ◌<◌, ◌≤◌, ℕ, List, [], length, take, vec_len, Option, Some, IfOk, IsOk, OnOk, OnErr, IsErrOf};
 ghost use Rattle.dcc_io.specs.declared.outside.ShelfFault.TheVariants.{Memory};
 ghost use Rattle.dcc_io.specs.Count.{Rose};

@@ -11,7 +11,7 @@ use crate::relocation::{loaded, relocated};
 use dcc_prog::Image;
 use std::alloc::Global;
 
-/// The image of a file, where the file passes the seven checks.
+// The image of a file, where the file passes the seven checks.
 fn checked_image(alloc: Global, file: &[u8]) -> Result<Image, MzFault>
     ensures image { IfOk result (IsImageOf file.now) }
     ensures refused { IfErr result (IsRefusalOrMemory file.now) }

@@ -18,14 +18,14 @@ use dcc_num::Reg;
 use dcc_prog::{Instr, Op};
 
 impl Machine {
-    /// The byte at so many bytes behind the instruction pointer, whose offset wraps.
+    // The byte at so many bytes behind the instruction pointer, whose offset wraps.
     fn code_byte(&self, k: u16) -> u8
         ensures { result ≡ code_byte (state_of self.now) k }
     {
         self.load_byte(self.cs(), self.ip.wrapping_add(k))
     }
 
-    /// The instruction at the instruction pointer.
+    // The instruction at the instruction pointer.
     fn fetch(&self) -> Option<Instr>
         ensures found { result ≡ instruction_at self.now.ip (code_bytes (state_of self.now)) }
         ensures operation { IfSome result (λ instr. IsOperation instr.op) }
@@ -41,7 +41,7 @@ impl Machine {
         decode_window(&window, self.ip)
     }
 
-    /// An operation of the instruction at an offset, other than INT 21h.
+    // An operation of the instruction at an offset, other than INT 21h.
     fn operate(&mut self, op: Op, at: u16)
         requires operation { IsOperation op }
         requires other { op ≢ Op.Int21 }
@@ -70,7 +70,7 @@ impl Machine {
         }
     }
 
-    /// An operation of the instruction at an offset.
+    // An operation of the instruction at an offset.
     fn perform<I: Source, O: Sink>(
         &mut self,
         op: Op,

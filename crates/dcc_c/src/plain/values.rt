@@ -11,14 +11,18 @@ use crate::syntax::{Base, CBin, CExpr};
 /// A number with its type; `bits` is its pattern in two's complement, below `2^bits_of(base)`.
 #[derive(Clone, Copy, PartialEq, Eq, Debug)]
 pub struct Value {
+    /// Its type.
     pub base: Base,
+    /// The pattern, in as many bits as the type has.
     pub bits: u32,
 }
 
 /// A named variable with its value.
 #[derive(Drop)]
 pub struct Binding {
+    /// Its name.
     pub name: String,
+    /// Its value, of its type.
     pub held: Value,
 }
 
@@ -33,7 +37,7 @@ pub fn bits_of(base: Base) -> u32
     }
 }
 
-/// How many patterns a number type has.
+// How many patterns a number type has.
 fn modulus_of(base: Base) -> u64
     ensures { result ≡ 2 ^ bits_of base }
 {
@@ -66,7 +70,7 @@ pub fn common_type(a: Base, b: Base) -> Base
     }
 }
 
-/// The low bits of a number that its type has.
+// The low bits of a number that its type has.
 fn wrapped(base: Base, n: u64) -> u32
     ensures value { result ≡ wrapped base n }
     ensures within { result < 2 ^ bits_of base }
@@ -74,7 +78,7 @@ fn wrapped(base: Base, n: u64) -> u32
     (n % modulus_of(base)) as u32
 }
 
-/// The 32 bits of a value: a negative one is extended by ones.
+// The 32 bits of a value: a negative one is extended by ones.
 fn extended(base: Base, bits: u32) -> u64
     ensures { result ≡ extended base bits }
 {
@@ -94,7 +98,7 @@ pub fn convert(from: Base, to: Base, bits: u32) -> u32
     wrapped(to, extended(from, bits))
 }
 
-/// The value of an operator on two numbers of one type, where the operator has one.
+// The value of an operator on two numbers of one type, where the operator has one.
 fn binary_value(operator: CBin, base: Base, a: u32, b: u32) -> Option<Value>
     requires { b < 2 ^ bits_of base }
     ensures { option_map number_of result ≡ binary_value operator base a b }
@@ -110,7 +114,7 @@ fn binary_value(operator: CBin, base: Base, a: u32, b: u32) -> Option<Value>
     Some(Value { base, bits })
 }
 
-/// What the variable with the name holds.
+// What the variable with the name holds.
 fn held_by(variables: &[Binding], name: &str) -> Option<Value>
     ensures { option_map number_of result ≡ held_by (map binding_of variables.now) name.now }
 {
@@ -141,7 +145,7 @@ pub fn value_of(variables: &[Binding], e: &CExpr) -> Option<Value>
     }
 }
 
-/// The value of an operator: both operands are converted to their common type.
+// The value of an operator: both operands are converted to their common type.
 fn both_values(operator: CBin, a: Value, b: Value) -> Option<Value>
     ensures { option_map number_of result ≡ both_values operator (Some (number_of a)) (Some (number_of b)) }
 {

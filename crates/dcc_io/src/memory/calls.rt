@@ -1,11 +1,14 @@
-// The calls of an object in memory.
+//! The calls of an object in memory.
+
 ghost use Rattle.std.specs.Prelude.{◌≡◌, ◌+◌, if◌then◌else◌};
 ghost use Rattle.dcc_io.specs.Memory.{counted, fails_next, listed_calls};
 
 /// How many calls were made, and the numbers of those that are to fail, from 1 on.
 #[derive(Drop)]
 pub(crate) struct Calls {
+    /// The number of calls so far; the last value of the type stands for all above it.
     pub(crate) made: u64,
+    /// The numbers of the calls that are to fail, from 1 on.
     pub(crate) fail: Vec<u64>,
 }
 

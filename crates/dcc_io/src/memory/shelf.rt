@@ -1,4 +1,5 @@
-// Files in memory.
+//! Files in memory.
+
 ghost use Rattle.std.specs.Prelude.{◌≡◌, ◌⊎◌, ◌≤◌, [], vec_len, None, Some, Ok, Err, IsErrOf, OnErr, IsTrue, MatchOption, AllPairs, ◌≢◌, string_bytes};
 ghost use Rattle.dcc_io.specs.Count.{Rose};
 ghost use Rattle.dcc_io.specs.Told.{WhenTold};

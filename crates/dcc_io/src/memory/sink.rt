@@ -1,4 +1,5 @@
-// Output in memory.
+//! Output in memory.
+
 ghost use Rattle.std.specs.Prelude.{◌≡◌, ◌<◌, ◌≤◌, ◌||◌, [], length, take, min, Some, IfOk, IsErr, OnErr, IsTrue, is_ok, if◌then◌else◌};
 ghost use Rattle.dcc_io.specs.Count.{Rose};
 ghost use Rattle.dcc_io.specs.Told.{append_told};

@@ -1,4 +1,5 @@
-// Input in memory.
+//! Input in memory.
+
 ghost use Rattle.std.specs.Prelude.{◌≡◌, ◌<◌, ◌≤◌, [], length, take, min, Some, IfOk, OnErr, is_err, Ok};
 ghost use Rattle.dcc_io.specs.Count.{Rose};
 ghost use Rattle.dcc_io.specs.Told.{WhenTold, prepend_told};
