@@ -3,7 +3,7 @@
 ghost use Rattle.std.specs.List.{range_with_len};
 ghost use Rattle.std.specs.Prelude.{◌≡◌, ℕ, ◌+◌, ◌<◌, OnOk, OnErr, IfOk, IsTrue, ◌↔◌, map, option_map, vec_len};
 ghost use Rattle.dcc_run.specs.End.{Stuck, is_over};
-ghost use Rattle.dcc_c.specs.Run.{Continuation, as_char, first_memory, first_binding, assign_step, dos_step, stmt_step, ended, first_state};
+ghost use Rattle.dcc_c.specs.Run.{Continuation, as_char, first_memory, first_binding, assign_step, dos_step, stmt_step, with_end, first_state};
 ghost use Rattle.dcc_c.specs.Run as text;
 ghost use Rattle.dcc_c.specs.Tree.{Assign};
 ghost use Rattle.dcc_c.specs.Views.{expr_of, stmt_of, variable_of, function_of, tree_of};
@@ -14,7 +14,7 @@ use std::alloc::{AllocError, Global};
 
 pub mod values;
 
-pub use values::{Binding, Value, assign, bits_of, common_type, convert, promoted, value_of};
+pub use values::{Binding, Value, assign, bits_of, common_type, convert, promoted_type, value_of};
 
 /// How a run ends; a run that goes on is `Running`.
 #[derive(Clone, Copy, PartialEq, Eq, Debug)]

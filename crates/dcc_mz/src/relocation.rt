@@ -14,7 +14,7 @@ use std::alloc::Global;
 const LOAD_SEGMENT: u16 = 0x0110;
 
 /// A segment that the file counts from the image's start, moved to where the image is loaded.
-pub fn loaded(segment: u16) -> u16
+pub fn loaded_segment(segment: u16) -> u16
     ensures { result ≡ loaded_segment segment }
 {
     segment.wrapping_add(LOAD_SEGMENT)
@@ -41,7 +41,7 @@ fn move_word(image: &mut [u8], at: usize)
     requires { at + 2 ≤ length image.old }
     ensures { image.new ≡ with_word_at image.old at (loaded_segment (word_at image.old at)) }
 {
-    let moved = loaded(word(image, at));
+    let moved = loaded_segment(word(image, at));
     LittleEndian::write_u16(&mut image[at..], moved);
 }
 
@@ -66,7 +66,7 @@ fn relocate(file: &[u8], header: &Header, image: &mut [u8]) -> Result<(), MzFaul
 
 /// The image of a file, copied and relocated.
 #[tactic(auto, unfolding(dcc_prog::specs::MzImage::relocated_image))]
-pub fn relocated(alloc: Global, file: &[u8], header: &Header) -> Result<Vec<u8>, MzFault>
+pub fn relocated_image(alloc: Global, file: &[u8], header: &Header) -> Result<Vec<u8>, MzFault>
     requires header { IsHeaderOf file.now header.now }
     requires good { HasGoodHeader file.now }
     ensures moved { IfOk result (λ image.

@@ -3,7 +3,7 @@
 ghost use Rattle.std.specs.Prelude.{◌≡◌, ◌<◌, ◌-◌, IfSome, Option, Some, None};
 ghost use Rattle.dcc_num.specs.Numbers.{limit_of};
 ghost use Rattle.dcc_prog.specs.Machine.{operand_value, operand_width};
-ghost use Rattle.dcc_prog.specs.Operations.{with_result, accumulator_in, upper_in, with_pair, with_product, with_division, alu_step, unary_step, count_in, shifted, shift_step};
+ghost use Rattle.dcc_prog.specs.Operations.{with_result, accumulator_in, upper_in, with_pair, with_product, with_division, alu_step, unary_step, count_in, shift_result, shift_step};
 ghost use Rattle.dcc_prog.specs.WellFormed.{IsOperand, AreOperands};
 ghost use Rattle.dcc_step.specs.Core.{core_of, state_of};
 
@@ -42,7 +42,7 @@ fn complement(w: Width, a: u16) -> u16
 // A shift or rotate by a count; RCL and RCR are by 1 alone.
 fn shift_by(kind: Shift, w: Width, a: u16, count: u8, was: Flags) -> (u16, Flags)
     requires { a < limit_of w }
-    ensures shift { result ≡ shifted kind w a count was }
+    ensures shift { result ≡ shift_result kind w a count was }
     ensures width { result.0 < limit_of w }
 {
     match kind {

@@ -4,7 +4,7 @@ ghost use Rattle.std.specs.Prelude.{◌≡◌, ◌≤◌, List, [], ◌∷◌, i
 ghost use Rattle.std.specs.Option.{option_to_list};
 ghost use Rattle.dcc_io.specs.Count.{Rose};
 ghost use Rattle.dcc_io.specs.Told.{append_told, prepend_told, AppendsProperPrefix};
-ghost use Rattle.dcc_prog.specs.Operations.{with_al, ended};
+ghost use Rattle.dcc_prog.specs.Operations.{with_al, with_end};
 ghost use Rattle.dcc_prog.specs.Dos.{key_step, dos_string, dos_call};
 ghost use Rattle.dcc_step.specs.Core.{core_of, state_of};
 ghost use Rattle.dcc_step.specs.Ending.{end_of};
@@ -57,7 +57,7 @@ impl Machine {
 
     /// Ends the run at the instruction at an offset.
     pub(crate) fn finish(&mut self, end: Ending, at: u16)
-        ensures { self.new ≡ core_of (ended (end_of end) at (state_of self.old)) }
+        ensures { self.new ≡ core_of (with_end (end_of end) at (state_of self.old)) }
     {
         self.end = end;
         self.ip = at;

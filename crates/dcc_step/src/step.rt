@@ -7,7 +7,7 @@ ghost use Rattle.dcc_prog.specs.Table.{instruction_at};
 ghost use Rattle.dcc_prog.specs.Step.{code_byte, code_bytes, op_step};
 ghost use Rattle.dcc_prog.specs.WellFormed.{IsOperation};
 ghost use Rattle.dcc_step.specs.Core.{core_of, state_of};
-ghost use Rattle.dcc_step.specs.Stepped.{scene, Makes, IsRefused, Steps, Answers, Runs};
+ghost use Rattle.dcc_step.specs.Stepped.{scene, Makes, IsRefused, Steps, TellsEnd, Runs};
 
 use crate::ending::{Ending, Fault, Stepped};
 use crate::flow::is_met;
@@ -111,7 +111,7 @@ impl Machine {
         ensures step { Steps result
             (scene self.old (I.left input.old) (O.taken out.old))
             (scene self.new (I.left input.new) (O.taken out.new)) }
-        ensures answer { Answers result self.new.end }
+        ensures answer { TellsEnd result self.new.end }
 
         // The counts never fall, and a fault comes only where its count rose.
         ensures input_faults { I.faults input.old ≤ I.faults input.new }
@@ -141,7 +141,7 @@ impl Machine {
         ensures run { Runs most result
             (scene self.old (I.left input.old) (O.taken out.old))
             (scene self.new (I.left input.new) (O.taken out.new)) }
-        ensures answer { Answers result self.new.end }
+        ensures answer { TellsEnd result self.new.end }
 
         // The counts never fall, and a fault comes only where its count rose.
         ensures input_faults { I.faults input.old ≤ I.faults input.new }

@@ -10,7 +10,7 @@ use Rattle.dcc_prog.specs.Machine.{start_state}
 use Rattle.dcc_prog.specs.Step.{step, machine_system}
 use Rattle.dcc_prog.proofs.StepLaws.{machine_lawful}
 use Rattle.dcc_step.specs.Core.{Core, with_console}
-use Rattle.dcc_step.specs.Stepped.{Scene, scene, MakesSteps, StopsShort, Runs, Answers}
+use Rattle.dcc_step.specs.Stepped.{Scene, scene, MakesSteps, StopsShort, Runs, TellsEnd}
 use Rattle.dcc_step.specs.declared.ending.Stepped.{Stepped}
 use Rattle.dcc_step.specs.declared.ending.Stepped.TheVariants.{Running, Exit, Divide, Outside, InFault, OutFault}
 use Rattle.dcc_step.specs.declared.ending.Fault.TheVariants.{Input, Output}
@@ -86,7 +86,7 @@ breaks-off image steps input core taken now start s =
     subst (λ l. AppendsProperPrefix taken now.taken l) (sym whole) (AppendsProperPrefix-longer taken now.taken (m.written ++ r.written) grows.rest part)
 
 -- how a run finished from an input that is told
-finishes : (image : Image) (steps : ℕ) (stepped : Stepped) (input : List ℕ) (core now : Core) (after_left taken after_taken : Option (List ℕ)) → ((bytes : List ℕ) → with_console core bytes [] ≡ start_state image bytes) → Runs steps stepped (scene core (Some input) taken) (scene now after_left after_taken) → Answers stepped now.end → Finishes image steps (console (Some input) after_left taken after_taken) (finish_of stepped) input
+finishes : (image : Image) (steps : ℕ) (stepped : Stepped) (input : List ℕ) (core now : Core) (after_left taken after_taken : Option (List ℕ)) → ((bytes : List ℕ) → with_console core bytes [] ≡ start_state image bytes) → Runs steps stepped (scene core (Some input) taken) (scene now after_left after_taken) → TellsEnd stepped now.end → Finishes image steps (console (Some input) after_left taken after_taken) (finish_of stepped) input
 finishes image steps Running input core now after_left taken after_taken start runs ended =
     has-run image steps input (Some input) after_left taken after_taken core now _ (has-made image steps input core taken (scene now after_left after_taken) start runs) ended
 finishes image steps (Exit code) input core now after_left taken after_taken start runs ended =
@@ -101,6 +101,6 @@ finishes image steps OutFault input core now after_left taken after_taken start 
     breaks-off image steps input core taken (scene now after_left after_taken) start runs
 
 -- how a run finished, where the input tells what is left
-pub run-finishes : (image : Image) (steps : ℕ) (stepped : Stepped) (input : List ℕ) (core now : Core) (before after_left taken after_taken : Option (List ℕ)) → before ≡ Some input → ((bytes : List ℕ) → with_console core bytes [] ≡ start_state image bytes) → Runs steps stepped (scene core before taken) (scene now after_left after_taken) → Answers stepped now.end → Finishes image steps (console before after_left taken after_taken) (finish_of stepped) input
+pub run-finishes : (image : Image) (steps : ℕ) (stepped : Stepped) (input : List ℕ) (core now : Core) (before after_left taken after_taken : Option (List ℕ)) → before ≡ Some input → ((bytes : List ℕ) → with_console core bytes [] ≡ start_state image bytes) → Runs steps stepped (scene core before taken) (scene now after_left after_taken) → TellsEnd stepped now.end → Finishes image steps (console before after_left taken after_taken) (finish_of stepped) input
 run-finishes image steps stepped input core now before after_left taken after_taken told start runs answers =
     subst (λ b. Finishes image steps (console b after_left taken after_taken) (finish_of stepped) input) (sym told) (finishes image steps stepped input core now after_left taken after_taken start (subst (λ b. Runs steps stepped (scene core b taken) (scene now after_left after_taken)) told runs) answers)
