@@ -5,7 +5,7 @@ use Rattle.std.specs.Cmp.Lexicographic.{pointwise}
 use Rattle.dcc_c.specs.declared.plain.values.Binding.{Binding as Named}
 use Rattle.dcc_c.specs.Token.{same_bytes}
 use Rattle.dcc_c.specs.Types.{convert}
-use Rattle.dcc_c.specs.Value.{Value, value, Binding, held_by, assigned}
+use Rattle.dcc_c.specs.Value.{Value, value, Binding, held_by, after_assignment}
 use Rattle.dcc_c.specs.Plain.{number_of, binding_of}
 
 -- the test of two names is that of two texts
@@ -28,12 +28,12 @@ held_by-other b bs word e = rw e refl
 pub held_by-here : (b : Binding) (bs : List Binding) (word : List ℕ) → same_bytes b.name word ≡ true → held_by (b ∷ bs) word ≡ Some b.held
 held_by-here b bs word e = rw e refl
 
-pub assigned-other : (b : Binding) (bs : List Binding) (word : List ℕ) (v : Value) → same_bytes b.name word ≡ false → assigned (b ∷ bs) word v ≡ b ∷ assigned bs word v
-assigned-other b bs word v e = rw e refl
+pub after_assignment-other : (b : Binding) (bs : List Binding) (word : List ℕ) (v : Value) → same_bytes b.name word ≡ false → after_assignment (b ∷ bs) word v ≡ b ∷ after_assignment bs word v
+after_assignment-other b bs word v e = rw e refl
 
-pub assigned-here : (b : Binding) (bs : List Binding) (word : List ℕ) (v : Value) → same_bytes b.name word ≡ true →
-    assigned (b ∷ bs) word v ≡ record { name = b.name; held = value b.held.base (convert v.base b.held.base v.bits) } ∷ bs
-assigned-here b bs word v e = rw e refl
+pub after_assignment-here : (b : Binding) (bs : List Binding) (word : List ℕ) (v : Value) → same_bytes b.name word ≡ true →
+    after_assignment (b ∷ bs) word v ≡ record { name = b.name; held = value b.held.base (convert v.base b.held.base v.bits) } ∷ bs
+after_assignment-here b bs word v e = rw e refl
 
 -- a walk over the variables: `b` stands at place `i`
 module _ (vs : List Named) (i : ℕ) (b : Named) (within : i < length vs) (is : b ≡ get_or vs i b) where
@@ -48,27 +48,27 @@ module _ (vs : List Named) (i : ℕ) (b : Named) (within : i < length vs) (is : 
       held_by (map binding_of (drop i vs)) word ≡ Some (number_of b.held)
   held_by-found word e = ap (λ l. held_by l word) from_here ∙ held_by-here _ _ word e
 
-  pub assigned-drop : (word : List ℕ) (v : Value) → same_bytes (binding_of b).name word ≡ false →
-      map binding_of (take i vs) ++ assigned (map binding_of (drop i vs)) word v
-      ≡ map binding_of (take (i + 1) vs) ++ assigned (map binding_of (drop (i + 1) vs)) word v
-  assigned-drop word v e =
+  pub after_assignment-drop : (word : List ℕ) (v : Value) → same_bytes (binding_of b).name word ≡ false →
+      map binding_of (take i vs) ++ after_assignment (map binding_of (drop i vs)) word v
+      ≡ map binding_of (take (i + 1) vs) ++ after_assignment (map binding_of (drop (i + 1) vs)) word v
+  after_assignment-drop word v e =
       let rest = map binding_of (drop (i + 1) vs) in
       let front = map binding_of (take i vs) in
-      let tail : assigned (map binding_of (drop i vs)) word v ≡ binding_of b ∷ assigned rest word v =
-      ap (λ l. assigned l word v) from_here ∙ assigned-other _ _ word v e
+      let tail : after_assignment (map binding_of (drop i vs)) word v ≡ binding_of b ∷ after_assignment rest word v =
+      ap (λ l. after_assignment l word v) from_here ∙ after_assignment-other _ _ word v e
       in
       let more : map binding_of (take (i + 1) vs) ≡ front ++ binding_of b ∷ [] =
       ap (map binding_of) (take_more vs i b within) ∙ map-append binding_of (take i vs) _ ∙ ap (λ x. front ++ binding_of x ∷ []) (sym is)
       in
-      ap (λ l. front ++ l) tail ∙ sym (append_assoc front (binding_of b ∷ []) (assigned rest word v)) ∙ ap (λ l. l ++ assigned rest word v) (sym more)
+      ap (λ l. front ++ l) tail ∙ sym (append_assoc front (binding_of b ∷ []) (after_assignment rest word v)) ∙ ap (λ l. l ++ after_assignment rest word v) (sym more)
 
-  pub assigned-set : (word : List ℕ) (v : Value) (new : Named) → same_bytes (binding_of b).name word ≡ true →
+  pub after_assignment-set : (word : List ℕ) (v : Value) (new : Named) → same_bytes (binding_of b).name word ≡ true →
       binding_of new ≡ record { name = (binding_of b).name; held = value b.held.base (convert v.base b.held.base v.bits) } →
-      map binding_of (set vs i new) ≡ map binding_of (take i vs) ++ assigned (map binding_of (drop i vs)) word v
-  assigned-set word v new e same =
+      map binding_of (set vs i new) ≡ map binding_of (take i vs) ++ after_assignment (map binding_of (drop i vs)) word v
+  after_assignment-set word v new e same =
       let rest = map binding_of (drop (suc i) vs) in
       let front = map binding_of (take i vs) in
-      let tail : assigned (map binding_of (drop i vs)) word v ≡ binding_of new ∷ rest =
-      rw (ap (λ l. assigned l word v) from_here ∙ assigned-here _ _ word v e) (rw add-one (ap (λ x. x ∷ rest) (sym same)))
+      let tail : after_assignment (map binding_of (drop i vs)) word v ≡ binding_of new ∷ rest =
+      rw (ap (λ l. after_assignment l word v) from_here ∙ after_assignment-here _ _ word v e) (rw add-one (ap (λ x. x ∷ rest) (sym same)))
       in
       ap (map binding_of) (set_split vs i new within) ∙ map-append binding_of (take i vs) _ ∙ ap (λ l. front ++ l) (sym tail)

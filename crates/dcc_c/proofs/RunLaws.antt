@@ -8,7 +8,7 @@ use Rattle.dcc_run.proofs.PrefixLaws.{prefix_refl, prefix_append}
 use Rattle.dcc_c.specs.Token.{same_bytes}
 use Rattle.dcc_c.specs.Tree.{Word, Expr, Name, Stmt, Assign, Call, no_lines, line}
 use Rattle.dcc_c.specs.Value.{Value, value_of}
-use Rattle.dcc_c.specs.Run.{Continuation, ends_function, runs, State, as_char, ended, assign_step, dos_step, stmt_step, step_at, text_system}
+use Rattle.dcc_c.specs.Run.{Continuation, ends_function, runs, State, as_char, with_end, assign_step, dos_step, stmt_step, step_at, text_system}
 
 assign-grows : (word : Word) (v : Option Value) (at : ℕ) (s : State) → IsPrefix s.out (assign_step word v at s).out
 assign-grows word (Some v) at s = prefix_refl s.out
@@ -17,9 +17,9 @@ assign-grows word None at s = prefix_refl s.out
 dos-grows : (function : Word) (v : Option Value) (at : ℕ) (s : State) → IsPrefix s.out (dos_step function v at s).out
 dos-grows function None at s = prefix_refl s.out
 dos-grows function (Some v) at s =
-    elim (same_bytes function (codes "dos_putc")) as (λ b. IsPrefix s.out (if b then record s { out = s.out ++ as_char v ∷ [] } else (if same_bytes function (codes "dos_exit") then ended (Exit (as_char v)) s else ended (Stuck at) s)).out) [
+    elim (same_bytes function (codes "dos_putc")) as (λ b. IsPrefix s.out (if b then record s { out = s.out ++ as_char v ∷ [] } else (if same_bytes function (codes "dos_exit") then with_end (Exit (as_char v)) s else with_end (Stuck at) s)).out) [
       | true ↦ prefix_append s.out (as_char v ∷ [])
-      | false ↦ elim (same_bytes function (codes "dos_exit")) as (λ b. IsPrefix s.out (if b then ended (Exit (as_char v)) s else ended (Stuck at) s).out) [ true ↦ prefix_refl s.out | false ↦ prefix_refl s.out ]
+      | false ↦ elim (same_bytes function (codes "dos_exit")) as (λ b. IsPrefix s.out (if b then with_end (Exit (as_char v)) s else with_end (Stuck at) s).out) [ true ↦ prefix_refl s.out | false ↦ prefix_refl s.out ]
     ]
 
 call-grows : (place : Option Expr) (function : Word) (arguments : List Expr) (depth at : ℕ) (s : State) → IsPrefix s.out (stmt_step (Call place function arguments depth) at s).out

@@ -7,7 +7,7 @@ use Rattle.dcc_c.specs.declared.syntax.Base.TheVariants.{Uchar, Int}
 use Rattle.dcc_c.specs.Token.{same_bytes}
 use Rattle.dcc_c.specs.Types.{convert}
 use Rattle.dcc_c.specs.Tree.{Word, Name, Stmt, Assign, Call, Lines, no_lines, line, Variable, Function, Tree}
-use Rattle.dcc_c.specs.Value.{Value, value, Binding, assigned, value_of}
+use Rattle.dcc_c.specs.Value.{Value, value, Binding, after_assignment, value_of}
 
 -- what is still to be executed: statements and what follows them, or the end of the function, in the line of its brace
 pub data Continuation : Type 0 where
@@ -29,29 +29,29 @@ pub record State : Type 0 where
 abbrev pub as_char : Value → ℕ
 as_char v = convert v.base Uchar v.bits
 
-abbrev pub ended : End → State → State
-ended end s = record s { end = end }
+abbrev pub with_end : End → State → State
+with_end end s = record s { end = end }
 
 -- a variable takes a value
 abbrev pub assign_step : Word → Option Value → ℕ → State → State
-assign_step word (Some v) at s = record s { variables = assigned s.variables word v }
-assign_step word None at s = ended (Stuck at) s
+assign_step word (Some v) at s = record s { variables = after_assignment s.variables word v }
+assign_step word None at s = with_end (Stuck at) s
 
 -- a DOS call, whole
 abbrev pub dos_step : Word → Option Value → ℕ → State → State
 dos_step function (Some v) at s =
-    if same_bytes function (codes "dos_putc") then record s { out = s.out ++ as_char v ∷ [] } else (if same_bytes function (codes "dos_exit") then ended (Exit (as_char v)) s else ended (Stuck at) s)
-dos_step function None at s = ended (Stuck at) s
+    if same_bytes function (codes "dos_putc") then record s { out = s.out ++ as_char v ∷ [] } else (if same_bytes function (codes "dos_exit") then with_end (Exit (as_char v)) s else with_end (Stuck at) s)
+dos_step function None at s = with_end (Stuck at) s
 
 -- one statement
 abbrev pub stmt_step : Stmt → ℕ → State → State
 stmt_step (Assign (Name word) e) at s = assign_step word (value_of s.variables e) at s
 stmt_step (Call None function (e ∷ []) depth) at s = dos_step function (value_of s.variables e) at s
-stmt_step _ at s = ended (Stuck at) s
+stmt_step _ at s = with_end (Stuck at) s
 
 -- One step: the next statement, or the closing brace. The end of a list of statements is no step of its own.
 abbrev pub step_at : Continuation → State → State
-step_at (ends_function at) s = ended (Stuck at) s
+step_at (ends_function at) s = with_end (Stuck at) s
 step_at (runs no_lines rest) s = step_at rest s
 step_at (runs (line stmt at lines) rest) s = stmt_step stmt at (record s { rest = runs lines rest })
 
@@ -68,8 +68,8 @@ unfoldable pub first_memory : ℕ → ℕ → ℕ → List ℕ
 first_memory lo hi fill = map (λ at. if nat_le lo at && nat_lt at hi then fill % 256 else 0) (range_with_len 0 65536)
 
 -- the state in which a function's body begins
-abbrev pub enters : Function → List ℕ → ℕ → List ℕ → State
-enters function memory fill input = record {
+abbrev pub entry_state : Function → List ℕ → ℕ → List ℕ → State
+entry_state function memory fill input = record {
   rest = runs function.body (ends_function function.last);
   variables = map (first_binding fill) function.locals;
   memory = memory;
@@ -80,7 +80,7 @@ enters function memory fill input = record {
 
 -- the state at the start of a text whose first function is this one
 abbrev pub first_state : Tree → Function → ℕ → List ℕ → State
-first_state tree start fill input = enters start (first_memory tree.lo tree.hi fill) fill input
+first_state tree start fill input = entry_state start (first_memory tree.lo tree.hi fill) fill input
 
 -- the runs of texts
 abbrev pub text_system : System State

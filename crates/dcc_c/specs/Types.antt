@@ -22,13 +22,13 @@ is_signed Long = true
 is_signed Ulong = false
 
 -- the type of an operand: char types become int
-abbrev pub promoted : Base → Base
-promoted Schar = Int
-promoted Uchar = Int
-promoted Int = Int
-promoted Uint = Uint
-promoted Long = Long
-promoted Ulong = Ulong
+abbrev pub promoted_type : Base → Base
+promoted_type Schar = Int
+promoted_type Uchar = Int
+promoted_type Int = Int
+promoted_type Uint = Uint
+promoted_type Long = Long
+promoted_type Ulong = Ulong
 
 -- the common type of two promoted types: the first of unsigned long, long, unsigned int, int that one of them has
 abbrev pub common_of_promoted : Base → Base → Base
@@ -38,24 +38,24 @@ common_of_promoted Long _ = Long
 common_of_promoted Uint Ulong = Ulong
 common_of_promoted Uint Long = Long
 common_of_promoted Uint _ = Uint
-common_of_promoted _ b = promoted b
+common_of_promoted _ b = promoted_type b
 
 -- the common type of two operands
 abbrev pub common_type : Base → Base → Base
-common_type a b = common_of_promoted (promoted a) (promoted b)
+common_type a b = common_of_promoted (promoted_type a) (promoted_type b)
 
 -- the low bits of a number that its type has
-abbrev pub wrapped : Base → ℕ → ℕ
-wrapped type n = n % 2 ^ bits_of type
+abbrev pub wrapped_bits : Base → ℕ → ℕ
+wrapped_bits type n = n % 2 ^ bits_of type
 
 -- the 32 bits of a value: a negative one is extended by ones
-abbrev pub extended : Base → ℕ → ℕ
-extended type n = if is_signed type && nat_le (2 ^ (bits_of type - 1)) n then n + (2 ^ 32 - 2 ^ bits_of type) else n
+abbrev pub extended_bits : Base → ℕ → ℕ
+extended_bits type n = if is_signed type && nat_le (2 ^ (bits_of type - 1)) n then n + (2 ^ 32 - 2 ^ bits_of type) else n
 
 -- a value of the first type as one of the second: its low bits, extended where the second is wider
 abbrev pub convert : Base → Base → ℕ → ℕ
-convert from to n = wrapped to (extended from n)
+convert from to n = wrapped_bits to (extended_bits from n)
 
 -- a number type
-abbrev pub plain : Base → CType
-plain base = record { base = base; pointer = false }
+abbrev pub number_type : Base → CType
+number_type base = record { base = base; pointer = false }

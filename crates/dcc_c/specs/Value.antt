@@ -4,7 +4,7 @@ use Rattle.dcc_c.specs.declared.syntax.Base.{Base}
 use Rattle.dcc_c.specs.declared.syntax.CBin.{CBin}
 use Rattle.dcc_c.specs.declared.syntax.CBin.TheVariants.{Or, Xor, And, Add, Sub}
 use Rattle.dcc_c.specs.Token.{same_bytes}
-use Rattle.dcc_c.specs.Types.{bits_of, wrapped, convert, common_type}
+use Rattle.dcc_c.specs.Types.{bits_of, wrapped_bits, convert, common_type}
 use Rattle.dcc_c.specs.Tree.{Word, Expr, Number, Name, Unary, Binary, Conditional, Cast}
 
 -- a number with its type
@@ -26,18 +26,18 @@ held_by [] word = None
 held_by (b ∷ bindings) word = if same_bytes b.name word then Some b.held else held_by bindings word
 
 -- the variables after the one with the name has taken the value, converted to its type
-abbrev pub assigned : List Binding → Word → Value → List Binding
-assigned [] word v = []
-assigned (b ∷ bindings) word v =
-    if same_bytes b.name word then record { name = b.name; held = value b.held.base (convert v.base b.held.base v.bits) } ∷ bindings else b ∷ assigned bindings word v
+abbrev pub after_assignment : List Binding → Word → Value → List Binding
+after_assignment [] word v = []
+after_assignment (b ∷ bindings) word v =
+    if same_bytes b.name word then record { name = b.name; held = value b.held.base (convert v.base b.held.base v.bits) } ∷ bindings else b ∷ after_assignment bindings word v
 
 -- the value of an operator on two numbers of one type
 abbrev pub binary_value : CBin → Base → ℕ → ℕ → Option Value
 binary_value Or type a b = Some (value type (bit_or a b))
 binary_value Xor type a b = Some (value type (bit_xor a b))
 binary_value And type a b = Some (value type (bit_and a b))
-binary_value Add type a b = Some (value type (wrapped type (a + b)))
-binary_value Sub type a b = Some (value type (wrapped type (a + 2 ^ bits_of type - b)))
+binary_value Add type a b = Some (value type (wrapped_bits type (a + b)))
+binary_value Sub type a b = Some (value type (wrapped_bits type (a + 2 ^ bits_of type - b)))
 binary_value _ type a b = None
 
 -- both operands are converted to their common type
@@ -50,7 +50,7 @@ both_values operator None _ = None
 
 -- the value of an expression over these variables
 abbrev pub value_of : List Binding → Expr → Option Value
-value_of bindings (Number n base) = Some (value base (wrapped base n))
+value_of bindings (Number n base) = Some (value base (wrapped_bits base n))
 value_of bindings (Name word) = held_by bindings word
 value_of bindings (Binary operator a b) = both_values operator (value_of bindings a) (value_of bindings b)
 value_of bindings (Unary operator a) = None

@@ -117,7 +117,7 @@ written_functions [] = []
 written_functions (f ∷ functions) = written_function f ++ written_functions functions
 
 -- the written form of a text without global variables
-abbrev pub written : Tree → Word
-written tree =
+abbrev pub written_form : Tree → Word
+written_form tree =
     codes "#pragma dcc text 1\n#pragma dcc stack "
     ++ (decimal tree.lo ++ (codes " " ++ (decimal tree.hi ++ (codes "\n" ++ written_functions tree.functions))))

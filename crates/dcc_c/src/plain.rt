@@ -3,7 +3,7 @@
 ghost use Rattle.std.specs.List.{range_with_len};
 ghost use Rattle.std.specs.Prelude.{◌≡◌, ℕ, ◌+◌, ◌<◌, OnOk, OnErr, IfOk, IsTrue, ◌↔◌, map, option_map, vec_len};
 ghost use Rattle.dcc_run.specs.End.{Stuck, is_over};
-ghost use Rattle.dcc_c.specs.Run.{Continuation, as_char, first_memory, first_binding, assign_step, dos_step, stmt_step, ended, first_state};
+ghost use Rattle.dcc_c.specs.Run.{Continuation, as_char, first_memory, first_binding, assign_step, dos_step, stmt_step, with_end, first_state};
 ghost use Rattle.dcc_c.specs.Run as text;
 ghost use Rattle.dcc_c.specs.Tree.{Assign};
 ghost use Rattle.dcc_c.specs.Views.{expr_of, stmt_of, variable_of, function_of, tree_of};
@@ -14,11 +14,12 @@ use std::alloc::{AllocError, Global};
 
 pub mod values;
 
-pub use values::{Binding, Value, assign, bits_of, common_type, convert, promoted, value_of};
+pub use values::{Binding, Value, assign, bits_of, common_type, convert, promoted_type, value_of};
 
 /// How a run ends; a run that goes on is `Running`.
 #[derive(Clone, Copy, PartialEq, Eq, Debug)]
 pub enum End {
+    /// The run goes on.
     Running,
     /// With this exit code.
     Exit(u8),
@@ -33,31 +34,37 @@ pub enum End {
 pub struct PlainRun {
     /// The index of the next line in the function's body.
     pub next: usize,
+    /// The local variables, in the order of their declarations.
     pub variables: Vec<Binding>,
     /// 65,536 bytes.
     pub memory: Vec<u8>,
+    /// All bytes of the input.
     pub input: Vec<u8>,
     /// How many bytes of the input are read.
     pub taken: usize,
+    /// The output so far.
     pub out: Vec<u8>,
+    /// How the run has ended, if it has.
     pub end: End,
 }
 
 /// The output of a run so far, and its end.
 #[derive(Drop)]
 pub struct Outcome {
+    /// The bytes that were put out.
     pub out: Vec<u8>,
+    /// How the run has ended, if it has.
     pub end: End,
 }
 
-/// The memory at the start: the bytes from `lo` to below `hi` hold the low byte of the fill.
+// The memory at the start: the bytes from `lo` to below `hi` hold the low byte of the fill.
 fn first_memory(alloc: Global, lo: u16, hi: u16, fill: u16) -> Result<Vec<u8>, AllocError>
     ensures { IfOk result (λ memory. memory.items ≡ first_memory lo hi fill) }
 {
     first_bytes(alloc, lo, hi, fill, 65_536)
 }
 
-/// The first `len` bytes of the memory at the start.
+// The first `len` bytes of the memory at the start.
 fn first_bytes(alloc: Global, lo: u16, hi: u16, fill: u16, len: u32) -> Result<Vec<u8>, AllocError>
     ensures { IfOk result (λ bytes. bytes.items ≡ map (first_byte lo hi fill) (range_with_len 0 len)) }
 {
@@ -70,7 +77,7 @@ fn first_bytes(alloc: Global, lo: u16, hi: u16, fill: u16, len: u32) -> Result<V
         .collect(alloc)
 }
 
-/// A variable before it has a value: the fill, cut or sign-extended to its type.
+// A variable before it has a value: the fill, cut or sign-extended to its type.
 fn first_binding(alloc: Global, variable: &Var, fill: u16) -> Result<Binding, AllocError>
     ensures { IfOk result (λ b. binding_of b ≡ first_binding fill (variable_of variable.now)) }
 {
@@ -82,7 +89,7 @@ fn first_binding(alloc: Global, variable: &Var, fill: u16) -> Result<Binding, Al
     })
 }
 
-/// The variables before they have values.
+// The variables before they have values.
 fn first_bindings(alloc: Global, locals: &[Var], fill: u16) -> Result<Vec<Binding>, AllocError>
     ensures { IfOk result (λ v.
         map binding_of v.items ≡ map (first_binding fill) (map variable_of locals.now)) }
@@ -143,7 +150,7 @@ impl PlainRun {
         Ok(())
     }
 
-    /// Executes a statement.
+    // Executes a statement.
     fn execute(&mut self, line: &Line) -> Result<(), AllocError>
         ensures ok { (rest : Continuation) → OnOk result (state_before rest self.new
             ≡ stmt_step (stmt_of line.now.stmt) line.now.line (state_before rest self.old)) }
@@ -165,7 +172,7 @@ impl PlainRun {
         Ok(())
     }
 
-    /// The place takes the value of the expression.
+    // The place takes the value of the expression.
     fn assign(&mut self, place: &CExpr, e: &CExpr, at: u32)
         ensures after { (rest : Continuation) → state_before rest self.new
             ≡ stmt_step (Assign (expr_of place.now) (expr_of e.now)) at (state_before rest self.old) }
@@ -177,7 +184,7 @@ impl PlainRun {
         }
     }
 
-    /// Makes a DOS call with the value of its argument.
+    // Makes a DOS call with the value of its argument.
     fn call(&mut self, function: &str, argument: Option<Value>, at: u32) -> Result<(), AllocError>
         ensures ok { (rest : Continuation) → OnOk result (state_before rest self.new
             ≡ dos_step function.now (option_map number_of argument) at (state_before rest self.old)) }
@@ -194,7 +201,7 @@ impl PlainRun {
     }
 }
 
-/// A value as an `unsigned char`, as a DOS call takes it.
+// A value as an `unsigned char`, as a DOS call takes it.
 fn char_of(v: Value) -> u8
     ensures { result ≡ as_char (number_of v) }
 {

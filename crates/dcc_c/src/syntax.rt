@@ -3,51 +3,82 @@
 /// A number type. `char` has 8 bits, `int` 16 and `long` 32.
 #[derive(Clone, Copy, PartialEq, Eq, Debug)]
 pub enum Base {
+    /// `signed char`.
     Schar,
+    /// `unsigned char`.
     Uchar,
+    /// `int`.
     Int,
+    /// `unsigned int`.
     Uint,
+    /// `long`.
     Long,
+    /// `unsigned long`.
     Ulong,
 }
 
 /// A number type, or a pointer to one.
 #[derive(Clone, Copy, PartialEq, Eq, Debug)]
 pub struct CType {
+    /// The number type, or that of what the pointer points to.
     pub base: Base,
+    /// Whether it is a pointer.
     pub pointer: bool,
 }
 
 /// A unary operator: `-`, `~`, `!`, `*` and `&`.
 #[derive(Clone, Copy, PartialEq, Eq, Debug)]
 pub enum CUn {
+    /// `-`.
     Minus,
+    /// `~`.
     Complement,
+    /// `!`.
     Not,
+    /// `*`.
     Deref,
+    /// `&`.
     AddressOf,
 }
 
 /// A binary operator, from the weakest to the strongest.
 #[derive(Clone, Copy, PartialEq, Eq, Debug)]
 pub enum CBin {
+    /// `||`.
     OrOr,
+    /// `&&`.
     AndAnd,
+    /// `|`.
     Or,
+    /// `^`.
     Xor,
+    /// `&`.
     And,
+    /// `==`.
     Eq,
+    /// `!=`.
     Ne,
+    /// `<`.
     Lt,
+    /// `<=`.
     Le,
+    /// `>`.
     Gt,
+    /// `>=`.
     Ge,
+    /// `<<`.
     Shl,
+    /// `>>`.
     Shr,
+    /// `+`.
     Add,
+    /// `-`.
     Sub,
+    /// `*`.
     Mul,
+    /// `/`.
     Div,
+    /// `%`.
     Rem,
 }
 
@@ -56,11 +87,15 @@ pub enum CBin {
 pub enum CExpr {
     /// A number and its type.
     Num(u32, Base),
+    /// A variable by its name.
     Name(String),
+    /// A unary operator and its operand.
     Un(CUn, Box<CExpr>),
+    /// A binary operator, its left and its right operand.
     Bin(CBin, Box<CExpr>, Box<CExpr>),
     /// `a ? b : c`.
     Cond(Box<CExpr>, Box<CExpr>, Box<CExpr>),
+    /// A type and what is converted to it.
     Cast(CType, Box<CExpr>),
 }
 
@@ -72,18 +107,27 @@ pub enum CStmt {
     Assign(CExpr, CExpr),
     /// The place that takes the result, the function, its arguments, and the depth in force in bytes.
     Call(Option<CExpr>, String, Vec<CExpr>, u32),
+    /// `if`: the condition, the lines where it holds, and those of `else`.
     If(CExpr, Vec<Line>, Vec<Line>),
+    /// `while`: the condition and the body.
     While(CExpr, Vec<Line>),
+    /// `do` and `while`: the body and the condition.
     DoWhile(Vec<Line>, CExpr),
     /// `for (;;)`.
     Forever(Vec<Line>),
     /// The value, the arms with cases, and the default arm, whose cases are empty.
     Switch(CExpr, Vec<Arm>, Option<Arm>),
+    /// `break;`.
     Break,
+    /// `continue;`.
     Continue,
+    /// `goto` and its label.
     Goto(String),
+    /// A label by its name.
     Label(String),
+    /// `;`.
     Empty,
+    /// `return`, with a value where the function has one.
     Return(Option<CExpr>),
 }
 
@@ -91,7 +135,9 @@ pub enum CStmt {
 #[derive(Drop)]
 #[cycle(statement)]
 pub struct Line {
+    /// The statement.
     pub stmt: CStmt,
+    /// Its line in the text.
     pub line: u32,
 }
 
@@ -99,56 +145,79 @@ pub struct Line {
 #[derive(Drop)]
 #[cycle(statement)]
 pub struct Arm {
+    /// The values of its `case` labels.
     pub cases: Vec<u16>,
+    /// Its statements.
     pub body: Vec<Line>,
 }
 
 /// How a local variable or a parameter is stored.
 #[derive(Clone, Copy, PartialEq, Eq, Debug)]
 pub enum Class {
+    /// No storage class is written.
     Plain,
+    /// `auto`.
     Auto,
+    /// `register`.
     Register,
 }
 
 /// A global variable at its address; `len` elements where it is an array.
 #[derive(Drop)]
 pub struct Global_ {
+    /// Its name.
     pub name: String,
+    /// The address of its first byte.
     pub at: u32,
+    /// Its type, or that of an element.
     pub ty: CType,
+    /// The number of elements of an array.
     pub len: Option<u32>,
+    /// The first values of its elements, in their order; 0 behind them.
     pub init: Vec<u32>,
 }
 
 /// A local variable or a parameter; `len` elements where it is an array.
 #[derive(Drop)]
 pub struct Var {
+    /// Its name.
     pub name: String,
+    /// Its type, or that of an element.
     pub ty: CType,
+    /// The number of elements of an array.
     pub len: Option<u32>,
+    /// How it is stored.
     pub class: Class,
 }
 
 /// A function; `last` is the line of its closing brace.
 #[derive(Drop)]
 pub struct Func {
+    /// Its name.
     pub name: String,
+    /// The type of its result; None for `void`.
     pub result: Option<CType>,
+    /// Its parameters, in their order.
     pub params: Vec<Var>,
+    /// Its local variables, in the order of their declarations.
     pub locals: Vec<Var>,
+    /// Its statements.
     pub body: Vec<Line>,
+    /// The line of its closing brace.
     pub last: u32,
 }
 
 /// A whole text.
 #[derive(Drop)]
 pub struct Unit {
+    /// The number in the text's version line.
     pub version: u8,
     /// The lowest offset of the stack.
     pub lo: u16,
     /// The offset just above the stack.
     pub hi: u16,
+    /// Its global variables, in their order.
     pub globals: Vec<Global_>,
+    /// Its functions, in their order; a run begins with the first.
     pub funcs: Vec<Func>,
 }

@@ -10,7 +10,7 @@ use Rattle.dcc_prog.specs.declared.instr.Instr.{Instr}
 use Rattle.dcc_prog.specs.Table.{Row, Parts, fits_byte, fits, matches, row_length, this_byte, bytes_between, table, IsRow, instruction_at}
 use Rattle.dcc_prog.proofs.TableLaws.{and_left, and_right, and_both, find-get, find-passes, find-fits, has_bytes-le, has_bytes-of_le, instruction-row, instruction-of_row}
 use Rattle.dcc_decode.specs.declared.fields.Fields.{Fields}
-use Rattle.dcc_decode.specs.Reading.{parts_of, operation_of, is_plain, IsPlainRow, ReadsRows, FitsAsRead}
+use Rattle.dcc_decode.specs.Reading.{parts_of, operation_of, is_opcode_row, IsOpcodeRow, ReadsRows, FitsAsRead}
 use Rattle.dcc_decode.proofs.Forms.{told, fits-between, fits-one}
 
 -- INT 21h and the table jumps -----------------------------------------------------------------------
@@ -131,21 +131,21 @@ pub ruleset table_jump_rules = (table_jump_short, table_jump_other, table_jump_m
 
 -- The other instructions -------------------------------------------------------------------------------
 
--- a row that begins with another byte than 2E and CD has an opcode and a ModRM byte at most
-plain_row :
+-- a row that begins with another byte than 0x2E and 0xCD has an opcode and a ModRM byte at most
+opcode_row :
     (b : ℕ) (bytes : List ℕ) (row : Row) → b < 256 → b ≢ 0x2e → b ≢ 0xcd → IsRow row
-    → fits row.pattern (b ∷ bytes) ≡ true → IsPlainRow row
+    → fits row.pattern (b ∷ bytes) ≡ true → IsOpcodeRow row
 unfolding table
-plain_row b bytes row l n m at h =
-    let plain : Row → Bool = λ r. is_plain r in
+opcode_row b bytes row l n m at h =
+    let by_opcode : Row → Bool = λ r. is_opcode_row r in
     let within : (first last : ℕ) → first ≤ b → b ≤ last → fits (bytes_between first last ∷ []) (b ∷ bytes) ≡ true =
     λ first last low high. fits-one (bytes_between first last) b bytes (fits-between first last b low high l) in (
       at,
       elim (cases_lt b 0x2e) [
-        | inl x ↦ told (bytes_between 0x00 0x2d ∷ []) plain (b ∷ bytes) refl (within 0x00 0x2d (omega arith) (omega arith)) row at h
+        | inl x ↦ told (bytes_between 0x00 0x2d ∷ []) by_opcode (b ∷ bytes) refl (within 0x00 0x2d (omega arith) (omega arith)) row at h
         | inr x ↦ elim (cases_lt b 0xcd) [
-          | inl y ↦ told (bytes_between 0x2f 0xcc ∷ []) plain (b ∷ bytes) refl (within 0x2f 0xcc (omega arith) (omega arith)) row at h
-          | inr y ↦ told (bytes_between 0xce 0xff ∷ []) plain (b ∷ bytes) refl (within 0xce 0xff (omega arith) (omega arith)) row at h
+          | inl y ↦ told (bytes_between 0x2f 0xcc ∷ []) by_opcode (b ∷ bytes) refl (within 0x2f 0xcc (omega arith) (omega arith)) row at h
+          | inr y ↦ told (bytes_between 0xce 0xff ∷ []) by_opcode (b ∷ bytes) refl (within 0xce 0xff (omega arith) (omega arith)) row at h
         ]
       ],
     )
@@ -171,7 +171,7 @@ pub decode-unread :
     → instruction_at at (b ∷ bytes) ≡ None
 decode-unread at b bytes l n m reads =
     no_row at (b ∷ bytes) (λ row is matched.
-    reads.complete row (plain_row b bytes row l n m is (and_left _ _ matched)) (and_left _ _ matched) (enough_bytes row (b ∷ bytes) matched))
+    reads.complete row (opcode_row b bytes row l n m is (and_left _ _ matched)) (and_left _ _ matched) (enough_bytes row (b ∷ bytes) matched))
 
 operation-of_row :
     (p : Parts) (row : Row) → IsRow row → fits row.pattern (p.opcode ∷ p.modrm ∷ []) ≡ true
@@ -185,8 +185,8 @@ pub decode-no_operation :
     → operation_of (parts_of fields) ≡ None → instruction_at at (b ∷ bytes) ≡ None
 decode-no_operation at b bytes fields l n m reads fitting none =
     no_row at (b ∷ bytes) (λ row is matched.
-    let plain = plain_row b bytes row l n m is (and_left _ _ matched) in
-    let some = operation-of_row (parts_of fields) row is ((fitting.of_row row plain).0 (and_left _ _ matched)) in
+    let by_opcode = opcode_row b bytes row l n m is (and_left _ _ matched) in
+    let some = operation-of_row (parts_of fields) row is ((fitting.of_row row by_opcode).0 (and_left _ _ matched)) in
     some_or_none (row.operation (parts_of fields)) (sym some ∙ none))
 
 -- the row of an operation
@@ -201,10 +201,10 @@ operation-row p op e =
     let cases : (o : Option Row) → P o = λ o. elim o as P [ None ↦ λ f h. cc | Some row ↦ λ f h. (row, find-get test table row f, find-passes test table row f, cc) ] in
     cases found refl e
 
-plain_fields :
+opcode_row_of_fields :
     (opcode modrm b : ℕ) (row : Row) → opcode ≡ b → b < 256 → b ≢ 0x2e → b ≢ 0xcd → IsRow row
-    → fits row.pattern (opcode ∷ modrm ∷ []) ≡ true → IsPlainRow row
-plain_fields opcode modrm b row e l n m is h = plain_row b (modrm ∷ []) row l n m is (rw e at h)
+    → fits row.pattern (opcode ∷ modrm ∷ []) ≡ true → IsOpcodeRow row
+opcode_row_of_fields opcode modrm b row e l n m is h = opcode_row b (modrm ∷ []) row l n m is (rw e at h)
 
 instr_same :
     (op op' : Op) (len len' : ℕ) → op ≡ op' → len ≡ len'
@@ -219,12 +219,12 @@ pub decode-operation :
 decode-operation at b bytes fields op l n m reads fitting first some =
     let found = operation-row (parts_of fields) op some in
     let row : Row = found.0 in
-    let plain : IsPlainRow row = plain_fields fields.opcode fields.modrm b row first l n m found.1 found.2 in
-    let h : fits row.pattern (b ∷ bytes) ≡ true = (fitting.of_row row plain).1 found.2 in
+    let by_opcode : IsOpcodeRow row = opcode_row_of_fields fields.opcode fields.modrm b row first l n m found.1 found.2 in
+    let h : fits row.pattern (b ∷ bytes) ≡ true = (fitting.of_row row by_opcode).1 found.2 in
     elim (cases_lt (length (b ∷ bytes)) (row_length row (b ∷ bytes))) [
-      | inl short ↦ absurd (some_or_none fields (reads.cut_short row plain h short))
+      | inl short ↦ absurd (some_or_none fields (reads.cut_short row by_opcode h short))
       | inr enough ↦
-          let same = reads.complete row plain h enough in
+          let same = reads.complete row by_opcode h enough in
           let there = has_bytes-of_le (row_length row (b ∷ bytes)) (b ∷ bytes) enough in
           instruction-of_row at (b ∷ bytes) row found.1 (and_both _ _ h there)
           ∙ ap Some (instr_same _ op _ fields.len (ap row.operation (sym same.0) ∙ found.3) (sym same.1))
@@ -240,7 +240,7 @@ nothing at (b ∷ bytes) l = absurd (omega arith)
 pub past_end : (at : ℕ) (code : List ℕ) → length code ≤ at → instruction_at at (drop at code) ≡ None
 past_end at code l = nothing at (drop at code) (simp length-drop (omega arith))
 
--- bytes that begin with another one than 2E and CD
+-- bytes that begin with another one than 0x2E and 0xCD
 pub record Begins (bytes : List ℕ) : Type 0 where
   pub some : 0 < length bytes
   pub byte : slice_index bytes 0 < 256

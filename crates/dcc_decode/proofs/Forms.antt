@@ -10,7 +10,7 @@ use Rattle.dcc_prog.specs.Table.{Range, BytePattern, Row, ConstantForm, no_const
 use Rattle.dcc_prog.proofs.TableLaws.{and_left, and_right, and_both, patterns_apart, fits-apart, rows_within}
 use Rattle.dcc_decode.specs.declared.fields.Constant.{Constant}
 use Rattle.dcc_decode.specs.declared.fields.Constant.TheVariants.{Absent, Byte, Word, SignedByte}
-use Rattle.dcc_decode.specs.Reading.{form_of, is_plain, TellsModrm, TellsConstant}
+use Rattle.dcc_decode.specs.Reading.{form_of, is_opcode_row, TellsModrm, TellsConstant}
 
 -- Bytes that fit patterns ------------------------------------------------------------------------
 
@@ -110,7 +110,7 @@ same_flag-eq false false h = refl
 -- whether the rows of a form have a ModRM byte
 abbrev modrm_told : BytePattern → Bool → Bool
 modrm_told form answer =
-    list_all (λ row. not (is_plain row) || same_flag row.has_modrm answer) (rows_within (form ∷ []) table)
+    list_all (λ row. not (is_opcode_row row) || same_flag row.has_modrm answer) (rows_within (form ∷ []) table)
 
 or_right : (a b : Bool) → not a || b ≡ true → a ≡ true → b ≡ true
 or_right true b h t = h
@@ -122,8 +122,8 @@ tells_modrm :
 tells_modrm form answer opcode all h = record {
   of_row = λ row rest at k.
       same_flag-eq _ _
-      (or_right (is_plain row) _
-      (told (form ∷ []) (λ r. not (is_plain r) || same_flag r.has_modrm answer) (opcode ∷ rest) all (fits-one form opcode rest h) row at.0 k)
+      (or_right (is_opcode_row row) _
+      (told (form ∷ []) (λ r. not (is_opcode_row r) || same_flag r.has_modrm answer) (opcode ∷ rest) all (fits-one form opcode rest h) row at.0 k)
       at.1);
 }
 
@@ -225,7 +225,7 @@ same_form-eq signed_constant word_constant h = cc
 -- whether the rows of a form end in that constant
 abbrev constant_told : List BytePattern → Constant → Bool
 constant_told form answer =
-    list_all (λ row. not (is_plain row) || same_form row.constant_form (form_of answer)) (rows_within form table)
+    list_all (λ row. not (is_opcode_row row) || same_form row.constant_form (form_of answer)) (rows_within form table)
 
 tells_constant :
     (form : List BytePattern) (answer : Constant) (opcode modrm : ℕ)
@@ -235,8 +235,8 @@ tells_constant :
 tells_constant form answer opcode modrm all h = record {
   of_row = λ row rest at k.
       same_form-eq _ _
-      (or_right (is_plain row) _
-      (told form (λ r. not (is_plain r) || same_form r.constant_form (form_of answer)) (opcode ∷ modrm ∷ rest) all (h rest) row at.0 k)
+      (or_right (is_opcode_row row) _
+      (told form (λ r. not (is_opcode_row r) || same_form r.constant_form (form_of answer)) (opcode ∷ modrm ∷ rest) all (h rest) row at.0 k)
       at.1);
 }
 

@@ -1,4 +1,4 @@
--- The operation of each row with an opcode below 90, by its opcode and ModRM byte, and the bytes that have none.
+-- The operation of each row with an opcode below 0x90, by its opcode and ModRM byte, and the bytes that have none.
 use Rattle.std.proofs.Common.{◌≡◌, ℕ, ◌-◌, ◌<◌, ◌≤◌, Bool, true, false, ◌&&◌, nat_lt, List, [], ◌∷◌, length, refl, inl, inr, arith}
 use Rattle.std.specs.Prelude.{◌≢◌, bit_and, find, slice_get, Some, None, ◌==◌}
 use Rattle.std.specs.List.{list_all}
@@ -82,7 +82,7 @@ pub this :
     → fits (this_byte byte ∷ []) (p.opcode ∷ p.modrm ∷ []) ≡ true
 this byte p e = fits-one _ p.opcode (p.modrm ∷ []) (fits-this byte p.opcode e)
 
--- 00 to 3F --------------------------------------------------------------------------------------
+-- 0x00 to 0x3F ----------------------------------------------------------------------------------
 
 pub alu_two :
     (p : Parts) → p.opcode < 64 → bit_and p.opcode 7 ≤ 3 → p.modrm < 256
@@ -109,7 +109,7 @@ unfolding table
 none-eight p h k =
     none (each_eight 6 7 ∷ []) p refl (eight 6 7 p k (rw low_bits (omega arith)) h)
 
--- 40 to 5F --------------------------------------------------------------------------------------
+-- 0x40 to 0x5F ----------------------------------------------------------------------------------
 
 pub inc_register :
     (p : Parts) → 0x40 ≤ p.opcode → p.opcode ≤ 0x47 → operation_of p ≡ Some (UnaryOp Inc (r16 p))
@@ -149,7 +149,7 @@ none-5c_5c p h k =
     none (bytes_between 0x5c 0x5c ∷ []) p refl
     (one 0x5c 0x5c p h k (omega arith))
 
--- 60 to 7F --------------------------------------------------------------------------------------
+-- 0x60 to 0x7F ----------------------------------------------------------------------------------
 
 pub none-60_6f : (p : Parts) → 0x60 ≤ p.opcode → p.opcode ≤ 0x6f → operation_of p ≡ None
 unfolding table
@@ -175,7 +175,7 @@ none-7a_7b p h k =
     none (bytes_between 0x7a 0x7b ∷ []) p refl
     (one 0x7a 0x7b p h k (omega arith))
 
--- 80 to 8F --------------------------------------------------------------------------------------
+-- 0x80 to 0x8F ----------------------------------------------------------------------------------
 
 pub alu_byte :
     (p : Parts) → p.opcode ≡ 0x80 → p.modrm < 256

@@ -7,7 +7,7 @@ use Rattle.dcc_prog.specs.Table.{BytePattern, Row, Parts, ConstantForm, fits_byt
 use Rattle.dcc_prog.proofs.TableLaws.{and_left, and_right, and_both}
 use Rattle.dcc_decode.specs.declared.fields.Constant.{Constant}
 use Rattle.dcc_decode.specs.declared.fields.Fields.{Fields}
-use Rattle.dcc_decode.specs.Reading.{form_of, IsPlainRow, TellsModrm, TellsConstant, modrm_read, constant_read, head_length, head_of, ReadsHead, ReadsRows, FitsAsRead}
+use Rattle.dcc_decode.specs.Reading.{form_of, IsOpcodeRow, TellsModrm, TellsConstant, modrm_read, constant_read, head_length, head_of, ReadsHead, ReadsRows, FitsAsRead}
 
 -- patterns that bytes fit are fitted by more bytes
 fits-more : (ps : List BytePattern) (xs ys : List ℕ) → fits ps xs ≡ true → fits ps (xs ++ ys) ≡ true
@@ -38,14 +38,14 @@ fits-short [] x l h = omega arith
 fits-short (p ∷ []) x l h = omega arith
 fits-short (p ∷ q ∷ ps) x l h = let no : false ≡ true = and_right (fits_byte p x) false h in cc
 
-plain-length : (row : Row) → IsPlainRow row → length row.pattern ≡ (if row.has_modrm then 2 else 1)
-plain-length row at = grind (arith, nat_tests, at.1)
+opcode_row-length : (row : Row) → IsOpcodeRow row → length row.pattern ≡ (if row.has_modrm then 2 else 1)
+opcode_row-length row at = grind (arith, nat_tests, at.1)
 
-plain_with : (row : Row) → IsPlainRow row → row.has_modrm ≡ true → length row.pattern ≡ 2
-plain_with row at h = let l = plain-length row at in rw h at l
+opcode_row_with : (row : Row) → IsOpcodeRow row → row.has_modrm ≡ true → length row.pattern ≡ 2
+opcode_row_with row at h = let l = opcode_row-length row at in rw h at l
 
-plain_without : (row : Row) → IsPlainRow row → row.has_modrm ≡ false → length row.pattern ≡ 1
-plain_without row at h = let l = plain-length row at in rw h at l
+opcode_row_without : (row : Row) → IsOpcodeRow row → row.has_modrm ≡ false → length row.pattern ≡ 1
+opcode_row_without row at h = let l = opcode_row-length row at in rw h at l
 
 -- the parts of an answer under a test
 chosen :
@@ -64,9 +64,9 @@ no_pattern : (ps : List BytePattern) → 0 < length ps → fits ps [] ≡ true �
 no_pattern [] l h = omega arith
 no_pattern (p ∷ ps) l h = cc
 
-plain-positive : (row : Row) → IsPlainRow row → 0 < length row.pattern
-plain-positive row at =
-    let l = plain-length row at in
+opcode_row-positive : (row : Row) → IsOpcodeRow row → 0 < length row.pattern
+opcode_row-positive row at =
+    let l = opcode_row-length row at in
     let P : Bool → Type 0 = λ b. length row.pattern ≡ (if b then 2 else 1) → 0 < length row.pattern in
     let cases : (b : Bool) → P b = λ b. elim b as P [ true ↦ λ e. omega arith | false ↦ λ e. omega arith ] in
     cases row.has_modrm l
@@ -102,14 +102,14 @@ reads_head-modrm opcode [] answer l e t r = absurd (omega arith)
 reads_head-modrm opcode (b ∷ bytes) answer l e t r = record {
   of_row = λ row at h.
       let has = t.of_row row bytes at (rw e h) in
-      let two = plain_with row at has in
+      let two = opcode_row_with row at has in
       r ∙ rw (has, two) refl;
   fitting = λ modrm displacement end s row at.
       let some = modrm_read-some b bytes modrm displacement end (sym r ∙ s) in (
         λ h. let has = t.of_row row bytes at (rw e h) in
-            rw e ((fits-modrm row b modrm bytes (plain_with row at has) some.0 some.1).0 h),
+            rw e ((fits-modrm row b modrm bytes (opcode_row_with row at has) some.0 some.1).0 h),
         λ h. let has = t.of_row row (modrm ∷ []) at h in
-            (fits-modrm row b modrm bytes (plain_with row at has) some.0 some.1).1 (rw e at h),
+            (fits-modrm row b modrm bytes (opcode_row_with row at has) some.0 some.1).1 (rw e at h),
       );
 }
 
@@ -128,12 +128,12 @@ reads_head-none opcode [] answer l e t r = absurd (omega arith)
 reads_head-none opcode (b ∷ bytes) answer l e t r = record {
   of_row = λ row at h.
       let has = t.of_row row bytes at (rw e h) in
-      r ∙ sym (no_head row b bytes has (plain_without row at has));
+      r ∙ sym (no_head row b bytes has (opcode_row_without row at has));
   fitting = λ modrm displacement end s row at. (
     λ h. let has = t.of_row row bytes at (rw e h) in
-        fits-first row.pattern opcode bytes (modrm ∷ []) (plain_without row at has) (rw e h),
+        fits-first row.pattern opcode bytes (modrm ∷ []) (opcode_row_without row at has) (rw e h),
     λ h. let has = t.of_row row (modrm ∷ []) at h in
-        rw (sym e) (fits-first row.pattern opcode (modrm ∷ []) bytes (plain_without row at has) h),
+        rw (sym e) (fits-first row.pattern opcode (modrm ∷ []) bytes (opcode_row_without row at has) h),
   );
 }
 
@@ -155,7 +155,7 @@ fields_with at opcode modrm displacement end size constant =
 row_form :
     (row : Row) (bytes : List ℕ) (opcode modrm displacement end : ℕ) (form : Constant)
     → ReadsHead opcode bytes (Some (modrm, displacement, end)) → TellsConstant opcode modrm form
-    → IsPlainRow row → fits row.pattern bytes ≡ true → row.constant_form ≡ form_of form
+    → IsOpcodeRow row → fits row.pattern bytes ≡ true → row.constant_form ≡ form_of form
 row_form row bytes opcode modrm displacement end form reads tells at h =
     tells.of_row row [] at ((reads.fitting modrm displacement end refl row at).0 h)
 
@@ -174,13 +174,13 @@ pub reads_rows-none :
     → ReadsHead opcode bytes (Some (modrm, displacement, end)) → TellsConstant opcode modrm form
     → None ≡ constant_read (form_of form) bytes end → ReadsRows bytes at None
 reads_rows-none bytes at opcode modrm displacement end form reads tells r = record {
-  complete = λ row plain h enough.
-      let same = row_form row bytes opcode modrm displacement end form reads tells plain h in
-      let head = head_some row bytes modrm displacement end (reads.of_row row plain h) in
+  complete = λ row by_opcode h enough.
+      let same = row_form row bytes opcode modrm displacement end form reads tells by_opcode h in
+      let head = head_some row bytes modrm displacement end (reads.of_row row by_opcode h) in
       let whole = whole_length row bytes end (form_of form) head.3 same in
       let within : nat_le (end + constant_size (form_of form)) (length bytes) ≡ true = grind (arith, nat_tests) in
       absurd (none_chosen _ (constant_at (form_of form) bytes end) within r);
-  cut_short = λ row plain h short. refl;
+  cut_short = λ row by_opcode h short. refl;
 }
 
 pub reads_rows-some :
@@ -190,17 +190,17 @@ pub reads_rows-some :
     → Some constant ≡ constant_read (form_of form) bytes end
     → ReadsRows bytes at (Some (fields_with at opcode modrm displacement end size constant))
 reads_rows-some bytes at opcode modrm displacement end size constant form e reads tells s r = record {
-  complete = λ row plain h enough.
-      let same = row_form row bytes opcode modrm displacement end form reads tells plain h in
-      let head = head_some row bytes modrm displacement end (reads.of_row row plain h) in
+  complete = λ row by_opcode h enough.
+      let same = row_form row bytes opcode modrm displacement end form reads tells by_opcode h in
+      let head = head_some row bytes modrm displacement end (reads.of_row row by_opcode h) in
       let whole = whole_length row bytes end (form_of form) head.3 same in
       let got = chosen (nat_le (end + constant_size (form_of form)) (length bytes)) (constant_at (form_of form) bytes end) constant (sym r) in
       let value : constant ≡ constant_at row.constant_form bytes (head_length row bytes) = rw (same, head.3) (sym got.1) in
       let len : end + size ≡ row_length row bytes = rw s whole in
       (parts_are e (sym head.1) (sym head.2) value (ap (λ (n : ℕ). at + n) len), len);
-  cut_short = λ row plain h short.
-      let same = row_form row bytes opcode modrm displacement end form reads tells plain h in
-      let head = head_some row bytes modrm displacement end (reads.of_row row plain h) in
+  cut_short = λ row by_opcode h short.
+      let same = row_form row bytes opcode modrm displacement end form reads tells by_opcode h in
+      let head = head_some row bytes modrm displacement end (reads.of_row row by_opcode h) in
       let whole = whole_length row bytes end (form_of form) head.3 same in
       let got = chosen (nat_le (end + constant_size (form_of form)) (length bytes)) (constant_at (form_of form) bytes end) constant (sym r) in
       let within : end + constant_size (form_of form) ≤ length bytes = grind (arith, nat_tests, got.0) in
@@ -211,16 +211,16 @@ reads_rows-some bytes at opcode modrm displacement end size constant form e read
 pub reads_rows-cut :
     (bytes : List ℕ) (at opcode : ℕ) → ReadsHead opcode bytes None → ReadsRows bytes at None
 reads_rows-cut bytes at opcode reads = record {
-  complete = λ row plain h enough.
+  complete = λ row by_opcode h enough.
       let within : nat_le (head_length row bytes) (length bytes) ≡ true = grind (arith, nat_tests) in
-      absurd (none_chosen _ _ within (reads.of_row row plain h));
-  cut_short = λ row plain h short. refl;
+      absurd (none_chosen _ _ within (reads.of_row row by_opcode h));
+  cut_short = λ row by_opcode h short. refl;
 }
 
 pub reads_rows-empty : (bytes : List ℕ) (at : ℕ) → length bytes ≡ 0 → ReadsRows bytes at None
 reads_rows-empty [] at l = record {
-  complete = λ row plain h enough. absurd (no_pattern row.pattern (plain-positive row plain) h);
-  cut_short = λ row plain h short. refl;
+  complete = λ row by_opcode h enough. absurd (no_pattern row.pattern (opcode_row-positive row by_opcode) h);
+  cut_short = λ row by_opcode h short. refl;
 }
 reads_rows-empty (b ∷ bytes) at l = absurd (omega arith)
 
@@ -229,7 +229,7 @@ pub fits_as_read :
     → ReadsHead fields.opcode bytes (Some (fields.modrm, displacement, end))
     → FitsAsRead bytes fields
 fits_as_read bytes fields displacement end reads = record {
-  of_row = λ row plain. reads.fitting fields.modrm displacement end refl row plain;
+  of_row = λ row by_opcode. reads.fitting fields.modrm displacement end refl row by_opcode;
 }
 
 pub ruleset head_rules = (reads_head-modrm, reads_head-none)

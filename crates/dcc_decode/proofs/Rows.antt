@@ -1,4 +1,4 @@
--- The operation of each row, by its opcode and ModRM byte, and the bytes that have none: the rows from 90 on, and what the decoder's calls cite.
+-- The operation of each row, by its opcode and ModRM byte, and the bytes that have none: the rows from 0x90 on, and what the decoder's calls cite.
 use Rattle.std.proofs.Common.{◌≡◌, ◌/◌, ◌%◌, ◌<◌, ◌≤◌, Bool, true, false, ◌&&◌, [], ◌∷◌, refl, ◌∙◌, ap, inl, inr, arith}
 use Rattle.std.specs.Prelude.{◌≢◌, Some, None, ◌==◌}
 use Rattle.std.proofs.lemmas.Bool.{cases_lt}
@@ -14,7 +14,7 @@ use Rattle.dcc_decode.specs.Reading.{operation_of}
 use Rattle.dcc_decode.proofs.Forms.{fits-between, fits-this, fits-modrm, fits-any_operand, fits-one}
 use Rattle.dcc_decode.proofs.LowerRows.{of_row, none, one, eight, two, any, this, alu_two, alu_al, alu_ax, none-eight, inc_register, dec_register, push_low, push_high, pop_low, pop_high, none-54_54, none-5c_5c, none-60_6f, branch_unsigned, branch_signed, none-7a_7b, alu_byte, alu_constant_word, none-82_82, test_two, xchg_two, mov_two, mov_from_segment, mov_to_es, mov_to_segment, none-8c_memory, none-8c_high, none-8e_memory, none-8e_cs, none-8e_high, lea, none-8d, none-8f_group, pop_not_sp, pop_sp}
 
--- 90 to BF --------------------------------------------------------------------------------------
+-- 0x90 to 0xBF ----------------------------------------------------------------------------------
 
 pub nop : (p : Parts) → p.opcode ≡ 0x90 → operation_of p ≡ Some (PlainOp Nop)
 unfolding table
@@ -81,7 +81,7 @@ pub mov_word :
 unfolding table
 mov_word p h k = of_row 40 _ p refl (one 0xb8 0xbf p h k (omega arith))
 
--- C0 to EF --------------------------------------------------------------------------------------
+-- 0xC0 to 0xEF ----------------------------------------------------------------------------------
 
 pub ret_count : (p : Parts) → p.opcode ≡ 0xc2 → operation_of p ≡ Some (Ret p.constant)
 unfolding table
@@ -295,7 +295,7 @@ none-ec_ef p h k =
     none (bytes_between 0xec 0xef ∷ []) p refl
     (one 0xec 0xef p h k (omega arith))
 
--- F0 to FF --------------------------------------------------------------------------------------
+-- 0xF0 to 0xFF ----------------------------------------------------------------------------------
 
 pub cmc : (p : Parts) → p.opcode ≡ 0xf5 → operation_of p ≡ Some (PlainOp Cmc)
 unfolding table

@@ -32,22 +32,22 @@ operation_of parts =
     (find (λ row. fits row.pattern (parts.opcode ∷ parts.modrm ∷ [])) table)
 
 -- a row of the table whose first bytes are its opcode and its ModRM byte, if it has one
-abbrev pub is_plain : Row → Bool
-is_plain row = length row.pattern == (if row.has_modrm then 2 else 1)
+abbrev pub is_opcode_row : Row → Bool
+is_opcode_row row = length row.pattern == (if row.has_modrm then 2 else 1)
 
-abbrev pub IsPlainRow : Row → Type 0
-IsPlainRow row = IsRow row × IsTrue (is_plain row)
+abbrev pub IsOpcodeRow : Row → Type 0
+IsOpcodeRow row = IsRow row × IsTrue (is_opcode_row row)
 
 -- the answer, whether a ModRM byte follows the opcode, is that of each row that begins with it
 pub record TellsModrm (opcode : ℕ) (answer : Bool) : Type 0 where
   pub of_row :
-      (row : Row) (rest : List ℕ) → IsPlainRow row → IsTrue (fits row.pattern (opcode ∷ rest))
+      (row : Row) (rest : List ℕ) → IsOpcodeRow row → IsTrue (fits row.pattern (opcode ∷ rest))
       → row.has_modrm ≡ answer
 
 -- the answer, which constant ends the instruction, is that of each row that the two bytes fit
 pub record TellsConstant (opcode modrm : ℕ) (answer : Constant) : Type 0 where
   pub of_row :
-      (row : Row) (rest : List ℕ) → IsPlainRow row
+      (row : Row) (rest : List ℕ) → IsOpcodeRow row
       → IsTrue (fits row.pattern (opcode ∷ modrm ∷ rest)) → row.constant_form ≡ form_of answer
 
 -- the ModRM byte at index 1, its displacement, and the index behind that
@@ -81,24 +81,24 @@ head_of row bytes =
 -- the bytes exactly where it fits the opcode with the ModRM byte of the answer
 pub record ReadsHead (opcode : ℕ) (bytes : List ℕ) (answer : Option (ℕ × ℕ × ℕ)) : Type 0 where
   pub of_row :
-      (row : Row) → IsPlainRow row → IsTrue (fits row.pattern bytes) → answer ≡ head_of row bytes
+      (row : Row) → IsOpcodeRow row → IsTrue (fits row.pattern bytes) → answer ≡ head_of row bytes
   pub fitting :
       (modrm displacement end : ℕ) → answer ≡ Some (modrm, displacement, end) → (row : Row)
-      → IsPlainRow row
+      → IsOpcodeRow row
       → (IsTrue (fits row.pattern bytes) ↔ IsTrue (fits row.pattern (opcode ∷ modrm ∷ [])))
 
 -- what is read is the fields of each row that the bytes fit; None where they end within it
 pub record ReadsRows (bytes : List ℕ) (at : ℕ) (answer : Option Fields) : Type 0 where
   pub complete :
-      (row : Row) → IsPlainRow row → IsTrue (fits row.pattern bytes)
+      (row : Row) → IsOpcodeRow row → IsTrue (fits row.pattern bytes)
       → row_length row bytes ≤ length bytes
       → IsSomeAnd answer (λ fields. (parts_of fields ≡ row_parts row at bytes) × (fields.len ≡ row_length row bytes))
   pub cut_short :
-      (row : Row) → IsPlainRow row → IsTrue (fits row.pattern bytes)
+      (row : Row) → IsOpcodeRow row → IsTrue (fits row.pattern bytes)
       → length bytes < row_length row bytes → answer ≡ None
 
 -- the rows that fields fit are those that the bytes fit from which they were read
 pub record FitsAsRead (bytes : List ℕ) (fields : Fields) : Type 0 where
   pub of_row :
-      (row : Row) → IsPlainRow row
+      (row : Row) → IsOpcodeRow row
       → (IsTrue (fits row.pattern bytes) ↔ IsTrue (fits row.pattern (fields.opcode ∷ fields.modrm ∷ [])))

@@ -12,8 +12,11 @@ use dcc_prog::{Ea, Operand};
 /// Which constant ends an instruction.
 #[derive(Clone, Copy, PartialEq, Eq, Debug)]
 pub enum Constant {
+    /// None.
     Absent,
+    /// A byte.
     Byte,
+    /// A word, low byte first.
     Word,
     /// A byte, sign-extended to a word.
     SignedByte,
@@ -24,9 +27,13 @@ pub enum Constant {
 pub struct Fields {
     /// The offset of the first byte.
     pub at: u16,
+    /// The opcode byte.
     pub opcode: u8,
+    /// The ModRM byte.
     pub modrm: u8,
+    /// The displacement, sign-extended to a word.
     pub displacement: u16,
+    /// The constant, in its form.
     pub constant: u16,
     /// The number of bytes of the instruction.
     pub len: u8,
@@ -167,7 +174,7 @@ impl Fields {
     }
 }
 
-/// Whether a ModRM byte follows the opcode.
+// Whether a ModRM byte follows the opcode.
 #[tactic(auto, using(crate::proofs::Forms::modrm_rules))]
 fn has_modrm(opcode: u8) -> bool
     ensures { TellsModrm opcode result }
@@ -179,7 +186,7 @@ fn has_modrm(opcode: u8) -> bool
     }
 }
 
-/// Which constant ends an instruction with this opcode and ModRM byte.
+// Which constant ends an instruction with this opcode and ModRM byte.
 #[tactic(auto, using(crate::proofs::Forms::constant_rules))]
 fn constant_form(opcode: u8, modrm: u8) -> Constant
     ensures { TellsConstant opcode modrm result }
@@ -198,7 +205,7 @@ fn constant_form(opcode: u8, modrm: u8) -> Constant
     }
 }
 
-/// The constant of the opcodes 00 to 3F.
+// The constant of the opcodes 0x00 to 0x3F.
 #[tactic(auto, using(crate::proofs::Forms::constant_rules))]
 fn arithmetic_constant(opcode: u8) -> Constant
     requires { opcode ≤ 0x3f }
@@ -211,7 +218,7 @@ fn arithmetic_constant(opcode: u8) -> Constant
     }
 }
 
-/// The constant of the opcodes 80 to 8F.
+// The constant of the opcodes 0x80 to 0x8F.
 #[tactic(auto, using(crate::proofs::Forms::constant_rules))]
 fn operand_constant(opcode: u8) -> Constant
     requires low { 0x80 ≤ opcode }
@@ -226,7 +233,7 @@ fn operand_constant(opcode: u8) -> Constant
     }
 }
 
-/// The constant of the opcodes A0 to AF.
+// The constant of the opcodes 0xA0 to 0xAF.
 #[tactic(auto, using(crate::proofs::Forms::constant_rules))]
 fn accumulator_constant(opcode: u8) -> Constant
     requires low { 0xa0 ≤ opcode }
@@ -240,7 +247,7 @@ fn accumulator_constant(opcode: u8) -> Constant
     }
 }
 
-/// The constant of the opcodes C0 to CF.
+// The constant of the opcodes 0xC0 to 0xCF.
 #[tactic(auto, using(crate::proofs::Forms::constant_rules))]
 fn return_constant(opcode: u8) -> Constant
     requires low { 0xc0 ≤ opcode }
@@ -255,7 +262,7 @@ fn return_constant(opcode: u8) -> Constant
     }
 }
 
-/// The constant of the opcodes E0 to EF.
+// The constant of the opcodes 0xE0 to 0xEF.
 #[tactic(auto, using(crate::proofs::Forms::constant_rules))]
 fn jump_constant(opcode: u8) -> Constant
     requires low { 0xe0 ≤ opcode }
@@ -269,7 +276,7 @@ fn jump_constant(opcode: u8) -> Constant
     }
 }
 
-/// The constant of the opcodes F6 and F7, which their TEST alone has.
+// The constant of the opcodes 0xF6 and 0xF7, which their TEST alone has.
 #[tactic(auto, using(crate::proofs::Forms::constant_rules))]
 fn test_constant(opcode: u8, modrm: u8) -> Constant
     requires low { 0xf6 ≤ opcode }
@@ -285,7 +292,7 @@ fn test_constant(opcode: u8, modrm: u8) -> Constant
     }
 }
 
-/// The number of bytes of a constant.
+// The number of bytes of a constant.
 fn constant_size(form: Constant) -> u8
     ensures value { result ≡ constant_size (form_of form) }
     ensures range { result ≤ 2 }
@@ -297,7 +304,7 @@ fn constant_size(form: Constant) -> u8
     }
 }
 
-/// The ModRM byte at index 1, the displacement behind it, and the index behind that.
+// The ModRM byte at index 1, the displacement behind it, and the index behind that.
 fn read_modrm(bytes: &[u8]) -> Option<(u8, u16, u8)>
     ensures value { result ≡ modrm_read bytes.now }
     ensures small { IfSome result (λ found. found.2 ≤ 4) }
@@ -311,7 +318,7 @@ fn read_modrm(bytes: &[u8]) -> Option<(u8, u16, u8)>
     }
 }
 
-/// The ModRM byte and the displacement, 0 where there are none, and the index behind them.
+// The ModRM byte and the displacement, 0 where there are none, and the index behind them.
 #[tactic(auto, using(crate::proofs::ReadLaws::head_rules))]
 fn read_head(opcode: u8, bytes: &[u8]) -> Option<(u8, u16, u8)>
     requires there { 0 < length bytes.now }
@@ -327,7 +334,7 @@ fn read_head(opcode: u8, bytes: &[u8]) -> Option<(u8, u16, u8)>
     }
 }
 
-/// The constant of that form at an index.
+// The constant of that form at an index.
 fn read_constant(form: Constant, bytes: &[u8], index: usize) -> Option<u16>
     requires small { index ≤ 4 }
     requires within { index ≤ length bytes.now }
@@ -341,7 +348,7 @@ fn read_constant(form: Constant, bytes: &[u8], index: usize) -> Option<u16>
     }
 }
 
-/// The word at an index, low byte first.
+// The word at an index, low byte first.
 fn read_word(bytes: &[u8], index: usize) -> Option<u16>
     requires { index ≤ 4 }
     ensures { result ≡ constant_read word_constant bytes.now index }

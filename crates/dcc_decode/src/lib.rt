@@ -37,7 +37,7 @@ pub fn decode_window(window: &[u8], at: u16) -> Option<Instr>
     instruction_in(window, at)
 }
 
-/// The instruction that begins with the first byte of a window.
+// The instruction that begins with the first byte of a window.
 #[tactic(auto, using(crate::proofs::Decoding::end_rules))]
 fn instruction_in(window: &[u8], at: u16) -> Option<Instr>
     ensures { result ≡ instruction_at at window.now }
@@ -50,7 +50,7 @@ fn instruction_in(window: &[u8], at: u16) -> Option<Instr>
     }
 }
 
-/// An instruction other than these two, whose first bytes are its opcode and its ModRM byte.
+// An instruction other than these two, whose first bytes are its opcode and its ModRM byte.
 #[tactic(auto, using(crate::proofs::Decoding::field_rules))]
 fn decode_fields(bytes: &[u8], at: u16) -> Option<Instr>
     requires some { 0 < length bytes.now }
@@ -66,7 +66,7 @@ fn decode_fields(bytes: &[u8], at: u16) -> Option<Instr>
     })
 }
 
-/// INT 21h, by the bytes behind its opcode.
+// INT 21h, by the bytes behind its opcode.
 #[tactic(auto, using(crate::proofs::Decoding::interrupt_rules))]
 fn interrupt(rest: &[u8]) -> Option<Instr>
     ensures { (at : ℕ) → result ≡ instruction_at at (0xcd ∷ rest.now) }
@@ -81,7 +81,7 @@ fn interrupt(rest: &[u8]) -> Option<Instr>
     }
 }
 
-/// A jump to the word at CS:[SI+iw], CS:[DI+iw] or CS:[BX+iw], by the bytes behind its CS prefix.
+// A jump to the word at CS:[SI+iw], CS:[DI+iw] or CS:[BX+iw], by the bytes behind its CS prefix.
 #[tactic(auto, using(crate::proofs::Decoding::table_jump_rules))]
 fn table_jump(rest: &[u8]) -> Option<Instr>
     ensures { (at : ℕ) → result ≡ instruction_at at (0x2e ∷ rest.now) }

@@ -98,7 +98,7 @@ pub fn displacement_size(modrm: u8) -> u8
     }
 }
 
-/// The base and the index register of a memory operand, by the field rm.
+// The base and the index register of a memory operand, by the field rm.
 fn address_registers(rm: u8) -> (Option<Reg>, Option<Reg>)
     requires { rm < 8 }
     ensures base { result.0 ≡ get_or base_registers rm None }

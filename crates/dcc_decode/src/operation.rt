@@ -32,7 +32,7 @@ pub fn operation(fields: Fields) -> Option<Op>
     }
 }
 
-/// The operation on two operands of a number.
+// The operation on two operands of a number.
 fn alu(number: u8) -> Alu
     requires { number < 8 }
     ensures { result ≡ alu_of number }
@@ -49,7 +49,7 @@ fn alu(number: u8) -> Alu
     }
 }
 
-/// 00 to 3F: ADD, OR, ADC, SBB, AND, SUB, XOR, CMP.
+// 0x00 to 0x3F: ADD, OR, ADC, SBB, AND, SUB, XOR, CMP.
 #[tactic(auto, using(crate::proofs::Rows::arithmetic_rules))]
 fn arithmetic(fields: Fields) -> Option<Op>
     requires { fields.opcode ≤ 0x3f }
@@ -72,7 +72,7 @@ fn arithmetic(fields: Fields) -> Option<Op>
     }
 }
 
-/// 40 to 4F: INC and DEC of a word register.
+// 0x40 to 0x4F: INC and DEC of a word register.
 #[tactic(auto, using(crate::proofs::Rows::register_rules))]
 fn step_register(fields: Fields) -> Op
     requires low { 0x40 ≤ fields.opcode }
@@ -87,7 +87,7 @@ fn step_register(fields: Fields) -> Op
     }
 }
 
-/// 50 to 5F: PUSH and POP of a word register other than SP.
+// 0x50 to 0x5F: PUSH and POP of a word register other than SP.
 #[tactic(auto, using(crate::proofs::Rows::register_rules))]
 fn push_or_pop_register(fields: Fields) -> Option<Op>
     requires low { 0x50 ≤ fields.opcode }
@@ -102,7 +102,7 @@ fn push_or_pop_register(fields: Fields) -> Option<Op>
     }
 }
 
-/// The condition of the opcodes 70 to 79, from 0 on.
+// The condition of the opcodes 0x70 to 0x79, from 0 on.
 fn condition(number: u8) -> Cond
     requires { number < 10 }
     ensures { result ≡ condition_of number }
@@ -121,7 +121,7 @@ fn condition(number: u8) -> Cond
     }
 }
 
-/// The condition of the opcodes 7C to 7F, from 0 on.
+// The condition of the opcodes 0x7C to 0x7F, from 0 on.
 fn signed_condition(number: u8) -> Cond
     requires { number < 4 }
     ensures { result ≡ signed_condition_of number }
@@ -134,7 +134,7 @@ fn signed_condition(number: u8) -> Cond
     }
 }
 
-/// 70 to 7F: jumps on a condition other than parity.
+// 0x70 to 0x7F: jumps on a condition other than parity.
 #[tactic(auto, using(crate::proofs::Rows::branch_rules))]
 fn branch(fields: Fields) -> Option<Op>
     requires low { 0x70 ≤ fields.opcode }
@@ -149,7 +149,7 @@ fn branch(fields: Fields) -> Option<Op>
     }
 }
 
-/// 80 to 83: ADD, OR, ADC, SBB, AND, SUB, XOR, CMP with a constant.
+// 0x80 to 0x83: ADD, OR, ADC, SBB, AND, SUB, XOR, CMP with a constant.
 #[tactic(auto, using(crate::proofs::Rows::operand_rules))]
 fn arithmetic_with_constant(fields: Fields) -> Option<Op>
     requires low { 0x80 ≤ fields.opcode }
@@ -172,7 +172,7 @@ fn arithmetic_with_constant(fields: Fields) -> Option<Op>
     }
 }
 
-/// 80 to 8F: arithmetic with a constant, TEST, XCHG, MOV, LEA, POP.
+// 0x80 to 0x8F: arithmetic with a constant, TEST, XCHG, MOV, LEA, POP.
 #[tactic(auto, using(crate::proofs::Rows::operand_rules))]
 fn operand_operation(fields: Fields) -> Option<Op>
     requires low { 0x80 ≤ fields.opcode }
@@ -195,7 +195,7 @@ fn operand_operation(fields: Fields) -> Option<Op>
     }
 }
 
-/// 8C and 8E: MOV of a word register from ES, CS, SS or DS, and to ES, SS or DS.
+// 0x8C and 0x8E: MOV of a word register from ES, CS, SS or DS, and to ES, SS or DS.
 #[tactic(auto, using(crate::proofs::Rows::segment_rules))]
 fn move_segment(fields: Fields) -> Option<Op>
     requires { (fields.opcode ≡ 0x8c) ⊎ (fields.opcode ≡ 0x8e) }
@@ -214,7 +214,7 @@ fn move_segment(fields: Fields) -> Option<Op>
     }
 }
 
-/// 8D: LEA, whose operand is in memory.
+// 0x8D: LEA, whose operand is in memory.
 #[tactic(auto, using(crate::proofs::Rows::address_rules))]
 fn load_address(fields: Fields) -> Option<Op>
     requires { fields.opcode ≡ 0x8d }
@@ -227,7 +227,7 @@ fn load_address(fields: Fields) -> Option<Op>
     Some(Op::Lea(register, fields.address()))
 }
 
-/// 8F /0: POP of an operand other than SP.
+// 0x8F /0: POP of an operand other than SP.
 #[tactic(auto, using(crate::proofs::Rows::pop_rules))]
 fn pop_operand(fields: Fields) -> Option<Op>
     requires { fields.opcode ≡ 0x8f }
@@ -239,7 +239,7 @@ fn pop_operand(fields: Fields) -> Option<Op>
     Some(Op::Pop(fields.rm_operand(Width::Word)))
 }
 
-/// 90 to 9F: NOP, XCHG with AX, CBW, CWD.
+// 0x90 to 0x9F: NOP, XCHG with AX, CBW, CWD.
 #[tactic(auto, using(crate::proofs::Rows::accumulator_rules))]
 fn accumulator_operation(fields: Fields) -> Option<Op>
     requires low { 0x90 ≤ fields.opcode }
@@ -258,7 +258,7 @@ fn accumulator_operation(fields: Fields) -> Option<Op>
     }
 }
 
-/// A0 to AF: MOV between AL or AX and memory, TEST of AL or AX with a constant.
+// 0xA0 to 0xAF: MOV between AL or AX and memory, TEST of AL or AX with a constant.
 #[tactic(auto, using(crate::proofs::Rows::direct_rules))]
 fn move_or_test_accumulator(fields: Fields) -> Option<Op>
     requires low { 0xa0 ≤ fields.opcode }
@@ -278,7 +278,7 @@ fn move_or_test_accumulator(fields: Fields) -> Option<Op>
     }
 }
 
-/// B0 to BF: MOV of a constant into a register.
+// 0xB0 to 0xBF: MOV of a constant into a register.
 #[tactic(auto, using(crate::proofs::Rows::constant_rules))]
 fn move_constant(fields: Fields) -> Op
     requires low { 0xb0 ≤ fields.opcode }
@@ -296,7 +296,7 @@ fn move_constant(fields: Fields) -> Op
     )
 }
 
-/// C0 to CF: RET, and MOV of a constant.
+// 0xC0 to 0xCF: RET, and MOV of a constant.
 #[tactic(auto, using(crate::proofs::Rows::return_rules))]
 fn move_constant_or_return(fields: Fields) -> Option<Op>
     requires low { 0xc0 ≤ fields.opcode }
@@ -315,7 +315,7 @@ fn move_constant_or_return(fields: Fields) -> Option<Op>
     }
 }
 
-/// The shift or rotate of a number other than 6.
+// The shift or rotate of a number other than 6.
 fn shift(number: u8) -> Shift
     requires { number < 8 }
     ensures { result ≡ shift_of number }
@@ -331,7 +331,7 @@ fn shift(number: u8) -> Shift
     }
 }
 
-/// D0 to DF: shifts and rotates, XLAT.
+// 0xD0 to 0xDF: shifts and rotates, XLAT.
 #[tactic(auto, using(crate::proofs::Rows::translate_rules))]
 fn shift_or_translate(fields: Fields) -> Option<Op>
     requires low { 0xd0 ≤ fields.opcode }
@@ -346,7 +346,7 @@ fn shift_or_translate(fields: Fields) -> Option<Op>
     }
 }
 
-/// D0 and D1: shifts and rotates by 1.
+// 0xD0 and 0xD1: shifts and rotates by 1.
 #[tactic(auto, using(crate::proofs::Rows::shift_rules))]
 fn shift_by_one(fields: Fields) -> Option<Op>
     requires low { 0xd0 ≤ fields.opcode }
@@ -362,7 +362,7 @@ fn shift_by_one(fields: Fields) -> Option<Op>
     }
 }
 
-/// D2 and D3: shifts and rotates by CL, but RCL and RCR.
+// 0xD2 and 0xD3: shifts and rotates by CL, but RCL and RCR.
 #[tactic(auto, using(crate::proofs::Rows::shift_rules))]
 fn shift_by_cl(fields: Fields) -> Option<Op>
     requires low { 0xd2 ≤ fields.opcode }
@@ -378,7 +378,7 @@ fn shift_by_cl(fields: Fields) -> Option<Op>
     }
 }
 
-/// E0 to EF: LOOPNE, LOOPE, LOOP, JCXZ, CALL, JMP.
+// 0xE0 to 0xEF: LOOPNE, LOOPE, LOOP, JCXZ, CALL, JMP.
 #[tactic(auto, using(crate::proofs::Rows::jump_rules))]
 fn loop_or_jump(fields: Fields) -> Option<Op>
     requires low { 0xe0 ≤ fields.opcode }
@@ -397,7 +397,7 @@ fn loop_or_jump(fields: Fields) -> Option<Op>
     }
 }
 
-/// F0 to FF: flags, and the groups that the field reg names.
+// 0xF0 to 0xFF: flags, and the groups that the field reg names.
 #[tactic(auto, using(crate::proofs::Rows::group_rules))]
 fn group(fields: Fields) -> Option<Op>
     requires { 0xf0 ≤ fields.opcode }
@@ -416,7 +416,7 @@ fn group(fields: Fields) -> Option<Op>
     }
 }
 
-/// The operation of F6 and F7 of a number from 2 to 7.
+// The operation of 0xF6 and 0xF7 of a number from 2 to 7.
 fn unary(number: u8) -> Unary
     requires low { 2 ≤ number }
     requires high { number < 8 }
@@ -432,7 +432,7 @@ fn unary(number: u8) -> Unary
     }
 }
 
-/// F6 and F7: TEST with a constant, NOT, NEG, MUL, IMUL, DIV, IDIV.
+// 0xF6 and 0xF7: TEST with a constant, NOT, NEG, MUL, IMUL, DIV, IDIV.
 #[tactic(auto, using(crate::proofs::Rows::unary_rules))]
 fn test_or_unary(fields: Fields) -> Option<Op>
     requires low { 0xf6 ≤ fields.opcode }
@@ -447,7 +447,7 @@ fn test_or_unary(fields: Fields) -> Option<Op>
     }
 }
 
-/// FE and FF: INC, DEC; PUSH of a word operand other than SP.
+// 0xFE and 0xFF: INC, DEC; PUSH of a word operand other than SP.
 #[tactic(auto, using(crate::proofs::Rows::step_rules))]
 fn step_or_push(fields: Fields) -> Option<Op>
     requires { 0xfe ≤ fields.opcode }

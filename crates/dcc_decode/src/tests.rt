@@ -7,7 +7,7 @@ use dcc_num::{Reg, Width};
 use dcc_prog::Operand::{Byte, Seg, Word};
 use dcc_prog::{Alu, Cond, Ea, Instr, Op, Operand, Plain, Shift, Unary};
 
-/// Whether all of the bytes are an instruction with this operation.
+// Whether all of the bytes are an instruction with this operation.
 fn decodes(code: &[u8], op: Op) -> bool {
     match decode(code, 0) {
         Some(instr) => instr.op == op && usize::from(instr.len) == code.len(),
@@ -108,8 +108,6 @@ fn groups_go_by_the_reg_field(rt: HostRuntime) {
 
 #[test]
 fn addresses_are_those_of_the_rm_table(rt: HostRuntime) {
-    assert!(rt; decodes(b"\xb8\x34\x12", Op::Mov(Word(Ax), word(0x1234))));
-    assert!(rt; decodes(b"\xb7\xff", Op::Mov(Byte(Bx, High), byte(0xff))));
     assert!(rt;
         decodes(
             b"\x8b\x46\x04",
@@ -128,19 +126,29 @@ fn addresses_are_those_of_the_rm_table(rt: HostRuntime) {
             Op::Mov(Byte(Cx, High), byte_at(None, None, 0x20))
         )
     );
-    assert!(rt; decodes(b"\x8c\xd8", Op::Mov(Word(Ax), Seg(3))));
-    assert!(rt; decodes(b"\x8e\xd0", Op::Mov(Seg(2), Word(Ax))));
+    let address = Ea {
+        base: Some(Bp),
+        index: Some(Si),
+        disp: 0xff85,
+    };
+    assert!(rt; decodes(b"\x8d\x42\x85", Op::Lea(Ax, address)));
     assert!(rt;
         decodes(
-            b"\x8d\x42\x85",
-            Op::Lea(
-                Ax,
-                Ea {
-                    base: Some(Bp),
-                    index: Some(Si),
-                    disp: 0xff85
-                }
-            )
+            b"\x86\x66\xf0",
+            Op::Xchg(byte_at(Some(Bp), None, 0xfff0), Byte(Ax, High))
+        )
+    );
+}
+
+#[test]
+fn moves_take_constants_segments_and_addresses(rt: HostRuntime) {
+    assert!(rt; decodes(b"\xb8\x34\x12", Op::Mov(Word(Ax), word(0x1234))));
+    assert!(rt; decodes(b"\xb7\xff", Op::Mov(Byte(Bx, High), byte(0xff))));
+    assert!(rt; decodes(b"\xc7\xc0\x34\x12", Op::Mov(Word(Ax), word(0x1234))));
+    assert!(rt;
+        decodes(
+            b"\xc6\x06\x20\x00\x41",
+            Op::Mov(byte_at(None, None, 0x20), byte(0x41))
         )
     );
     assert!(rt;
@@ -149,20 +157,9 @@ fn addresses_are_those_of_the_rm_table(rt: HostRuntime) {
             Op::Mov(byte_at(None, None, 0x10), Byte(Ax, Low))
         )
     );
-    assert!(rt;
-        decodes(
-            b"\xc6\x06\x20\x00\x41",
-            Op::Mov(byte_at(None, None, 0x20), byte(0x41))
-        )
-    );
-    assert!(rt; decodes(b"\xc7\xc0\x34\x12", Op::Mov(Word(Ax), word(0x1234))));
+    assert!(rt; decodes(b"\x8c\xd8", Op::Mov(Word(Ax), Seg(3))));
+    assert!(rt; decodes(b"\x8e\xd0", Op::Mov(Seg(2), Word(Ax))));
     assert!(rt; decodes(b"\x93", Op::Xchg(Word(Ax), Word(Bx))));
-    assert!(rt;
-        decodes(
-            b"\x86\x66\xf0",
-            Op::Xchg(byte_at(Some(Bp), None, 0xfff0), Byte(Ax, High))
-        )
-    );
 }
 
 #[test]

@@ -6,12 +6,12 @@ use Rattle.dcc_io.specs.declared.outside.ShelfFault.{ShelfFault}
 use Rattle.dcc_io.specs.declared.outside.ShelfFault.TheVariants.{Absent, Failed, Memory}
 
 -- the answer and the bytes given are right for the file of that name, or for there being none
-abbrev pub Answers : Option (List ℕ) → ℕ → Result Fetched ShelfFault → List ℕ → Type 0
-Answers file most (Ok Whole) given = (file ≡ Some given) × (length given ≤ most)
-Answers file most (Ok Longer) given = (bytes : List ℕ) × (file ≡ Some bytes) × (most < length bytes) × (given ≡ take most bytes)
-Answers file most (Err Absent) given = file ≡ None
-Answers file most (Err Failed) given = Unit {0}
-Answers file most (Err Memory) given = Unit {0}
+abbrev pub Fetches : Option (List ℕ) → ℕ → Result Fetched ShelfFault → List ℕ → Type 0
+Fetches file most (Ok Whole) given = (file ≡ Some given) × (length given ≤ most)
+Fetches file most (Ok Longer) given = (bytes : List ℕ) × (file ≡ Some bytes) × (most < length bytes) × (given ≡ take most bytes)
+Fetches file most (Err Absent) given = file ≡ None
+Fetches file most (Err Failed) given = Unit {0}
+Fetches file most (Err Memory) given = Unit {0}
 
 -- no more bytes are given than asked for, and as many where there are more
 abbrev pub KeepsWithin : ℕ → Result Fetched ShelfFault → List ℕ → Type 0

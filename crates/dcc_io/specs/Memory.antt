@@ -15,8 +15,8 @@ abbrev pub fails_next : List ℕ → ℕ → Bool
 fails_next fail n = nat_lt n (2 ^ 64 - 1) && is_listed fail (n + 1)
 
 -- the number of calls after one more
-abbrev pub counted : ℕ → ℕ
-counted n = min (n + 1) (2 ^ 64 - 1)
+abbrev pub next_count : ℕ → ℕ
+next_count n = min (n + 1) (2 ^ 64 - 1)
 
 -- how many of the calls 1 to n are on the list
 unfoldable pub listed_calls : List ℕ → ℕ → ℕ

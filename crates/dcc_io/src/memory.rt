@@ -1,4 +1,5 @@
-// Files, input and output in memory, of which chosen calls fail.
+//! Files, input and output in memory, of which chosen calls fail.
+
 mod calls;
 pub mod shelf;
 pub mod sink;

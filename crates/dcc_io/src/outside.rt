@@ -1,9 +1,10 @@
-// What a program meets outside itself: files, input and output, each with counts of what went wrong.
+//! What a program meets outside itself: files, input and output, each with counts of what went wrong.
+
 ghost use Rattle.std.specs.Prelude.{◌≡◌, ◌<◌, ◌≤◌, ℕ, List, [], length, take, vec_len, Option, Some, IfOk, IsOk, OnOk, OnErr, IsErrOf};
 ghost use Rattle.dcc_io.specs.declared.outside.ShelfFault.TheVariants.{Memory};
 ghost use Rattle.dcc_io.specs.Count.{Rose};
 ghost use Rattle.dcc_io.specs.Told.{WhenTold, append_told, prepend_told, AppendsProperPrefix};
-ghost use Rattle.dcc_io.specs.Fetch.{Answers, KeepsWithin, Records};
+ghost use Rattle.dcc_io.specs.Fetch.{Fetches, KeepsWithin, Records};
 
 use std::alloc::{AllocError, AllocFailed, Global};
 
@@ -75,7 +76,7 @@ pub trait Shelf {
         ensures files { files self.new ≡ files self.old }
         ensures asked { Records (asked self.old) (asked self.new) (name.now, most) result }
 
-        ensures answer { WhenTold (files self.old) (λ file. Answers (file name.now) most result into.new.items) }
+        ensures answer { WhenTold (files self.old) (λ file. Fetches (file name.now) most result into.new.items) }
         ensures within { KeepsWithin most result into.new.items }
 
         // Counts never fall, and an error comes only where its count rose.

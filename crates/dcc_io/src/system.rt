@@ -1,5 +1,6 @@
-// The real outside: a file of the working folder, and the standard streams. What the system does
-// with them isn't proved, so these objects tell nothing of content; they count what went wrong.
+//! The real outside: a file of the working folder, and the standard streams. What the system does
+//! with them isn't proved, so these objects tell nothing of content; they count what went wrong.
+
 ghost use Rattle.std.specs.Prelude.{◌≡◌, [], None, vec_len};
 ghost use Rattle.std.specs.Io.{WritesAtMost};
 ghost use Rattle.dcc_io.specs.Fetch.{KeepsWithin};

@@ -1,4 +1,5 @@
-// Each object through its trait, and what only the system can show.
+//! Each object through its trait, and what only the system can show.
+
 use super::*;
 use std::alloc::{AllocError, Global};
 use std::fs;

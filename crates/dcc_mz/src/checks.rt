@@ -8,7 +8,7 @@ ghost use Rattle.dcc_mz.specs.Header.{IsHeaderOf};
 use crate::fault::MzFault;
 use crate::header::{HEADER_LENGTH, Header};
 
-/// The greatest length of a file, in bytes.
+// The greatest length of a file, in bytes.
 const GREATEST_LENGTH: usize = 262_144;
 
 /// Reads the header, and sees that it says where in the file the image lies.

@@ -8,7 +8,7 @@ use byteorder::{ByteOrder, LittleEndian};
 /// The number of bytes up to the end of the last word that is read.
 pub const HEADER_LENGTH: usize = 28;
 
-/// The number of bytes in a page.
+// The number of bytes in a page.
 const PAGE: usize = 512;
 
 /// The number of bytes in a paragraph.

@@ -7,17 +7,17 @@ ghost use Rattle.dcc_mz.specs.Fault.{IsRefusalOrMemory, fault_of};
 
 use crate::checks::checked_header;
 use crate::fault::MzFault;
-use crate::relocation::{loaded, relocated};
+use crate::relocation::{loaded_segment, relocated_image};
 use dcc_prog::Image;
 use std::alloc::Global;
 
-/// The image of a file, where the file passes the seven checks.
+// The image of a file, where the file passes the seven checks.
 fn checked_image(alloc: Global, file: &[u8]) -> Result<Image, MzFault>
     ensures image { IfOk result (IsImageOf file.now) }
     ensures refused { IfErr result (IsRefusalOrMemory file.now) }
 {
     let header = checked_header(file)?;
-    let image = relocated(alloc, file, &header)?;
+    let image = relocated_image(alloc, file, &header)?;
     let code_start = header.code_start();
     if code_start + header.ip as usize >= image.len() {
         return Err(MzFault::EntryOutside);
@@ -26,9 +26,9 @@ fn checked_image(alloc: Global, file: &[u8]) -> Result<Image, MzFault>
     Ok(Image {
         bytes: image,
         code_len,
-        cs: loaded(header.cs),
+        cs: loaded_segment(header.cs),
         ip: header.ip,
-        ss: loaded(header.ss),
+        ss: loaded_segment(header.ss),
         sp: header.sp,
     })
 }

@@ -10,18 +10,18 @@ use crate::header::{Header, PARAGRAPH, word};
 use byteorder::{ByteOrder, LittleEndian};
 use std::alloc::Global;
 
-/// The segment at which the image is loaded.
+// The segment at which the image is loaded.
 const LOAD_SEGMENT: u16 = 0x0110;
 
 /// A segment that the file counts from the image's start, moved to where the image is loaded.
-pub fn loaded(segment: u16) -> u16
+pub fn loaded_segment(segment: u16) -> u16
     ensures { result ≡ loaded_segment segment }
 {
     segment.wrapping_add(LOAD_SEGMENT)
 }
 
-/// The offset in an image of the word that an entry of the relocation table moves, or `None` where
-/// the entry is not wholly in the file or the word not wholly in the image.
+// The offset in an image of the word that an entry of the relocation table moves, or `None` where
+// the entry is not wholly in the file or the word not wholly in the image.
 fn place(file: &[u8], header: &Header, image_len: usize, entry: u16) -> Option<usize>
     requires header { IsHeaderOf file.now header.now }
     requires image { image_len ≡ image_length file.now }
@@ -36,17 +36,17 @@ fn place(file: &[u8], header: &Header, image_len: usize, entry: u16) -> Option<u
     (place + 2 <= image_len).then_some(place)
 }
 
-/// Adds the load segment to the word at an offset, modulo 65,536.
+// Adds the load segment to the word at an offset, modulo 65,536.
 fn move_word(image: &mut [u8], at: usize)
     requires { at + 2 ≤ length image.old }
     ensures { image.new ≡ with_word_at image.old at (loaded_segment (word_at image.old at)) }
 {
-    let moved = loaded(word(image, at));
+    let moved = loaded_segment(word(image, at));
     LittleEndian::write_u16(&mut image[at..], moved);
 }
 
-/// Applies the relocations to an image, in the order of their table. After an error the image is
-/// of no use.
+// Applies the relocations to an image, in the order of their table. After an error the image is
+// of no use.
 fn relocate(file: &[u8], header: &Header, image: &mut [u8]) -> Result<(), MzFault>
     requires header { IsHeaderOf file.now header.now }
     requires good { HasGoodHeader file.now }
@@ -66,7 +66,7 @@ fn relocate(file: &[u8], header: &Header, image: &mut [u8]) -> Result<(), MzFaul
 
 /// The image of a file, copied and relocated.
 #[tactic(auto, unfolding(dcc_prog::specs::MzImage::relocated_image))]
-pub fn relocated(alloc: Global, file: &[u8], header: &Header) -> Result<Vec<u8>, MzFault>
+pub fn relocated_image(alloc: Global, file: &[u8], header: &Header) -> Result<Vec<u8>, MzFault>
     requires header { IsHeaderOf file.now header.now }
     requires good { HasGoodHeader file.now }
     ensures moved { IfOk result (λ image.

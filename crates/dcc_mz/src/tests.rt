@@ -5,15 +5,15 @@ use std::alloc::{AllocError, Global};
 use std::process::Abort;
 use std::test::Fail;
 
-/// A file of 48 bytes that prints A: a header of two paragraphs with one relocation, then 16 bytes
-/// of code.
+// A file of 48 bytes that prints A: a header of two paragraphs with one relocation, then 16 bytes
+// of code.
 const PRINTS_A: [u8; 48] = [
     0x4D, 0x5A, 0x30, 0x00, 0x01, 0x00, 0x01, 0x00, 0x02, 0x00, 0x00, 0x00, 0xFF, 0xFF, 0x01, 0x00,
     0x00, 0x01, 0x00, 0x00, 0x00, 0x00, 0x00, 0x00, 0x1C, 0x00, 0x00, 0x00, 0x01, 0x00, 0x00, 0x00,
     0xB8, 0x01, 0x00, 0x8E, 0xD8, 0xB2, 0x41, 0xB4, 0x02, 0xCD, 0x21, 0xB8, 0x03, 0x4C, 0xCD, 0x21,
 ];
 
-/// A file whose relocations move the words at 1, 2, 1 and 0012h; the first and the stack segment wrap.
+// A file whose relocations move the words at 1, 2, 1 and 0012h; the first and the stack segment wrap.
 const OVERLAPS: [u8; 80] = [
     0x4D, 0x5A, 0x50, 0x00, 0x01, 0x00, 0x04, 0x00, 0x03, 0x00, 0x00, 0x00, 0x00, 0x00, 0xF0, 0xFF,
     0x00, 0x02, 0x00, 0x00, 0x04, 0x00, 0x01, 0x00, 0x1C, 0x00, 0x00, 0x00, 0x01, 0x00, 0x00, 0x00,
@@ -45,7 +45,7 @@ fn images_are_relocated_in_order(rt: HostRuntime) -> Result<(), Fail> {
     Ok(())
 }
 
-/// The number and the place of the fault for which a file is refused.
+// The number and the place of the fault for which a file is refused.
 fn refusal(alloc: Global, file: &[u8]) -> Result<Option<(MzFault, u8, u32)>, AllocError> {
     let file = file.to_vec(alloc)?;
     Ok(
@@ -55,7 +55,7 @@ fn refusal(alloc: Global, file: &[u8]) -> Result<Option<(MzFault, u8, u32)>, All
     )
 }
 
-/// The file that prints A, with another byte at an offset.
+// The file that prints A, with another byte at an offset.
 fn changed(rt: &impl Abort, at: usize, byte: u8) -> [u8; 48] {
     let mut file = PRINTS_A;
     assert!(rt; at < 48);

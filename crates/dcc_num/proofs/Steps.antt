@@ -9,14 +9,14 @@ use Rattle.dcc_num.specs.declared.Width.TheVariants.{Byte, Word}
 use Rattle.dcc_num.specs.declared.Flags.{Flags}
 use Rattle.dcc_num.specs.Numbers.{bits_of, limit_of, half_of, has_sign, is_set, result_flags, signed_of, halved_of, wrapped_of, residue_of}
 use Rattle.dcc_num.specs.Shift.{left_shift_of, right_shift_of, signed_shift_of, left_rotation_of, right_rotation_of, turned_of}
-use Rattle.dcc_num.specs.Laws.{repeated, left_step, right_step, signed_step, left_rotation_step, right_rotation_step, value_and_carry, IsRepeated}
+use Rattle.dcc_num.specs.Laws.{after_steps, left_step, right_step, signed_step, left_rotation_step, right_rotation_step, value_and_carry, IsRepeated}
 use Rattle.dcc_num.proofs.Shifts.{turned_below}
 
 -- states with the values and the carries that the step gives are the step, repeated
 repeats : (step : ℕ × Bool → ℕ × Bool) (at : ℕ → ℕ × Bool) (value : ℕ → ℕ) (carry : ℕ → Bool)
     → ((n : ℕ) → (at n).0 ≡ value n) → ((n : ℕ) → at (suc n) ≡ (value (suc n), carry n))
-    → ((n : ℕ) (c : Bool) → step (value n, c) ≡ (value (suc n), carry n)) → (n : ℕ) → at n ≡ repeated step n (at 0)
-unfolding repeated
+    → ((n : ℕ) (c : Bool) → step (value n, c) ≡ (value (suc n), carry n)) → (n : ℕ) → at n ≡ after_steps step n (at 0)
+unfolding after_steps
 repeats step at value carry has gives next zero = refl
 repeats step at value carry has gives next (suc n) =
     gives n ∙ sym (next n (at n).1) ∙ sym (ap (λ (v : ℕ). step (v, (at n).1)) (has n)) ∙ ap step (repeats step at value carry has gives next n)

@@ -12,9 +12,9 @@ use Rattle.dcc_num.specs.Quotient.{joined_of, signed_joined_of, division_of, sig
 -- ---- shifts and rotations
 
 -- a step made so many times
-unfoldable pub repeated : {X : Type 0} → (X → X) → ℕ → X → X
-repeated step zero x = x
-repeated step (suc n) x = step (repeated step n x)
+unfoldable pub after_steps : {X : Type 0} → (X → X) → ℕ → X → X
+after_steps step zero x = x
+after_steps step (suc n) x = step (after_steps step n x)
 
 -- one place to the left: 0 comes in, and the top bit is the new CF
 abbrev pub left_step : Width → ℕ × Bool → ℕ × Bool
@@ -44,7 +44,7 @@ value_and_carry (r, flags) = (r, flags.cf)
 abbrev pub IsRepeated : (Width → ℕ × Bool → ℕ × Bool) → (Width → ℕ → ℕ → Flags → ℕ × Flags) → Type 0
 IsRepeated step moved =
     (w : Width) (a count : ℕ) (was : Flags) → a < limit_of w
-    → value_and_carry (moved w a count was) ≡ repeated (step w) count (a, was.cf)
+    → value_and_carry (moved w a count was) ≡ after_steps (step w) count (a, was.cf)
 
 -- ---- sums and differences
 

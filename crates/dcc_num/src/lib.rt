@@ -65,8 +65,12 @@ pub enum FlagName {
 /// The values of the four modelled flags.
 #[derive(Clone, Copy, PartialEq, Eq, Debug)]
 pub struct Flags {
+    /// Carry.
     pub cf: bool,
+    /// Zero.
     pub zf: bool,
+    /// Sign.
     pub sf: bool,
+    /// Signed overflow.
     pub of: bool,
 }

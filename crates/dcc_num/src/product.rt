@@ -7,7 +7,7 @@ ghost use Rattle.dcc_num.specs.Product.{product_of, signed_product_of, product_f
 use crate::operand::{bits, is_negative, limit, signed, wrapped};
 use crate::{Flags, Width};
 
-/// CF and OF tell whether the product needs its upper half.
+// CF and OF tell whether the product needs its upper half.
 fn flags_of(needed: bool) -> Flags
     ensures { result ≡ product_flags needed }
 {
@@ -34,7 +34,7 @@ pub fn mul(w: Width, a: u16, b: u16) -> (u16, u16, Flags)
     (low, high, flags_of(high != 0))
 }
 
-/// The upper half that only repeats the sign of the lower one.
+// The upper half that only repeats the sign of the lower one.
 fn extension(w: Width, low: u16) -> u16
     ensures { result ≡ extension_of w low }
 {

@@ -24,7 +24,7 @@ pub fn div(w: Width, high: u16, low: u16, by: u16) -> Option<(u16, u16)>
     Some(((dividend / by) as u16, (dividend % by) as u16))
 }
 
-/// A dividend in two's complement.
+// A dividend in two's complement.
 fn signed_dividend(w: Width, high: u16, low: u16) -> i64
     requires upper { high < limit_of w }
     requires lower { low < limit_of w }

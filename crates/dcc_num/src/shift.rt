@@ -7,10 +7,10 @@ ghost use Rattle.dcc_num.specs.Shift.{left_shift_of, right_shift_of, signed_shif
 use crate::operand::{bits, flags_of, half, is_negative, limit, signed, wrapped};
 use crate::{Flags, Width};
 
-/// A count at which nothing is left of a word, nor of the bits that it shifts out last.
+// A count at which nothing is left of a word, nor of the bits that it shifts out last.
 const ALL_OUT: u8 = 17;
 
-/// The bits moved up by a count, and whether the last bit shifted out is set.
+// The bits moved up by a count, and whether the last bit shifted out is set.
 fn moved_up(w: Width, a: u16, count: u8) -> (u16, bool)
     requires { a < limit_of w }
     ensures bits { result.0 ≡ a * 2 ^ count % limit_of w }
@@ -36,7 +36,7 @@ pub fn shl(w: Width, a: u16, count: u8, was: Flags) -> (u16, Flags)
     (result, flags_of(w, result, cf, of))
 }
 
-/// The bits moved down by a count, and whether the last bit shifted out is set.
+// The bits moved down by a count, and whether the last bit shifted out is set.
 fn moved_down(a: u16, count: u8) -> (u16, bool)
     requires { 0 < count }
     ensures bits { result.0 ≡ a / 2 ^ count }
@@ -62,7 +62,7 @@ pub fn shr(w: Width, a: u16, count: u8, was: Flags) -> (u16, Flags)
     (result, flags_of(w, result, cf, of))
 }
 
-/// The same for a signed operand.
+// The same for a signed operand.
 fn moved_down_signed(w: Width, a: u16, count: u8) -> (u16, bool)
     requires operand { a < limit_of w }
     requires moved { 0 < count }
@@ -87,7 +87,7 @@ pub fn sar(w: Width, a: u16, count: u8, was: Flags) -> (u16, Flags)
     (result, flags_of(w, result, cf, false))
 }
 
-/// The bits moved up by some places, at most the width: those that leave at the top come in at the bottom.
+// The bits moved up by some places, at most the width: those that leave at the top come in at the bottom.
 fn turned(w: Width, a: u16, places: u32) -> u16
     requires operand { a < limit_of w }
     requires places { places ≤ bits_of w }
@@ -99,7 +99,7 @@ fn turned(w: Width, a: u16, places: u32) -> u16
     (wide % limit + wide / limit) as u16
 }
 
-/// Whether the two top bits of an operand differ.
+// Whether the two top bits of an operand differ.
 fn top_bits_differ(w: Width, a: u16) -> bool
     ensures { result ≡ top_bits_differ w a }
 {

@@ -8,7 +8,7 @@ use crate::*;
 use Operation::*;
 use Width::{Byte, Word};
 
-/// An operation on one or two operands that gives a result and flags.
+// An operation on one or two operands that gives a result and flags.
 #[derive(Clone, Copy)]
 enum Operation {
     Add,
@@ -28,7 +28,7 @@ enum Operation {
     Rcr1,
 }
 
-/// An operation, its width, its operands, the carry before it, its result, and the flags that are then set.
+// An operation, its width, its operands, the carry before it, its result, and the flags that are then set.
 type Row = (Operation, Width, u16, u16, bool, u16, &'static [u8; 4]);
 
 static ROWS: [Row; 162] = [
@@ -196,7 +196,7 @@ static ROWS: [Row; 162] = [
     (Rcr1, Word, 0xFFFF, 0x0000, false, 0x7FFF, b"czso"),
 ];
 
-/// A width, two operands, and the two halves and CF that MUL and IMUL give.
+// A width, two operands, and the two halves and CF that MUL and IMUL give.
 type Product = (Width, u16, u16, (u16, u16, bool), (u16, u16, bool));
 
 static PRODUCTS: [Product; 12] = [
@@ -244,7 +244,7 @@ static PRODUCTS: [Product; 12] = [
     ),
 ];
 
-/// A width, a dividend by its halves, a divisor, and what DIV and IDIV give.
+// A width, a dividend by its halves, a divisor, and what DIV and IDIV give.
 type Quotient = (Width, u16, u16, u16, Option<(u16, u16)>, Option<(u16, u16)>);
 
 static QUOTIENTS: [Quotient; 38] = [
@@ -365,7 +365,7 @@ static QUOTIENTS: [Quotient; 38] = [
     (Word, 0x8000, 0x0000, 0x8000, None, None),
 ];
 
-/// The rows, as a slice whose values a proof does not look into.
+// The rows, as a slice whose values a proof does not look into.
 fn rows() -> &'static [Row] {
     &ROWS
 }
@@ -378,7 +378,7 @@ fn quotients() -> &'static [Quotient] {
     &QUOTIENTS
 }
 
-/// ZF, SF and OF are set before each operation, so that a flag that stays shows.
+// ZF, SF and OF are set before each operation, so that a flag that stays shows.
 fn before(carry: bool) -> Flags {
     Flags {
         cf: carry,
@@ -412,7 +412,7 @@ fn done(operation: Operation, w: Width, a: u16, b: u16, carry: bool) -> (u16, Fl
     }
 }
 
-/// The flags by their letters, a dash for one that is clear.
+// The flags by their letters, a dash for one that is clear.
 fn letters(flags: Flags) -> [u8; 4] {
     [
         if flags.cf { b'c' } else { b'-' },

@@ -19,7 +19,7 @@ use Rattle.dcc_prog.specs.declared.instr.Ea.{Ea}
 use Rattle.dcc_prog.specs.declared.instr.Op.{Op}
 use Rattle.dcc_prog.specs.declared.instr.Op.TheVariants.{Alu, Unary, Shift, Mov, Xchg, Lea, Push, Pop, Plain, Jump, Branch, Loop, LoopE, LoopNe, Jcxz, Table, Call, Ret, Int21}
 use Rattle.dcc_prog.specs.Machine.{State, part_of, offset_of, segment_of, byte_in, word_at_offset, with_byte_in, with_word_at_offset, operand_value, operand_width, with_operand, with_word_in}
-use Rattle.dcc_prog.specs.Operations.{with_flags, with_result, alu_step, accumulator_in, upper_in, with_product, with_division, unary_step, shift_step, count_in, shifted, pushed, top_word, with_sp_raised, plain_step}
+use Rattle.dcc_prog.specs.Operations.{with_flags, with_result, alu_step, accumulator_in, upper_in, with_product, with_division, unary_step, shift_step, count_in, shift_result, after_push, top_word, with_sp_raised, plain_step}
 use Rattle.dcc_prog.specs.Step.{op_step}
 
 -- a state with another console
@@ -116,7 +116,7 @@ unary-keeps Idiv w x a at input out s =
 shift-keeps : (shift : ShiftKind) (x : Operand) (by_cl : Bool) → KeepsConsole (shift_step shift x by_cl)
 shift-keeps shift x by_cl input out s =
     result-keeps x _ input out s
-    ∙ ap (λ n. with_console_of input out (with_result x (shifted shift (operand_width x) n (count_in by_cl s) s.flags) s)) (value-keeps input out s x)
+    ∙ ap (λ n. with_console_of input out (with_result x (shift_result shift (operand_width x) n (count_in by_cl s) s.flags) s)) (value-keeps input out s x)
 
 plain-keeps : (operation : PlainKind) → KeepsConsole (plain_step operation)
 plain-keeps Nop input out s = refl
@@ -152,7 +152,7 @@ op-keeps (Xchg a b) at other input out s =
 op-keeps (Lea r ea) at other input out s =
     ap (λ n. with_console_of input out (with_word_in s r n)) (offset-keeps input out s ea)
 op-keeps (Push a) at other input out s =
-    ap (λ n. with_console_of input out (pushed n s)) (value-keeps input out s a)
+    ap (λ n. with_console_of input out (after_push n s)) (value-keeps input out s a)
 op-keeps (Pop a) at other input out s = operand-keeps a (top_word s) input out (with_sp_raised 2 s)
 op-keeps (Plain operation) at other input out s = plain-keeps operation input out s
 op-keeps (Jump target) at other input out s = refl

@@ -5,7 +5,7 @@ use Rattle.std.specs.List.{range_with_len, take_while}
 use Rattle.dcc_run.specs.End.{Exit, Outside}
 use Rattle.dcc_num.specs.declared.Reg.TheVariants.{Ax, Dx}
 use Rattle.dcc_prog.specs.Machine.{State, word_in, data_segment, byte_in}
-use Rattle.dcc_prog.specs.Operations.{ended, with_al}
+use Rattle.dcc_prog.specs.Operations.{with_end, with_al}
 
 -- the bytes in a segment from an offset on, which wraps, so many of them
 unfoldable pub bytes_from : State → ℕ → ℕ → ℕ → List ℕ
@@ -21,14 +21,14 @@ unfoldable pub dos_string : State → List ℕ
 dos_string s = take_while is_not_dollar (bytes_from s (data_segment s) (word_in s Dx) 65536)
 
 -- the bytes are written
-abbrev pub written : List ℕ → State → State
-written bytes s = record s { out = s.out ++ bytes }
+abbrev pub after_write : List ℕ → State → State
+after_write bytes s = record s { out = s.out ++ bytes }
 
 -- AL takes the next of these input bytes, which is written too where it is echoed; where there is none, AL takes 1Ah
 abbrev pub with_key : Bool → List ℕ → State → State
 with_key echo [] s = with_al 0x1A s
 with_key echo (byte ∷ rest) s =
-    written (if echo then byte ∷ [] else []) (with_al byte (record s { input = rest }))
+    after_write (if echo then byte ∷ [] else []) (with_al byte (record s { input = rest }))
 
 abbrev pub key_step : Bool → State → State
 key_step echo s = with_key echo s.input s
@@ -37,12 +37,12 @@ key_step echo s = with_key echo s.input s
 -- it, 08h takes a key, 09h writes the string at DS:DX. Another number ends the run too
 abbrev pub dos_step : ℕ → ℕ → State → State
 dos_step number at s =
-    if number == 0x02 then written (word_in s Dx % 256 ∷ []) s
-    else if number == 0x4C then ended (Exit (word_in s Ax % 256)) at s
+    if number == 0x02 then after_write (word_in s Dx % 256 ∷ []) s
+    else if number == 0x4C then with_end (Exit (word_in s Ax % 256)) at s
     else if number == 0x01 then key_step true s
     else if number == 0x08 then key_step false s
-    else if number == 0x09 then written (dos_string s) s
-    else ended (Outside at) at s
+    else if number == 0x09 then after_write (dos_string s) s
+    else with_end (Outside at) at s
 
 -- INT 21h of the instruction at this offset
 abbrev pub dos_call : ℕ → State → State

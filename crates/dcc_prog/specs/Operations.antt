@@ -29,8 +29,8 @@ use Rattle.dcc_prog.specs.declared.instr.Operand.{Operand}
 use Rattle.dcc_prog.specs.Machine.{State, no_flags, half_of_word, word_with_half, word_in, with_word_in, code_segment, stack_segment, data_segment, byte_in, word_at_offset, with_word_at_offset, offset_of, operand_value, with_operand, operand_width}
 
 -- the run ends at the instruction at this offset
-abbrev pub ended : End → ℕ → State → State
-ended end at s = record s { ip = at; end = end }
+abbrev pub with_end : End → ℕ → State → State
+with_end end at s = record s { ip = at; end = end }
 
 abbrev pub with_flags : Flags → State → State
 with_flags flags s = record s { flags = flags }
@@ -91,7 +91,7 @@ with_product w product s = with_pair w product.0 product.1 (with_flags product.2
 
 -- the quotient and the remainder; without them the run ends by a divide fault
 abbrev pub with_division : Width → ℕ → Option (ℕ × ℕ) → State → State
-with_division w at None s = ended Divide at s
+with_division w at None s = with_end Divide at s
 with_division w at (Some division) s = with_pair w division.0 division.1 (with_flags no_flags s)
 
 abbrev pub unary_step : Unary → Width → Operand → ℕ → ℕ → State → State
@@ -111,18 +111,18 @@ abbrev pub count_in : Bool → State → ℕ
 count_in by_cl s = if by_cl then half_of_word Low (word_in s Cx) else 1
 
 -- RCL and RCR are by 1 alone
-abbrev pub shifted : Shift → Width → ℕ → ℕ → Flags → ℕ × Flags
-shifted Rol w a count was = left_rotation_of w a count was
-shifted Ror w a count was = right_rotation_of w a count was
-shifted Rcl w a count was = left_turn_of w a was
-shifted Rcr w a count was = right_turn_of w a was
-shifted Shl w a count was = left_shift_of w a count was
-shifted Shr w a count was = right_shift_of w a count was
-shifted Sar w a count was = signed_shift_of w a count was
+abbrev pub shift_result : Shift → Width → ℕ → ℕ → Flags → ℕ × Flags
+shift_result Rol w a count was = left_rotation_of w a count was
+shift_result Ror w a count was = right_rotation_of w a count was
+shift_result Rcl w a count was = left_turn_of w a was
+shift_result Rcr w a count was = right_turn_of w a was
+shift_result Shl w a count was = left_shift_of w a count was
+shift_result Shr w a count was = right_shift_of w a count was
+shift_result Sar w a count was = signed_shift_of w a count was
 
 abbrev pub shift_step : Shift → Operand → Bool → State → State
 shift_step shift x by_cl s =
-    with_result x (shifted shift (operand_width x) (operand_value s x) (count_in by_cl s) s.flags) s
+    with_result x (shift_result shift (operand_width x) (operand_value s x) (count_in by_cl s) s.flags) s
 
 -- The stack.
 
@@ -135,14 +135,14 @@ abbrev pub with_sp_raised : ℕ → State → State
 with_sp_raised count s = with_word_in s Sp ((word_in s Sp + count) % 65536)
 
 -- SP falls by 2, and the word is stored there
-abbrev pub pushed : ℕ → State → State
-pushed word s =
+abbrev pub after_push : ℕ → State → State
+after_push word s =
     let t = with_sp_raised 65534 s in
     with_word_at_offset t (stack_segment t) (word_in t Sp) word
 
 -- the operand is read before SP falls
 abbrev pub push_step : Operand → State → State
-push_step x s = pushed (operand_value s x) s
+push_step x s = after_push (operand_value s x) s
 
 -- the operand is written after SP has risen
 abbrev pub pop_step : Operand → State → State
@@ -150,12 +150,12 @@ pop_step x s = with_operand (with_sp_raised 2 s) x (top_word s)
 
 -- Jumps, calls and returns.
 
-abbrev pub jumped : ℕ → State → State
-jumped target s = record s { ip = target }
+abbrev pub after_jump : ℕ → State → State
+after_jump target s = record s { ip = target }
 
 -- to the target where so, else to the next instruction
-abbrev pub jumped_if : Bool → ℕ → State → State
-jumped_if so target s = record s { ip = if so then target else s.ip }
+abbrev pub after_jump_if : Bool → ℕ → State → State
+after_jump_if so target s = record s { ip = if so then target else s.ip }
 
 -- whether a condition holds
 abbrev pub holds : Cond → Flags → Bool
@@ -178,19 +178,19 @@ holds G f = not (f.zf || differ f.sf f.of)
 abbrev pub loop_step : Bool → ℕ → State → State
 loop_step also target s =
     let left = (word_in s Cx + 65535) % 65536 in
-    jumped_if (also && not (left == 0)) target (with_word_in s Cx left)
+    after_jump_if (also && not (left == 0)) target (with_word_in s Cx left)
 
 -- to the word in the code segment at a register plus an offset
 abbrev pub table_step : Reg → ℕ → State → State
-table_step r offset s = jumped (word_at_offset s (code_segment s) ((word_in s r + offset) % 65536)) s
+table_step r offset s = after_jump (word_at_offset s (code_segment s) ((word_in s r + offset) % 65536)) s
 
 -- the offset of the next instruction is pushed
 abbrev pub call_step : ℕ → State → State
-call_step target s = jumped target (pushed s.ip s)
+call_step target s = after_jump target (after_push s.ip s)
 
 -- to the word at the top of the stack; it and this many further bytes are removed
 abbrev pub ret_step : ℕ → State → State
-ret_step count s = jumped (top_word s) (with_sp_raised (2 + count) s)
+ret_step count s = after_jump (top_word s) (with_sp_raised (2 + count) s)
 
 -- Operations without operands. CLI, STI and CLD have no effect on what is modelled.
 

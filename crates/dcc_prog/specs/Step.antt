@@ -8,7 +8,7 @@ use Rattle.dcc_prog.specs.declared.instr.Op.TheVariants.{Alu, Unary, Shift, Mov,
 use Rattle.dcc_prog.specs.declared.instr.Instr.{Instr}
 use Rattle.dcc_prog.specs.Table.{instruction_at}
 use Rattle.dcc_prog.specs.Machine.{State, word_in, code_segment, byte_in, operand_value, operand_width}
-pub use Rattle.dcc_prog.specs.Operations.{ended, with_flags, with_result, with_al, mov_step, xchg_step, lea_step, alu_step, unary_step, shift_step, push_step, pop_step, jumped, jumped_if, holds, loop_step, table_step, call_step, ret_step, plain_step}
+pub use Rattle.dcc_prog.specs.Operations.{with_end, with_flags, with_result, with_al, mov_step, xchg_step, lea_step, alu_step, unary_step, shift_step, push_step, pop_step, after_jump, after_jump_if, holds, loop_step, table_step, call_step, ret_step, plain_step}
 pub use Rattle.dcc_prog.specs.Dos.{dos_step, dos_call}
 
 -- the byte at so many bytes behind the instruction pointer, whose offset wraps
@@ -32,12 +32,12 @@ op_step (Lea r ea) at s = lea_step r ea s
 op_step (Push a) at s = push_step a s
 op_step (Pop a) at s = pop_step a s
 op_step (Plain operation) at s = plain_step operation s
-op_step (Jump target) at s = jumped target s
-op_step (Branch condition target) at s = jumped_if (holds condition s.flags) target s
+op_step (Jump target) at s = after_jump target s
+op_step (Branch condition target) at s = after_jump_if (holds condition s.flags) target s
 op_step (Loop target) at s = loop_step true target s
 op_step (LoopE target) at s = loop_step s.flags.zf target s
 op_step (LoopNe target) at s = loop_step (not s.flags.zf) target s
-op_step (Jcxz target) at s = jumped_if (word_in s Cx == 0) target s
+op_step (Jcxz target) at s = after_jump_if (word_in s Cx == 0) target s
 op_step (Table r offset) at s = table_step r offset s
 op_step (Call target) at s = call_step target s
 op_step (Ret count) at s = ret_step count s
@@ -45,7 +45,7 @@ op_step Int21 at s = dos_call at s
 
 -- the instruction that was found, or an end where the table has none
 abbrev pub instruction_step : Option Instr → State → State
-instruction_step None s = ended (Outside s.ip) s.ip s
+instruction_step None s = with_end (Outside s.ip) s.ip s
 instruction_step (Some instr) s =
     op_step instr.op s.ip (record s { ip = (s.ip + instr.len) % 65536 })
 

@@ -222,7 +222,7 @@ abbrev pub load_address : Parts → Op
 load_address parts =
     Lea (word_register (reg_field parts.modrm)) (address parts.modrm parts.displacement)
 
--- the condition of the opcodes 70 to 79, from 0 on, and of 7C to 7F, from 0 on
+-- the condition of the opcodes 0x70 to 0x79, from 0 on, and of 0x7C to 0x7F, from 0 on
 abbrev pub condition_of : ℕ → Cond
 condition_of number = get_or (O ∷ No ∷ B ∷ Ae ∷ Z ∷ Nz ∷ Be ∷ A ∷ S ∷ Ns ∷ []) number Ns
 

@@ -1,3 +1,5 @@
+//! What the analyses of a program find: stack heights, frames and the program as a whole.
+
 use crate::procedure::{Layout, Proc};
 use indexmap::IndexMap;
 
@@ -38,21 +40,26 @@ pub struct Frame {
     pub args: u16,
     /// In ascending order of `first`.
     pub cells: Vec<Cell>,
+    /// The bytes whose address may be computed.
     pub exposed: Exposed,
 }
 
 /// The frames, by the place of a procedure in the program's list.
 #[derive(Drop)]
 pub struct Cells {
+    /// The frame of each procedure.
     pub frames: Vec<Frame>,
 }
 
 /// What the analyses find in an image.
 #[derive(Drop)]
 pub struct Program {
+    /// What the prelude sets up.
     pub layout: Layout,
     /// The entry procedure first, then the others by their entries.
     pub procs: Vec<Proc>,
+    /// The stack heights of each procedure.
     pub heights: Heights,
+    /// The frames.
     pub cells: Cells,
 }

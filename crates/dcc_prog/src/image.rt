@@ -1,3 +1,5 @@
+//! Load images.
+
 /// A loaded program, before its first step.
 #[derive(Drop)]
 pub struct Image {
@@ -15,7 +17,7 @@ pub struct Image {
     pub sp: u16,
 }
 
-/// The segment at which an image is loaded.
+// The segment at which an image is loaded.
 const LOAD_SEGMENT: u16 = 0x0110;
 
 impl Image {

@@ -1,3 +1,5 @@
+//! Procedures, and what the prelude of a program sets up.
+
 use crate::instr::Instr;
 use dcc_num::Flags;
 use indexmap::IndexMap;
@@ -6,6 +8,7 @@ use smallvec::SmallVec;
 /// An instruction of a procedure, with the offsets of its successors.
 #[derive(Drop)]
 pub struct Node {
+    /// The instruction.
     pub instr: Instr,
     /// The target and then the next instruction, where an instruction has both.
     pub succ: SmallVec<u16, 2>,
@@ -16,6 +19,7 @@ pub struct Node {
 pub struct Proc {
     /// The offset of its first instruction.
     pub entry: u16,
+    /// Its instructions.
     pub nodes: IndexMap<u16, Node>,
 }
 

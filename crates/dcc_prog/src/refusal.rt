@@ -1,3 +1,5 @@
+//! Why a program is not decompiled.
+
 use std::alloc::{AllocError, AllocFailed};
 
 /// A count that has a greatest number.

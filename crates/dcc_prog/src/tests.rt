@@ -1,4 +1,5 @@
-// What stands for want of memory.
+//! What stands for want of memory.
+
 use super::*;
 use std::alloc::AllocError;
 

@@ -14,7 +14,7 @@ use Rattle.dcc_step.specs.declared.ending.Stepped.{Stepped}
 use Rattle.dcc_step.specs.declared.ending.Stepped.TheVariants.{Running, Exit, Divide, Outside, InFault, OutFault}
 use Rattle.dcc_step.specs.Core.{with_console}
 use Rattle.dcc_step.specs.Ending.{answer_of}
-use Rattle.dcc_step.specs.Stepped.{Scene, told_bytes, Makes, MakesEach, MakesSteps, Steps, Answers, Runs}
+use Rattle.dcc_step.specs.Stepped.{Scene, told_bytes, Makes, MakesEach, MakesSteps, Steps, TellsEnd, Runs}
 
 -- no step, each by itself
 each_none : (now : Scene) → MakesEach 0 now now
@@ -106,7 +106,7 @@ ended_run count most before now le over run = record {
 
 -- a step that was the last one
 pub stopped : (answer : Stepped) (count most : ℕ) (before mid now : Scene) → count < most → answer ≢ Running
-    → MakesSteps count before mid → Steps answer mid now → Answers answer now.core.end → Runs most answer before now
+    → MakesSteps count before mid → Steps answer mid now → TellsEnd answer now.core.end → Runs most answer before now
 stopped Running count most before mid now lt other run last end = absurd (other refl)
 stopped (Exit code) count most before mid now lt other run last end =
     ended_run (count + 1) most before now (omega arith) (ap is_over end) (one_more count before mid now run last)

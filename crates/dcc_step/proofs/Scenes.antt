@@ -9,7 +9,7 @@ use Rattle.std.proofs.lemmas.List.{append-nil}
 use Rattle.dcc_io.specs.Told.{append_told, prepend_told, WhenTold, AppendsProperPrefix}
 use Rattle.dcc_io.proofs.ToldLemmas.{append_told-nil, prepend_told-nil}
 use Rattle.dcc_prog.specs.Machine.{State, word_in, half_of_word}
-use Rattle.dcc_prog.specs.Operations.{ended, with_al}
+use Rattle.dcc_prog.specs.Operations.{with_end, with_al}
 use Rattle.dcc_prog.specs.Dos.{bytes_from, dos_string, key_step, dos_step, dos_call}
 use Rattle.dcc_step.specs.Core.{Core, with_console, core_of, state_of}
 use Rattle.dcc_step.specs.declared.ending.Fault.{Fault}
@@ -139,7 +139,7 @@ else_is b s t is_false = ap (λ c. if c then s else t) is_false
 
 -- a number that is none of the calls
 pub no_call : (number at : ℕ) (s : State) → number ≢ 0x02 → number ≢ 0x4C → number ≢ 0x01 → number ≢ 0x08 → number ≢ 0x09
-    → dos_step number at s ≡ ended (Outside at) at s
+    → dos_step number at s ≡ with_end (Outside at) at s
 no_call number at s a b c d e =
     let two : (number == 0x02) ≡ false = grind (arith, nat_tests) in
     let exit : (number == 0x4C) ≡ false = grind (arith, nat_tests) in

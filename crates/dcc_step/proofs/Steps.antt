@@ -6,7 +6,7 @@ use Rattle.dcc_prog.specs.declared.instr.Op.{Op}
 use Rattle.dcc_prog.specs.declared.instr.Op.TheVariants.{Int21}
 use Rattle.dcc_prog.specs.declared.instr.Instr.{Instr}
 use Rattle.dcc_prog.specs.Machine.{State}
-use Rattle.dcc_prog.specs.Operations.{ended}
+use Rattle.dcc_prog.specs.Operations.{with_end}
 use Rattle.dcc_prog.specs.Table.{instruction_at}
 use Rattle.dcc_prog.specs.Step.{code_bytes, op_step, instruction_step, step}
 use Rattle.dcc_prog.proofs.ConsoleLaws.{op-keeps}
@@ -16,7 +16,7 @@ use Rattle.dcc_step.specs.declared.ending.Fault.{Fault}
 use Rattle.dcc_step.specs.declared.ending.Fault.TheVariants.{Input, Output}
 use Rattle.dcc_step.specs.Core.{Core, with_console, core_of, state_of}
 use Rattle.dcc_step.specs.Ending.{end_of, answer_of}
-use Rattle.dcc_step.specs.Stepped.{Scene, scene, Makes, IsRefused, Steps, Answers, fault_answer_of}
+use Rattle.dcc_step.specs.Stepped.{Scene, scene, Makes, IsRefused, Steps, TellsEnd, fault_answer_of}
 use Rattle.dcc_step.proofs.Scenes.{made_quiet, made_as, refused_as}
 
 -- an operation other than INT 21h
@@ -35,7 +35,7 @@ answered (Exit code) before now made = made
 answered Divide before now made = made
 answered (Outside at) before now made = made
 
-pub answers : (e : Ending) (end : End) → end ≡ end_of e → Answers (answer_of e) end
+pub answers : (e : Ending) (end : End) → end ≡ end_of e → TellsEnd (answer_of e) end
 answers Running end is = is
 answers (Exit code) end is = is
 answers Divide end is = is
@@ -62,7 +62,7 @@ step_is m found runs is input out =
     ∙ ap (λ f. instruction_step f s) is
 
 pub step_outside : (m new : Core) (left taken : Option (List ℕ)) → m.end ≡ running → instruction_at m.ip (code_bytes (state_of m)) ≡ None
-    → new ≡ core_of (ended (outside m.ip) m.ip (state_of m))
+    → new ≡ core_of (with_end (outside m.ip) m.ip (state_of m))
     → Makes step (scene m left taken) (scene new left taken)
 step_outside m new left taken runs none is =
     made_quiet step m new left taken
@@ -96,6 +96,6 @@ pub refused_step : (fault : Fault) (before now : Scene) → IsRefused step fault
 refused_step Input before now refused = refused
 refused_step Output before now refused = refused
 
-pub fault_answers : (fault : Fault) (end : End) → end ≡ running → Answers (fault_answer_of fault) end
+pub fault_answers : (fault : Fault) (end : End) → end ≡ running → TellsEnd (fault_answer_of fault) end
 fault_answers Input end is = is
 fault_answers Output end is = is

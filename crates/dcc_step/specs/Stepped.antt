@@ -68,13 +68,13 @@ Steps InFault before now = IsRefusedRead step before now
 Steps OutFault before now = IsRefusedWrite step before now
 
 -- the answer tells how the run has ended
-abbrev pub Answers : Stepped → End → Type 0
-Answers Running end = end ≡ running
-Answers (Exit code) end = end ≡ exited code
-Answers Divide end = end ≡ divided
-Answers (Outside at) end = end ≡ outside at
-Answers InFault end = end ≡ running
-Answers OutFault end = end ≡ running
+abbrev pub TellsEnd : Stepped → End → Type 0
+TellsEnd Running end = end ≡ running
+TellsEnd (Exit code) end = end ≡ exited code
+TellsEnd Divide end = end ≡ divided
+TellsEnd (Outside at) end = end ≡ outside at
+TellsEnd InFault end = end ≡ running
+TellsEnd OutFault end = end ≡ running
 
 -- what a step answers that is refused
 abbrev pub fault_answer_of : Fault → Stepped

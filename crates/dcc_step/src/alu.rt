@@ -3,7 +3,7 @@
 ghost use Rattle.std.specs.Prelude.{◌≡◌, ◌<◌, ◌-◌, IfSome, Option, Some, None};
 ghost use Rattle.dcc_num.specs.Numbers.{limit_of};
 ghost use Rattle.dcc_prog.specs.Machine.{operand_value, operand_width};
-ghost use Rattle.dcc_prog.specs.Operations.{with_result, accumulator_in, upper_in, with_pair, with_product, with_division, alu_step, unary_step, count_in, shifted, shift_step};
+ghost use Rattle.dcc_prog.specs.Operations.{with_result, accumulator_in, upper_in, with_pair, with_product, with_division, alu_step, unary_step, count_in, shift_result, shift_step};
 ghost use Rattle.dcc_prog.specs.WellFormed.{IsOperand, AreOperands};
 ghost use Rattle.dcc_step.specs.Core.{core_of, state_of};
 
@@ -16,7 +16,7 @@ use dcc_num::{
 };
 use dcc_prog::{Alu, Operand, Shift, Unary};
 
-/// The width of an operand.
+// The width of an operand.
 fn width_of(operand: Operand) -> Width
     ensures { result ≡ operand_width operand }
 {
@@ -27,7 +27,7 @@ fn width_of(operand: Operand) -> Width
     }
 }
 
-/// NOT: the bits that are not in the operand.
+// NOT: the bits that are not in the operand.
 fn complement(w: Width, a: u16) -> u16
     requires { a < limit_of w }
     ensures value { result ≡ limit_of w - 1 - a }
@@ -39,10 +39,10 @@ fn complement(w: Width, a: u16) -> u16
     }
 }
 
-/// A shift or rotate by a count; RCL and RCR are by 1 alone.
+// A shift or rotate by a count; RCL and RCR are by 1 alone.
 fn shift_by(kind: Shift, w: Width, a: u16, count: u8, was: Flags) -> (u16, Flags)
     requires { a < limit_of w }
-    ensures shift { result ≡ shifted kind w a count was }
+    ensures shift { result ≡ shift_result kind w a count was }
     ensures width { result.0 < limit_of w }
 {
     match kind {
@@ -57,7 +57,7 @@ fn shift_by(kind: Shift, w: Width, a: u16, count: u8, was: Flags) -> (u16, Flags
 }
 
 impl Machine {
-    /// Gives an operand an outcome, and sets the flags with it.
+    // Gives an operand an outcome, and sets the flags with it.
     fn put_result(&mut self, operand: Operand, outcome: (u16, Flags))
         requires operand { IsOperand operand }
         requires width { outcome.0 < limit_of (operand_width operand) }
@@ -89,7 +89,7 @@ impl Machine {
         }
     }
 
-    /// AL or AX.
+    // AL or AX.
     fn accumulator(&self, w: Width) -> u16
         ensures value { result ≡ accumulator_in w (state_of self.now) }
         ensures width { result < limit_of w }
@@ -100,7 +100,7 @@ impl Machine {
         }
     }
 
-    /// AH or DX, the upper half of what a division divides.
+    // AH or DX, the upper half of what a division divides.
     fn upper(&self, w: Width) -> u16
         ensures value { result ≡ upper_in w (state_of self.now) }
         ensures width { result < limit_of w }
@@ -111,7 +111,7 @@ impl Machine {
         }
     }
 
-    /// Gives two values to AL and AH, or to AX and DX.
+    // Gives two values to AL and AH, or to AX and DX.
     fn set_pair(&mut self, w: Width, low: u16, high: u16)
         requires low { low < limit_of w }
         requires high { high < limit_of w }
@@ -126,7 +126,7 @@ impl Machine {
         }
     }
 
-    /// Keeps a product.
+    // Keeps a product.
     fn set_product(&mut self, w: Width, product: (u16, u16, Flags))
         requires low { product.0 < limit_of w }
         requires high { product.1 < limit_of w }
@@ -136,7 +136,7 @@ impl Machine {
         self.set_pair(w, product.0, product.1);
     }
 
-    /// Keeps a quotient and a remainder, or ends the run by a divide fault.
+    // Keeps a quotient and a remainder, or ends the run by a divide fault.
     fn set_division(&mut self, w: Width, division: Option<(u16, u16)>, at: u16)
         requires { IfSome division (λ x. (x.0 < limit_of w) × (x.1 < limit_of w)) }
         ensures { self.new ≡ core_of (with_division w at division (state_of self.old)) }
@@ -181,7 +181,7 @@ impl Machine {
         }
     }
 
-    /// The count of a shift: CL, or 1.
+    // The count of a shift: CL, or 1.
     fn count(&self, by_cl: bool) -> u8
         ensures { result ≡ count_in by_cl (state_of self.now) }
     {

@@ -4,7 +4,7 @@ ghost use Rattle.std.specs.Prelude.{◌≡◌, ◌≤◌, List, [], ◌∷◌, i
 ghost use Rattle.std.specs.Option.{option_to_list};
 ghost use Rattle.dcc_io.specs.Count.{Rose};
 ghost use Rattle.dcc_io.specs.Told.{append_told, prepend_told, AppendsProperPrefix};
-ghost use Rattle.dcc_prog.specs.Operations.{with_al, ended};
+ghost use Rattle.dcc_prog.specs.Operations.{with_al, with_end};
 ghost use Rattle.dcc_prog.specs.Dos.{key_step, dos_string, dos_call};
 ghost use Rattle.dcc_step.specs.Core.{core_of, state_of};
 ghost use Rattle.dcc_step.specs.Ending.{end_of};
@@ -16,10 +16,10 @@ use crate::operand::{half_of, with_half};
 use dcc_io::{Failed, Sink, Source, put_all};
 use dcc_num::{Half, Reg};
 
-/// AL after a key was asked for at the end of the input.
+// AL after a key was asked for at the end of the input.
 const END_OF_INPUT: u8 = 0x1A;
 
-/// The next input byte, or `None` at the end of the input.
+// The next input byte, or `None` at the end of the input.
 fn next_key<I: Source>(input: &mut I) -> Result<Option<u8>, Failed>
     ensures key { IfOk result (λ key. I.left input.old ≡ prepend_told (option_to_list key) (I.left input.new)) }
     ensures end { result ≡ Ok None → told_bytes (I.left input.new) ≡ [] }
@@ -36,7 +36,7 @@ fn next_key<I: Source>(input: &mut I) -> Result<Option<u8>, Failed>
     }
 }
 
-/// Writes a key where it is echoed.
+// Writes a key where it is echoed.
 fn echo_key<O: Sink>(echo: bool, byte: u8, out: &mut O) -> Result<(), Failed>
     ensures whole { OnOk result (O.taken out.new ≡ append_told (O.taken out.old) (if echo then byte ∷ [] else [])) }
     ensures part { OnErr result (AppendsProperPrefix (O.taken out.old) (O.taken out.new) (if echo then byte ∷ [] else [])) }
@@ -47,6 +47,7 @@ fn echo_key<O: Sink>(echo: bool, byte: u8, out: &mut O) -> Result<(), Failed>
 }
 
 impl Machine {
+    /// Gives AL a value.
     pub(crate) fn set_al(&mut self, byte: u8)
         ensures { self.new ≡ core_of (with_al byte (state_of self.old)) }
     {
@@ -56,13 +57,13 @@ impl Machine {
 
     /// Ends the run at the instruction at an offset.
     pub(crate) fn finish(&mut self, end: Ending, at: u16)
-        ensures { self.new ≡ core_of (ended (end_of end) at (state_of self.old)) }
+        ensures { self.new ≡ core_of (with_end (end_of end) at (state_of self.old)) }
     {
         self.end = end;
         self.ip = at;
     }
 
-    /// Writes the string at DS:DX.
+    // Writes the string at DS:DX.
     fn write_string<O: Sink>(&self, out: &mut O) -> Result<(), Failed>
         ensures whole { OnOk result (O.taken out.new ≡ append_told (O.taken out.old) (dos_string (state_of self.now))) }
         ensures part { OnErr result (AppendsProperPrefix (O.taken out.old) (O.taken out.new) (dos_string (state_of self.now))) }
@@ -81,7 +82,7 @@ impl Machine {
         Ok(())
     }
 
-    /// Takes the next key into AL, and writes it where it is echoed.
+    // Takes the next key into AL, and writes it where it is echoed.
     fn read_key<I: Source, O: Sink>(
         &mut self,
         echo: bool,

@@ -24,9 +24,13 @@ pub enum Stepped {
 /// How the run of a machine has ended, if it has.
 #[derive(Clone, Copy, PartialEq, Eq, Debug)]
 pub enum Ending {
+    /// The run goes on.
     Running,
+    /// The program ended with this exit code.
     Exit(u8),
+    /// A division had no quotient.
     Divide,
+    /// The instruction at this offset of the code segment is none that the machine knows.
     Outside(u16),
 }
 

@@ -1,7 +1,7 @@
 //! Jumps, and operations without operands.
 
 ghost use Rattle.std.specs.Prelude.{◌≡◌};
-ghost use Rattle.dcc_prog.specs.Operations.{jumped, jumped_if, holds, loop_step, table_step, with_carry, plain_step, lea_step, mov_step, xchg_step};
+ghost use Rattle.dcc_prog.specs.Operations.{after_jump, after_jump_if, holds, loop_step, table_step, with_carry, plain_step, lea_step, mov_step, xchg_step};
 ghost use Rattle.dcc_prog.specs.WellFormed.{AreOperands};
 ghost use Rattle.dcc_step.specs.Core.{core_of, state_of};
 
@@ -36,7 +36,7 @@ pub fn is_met(condition: Cond, flags: Flags) -> bool
 impl Machine {
     /// To the target where so, else to the next instruction.
     pub(crate) fn jump_if(&mut self, so: bool, target: u16)
-        ensures { self.new ≡ core_of (jumped_if so target (state_of self.old)) }
+        ensures { self.new ≡ core_of (after_jump_if so target (state_of self.old)) }
     {
         if so {
             self.ip = target;

@@ -10,13 +10,13 @@ use dcc_prog::Image;
 use std::alloc::{AllocError, Global};
 use std::marker::Model;
 
-/// The number of bytes in memory: 1 MiB.
+// The number of bytes in memory: 1 MiB.
 const MEMORY_SIZE: usize = 0x10_0000;
 
-/// The physical address at which the load image begins.
+// The physical address at which the load image begins.
 const LOAD_ADDRESS: usize = 0x1100;
 
-/// The segment of the program prefix, in which DS and ES begin.
+// The segment of the program prefix, in which DS and ES begin.
 const PREFIX_SEGMENT: u16 = 0x0100;
 
 /// A machine: registers, flags, memory, and how its run has ended.
@@ -26,9 +26,13 @@ pub struct Machine {
     pub(crate) regs: [u16; 8],
     /// By number: ES, CS, SS, DS.
     pub(crate) segs: [u16; 4],
+    /// The modelled flags.
     pub(crate) flags: Flags,
+    /// The offset of the next instruction in the code segment.
     pub(crate) ip: u16,
+    /// By physical address, 1,048,576 bytes.
     pub(crate) memory: Vec<u8>,
+    /// How the run has ended, if it has.
     pub(crate) end: Ending,
 }
 

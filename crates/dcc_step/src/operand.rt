@@ -10,7 +10,7 @@ use crate::machine::Machine;
 use dcc_num::{Half, Reg, Width};
 use dcc_prog::{Ea, Operand};
 
-/// The physical address of an offset in a segment.
+// The physical address of an offset in a segment.
 fn physical_address(segment: u16, offset: u16) -> usize
     ensures address { result ≡ physical segment offset }
     ensures within { result < 2 ^ 20 }
@@ -38,7 +38,7 @@ pub fn with_half(half: Half, word: u16, byte: u8) -> u16
     }
 }
 
-/// Whether a part of an address is BP.
+// Whether a part of an address is BP.
 fn uses_bp(part: Option<Reg>) -> bool
     ensures { result ≡ is_bp part }
 {
@@ -62,6 +62,7 @@ impl Machine {
         u16::from(low) + 256 * u16::from(high)
     }
 
+    // Stores a byte at an offset in a segment.
     fn store_byte(&mut self, segment: u16, offset: u16, byte: u8)
         ensures { self.new ≡ core_of (with_byte_in (state_of self.old) segment offset byte) }
     {
@@ -76,6 +77,7 @@ impl Machine {
         self.store_byte(segment, offset.wrapping_add(1), (word / 256) as u8);
     }
 
+    /// Gives a word register a value.
     pub(crate) fn set_reg(&mut self, r: Reg, word: u16)
         ensures { self.new ≡ core_of (with_word_in (state_of self.old) r word) }
     {
@@ -103,7 +105,7 @@ impl Machine {
         self.segs[3]
     }
 
-    /// What a part of an address adds to it.
+    // What a part of an address adds to it.
     fn part(&self, part: Option<Reg>) -> u16
         ensures { result ≡ part_of (state_of self.now) part }
     {
@@ -121,7 +123,7 @@ impl Machine {
         ((sum + u32::from(ea.disp)) % 0x1_0000) as u16
     }
 
-    /// The segment of a memory operand: that of the stack where the address uses BP.
+    // The segment of a memory operand: that of the stack where the address uses BP.
     fn segment(&self, ea: Ea) -> u16
         ensures { result ≡ segment_of (state_of self.now) ea }
     {

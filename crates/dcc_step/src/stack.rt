@@ -1,7 +1,7 @@
 //! The stack, calls and returns.
 
 ghost use Rattle.std.specs.Prelude.{◌≡◌, ◌<◌, ◌≤◌, ◌^◌};
-ghost use Rattle.dcc_prog.specs.Operations.{top_word, with_sp_raised, pushed, push_step, pop_step, call_step, ret_step};
+ghost use Rattle.dcc_prog.specs.Operations.{top_word, with_sp_raised, after_push, push_step, pop_step, call_step, ret_step};
 ghost use Rattle.dcc_prog.specs.WellFormed.{IsWordOperand};
 ghost use Rattle.dcc_step.specs.Core.{core_of, state_of};
 
@@ -10,14 +10,14 @@ use dcc_num::Reg;
 use dcc_prog::Operand;
 
 impl Machine {
-    /// The word at the top of the stack.
+    // The word at the top of the stack.
     fn top_word(&self) -> u16
         ensures { result ≡ top_word (state_of self.now) }
     {
         self.load_word(self.ss(), self.reg(Reg::Sp))
     }
 
-    /// Raises SP by a number of bytes.
+    // Raises SP by a number of bytes.
     fn raise_sp(&mut self, count: u16)
         ensures { self.new ≡ core_of (with_sp_raised count (state_of self.old)) }
     {
@@ -25,9 +25,9 @@ impl Machine {
         self.set_reg(Reg::Sp, raised);
     }
 
-    /// Lowers SP by 2, and stores a word there.
+    // Lowers SP by 2, and stores a word there.
     fn push_word(&mut self, word: u16)
-        ensures { self.new ≡ core_of (pushed word (state_of self.old)) }
+        ensures { self.new ≡ core_of (after_push word (state_of self.old)) }
     {
         self.raise_sp(0xFFFE);
         self.store_word(self.ss(), self.reg(Reg::Sp), word);

@@ -7,7 +7,7 @@ ghost use Rattle.dcc_prog.specs.Table.{instruction_at};
 ghost use Rattle.dcc_prog.specs.Step.{code_byte, code_bytes, op_step};
 ghost use Rattle.dcc_prog.specs.WellFormed.{IsOperation};
 ghost use Rattle.dcc_step.specs.Core.{core_of, state_of};
-ghost use Rattle.dcc_step.specs.Stepped.{scene, Makes, IsRefused, Steps, Answers, Runs};
+ghost use Rattle.dcc_step.specs.Stepped.{scene, Makes, IsRefused, Steps, TellsEnd, Runs};
 
 use crate::ending::{Ending, Fault, Stepped};
 use crate::flow::is_met;
@@ -18,14 +18,14 @@ use dcc_num::Reg;
 use dcc_prog::{Instr, Op};
 
 impl Machine {
-    /// The byte at so many bytes behind the instruction pointer, whose offset wraps.
+    // The byte at so many bytes behind the instruction pointer, whose offset wraps.
     fn code_byte(&self, k: u16) -> u8
         ensures { result ≡ code_byte (state_of self.now) k }
     {
         self.load_byte(self.cs(), self.ip.wrapping_add(k))
     }
 
-    /// The instruction at the instruction pointer.
+    // The instruction at the instruction pointer.
     fn fetch(&self) -> Option<Instr>
         ensures found { result ≡ instruction_at self.now.ip (code_bytes (state_of self.now)) }
         ensures operation { IfSome result (λ instr. IsOperation instr.op) }
@@ -41,7 +41,7 @@ impl Machine {
         decode_window(&window, self.ip)
     }
 
-    /// An operation of the instruction at an offset, other than INT 21h.
+    // An operation of the instruction at an offset, other than INT 21h.
     fn operate(&mut self, op: Op, at: u16)
         requires operation { IsOperation op }
         requires other { op ≢ Op.Int21 }
@@ -70,7 +70,7 @@ impl Machine {
         }
     }
 
-    /// An operation of the instruction at an offset.
+    // An operation of the instruction at an offset.
     fn perform<I: Source, O: Sink>(
         &mut self,
         op: Op,
@@ -111,7 +111,7 @@ impl Machine {
         ensures step { Steps result
             (scene self.old (I.left input.old) (O.taken out.old))
             (scene self.new (I.left input.new) (O.taken out.new)) }
-        ensures answer { Answers result self.new.end }
+        ensures answer { TellsEnd result self.new.end }
 
         // The counts never fall, and a fault comes only where its count rose.
         ensures input_faults { I.faults input.old ≤ I.faults input.new }
@@ -141,7 +141,7 @@ impl Machine {
         ensures run { Runs most result
             (scene self.old (I.left input.old) (O.taken out.old))
             (scene self.new (I.left input.new) (O.taken out.new)) }
-        ensures answer { Answers result self.new.end }
+        ensures answer { TellsEnd result self.new.end }
 
         // The counts never fall, and a fault comes only where its count rose.
         ensures input_faults { I.faults input.old ≤ I.faults input.new }

@@ -8,7 +8,7 @@ use std::alloc::{AllocError, Global};
 use std::process::Abort;
 use std::test::Fail;
 
-/// A machine with this code at the start of its code segment, 0110h, and a stack in segment 0300h.
+// A machine with this code at the start of its code segment, 0110h, and a stack in segment 0300h.
 fn machine(rt: &impl Abort, alloc: Global, code: &[u8]) -> Result<Machine, AllocError> {
     let bytes = code.to_vec(alloc)?;
     assert!(rt; bytes.len() <= 64);
@@ -23,7 +23,7 @@ fn machine(rt: &impl Abort, alloc: Global, code: &[u8]) -> Result<Machine, Alloc
     Machine::new(alloc, &image)
 }
 
-/// The word registers by number.
+// The word registers by number.
 fn registers(machine: &Machine) -> [u16; 8] {
     [
         machine.reg(Reg::Ax),
@@ -37,10 +37,10 @@ fn registers(machine: &Machine) -> [u16; 8] {
     ]
 }
 
-/// The code, a number of steps, the word registers after them, IP, and the answer.
+// The code, a number of steps, the word registers after them, IP, and the answer.
 type Case<'a> = (&'a [u8], u64, [u16; 8], u16, Stepped);
 
-/// Runs the code on an empty input; it must write nothing.
+// Runs the code on an empty input; it must write nothing.
 fn check_case(rt: &impl Abort, alloc: Global, case: Case) -> Result<(), Fail> {
     let (code, steps, regs, ip, answer) = case;
     let mut machine = machine(rt, alloc, code)?;
@@ -338,20 +338,20 @@ fn runs_end_at_faults_and_outside_the_table(rt: HostRuntime) -> Result<(), Fail>
     Ok(())
 }
 
-/// Prints A and exits with 3, as a linker makes it: DS is set to a segment behind the code first.
+// Prints A and exits with 3, as a linker makes it: DS is set to a segment behind the code first.
 const PRINTS_A: [u8; 16] = [
     0xB8, 0x11, 0x01, 0x8E, 0xD8, 0xB2, 0x41, 0xB4, 0x02, 0xCD, 0x21, 0xB8, 0x03, 0x4C, 0xCD, 0x21,
 ];
 
-/// Takes two keys with an echo, and exits with the second.
+// Takes two keys with an echo, and exits with the second.
 const ECHOES_TWO: [u8; 12] = [
     0xB4, 0x01, 0xCD, 0x21, 0xB4, 0x01, 0xCD, 0x21, 0xB4, 0x4C, 0xCD, 0x21,
 ];
 
-/// Takes a key without an echo, and exits with it.
+// Takes a key without an echo, and exits with it.
 const TAKES_ONE: [u8; 8] = [0xB4, 0x08, 0xCD, 0x21, 0xB4, 0x4C, 0xCD, 0x21];
 
-/// Writes the string `hello` behind the code, and exits with AL, which is still that of DS.
+// Writes the string `hello` behind the code, and exits with AL, which is still that of DS.
 const SAYS_HELLO: [u8; 22] = [
     0xB8, 0x10, 0x01, 0x8E, 0xD8, 0xBA, 0x10, 0x00, 0xB4, 0x09, 0xCD, 0x21, 0xB4, 0x4C, 0xCD, 0x21,
     b'h', b'e', b'l', b'l', b'o', b'$',

@@ -7,7 +7,7 @@ use Rattle.dcc_prog.specs.Machine.{start_state}
 use Rattle.dcc_prog.specs.MzImage.{IsImageOf}
 use Rattle.dcc_prog.specs.Code.{code_of}
 use Rattle.dcc_prog.proofs.TableLaws.{and_both}
-use Rattle.dcc_c.specs.Written.{written}
+use Rattle.dcc_c.specs.Written.{written_form}
 use Rattle.dcc_top.specs.declared.form.Form.{Form}
 use Rattle.dcc_top.specs.declared.reply.Reply.{Reply}
 use Rattle.dcc_top.specs.declared.reply.Reply.TheVariants.{Done, Exited, Usage, NoFile, FileFault, InputFault, Memory, Format, NotYet, Unfinished, Divided, Outside}
@@ -29,7 +29,7 @@ goes-fits code at ah forms (goes {forms = others} built is ne g) =
     and_both (fits_form built.form) (list_all fits_form others) (op-fits ah b.instr.len b.instr.op built.form b.form) (goes-fits code _ _ others g)
 
 -- the text of a file's line agrees with the file
-line-decompiles : (file : List ℕ) (image : Image) (forms : List Form) → IsImageOf file image → Ends (code_of image) image.ip forms → Agrees file (written (tree_of forms))
+line-decompiles : (file : List ℕ) (image : Image) (forms : List Form) → IsImageOf file image → Ends (code_of image) image.ip forms → Agrees file (written_form (tree_of forms))
 line-decompiles file image forms is ends =
     let l = text_of_line forms (goes-fits (code_of image) image.ip None forms (goes-from_ends (code_of image) image.ip forms ends)) in
     record {

@@ -16,7 +16,7 @@ use Rattle.dcc_c.specs.declared.syntax.Base.TheVariants.{Uint}
 use Rattle.dcc_c.specs.declared.syntax.CBin.{CBin}
 use Rattle.dcc_c.specs.declared.syntax.CBin.TheVariants.{Or, And, Add, Sub}
 use Rattle.dcc_c.specs.Tree.{Expr, Binary}
-use Rattle.dcc_c.specs.Value.{binary_value, both_values, value, Binding, held_by, assigned, value_of}
+use Rattle.dcc_c.specs.Value.{binary_value, both_values, value, Binding, held_by, after_assignment, value_of}
 use Rattle.dcc_top.specs.declared.form.Form.{Form}
 use Rattle.dcc_top.specs.declared.form.Form.TheVariants.{Move, MoveHalf, Increase, Decrease, MoveSegment, PutChar, Leave}
 use Rattle.dcc_top.specs.declared.form.Term.{Term}
@@ -110,7 +110,7 @@ binding-read w Bp h = cc
 binding-read w Si h = refl
 binding-read w Di h = refl
 
-binding-written_mod : (w : Words) (r : Reg) (v : ℕ) → has_variable r ≡ true → assigned (bindings_of w) (variable_name r) (value Uint v) ≡ bindings_of (with_word w r (v % 65536))
+binding-written_mod : (w : Words) (r : Reg) (v : ℕ) → has_variable r ≡ true → after_assignment (bindings_of w) (variable_name r) (value Uint v) ≡ bindings_of (with_word w r (v % 65536))
 binding-written_mod w Ax v h = refl
 binding-written_mod w Cx v h = refl
 binding-written_mod w Dx v h = refl
@@ -120,7 +120,7 @@ binding-written_mod w Bp v h = cc
 binding-written_mod w Si v h = refl
 binding-written_mod w Di v h = refl
 
-pub binding-written : (w : Words) (r : Reg) (v : ℕ) → has_variable r ≡ true → v < 65536 → assigned (bindings_of w) (variable_name r) (value Uint v) ≡ bindings_of (with_word w r v)
+pub binding-written : (w : Words) (r : Reg) (v : ℕ) → has_variable r ≡ true → v < 65536 → after_assignment (bindings_of w) (variable_name r) (value Uint v) ≡ bindings_of (with_word w r v)
 binding-written w r v h fits =
     binding-written_mod w r v h ∙ ap (λ n. bindings_of (with_word w r n)) (mod-eq_of_lt fits)
 

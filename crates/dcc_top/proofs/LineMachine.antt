@@ -19,7 +19,7 @@ use Rattle.dcc_prog.specs.declared.instr.Instr.{Instr}
 use Rattle.dcc_prog.specs.Table.{instruction_at}
 use Rattle.dcc_prog.specs.Machine.{State, reg_number, word_in, with_word_in, word_with_half, operand_value}
 use Rattle.dcc_prog.specs.Dos.{dos_step}
-use Rattle.dcc_prog.specs.Step.{code_bytes, ended, op_step, instruction_step, step}
+use Rattle.dcc_prog.specs.Step.{code_bytes, with_end, op_step, instruction_step, step}
 use Rattle.dcc_prog.specs.Code.{code_of}
 use Rattle.dcc_prog.proofs.TableLaws.{and_left, and_right}
 use Rattle.dcc_prog.proofs.FetchLaws.{IsPlaced, HoldsImage, fetched-instruction}
@@ -110,7 +110,7 @@ difference-result a b = ap (λ n. (a + 65536 - n) % 65536) (add-zero b)
 
 -- what a form leaves: a state at the next instruction, or an end
 abbrev pub Effect : Image → ℕ → ℕ → Words → List ℕ → Form → State → State → Type 0
-Effect image at next w out Leave s t = t ≡ ended (Exit (w.ax % 256)) at s
+Effect image at next w out Leave s t = t ≡ with_end (Exit (w.ax % 256)) at s
 Effect image at next w out form s t = MachineAt image next (after_form form w) (out_after_form form w out) t
 
 pub register_form-some : (make : Reg → Term → Form) (r : Reg) (from : Operand) (form : Form) → register_form make (Word r) from ≡ Some form → (t : Term) × (term_of from ≡ Some t) × (make r t ≡ form)
@@ -149,7 +149,7 @@ dos-effect image at next w out s (Some number) form held h m =
     let number_is : word_in s Ax / 256 ≡ number = ap (λ n. n / 256) ax ∙ held number refl in
     elim (dos-cases number form h) [
       | inl (n, f) ↦ subst (λ g. Effect image at next w out g s (dos_step (word_in s Ax / 256) at s)) f (subst (λ k. MachineAt image next w (out ++ w.dx % 256 ∷ []) (dos_step k at s)) (sym (number_is ∙ n)) (put-effect image at next w out s m))
-      | inr (n, f) ↦ subst (λ g. Effect image at next w out g s (dos_step (word_in s Ax / 256) at s)) f (ap (λ k. dos_step k at s) (number_is ∙ n) ∙ ap (λ k. ended (Exit (k % 256)) at s) ax)
+      | inr (n, f) ↦ subst (λ g. Effect image at next w out g s (dos_step (word_in s Ax / 256) at s)) f (ap (λ k. dos_step k at s) (number_is ∙ n) ∙ ap (λ k. with_end (Exit (k % 256)) at s) ax)
     ]
 
 -- what the operation of a built instruction does, from the state whose instruction pointer is behind it

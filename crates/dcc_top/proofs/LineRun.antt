@@ -26,7 +26,7 @@ use Rattle.dcc_prog.specs.declared.instr.Op.TheVariants.{Alu as AluOp, Mov, Int2
 use Rattle.dcc_c.specs.declared.syntax.Base.TheVariants.{Uint}
 use Rattle.dcc_c.specs.declared.syntax.CBin.TheVariants.{Add, Sub}
 use Rattle.dcc_c.specs.Tree.{Expr, Binary, Stmt, Assign, Lines, line}
-use Rattle.dcc_c.specs.Value.{value, value_of, held_by, assigned}
+use Rattle.dcc_c.specs.Value.{value, value_of, held_by, after_assignment}
 use Rattle.dcc_c.specs.Run.{Continuation, runs, State, assign_step, dos_step, stmt_step, step_at, step as text_step, text_system}
 use Rattle.dcc_top.specs.declared.form.Form.{Form}
 use Rattle.dcc_top.specs.declared.form.Form.TheVariants.{Move, MoveHalf, Increase, Decrease, MoveSegment, PutChar, Leave}
@@ -66,7 +66,7 @@ text-assigns r e v at lines k w out s t h is fits =
     let after : TextAt (runs lines k) (with_word w r v) out (assign_step (variable_name r) (Some (value Uint v)) at there) =
     record {
       rest_is = refl;
-      variables = ap (λ b. assigned b (variable_name r) (value Uint v)) t.variables ∙ binding-written w r v h fits;
+      variables = ap (λ b. after_assignment b (variable_name r) (value Uint v)) t.variables ∙ binding-written w r v h fits;
       out_is = t.out_is;
       running = t.running;
     } in

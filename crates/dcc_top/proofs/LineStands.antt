@@ -5,13 +5,13 @@ use Rattle.std.proofs.lemmas.Bool.{and_parts, leb-true}
 use Rattle.std.specs.List.{list_all}
 use Rattle.std.proofs.lemmas.List.{map-append, append-nil}
 use Rattle.dcc_c.specs.declared.syntax.Base.TheVariants.{Uint}
-use Rattle.dcc_c.specs.Types.{plain}
+use Rattle.dcc_c.specs.Types.{number_type}
 use Rattle.dcc_c.specs.Token.{Token, WordToken, Mark}
 use Rattle.dcc_c.specs.Lexing.{Placed, placed, Lexes}
 use Rattle.dcc_c.specs.Tree.{Word, Lines, Function, Tree}
 use Rattle.dcc_c.specs.Grammar.{tokens_of, no_local, one_local, IsFunction, no_function, one_function, IsUnit}
 use Rattle.dcc_c.specs.Rules.{most_open, IsAllowed}
-use Rattle.dcc_c.specs.Written.{written_lines, written_functions, written}
+use Rattle.dcc_c.specs.Written.{written_lines, written_functions, written_form}
 use Rattle.dcc_c.specs.Text.{StandsFor}
 use Rattle.dcc_c.proofs.LexingLaws.{Piece, Space, Spelled, text_bytes, text_tokens, is_text, text_lexes, header, header_lexes}
 use Rattle.dcc_c.proofs.WrittenLaws.{line_rows, line_tokens, lines_bytes, lines_apart, lines_tokens, lines_read, lines_open}
@@ -93,7 +93,7 @@ start_read {last} {body} good = record {
   depth = 2;
   joins = refl;
   head_is = refl;
-  locals_are = one_local (plain Uint) (codes "v1") (one_local (plain Uint) (codes "v2") (one_local (plain Uint) (codes "v3") (one_local (plain Uint) (codes "v4") (one_local (plain Uint) (codes "v5") (one_local (plain Uint) (codes "v6") no_local)))));
+  locals_are = one_local (number_type Uint) (codes "v1") (one_local (number_type Uint) (codes "v2") (one_local (number_type Uint) (codes "v3") (one_local (number_type Uint) (codes "v4") (one_local (number_type Uint) (codes "v5") (one_local (number_type Uint) (codes "v6") no_local)))));
   body_is = lines_read good.simple;
   close_is = refl;
   last_is = refl;
@@ -109,7 +109,7 @@ tree_with body last = record { version = 1; lo = 0; hi = 0; globals = []; functi
 abbrev all_tokens : Lines → ℕ → List Placed
 all_tokens body last = header 0 0 ++ start_tokens body last
 
-text_lexed : {last : ℕ} {body : Lines} → AreGood 11 body last → Lexes true 1 (written (tree_with body last)) (all_tokens body last)
+text_lexed : {last : ℕ} {body : Lines} → AreGood 11 body last → Lexes true 1 (written_form (tree_with body last)) (all_tokens body last)
 text_lexed {last} {body} good =
     let lexed : Lexes true 3 (text_bytes (start_rows body)) (text_tokens 3 (start_rows body)) = text_lexes 3 (start_rows body) (start_is_text good) in
     let P : List ℕ → Type 0 = λ bytes. Lexes true 3 bytes (start_tokens body last) in
@@ -160,12 +160,12 @@ text_allowed {last} {body} good = record {
 
 -- the text of a line stands for its tree, has its function, and has more tokens than six
 pub record LineStands (forms : List Form) : Type 0 where
-  pub stands : StandsFor (written (tree_of forms)) (tree_of forms)
+  pub stands : StandsFor (written_form (tree_of forms)) (tree_of forms)
   pub start_is : stands.allowed.start ≡ start_of forms
   pub enough : 7 ≤ length stands.tokens
 
 module _ {last : ℕ} {body : Lines} (good : AreGood 11 body last) where
-  with_stands : StandsFor (written (tree_with body last)) (tree_with body last)
+  with_stands : StandsFor (written_form (tree_with body last)) (tree_with body last)
   with_stands = record {
     tokens = all_tokens body last;
     lexed = text_lexed good;
@@ -189,5 +189,5 @@ text_of_line forms fits =
     record { stands = with_stands good; start_is = with_start good; enough = with_enough good }
 
 -- the text of a line stands for its tree
-pub line_stands : (forms : List Form) → list_all fits_form forms ≡ true → StandsFor (written (tree_of forms)) (tree_of forms)
+pub line_stands : (forms : List Form) → list_all fits_form forms ≡ true → StandsFor (written_form (tree_of forms)) (tree_of forms)
 line_stands forms fits = (text_of_line forms fits).stands

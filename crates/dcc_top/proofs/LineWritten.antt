@@ -8,7 +8,7 @@ use Rattle.std.specs.Fmt.{decimal}
 use Rattle.std.specs.Prelude.{codes}
 use Rattle.std.specs.List.{flat_map}
 use Rattle.dcc_c.specs.Tree.{Word}
-use Rattle.dcc_c.specs.Written.{written, written_lines, written_local, indentation}
+use Rattle.dcc_c.specs.Written.{written_form, written_lines, written_local, indentation}
 use Rattle.dcc_top.specs.declared.form.Form.{Form}
 use Rattle.dcc_top.specs.declared.form.Form.TheVariants.{Move, MoveHalf, Increase, Decrease, MoveSegment, PutChar, Leave}
 use Rattle.dcc_top.specs.LineText.{lines_of, statement_bytes, tree_of, variable, variable_name, registers}
@@ -51,11 +51,11 @@ unfolding written_with clear_bytes
 written_with-digit lines = refl
 
 -- the written form of a straight line
-pub line-written : (forms : List Form) → written (tree_of forms) ≡ head ++ (flat_map statement_bytes forms ++ codes "}\n")
+pub line-written : (forms : List Form) → written_form (tree_of forms) ≡ head ++ (flat_map statement_bytes forms ++ codes "}\n")
 unfolding written_with clear_bytes
 line-written forms =
     let lines = written_lines 1 (lines_of forms 17) in
-    let spelled : written (tree_of forms) ≡ written_with (decimal 0) lines = refl in
+    let spelled : written_form (tree_of forms) ≡ written_with (decimal 0) lines = refl in
     spelled ∙ ap (λ z. written_with z lines) zero-written ∙ written_with-digit lines
     ∙ ap (λ l. head ++ l) (append-nil (lines ++ codes "}\n"))
     ∙ ap (λ l. head ++ (l ++ codes "}\n")) (lines-written forms 17)

@@ -7,7 +7,7 @@ use Rattle.dcc_io.specs.Told.{WhenTold}
 use Rattle.dcc_prog.specs.declared.image.Image.{Image}
 use Rattle.dcc_prog.specs.MzImage.{IsImageOf}
 use Rattle.dcc_prog.specs.Code.{code_of}
-use Rattle.dcc_c.specs.Written.{written}
+use Rattle.dcc_c.specs.Written.{written_form}
 use Rattle.dcc_top.specs.declared.form.Form.{Form}
 use Rattle.dcc_top.specs.declared.reply.Reply.{Reply}
 use Rattle.dcc_top.specs.declared.reply.Reply.TheVariants.{Done, Exited, Usage, NoFile, FileFault, InputFault, Memory, Format, NotYet, Unfinished, Divided, Outside}
@@ -72,7 +72,7 @@ pub record Decompiles (file text : List ℕ) : Type 0 where
   pub is_image : IsImageOf file image
   pub forms : List Form
   pub ends : Ends (code_of image) image.ip forms
-  pub written_is : text ≡ written (tree_of forms)
+  pub written_is : text ≡ written_form (tree_of forms)
   pub agrees : Agrees file text
 
 -- the file's straight line comes to an instruction that is not built yet, at this offset
@@ -131,7 +131,7 @@ HasNoImage told name _ = ⊥
 -- the answer is allowed for an image whose text is asked for: the text of its line, or where the line stops
 abbrev pub AllowsForImage : Image → Reply → Type 0
 AllowsForImage image (Done text) =
-    (forms : List Form) × Ends (code_of image) image.ip forms × (string_bytes text ≡ written (tree_of forms))
+    (forms : List Form) × Ends (code_of image) image.ip forms × (string_bytes text ≡ written_form (tree_of forms))
 AllowsForImage image (NotYet at) = StopsAt (code_of image) image.ip at
 AllowsForImage image Memory = Unit {0}
 AllowsForImage image _ = ⊥

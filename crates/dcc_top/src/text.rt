@@ -1,7 +1,7 @@
 //! The text of a straight line.
 
 ghost use Rattle.std.specs.Prelude.{◌≡◌, ◌++◌, IfOk, OnOk, string_bytes};
-ghost use Rattle.dcc_c.specs.Written.{written, written_expr};
+ghost use Rattle.dcc_c.specs.Written.{written_form, written_expr};
 ghost use Rattle.dcc_top.specs.LineText.{variable_name, term_expr, statement_bytes, operation_bytes, tree_of};
 
 use crate::form::{Form, Term};
@@ -108,7 +108,7 @@ fn push_statement(text: &mut String, form: Form) -> Result<(), AllocError>
 
 /// The text of a straight line, in the written form.
 pub fn line_text(alloc: Global, forms: &[Form]) -> Result<String, AllocError>
-    ensures { IfOk result (λ text. string_bytes text ≡ written (tree_of forms.now)) }
+    ensures { IfOk result (λ text. string_bytes text ≡ written_form (tree_of forms.now)) }
 {
     let mut text = String::from_str(alloc, HEAD)?;
     for form in forms {

@@ -1,3 +1,5 @@
+//! Small texts and their runs.
+
 ghost use Rattle.std.specs.Prelude.{◌<◌, IfOk, vec_len};
 
 use super::*;
@@ -29,7 +31,7 @@ fn local(alloc: Global, word: &str, base: Base) -> Result<Var, AllocError> {
     })
 }
 
-/// `word = e;` in this line.
+// `word = e;` in this line.
 fn assigns(alloc: Global, line: u32, word: &str, e: CExpr) -> Result<Line, AllocError> {
     Ok(Line {
         stmt: CStmt::Assign(name(alloc, word)?, e),
@@ -37,7 +39,7 @@ fn assigns(alloc: Global, line: u32, word: &str, e: CExpr) -> Result<Line, Alloc
     })
 }
 
-/// `function(e);` in this line.
+// `function(e);` in this line.
 fn calls(alloc: Global, line: u32, function: &str, e: CExpr) -> Result<Line, AllocError> {
     let function = String::from_str(alloc, function)?;
     Ok(Line {
@@ -46,7 +48,7 @@ fn calls(alloc: Global, line: u32, function: &str, e: CExpr) -> Result<Line, All
     })
 }
 
-/// The text with the function `start` alone.
+// The text with the function `start` alone.
 fn text(alloc: Global, locals: Vec<Var>, body: Vec<Line>, last: u32) -> Result<Unit, AllocError>
     ensures { IfOk result (λ unit. 0 < vec_len unit.funcs) }
 {

@@ -1,8 +1,8 @@
 //! Values and conversions of the C dialect (ISO/IEC 9899:1990, 6.2 and 6.3).
 
 ghost use Rattle.std.specs.Prelude.{◌≡◌, ℕ, ◌+◌, ◌-◌, ◌%◌, ◌^◌, ◌<◌, ◌≤◌, map, option_map, string_bytes};
-ghost use Rattle.dcc_c.specs.Types.{bits_of, promoted, common_type, wrapped, extended, convert};
-ghost use Rattle.dcc_c.specs.Value.{held_by, assigned, binary_value, both_values, value_of};
+ghost use Rattle.dcc_c.specs.Types.{bits_of, promoted_type, common_type, wrapped_bits, extended_bits, convert};
+ghost use Rattle.dcc_c.specs.Value.{held_by, after_assignment, binary_value, both_values, value_of};
 ghost use Rattle.dcc_c.specs.Views.{expr_of};
 ghost use Rattle.dcc_c.specs.Plain.{number_of, binding_of};
 
@@ -11,14 +11,18 @@ use crate::syntax::{Base, CBin, CExpr};
 /// A number with its type; `bits` is its pattern in two's complement, below `2^bits_of(base)`.
 #[derive(Clone, Copy, PartialEq, Eq, Debug)]
 pub struct Value {
+    /// Its type.
     pub base: Base,
+    /// The pattern, in as many bits as the type has.
     pub bits: u32,
 }
 
 /// A named variable with its value.
 #[derive(Drop)]
 pub struct Binding {
+    /// Its name.
     pub name: String,
+    /// Its value, of its type.
     pub held: Value,
 }
 
@@ -33,7 +37,7 @@ pub fn bits_of(base: Base) -> u32
     }
 }
 
-/// How many patterns a number type has.
+// How many patterns a number type has.
 fn modulus_of(base: Base) -> u64
     ensures { result ≡ 2 ^ bits_of base }
 {
@@ -45,8 +49,8 @@ fn modulus_of(base: Base) -> u64
 }
 
 /// The type that an operand has: a `char` becomes an `int` (6.2.1.1).
-pub fn promoted(base: Base) -> Base
-    ensures { result ≡ promoted base }
+pub fn promoted_type(base: Base) -> Base
+    ensures { result ≡ promoted_type base }
 {
     match base {
         Base::Schar | Base::Uchar => Base::Int,
@@ -58,7 +62,7 @@ pub fn promoted(base: Base) -> Base
 pub fn common_type(a: Base, b: Base) -> Base
     ensures { result ≡ common_type a b }
 {
-    match (promoted(a), promoted(b)) {
+    match (promoted_type(a), promoted_type(b)) {
         (Base::Ulong, _) | (_, Base::Ulong) => Base::Ulong,
         (Base::Long, _) | (_, Base::Long) => Base::Long,
         (Base::Uint, _) | (_, Base::Uint) => Base::Uint,
@@ -66,17 +70,17 @@ pub fn common_type(a: Base, b: Base) -> Base
     }
 }
 
-/// The low bits of a number that its type has.
-fn wrapped(base: Base, n: u64) -> u32
-    ensures value { result ≡ wrapped base n }
+// The low bits of a number that its type has.
+fn wrapped_bits(base: Base, n: u64) -> u32
+    ensures value { result ≡ wrapped_bits base n }
     ensures within { result < 2 ^ bits_of base }
 {
     (n % modulus_of(base)) as u32
 }
 
-/// The 32 bits of a value: a negative one is extended by ones.
-fn extended(base: Base, bits: u32) -> u64
-    ensures { result ≡ extended base bits }
+// The 32 bits of a value: a negative one is extended by ones.
+fn extended_bits(base: Base, bits: u32) -> u64
+    ensures { result ≡ extended_bits base bits }
 {
     match base {
         Base::Schar if bits >= 0x80 => u64::from(bits) + 0xFFFF_FF00,
@@ -91,10 +95,10 @@ pub fn convert(from: Base, to: Base, bits: u32) -> u32
     ensures value { result ≡ convert from to bits }
     ensures within { result < 2 ^ bits_of to }
 {
-    wrapped(to, extended(from, bits))
+    wrapped_bits(to, extended_bits(from, bits))
 }
 
-/// The value of an operator on two numbers of one type, where the operator has one.
+// The value of an operator on two numbers of one type, where the operator has one.
 fn binary_value(operator: CBin, base: Base, a: u32, b: u32) -> Option<Value>
     requires { b < 2 ^ bits_of base }
     ensures { option_map number_of result ≡ binary_value operator base a b }
@@ -103,14 +107,14 @@ fn binary_value(operator: CBin, base: Base, a: u32, b: u32) -> Option<Value>
         CBin::Or => a | b,
         CBin::Xor => a ^ b,
         CBin::And => a & b,
-        CBin::Add => wrapped(base, u64::from(a) + u64::from(b)),
-        CBin::Sub => wrapped(base, u64::from(a) + modulus_of(base) - u64::from(b)),
+        CBin::Add => wrapped_bits(base, u64::from(a) + u64::from(b)),
+        CBin::Sub => wrapped_bits(base, u64::from(a) + modulus_of(base) - u64::from(b)),
         _ => return None,
     };
     Some(Value { base, bits })
 }
 
-/// What the variable with the name holds.
+// What the variable with the name holds.
 fn held_by(variables: &[Binding], name: &str) -> Option<Value>
     ensures { option_map number_of result ≡ held_by (map binding_of variables.now) name.now }
 {
@@ -129,7 +133,7 @@ pub fn value_of(variables: &[Binding], e: &CExpr) -> Option<Value>
     match e {
         CExpr::Num(n, base) => Some(Value {
             base: *base,
-            bits: wrapped(*base, u64::from(*n)),
+            bits: wrapped_bits(*base, u64::from(*n)),
         }),
         CExpr::Name(name) => held_by(variables, name.as_str()),
         CExpr::Bin(operator, a, b) => both_values(
@@ -141,7 +145,7 @@ pub fn value_of(variables: &[Binding], e: &CExpr) -> Option<Value>
     }
 }
 
-/// The value of an operator: both operands are converted to their common type.
+// The value of an operator: both operands are converted to their common type.
 fn both_values(operator: CBin, a: Value, b: Value) -> Option<Value>
     ensures { option_map number_of result ≡ both_values operator (Some (number_of a)) (Some (number_of b)) }
 {
@@ -157,7 +161,7 @@ fn both_values(operator: CBin, a: Value, b: Value) -> Option<Value>
 /// The variable with the name takes a value, converted to its type.
 pub fn assign(variables: &mut [Binding], name: &str, v: Value)
     ensures { map binding_of variables.new
-        ≡ assigned (map binding_of variables.old) name.now (number_of v) }
+        ≡ after_assignment (map binding_of variables.old) name.now (number_of v) }
 {
     for variable in variables.iter_mut() {
         if variable.name.as_str() == name {

@@ -1,11 +1,14 @@
-// The calls of an object in memory.
+//! The calls of an object in memory.
+
 ghost use Rattle.std.specs.Prelude.{◌≡◌, ◌+◌, if◌then◌else◌};
-ghost use Rattle.dcc_io.specs.Memory.{counted, fails_next, listed_calls};
+ghost use Rattle.dcc_io.specs.Memory.{next_count, fails_next, listed_calls};
 
 /// How many calls were made, and the numbers of those that are to fail, from 1 on.
 #[derive(Drop)]
 pub(crate) struct Calls {
+    /// The number of calls so far; the last value of the type stands for all above it.
     pub(crate) made: u64,
+    /// The numbers of the calls that are to fail, from 1 on.
     pub(crate) fail: Vec<u64>,
 }
 
@@ -22,7 +25,7 @@ impl Calls {
     /// and no call is to fail from there on.
     #[tactic(auto, using(crate::proofs::MemoryLemmas::listed_calls_next))]
     pub(crate) fn next_fails(&mut self) -> bool
-        ensures made { self.new.made ≡ counted self.old.made }
+        ensures made { self.new.made ≡ next_count self.old.made }
         ensures fail { self.new.fail.items ≡ self.old.fail.items }
         ensures fails { result ≡ fails_next self.old.fail.items self.old.made }
         ensures listed { listed_calls self.old.fail.items self.new.made

@@ -1,9 +1,10 @@
-// Files in memory.
+//! Files in memory.
+
 ghost use Rattle.std.specs.Prelude.{◌≡◌, ◌⊎◌, ◌≤◌, [], vec_len, None, Some, Ok, Err, IsErrOf, OnErr, IsTrue, MatchOption, AllPairs, ◌≢◌, string_bytes};
 ghost use Rattle.dcc_io.specs.Count.{Rose};
 ghost use Rattle.dcc_io.specs.Told.{WhenTold};
-ghost use Rattle.dcc_io.specs.Fetch.{Answers, KeepsWithin, Records};
-ghost use Rattle.dcc_io.specs.Memory.{counted, fails_next, listed_calls, file_named, files_of};
+ghost use Rattle.dcc_io.specs.Fetch.{Fetches, KeepsWithin, Records};
+ghost use Rattle.dcc_io.specs.Memory.{next_count, fails_next, listed_calls, file_named, files_of};
 
 use super::calls::Calls;
 use crate::outside::{Fetched, Shelf, ShelfFault};
@@ -62,7 +63,7 @@ impl Shelf for MemShelf {
 
         ensures files { Some (file_named self.new.files) ≡ Some (file_named self.old.files) }
         ensures asked { Records self.old.asked self.new.asked (name.now, most) result }
-        ensures answer { WhenTold (Some (file_named self.old.files)) (λ file. Answers (file name.now) most result into.new.items) }
+        ensures answer { WhenTold (Some (file_named self.old.files)) (λ file. Fetches (file name.now) most result into.new.items) }
         ensures within { KeepsWithin most result into.new.items }
         ensures absences { self.old.absences ≤ self.new.absences }
         ensures absent { IsErrOf result ShelfFault.Absent → Rose self.old.absences self.new.absences }
@@ -73,9 +74,9 @@ impl Shelf for MemShelf {
         ensures listed { IsTrue (fails_next self.old.fail self.old.fetches) → (result ≡ Err ShelfFault.Failed) ⊎ (result ≡ Err ShelfFault.Memory) }
         ensures unlisted { result ≡ Err ShelfFault.Failed → IsTrue (fails_next self.old.fail self.old.fetches) }
         // The absences that are counted are those that were answered.
-        ensures absences_counted { IsErrOf result ShelfFault.Absent → self.new.absences ≡ counted self.old.absences }
+        ensures absences_counted { IsErrOf result ShelfFault.Absent → self.new.absences ≡ next_count self.old.absences }
         ensures absences_kept { self.new.absences ≡ self.old.absences ⊎ IsErrOf result ShelfFault.Absent }
-        ensures fetches { self.new.fetches ≡ counted self.old.fetches }
+        ensures fetches { self.new.fetches ≡ next_count self.old.fetches }
         ensures fail { self.new.fail ≡ self.old.fail }
         ensures same_files { self.new.files ≡ self.old.files }
     {
@@ -111,7 +112,7 @@ fn find<'a>(files: &'a [(String, Vec<u8>)], name: &str) -> Option<&'a Vec<u8>>
 // Puts the bytes, or the first of them, into an empty list.
 fn copy_front(bytes: &[u8], most: usize, into: &mut Vec<u8>) -> Result<Fetched, ShelfFault>
     requires { vec_len into.old ≡ 0 }
-    ensures answer { Answers (Some bytes.now) most result into.new.items }
+    ensures answer { Fetches (Some bytes.now) most result into.new.items }
     ensures err { OnErr result (result ≡ Err ShelfFault.Memory) }
 {
     if bytes.len() > most {

@@ -1,8 +1,9 @@
-// Output in memory.
+//! Output in memory.
+
 ghost use Rattle.std.specs.Prelude.{◌≡◌, ◌<◌, ◌≤◌, ◌||◌, [], length, take, min, Some, IfOk, IsErr, OnErr, IsTrue, is_ok, if◌then◌else◌};
 ghost use Rattle.dcc_io.specs.Count.{Rose};
 ghost use Rattle.dcc_io.specs.Told.{append_told};
-ghost use Rattle.dcc_io.specs.Memory.{counted, fails_next, sink_faults};
+ghost use Rattle.dcc_io.specs.Memory.{next_count, fails_next, sink_faults};
 
 use super::calls::Calls;
 use crate::outside::{Failed, Sink};
@@ -71,9 +72,9 @@ impl Sink for MemSink {
         // counted as refused.
         ensures listed { IsTrue (fails_next self.old.fail self.old.writes) → IsErr result }
         ensures refused { self.new.refused
-            ≡ (if is_ok result || fails_next self.old.fail self.old.writes then self.old.refused else counted self.old.refused) }
+            ≡ (if is_ok result || fails_next self.old.fail self.old.writes then self.old.refused else next_count self.old.refused) }
         ensures count { IfOk result (λ count. count ≡ min (length piece.now) self.old.most) }
-        ensures writes { self.new.writes ≡ counted self.old.writes }
+        ensures writes { self.new.writes ≡ next_count self.old.writes }
         ensures fail { self.new.fail ≡ self.old.fail }
         ensures most { self.new.most ≡ self.old.most }
     {

@@ -1,8 +1,9 @@
-// Input in memory.
+//! Input in memory.
+
 ghost use Rattle.std.specs.Prelude.{◌≡◌, ◌<◌, ◌≤◌, [], length, take, min, Some, IfOk, OnErr, is_err, Ok};
 ghost use Rattle.dcc_io.specs.Count.{Rose};
 ghost use Rattle.dcc_io.specs.Told.{WhenTold, prepend_told};
-ghost use Rattle.dcc_io.specs.Memory.{counted, fails_next, listed_calls};
+ghost use Rattle.dcc_io.specs.Memory.{next_count, fails_next, listed_calls};
 
 use super::calls::Calls;
 use crate::outside::{Failed, Source};
@@ -61,7 +62,7 @@ impl Source for MemSource {
         // The reads that are on the list fail, and each other gives as many bytes as it may.
         ensures fails { is_err result ≡ fails_next self.old.fail self.old.reads }
         ensures count { IfOk result (λ count. count ≡ min (min (length self.old.left) (length buf.old)) self.old.most) }
-        ensures reads { self.new.reads ≡ counted self.old.reads }
+        ensures reads { self.new.reads ≡ next_count self.old.reads }
         ensures fail { self.new.fail ≡ self.old.fail }
         ensures most { self.new.most ≡ self.old.most }
     {

@@ -5,7 +5,7 @@ use std::alloc::{AllocError, Global};
 use std::process::Abort;
 use std::test::Fail;
 
-/// The text of the program that prints A.
+// The text of the program that prints A.
 const PRINTS_A_TEXT: &str = "#pragma dcc text 1
 #pragma dcc stack 0 0
 void start(void)
@@ -40,14 +40,14 @@ fn a_program_that_prints_has_this_text(rt: HostRuntime) -> Result<(), Fail> {
     Ok(())
 }
 
-/// The call must answer this status and write this line, and nothing on its output.
+// The call must answer this status and write this line, and nothing on its output.
 fn check_refused(rt: &impl Abort, given: &Answer, status: u8, line: &str) {
     assert_eq!(rt; given.err.as_slice(), line.as_bytes(), "{line}");
     assert_eq!(rt; given.status, status, "{line}");
     assert!(rt; given.out.is_empty(), "{line}");
 }
 
-/// Words, the number of the fetch that fails, the status and the line.
+// Words, the number of the fetch that fails, the status and the line.
 type WordsRow = (&'static [&'static str], u64, u8, &'static str);
 
 static WORDS: [WordsRow; 11] = [
@@ -83,7 +83,7 @@ fn words_and_shelves_are_refused(rt: HostRuntime) -> Result<(), Fail> {
     Ok(())
 }
 
-/// A file of these bytes is refused with the line, and with status 8, by each command.
+// A file of these bytes is refused with the line, and with status 8, by each command.
 fn check_format(rt: &impl Abort, alloc: Global, file: &[u8], line: &str) -> Result<(), AllocError> {
     for command in ["c", "run"] {
         let given = answered(alloc, &[command, "ROW1.EXE"], file, NO_FAULTS)?;
@@ -92,7 +92,7 @@ fn check_format(rt: &impl Abort, alloc: Global, file: &[u8], line: &str) -> Resu
     Ok(())
 }
 
-/// The offset of a byte of the program that prints A, what it is changed to, and the line.
+// The offset of a byte of the program that prints A, what it is changed to, and the line.
 type ChangeRow = (usize, u8, &'static str);
 
 static CHANGES: [ChangeRow; 4] = [
@@ -127,7 +127,7 @@ fn files_without_an_image_are_refused(rt: HostRuntime) -> Result<(), Fail> {
     Ok(())
 }
 
-/// The code behind the instructions that set DS, and the line.
+// The code behind the instructions that set DS, and the line.
 type StopRow = (&'static [u8], &'static str);
 
 static STOPS: [StopRow; 9] = [
@@ -161,7 +161,7 @@ fn stops() -> &'static [StopRow] {
     &STOPS
 }
 
-/// The program with this code behind the instructions that set DS is refused with the line, and with status 12.
+// The program with this code behind the instructions that set DS is refused with the line, and with status 12.
 fn check_stop(rt: &impl Abort, alloc: Global, code: &[u8], line: &str) -> Result<(), AllocError> {
     let file = program(rt, alloc, code)?;
     let given = answered(alloc, &["c", "ROW1.EXE"], &file, NO_FAULTS)?;

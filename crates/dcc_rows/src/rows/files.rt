@@ -12,14 +12,14 @@ use std::test::Fail;
 
 /// A program of 48 bytes that prints A and exits with 3: a header of two paragraphs with one relocation,
 /// then 16 bytes of code.
-pub const PRINTS_A: [u8; 48] = [
+pub(super) const PRINTS_A: [u8; 48] = [
     0x4D, 0x5A, 0x30, 0x00, 0x01, 0x00, 0x01, 0x00, 0x02, 0x00, 0x00, 0x00, 0xFF, 0xFF, 0x01, 0x00,
     0x00, 0x01, 0x00, 0x00, 0x00, 0x00, 0x00, 0x00, 0x1C, 0x00, 0x00, 0x00, 0x01, 0x00, 0x00, 0x00,
     0xB8, 0x01, 0x00, 0x8E, 0xD8, 0xB2, 0x41, 0xB4, 0x02, 0xCD, 0x21, 0xB8, 0x03, 0x4C, 0xCD, 0x21,
 ];
 
 /// The paragraphs of 16 bytes that the code takes behind the two instructions that set DS.
-pub fn paragraphs(rt: &impl Abort, code: &[u8]) -> u16
+pub(super) fn paragraphs(rt: &impl Abort, code: &[u8]) -> u16
     ensures { result ≤ 4096 }
 {
     let bytes = code.len();
@@ -29,7 +29,7 @@ pub fn paragraphs(rt: &impl Abort, code: &[u8]) -> u16
 
 /// The file of a program. The image is `mov ax, p`, `mov ds, ax` and the code, with zeros up to a whole
 /// paragraph; p, the image's paragraphs, is relocated, so that DS and SS are the segment behind the image.
-pub fn program(rt: &impl Abort, alloc: Global, code: &[u8]) -> Result<Vec<u8>, AllocError> {
+pub(super) fn program(rt: &impl Abort, alloc: Global, code: &[u8]) -> Result<Vec<u8>, AllocError> {
     let paragraphs = paragraphs(rt, code);
     let length = 32 + 16 * u32::from(paragraphs);
     let header = [
@@ -62,15 +62,19 @@ pub fn program(rt: &impl Abort, alloc: Global, code: &[u8]) -> Result<Vec<u8>, A
 
 /// The numbers, from 1 on, of a fetch, of a read and of writes that fail; 0 where none does.
 #[derive(Clone, Copy)]
-pub struct Faults {
-    pub fetch: u64,
-    pub read: u64,
-    pub out: u64,
-    pub err: u64,
+pub(super) struct Faults {
+    /// Of the shelf.
+    pub(super) fetch: u64,
+    /// Of the input.
+    pub(super) read: u64,
+    /// Of the output.
+    pub(super) out: u64,
+    /// Of the error stream.
+    pub(super) err: u64,
 }
 
 /// Nothing fails.
-pub const NO_FAULTS: Faults = Faults {
+pub(super) const NO_FAULTS: Faults = Faults {
     fetch: 0,
     read: 0,
     out: 0,
@@ -79,15 +83,18 @@ pub const NO_FAULTS: Faults = Faults {
 
 /// What a call answered and wrote.
 #[derive(Drop)]
-pub struct Answer {
-    pub status: u8,
-    pub out: Vec<u8>,
-    pub err: Vec<u8>,
+pub(super) struct Answer {
+    /// The exit status.
+    pub(super) status: u8,
+    /// What was written to the output.
+    pub(super) out: Vec<u8>,
+    /// What was written to the error stream.
+    pub(super) err: Vec<u8>,
 }
 
-/// Calls the top call with the words, where the shelf has one file, ROW1.EXE, of these bytes, and the input has these.
-/// The input gives one byte a read, and the streams take at most 8 bytes a write.
-pub fn answered_on(
+/// Calls the top call with the words, where the shelf has one file, ROW1.EXE, of these bytes, and the
+/// input has these. The input gives one byte a read, and the streams take at most 8 bytes a write.
+pub(super) fn answered_on(
     alloc: Global,
     words: &[&str],
     file: &[u8],
@@ -113,7 +120,7 @@ pub fn answered_on(
 }
 
 /// Calls the top call with the words on an empty input.
-pub fn answered(
+pub(super) fn answered(
     alloc: Global,
     words: &[&str],
     file: &[u8],
@@ -123,7 +130,7 @@ pub fn answered(
 }
 
 /// How the first 100 steps of a file's program end on an empty input, and their output.
-pub fn run_file(
+pub(super) fn run_file(
     rt: &impl Abort,
     alloc: Global,
     file: &Vec<u8>,

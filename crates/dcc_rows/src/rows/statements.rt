@@ -5,7 +5,7 @@ use dcc_step::Stepped;
 use std::alloc::{AllocError, Global};
 use std::test::Fail;
 
-/// What stands before the statements of a program's instructions.
+// What stands before the statements of a program's instructions.
 const HEAD: &str = "#pragma dcc text 1
 #pragma dcc stack 0 0
 void start(void)
@@ -24,12 +24,12 @@ void start(void)
     v6 = 0U;
 ";
 
-/// The code behind the instructions that set DS, its output and exit code, and its statements. The reference
-/// gives the same output and exit code for the file and for the text with these statements.
+// The code behind the instructions that set DS, its output and exit code, and its statements. The reference
+// gives the same output and exit code for the file and for the text with these statements.
 type StatementRow = (&'static [u8], &'static [u8], u8, &'static [&'static str]);
 
 static STATEMENTS: [StatementRow; 11] = [
-    // MOV, and ADD of a register in the encoding 03.
+    // MOV, and ADD of a register in the encoding 0x03.
     (
         b"\xB8\x40\x00\xBB\x01\x00\x03\xC3\x8B\xD0\xB4\x02\xCD\x21\xB8\x02\x4C\xCD\x21",
         b"A",
@@ -45,7 +45,7 @@ static STATEMENTS: [StatementRow; 11] = [
             "dos_exit(v1);",
         ],
     ),
-    // MOV in the encoding 89, and ADD in 01, which wraps.
+    // MOV in the encoding 0x89, and ADD in 0x01, which wraps.
     (
         b"\xBE\xFF\xFF\xBF\x43\x00\x01\xF7\x89\xFA\xB4\x02\xCD\x21\xB8\x00\x4C\xCD\x21",
         b"B",
@@ -61,7 +61,7 @@ static STATEMENTS: [StatementRow; 11] = [
             "dos_exit(v1);",
         ],
     ),
-    // SUB in the encodings 29 and 2B.
+    // SUB in the encodings 0x29 and 0x2B.
     (
         b"\xB9\x01\x00\xBA\x44\x00\x29\xCA\xB4\x02\xCD\x21\x2B\xD1\xCD\x21\xB8\x01\x4C\xCD\x21",
         b"CB",
@@ -219,7 +219,7 @@ fn statements() -> &'static [StatementRow] {
     &STATEMENTS
 }
 
-/// The text with these statements, where the image has that many paragraphs: AX takes the segment behind it.
+// The text with these statements, where the image has that many paragraphs: AX takes the segment behind it.
 fn text(alloc: Global, paragraphs: u16, statements: &[&str]) -> Result<String, AllocError> {
     let mut text = String::from_str(alloc, HEAD)?;
     let segment = 0x0110 + u32::from(paragraphs);

@@ -22,18 +22,18 @@ fn binary(alloc: Global, operator: CBin, a: CExpr, b: CExpr) -> Result<CExpr, Al
     Ok(CExpr::Bin(operator, Box::new(alloc, a)?, Box::new(alloc, b)?))
 }
 
-/// `word = e;`.
+// `word = e;`.
 fn assigns(alloc: Global, word: &str, e: CExpr) -> Result<CStmt, AllocError> {
     Ok(CStmt::Assign(name(alloc, word)?, e))
 }
 
-/// `word = (word & mask) | n;`.
+// `word = (word & mask) | n;`.
 fn takes_half(alloc: Global, word: &str, mask: u32, n: u32) -> Result<CStmt, AllocError> {
     let kept = binary(alloc, CBin::And, name(alloc, word)?, number(mask))?;
     assigns(alloc, word, binary(alloc, CBin::Or, kept, number(n))?)
 }
 
-/// `function(word);`.
+// `function(word);`.
 fn calls(alloc: Global, function: &str, word: &str) -> Result<CStmt, AllocError> {
     let function = String::from_str(alloc, function)?;
     Ok(CStmt::Call(None, function, vec![in alloc; name(alloc, word)?]?, 2))
@@ -53,7 +53,7 @@ fn variable(alloc: Global, word: &str) -> Result<Var, AllocError> {
     })
 }
 
-/// The text whose six variables are cleared before these statements.
+// The text whose six variables are cleared before these statements.
 fn text(alloc: Global, statements: Vec<CStmt>) -> Result<Unit, AllocError>
     ensures { IfOk result (λ unit. 0 < vec_len unit.funcs) }
 {
@@ -84,7 +84,7 @@ fn text(alloc: Global, statements: Vec<CStmt>) -> Result<Unit, AllocError>
     })
 }
 
-/// The statements of the program that prints A and exits with 3.
+// The statements of the program that prints A and exits with 3.
 fn prints_a(alloc: Global) -> Result<Vec<CStmt>, AllocError> {
     let statements = vec![in alloc;
         assigns(alloc, "v1", number(273))?,
@@ -97,7 +97,7 @@ fn prints_a(alloc: Global) -> Result<Vec<CStmt>, AllocError> {
     Ok(statements)
 }
 
-/// The statements of the program that prints a sum.
+// The statements of the program that prints a sum.
 fn prints_a_sum(alloc: Global) -> Result<Vec<CStmt>, AllocError> {
     let sum = binary(alloc, CBin::Add, name(alloc, "v1")?, name(alloc, "v4")?)?;
     let statements = vec![in alloc;
@@ -114,10 +114,10 @@ fn prints_a_sum(alloc: Global) -> Result<Vec<CStmt>, AllocError> {
     Ok(statements)
 }
 
-/// The code of the program that prints a sum, behind the instructions that set DS.
+// The code of the program that prints a sum, behind the instructions that set DS.
 const SUM: &[u8] = b"\xB8\x40\x00\xBB\x01\x00\x03\xC3\x8B\xD0\xB4\x02\xCD\x21\xB8\x02\x4C\xCD\x21";
 
-/// The text with these statements and the file both print A and exit with the code.
+// The text with these statements and the file both print A and exit with the code.
 fn check_runs(
     rt: &impl Abort,
     alloc: Global,

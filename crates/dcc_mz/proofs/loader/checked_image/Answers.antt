@@ -22,8 +22,8 @@ returns-clause-image c =
       has_entry = omega (arith, header.cs, header.ip, c.in_ok-image.image.ok.0);
       bytes = c.in_ok-image.ensures.moved;
       code_len = omega (arith, header.cs, c.in_ok-image.image.ok.0);
-      cs = c.loaded.ensures ∙ ap loaded_segment header.cs;
+      cs = c.loaded_segment.ensures ∙ ap loaded_segment header.cs;
       ip = header.ip;
-      ss = c.loaded-2.ensures ∙ ap loaded_segment header.ss;
+      ss = c.loaded_segment-2.ensures ∙ ap loaded_segment header.ss;
       sp = header.sp;
     }

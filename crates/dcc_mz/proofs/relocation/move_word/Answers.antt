@@ -17,5 +17,5 @@ written xs at w inside word =
 
 pub returns : goal.returns
 returns c =
-    let split = written c.args.image.now c.args.at c.loaded-moved.result c.requires c.loaded-moved.type_inv in
-    rw (c.write_u16.ensures, split, c.loaded-moved.ensures, c.word.ensures) refl
+    let split = written c.args.image.now c.args.at c.loaded_segment-moved.result c.requires c.loaded_segment-moved.type_inv in
+    rw (c.write_u16.ensures, split, c.loaded_segment-moved.ensures, c.word.ensures) refl

@@ -1,5 +1,5 @@
 use Rattle.std.proofs.Common.{◌≡◌, map, take, drop, ◌++◌}
-use Rattle.dcc_c.specs.Value.{assigned}
+use Rattle.dcc_c.specs.Value.{after_assignment}
 use Rattle.dcc_c.specs.Plain.{number_of, binding_of}
 use Rattle.dcc_c.proofs.plain.values.assign.Given as goal
 
@@ -7,7 +7,7 @@ use Rattle.dcc_c.proofs.plain.values.assign.Given as goal
 abbrev pub invariant-loop-variable : goal.invariant-loop-variable
 invariant-loop-variable l = record {
   same : l.variables ≡ l.initial.variables;
-  passed : assigned (map binding_of l.variables) l.name (number_of l.v)
+  passed : after_assignment (map binding_of l.variables) l.name (number_of l.v)
       ≡ map binding_of (take l.variable-index l.variables)
-      ++ assigned (map binding_of (drop l.variable-index l.variables)) l.name (number_of l.v);
+      ++ after_assignment (map binding_of (drop l.variable-index l.variables)) l.name (number_of l.v);
 }

@@ -3,7 +3,7 @@ use Rattle.dcc_run.specs.End.{Exit}
 use Rattle.dcc_num.specs.declared.Half.TheVariants.{Low, High}
 use Rattle.dcc_num.specs.declared.Reg.TheVariants.{Ax, Dx}
 use Rattle.dcc_prog.specs.Machine.{half_of_word, word_in}
-use Rattle.dcc_prog.specs.Operations.{ended}
+use Rattle.dcc_prog.specs.Operations.{with_end}
 use Rattle.dcc_prog.specs.Dos.{dos_call, dos_string}
 use Rattle.dcc_step.specs.Core.{state_of, with_console}
 use Rattle.dcc_step.proofs.Scenes.{made_quiet, made_writing, refused_writing, numbered, no_call, string-keeps}
@@ -51,7 +51,7 @@ returns-in-76-clause-made g c =
     let code : c.half_of-in-76.result ≡ half_of_word Low (word_in (state_of m) Ax) = c.half_of-in-76.ensures ∙ ap (half_of_word Low) c.reg-ax.ensures in
     made_quiet (dos_call c.args.at) m c.finish.new.self _ _
     (λ input out. numbered c.args.at 76 m ah input out
-    ∙ ap (λ k. ended (Exit k) c.args.at (with_console m input out)) (sym code)
+    ∙ ap (λ k. with_end (Exit k) c.args.at (with_console m input out)) (sym code)
     ∙ ap (λ k. with_console k input out) (sym c.finish.ensures))
 
 pub returns-in_default-clause-made : goal.returns-in_default-clause-made
