@@ -3,10 +3,12 @@ use Rattle.std.proofs.Common.{◌≡◌, ℕ, ◌+◌, ◌*◌, ◌<◌, ◌≤�
 use Rattle.std.specs.Prelude.{◌≢◌, slice_get, slice_index, find, Option, Some, None, option_map}
 use Rattle.std.proofs.lemmas.Bool.{cases_lt}
 use Rattle.std.proofs.lemmas.Bool.Decides.{nat_tests}
+use Rattle.dcc_num.specs.declared.Reg.{Reg}
 use Rattle.dcc_num.specs.declared.Reg.TheVariants.{Bx, Si, Di}
 use Rattle.dcc_prog.specs.declared.instr.Op.{Op}
 use Rattle.dcc_prog.specs.declared.instr.Op.TheVariants.{Int21, Table}
 use Rattle.dcc_prog.specs.declared.instr.Instr.{Instr}
+use Rattle.dcc_prog.specs.Bytes.{word_at}
 use Rattle.dcc_prog.specs.Table.{Row, Parts, fits_byte, fits, matches, row_length, this_byte, bytes_between, table, IsRow, instruction_at}
 use Rattle.dcc_prog.proofs.TableLaws.{and_left, and_right, and_both, find-get, find-passes, find-fits, has_bytes-le, has_bytes-of_le, instruction-row, instruction-of_row}
 use Rattle.dcc_decode.specs.declared.fields.Fields.{Fields}
@@ -93,39 +95,42 @@ table_jump_modrm at (a ∷ b ∷ c ∷ d ∷ rest) l s n m k =
     let same : a ≡ 0xff = s in
     rw same (table_jump_modrm_at at b c d rest (other_byte 0xa4 b n) (other_byte 0xa5 b m) (other_byte 0xa7 b k))
 
+-- the jump by a register to the word behind the first two bytes
+abbrev jump_by : Reg → List ℕ → Option Instr
+jump_by r rest = Some (record { op = Table r (slice_index rest 2 + 256 * slice_index rest 3); len = 5 })
+
 -- the register that the third byte of a table jump names
+table_jump :
+    (byte : ℕ) (r : Reg) (at : ℕ) (rest : List ℕ)
+    → ((low high : ℕ) (more : List ℕ) → instruction_at at (0x2e ∷ 0xff ∷ byte ∷ low ∷ high ∷ more) ≡ jump_by r (0xff ∷ byte ∷ low ∷ high ∷ more))
+    → 4 ≤ length rest → slice_index rest 0 ≡ 0xff → slice_index rest 1 ≡ byte
+    → instruction_at at (0x2e ∷ rest) ≡ jump_by r rest
+table_jump byte r at [] jump l s n = absurd (omega arith)
+table_jump byte r at (a ∷ []) jump l s n = absurd (omega arith)
+table_jump byte r at (a ∷ b ∷ []) jump l s n = absurd (omega arith)
+table_jump byte r at (a ∷ b ∷ c ∷ []) jump l s n = absurd (omega arith)
+table_jump byte r at (a ∷ b ∷ c ∷ d ∷ rest) jump l s n =
+    let second : a ≡ 0xff = s in
+    let third : b ≡ byte = n in
+    rw (second, third) (jump c d rest)
+
 pub table_jump_si :
     (at : ℕ) (rest : List ℕ) → 4 ≤ length rest → slice_index rest 0 ≡ 0xff
-    → slice_index rest 1 ≡ 0xa4
-    → instruction_at at (0x2e ∷ rest) ≡ Some (record { op = Table Si (slice_index rest 2 + 256 * slice_index rest 3); len = 5 })
-unfolding instruction_at table
-table_jump_si at [] l s n = absurd (omega arith)
-table_jump_si at (a ∷ []) l s n = absurd (omega arith)
-table_jump_si at (a ∷ b ∷ []) l s n = absurd (omega arith)
-table_jump_si at (a ∷ b ∷ c ∷ []) l s n = absurd (omega arith)
-table_jump_si at (a ∷ b ∷ c ∷ d ∷ rest) l s n = let second : a ≡ 0xff = s in let third : b ≡ 0xa4 = n in rw (second, third) refl
+    → slice_index rest 1 ≡ 0xa4 → instruction_at at (0x2e ∷ rest) ≡ jump_by Si rest
+unfolding instruction_at table word_at
+table_jump_si at rest = table_jump 0xa4 Si at rest (λ low high more. refl)
 
 pub table_jump_di :
     (at : ℕ) (rest : List ℕ) → 4 ≤ length rest → slice_index rest 0 ≡ 0xff
-    → slice_index rest 1 ≡ 0xa5
-    → instruction_at at (0x2e ∷ rest) ≡ Some (record { op = Table Di (slice_index rest 2 + 256 * slice_index rest 3); len = 5 })
-unfolding instruction_at table
-table_jump_di at [] l s n = absurd (omega arith)
-table_jump_di at (a ∷ []) l s n = absurd (omega arith)
-table_jump_di at (a ∷ b ∷ []) l s n = absurd (omega arith)
-table_jump_di at (a ∷ b ∷ c ∷ []) l s n = absurd (omega arith)
-table_jump_di at (a ∷ b ∷ c ∷ d ∷ rest) l s n = let second : a ≡ 0xff = s in let third : b ≡ 0xa5 = n in rw (second, third) refl
+    → slice_index rest 1 ≡ 0xa5 → instruction_at at (0x2e ∷ rest) ≡ jump_by Di rest
+unfolding instruction_at table word_at
+table_jump_di at rest = table_jump 0xa5 Di at rest (λ low high more. refl)
 
 pub table_jump_bx :
     (at : ℕ) (rest : List ℕ) → 4 ≤ length rest → slice_index rest 0 ≡ 0xff
-    → slice_index rest 1 ≡ 0xa7
-    → instruction_at at (0x2e ∷ rest) ≡ Some (record { op = Table Bx (slice_index rest 2 + 256 * slice_index rest 3); len = 5 })
-unfolding instruction_at table
-table_jump_bx at [] l s n = absurd (omega arith)
-table_jump_bx at (a ∷ []) l s n = absurd (omega arith)
-table_jump_bx at (a ∷ b ∷ []) l s n = absurd (omega arith)
-table_jump_bx at (a ∷ b ∷ c ∷ []) l s n = absurd (omega arith)
-table_jump_bx at (a ∷ b ∷ c ∷ d ∷ rest) l s n = let second : a ≡ 0xff = s in let third : b ≡ 0xa7 = n in rw (second, third) refl
+    → slice_index rest 1 ≡ 0xa7 → instruction_at at (0x2e ∷ rest) ≡ jump_by Bx rest
+unfolding instruction_at table word_at
+table_jump_bx at rest = table_jump 0xa7 Bx at rest (λ low high more. refl)
 
 pub ruleset table_jump_rules = (table_jump_short, table_jump_other, table_jump_modrm, table_jump_si, table_jump_di, table_jump_bx)
 

@@ -2,7 +2,8 @@
 -- the table.
 use Rattle.std.specs.Prelude.{◌≡◌, ◌≤◌, ◌<◌, ℕ, ◌+◌, IsSomeAnd, ◌↔◌, Bool, if◌then◌else◌, ◌==◌, nat_le, IsTrue, List, [], ◌∷◌, length, find, Option, Some, None, option_map}
 use Rattle.dcc_prog.specs.declared.instr.Op.{Op}
-use Rattle.dcc_prog.specs.Operands.{byte_at, displacement_size, displacement_at}
+use Rattle.dcc_prog.specs.Bytes.{byte_at}
+use Rattle.dcc_prog.specs.Operands.{displacement_size, displacement_at}
 use Rattle.dcc_prog.specs.Table.{Parts, Row, ConstantForm, no_constant, byte_constant, word_constant, signed_constant, fits, constant_size, constant_at, row_displacement_size, row_length, row_parts, table, IsRow}
 use Rattle.dcc_decode.specs.declared.fields.Constant.{Constant}
 use Rattle.dcc_decode.specs.declared.fields.Constant.TheVariants.{Absent, Byte, Word, SignedByte}

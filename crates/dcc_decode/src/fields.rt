@@ -1,12 +1,13 @@
 //! The fields of an instruction: opcode, ModRM byte, displacement and constant.
 
 ghost use Rattle.std.specs.Prelude.{◌≡◌, ℕ, ◌+◌, ◌<◌, ◌≤◌, ◌%◌, ◌/◌, ◌&&◌, ◌==◌, length, IfSome, None};
-ghost use Rattle.dcc_prog.specs.Operands.{mod_field, reg_field, rm_field, word_at, byte_at, register, rm_operand, address, width_of, displacement_size};
+ghost use Rattle.dcc_prog.specs.Bytes.{byte_at};
+ghost use Rattle.dcc_prog.specs.Operands.{mod_field, reg_field, rm_field, register, rm_operand, address, width_of, displacement_size};
 ghost use Rattle.dcc_prog.specs.Table.{word_constant, constant_size, destination, source, reg, direct, target};
 ghost use Rattle.dcc_decode.specs.Reading.{form_of, parts_of, TellsModrm, TellsConstant, modrm_read, constant_read, ReadsHead, ReadsRows, FitsAsRead};
 
 use crate::operand;
-use dcc_num::Width;
+use dcc_num::{Width, sign8};
 use dcc_prog::{Ea, Operand};
 
 /// Which constant ends an instruction.
@@ -313,7 +314,7 @@ fn read_modrm(bytes: &[u8]) -> Option<(u8, u16, u8)>
     let modrm = *bytes.get(1)?;
     match operand::displacement_size(modrm) {
         0 => Some((modrm, 0, 2)),
-        1 => Some((modrm, operand::sign_extended(*bytes.get(2)?), 3)),
+        1 => Some((modrm, sign8(*bytes.get(2)?), 3)),
         _ => Some((modrm, read_word(bytes, 2)?, 4)),
     }
 }
@@ -344,11 +345,12 @@ fn read_constant(form: Constant, bytes: &[u8], index: usize) -> Option<u16>
         Constant::Absent => Some(0),
         Constant::Byte => Some(u16::from(*bytes.get(index)?)),
         Constant::Word => read_word(bytes, index),
-        Constant::SignedByte => Some(operand::sign_extended(*bytes.get(index)?)),
+        Constant::SignedByte => Some(sign8(*bytes.get(index)?)),
     }
 }
 
 // The word at an index, low byte first.
+#[tactic(auto, unfolding(dcc_prog::specs::Bytes::word_at))]
 fn read_word(bytes: &[u8], index: usize) -> Option<u16>
     requires { index ≤ 4 }
     ensures { result ≡ constant_read word_constant bytes.now index }

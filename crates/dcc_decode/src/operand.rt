@@ -2,7 +2,7 @@
 //! tables 4-8 to 4-10).
 
 ghost use Rattle.std.specs.Prelude.{◌≡◌, ◌<◌, length, get_or, None};
-ghost use Rattle.dcc_prog.specs.Operands.{word_register, byte_register, register, mod_field, reg_field, rm_field, is_direct, sign_extended, displacement_size, base_registers, index_registers, address, rm_operand};
+ghost use Rattle.dcc_prog.specs.Operands.{word_register, byte_register, register, mod_field, reg_field, rm_field, is_direct, displacement_size, base_registers, index_registers, address, rm_operand};
 
 use dcc_num::{Half, Reg, Width};
 use dcc_prog::{Ea, Operand};
@@ -41,17 +41,6 @@ pub fn register(width: Width, number: u8) -> Operand
     match width {
         Width::Byte => byte_register(number),
         Width::Word => Operand::Word(word_register(number)),
-    }
-}
-
-/// A byte as a word, with its sign bit in bits 15 to 8.
-pub fn sign_extended(byte: u8) -> u16
-    ensures { result ≡ sign_extended byte }
-{
-    if byte < 0x80 {
-        u16::from(byte)
-    } else {
-        u16::from(byte) | 0xff00
     }
 }
 

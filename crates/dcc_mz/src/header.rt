@@ -1,7 +1,8 @@
 //! The header of an MZ file.
 
 ghost use Rattle.std.specs.Prelude.{◌≡◌, ◌≤◌, ◌<◌, ◌+◌, ◌*◌, length};
-ghost use Rattle.dcc_prog.specs.MzImage.{HasHeader, pages_length, word_at};
+ghost use Rattle.dcc_prog.specs.Bytes.{word_at};
+ghost use Rattle.dcc_prog.specs.MzImage.{HasHeader, pages_length};
 
 use byteorder::{ByteOrder, LittleEndian};
 
@@ -38,7 +39,7 @@ pub struct Header {
 }
 
 /// The little-endian word at an offset in bytes.
-#[tactic(auto, unfolding(dcc_prog::specs::MzImage::word_at))]
+#[tactic(auto, unfolding(dcc_prog::specs::Bytes::word_at))]
 pub fn word(bytes: &[u8], at: usize) -> u16
     requires { at + 2 ≤ length bytes.now }
     ensures { result ≡ word_at bytes.now at }

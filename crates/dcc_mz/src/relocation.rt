@@ -1,17 +1,16 @@
 //! The relocations of an image.
 
 ghost use Rattle.std.specs.Prelude.{◌≡◌, ◌≤◌, ◌<◌, ◌+◌, length, OnOk, IfOk, IfErr, MatchOption};
-ghost use Rattle.dcc_prog.specs.MzImage.{HasGoodHeader, RelocationFits, RelocationsFit, image_length, loaded_segment, relocated_image, relocated_place, relocation_count, with_word_at, word_at};
+ghost use Rattle.dcc_prog.specs.Bytes.{with_word_at, word_at};
+ghost use Rattle.dcc_prog.specs.MzImage.{HasGoodHeader, RelocationFits, RelocationsFit, image_length, loaded_segment, relocated_image, relocated_place, relocation_count};
 ghost use Rattle.dcc_mz.specs.Fault.{IsRefusal, IsRefusalOrMemory};
 ghost use Rattle.dcc_mz.specs.Header.{IsHeaderOf};
 
 use crate::fault::MzFault;
 use crate::header::{Header, PARAGRAPH, word};
 use byteorder::{ByteOrder, LittleEndian};
+use dcc_prog::LOAD_SEGMENT;
 use std::alloc::Global;
-
-// The segment at which the image is loaded.
-const LOAD_SEGMENT: u16 = 0x0110;
 
 /// A segment that the file counts from the image's start, moved to where the image is loaded.
 pub fn loaded_segment(segment: u16) -> u16

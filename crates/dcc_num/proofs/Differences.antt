@@ -79,7 +79,8 @@ stands_once : (w : Width) (a : ℕ) (x y : ℤ) → Stands w a x → Stands w a 
 stands_once Byte a x y p q = grind (arith, ints, p.value, q.value, p.range.low, p.range.high, q.range.low, q.range.high)
 stands_once Word a x y p q = grind (arith, ints, p.value, q.value, p.range.low, p.range.high, q.range.low, q.range.high)
 
-wrapped_below : (w : Width) (z : ℤ) → wrapped_of w z < limit_of w
+-- the bits of a number fit the width
+pub wrapped_below : (w : Width) (z : ℤ) → wrapped_of w z < limit_of w
 wrapped_below Byte (pos n) = omega arith
 wrapped_below Byte (negsuc n) = omega arith
 wrapped_below Word (pos n) = omega arith

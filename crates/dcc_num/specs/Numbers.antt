@@ -56,6 +56,10 @@ sign_extension_of a = wrapped_of Word (signed_of Byte a)
 unfoldable pub fits_signed : Width → ℤ → Bool
 fits_signed w z = int_le (neg_ℤ (pos (half_of w))) z && int_lt z (pos (half_of w))
 
+-- no flag is set
+abbrev pub no_flags : Flags
+no_flags = record { cf = false; zf = false; sf = false; of = false }
+
 -- ZF and SF of a result, beside the given CF and OF
 unfoldable pub result_flags : Width → ℕ → Bool → Bool → Flags
 result_flags w r carry overflow = record { cf = carry; zf = r == 0; sf = has_sign w r; of = overflow }

@@ -74,3 +74,11 @@ pub struct Flags {
     /// Signed overflow.
     pub of: bool,
 }
+
+/// No flag is set.
+pub const NO_FLAGS: Flags = Flags {
+    cf: false,
+    zf: false,
+    sf: false,
+    of: false,
+};

@@ -4,6 +4,7 @@ use Rattle.std.proofs.Math.Nat.{mod-eq_of_lt}
 use Rattle.std.proofs.lemmas.List.{get_or-append-add, get_or_append_left, get_or-take, get_or-drop, length-replicate}
 use Rattle.dcc_prog.specs.declared.image.Image.{Image}
 use Rattle.dcc_prog.specs.declared.instr.Instr.{Instr}
+use Rattle.dcc_prog.specs.Load.{load_segment, image_address}
 use Rattle.dcc_prog.specs.MzImage.{IsImageOf, header_cs, header_ip, image_length, image_end, relocation_count}
 use Rattle.dcc_prog.specs.Table.{instruction_at}
 use Rattle.dcc_prog.specs.Machine.{State, loaded_memory, code_segment, physical, byte_in}
@@ -19,18 +20,18 @@ behind-replicate n ys j =
     ap (λ k. get_or (replicate n 0 ++ ys) k 0) e ∙ get_or-append-add (replicate n 0) ys j 0
 
 -- the byte of the image at an offset stands that far behind the image's physical address
-pub loaded-at : (bytes : List ℕ) (j : ℕ) → j < length bytes → get_or (loaded_memory bytes) (0x1100 + j) 0 ≡ get_or bytes j 0
+pub loaded-at : (bytes : List ℕ) (j : ℕ) → j < length bytes → get_or (loaded_memory bytes) (image_address + j) 0 ≡ get_or bytes j 0
 unfolding loaded_memory
 loaded-at bytes j within =
-    behind-replicate 0x1100 (bytes ++ replicate (1048576 - (0x1100 + length bytes)) 0) j
-    ∙ get_or_append_left bytes (replicate (1048576 - (0x1100 + length bytes)) 0) 0 j within
+    behind-replicate image_address (bytes ++ replicate (1048576 - (image_address + length bytes)) 0) j
+    ∙ get_or_append_left bytes (replicate (1048576 - (image_address + length bytes)) 0) 0 j within
 
 -- what the places of an image's code are bounded by
 pub record IsPlaced (image : Image) : Type 0 where
-  pub low : 0x0110 ≤ image.cs
+  pub low : load_segment ≤ image.cs
   pub high : image.cs < 16656
   pub short : image.code_len ≤ 65536
-  pub within : (image.cs - 0x0110) * 16 + image.code_len ≤ length image.bytes.items
+  pub within : (image.cs - load_segment) * 16 + image.code_len ≤ length image.bytes.items
 
 pub image-placed : (file : List ℕ) (image : Image) → IsImageOf file image → IsPlaced image
 image-placed file image h =
@@ -40,8 +41,8 @@ image-placed file image h =
     let small : length file ≤ 262144 = good.small_enough in
     let entry : header_cs file * 16 + header_ip file < image_length file = h.has_entry in
     let few : header_cs file < 16384 = omega arith in
-    let cs : image.cs ≡ header_cs file + 0x0110 =
-    let fits : header_cs file + 0x0110 < 65536 = omega arith in
+    let cs : image.cs ≡ header_cs file + load_segment =
+    let fits : header_cs file + load_segment < 65536 = omega arith in
     h.cs ∙ mod-eq_of_lt fits in
     let code = h.code_len in
     record {
@@ -55,16 +56,16 @@ image-placed file image h =
 pub length-code_of : (image : Image) → IsPlaced image → length (code_of image) ≡ image.code_len
 unfolding code_of
 length-code_of image placed =
-    let skipped = (image.cs - 0x0110) * 16 in
+    let skipped = (image.cs - load_segment) * 16 in
     length-take image.code_len (drop skipped image.bytes.items)
     ∙ (let d = length-drop skipped image.bytes.items in omega (arith, d, placed.within))
 
 -- the byte of the code at an offset
-code-at : (image : Image) (off : ℕ) → off < image.code_len → get_or (code_of image) off 0 ≡ get_or image.bytes.items ((image.cs - 0x0110) * 16 + off) 0
+code-at : (image : Image) (off : ℕ) → off < image.code_len → get_or (code_of image) off 0 ≡ get_or image.bytes.items ((image.cs - load_segment) * 16 + off) 0
 unfolding code_of
 code-at image off within =
-    get_or-take image.code_len (drop ((image.cs - 0x0110) * 16) image.bytes.items) off 0 within
-    ∙ get_or-drop ((image.cs - 0x0110) * 16) image.bytes.items off 0
+    get_or-take image.code_len (drop ((image.cs - load_segment) * 16) image.bytes.items) off 0 within
+    ∙ get_or-drop ((image.cs - load_segment) * 16) image.bytes.items off 0
 
 -- memory holds the image, and the code segment is the image's
 pub record HoldsImage (image : Image) (s : State) : Type 0 where
@@ -75,10 +76,10 @@ pub record HoldsImage (image : Image) (s : State) : Type 0 where
 code_byte-is : (image : Image) (s : State) (k : ℕ) → IsPlaced image → HoldsImage image s → s.ip + k < image.code_len → code_byte s k ≡ get_or (code_of image) (s.ip + k) 0
 code_byte-is image s k placed holds within =
     let off = s.ip + k in
-    let j = (image.cs - 0x0110) * 16 + off in
+    let j = (image.cs - load_segment) * 16 + off in
     let short = placed.short in
     let low : off % 65536 ≡ off = let le : off < 65536 = omega (arith, short, within) in mod-eq_of_lt le in
-    let at : physical image.cs off ≡ 0x1100 + j =
+    let at : physical image.cs off ≡ image_address + j =
     let le : image.cs * 16 + off < 1048576 = omega (arith, short, within, placed.high) in
     mod-eq_of_lt le ∙ omega (arith, placed.low) in
     let inside : j < length image.bytes.items = omega (arith, within, placed.within) in

@@ -10,7 +10,9 @@ use denote.RawPtr.{null_ptr}
 use Rattle.std.specs.declared.vec.Vec.{Vec}
 use Rattle.std.specs.declared.alloc.Global.{Global}
 use Rattle.dcc_prog.specs.declared.image.Image.{Image}
-use Rattle.dcc_prog.specs.MzImage.{FormatFault, HasEntry, HasGoodHeader, HasPages, HasSignature, IsFirstFault, IsImageOf, IsLoaded, RelocationFits, RelocationsFit, bad_pages, bad_relocation, byte_at, entry_outside, header_cs, header_ip, header_past_image, header_sp, header_ss, image_end, image_length, image_start, last_page_bytes, load_segment, loaded_segment, not_mz, page_count, relocated_image, relocated_place, relocation_count, relocation_entry, short, too_large, with_word_at, word_at}
+use Rattle.dcc_prog.specs.Bytes.{byte_at, word_at, with_word_at}
+use Rattle.dcc_prog.specs.Load.{load_segment}
+use Rattle.dcc_prog.specs.MzImage.{FormatFault, HasEntry, HasGoodHeader, HasPages, HasSignature, IsFirstFault, IsImageOf, IsLoaded, RelocationFits, RelocationsFit, bad_pages, bad_relocation, entry_outside, header_cs, header_ip, header_past_image, header_sp, header_ss, image_end, image_length, image_start, last_page_bytes, loaded_segment, not_mz, page_count, relocated_image, relocated_place, relocation_count, relocation_entry, short, too_large}
 
 -- writing a word keeps the length
 pub length-with_word_at : (bytes : List ℕ) (at word : ℕ) → length (with_word_at bytes at word) ≡ length bytes

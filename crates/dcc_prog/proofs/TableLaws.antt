@@ -6,7 +6,9 @@ use Rattle.std.specs.List.{list_all}
 use Rattle.std.proofs.lemmas.Bool.Decides.{nat_tests}
 use Rattle.dcc_prog.specs.declared.instr.Instr.{Instr}
 use Rattle.dcc_prog.specs.declared.instr.Op.{Op}
-use Rattle.dcc_prog.specs.Operands.{displacement_size, displacement_at, byte_at, word_at, sign_extended}
+use Rattle.dcc_num.specs.Numbers.{sign_extension_of}
+use Rattle.dcc_prog.specs.Bytes.{byte_at, word_at}
+use Rattle.dcc_prog.specs.Operands.{displacement_size, displacement_at}
 use Rattle.dcc_prog.specs.Table.{InstructionHasOneToSixBytes, InstructionDependsOnItsBytes, AtMostOneRowMatches, InstructionIsThatOfItsRow, Range, BytePattern, Row, Parts, in_range, fits_byte, fits, has_bytes, ConstantForm, constant_size, constant_at, row_displacement_size, row_length, matches, row_parts, row_instruction, table, instruction_at, IsRow, no_constant, byte_constant, word_constant, signed_constant}
 
 -- Tests ----------------------------------------------------------------------------------------
@@ -226,18 +228,19 @@ fits-agree (p ∷ ps) (suc n) (x ∷ xs) (y ∷ ys) e l h =
     and_both _ _ (rw same (and_left _ _ h)) (fits-agree ps n xs ys (cc) (omega arith) (and_right _ _ h))
 
 abbrev read_by : Bool → Bool → List ℕ → ℕ → ℕ
-read_by a b bytes i = if a then sign_extended (byte_at bytes i) else if b then word_at bytes i else 0
+read_by a b bytes i = if a then sign_extension_of (byte_at bytes i) else if b then word_at bytes i else 0
 
 word_at-agree : (n i : ℕ) (xs ys : List ℕ) → Agree n xs ys → i + 2 ≤ n → word_at ys i ≡ word_at xs i
+unfolding word_at
 word_at-agree n i xs ys h l =
     let low = h i (omega arith) in
-    let high = h (1 + i) (omega arith) in
+    let high = h (i + 1) (omega arith) in
     cc
 
 read_by-agree :
     (a b : Bool) (n i : ℕ) (xs ys : List ℕ) → Agree n xs ys
     → i + (if a then 1 else if b then 2 else 0) ≤ n → read_by a b ys i ≡ read_by a b xs i
-read_by-agree true b n i xs ys h l = ap sign_extended (h i (omega arith))
+read_by-agree true b n i xs ys h l = ap sign_extension_of (h i (omega arith))
 read_by-agree false true n i xs ys h l = word_at-agree n i xs ys h l
 read_by-agree false false n i xs ys h l = refl
 
@@ -252,7 +255,7 @@ constant_at-agree :
 constant_at-agree no_constant n i xs ys h l = refl
 constant_at-agree byte_constant n i xs ys h l = h i (omega arith)
 constant_at-agree word_constant n i xs ys h l = word_at-agree n i xs ys h l
-constant_at-agree signed_constant n i xs ys h l = ap sign_extended (h i (omega arith))
+constant_at-agree signed_constant n i xs ys h l = ap sign_extension_of (h i (omega arith))
 
 instruction-made :
     (o o' : Op) (n n' : ℕ) → o ≡ o' → n ≡ n'

@@ -2,15 +2,16 @@
 use Rattle.std.proofs.Common.{◌≡◌, ℕ, zero, suc, ◌+◌, ◌/◌, ◌%◌, ◌<◌, ◌≤◌, true, false, List, [], ◌∷◌, length, get_or, refl, sym, ◌∙◌, ap, subst, arith}
 use Rattle.std.specs.Prelude.{slice_get, IfSome, Option, Some, None, if◌then◌else◌, ◌==◌, nat_le}
 use Rattle.std.proofs.lemmas.Bool.{leb-true}
-use Rattle.std.proofs.lemmas.Bool.Decides.{nat_tests}
 use Rattle.dcc_num.specs.declared.Width.{Width}
 use Rattle.dcc_num.specs.declared.Width.TheVariants.{Byte as byte_width, Word as word_width}
-use Rattle.dcc_num.specs.Numbers.{limit_of}
+use Rattle.dcc_num.specs.Numbers.{limit_of, signed_of, sign_extension_of}
+use Rattle.dcc_num.proofs.Differences.{wrapped_below}
 use Rattle.dcc_prog.specs.declared.instr.Operand.{Operand}
 use Rattle.dcc_prog.specs.declared.instr.Operand.TheVariants.{Seg, Mem, Const}
 use Rattle.dcc_prog.specs.declared.instr.Instr.{Instr}
 use Rattle.dcc_prog.specs.Machine.{operand_width}
-use Rattle.dcc_prog.specs.Operands.{register, rm_operand, mod_field, reg_field, byte_at, sign_extended, address, width_of}
+use Rattle.dcc_prog.specs.Bytes.{byte_at, word_at}
+use Rattle.dcc_prog.specs.Operands.{register, rm_operand, mod_field, reg_field, address, width_of}
 use Rattle.dcc_prog.specs.Table.{BytePattern, Row, Parts, in_range, fits_byte, fits, has_bytes, ConstantForm, no_constant, byte_constant, word_constant, signed_constant, constant_at, row_displacement_size, row_length, row_parts, row_instruction, table, instruction_at, any_modrm, rm, rm8, rm16, reg, segment, r8, r16, al, ax, accumulator, imm8, imm16, imm, direct, destination, source, this_byte, register_operand}
 use Rattle.dcc_prog.specs.WellFormed.{IsOperand, AreOperands, IsWordOperand, IsOperation}
 use Rattle.dcc_prog.proofs.TableLaws.{and_left, and_right, instruction-row}
@@ -333,14 +334,19 @@ table-good =
 abbrev pub AreBytes : List ℕ → Type 0
 AreBytes bytes = (i : ℕ) → byte_at bytes i < 256
 
-extended-below : (byte : ℕ) → byte < 256 → sign_extended byte < 65536
-extended-below byte lt = grind (arith, nat_tests)
+extension-below : (byte : ℕ) → sign_extension_of byte < 65536
+unfolding sign_extension_of
+extension-below byte = wrapped_below word_width (signed_of byte_width byte)
+
+word-below : (bytes : List ℕ) (index : ℕ) → AreBytes bytes → word_at bytes index < 65536
+unfolding word_at
+word-below bytes index bs = omega (arith, bs index, bs (index + 1))
 
 constant-fits : (form : ConstantForm) (bytes : List ℕ) (index : ℕ) → AreBytes bytes → IsConstant form (constant_at form bytes index)
 constant-fits no_constant bytes index bs = refl
 constant-fits byte_constant bytes index bs = bs index
-constant-fits word_constant bytes index bs = omega (arith, bs index, bs (1 + index))
-constant-fits signed_constant bytes index bs = extended-below (byte_at bytes index) (bs index)
+constant-fits word_constant bytes index bs = word-below bytes index bs
+constant-fits signed_constant bytes index bs = extension-below (byte_at bytes index)
 
 fits-at : (patterns : List BytePattern) (bytes : List ℕ) (k : ℕ) → fits patterns bytes ≡ true → k < length patterns
     → fits_byte (get_or patterns k any_modrm) (byte_at bytes k) ≡ true

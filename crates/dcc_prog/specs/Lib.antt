@@ -1,3 +1,5 @@
+pub mod Bytes
+pub mod Load
 pub mod Machine
 pub mod Operations
 pub mod Dos

@@ -8,10 +8,12 @@ use Rattle.dcc_num.specs.declared.Reg.TheVariants.{Ax, Cx, Dx, Bx, Sp, Bp, Si, D
 use Rattle.dcc_num.specs.declared.Half.{Half}
 use Rattle.dcc_num.specs.declared.Half.TheVariants.{Low, High}
 use Rattle.dcc_num.specs.declared.Flags.{Flags}
+use Rattle.dcc_num.specs.Numbers.{no_flags}
 use Rattle.dcc_prog.specs.declared.image.Image.{Image}
 use Rattle.dcc_prog.specs.declared.instr.Ea.{Ea}
 use Rattle.dcc_prog.specs.declared.instr.Operand.{Operand}
 use Rattle.dcc_prog.specs.declared.instr.Operand.TheVariants.{Word, Byte, Seg, Mem, Const}
+use Rattle.dcc_prog.specs.Load.{prefix_segment, image_address}
 
 -- a state of the machine
 pub record State : Type 0 where
@@ -138,20 +140,16 @@ operand_width (Const width constant) = width
 
 -- The start.
 
--- memory with the load image at physical address 01100h and 0 elsewhere
+-- memory with the load image at its physical address and 0 elsewhere
 unfoldable pub loaded_memory : List ℕ → List ℕ
 loaded_memory bytes =
-    replicate 0x1100 0 ++ (bytes ++ replicate (1048576 - (0x1100 + length bytes)) 0)
-
--- no flag is set
-abbrev pub no_flags : Flags
-no_flags = record { cf = false; zf = false; sf = false; of = false }
+    replicate image_address 0 ++ (bytes ++ replicate (1048576 - (image_address + length bytes)) 0)
 
 -- the state in which the image is started, with this input: DS and ES hold the segment of the program prefix
 abbrev pub start_state : Image → List ℕ → State
 start_state image input = record {
   regs = 0 ∷ 0 ∷ 0 ∷ 0 ∷ image.sp ∷ 0 ∷ 0 ∷ 0 ∷ [];
-  segs = 0x0100 ∷ image.cs ∷ image.ss ∷ 0x0100 ∷ [];
+  segs = prefix_segment ∷ image.cs ∷ image.ss ∷ prefix_segment ∷ [];
   flags = no_flags;
   ip = image.ip;
   memory = loaded_memory image.bytes.items;

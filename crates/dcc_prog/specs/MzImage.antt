@@ -2,24 +2,10 @@
 -- file header"). A file is a list of bytes, and offsets count bytes from its start. The words of the header
 -- are little-endian. The extra paragraphs, the checksum, the overlay number and what follows the image are
 -- passed over.
-use Rattle.std.specs.Prelude.{◌≡◌, ◌≤◌, ◌<◌, ℕ, zero, suc, ◌+◌, ◌-◌, ◌*◌, ◌/◌, ◌%◌, ◌==◌, if◌then◌else◌, min, List, length, slice_index, slice_set, slice_range, All}
+use Rattle.std.specs.Prelude.{◌≡◌, ◌≤◌, ◌<◌, ℕ, zero, suc, ◌+◌, ◌-◌, ◌*◌, ◌%◌, ◌==◌, if◌then◌else◌, min, List, length, slice_range, All}
 use Rattle.dcc_prog.specs.declared.image.Image.{Image}
-
--- the byte at an offset, or 0 past the end
-abbrev pub byte_at : List ℕ → ℕ → ℕ
-byte_at bytes at = slice_index bytes at
-
--- the little-endian word at an offset
-unfoldable pub word_at : List ℕ → ℕ → ℕ
-word_at bytes at = byte_at bytes at + 256 * byte_at bytes (at + 1)
-
--- the bytes with a word written at an offset, its low byte first
-unfoldable pub with_word_at : List ℕ → ℕ → ℕ → List ℕ
-with_word_at bytes at word = slice_set (slice_set bytes at (word % 256)) (at + 1) (word / 256)
-
--- the segment at which DOS loads the image, in paragraphs of 16 bytes
-abbrev pub load_segment : ℕ
-load_segment = 0x0110
+use Rattle.dcc_prog.specs.Bytes.{byte_at, word_at, with_word_at}
+use Rattle.dcc_prog.specs.Load.{load_segment}
 
 -- a segment that the file counts from the image's start, moved to where the image is loaded
 abbrev pub loaded_segment : ℕ → ℕ

@@ -1,15 +1,17 @@
 -- What the bytes of an 8086 instruction say of its operands: registers by number, the fields of a
 -- ModRM byte, addresses, displacements and constants (8086 Family User's Manual, tables 4-8 to
 -- 4-10).
-use Rattle.std.specs.Prelude.{ℕ, ◌+◌, ◌*◌, ◌/◌, ◌%◌, Bool, if◌then◌else◌, ◌==◌, ◌&&◌, ◌||◌, nat_lt, List, [], ◌∷◌, get_or, Option, Some, None}
+use Rattle.std.specs.Prelude.{ℕ, ◌/◌, ◌%◌, Bool, if◌then◌else◌, ◌==◌, ◌&&◌, ◌||◌, nat_lt, List, [], ◌∷◌, get_or, Option, Some, None}
 use Rattle.dcc_num.specs.declared.Reg.{Reg}
 use Rattle.dcc_num.specs.declared.Reg.TheVariants.{Ax, Cx, Dx, Bx, Sp, Bp, Si, Di}
 use Rattle.dcc_num.specs.declared.Half.TheVariants.{Low, High}
 use Rattle.dcc_num.specs.declared.Width.{Width}
 use Rattle.dcc_num.specs.declared.Width.TheVariants.{Byte as byte_width, Word as word_width}
+use Rattle.dcc_num.specs.Numbers.{sign_extension_of}
 use Rattle.dcc_prog.specs.declared.instr.Ea.{Ea}
 use Rattle.dcc_prog.specs.declared.instr.Operand.{Operand}
 use Rattle.dcc_prog.specs.declared.instr.Operand.TheVariants.{Word, Byte, Mem}
+use Rattle.dcc_prog.specs.Bytes.{byte_at, word_at}
 
 -- the word register of a number from 0 to 7
 abbrev pub word_register : ℕ → Reg
@@ -39,18 +41,6 @@ reg_field modrm = modrm / 8 % 8
 abbrev pub rm_field : ℕ → ℕ
 rm_field modrm = modrm % 8
 
--- the byte at an index, and 0 past the end
-abbrev pub byte_at : List ℕ → ℕ → ℕ
-byte_at bytes index = get_or bytes index 0
-
--- the word at an index, low byte first
-abbrev pub word_at : List ℕ → ℕ → ℕ
-word_at bytes index = byte_at bytes index + 256 * byte_at bytes (1 + index)
-
--- a byte as a word, with its sign bit in bits 15 to 8
-abbrev pub sign_extended : ℕ → ℕ
-sign_extended byte = if nat_lt byte 128 then byte else byte + 0xff00
-
 -- whether the ModRM byte names a memory operand by a word displacement alone: mod 0, rm 6
 abbrev pub is_direct : ℕ → Bool
 is_direct modrm = (mod_field modrm == 0) && (rm_field modrm == 6)
@@ -65,7 +55,7 @@ displacement_size modrm =
 -- the displacement that stands at an index behind a ModRM byte
 abbrev pub displacement_at : ℕ → List ℕ → ℕ → ℕ
 displacement_at modrm bytes index =
-    if mod_field modrm == 1 then sign_extended (byte_at bytes index)
+    if mod_field modrm == 1 then sign_extension_of (byte_at bytes index)
     else if (mod_field modrm == 2) || is_direct modrm then word_at bytes index
     else 0
 

@@ -8,7 +8,7 @@ use Rattle.dcc_num.specs.declared.Reg.{Reg}
 use Rattle.dcc_num.specs.declared.Reg.TheVariants.{Ax, Cx, Dx, Bx, Sp}
 use Rattle.dcc_num.specs.declared.Half.TheVariants.{Low, High}
 use Rattle.dcc_num.specs.declared.Flags.{Flags}
-use Rattle.dcc_num.specs.Numbers.{limit_of, differ, sign_extension_of}
+use Rattle.dcc_num.specs.Numbers.{limit_of, differ, sign_extension_of, no_flags}
 use Rattle.dcc_num.specs.Sum.{sum_of, difference_of, negation_of, increment_of, decrement_of}
 use Rattle.dcc_num.specs.Logic.{conjunction_of, disjunction_of, exclusive_of}
 use Rattle.dcc_num.specs.Shift.{left_shift_of, right_shift_of, signed_shift_of, left_rotation_of, right_rotation_of, left_turn_of, right_turn_of}
@@ -26,7 +26,7 @@ use Rattle.dcc_prog.specs.declared.instr.Plain.{Plain}
 use Rattle.dcc_prog.specs.declared.instr.Plain.TheVariants.{Nop, Cbw, Cwd, Xlat, Clc, Stc, Cmc, Cli, Sti, Cld}
 use Rattle.dcc_prog.specs.declared.instr.Ea.{Ea}
 use Rattle.dcc_prog.specs.declared.instr.Operand.{Operand}
-use Rattle.dcc_prog.specs.Machine.{State, no_flags, half_of_word, word_with_half, word_in, with_word_in, code_segment, stack_segment, data_segment, byte_in, word_at_offset, with_word_at_offset, offset_of, operand_value, with_operand, operand_width}
+use Rattle.dcc_prog.specs.Machine.{State, half_of_word, word_with_half, word_in, with_word_in, code_segment, stack_segment, data_segment, byte_in, word_at_offset, with_word_at_offset, offset_of, operand_value, with_operand, operand_width}
 
 -- the run ends at the instruction at this offset
 abbrev pub with_end : End → ℕ → State → State

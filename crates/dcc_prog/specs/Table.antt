@@ -3,6 +3,7 @@
 use Rattle.std.specs.Prelude.{◌<◌, take, ◌≡◌, ◌≤◌, ◌↔◌, IsTrue, slice_get, filter, Some, ℕ, ◌+◌, ◌-◌, ◌/◌, ◌%◌, zero, suc, Bool, true, false, if◌then◌else◌, ◌==◌, ◌&&◌, nat_le, List, [], ◌∷◌, ◌++◌, length, get_or, map, find, Option, None, option_map}
 use Rattle.dcc_num.specs.declared.Reg.TheVariants.{Bx, Si, Di}
 use Rattle.dcc_num.specs.declared.Width.TheVariants.{Byte as byte_width, Word as word_width}
+use Rattle.dcc_num.specs.Numbers.{sign_extension_of}
 use Rattle.dcc_prog.specs.declared.instr.Alu.{Alu}
 use Rattle.dcc_prog.specs.declared.instr.Alu.TheVariants.{Add, Or, Adc, Sbb, And, Sub, Xor, Cmp, Test}
 use Rattle.dcc_prog.specs.declared.instr.Shift.{Shift}
@@ -17,7 +18,8 @@ use Rattle.dcc_prog.specs.declared.instr.Operand.TheVariants.{Seg, Mem, Const}
 use Rattle.dcc_prog.specs.declared.instr.Op.{Op}
 use Rattle.dcc_prog.specs.declared.instr.Op.TheVariants.{Alu as AluOp, Unary as UnaryOp, Shift as ShiftOp, Mov, Xchg, Lea, Push, Pop, Plain as PlainOp, Jump, Branch, Loop, LoopE, LoopNe, Jcxz, Table, Call, Ret, Int21}
 use Rattle.dcc_prog.specs.declared.instr.Instr.{Instr}
-use Rattle.dcc_prog.specs.Operands.{word_register, register, width_of, mod_field, reg_field, rm_field, byte_at, word_at, sign_extended, displacement_size, displacement_at, address, rm_operand}
+use Rattle.dcc_prog.specs.Bytes.{byte_at, word_at}
+use Rattle.dcc_prog.specs.Operands.{word_register, register, width_of, mod_field, reg_field, rm_field, displacement_size, displacement_at, address, rm_operand}
 
 -- A row of the table -------------------------------------------------------------------------
 
@@ -92,7 +94,7 @@ abbrev pub constant_at : ConstantForm → List ℕ → ℕ → ℕ
 constant_at no_constant bytes index = 0
 constant_at byte_constant bytes index = byte_at bytes index
 constant_at word_constant bytes index = word_at bytes index
-constant_at signed_constant bytes index = sign_extended (byte_at bytes index)
+constant_at signed_constant bytes index = sign_extension_of (byte_at bytes index)
 
 -- how many bytes of displacement an instruction of the row has
 abbrev pub row_displacement_size : Row → List ℕ → ℕ

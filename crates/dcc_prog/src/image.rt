@@ -3,22 +3,22 @@
 /// A loaded program, before its first step.
 #[derive(Drop)]
 pub struct Image {
-    /// The load image, with its relocations applied; it begins at physical address 01100h.
+    /// The load image, with its relocations applied; it begins at offset 0 of the load segment.
     pub bytes: Vec<u8>,
     /// The number of image bytes from offset 0 of the code segment on, at most 65,536.
     pub code_len: u32,
-    /// The code segment at the start, with the load segment 0110h added.
+    /// The code segment at the start, with the load segment added.
     pub cs: u16,
     /// The instruction pointer at the start, an offset in the code segment.
     pub ip: u16,
-    /// The stack segment at the start, with the load segment 0110h added.
+    /// The stack segment at the start, with the load segment added.
     pub ss: u16,
     /// The stack pointer at the start, an offset in the stack segment.
     pub sp: u16,
 }
 
-// The segment at which an image is loaded.
-const LOAD_SEGMENT: u16 = 0x0110;
+/// The segment at which DOS loads an image, in paragraphs of 16 bytes.
+pub const LOAD_SEGMENT: u16 = 0x0110;
 
 impl Image {
     ghost use Rattle.std.specs.Prelude.{◌≡◌, ◌≤◌, length};

@@ -8,7 +8,7 @@ pub mod procedure;
 pub mod refusal;
 
 pub use frame::{Cell, Cells, Exposed, Frame, Heights, Program};
-pub use image::Image;
+pub use image::{Image, LOAD_SEGMENT};
 pub use instr::{Alu, Cond, Ea, Instr, Op, Operand, Plain, Shift, Unary};
 pub use procedure::{Layout, Node, Proc};
 pub use refusal::{LimitName, Refusal};

@@ -2,12 +2,13 @@
 use Rattle.std.proofs.Common.{◌≡◌, ℕ, ◌+◌, ◌-◌, ◌≤◌, ◌^◌, List, [], ◌++◌, length, replicate, take, refl, ap, ◌∙◌, append_assoc, arith, length-append, vec_len}
 use Rattle.std.proofs.lemmas.List.{length-replicate, take_all}
 use Rattle.dcc_prog.specs.declared.image.Image.{Image}
+use Rattle.dcc_prog.specs.Load.{image_address}
 use Rattle.dcc_prog.specs.Machine.{loaded_memory}
 use Rattle.dcc_prog.specs.MzImage.{IsLoaded, relocation_count}
 use Rattle.dcc_prog.proofs.MzImageLaws.{length-relocated_image}
 
 -- a load image fits into memory
-pub loaded_fits : (image : Image) → IsLoaded image → 0x1100 + vec_len image.bytes ≤ 2 ^ 20
+pub loaded_fits : (image : Image) → IsLoaded image → image_address + vec_len image.bytes ≤ 2 ^ 20
 loaded_fits image loaded =
     let file = loaded.file in
     let header = loaded.is_image.good_header in
@@ -40,12 +41,12 @@ filled start size bytes none first second third m n empty le em en f s t =
     ∙ ap (λ (l : List ℕ). l ++ replicate (size - (start + length bytes)) 0) front
     ∙ append_assoc (replicate start 0) bytes (replicate (size - (start + length bytes)) 0)
 
-pub memory_is : (bytes none first second third : List ℕ) (m n : ℕ) → none ≡ [] → 0x1100 + length bytes ≤ 2 ^ 20
+pub memory_is : (bytes none first second third : List ℕ) (m n : ℕ) → none ≡ [] → image_address + length bytes ≤ 2 ^ 20
     → m ≡ length none → n ≡ length second
-    → first ≡ take 0x1100 none ++ replicate (0x1100 - m) 0
+    → first ≡ take image_address none ++ replicate (image_address - m) 0
     → second ≡ first ++ bytes
     → third ≡ take (2 ^ 20) second ++ replicate (2 ^ 20 - n) 0
     → third ≡ loaded_memory bytes
 unfolding loaded_memory
 memory_is bytes none first second third m n empty le em en f s t =
-    filled 0x1100 1048576 bytes none first second third m n empty (omega arith) em en f s t
+    filled image_address 1048576 bytes none first second third m n empty (omega arith) em en f s t

@@ -11,8 +11,8 @@ use crate::ending::Ending;
 use crate::machine::Machine;
 use crate::operand::half_of;
 use dcc_num::{
-    Flags, Half, Reg, Width, add, and, dec, div, idiv, imul, inc, mul, neg, or, rcl1, rcr1, rol,
-    ror, sar, shl, shr, sub, xor,
+    Flags, Half, NO_FLAGS, Reg, Width, add, and, dec, div, idiv, imul, inc, mul, neg, or, rcl1,
+    rcr1, rol, ror, sar, shl, shr, sub, xor,
 };
 use dcc_prog::{Alu, Operand, Shift, Unary};
 
@@ -144,12 +144,7 @@ impl Machine {
         match division {
             None => self.finish(Ending::Divide, at),
             Some((quotient, remainder)) => {
-                self.flags = Flags {
-                    cf: false,
-                    zf: false,
-                    sf: false,
-                    of: false,
-                };
+                self.flags = NO_FLAGS;
                 self.set_pair(w, quotient, remainder);
             }
         }

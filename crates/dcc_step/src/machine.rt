@@ -1,12 +1,13 @@
 //! The machine and its state.
 
 ghost use Rattle.std.specs.Prelude.{◌≡◌, ◌+◌, ◌<◌, ◌≤◌, ◌^◌, ℕ, List, [], vec_len, slice_index, IfOk};
+ghost use Rattle.dcc_prog.specs.Load.{image_address};
 ghost use Rattle.dcc_prog.specs.Machine.{start_state, word_in};
 ghost use Rattle.dcc_step.specs.Core.{with_console, state_of};
 
 use crate::ending::Ending;
-use dcc_num::{Flags, Reg};
-use dcc_prog::Image;
+use dcc_num::{Flags, NO_FLAGS, Reg};
+use dcc_prog::{Image, LOAD_SEGMENT};
 use std::alloc::{AllocError, Global};
 use std::marker::Model;
 
@@ -14,7 +15,7 @@ use std::marker::Model;
 const MEMORY_SIZE: usize = 0x10_0000;
 
 // The physical address at which the load image begins.
-const LOAD_ADDRESS: usize = 0x1100;
+const IMAGE_ADDRESS: usize = LOAD_SEGMENT as usize * 16;
 
 // The segment of the program prefix, in which DS and ES begin.
 const PREFIX_SEGMENT: u16 = 0x0100;
@@ -50,25 +51,20 @@ impl Model for Machine {
 }
 
 impl Machine {
-    /// The machine at the start of a loaded program: memory holds the load image at physical
-    /// address 01100h and 0 elsewhere.
+    /// The machine at the start of a loaded program: memory holds the load image from offset 0 of
+    /// the load segment on and 0 elsewhere.
     pub fn new(alloc: Global, image: &Image) -> Result<Machine, AllocError>
-        requires { 0x1100 + vec_len image.now.bytes ≤ 2 ^ 20 }
+        requires { image_address + vec_len image.now.bytes ≤ 2 ^ 20 }
         ensures { IfOk result (λ machine. (input : List ℕ) → with_console machine input [] ≡ start_state image.now input) }
     {
         let mut memory = Vec::with_capacity(alloc, MEMORY_SIZE)?;
-        memory.resize(LOAD_ADDRESS, 0)?;
+        memory.resize(IMAGE_ADDRESS, 0)?;
         memory.extend_from_slice(&image.bytes)?;
         memory.resize(MEMORY_SIZE, 0)?;
         Ok(Machine {
             regs: [0, 0, 0, 0, image.sp, 0, 0, 0],
             segs: [PREFIX_SEGMENT, image.cs, image.ss, PREFIX_SEGMENT],
-            flags: Flags {
-                cf: false,
-                zf: false,
-                sf: false,
-                of: false,
-            },
+            flags: NO_FLAGS,
             ip: image.ip,
             memory,
             end: Ending::Running,

@@ -3,19 +3,19 @@
 use crate::{Machine, Stepped};
 use dcc_io::{MemSink, MemSource};
 use dcc_num::Reg;
-use dcc_prog::Image;
+use dcc_prog::{Image, LOAD_SEGMENT};
 use std::alloc::{AllocError, Global};
 use std::process::Abort;
 use std::test::Fail;
 
-// A machine with this code at the start of its code segment, 0110h, and a stack in segment 0300h.
+// A machine with this code from the load segment on, and a stack in segment 0300h.
 fn machine(rt: &impl Abort, alloc: Global, code: &[u8]) -> Result<Machine, AllocError> {
     let bytes = code.to_vec(alloc)?;
     assert!(rt; bytes.len() <= 64);
     let image = Image {
         code_len: bytes.len() as u32,
         bytes,
-        cs: 0x0110,
+        cs: LOAD_SEGMENT,
         ip: 0,
         ss: 0x0300,
         sp: 0x0100,

@@ -1,41 +1,24 @@
 //! The status and the line of each answer.
 
-use super::files::{Answer, Faults, NO_FAULTS, PRINTS_A, answered, program};
+use super::files::{Answer, Faults, NO_FAULTS, PRINTS_A, answered, program, text};
 use std::alloc::{AllocError, Global};
 use std::process::Abort;
 use std::test::Fail;
 
-// The text of the program that prints A.
-const PRINTS_A_TEXT: &str = "#pragma dcc text 1
-#pragma dcc stack 0 0
-void start(void)
-{
-    unsigned int v1;
-    unsigned int v2;
-    unsigned int v3;
-    unsigned int v4;
-    unsigned int v5;
-    unsigned int v6;
-    v1 = 0U;
-    v2 = 0U;
-    v3 = 0U;
-    v4 = 0U;
-    v5 = 0U;
-    v6 = 0U;
-    v1 = 273U;
-    v3 = (v3 & 65280U) | 65U;
-    v1 = (v1 & 255U) | 512U;
-    dos_putc(v3);
-    v1 = 19459U;
-    dos_exit(v1);
-}
-";
-
 #[test]
 fn a_program_that_prints_has_this_text(rt: HostRuntime) -> Result<(), Fail> {
-    let done = answered(rt.alloc(), &["c", "ROW1.EXE"], &PRINTS_A, NO_FAULTS)?;
+    let alloc = rt.alloc();
+    let statements = [
+        "v3 = (v3 & 65280U) | 65U;",
+        "v1 = (v1 & 255U) | 512U;",
+        "dos_putc(v3);",
+        "v1 = 19459U;",
+        "dos_exit(v1);",
+    ];
+    let text = text(alloc, 1, &statements)?;
+    let done = answered(alloc, &["c", "ROW1.EXE"], &PRINTS_A, NO_FAULTS)?;
     assert_eq!(rt; done.status, 0);
-    assert_eq!(rt; done.out.as_slice(), PRINTS_A_TEXT.as_bytes());
+    assert_eq!(rt; done.out.as_slice(), text.as_bytes());
     assert_eq!(rt; done.err.as_slice(), b"".as_slice());
     Ok(())
 }

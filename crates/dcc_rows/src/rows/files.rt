@@ -1,9 +1,10 @@
-//! Files of programs, calls on them, and their runs.
+//! Files of programs, their texts, calls on them, and their runs.
 
 ghost use Rattle.std.specs.Prelude.{◌≤◌};
 
 use dcc_io::{MemShelf, MemSink, MemSource};
 use dcc_mz::load;
+use dcc_prog::LOAD_SEGMENT;
 use dcc_step::{Machine, Stepped};
 use dcc_top::top::dcc;
 use std::alloc::{AllocError, Global};
@@ -58,6 +59,41 @@ pub(super) fn program(rt: &impl Abort, alloc: Global, code: &[u8]) -> Result<Vec
     file.extend_from_slice(code)?;
     file.resize(length as usize, 0)?;
     Ok(file)
+}
+
+// What stands before the statements of a program's instructions.
+const HEAD: &str = "#pragma dcc text 1
+#pragma dcc stack 0 0
+void start(void)
+{
+    unsigned int v1;
+    unsigned int v2;
+    unsigned int v3;
+    unsigned int v4;
+    unsigned int v5;
+    unsigned int v6;
+    v1 = 0U;
+    v2 = 0U;
+    v3 = 0U;
+    v4 = 0U;
+    v5 = 0U;
+    v6 = 0U;
+";
+
+/// The text with these statements, where the image has that many paragraphs: AX takes the segment behind it.
+pub(super) fn text(
+    alloc: Global,
+    paragraphs: u16,
+    statements: &[&str],
+) -> Result<String, AllocError> {
+    let mut text = String::from_str(alloc, HEAD)?;
+    let segment = u32::from(LOAD_SEGMENT) + u32::from(paragraphs);
+    write!(text, "    v1 = {segment}U;\n")?;
+    for statement in statements {
+        write!(text, "    {statement}\n")?;
+    }
+    text.push_str("}\n")?;
+    Ok(text)
 }
 
 /// The numbers, from 1 on, of a fetch, of a read and of writes that fail; 0 where none does.

@@ -1,34 +1,14 @@
 //! What each built instruction does, and its statements.
 
-use super::files::{NO_FAULTS, answered, paragraphs, program, run_file};
+use super::files::{NO_FAULTS, answered, paragraphs, program, run_file, text};
 use dcc_step::Stepped;
-use std::alloc::{AllocError, Global};
 use std::test::Fail;
-
-// What stands before the statements of a program's instructions.
-const HEAD: &str = "#pragma dcc text 1
-#pragma dcc stack 0 0
-void start(void)
-{
-    unsigned int v1;
-    unsigned int v2;
-    unsigned int v3;
-    unsigned int v4;
-    unsigned int v5;
-    unsigned int v6;
-    v1 = 0U;
-    v2 = 0U;
-    v3 = 0U;
-    v4 = 0U;
-    v5 = 0U;
-    v6 = 0U;
-";
 
 // The code behind the instructions that set DS, its output and exit code, and its statements. The reference
 // gives the same output and exit code for the file and for the text with these statements.
 type StatementRow = (&'static [u8], &'static [u8], u8, &'static [&'static str]);
 
-static STATEMENTS: [StatementRow; 11] = [
+static STATEMENTS: [StatementRow; 12] = [
     // MOV, and ADD of a register in the encoding 0x03.
     (
         b"\xB8\x40\x00\xBB\x01\x00\x03\xC3\x8B\xD0\xB4\x02\xCD\x21\xB8\x02\x4C\xCD\x21",
@@ -206,6 +186,33 @@ static STATEMENTS: [StatementRow; 11] = [
             "dos_exit(v1);",
         ],
     ),
+    // Both halves of BX, and sums and differences of it, SI and DI.
+    (
+        b"\xBE\x41\x00\xBF\x05\x00\xB3\x07\xB7\x01\x01\xFB\x01\xDE\x89\xF2\xB6\xAB\xB4\x02\xCD\x21\x29\xFE\x83\xC7\xFC\x2B\xF3\x03\xF7\x8B\xD6\xCD\x21\x8B\xC7\xB4\x4C\xCD\x21",
+        b"M=",
+        1,
+        &[
+            "v5 = 65U;",
+            "v6 = 5U;",
+            "v4 = (v4 & 65280U) | 7U;",
+            "v4 = (v4 & 255U) | 256U;",
+            "v4 = v4 + v6;",
+            "v5 = v5 + v4;",
+            "v3 = v5;",
+            "v3 = (v3 & 255U) | 43776U;",
+            "v1 = (v1 & 255U) | 512U;",
+            "dos_putc(v3);",
+            "v5 = v5 - v6;",
+            "v6 = v6 + 65532U;",
+            "v5 = v5 - v4;",
+            "v5 = v5 + v6;",
+            "v3 = v5;",
+            "dos_putc(v3);",
+            "v1 = v6;",
+            "v1 = (v1 & 255U) | 19456U;",
+            "dos_exit(v1);",
+        ],
+    ),
     // AX is still the segment that DS was set to.
     (
         b"\xB4\x4C\xCD\x21",
@@ -217,18 +224,6 @@ static STATEMENTS: [StatementRow; 11] = [
 
 fn statements() -> &'static [StatementRow] {
     &STATEMENTS
-}
-
-// The text with these statements, where the image has that many paragraphs: AX takes the segment behind it.
-fn text(alloc: Global, paragraphs: u16, statements: &[&str]) -> Result<String, AllocError> {
-    let mut text = String::from_str(alloc, HEAD)?;
-    let segment = 0x0110 + u32::from(paragraphs);
-    write!(text, "    v1 = {segment}U;\n")?;
-    for statement in statements {
-        write!(text, "    {statement}\n")?;
-    }
-    text.push_str("}\n")?;
-    Ok(text)
 }
 
 #[test]

@@ -27,6 +27,12 @@ fn assigns(alloc: Global, word: &str, e: CExpr) -> Result<CStmt, AllocError> {
     Ok(CStmt::Assign(name(alloc, word)?, e))
 }
 
+// `word = word operator other;`.
+fn combines(alloc: Global, word: &str, operator: CBin, other: &str) -> Result<CStmt, AllocError> {
+    let value = binary(alloc, operator, name(alloc, word)?, name(alloc, other)?)?;
+    assigns(alloc, word, value)
+}
+
 // `word = (word & mask) | n;`.
 fn takes_half(alloc: Global, word: &str, mask: u32, n: u32) -> Result<CStmt, AllocError> {
     let kept = binary(alloc, CBin::And, name(alloc, word)?, number(mask))?;
@@ -99,12 +105,11 @@ fn prints_a(alloc: Global) -> Result<Vec<CStmt>, AllocError> {
 
 // The statements of the program that prints a sum.
 fn prints_a_sum(alloc: Global) -> Result<Vec<CStmt>, AllocError> {
-    let sum = binary(alloc, CBin::Add, name(alloc, "v1")?, name(alloc, "v4")?)?;
     let statements = vec![in alloc;
         assigns(alloc, "v1", number(274))?,
         assigns(alloc, "v1", number(64))?,
         assigns(alloc, "v4", number(1))?,
-        assigns(alloc, "v1", sum)?,
+        combines(alloc, "v1", CBin::Add, "v4")?,
         assigns(alloc, "v3", name(alloc, "v1")?)?,
         takes_half(alloc, "v1", 255, 512)?,
         calls(alloc, "dos_putc", "v3")?,
@@ -114,23 +119,58 @@ fn prints_a_sum(alloc: Global) -> Result<Vec<CStmt>, AllocError> {
     Ok(statements)
 }
 
+// The statements of the program that prints two differences.
+fn prints_differences(alloc: Global) -> Result<Vec<CStmt>, AllocError> {
+    let statements = vec![in alloc;
+        assigns(alloc, "v1", number(274))?,
+        assigns(alloc, "v2", number(1))?,
+        assigns(alloc, "v3", number(68))?,
+        combines(alloc, "v3", CBin::Sub, "v2")?,
+        takes_half(alloc, "v1", 255, 512)?,
+        calls(alloc, "dos_putc", "v3")?,
+        combines(alloc, "v3", CBin::Sub, "v2")?,
+        calls(alloc, "dos_putc", "v3")?,
+        assigns(alloc, "v1", number(19457))?,
+        calls(alloc, "dos_exit", "v1")?,
+    ]?;
+    Ok(statements)
+}
+
+// The statements of the program that exits with the low byte of its segment.
+fn exits_with_its_segment(alloc: Global) -> Result<Vec<CStmt>, AllocError> {
+    let statements = vec![in alloc;
+        assigns(alloc, "v1", number(273))?,
+        takes_half(alloc, "v1", 255, 19456)?,
+        calls(alloc, "dos_exit", "v1")?,
+    ]?;
+    Ok(statements)
+}
+
 // The code of the program that prints a sum, behind the instructions that set DS.
 const SUM: &[u8] = b"\xB8\x40\x00\xBB\x01\x00\x03\xC3\x8B\xD0\xB4\x02\xCD\x21\xB8\x02\x4C\xCD\x21";
 
-// The text with these statements and the file both print A and exit with the code.
+// The same of the program that prints two differences.
+const DIFFERENCES: &[u8] =
+    b"\xB9\x01\x00\xBA\x44\x00\x29\xCA\xB4\x02\xCD\x21\x2B\xD1\xCD\x21\xB8\x01\x4C\xCD\x21";
+
+// The same of the program that exits with its segment.
+const LEAVES: &[u8] = b"\xB4\x4C\xCD\x21";
+
+// The text with these statements and the file both put out these bytes and exit with the code.
 fn check_runs(
     rt: &impl Abort,
     alloc: Global,
     statements: Vec<CStmt>,
     file: &Vec<u8>,
+    output: &[u8],
     exit: u8,
 ) -> Result<(), Fail> {
     let unit = text(alloc, statements)?;
     let of_text = run(alloc, &unit, &[], 0xAAAA, 100)?;
-    assert_eq!(rt; of_text.out.as_slice(), b"A".as_slice());
+    assert_eq!(rt; of_text.out.as_slice(), output);
     assert_eq!(rt; of_text.end, End::Exit(exit));
     let (ended, out) = run_file(rt, alloc, file)?;
-    assert_eq!(rt; out.as_slice(), b"A".as_slice());
+    assert_eq!(rt; out.as_slice(), output);
     assert_eq!(rt; ended, Stepped::Exit(exit));
     Ok(())
 }
@@ -138,8 +178,13 @@ fn check_runs(
 #[test]
 fn texts_print_and_exit_as_their_programs_do(rt: HostRuntime) -> Result<(), Fail> {
     let alloc = rt.alloc();
-    check_runs(&rt, alloc, prints_a(alloc)?, &PRINTS_A.to_vec(alloc)?, 3)?;
+    let file = PRINTS_A.to_vec(alloc)?;
+    check_runs(&rt, alloc, prints_a(alloc)?, &file, b"A", 3)?;
     let file = program(&rt, alloc, SUM)?;
-    check_runs(&rt, alloc, prints_a_sum(alloc)?, &file, 2)?;
+    check_runs(&rt, alloc, prints_a_sum(alloc)?, &file, b"A", 2)?;
+    let file = program(&rt, alloc, DIFFERENCES)?;
+    check_runs(&rt, alloc, prints_differences(alloc)?, &file, b"CB", 1)?;
+    let file = program(&rt, alloc, LEAVES)?;
+    check_runs(&rt, alloc, exits_with_its_segment(alloc)?, &file, b"", 17)?;
     Ok(())
 }
