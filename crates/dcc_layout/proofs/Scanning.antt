@@ -1,5 +1,5 @@
 -- How the search for a prelude goes on: what it has passed and what it keeps.
-use Rattle.std.proofs.Common.{◌≡◌, ℕ, ◌+◌, ◌≤◌, Bool, true, false, List, [], ◌∷◌, ◌++◌, length, refl, sym, ap, ◌∙◌, subst, append_assoc, arith}
+use Rattle.std.proofs.Common.{◌≡◌, ℕ, ◌+◌, true, false, List, [], ◌∷◌, ◌++◌, refl, sym, ap, ◌∙◌, subst, append_assoc}
 use Rattle.std.proofs.lemmas.List.{append-nil}
 use Rattle.dcc_prog.specs.declared.image.Image.{Image}
 use Rattle.dcc_prog.specs.declared.instr.Instr.{Instr}
@@ -7,8 +7,8 @@ use Rattle.dcc_prog.specs.MzImage.{IsLoaded}
 use Rattle.dcc_prog.specs.Code.{code_of}
 use Rattle.dcc_prog.specs.Machine.{State, start_state}
 use Rattle.dcc_prog.specs.Step.{op_step}
-use Rattle.dcc_prog.specs.Layout.{is_prelude_form, may_end_prelude, IsFormAt, IsRun, end_of, ends_prelude, state_behind}
-use Rattle.dcc_prog.proofs.PreludeLaws.{NoFormAt, form-inside, run-append, run-of_append, end_of-append, none_ends, none_ends-push, ends_prelude-push, prelude-is}
+use Rattle.dcc_prog.specs.Layout.{is_prelude_form, may_end_prelude, IsFormAt, IsRun, end_of, ends_prelude}
+use Rattle.dcc_prog.proofs.PreludeLaws.{NoFormAt, run-append, run-of_append, end_of-append, none_ends, none_ends-push, ends_prelude-push, prelude-is}
 use Rattle.dcc_prog.proofs.PreludeSteps.{form-step, executed, executed-push, state_behind-is}
 use Rattle.dcc_layout.specs.declared.registers.Registers.{Registers}
 use Rattle.dcc_layout.specs.declared.prelude.Prelude.{Prelude}

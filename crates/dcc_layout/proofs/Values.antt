@@ -1,5 +1,5 @@
 -- The values of a layout, in the terms of what the code keeps of a prelude.
-use Rattle.std.proofs.Common.{◌≡◌, ℕ, ◌+◌, ◌-◌, ◌*◌, ◌<◌, ◌≤◌, Bool, true, false, List, [], min, refl, sym, ap, ◌∙◌, subst, arith}
+use Rattle.std.proofs.Common.{◌≡◌, ℕ, ◌+◌, ◌-◌, ◌*◌, ◌<◌, true, false, List, [], min, refl, sym, ap, ◌∙◌, arith}
 use Rattle.std.specs.List.{list_any}
 use Rattle.dcc_num.specs.declared.Reg.TheVariants.{Sp}
 use Rattle.dcc_prog.specs.declared.image.Image.{Image}
@@ -7,14 +7,14 @@ use Rattle.dcc_prog.specs.declared.procedure.Layout.{Layout}
 use Rattle.dcc_prog.specs.declared.instr.Instr.{Instr}
 use Rattle.dcc_prog.specs.MzImage.{IsLoaded}
 use Rattle.dcc_prog.specs.Code.{code_of}
-use Rattle.dcc_prog.specs.Machine.{State, word_in, stack_segment, data_segment, start_state}
-use Rattle.dcc_prog.specs.Layout.{writes_ds, end_of, state_behind, lowest_of_stack, IsLeftBy, IsSmall, HasLayout}
+use Rattle.dcc_prog.specs.Machine.{word_in, stack_segment, data_segment, start_state}
+use Rattle.dcc_prog.specs.Layout.{writes_ds, state_behind, lowest_of_stack, IsLeftBy, IsSmall, HasLayout}
 use Rattle.dcc_prog.proofs.MzImageLaws.{cs-loaded}
-use Rattle.dcc_prog.proofs.PreludeSteps.{executed, executed-data, state_behind-is}
+use Rattle.dcc_prog.proofs.PreludeSteps.{executed-data, state_behind-is}
 use Rattle.dcc_prog.proofs.LayoutLaws.{left-by}
 use Rattle.dcc_layout.specs.declared.registers.Registers.{Registers}
 use Rattle.dcc_layout.specs.declared.prelude.Prelude.{Prelude}
-use Rattle.dcc_layout.specs.Registers.{registers_of, state_of}
+use Rattle.dcc_layout.specs.Registers.{state_of}
 use Rattle.dcc_layout.specs.Prelude.{IsLeft}
 
 -- the values of the layout are those of what is kept

@@ -1,5 +1,5 @@
 -- Laws of layouts: at most one holds of an image, and one holds or none does.
-use Rattle.std.proofs.Common.{◌≡◌, ℕ, ◌+◌, ◌-◌, ◌*◌, ◌<◌, ◌≤◌, ◌⊎◌, inl, inr, true, false, min, List, sym, ap, ◌∙◌, refl, subst, arith}
+use Rattle.std.proofs.Common.{◌≡◌, ℕ, ◌+◌, ◌-◌, ◌*◌, ◌≤◌, ◌⊎◌, inl, inr, true, false, min, List, sym, ap, ◌∙◌, refl, subst, arith}
 use Rattle.std.proofs.lemmas.Bool.{cases_lt}
 use Rattle.std.specs.List.{list_any}
 use Rattle.dcc_num.specs.declared.Reg.TheVariants.{Sp}
@@ -113,23 +113,23 @@ layout_or_none image =
         none = λ other h. let left = left-by image prelude other found.1 h in absurd (omega (arith, left.ds, left.delta));
       })
       | inr above ↦
-        let left = layout-left image prelude above in
-        elim (small-or_not image l) [
-          | inr large ↦ inr (record {
-            entry = refl;
-            none = λ other h.
-            let same = values-once image prelude l other left (left-by image prelude other found.1 h) in
-            large (subst (λ k. IsSmall image k) same h.small);
-          })
-          | inl small ↦ elim (list_any (λ (i : Instr). writes_ds i.op) prelude) as (λ b. list_any (λ (i : Instr). writes_ds i.op) prelude ≡ b → ((layout : Layout) × HasLayout image layout) ⊎ LacksLayout image image.ip) [
-            | true ↦ λ t. inl (l, record { prelude = prelude; is_prelude = found.1; ds_written = t; left = left; small = small })
-            | false ↦ λ t. inr (record {
+          let left = layout-left image prelude above in
+          elim (small-or_not image l) [
+            | inr large ↦ inr (record {
               entry = refl;
               none = λ other h.
-              let same = prelude-once (code_of image) image.ip h.prelude prelude h.is_prelude found.1 in
-              let clash = sym t ∙ subst (λ p. list_any (λ (i : Instr). writes_ds i.op) p ≡ true) same h.ds_written in
-              cc;
+                  let same = values-once image prelude l other left (left-by image prelude other found.1 h) in
+                  large (subst (λ k. IsSmall image k) same h.small);
             })
-          ] refl
-        ]
+            | inl small ↦ elim (list_any (λ (i : Instr). writes_ds i.op) prelude) as (λ b. list_any (λ (i : Instr). writes_ds i.op) prelude ≡ b → ((layout : Layout) × HasLayout image layout) ⊎ LacksLayout image image.ip) [
+              | true ↦ λ t. inl (l, record { prelude = prelude; is_prelude = found.1; ds_written = t; left = left; small = small })
+              | false ↦ λ t. inr (record {
+                entry = refl;
+                none = λ other h.
+                    let same = prelude-once (code_of image) image.ip h.prelude prelude h.is_prelude found.1 in
+                    let clash = sym t ∙ subst (λ p. list_any (λ (i : Instr). writes_ds i.op) p ≡ true) same h.ds_written in
+                    cc;
+              })
+            ] refl
+          ]
     ]

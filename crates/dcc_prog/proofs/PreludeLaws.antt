@@ -30,10 +30,10 @@ form-or_none code at =
       | Some instr ↦ λ e. elim (is_prelude_form instr.op) as (λ b. is_prelude_form instr.op ≡ b → ((i : Instr) × IsFormAt code at i) ⊎ NoFormAt code at) [
         | true ↦ λ t. inl (instr, record { found = e; form = t })
         | false ↦ λ t. inr (λ i f.
-          let both = sym e ∙ f.found in
-          let same : instr ≡ i = cc in
-          let clash = sym t ∙ ap (λ (k : Instr). is_prelude_form k.op) same ∙ f.form in
-          cc)
+            let both = sym e ∙ f.found in
+            let same : instr ≡ i = cc in
+            let clash = sym t ∙ ap (λ (k : Instr). is_prelude_form k.op) same ∙ f.form in
+            cc)
       ] refl
     ] refl
 
@@ -87,9 +87,9 @@ whole-run (suc fuel) code at le =
     elim (form-or_none code at) [
       | inr none ↦ ([], tt, none)
       | inl (i, f) ↦
-        let b = form-inside code at i f in
-        let tail = whole-run fuel code (at + i.len) (omega (arith, b.0)) in
-        (i ∷ tail.0, (f, tail.1), tail.2)
+          let b = form-inside code at i f in
+          let tail = whole-run fuel code (at + i.len) (omega (arith, b.0)) in
+          (i ∷ tail.0, (f, tail.1), tail.2)
     ]
 
 -- Where a prelude ends.

@@ -1,12 +1,11 @@
 -- What the steps of a prelude do to the machine: they work on registers and flags alone.
-use Rattle.std.proofs.Common.{◌≡◌, ℕ, suc, ◌+◌, ◌%◌, ◌<◌, ◌≤◌, Bool, true, false, List, [], ◌∷◌, ◌++◌, length, drop, Some, refl, sym, ap, ◌∙◌, subst, arith}
+use Rattle.std.proofs.Common.{◌≡◌, ℕ, ◌+◌, ◌%◌, ◌<◌, true, false, List, [], ◌∷◌, ◌++◌, length, drop, Some, refl, sym, ap, ◌∙◌, subst, arith}
 use Rattle.std.proofs.Math.Nat.{mod-eq_of_lt}
 use Rattle.std.proofs.lemmas.Bool.{eqb-false, or_parts}
 use Rattle.std.proofs.lemmas.List.{get_or-set_other}
-use Rattle.std.specs.Prelude.{◌≢◌, ◌==◌, ◌||◌}
+use Rattle.std.specs.Prelude.{◌≢◌}
 use Rattle.std.specs.List.{list_any}
 use Rattle.dcc_run.specs.System.{after}
-use Rattle.dcc_num.specs.declared.Reg.{Reg}
 use Rattle.dcc_prog.specs.declared.image.Image.{Image}
 use Rattle.dcc_prog.specs.declared.instr.Alu.TheVariants.{Add, Sub}
 use Rattle.dcc_prog.specs.declared.instr.Shift.TheVariants.{Shl}
@@ -18,8 +17,8 @@ use Rattle.dcc_prog.specs.declared.instr.Instr.{Instr}
 use Rattle.dcc_prog.specs.MzImage.{IsLoaded}
 use Rattle.dcc_prog.specs.Code.{code_of}
 use Rattle.dcc_prog.specs.Table.{instruction_at}
-use Rattle.dcc_prog.specs.Machine.{State, word_in, code_segment, stack_segment, data_segment, start_state}
-use Rattle.dcc_prog.specs.Step.{code_bytes, op_step, instruction_step, step}
+use Rattle.dcc_prog.specs.Machine.{State, word_in, code_segment, data_segment, start_state}
+use Rattle.dcc_prog.specs.Step.{op_step, instruction_step, step}
 use Rattle.dcc_prog.specs.Layout.{is_data_segment, is_prelude_form, writes_ds, IsFormAt, IsRun, end_of, state_behind}
 use Rattle.dcc_prog.proofs.FetchLaws.{IsPlaced, image-placed, length-code_of, fetched-instruction}
 use Rattle.dcc_prog.proofs.MzImageLaws.{ip-loaded}

@@ -1,8 +1,8 @@
-use Rattle.std.proofs.Common.{◌≡◌, ℕ, ◌-◌, ◌<◌, ◌≤◌, Bool, true, false, List, length, take, drop, Option, Some, None, refl, sym, ap, ◌∙◌, subst, arith, length-drop}
+use Rattle.std.proofs.Common.{◌≡◌, ℕ, ◌-◌, ◌<◌, ◌≤◌, Bool, true, false, List, length, drop, Some, None, sym, ap, ◌∙◌, subst, arith, length-drop}
 use Rattle.std.specs.Prelude.{IfSome}
 use Rattle.std.specs.List.{slice_range}
 use Rattle.std.specs.Bool.{then_some}
-use Rattle.std.proofs.lemmas.Result.{OkIff-decides, Ok-from_Ok_iff}
+use Rattle.std.proofs.lemmas.Result.{OkIff-decides}
 use Rattle.std.proofs.lemmas.List.{take_all}
 use Rattle.dcc_prog.specs.declared.instr.Instr.{Instr}
 use Rattle.dcc_prog.specs.Table.{instruction_at}

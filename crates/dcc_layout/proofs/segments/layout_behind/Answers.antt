@@ -1,4 +1,4 @@
-use Rattle.std.proofs.Common.{◌≡◌, ℕ, ◌+◌, ◌-◌, ◌*◌, ◌<◌, ◌≤◌, min, Some, inl, inr, sym, ap, ◌∙◌, refl, arith}
+use Rattle.std.proofs.Common.{◌+◌, ◌-◌, ◌*◌, ◌<◌, min, inl, inr, sym, ap, ◌∙◌, refl, arith}
 use Rattle.std.proofs.lemmas.Result.{OkIff-decides}
 use Rattle.dcc_prog.specs.Layout.{lowest_of_stack}
 use Rattle.dcc_prog.proofs.MzImageLaws.{length-loaded, code_len-loaded}
