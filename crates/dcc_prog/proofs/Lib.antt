@@ -7,3 +7,5 @@ pub mod WellFormedLaws
 pub mod PreludeLaws
 pub mod PreludeSteps
 pub mod LayoutLaws
+pub mod TrailLaws
+pub mod ConstructLaws

@@ -1,15 +1,135 @@
 -- The constructs for which a program is not decompiled. Each kind has a number, and is a predicate of the image and an
 -- offset in its code segment.
-use Rattle.std.specs.Prelude.{◌≡◌, ℕ}
+use Rattle.std.specs.Prelude.{◌≡◌, ◌≢◌, ◌≤◌, ◌<◌, ◌⊎◌, ℕ, ◌+◌, ◌*◌, ◌==◌, Bool, true, false, not, ◌||◌, List, ◌∷◌, length, Option, Some, None}
+use Rattle.dcc_num.specs.declared.Reg.{Reg}
 use Rattle.dcc_prog.specs.declared.image.Image.{Image}
 use Rattle.dcc_prog.specs.declared.procedure.Layout.{Layout}
-use Rattle.dcc_prog.specs.Layout.{HasLayout}
+use Rattle.dcc_prog.specs.declared.instr.Operand.{Operand}
+use Rattle.dcc_prog.specs.declared.instr.Operand.TheVariants.{Seg}
+use Rattle.dcc_prog.specs.declared.instr.Op.{Op}
+use Rattle.dcc_prog.specs.declared.instr.Op.TheVariants.{Mov, Plain as PlainOp, Table, Call, Ret, Int21}
+use Rattle.dcc_prog.specs.Operands.{byte_at, reg_field}
+use Rattle.dcc_prog.specs.Layout.{HasLayout, is_control}
+use Rattle.dcc_prog.specs.Trail.{code_within, instruction_in, StandsAt, known_ah, table_number, IsTrail, IsNode, IsEntry}
+use Rattle.dcc_prog.specs.FrameForm.{is_frame_form}
+use Rattle.dcc_prog.specs.Prepared.{IsUnprepared}
+
+-- Kind 1: no layout.
 
 -- the offset is the entry, and no layout holds of the image
 pub record LacksLayout (image : Image) (at : ℕ) : Type 0 where
   pub entry : at ≡ image.ip
   pub none : (layout : Layout) → ¬ HasLayout image layout
 
--- a construct of this kind stands at the offset: 1, no layout
-abbrev pub IsConstruct : ℕ → Image → ℕ → Type 0
-IsConstruct kind image at = (kind ≡ 1) × LacksLayout image at
+-- Kinds 3 and 4: indirect jumps and calls.
+
+-- the bytes FFh and a ModRM byte with that reg field stand at the offset in the code
+pub record HasIndirect (image : Image) (layout : Layout) (at reg : ℕ) : Type 0 where
+  pub inside : at + 2 ≤ length (code_within image layout)
+  pub opcode : byte_at (code_within image layout) at ≡ 0xFF
+  pub reg_is : reg_field (byte_at (code_within image layout) (at + 1)) ≡ reg
+
+-- FF /4 or FF /5
+abbrev pub IsIndirectJump : Image → Layout → ℕ → Type 0
+IsIndirectJump image layout at = HasIndirect image layout at 4 ⊎ HasIndirect image layout at 5
+
+-- FF /2 or FF /3
+abbrev pub IsIndirectCall : Image → Layout → ℕ → Type 0
+IsIndirectCall image layout at = HasIndirect image layout at 2 ⊎ HasIndirect image layout at 3
+
+-- a jump through a table ends a trail, whose last instructions tell N, or don't
+pub record HasNumber (image : Image) (layout : Layout) (entry at : ℕ) (number : Option ℕ) : Type 0 where
+  pub before : List ℕ
+  pub trail : IsTrail image layout entry (at ∷ before)
+  pub register : Reg
+  pub table : ℕ
+  pub stands : StandsAt image layout at (Table register table)
+  pub number_is : table_number image layout register before ≡ number
+
+-- the N + 1 words of a table don't lie wholly in the code
+pub record LacksTable (image : Image) (layout : Layout) (at number : ℕ) : Type 0 where
+  pub register : Reg
+  pub table : ℕ
+  pub stands : StandsAt image layout at (Table register table)
+  pub outside : length (code_within image layout) < table + 2 * (number + 1)
+
+-- a jump through a table that has no form: a trail tells no N, two tell two, or the table of at most 256 words doesn't lie
+-- in the code
+pub data IsFormless (image : Image) (layout : Layout) (entry at : ℕ) : Type 0 where
+  no_number : HasNumber image layout entry at None → IsFormless image layout entry at
+  two_numbers : {number other : ℕ} → HasNumber image layout entry at (Some number) → HasNumber image layout entry at (Some other) → number ≢ other → IsFormless image layout entry at
+  no_table : {number : ℕ} → HasNumber image layout entry at (Some number) → number ≤ 255 → LacksTable image layout at number → IsFormless image layout entry at
+
+-- Kind 2: instructions outside of what is known.
+
+-- a MOV from or to a segment register, CLI, STI or CLD
+abbrev pub is_segment : Operand → Bool
+is_segment (Seg number) = true
+is_segment operand = false
+
+abbrev pub is_system : Op → Bool
+is_system (Mov to from) = is_segment to || is_segment from
+is_system (PlainOp operation) = is_control operation
+is_system op = false
+
+-- no instruction of the table lies in the code there, and no indirect jump or call stands there
+pub record IsUnknown (image : Image) (layout : Layout) (at : ℕ) : Type 0 where
+  pub none : instruction_in image layout at ≡ None
+  pub no_jump : ¬ IsIndirectJump image layout at
+  pub no_call : ¬ IsIndirectCall image layout at
+
+-- an instruction of the prelude's kind stands there, or one that uses SP or BP in no form that is allowed at any height
+pub record IsForeign (image : Image) (layout : Layout) (entry at : ℕ) : Type 0 where
+  pub op : Op
+  pub stands : StandsAt image layout at op
+  pub foreign : is_system op || not (is_frame_form image layout entry at op) ≡ true
+
+-- Kind 5: the number of a DOS call.
+
+-- the five numbers that are known
+abbrev pub is_dos_number : ℕ → Bool
+is_dos_number number =
+    (number == 0x01) || (number == 0x02) || (number == 0x08) || (number == 0x09) || (number == 0x4C)
+
+-- INT 21h ends a trail behind which AH is known, or isn't
+pub record HasAh (image : Image) (layout : Layout) (entry at : ℕ) (ah : Option ℕ) : Type 0 where
+  pub before : List ℕ
+  pub trail : IsTrail image layout entry (at ∷ before)
+  pub stands : StandsAt image layout at Int21
+  pub ah_is : known_ah image layout before ≡ ah
+
+pub data HasNoNumber (image : Image) (layout : Layout) (entry at : ℕ) : Type 0 where
+  not_known : HasAh image layout entry at None → HasNoNumber image layout entry at
+  other_number : {number : ℕ} → HasAh image layout entry at (Some number) → is_dos_number number ≡ false → HasNoNumber image layout entry at
+  two_numbers : {number other : ℕ} → HasAh image layout entry at (Some number) → HasAh image layout entry at (Some other) → number ≢ other → HasNoNumber image layout entry at
+
+-- Kind 11: returns from the entry procedure, and calls of it.
+
+pub data ReturnsFromEntry (image : Image) (layout : Layout) (entry at : ℕ) : Type 0 where
+  returns : {count : ℕ} → entry ≡ layout.start_ip → StandsAt image layout at (Ret count) → ReturnsFromEntry image layout entry at
+  calls : StandsAt image layout at (Call layout.start_ip) → ReturnsFromEntry image layout entry at
+
+-- All kinds.
+
+-- a construct of this kind stands at a node of the procedure with this entry: those that trails tell
+pub data IsAtNode (image : Image) (layout : Layout) (entry at : ℕ) : ℕ → Type 0 where
+  unknown : IsUnknown image layout at → IsAtNode image layout entry at 2
+  foreign : IsForeign image layout entry at → IsAtNode image layout entry at 2
+  indirect_jump : IsIndirectJump image layout at → IsAtNode image layout entry at 3
+  formless : IsFormless image layout entry at → IsAtNode image layout entry at 3
+  indirect_call : IsIndirectCall image layout at → IsAtNode image layout entry at 4
+  dos_number : HasNoNumber image layout entry at → IsAtNode image layout entry at 5
+  entry_return : ReturnsFromEntry image layout entry at → IsAtNode image layout entry at 11
+  division : IsUnprepared image layout entry at → IsAtNode image layout entry at 12
+
+-- the same at a node of some procedure that is reached
+pub record IsOfTrails (kind : ℕ) (image : Image) (layout : Layout) (at : ℕ) : Type 0 where
+  pub entry : ℕ
+  pub is_entry : IsEntry image layout entry
+  pub node : IsNode image layout entry at
+  pub stands : IsAtNode image layout entry at kind
+
+-- a construct of this kind stands at the offset
+pub data IsConstruct : ℕ → Image → ℕ → Type 0 where
+  lacks_layout : {image : Image} {at : ℕ} → LacksLayout image at → IsConstruct 1 image at
+  of_trails : {kind at : ℕ} {image : Image} {layout : Layout} → HasLayout image layout → IsOfTrails kind image layout at → IsConstruct kind image at

@@ -10,4 +10,9 @@ pub mod Table
 pub mod WellFormed
 pub mod Code
 pub mod Layout
+pub mod Writes
+pub mod Trail
+pub mod FrameForm
+pub mod Prepared
 pub mod Construct
+pub mod Limit

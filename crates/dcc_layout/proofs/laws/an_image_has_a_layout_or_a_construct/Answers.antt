@@ -1,12 +1,14 @@
-use Rattle.std.proofs.Common.{inl, inr, refl}
+use Rattle.std.proofs.Common.{inl, inr}
+use Rattle.dcc_prog.specs.Construct.{lacks_layout}
 use Rattle.dcc_prog.proofs.LayoutLaws.{layout_or_none}
+use Rattle.dcc_prog.proofs.ConstructLaws.{lacks-layout}
 use Rattle.dcc_layout.proofs.laws.an_image_has_a_layout_or_a_construct.Goals as goal
 
 pub returns : goal.returns
 returns c = record {
   one = λ image. elim (layout_or_none image) [
     | inl found ↦ inl (record { layout = found.0; holds = found.1 })
-    | inr none ↦ inr (refl, none)
+    | inr none ↦ inr (lacks_layout none)
   ];
-  not_both = λ image some construct. construct.1.none some.layout some.holds;
+  not_both = λ image some construct. (lacks-layout image image.ip construct).none some.layout some.holds;
 }

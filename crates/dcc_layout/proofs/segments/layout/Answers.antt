@@ -1,10 +1,12 @@
 use Rattle.std.proofs.Common.{◌≡◌, Some, None, Option, refl, sym, ap, ◌∙◌, subst}
-use Rattle.std.specs.Prelude.{IfErr, IfSome, Ok}
+use Rattle.std.specs.Prelude.{IfErr, IfSome, Ok, Err}
 use Rattle.std.specs.Option.{ok_or}
 use Rattle.dcc_prog.specs.declared.procedure.Layout.{Layout}
 use Rattle.dcc_prog.specs.declared.refusal.Refusal.TheVariants.{Construct}
 use Rattle.dcc_prog.specs.Layout.{HasLayout}
+use Rattle.dcc_prog.specs.Construct.{lacks_layout}
 use Rattle.dcc_prog.proofs.LayoutLaws.{layout-once}
+use Rattle.dcc_prog.proofs.ConstructLaws.{lacks-layout}
 use Rattle.dcc_layout.specs.Refusal.{IsRefusal}
 use Rattle.dcc_layout.proofs.segments.layout.Goals as goal
 
@@ -12,7 +14,7 @@ pub returns-clause-refused : goal.returns-clause-refused
 returns-clause-refused c =
     let image = c.args.image.now in
     let P : Option Layout → Type 0 = λ o. (o ≡ None → (layout : Layout) → ¬ HasLayout image layout) → IfErr (ok_or o (Construct 1 image.ip)) (IsRefusal image) in
-    let both : (o : Option Layout) → P o = λ o. elim o as P [ Some layout ↦ λ none. tt | None ↦ λ none. (refl, record { entry = refl; none = none refl }) ] in
+    let both : (o : Option Layout) → P o = λ o. elim o as P [ Some layout ↦ λ none. tt | None ↦ λ none. lacks_layout (record { entry = refl; none = none refl }) ] in
     subst (λ r. IfErr r (IsRefusal image)) (sym c.ok_or.ensures.value) (both c.layout_behind.result c.layout_behind.ensures.none)
 
 pub returns-clause-lays_out : goal.returns-clause-lays_out
@@ -21,3 +23,11 @@ returns-clause-lays_out c layout holds =
     let P : Option Layout → Type 0 = λ o. (o ≡ None → (l : Layout) → ¬ HasLayout image l) → IfSome o (HasLayout image) → ok_or o (Construct 1 image.ip) ≡ Ok layout in
     let both : (o : Option Layout) → P o = λ o. elim o as P [ Some found ↦ λ none some. ap Ok (layout-once image layout found holds some) | None ↦ λ none some. absurd (none refl layout holds) ] in
     c.ok_or.ensures.value ∙ both c.layout_behind.result c.layout_behind.ensures.none c.layout_behind.ensures.layout
+
+pub returns-clause-refuses : goal.returns-clause-refuses
+returns-clause-refuses c at construct =
+    let image = c.args.image.now in
+    let lacks = lacks-layout image at construct in
+    let P : Option Layout → Type 0 = λ o. IfSome o (HasLayout image) → ok_or o (Construct 1 image.ip) ≡ Err (Construct 1 at) in
+    let both : (o : Option Layout) → P o = λ o. elim o as P [ Some found ↦ λ some. absurd (lacks.none found some) | None ↦ λ some. ap (λ n. Err (Construct 1 n)) (sym lacks.entry) ] in
+    c.ok_or.ensures.value ∙ both c.layout_behind.result c.layout_behind.ensures.layout

@@ -1,0 +1,23 @@
+-- Laws of constructs.
+use Rattle.std.proofs.Common.{◌≡◌, ◌≤◌, ℕ, refl, arith}
+use Rattle.dcc_prog.specs.declared.image.Image.{Image}
+use Rattle.dcc_prog.specs.declared.procedure.Layout.{Layout}
+use Rattle.dcc_prog.specs.Construct.{LacksLayout, IsAtNode, unknown, foreign, indirect_jump, formless, indirect_call, dos_number, entry_return, division, IsConstruct, lacks_layout, of_trails}
+
+at_node-kind : {image : Image} {layout : Layout} {entry at kind : ℕ} → IsAtNode image layout entry at kind → 2 ≤ kind
+at_node-kind (unknown h) = omega arith
+at_node-kind (foreign h) = omega arith
+at_node-kind (indirect_jump h) = omega arith
+at_node-kind (formless h) = omega arith
+at_node-kind (indirect_call h) = omega arith
+at_node-kind (dos_number h) = omega arith
+at_node-kind (entry_return h) = omega arith
+at_node-kind (division h) = omega arith
+
+-- construct 1 is the lack of a layout
+first-lacks : {kind at : ℕ} {image : Image} → IsConstruct kind image at → kind ≡ 1 → LacksLayout image at
+first-lacks (lacks_layout none) first = none
+first-lacks (of_trails holds trails) first = absurd (let other = at_node-kind trails.stands in omega arith)
+
+pub lacks-layout : (image : Image) (at : ℕ) → IsConstruct 1 image at → LacksLayout image at
+lacks-layout image at construct = first-lacks construct refl

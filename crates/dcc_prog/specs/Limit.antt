@@ -1,0 +1,27 @@
+-- The counts that have a greatest number, as far as trails tell them.
+use Rattle.std.specs.Prelude.{◌≡◌, ◌≢◌, ◌≤◌, ℕ, ◌+◌, List, length, All, AllPairs, Some}
+use Rattle.dcc_prog.specs.declared.image.Image.{Image}
+use Rattle.dcc_prog.specs.declared.procedure.Layout.{Layout}
+use Rattle.dcc_prog.specs.declared.refusal.LimitName.{LimitName}
+use Rattle.dcc_prog.specs.declared.refusal.LimitName.TheVariants.{Procedures, Instructions, Total, Entries}
+use Rattle.dcc_prog.specs.Trail.{IsNode, IsEntry}
+use Rattle.dcc_prog.specs.Construct.{HasNumber}
+
+-- there are at least so many different values of which the predicate holds
+pub record HasMany {A : Type 0} (P : A → Type 0) (count : ℕ) : Type 0 where
+  pub values : List A
+  pub hold : All P values
+  pub distinct : AllPairs (λ x y. x ≢ y) values
+  pub count_is : length values ≡ count
+
+-- the second number is a node of the reached procedure whose entry is the first
+pub record IsNodeOf (image : Image) (layout : Layout) (place : ℕ × ℕ) : Type 0 where
+  pub is_entry : IsEntry image layout place.0
+  pub node : IsNode image layout place.0 place.1
+
+-- the count of this name, as it is told, is above its greatest number; of the first three one more than that number is told
+pub data IsAbove (image : Image) (layout : Layout) : LimitName → ℕ → Type 0 where
+  procedures : HasMany (IsEntry image layout) 513 → IsAbove image layout Procedures 513
+  instructions : {entry : ℕ} → IsEntry image layout entry → HasMany (IsNode image layout entry) 4097 → IsAbove image layout Instructions 4097
+  total : HasMany (IsNodeOf image layout) 32769 → IsAbove image layout Total 32769
+  entries : {entry at number : ℕ} → IsEntry image layout entry → HasNumber image layout entry at (Some number) → 256 ≤ number → IsAbove image layout Entries (number + 1)

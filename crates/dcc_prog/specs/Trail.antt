@@ -1,0 +1,177 @@
+-- Procedures: which instructions are reached from an entry. A trail is a list of offsets in the code segment that a run may
+-- pass one after another, and stands here with the newest first. Where it goes on rests on the instruction at its end; for
+-- INT 21h also on the constant that was last moved to AH, and for a jump through a table on the three instructions before.
+use Rattle.std.specs.Prelude.{◌≡◌, ℕ, ◌+◌, ◌*◌, ◌/◌, ◌%◌, ◌==◌, Bool, false, not, ◌&&◌, if◌then◌else◌, List, [], ◌∷◌, take, drop, map, Contains, Option, Some, None}
+use Rattle.std.specs.List.{range_with_len}
+use Rattle.dcc_num.specs.declared.Reg.{Reg}
+use Rattle.dcc_num.specs.declared.Reg.TheVariants.{Ax}
+use Rattle.dcc_num.specs.declared.Half.TheVariants.{High}
+use Rattle.dcc_prog.specs.declared.image.Image.{Image}
+use Rattle.dcc_prog.specs.declared.procedure.Layout.{Layout}
+use Rattle.dcc_prog.specs.declared.instr.Alu.TheVariants.{Cmp}
+use Rattle.dcc_prog.specs.declared.instr.Shift.TheVariants.{Shl}
+use Rattle.dcc_prog.specs.declared.instr.Cond.TheVariants.{A, Be}
+use Rattle.dcc_prog.specs.declared.instr.Operand.TheVariants.{Word, Byte, Const}
+use Rattle.dcc_prog.specs.declared.instr.Op.{Op}
+use Rattle.dcc_prog.specs.declared.instr.Op.TheVariants.{Alu as AluOp, Shift as ShiftOp, Mov, Jump, Branch, Loop, LoopE, LoopNe, Jcxz, Table, Call, Ret, Int21}
+use Rattle.dcc_prog.specs.declared.instr.Instr.{Instr}
+use Rattle.dcc_prog.specs.Code.{code_of}
+use Rattle.dcc_prog.specs.Operands.{byte_at}
+use Rattle.dcc_prog.specs.Table.{instruction_at}
+use Rattle.dcc_prog.specs.Writes.{is_same_register, writes_half}
+
+-- The code.
+
+-- the bytes of the code: those of the code segment below the end of the code
+abbrev pub code_within : Image → Layout → List ℕ
+code_within image layout = take layout.code_end (code_of image)
+
+-- the instruction that stands at an offset, wholly in the code, if any
+abbrev pub instruction_in : Image → Layout → ℕ → Option Instr
+instruction_in image layout at = instruction_at at (drop at (code_within image layout))
+
+-- this operation stands at the offset
+abbrev pub StandsAt : Image → Layout → ℕ → Op → Type 0
+StandsAt image layout at op = (instr : Instr) × (instruction_in image layout at ≡ Some instr) × (instr.op ≡ op)
+
+-- the offset behind an instruction, which wraps
+abbrev pub next_of : ℕ → Instr → ℕ
+next_of at instr = (at + instr.len) % 65536
+
+-- AH.
+
+-- the constant that a MOV to AH or AX puts into AH
+abbrev pub constant_to_ah : Op → Option ℕ
+constant_to_ah (Mov (Byte Ax High) (Const width constant)) = Some constant
+constant_to_ah (Mov (Word Ax) (Const width constant)) = Some (constant / 256)
+constant_to_ah op = None
+
+-- what is known of AH behind an instruction, by what is known before it
+abbrev pub ah_behind : Option Instr → Option ℕ → Option ℕ
+ah_behind None known = known
+ah_behind (Some instr) known = if writes_half instr.op Ax High then constant_to_ah instr.op else known
+
+-- what is known of AH behind a trail: the constant of the last instruction that writes AH, if it is a MOV of one
+abbrev pub known_ah : Image → Layout → List ℕ → Option ℕ
+known_ah image layout [] = None
+known_ah image layout (at ∷ before) = ah_behind (instruction_in image layout at) (known_ah image layout before)
+
+-- Tables.
+
+-- N, where the operation is `cmp r,N`
+abbrev pub compared_with : Reg → Op → Option ℕ
+compared_with r (AluOp Cmp (Word q) (Const width constant)) = if is_same_register r q then Some constant else None
+compared_with r op = None
+
+-- a JA whose next instruction stands at the offset and whose target doesn't, or a JBE the other way round
+abbrev pub is_bounds_test : Op → ℕ → ℕ → Bool
+is_bounds_test (Branch A target) next to = (next == to) && not (target == to)
+is_bounds_test (Branch Be target) next to = (target == to) && not (next == to)
+is_bounds_test op next to = false
+
+-- `shl r,1`
+abbrev pub is_doubling : Reg → Op → Bool
+is_doubling r (ShiftOp Shl (Word q) false) = is_same_register r q
+is_doubling r op = false
+
+-- N, where these three are `cmp r,N`, a bounds test that goes on to the third, which stands at the offset, and `shl r,1`
+abbrev pub number_of_window : Reg → Option Instr → ℕ → Option Instr → ℕ → Option Instr → Option ℕ
+number_of_window r (Some compare) test_at (Some test) shift_at (Some shift) =
+    if is_bounds_test test.op (next_of test_at test) shift_at && is_doubling r shift.op then compared_with r compare.op
+    else None
+number_of_window r _ _ _ _ _ = None
+
+-- N, where the last instructions of a trail are these three
+abbrev pub table_number : Image → Layout → Reg → List ℕ → Option ℕ
+table_number image layout r (shift ∷ test ∷ compare ∷ rest) =
+    number_of_window r (instruction_in image layout compare) test (instruction_in image layout test) shift (instruction_in image layout shift)
+table_number image layout r _ = None
+
+-- the word at an offset of the code segment, which wraps, low byte first; beyond the image there are zeros
+abbrev pub word_in_segment : Image → ℕ → ℕ
+word_in_segment image offset =
+    byte_at (code_of image) (offset % 65536) + 256 * byte_at (code_of image) ((offset + 1) % 65536)
+
+-- the words of a table from an offset on
+abbrev pub table_words : Image → ℕ → ℕ → List ℕ
+table_words image offset count = map (λ k. word_in_segment image (offset + 2 * k)) (range_with_len 0 count)
+
+-- the N + 1 words of a table, where N is told
+abbrev pub table_targets : Image → ℕ → Option ℕ → List ℕ
+table_targets image offset None = []
+table_targets image offset (Some number) = table_words image offset (number + 1)
+
+-- Successors.
+
+-- AH holds 4Ch, with which INT 21h ends the run
+abbrev pub is_exit : Option ℕ → Bool
+is_exit None = false
+is_exit (Some number) = number == 0x4C
+
+-- the successors of an operation, by the offset behind it, by what is known of AH and by the targets of its table. The
+-- target comes before the next instruction
+abbrev pub op_successors : Op → ℕ → Option ℕ → List ℕ → List ℕ
+op_successors (Jump target) next ah targets = target ∷ []
+op_successors (Branch condition target) next ah targets = target ∷ next ∷ []
+op_successors (Loop target) next ah targets = target ∷ next ∷ []
+op_successors (LoopE target) next ah targets = target ∷ next ∷ []
+op_successors (LoopNe target) next ah targets = target ∷ next ∷ []
+op_successors (Jcxz target) next ah targets = target ∷ next ∷ []
+op_successors (Table r offset) next ah targets = targets
+op_successors (Ret count) next ah targets = []
+op_successors Int21 next ah targets = if is_exit ah then [] else next ∷ []
+op_successors op next ah targets = next ∷ []
+
+-- the targets of the table through which an operation behind a trail jumps
+abbrev pub targets_of : Image → Layout → Op → List ℕ → List ℕ
+targets_of image layout (Table r offset) before = table_targets image offset (table_number image layout r before)
+targets_of image layout op before = []
+
+-- the successors of an instruction behind a trail; where none stands there are none
+abbrev pub instr_successors : Image → Layout → ℕ → List ℕ → Option Instr → List ℕ
+instr_successors image layout at before None = []
+instr_successors image layout at before (Some instr) =
+    op_successors instr.op (next_of at instr) (known_ah image layout before) (targets_of image layout instr.op before)
+
+-- the successors of a trail
+abbrev pub successors : Image → Layout → List ℕ → List ℕ
+successors image layout [] = []
+successors image layout (at ∷ before) = instr_successors image layout at before (instruction_in image layout at)
+
+-- Trails, nodes and edges of the procedure with an entry.
+
+-- the oldest offset is the entry, and each other one is a successor of the trail behind it
+abbrev pub IsTrail : Image → Layout → ℕ → List ℕ → Type 0
+IsTrail image layout entry [] = ⊥
+IsTrail image layout entry (at ∷ []) = at ≡ entry
+IsTrail image layout entry (at ∷ last ∷ rest) =
+    Contains (successors image layout (last ∷ rest)) at × IsTrail image layout entry (last ∷ rest)
+
+-- a trail ends at the offset
+pub record IsNode (image : Image) (layout : Layout) (entry at : ℕ) : Type 0 where
+  pub before : List ℕ
+  pub trail : IsTrail image layout entry (at ∷ before)
+
+-- a trail goes from one node to the other
+pub record IsEdge (image : Image) (layout : Layout) (entry from to : ℕ) : Type 0 where
+  pub before : List ℕ
+  pub trail : IsTrail image layout entry (to ∷ from ∷ before)
+
+-- one node alone has an edge to the other, which isn't the entry: to that one there is an edge from outside
+pub record IsSolePredecessor (image : Image) (layout : Layout) (entry from to : ℕ) : Type 0 where
+  pub edge : IsEdge image layout entry from to
+  pub sole : (other : ℕ) → IsEdge image layout entry other to → other ≡ from
+  pub inner : ¬ (to ≡ entry)
+
+-- Procedures.
+
+-- the entry procedure begins behind the prelude, the others at the targets of the calls that are reached
+pub data IsEntry (image : Image) (layout : Layout) : ℕ → Type 0 where
+  start : IsEntry image layout layout.start_ip
+  called : {entry at target : ℕ} → IsEntry image layout entry → IsNode image layout entry at → StandsAt image layout at (Call target) → IsEntry image layout target
+
+-- a node of a reached procedure
+pub record IsReached (image : Image) (layout : Layout) (at : ℕ) : Type 0 where
+  pub entry : ℕ
+  pub is_entry : IsEntry image layout entry
+  pub node : IsNode image layout entry at
