@@ -1,10 +1,11 @@
 //! Values and conversions of the C dialect (ISO/IEC 9899:1990, 6.2 and 6.3).
 
-ghost use Rattle.std.specs.Prelude.{◌≡◌, ℕ, ◌+◌, ◌-◌, ◌%◌, ◌^◌, ◌<◌, ◌≤◌, map, option_map, string_bytes};
+ghost use Rattle.std.specs.Prelude.{◌≡◌, ℕ, ◌+◌, ◌-◌, ◌%◌, ◌^◌, ◌<◌, ◌≤◌, true, List, map, option_map, string_bytes, Option, Some, None};
 ghost use Rattle.dcc_c.specs.Types.{bits_of, promoted, common_type, wrapped, extended, convert};
-ghost use Rattle.dcc_c.specs.Value.{held_by, assigned, binary_value, both_values, value_of};
+ghost use Rattle.dcc_c.specs.Tree.{Name};
+ghost use Rattle.dcc_c.specs.Value.{assigned, given, binary_value, both_values, value_of};
 ghost use Rattle.dcc_c.specs.Views.{expr_of};
-ghost use Rattle.dcc_c.specs.Plain.{number_of, binding_of};
+ghost use Rattle.dcc_c.specs.Plain.{number_of, binding_of, scope_over, covers_operator, covers_expr};
 
 use crate::syntax::{Base, CBin, CExpr};
 
@@ -94,10 +95,11 @@ pub fn convert(from: Base, to: Base, bits: u32) -> u32
     wrapped(to, extended(from, bits))
 }
 
-/// The value of an operator on two numbers of one type, where the operator has one.
+/// The value of an operator on two numbers of one type.
 fn binary_value(operator: CBin, base: Base, a: u32, b: u32) -> Option<Value>
-    requires { b < 2 ^ bits_of base }
-    ensures { option_map number_of result ≡ binary_value operator base a b }
+    requires covered { covers_operator operator ≡ true }
+    requires within { b < 2 ^ bits_of base }
+    ensures { given (option_map number_of result) ≡ binary_value operator base a b }
 {
     let bits = match operator {
         CBin::Or => a | b,
@@ -111,8 +113,9 @@ fn binary_value(operator: CBin, base: Base, a: u32, b: u32) -> Option<Value>
 }
 
 /// What the variable with the name holds.
-fn held_by(variables: &[Binding], name: &str) -> Option<Value>
-    ensures { option_map number_of result ≡ held_by (map binding_of variables.now) name.now }
+pub fn held_by(variables: &[Binding], name: &str) -> Option<Value>
+    ensures { (memory : List ℕ) →
+        given (option_map number_of result) ≡ value_of (scope_over variables.now memory) (Name name.now) }
 {
     for variable in variables {
         if variable.name.as_str() == name {
@@ -122,9 +125,11 @@ fn held_by(variables: &[Binding], name: &str) -> Option<Value>
     None
 }
 
-/// The value of an expression over these variables, where it has one.
+/// The value of a covered expression over these variables; none where a name is not one of them.
 pub fn value_of(variables: &[Binding], e: &CExpr) -> Option<Value>
-    ensures { option_map number_of result ≡ value_of (map binding_of variables.now) (expr_of e.now) }
+    requires { covers_expr (expr_of e.now) ≡ true }
+    ensures { (memory : List ℕ) →
+        given (option_map number_of result) ≡ value_of (scope_over variables.now memory) (expr_of e.now) }
 {
     match e {
         CExpr::Num(n, base) => Some(Value {
@@ -143,7 +148,8 @@ pub fn value_of(variables: &[Binding], e: &CExpr) -> Option<Value>
 
 /// The value of an operator: both operands are converted to their common type.
 fn both_values(operator: CBin, a: Value, b: Value) -> Option<Value>
-    ensures { option_map number_of result ≡ both_values operator (Some (number_of a)) (Some (number_of b)) }
+    requires { covers_operator operator ≡ true }
+    ensures { given (option_map number_of result) ≡ both_values operator (number_of a) (number_of b) }
 {
     let base = common_type(a.base, b.base);
     binary_value(
