@@ -3,3 +3,4 @@ pub mod LexingLaws
 pub mod WrittenLaws
 pub mod NameLaws
 pub mod PlainLaws
+mod Examples

@@ -1,24 +1,21 @@
 -- What a plain run does is what the text's run does.
-use Rattle.std.proofs.Common.{◌≡◌, ℕ, zero, suc, ◌+◌, Bool, true, false, ◌&&◌, List, [], ◌∷◌, ◌++◌, length, map, Option, Some, None, refl, sym, ap, ◌∙◌}
+use Rattle.std.proofs.Common.{◌≡◌, ℕ, Bool, true, false, ◌&&◌, List, [], ◌∷◌, ◌++◌, length, map, Option, Some, None, refl, sym, ap, ◌∙◌}
 use Rattle.std.proofs.lemmas.List.Folds.{list_all-map}
-use Rattle.std.specs.Prelude.{◌||◌, not, ◌==◌, is_some, option_map, if◌then◌else◌, codes}
+use Rattle.std.specs.Prelude.{not, ◌==◌, is_some, option_map, if◌then◌else◌}
 use Rattle.std.specs.List.{list_all}
 use Rattle.std.proofs.lemmas.List.{append-nil}
 use Rattle.std.proofs.lemmas.Bool.{and_parts}
-use Rattle.dcc_run.specs.End.{Exit, Stuck}
+use Rattle.dcc_run.specs.End.{Stuck}
 use Rattle.dcc_c.specs.declared.plain.PlainRun.{PlainRun}
 use Rattle.dcc_c.specs.declared.plain.values.Value.{Value as Held}
-use Rattle.dcc_c.specs.declared.syntax.Base.TheVariants.{Uchar}
 use Rattle.dcc_c.specs.declared.syntax.Class.{Class}
 use Rattle.dcc_c.specs.declared.syntax.Class.TheVariants.{Plain, Auto, Register}
-use Rattle.dcc_c.specs.Token.{same_bytes}
 use Rattle.dcc_c.specs.Types.{plain}
-use Rattle.dcc_c.specs.Tree.{Word, Expr, Name, Assign, Call, Variable, Function, Tree}
-use Rattle.dcc_c.specs.Value.{converted, Binding, Outcome, Gives, Undefined, given, Scope, value_of, ToVariable, target_of}
+use Rattle.dcc_c.specs.Tree.{Word, Expr, Name, Assign, Variable, Function, Tree}
+use Rattle.dcc_c.specs.Value.{Binding, Gives, Undefined, given, Scope, value_of, ToVariable, target_of}
 use Rattle.dcc_c.specs.Placement.{is_auto, local_places, params_of_call}
-use Rattle.dcc_c.specs.Dos.{Putc, Leave, dos_of}
-use Rattle.dcc_c.specs.Run.{Continuation, State, ended, on, global_binding, scope_of, first_binding, local_bindings, param_bindings, frame_of, takes, arguments_of, dos_step, dos_or_call_step, stmt_step}
-use Rattle.dcc_c.specs.Plain.{number_of, binding_of, scope_over, state_before, is_plain, is_single, covers_local, covers_line, covers_stmt, uncovered_function}
+use Rattle.dcc_c.specs.Run.{Continuation, State, ended, on, global_binding, scope_of, first_binding, local_bindings, param_bindings, frame_of, takes, stmt_step}
+use Rattle.dcc_c.specs.Plain.{number_of, binding_of, scope_over, state_before, is_plain, is_single, covers_local, covers_line, uncovered_function}
 use Rattle.dcc_c.specs.declared.syntax.Func.{Func}
 use Rattle.dcc_c.specs.declared.plain.coverage.Uncovered.TheVariants.{Parameters, Locals, Statements}
 use Rattle.dcc_c.specs.Views.{variable_of, function_of}

@@ -1,7 +1,7 @@
 -- Laws of the runs of texts.
-use Rattle.std.proofs.Common.{ℕ, Bool, true, false, List, [], ◌∷◌, ◌++◌, Option, Some, None, ap, inl, inr}
+use Rattle.std.proofs.Common.{ℕ, Bool, true, false, List, [], ◌∷◌, ◌++◌, Option, Some, None, ap}
 use Rattle.std.specs.Prelude.{◌||◌, if◌then◌else◌, is_some}
-use Rattle.dcc_run.specs.End.{Exit, Stuck, is_over}
+use Rattle.dcc_run.specs.End.{Stuck, is_over}
 use Rattle.dcc_run.specs.Prefix.{IsPrefix}
 use Rattle.dcc_run.specs.System.{IsLawful}
 use Rattle.dcc_run.proofs.PrefixLaws.{prefix_refl, prefix_append, prefix_trans}
@@ -9,7 +9,7 @@ use Rattle.dcc_c.specs.declared.syntax.CType.{CType}
 use Rattle.dcc_c.specs.Tree.{Word, Expr, Stmt, Assign, Call, If, While, DoWhile, Forever, Switch, Break, Continue, Goto, Label, Empty, Return, no_lines, line, Function, Tree}
 use Rattle.dcc_c.specs.Value.{Value, converted, Outcome, Gives, Divides, Undefined, given, Scope, value_of, Target, ToVariable, ToMemory, target_of}
 use Rattle.dcc_c.specs.Dos.{Dos, Putc, Getche, Getch, Puts, Leave, dos_of, dos_signature, string_at}
-use Rattle.dcc_c.specs.Run.{Continuation, ends_function, runs, tests, turns, ends_switch, State, Waiting, ended, goes_on, on, scope_of, takes, after_break, after_continue, after_goto, if_step, test_step, switch_step, jump_step, result_step, back_step, is_start, close_step, return_step, give_step, key_step, dos_step, arguments_of, result_target, enter_step, function_in, param_types, call_step, dos_or_call_step, stmt_step, step_at, step, text_system}
+use Rattle.dcc_c.specs.Run.{Continuation, ends_function, runs, tests, turns, ends_switch, State, Waiting, ended, goes_on, on, scope_of, takes, after_break, after_continue, after_goto, jump_step, result_step, back_step, is_start, close_step, return_step, give_step, key_step, dos_step, arguments_of, result_target, function_in, param_types, call_step, dos_or_call_step, stmt_step, step_at, text_system}
 
 -- a step that goes on with what an evaluation gives takes no output back where the rest does not
 on-grows : {A : Type 0} (o : Outcome A) (at : ℕ) (s : State) (next : A → State) →

@@ -6,11 +6,11 @@ use Rattle.std.proofs.lemmas.Bool.{and_parts, and_from, leb-true, le-leb, lt-leb
 use Rattle.dcc_c.specs.declared.syntax.Base.TheVariants.{Uint}
 use Rattle.dcc_c.specs.declared.syntax.CBin.{CBin}
 use Rattle.dcc_c.specs.declared.syntax.CBin.TheVariants.{OrOr}
-use Rattle.dcc_c.specs.Token.{Token, WordToken, Decimal, Mark, unsigned_suffix, is_word, is_word_byte, is_mark, ends_before, decimal_type}
+use Rattle.dcc_c.specs.Token.{WordToken, Decimal, Mark, unsigned_suffix, is_word, is_word_byte, is_mark, ends_before, decimal_type}
 use Rattle.dcc_c.specs.Lexing.{Placed, placed}
 use Rattle.dcc_c.specs.Tree.{Word, Expr, Number, Name, Binary, Stmt, Assign, Call, Lines, no_lines, line}
 use Rattle.dcc_c.specs.Parts.{stmts_in}
-use Rattle.dcc_c.specs.Grammar.{word, mark, keywords, is_among, is_name, binary_mark, strength, IsExpr, decimal as decimal_number, number as read_number, name as read_name, parentheses, binary, stronger, name_place, last_argument, call, outermost, IsStmt, assign, call_alone, AreLines, no_more, statement}
+use Rattle.dcc_c.specs.Grammar.{word, mark, keywords, is_among, is_name, binary_mark, strength, IsExpr, decimal as decimal_number, number as read_number, name as read_name, parentheses, binary, stronger, name_place, last_argument, call, outermost, assign, call_alone, AreLines, no_more, statement}
 use Rattle.dcc_c.specs.Written.{suffix_for, written_expr, written_stmt, written_lines, in_parentheses, is_compound}
 use Rattle.dcc_c.specs.Rules.{expr_depth, shallow_stmt, most_open}
 use Rattle.dcc_c.proofs.LexingLaws.{Piece, Space, Spelled, row_bytes, row_tokens, are_apart, text_bytes, text_tokens, is_text}
@@ -215,12 +215,12 @@ stmt_bytes : {stmt : Stmt} → IsSimpleStmt stmt → (rest : List ℕ) → row_b
 stmt_bytes (simple_assign {e} spelled is simple) rest =
     rw (expr_bytes simple rest (Spelled (Mark (codes ";")) ∷ [])) (ap (λ (bs : List ℕ). 32 ∷ 32 ∷ 32 ∷ 32 ∷ bs) (regroup spelled (written_expr e)))
   where
-    regroup : (x y : List ℕ) → x ++ 32 ∷ 61 ∷ 32 ∷ (y ++ 59 ∷ 10 ∷ rest) ≡ ((x ++ 32 ∷ 61 ∷ 32 ∷ (y ++ 59 ∷ [])) ++ 10 ∷ []) ++ rest
+    regroup : (x y : List ℕ) → x ++ 32 ∷ 61 ∷ 32 ∷ (y ++ 59 ∷ 10 ∷ rest) ≡ (x ++ 32 ∷ 61 ∷ 32 ∷ (y ++ 59 ∷ 10 ∷ [])) ++ rest
     regroup x y = simp append_assoc
 stmt_bytes (simple_call {e} function is simple) rest =
     rw (expr_bytes simple rest (Spelled (Mark (codes ")")) ∷ Spelled (Mark (codes ";")) ∷ [])) (ap (λ (bs : List ℕ). 32 ∷ 32 ∷ 32 ∷ 32 ∷ bs) (regroup function (written_expr e)))
   where
-    regroup : (x y : List ℕ) → x ++ 40 ∷ (y ++ 41 ∷ 59 ∷ 10 ∷ rest) ≡ ((x ++ 40 ∷ (y ++ 41 ∷ 59 ∷ [])) ++ 10 ∷ []) ++ rest
+    regroup : (x y : List ℕ) → x ++ 40 ∷ (y ++ 41 ∷ 59 ∷ 10 ∷ rest) ≡ (x ++ 40 ∷ (y ++ 41 ∷ 59 ∷ 10 ∷ [])) ++ rest
     regroup x y = simp append_assoc
 
 stmt_apart : {stmt : Stmt} → IsSimpleStmt stmt → (rest : List ℕ) → are_apart (stmt_row stmt) rest ≡ true

@@ -1,7 +1,7 @@
 -- The operators on numbers (ISO/IEC 9899:1990, 6.3.3 to 6.3.14), on two's complement bit patterns. What the standard
 -- leaves open is settled here: sums wrap, a negative number keeps its sign in a right shift, and a count that is
 -- negative or not below the width shifts all bits out.
-use Rattle.std.specs.Prelude.{ℕ, ◌+◌, ◌-◌, ◌*◌, ◌/◌, ◌%◌, ◌^◌, ◌==◌, Bool, true, false, ◌&&◌, ◌||◌, not, nat_le, nat_lt, if◌then◌else◌}
+use Rattle.std.specs.Prelude.{ℕ, ◌+◌, ◌-◌, ◌*◌, ◌/◌, ◌%◌, ◌^◌, ◌==◌, Bool, ◌&&◌, ◌||◌, not, nat_le, nat_lt, if◌then◌else◌}
 use Rattle.dcc_c.specs.declared.syntax.Base.{Base}
 use Rattle.dcc_c.specs.Types.{bits_of, is_signed, wrapped, is_negative}
 
@@ -57,5 +57,5 @@ shifted_left type n of_count count = if is_past type of_count count then 0 else 
 abbrev pub shifted_right : Base → ℕ → Base → ℕ → ℕ
 shifted_right type n of_count count =
     if is_negative type n then
-      complement type (if is_past type of_count count then 0 else complement type n / 2 ^ count)
+    complement type (if is_past type of_count count then 0 else complement type n / 2 ^ count)
     else if is_past type of_count count then 0 else n / 2 ^ count

@@ -1,6 +1,6 @@
 -- The grammar, by cases on the tokens (after ISO/IEC 9899:1990, 6.3, 6.5, 6.6 and 6.7). Each relation says that the
 -- first tokens of a list stand for a part of a tree, and what tokens are left behind them.
-use Rattle.std.specs.Prelude.{◌≡◌, ◌≤◌, ℕ, suc, Bool, true, false, ◌&&◌, ◌||◌, not, if◌then◌else◌, List, [], ◌∷◌, ◌++◌, map, codes, Option, Some, None, is_some}
+use Rattle.std.specs.Prelude.{◌≡◌, ◌≤◌, ℕ, suc, Bool, true, false, ◌&&◌, ◌||◌, not, if◌then◌else◌, List, [], ◌∷◌, ◌++◌, map, codes, Option, Some, None}
 use Rattle.std.specs.List.{list_any}
 use Rattle.dcc_c.specs.declared.syntax.Base.{Base}
 use Rattle.dcc_c.specs.declared.syntax.Base.TheVariants.{Schar, Uchar, Int, Uint, Long, Ulong}
@@ -217,7 +217,7 @@ mutual
         IsCall tokens function arguments (mark end (codes ";") ∷ rest) →
         IsStmt around depth tokens (Call None function arguments depth) depth rest
     call_into : {around : Around} {depth equals end : ℕ} {tokens right rest : List Placed} {place : Expr}
-      {function : Word} {arguments : List Expr} →
+        {function : Word} {arguments : List Expr} →
         IsPlace tokens place (mark equals (codes "=") ∷ right) →
         IsCall right function arguments (mark end (codes ";") ∷ rest) →
         IsStmt around depth tokens (Call (Some place) function arguments depth) depth rest
@@ -225,7 +225,7 @@ mutual
         IsExpr 0 tokens e (mark closing (codes ")") ∷ block) → IsBlock (in_block around) depth block body after rest →
         IsStmt around depth (word at (codes "if") ∷ mark opening (codes "(") ∷ tokens) (If e body no_lines) after rest
     if_else : {around : Around} {depth between after at opening closing other : ℕ} {tokens block second rest : List Placed}
-      {e : Expr} {body otherwise : Lines} →
+        {e : Expr} {body otherwise : Lines} →
         IsExpr 0 tokens e (mark closing (codes ")") ∷ block) →
         IsBlock (in_block around) depth block body between (word other (codes "else") ∷ second) →
         IsBlock (in_block around) between second otherwise after rest →
@@ -242,7 +242,7 @@ mutual
         IsBlock (in_loop around) depth block body after rest →
         IsStmt around depth all (Forever body) after rest
     switch : {around : Around} {depth after at opening closing brace end : ℕ} {tokens inside rest : List Placed} {e : Expr}
-      {arms last : Arms} →
+        {arms last : Arms} →
         IsExpr 0 tokens e (mark closing (codes ")") ∷ mark brace (codes "{") ∷ inside) →
         AreArms (in_switch around) depth inside arms last after (mark end (codes "}") ∷ rest) →
         (has_arm arms || has_arm last) ≡ true →
@@ -275,11 +275,11 @@ mutual
         around.blocks ≤ 200 → AreLines around false n tokens lines after rest →
         AreLines around false depth (placed at (Pragma depth_line) ∷ placed place (Decimal n plain_number) ∷ tokens) lines after rest
     label : {around : Around} {labelled : Bool} {depth after at colon : ℕ} {tokens rest : List Placed} {lines : Lines}
-      (name : Word) → is_name name ≡ true → around.blocks ≤ 200 →
+        (name : Word) → is_name name ≡ true → around.blocks ≤ 200 →
         AreLines around true depth tokens lines after rest →
         AreLines around labelled depth (word at name ∷ mark colon (codes ":") ∷ tokens) (line (Label name) at lines) after rest
     statement : {around : Around} {labelled : Bool} {depth between after at : ℕ} {token : Token}
-      {tokens others rest : List Placed} {stmt : Stmt} {lines : Lines} →
+        {tokens others rest : List Placed} {stmt : Stmt} {lines : Lines} →
         around.blocks ≤ 200 → IsStmt around depth (placed at token ∷ tokens) stmt between others →
         AreLines around false between others lines after rest →
         AreLines around labelled depth (placed at token ∷ tokens) (line stmt at lines) after rest
@@ -288,13 +288,13 @@ mutual
   pub data AreArms : Around → ℕ → List Placed → Arms → Arms → ℕ → List Placed → Type 0 where
     no_arm : {around : Around} {depth : ℕ} {rest : List Placed} → AreArms around depth rest no_arms no_arms depth rest
     case_arm : {around : Around} {depth between after leaves end : ℕ} {all tokens others rest : List Placed}
-      {cases : List ℕ} {body : Lines} {arms last : Arms} →
+        {cases : List ℕ} {body : Lines} {arms last : Arms} →
         AreCases all cases tokens →
         AreLines around false depth tokens body between (word leaves (codes "break") ∷ mark end (codes ";") ∷ others) →
         AreArms around between others arms last after rest →
         AreArms around depth all (arm cases body arms) last after rest
     default_arm : {around : Around} {depth between after at colon leaves end : ℕ} {tokens others rest : List Placed}
-      {body : Lines} {arms last : Arms} →
+        {body : Lines} {arms last : Arms} →
         AreLines around false depth tokens body between (word leaves (codes "break") ∷ mark end (codes ";") ∷ others) →
         AreArms around between others arms last after rest →
         AreArms around depth (word at (codes "default") ∷ mark colon (codes ":") ∷ tokens) arms (arm [] body last) after rest

@@ -14,5 +14,6 @@ pub mod Run
 pub mod Rules
 pub mod Text
 pub mod Written
+pub mod Numbered
 pub mod Views
 pub mod Plain

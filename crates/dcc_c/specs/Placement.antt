@@ -5,7 +5,7 @@ use Rattle.std.specs.List.{list_any}
 use Rattle.dcc_c.specs.declared.syntax.CType.{CType}
 use Rattle.dcc_c.specs.declared.syntax.CUn.TheVariants.{AddressOf}
 use Rattle.dcc_c.specs.declared.syntax.Class.{Class}
-use Rattle.dcc_c.specs.declared.syntax.Class.TheVariants.{Plain, Auto, Register}
+use Rattle.dcc_c.specs.declared.syntax.Class.TheVariants.{Auto, Register}
 use Rattle.dcc_c.specs.Token.{same_bytes}
 use Rattle.dcc_c.specs.Types.{size_of}
 use Rattle.dcc_c.specs.Tree.{Word, Expr, Name, Unary, Lines, Global, Variable, Function}
@@ -67,7 +67,7 @@ abbrev pub local_places : ℕ → ℕ → List Variable → List (Option ℕ)
 local_places base used [] = []
 local_places base used (v ∷ locals) =
     if is_auto v.class then (
-      let down = used + bytes_of v.type v.len in Some (below base down) ∷ local_places base down locals
+    let down = used + bytes_of v.type v.len in Some (below base down) ∷ local_places base down locals
     ) else None ∷ local_places base used locals
 
 -- the addresses of a function's parameters and local variables, in a call with this base

@@ -21,7 +21,7 @@ use Rattle.dcc_c.specs.declared.plain.RunFault.TheVariants.{NotCovered, Memory}
 use Rattle.dcc_c.specs.declared.plain.PlainRun.{PlainRun}
 use Rattle.dcc_c.specs.Token.{same_bytes}
 use Rattle.dcc_c.specs.Types.{plain}
-use Rattle.dcc_c.specs.Tree.{Word, Expr, Number, Name, Binary, Stmt, Assign, Call, Variable, Function, Tree}
+use Rattle.dcc_c.specs.Tree.{Expr, Number, Name, Binary, Stmt, Assign, Call, Variable, Function, Tree}
 use Rattle.dcc_c.specs.Value.{Value, number, Unplaced, Binding, Scope}
 use Rattle.dcc_c.specs.Run.{Continuation, ends_function, runs, State, first_state, text_system}
 use Rattle.dcc_c.specs.Views.{stmt_of, variable_of, function_of, lines_of}

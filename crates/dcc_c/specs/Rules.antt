@@ -2,16 +2,16 @@
 use Rattle.std.specs.Prelude.{◌≡◌, ℕ, suc, ◌+◌, ◌-◌, max, ◌≤◌, nat_le, nat_lt, ◌==◌, Bool, true, false, ◌&&◌, ◌||◌, not, if◌then◌else◌, List, [], ◌∷◌, ◌++◌, length, map, codes, Option, Some, None, option_map, is_some}
 use Rattle.std.specs.List.{list_any, list_all, flat_map}
 use Rattle.dcc_c.specs.declared.syntax.Base.{Base}
-use Rattle.dcc_c.specs.declared.syntax.Base.TheVariants.{Schar, Uchar, Int, Uint, Long, Ulong}
+use Rattle.dcc_c.specs.declared.syntax.Base.TheVariants.{Int, Uint}
 use Rattle.dcc_c.specs.declared.syntax.CType.{CType}
 use Rattle.dcc_c.specs.Token.{Mark, same_bytes}
 use Rattle.dcc_c.specs.Lexing.{Placed}
 use Rattle.dcc_c.specs.Types.{promoted, same_type}
-use Rattle.dcc_c.specs.Tree.{Word, Expr, Number, Name, Unary, Binary, Conditional, Cast, Stmt, Assign, Call, If, While, DoWhile, Forever, Switch, Goto, Return, Lines, Arms, no_arms, arm, Global, Variable, Function, Tree}
+use Rattle.dcc_c.specs.Tree.{Word, Expr, Number, Name, Unary, Binary, Conditional, Cast, Stmt, Assign, Call, If, While, DoWhile, Switch, Goto, Return, Lines, Arms, no_arms, arm, Global, Variable, Function, Tree}
 use Rattle.dcc_c.specs.Parts.{stmts_in, exprs_of, labels_in}
 use Rattle.dcc_c.specs.Typing.{Declared, type_of, place_type}
 use Rattle.dcc_c.specs.Placement.{elements, behind_global, is_auto, is_register}
-use Rattle.dcc_c.specs.Dos.{Dos, dos_names, dos_of, dos_signature, Signature}
+use Rattle.dcc_c.specs.Dos.{dos_names, dos_of, dos_signature, Signature}
 use Rattle.dcc_c.specs.Run.{function_in, param_types}
 use Rattle.dcc_c.specs.Grammar.{is_among}
 

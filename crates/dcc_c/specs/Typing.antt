@@ -1,5 +1,5 @@
 -- The types of expressions (ISO/IEC 9899:1990, 6.3).
-use Rattle.std.specs.Prelude.{ℕ, Bool, true, false, not, if◌then◌else◌, List, [], ◌∷◌, Option, Some, None, option_map, option_and_then}
+use Rattle.std.specs.Prelude.{Bool, true, false, not, if◌then◌else◌, List, [], ◌∷◌, Option, Some, None, option_map, option_and_then}
 use Rattle.dcc_c.specs.declared.syntax.Base.{Base}
 use Rattle.dcc_c.specs.declared.syntax.Base.TheVariants.{Int}
 use Rattle.dcc_c.specs.declared.syntax.CType.{CType}
@@ -81,8 +81,8 @@ numbers_type operator a b = if is_comparison operator then Int else common_type 
 abbrev pub binary_type : CBin → CType → CType → Option CType
 binary_type operator a b =
     if a.pointer then (
-      if b.pointer then (if is_comparison operator then (if same_type a b then Some (plain Int) else None) else None)
-      else if is_sum operator then Some a else None
+    if b.pointer then (if is_comparison operator then (if same_type a b then Some (plain Int) else None) else None)
+    else if is_sum operator then Some a else None
     ) else if b.pointer then None else Some (plain (numbers_type operator a.base b.base))
 
 -- both operands have types

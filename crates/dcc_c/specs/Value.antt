@@ -177,8 +177,8 @@ moved _ type at b n = Undefined
 abbrev pub both_values : CBin → Value → Value → Outcome Value
 both_values operator a b =
     if a.type.pointer then (
-      if b.type.pointer then (if same_type a.type b.type then compared operator Uint a.bits b.bits else Undefined)
-      else moved operator a.type a.bits b.type.base b.bits
+    if b.type.pointer then (if same_type a.type b.type then compared operator Uint a.bits b.bits else Undefined)
+    else moved operator a.type a.bits b.type.base b.bits
     ) else if b.type.pointer then Undefined
     else numbers_value operator a.type.base a.bits b.type.base b.bits
 

@@ -91,9 +91,9 @@ written_arguments (e ∷ f ∷ es) = written_expr e ++ (codes ", " ++ written_ar
 abbrev pub indentation : ℕ → Word
 indentation braces = replicate (4 * min braces 16) 32
 
--- a line of its own inside so many pairs of braces
-abbrev pub row : ℕ → Word → Word
-row braces bytes = indentation braces ++ (bytes ++ codes "\n")
+-- a line inside so many pairs of braces
+abbrev pub indented : ℕ → Word → Word
+indented braces bytes = indentation braces ++ bytes
 
 -- The depth of calls.
 
@@ -116,60 +116,60 @@ written_depth depth next = if depth == next then [] else codes "#pragma dcc dept
 -- Statements.
 
 abbrev pub written_call : Word → List Expr → Word
-written_call function arguments = function ++ (codes "(" ++ (written_arguments arguments ++ codes ");"))
+written_call function arguments = function ++ (codes "(" ++ (written_arguments arguments ++ codes ");\n"))
 
 abbrev pub written_return : Option Expr → Word
-written_return None = codes "return;"
-written_return (Some e) = codes "return " ++ (written_expr e ++ codes ";")
+written_return None = codes "return;\n"
+written_return (Some e) = codes "return " ++ (written_expr e ++ codes ";\n")
 
 -- the head of a statement with a block
 abbrev pub written_test : Word → Expr → Word
-written_test name e = name ++ (codes " (" ++ (written_expr e ++ codes ") {"))
+written_test name e = name ++ (codes " (" ++ (written_expr e ++ codes ") {\n"))
 
 -- the else part with these bytes as its block, where it is not empty
 abbrev pub written_else : ℕ → Lines → Word → Word
 written_else braces no_lines block = []
-written_else braces (line stmt at lines) block = row braces (codes "} else {") ++ block
+written_else braces (line stmt at lines) block = indented braces (codes "} else {\n") ++ block
 
 -- the cases of an arm, each in a line, or the word for the default arm
 abbrev pub written_cases : ℕ → List ℕ → Word
 written_cases braces [] = []
 written_cases braces (n ∷ cases) =
-    row braces (codes "case " ++ (decimal n ++ codes ":")) ++ written_cases braces cases
+    indented braces (codes "case " ++ (decimal n ++ codes ":\n")) ++ written_cases braces cases
 
 abbrev mutual
   -- a statement inside so many pairs of braces, where calls have this depth
   pub written_stmt : ℕ → ℕ → Stmt → Word
   written_stmt braces depth (Assign place e) =
-      row braces (written_expr place ++ (codes " = " ++ (written_expr e ++ codes ";")))
-  written_stmt braces depth (Call None function arguments own) = row braces (written_call function arguments)
+      indented braces (written_expr place ++ (codes " = " ++ (written_expr e ++ codes ";\n")))
+  written_stmt braces depth (Call None function arguments own) = indented braces (written_call function arguments)
   written_stmt braces depth (Call (Some place) function arguments own) =
-      row braces (written_expr place ++ (codes " = " ++ written_call function arguments))
+      indented braces (written_expr place ++ (codes " = " ++ written_call function arguments))
   written_stmt braces depth (If e body otherwise) =
-      row braces (written_test (codes "if") e)
+      indented braces (written_test (codes "if") e)
       ++ (written_lines (1 + braces) depth body
       ++ (written_else braces otherwise (written_lines (1 + braces) (depth_behind depth (stmts_in body)) otherwise)
-      ++ row braces (codes "}")))
+      ++ indented braces (codes "}\n")))
   written_stmt braces depth (While e body) =
-      row braces (written_test (codes "while") e)
-      ++ (written_lines (1 + braces) depth body ++ row braces (codes "}"))
+      indented braces (written_test (codes "while") e)
+      ++ (written_lines (1 + braces) depth body ++ indented braces (codes "}\n"))
   written_stmt braces depth (DoWhile body e) =
-      row braces (codes "do {")
+      indented braces (codes "do {\n")
       ++ (written_lines (1 + braces) depth body
-      ++ row braces (codes "} while (" ++ (written_expr e ++ codes ");")))
+      ++ indented braces (codes "} while (" ++ (written_expr e ++ codes ");\n")))
   written_stmt braces depth (Forever body) =
-      row braces (codes "for (;;) {") ++ (written_lines (1 + braces) depth body ++ row braces (codes "}"))
+      indented braces (codes "for (;;) {\n") ++ (written_lines (1 + braces) depth body ++ indented braces (codes "}\n"))
   written_stmt braces depth (Switch e arms last) =
-      row braces (written_test (codes "switch") e)
+      indented braces (written_test (codes "switch") e)
       ++ (written_arms (1 + braces) depth arms
       ++ (written_default (1 + braces) (depth_behind depth (inner_stmts (Switch e arms no_arms))) last
-      ++ row braces (codes "}")))
-  written_stmt braces depth Break = row braces (codes "break;")
-  written_stmt braces depth Continue = row braces (codes "continue;")
-  written_stmt braces depth (Goto word) = row braces (codes "goto " ++ (word ++ codes ";"))
-  written_stmt braces depth (Label word) = row 0 (word ++ codes ":")
-  written_stmt braces depth Empty = row braces (codes ";")
-  written_stmt braces depth (Return e) = row braces (written_return e)
+      ++ indented braces (codes "}\n")))
+  written_stmt braces depth Break = indented braces (codes "break;\n")
+  written_stmt braces depth Continue = indented braces (codes "continue;\n")
+  written_stmt braces depth (Goto word) = indented braces (codes "goto " ++ (word ++ codes ";\n"))
+  written_stmt braces depth (Label word) = indented 0 (word ++ codes ":\n")
+  written_stmt braces depth Empty = indented braces (codes ";\n")
+  written_stmt braces depth (Return e) = indented braces (written_return e)
 
   -- Statements, with this depth in force before them. A pragma stands before a call with another depth, and before the
   -- first of its labels.
@@ -186,14 +186,14 @@ abbrev mutual
   written_arms braces depth (arm cases body arms) =
       written_cases braces cases
       ++ (written_lines braces depth body
-      ++ (row braces (codes "break;") ++ written_arms braces (depth_behind depth (stmts_in body)) arms))
+      ++ (indented braces (codes "break;\n") ++ written_arms braces (depth_behind depth (stmts_in body)) arms))
 
   -- the default arm, which comes last
   pub written_default : ℕ → ℕ → Arms → Word
   written_default braces depth no_arms = []
   written_default braces depth (arm cases body arms) =
-      row braces (codes "default:")
-      ++ (written_lines braces depth body ++ row braces (codes "break;"))
+      indented braces (codes "default:\n")
+      ++ (written_lines braces depth body ++ indented braces (codes "break;\n"))
 
 -- Declarations.
 
@@ -209,7 +209,7 @@ written_class Register = codes "register "
 
 abbrev pub written_local : Variable → Word
 written_local v =
-    row 1 (written_class v.class ++ (written_variable v.type v.name ++ (written_size v.len ++ codes ";")))
+    indented 1 (written_class v.class ++ (written_variable v.type v.name ++ (written_size v.len ++ codes ";\n")))
 
 abbrev pub written_param : Variable → Word
 written_param v = written_class v.class ++ written_variable v.type v.name
@@ -248,11 +248,11 @@ written_numbers (n ∷ m ∷ ns) = decimal n ++ (codes ", " ++ written_numbers (
 abbrev pub written_initial : Option ℕ → List ℕ → Word
 written_initial len [] = []
 written_initial None (n ∷ ns) = codes " = " ++ written_numbers (n ∷ ns)
-written_initial (Some len) (n ∷ ns) = codes " = {" ++ (written_numbers (n ∷ ns) ++ codes "}")
+written_initial (Some len) (n ∷ ns) = codes " = {" ++ (written_numbers (n ∷ ns) ++ codes "}\n")
 
 abbrev pub written_global : Global → Word
 written_global g =
-    row 0 (written_variable g.type g.name ++ (written_size g.len ++ (written_initial g.len g.init ++ codes ";")))
+    indented 0 (written_variable g.type g.name ++ (written_size g.len ++ (written_initial g.len g.init ++ codes ";\n")))
 
 -- the line with the address of a global variable, where the one before does not end there
 abbrev pub written_place : Option ℕ → ℕ → Word

@@ -20,7 +20,9 @@ pub mod coverage;
 pub mod values;
 
 pub use coverage::{Uncovered, first_uncovered};
-pub use values::{Binding, Value, assign, bits_of, common_type, convert, held_by, promoted, value_of};
+pub use values::{
+    Binding, Value, assign, bits_of, common_type, convert, held_by, promoted, value_of,
+};
 
 /// How a run ends; a run that goes on is `Running`.
 #[derive(Clone, Copy, PartialEq, Eq, Debug)]

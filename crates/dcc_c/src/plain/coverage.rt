@@ -101,7 +101,9 @@ pub fn covers_expr(e: &CExpr) -> bool
 {
     match e {
         CExpr::Num(_, _) | CExpr::Name(_) => true,
-        CExpr::Bin(operator, a, b) => covers_operator(*operator) && covers_expr(a) && covers_expr(b),
+        CExpr::Bin(operator, a, b) => covers_operator(*operator)
+            && covers_expr(a)
+            && covers_expr(b),
         _ => false,
     }
 }
@@ -110,5 +112,8 @@ pub fn covers_expr(e: &CExpr) -> bool
 fn covers_operator(operator: CBin) -> bool
     ensures { result ≡ covers_operator operator }
 {
-    matches!(operator, CBin::Or | CBin::Xor | CBin::And | CBin::Add | CBin::Sub)
+    matches!(
+        operator,
+        CBin::Or | CBin::Xor | CBin::And | CBin::Add | CBin::Sub
+    )
 }

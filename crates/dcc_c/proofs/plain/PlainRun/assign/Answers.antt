@@ -25,8 +25,8 @@ returns-in_default-clause-after c tree function rest none =
     c.value_of.ensures run.memory.items ∙ ap (λ vs. value_of (scope_over vs run.memory.items) (expr_of c.args.e.now)) c.deref.ensures.value in
     elim c.in_default.branch [
       | in_default-via-in-Some+else-is_some w ↦
-        let known : given (option_map number_of w.held_by.result) ≡ value_of (scope_over run.variables.items run.memory.items) (Name c.args.name.now) =
-        w.held_by.ensures run.memory.items ∙ ap (λ vs. value_of (scope_over vs run.memory.items) (Name c.args.name.now)) w.deref-in-Some-1.ensures.value in
-        sym (assigns-unknown tree none function rest run c.args.name.now (expr_of c.args.e.now) c.args.at c.value_of.result w.held_by.result is known w.in-Some.v w.in-Some.is (sym w.is_some.ensures ∙ w.if-is_some.false))
+          let known : given (option_map number_of w.held_by.result) ≡ value_of (scope_over run.variables.items run.memory.items) (Name c.args.name.now) =
+          w.held_by.ensures run.memory.items ∙ ap (λ vs. value_of (scope_over vs run.memory.items) (Name c.args.name.now)) w.deref-in-Some-1.ensures.value in
+          sym (assigns-unknown tree none function rest run c.args.name.now (expr_of c.args.e.now) c.args.at c.value_of.result w.held_by.result is known w.in-Some.v w.in-Some.is (sym w.is_some.ensures ∙ w.if-is_some.false))
       | in_default-via-in_default w ↦ sym (assigns-nothing tree none function rest run c.args.name.now (expr_of c.args.e.now) c.args.at (ap (λ o. given (option_map number_of o)) (sym w.in_default.is) ∙ is))
     ]

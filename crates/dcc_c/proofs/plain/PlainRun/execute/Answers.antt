@@ -1,4 +1,4 @@
-use Rattle.std.proofs.Common.{◌≡◌, false, List, [], ◌∷◌, None, ◌∙◌, ap, arith}
+use Rattle.std.proofs.Common.{◌≡◌, false, [], ◌∷◌, None, ◌∙◌, ap, arith}
 use Rattle.std.proofs.lemmas.Grind.{common_steps}
 use Rattle.dcc_c.specs.Tree.{Call}
 use Rattle.dcc_c.specs.Run.{stmt_step}
@@ -20,4 +20,3 @@ returns-in_default-as_slice-clause-ok c tree function rest none =
       | in_default-as_slice-via-then-as_slice-lt1 w ↦ let no : false ≡ covers_stmt (stmt_of c.args.line.now.stmt) = grind (arith, common_steps) in absurd cc
       | in_default-as_slice-via-else-as_slice-lt1+else-this-lt2 w ↦ let no : false ≡ covers_stmt (stmt_of c.args.line.now.stmt) = grind (arith, common_steps) in absurd cc
     ]
-

@@ -1,6 +1,5 @@
-use Rattle.std.proofs.Common.{◌≡◌, ◌<◌, length, map, sym, ap, ◌∙◌, refl, Some, arith}
-use Rattle.dcc_c.specs.Value.{Gives, and_then, given, variable_in, variable_value}
-use Rattle.dcc_c.specs.Plain.{number_of, binding_of}
+use Rattle.std.proofs.Common.{◌<◌, length, sym, ap, ◌∙◌, arith}
+use Rattle.dcc_c.specs.Value.{and_then, given, variable_value}
 use Rattle.dcc_c.proofs.NameLaws.{same_bytes-answer, variable_in-drop, variable_in-found}
 use Rattle.dcc_c.proofs.plain.values.held_by.Goals as goal
 
