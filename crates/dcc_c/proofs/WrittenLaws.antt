@@ -277,7 +277,7 @@ lines_tokens (simple_line {at} {last} {stmt} {lines} simple others) rows =
     ap (λ (ts : List Placed). placed_row at (stmt_row stmt) ts) (lines_tokens others rows) ∙ stmt_row_tokens simple at (line_tokens lines (text_tokens last rows))
 
 -- the tokens of statements are read as the statements
-pub lines_read : {at last : ℕ} {lines : Lines} → AreSimple at lines last → (rest : List Placed) → AreLines outermost false 2 (line_tokens lines rest) lines 2 rest
+pub lines_read : {at last : ℕ} {lines : Lines} → AreSimple at lines last → (rest : List Placed) → AreLines 200 outermost false 2 (line_tokens lines rest) lines 2 rest
 lines_read simple_end rest = no_more
 lines_read (simple_line {at} {lines} (simple_assign {e} spelled is simple) others) rest =
     statement (omega arith) (assign (name_place spelled is) (expr_read simple at (mark at (codes ";") ∷ line_tokens lines rest)).whole) (lines_read others rest)

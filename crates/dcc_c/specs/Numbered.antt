@@ -16,17 +16,23 @@ abbrev mutual
   numbered_lines depth at (line stmt was lines) =
       let own = next_depth depth (line stmt was lines) in
       let here = at + rows (written_depth depth own) in
-      line (numbered_stmt own here stmt) here (numbered_lines (depth_behind own (stmt ∷ inner_stmts stmt)) (here + rows (written_stmt 1 own stmt)) lines)
+      let behind = here + rows (written_stmt 1 own stmt) in
+      line (numbered_stmt own here stmt) here
+          (numbered_lines (depth_behind own (stmt ∷ inner_stmts stmt)) behind lines)
 
   -- the statements inside a statement in this line
   pub numbered_stmt : ℕ → ℕ → Stmt → Stmt
   numbered_stmt depth at (If e body otherwise) =
-      If e (numbered_lines depth (at + 1) body) (numbered_lines (depth_behind depth (stmts_in body)) (at + 2 + rows (written_lines 1 depth body)) otherwise)
+      let second = at + 2 + rows (written_lines 1 depth body) in
+      If e (numbered_lines depth (at + 1) body)
+          (numbered_lines (depth_behind depth (stmts_in body)) second otherwise)
   numbered_stmt depth at (While e body) = While e (numbered_lines depth (at + 1) body)
   numbered_stmt depth at (DoWhile body e) = DoWhile (numbered_lines depth (at + 1) body) e
   numbered_stmt depth at (Forever body) = Forever (numbered_lines depth (at + 1) body)
   numbered_stmt depth at (Switch e arms last) =
-      Switch e (numbered_arms depth (at + 1) arms) (numbered_default (depth_behind depth (inner_stmts (Switch e arms no_arms))) (at + 2 + rows (written_arms 1 depth arms)) last)
+      let behind = depth_behind depth (inner_stmts (Switch e arms no_arms)) in
+      let second = at + 2 + rows (written_arms 1 depth arms) in
+      Switch e (numbered_arms depth (at + 1) arms) (numbered_default behind second last)
   numbered_stmt depth at stmt = stmt
 
   -- arms, the first case of which stands in this line
@@ -34,7 +40,9 @@ abbrev mutual
   numbered_arms depth at no_arms = no_arms
   numbered_arms depth at (arm cases body arms) =
       let first = at + length cases in
-      arm cases (numbered_lines depth first body) (numbered_arms (depth_behind depth (stmts_in body)) (first + rows (written_lines 1 depth body) + 1) arms)
+      let behind = first + rows (written_lines 1 depth body) + 1 in
+      arm cases (numbered_lines depth first body)
+          (numbered_arms (depth_behind depth (stmts_in body)) behind arms)
 
   -- the default arm, whose body begins in this line
   pub numbered_default : ℕ → ℕ → Arms → Arms

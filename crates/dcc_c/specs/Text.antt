@@ -9,6 +9,6 @@ use Rattle.dcc_c.specs.Rules.{most_open, IsAllowed}
 pub record StandsFor (text : List ℕ) (tree : Tree) : Type 0 where
   pub tokens : List Placed
   pub lexed : Lexes true 1 text tokens
-  pub formed : IsUnit tokens tree
+  pub formed : IsUnit 200 tokens tree
   pub shallow : most_open 0 tokens ≤ 200
   pub allowed : IsAllowed tree

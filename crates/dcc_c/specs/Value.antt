@@ -211,7 +211,8 @@ value_of scope (Binary operator a b) =
     and_then (λ v. and_then (both_values operator v) (value_of scope b)) (value_of scope a)
 value_of scope (Conditional a b c) =
     let names = map declared_by scope.variables in
-    and_then (chosen (both_arms_type (type_of names b) (type_of names c)) (value_of scope b) (value_of scope c)) (value_of scope a)
+    let type = both_arms_type (type_of names b) (type_of names c) in
+    and_then (chosen type (value_of scope b) (value_of scope c)) (value_of scope a)
 value_of scope (Cast type a) = and_then (λ v. Gives (converted type v)) (value_of scope a)
 
 -- where a value goes

@@ -96,7 +96,7 @@ local_read at name rest is = record {
 }
 
 -- the tokens of the function are read as the function
-start_read : {last : ℕ} {body : Lines} → AreGood body last 11 body last → IsFunction (start_tokens body last) (start_with body last) []
+start_read : {last : ℕ} {body : Lines} → AreGood body last 11 body last → IsFunction 200 (start_tokens body last) (start_with body last) []
 start_read {last} {body} good = record {
   name_at = 3;
   open_at = 3;
@@ -124,7 +124,7 @@ text_lexed {last} {body} good =
     let Q : List Placed → Type 0 = λ tokens. Lexes true 3 (text_bytes (start_rows body)) tokens in
     header_lexes 0 0 refl (subst P (start_bytes good) (subst Q (start_tokens_are good) lexed))
 
-text_read : {last : ℕ} {body : Lines} → AreGood body last 11 body last → IsUnit (all_tokens body last) (tree_with body last)
+text_read : {last : ℕ} {body : Lines} → AreGood body last 11 body last → IsUnit 200 (all_tokens body last) (tree_with body last)
 text_read {last} {body} good = record {
   stack_at = 2;
   globals = start_tokens body last;
