@@ -4,3 +4,4 @@ pub mod WrittenLaws
 pub mod NameLaws
 pub mod PlainLaws
 mod Examples
+pub mod TypingLaws
