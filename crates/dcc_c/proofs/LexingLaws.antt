@@ -5,7 +5,7 @@ use Rattle.std.proofs.lemmas.List.{append-nil}
 use Rattle.std.specs.Fmt.{decimal}
 use Rattle.std.proofs.lemmas.Bool.{and_parts, leb-true}
 use Rattle.dcc_c.specs.Token.{Token, WordToken, Decimal, Hex, Mark, Pragma, suffix_bytes, is_word, is_mark, Spells, ends_before, plain_number, version_line, stack_line}
-use Rattle.dcc_c.specs.Lexing.{Placed, placed, Lexes, ends, blank, feed, token, pragma}
+use Rattle.dcc_c.specs.Lexing.{Placed, placed, are_pragma_numbers, Lexes, ends, blank, feed, token, pragma}
 
 -- a space, or a token in its spelling
 pub data Piece : Type 0 where
@@ -94,6 +94,8 @@ header lo hi =
     ∷ placed 2 (Decimal hi plain_number) ∷ []
 
 -- the version line and the stack line are read as their tokens
-pub header_lexes : {rest : List ℕ} {tokens : List Placed} (lo hi : ℕ) → Lexes true 3 rest tokens → Lexes true 1 (codes "#pragma dcc text 1\n#pragma dcc stack " ++ (decimal lo ++ (codes " " ++ (decimal hi ++ (codes "\n" ++ rest))))) (header lo hi ++ tokens)
-header_lexes {rest} lo hi then =
-    pragma version_line [] (codes "\n#pragma dcc stack " ++ (decimal lo ++ (codes " " ++ (decimal hi ++ (codes "\n" ++ rest))))) refl refl (feed (pragma stack_line (lo ∷ hi ∷ []) (10 ∷ rest) refl (ap (λ (bytes : List ℕ). codes "#pragma dcc stack " ++ bytes) (numbers_join (decimal lo) (decimal hi) rest)) (feed then) refl)) refl
+pub header_lexes : {rest : List ℕ} {tokens : List Placed} (lo hi : ℕ) →
+    are_pragma_numbers stack_line (lo ∷ hi ∷ []) ≡ true → Lexes true 3 rest tokens →
+    Lexes true 1 (codes "#pragma dcc text 1\n#pragma dcc stack " ++ (decimal lo ++ (codes " " ++ (decimal hi ++ (codes "\n" ++ rest))))) (header lo hi ++ tokens)
+header_lexes {rest} lo hi small then =
+    pragma version_line [] (codes "\n#pragma dcc stack " ++ (decimal lo ++ (codes " " ++ (decimal hi ++ (codes "\n" ++ rest))))) refl refl refl (feed (pragma stack_line (lo ∷ hi ∷ []) (10 ∷ rest) small refl (ap (λ (bytes : List ℕ). codes "#pragma dcc stack " ++ bytes) (numbers_join (decimal lo) (decimal hi) rest)) (feed then) refl)) refl

@@ -1,5 +1,7 @@
 pub mod RunLaws
 pub mod LexingLaws
 pub mod WrittenLaws
-pub mod ViewLaws
 pub mod NameLaws
+pub mod PlainLaws
+mod Examples
+pub mod TypingLaws

@@ -2,13 +2,13 @@
 use Rattle.std.specs.Prelude.{ℕ, ◌≤◌, true, List}
 use Rattle.dcc_c.specs.Lexing.{Placed, Lexes}
 use Rattle.dcc_c.specs.Tree.{Tree}
-use Rattle.dcc_c.specs.Grammar.{tokens_of, IsUnit}
+use Rattle.dcc_c.specs.Grammar.{IsUnit}
 use Rattle.dcc_c.specs.Rules.{most_open, IsAllowed}
 
 -- The bytes are tokens of the grammar that keep to the rules on names, types, places and depth.
 pub record StandsFor (text : List ℕ) (tree : Tree) : Type 0 where
   pub tokens : List Placed
   pub lexed : Lexes true 1 text tokens
-  pub formed : IsUnit tokens tree
-  pub shallow : most_open 0 (tokens_of tokens) ≤ 200
+  pub formed : IsUnit 200 tokens tree
+  pub shallow : most_open 0 tokens ≤ 200
   pub allowed : IsAllowed tree

@@ -95,7 +95,8 @@ hex_from n (b ∷ bs) = hex_from (16 * n + hex_value b) bs
 
 -- one to eight hexadecimal digits
 abbrev pub are_hex_digits : List ℕ → Bool
-are_hex_digits digits = list_all (λ b. nat_le (hex_value b) 15) digits && (nat_le 1 (length digits) && nat_le (length digits) 8)
+are_hex_digits digits =
+    list_all (λ b. nat_le (hex_value b) 15) digits && (nat_le 1 (length digits) && nat_le (length digits) 8)
 
 -- the bytes are a spelling of the token
 abbrev pub Spells : List ℕ → Token → Type 0
@@ -131,7 +132,8 @@ decimal_type n unsigned_long_suffix = Ulong
 
 -- the type of a hexadecimal number
 abbrev pub hex_type : ℕ → Suffix → Base
-hex_type n plain_number = first_that_holds n 32767 Int (first_that_holds n 65535 Uint (first_that_holds n 2147483647 Long Ulong))
+hex_type n plain_number =
+    first_that_holds n 32767 Int (first_that_holds n 65535 Uint (first_that_holds n 2147483647 Long Ulong))
 hex_type n unsigned_suffix = first_that_holds n 65535 Uint Ulong
 hex_type n long_suffix = first_that_holds n 2147483647 Long Ulong
 hex_type n unsigned_long_suffix = Ulong

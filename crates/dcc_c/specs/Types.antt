@@ -1,5 +1,5 @@
--- Number types and conversions (ISO/IEC 9899:1990, 6.1.2.5 and 6.2), on two's complement bit patterns.
-use Rattle.std.specs.Prelude.{ℕ, ◌+◌, ◌-◌, ◌%◌, ◌^◌, Bool, true, false, ◌&&◌, nat_le, if◌then◌else◌}
+-- Types and conversions (ISO/IEC 9899:1990, 6.1.2.5 and 6.2), on two's complement bit patterns.
+use Rattle.std.specs.Prelude.{ℕ, ◌+◌, ◌-◌, ◌/◌, ◌%◌, ◌^◌, ◌==◌, Bool, true, false, ◌&&◌, nat_le, if◌then◌else◌}
 use Rattle.dcc_c.specs.declared.syntax.Base.{Base}
 use Rattle.dcc_c.specs.declared.syntax.Base.TheVariants.{Schar, Uchar, Int, Uint, Long, Ulong}
 use Rattle.dcc_c.specs.declared.syntax.CType.{CType}
@@ -20,6 +20,18 @@ is_signed Int = true
 is_signed Uint = false
 is_signed Long = true
 is_signed Ulong = false
+
+-- number types by their place in the list, to compare them
+abbrev pub place_of : Base → ℕ
+place_of Schar = 0
+place_of Uchar = 1
+place_of Int = 2
+place_of Uint = 3
+place_of Long = 4
+place_of Ulong = 5
+
+abbrev pub same_base : Base → Base → Bool
+same_base a b = place_of a == place_of b
 
 -- the type of an operand: char types become int
 abbrev pub promoted_type : Base → Base
@@ -48,14 +60,33 @@ common_type a b = common_of_promoted (promoted_type a) (promoted_type b)
 abbrev pub wrapped_bits : Base → ℕ → ℕ
 wrapped_bits type n = n % 2 ^ bits_of type
 
+-- the value is below 0
+abbrev pub is_negative : Base → ℕ → Bool
+is_negative type n = is_signed type && nat_le (2 ^ (bits_of type - 1)) n
+
 -- the 32 bits of a value: a negative one is extended by ones
 abbrev pub extended_bits : Base → ℕ → ℕ
-extended_bits type n = if is_signed type && nat_le (2 ^ (bits_of type - 1)) n then n + (2 ^ 32 - 2 ^ bits_of type) else n
+extended_bits type n = if is_negative type n then n + (2 ^ 32 - 2 ^ bits_of type) else n
 
 -- a value of the first type as one of the second: its low bits, extended where the second is wider
 abbrev pub convert : Base → Base → ℕ → ℕ
 convert from to n = wrapped_bits to (extended_bits from n)
 
 -- a number type
-abbrev pub number_type : Base → CType
-number_type base = record { base = base; pointer = false }
+abbrev pub plain : Base → CType
+plain base = record { base = base; pointer = false }
+
+-- the type of addresses of numbers of this type
+abbrev pub pointer_to : Base → CType
+pointer_to base = record { base = base; pointer = true }
+
+abbrev pub same_type : CType → CType → Bool
+same_type a b = same_base a.base b.base && (if a.pointer then b.pointer else if b.pointer then false else true)
+
+-- the number type whose bits a value of the type has: an address is 16 unsigned bits
+abbrev pub number_of_type : CType → Base
+number_of_type type = if type.pointer then Uint else type.base
+
+-- how many bytes of memory a value of the type takes
+abbrev pub size_of : CType → ℕ
+size_of type = bits_of (number_of_type type) / 8

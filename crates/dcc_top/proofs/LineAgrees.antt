@@ -13,7 +13,7 @@ use Rattle.dcc_prog.proofs.StepLaws.{machine_lawful}
 use Rattle.dcc_prog.proofs.FetchLaws.{IsPlaced, image-placed, length-code_of}
 use Rattle.dcc_c.specs.declared.syntax.Base.TheVariants.{Int, Uint}
 use Rattle.dcc_c.specs.Types.{convert}
-use Rattle.dcc_c.specs.Run.{Continuation, ends_function, runs, State, first_state, step as text_step, text_system}
+use Rattle.dcc_c.specs.Run.{Continuation, ends_function, runs, State, first_state, text_system}
 use Rattle.dcc_c.proofs.RunLaws.{text_lawful}
 use Rattle.dcc_top.specs.declared.form.Form.{Form}
 use Rattle.dcc_top.specs.Line.{Ends, has_variable}
@@ -21,7 +21,7 @@ use Rattle.dcc_top.specs.LineText.{lines_of, line_behind, cleared, number, start
 use Rattle.dcc_top.specs.Agreement.{IsClean, RunsAgree}
 use Rattle.dcc_top.proofs.LineForms.{Words, with_word, number-value}
 use Rattle.dcc_top.proofs.LineMachine.{MachineAt}
-use Rattle.dcc_top.proofs.LineRun.{TextAt, text-assigns, Goes, goes-from_ends, goes-length, TextMeets, MachineMeets, text_meets-later, machine_meets-later}
+use Rattle.dcc_top.proofs.LineRun.{text_step, TextAt, text-assigns, Goes, goes-from_ends, goes-length, TextMeets, MachineMeets, text_meets-later, machine_meets-later}
 use Rattle.dcc_top.proofs.LineTogether.{AtLine, text-meets, machine-meets}
 
 -- each of the registers has a variable
@@ -69,9 +69,9 @@ module _ (image : Image) (forms : List Form) (input : List ℕ) (fill : ℕ) (fi
   starts-text = record { rest_is = refl; variables = refl; out_is = refl; running = refl }
 
   -- a variable is cleared
-  clears : (r : Reg) (rs : List Reg) (at : ℕ) (w : Words) (t : State) → has_variable r ≡ true → TextAt (runs (cleared (r ∷ rs) at (lines_of forms)) behind) w [] t → TextAt (runs (cleared rs (at + 1) (lines_of forms)) behind) (with_word w r 0) [] (text_step t)
+  clears : (r : Reg) (rs : List Reg) (at : ℕ) (w : Words) (t : State) → has_variable r ≡ true → TextAt (runs (cleared (r ∷ rs) at (lines_of forms)) behind) w [] t → TextAt (runs (cleared rs (at + 1) (lines_of forms)) behind) (with_word w r 0) [] (text_step forms t)
   clears r rs at w t h x =
-      text-assigns r (number 0) 0 at (cleared rs (at + 1) (lines_of forms)) behind w [] t x h (number-value w 0 (omega arith)) (omega arith)
+      text-assigns forms r (number 0) 0 at (cleared rs (at + 1) (lines_of forms)) behind w [] t x h (λ memory. number-value w memory 0 (omega arith)) (omega arith)
 
   placed : IsPlaced image
   placed = image-placed file image is
@@ -90,31 +90,31 @@ module _ (image : Image) (forms : List Form) (input : List ℕ) (fill : ℕ) (fi
   }
 
   -- both sides meet from the cleared variables on, and so from the start on
-  text-meets_from : (rs : List Reg) (at : ℕ) (w : Words) (t : State) → AllHave rs → at + length rs ≡ 17 → cleared_words rs w ≡ begins → TextAt (runs (cleared rs at (lines_of forms)) behind) w [] t → TextMeets (length rs) machine_start t
+  text-meets_from : (rs : List Reg) (at : ℕ) (w : Words) (t : State) → AllHave rs → at + length rs ≡ 17 → cleared_words rs w ≡ begins → TextAt (runs (cleared rs at (lines_of forms)) behind) w [] t → TextMeets forms (length rs) machine_start t
   text-meets_from [] at w t has e same x =
       let there = subst (λ v. TextAt (runs (lines_of forms at) behind) v [] t) same x in
       let at' : at ≡ 17 = omega arith in
-      text-meets image placed image.ip None forms 17 behind begins [] machine_start t line (cleared-starts t (subst (λ a. TextAt (runs (lines_of forms a) behind) begins [] t) at' there))
+      text-meets forms image placed image.ip None forms 17 behind begins [] machine_start t line (cleared-starts t (subst (λ a. TextAt (runs (lines_of forms a) behind) begins [] t) at' there))
   text-meets_from (r ∷ rs) at w t has e same x =
-      text_meets-later (length rs) machine_start t (text-meets_from rs (at + 1) (with_word w r 0) (text_step t) has.1 (omega arith) same (clears r rs at w t has.0 x))
+      text_meets-later forms (length rs) machine_start t (text-meets_from rs (at + 1) (with_word w r 0) (text_step forms t) has.1 (omega arith) same (clears r rs at w t has.0 x))
 
-  machine-meets_from : (rs : List Reg) (at : ℕ) (w : Words) (t : State) → AllHave rs → at + length rs ≡ 17 → cleared_words rs w ≡ begins → TextAt (runs (cleared rs at (lines_of forms)) behind) w [] t → MachineMeets (length forms) machine_start t
+  machine-meets_from : (rs : List Reg) (at : ℕ) (w : Words) (t : State) → AllHave rs → at + length rs ≡ 17 → cleared_words rs w ≡ begins → TextAt (runs (cleared rs at (lines_of forms)) behind) w [] t → MachineMeets forms (length forms) machine_start t
   machine-meets_from [] at w t has e same x =
       let there = subst (λ v. TextAt (runs (lines_of forms at) behind) v [] t) same x in
       let at' : at ≡ 17 = omega arith in
-      machine-meets image placed image.ip None forms 17 behind begins [] machine_start t line (cleared-starts t (subst (λ a. TextAt (runs (lines_of forms a) behind) begins [] t) at' there))
+      machine-meets forms image placed image.ip None forms 17 behind begins [] machine_start t line (cleared-starts t (subst (λ a. TextAt (runs (lines_of forms a) behind) begins [] t) at' there))
   machine-meets_from (r ∷ rs) at w t has e same x =
-      machine_meets-later (length forms) machine_start t (starts-machine.out_is ∙ sym x.out_is) starts-machine.running x.running (machine-meets_from rs (at + 1) (with_word w r 0) (text_step t) has.1 (omega arith) same (clears r rs at w t has.0 x))
+      machine_meets-later forms (length forms) machine_start t (starts-machine.out_is ∙ sym x.out_is) starts-machine.running x.running (machine-meets_from rs (at + 1) (with_word w r 0) (text_step forms t) has.1 (omega arith) same (clears r rs at w t has.0 x))
 
   all-cleared : cleared_words (Ax ∷ Cx ∷ Dx ∷ Bx ∷ Si ∷ Di ∷ []) filled ≡ begins
   unfolding filled begins words
   all-cleared = refl
 
-  text-meets_start : TextMeets 6 machine_start text_start
+  text-meets_start : TextMeets forms 6 machine_start text_start
   text-meets_start =
       text-meets_from (Ax ∷ Cx ∷ Dx ∷ Bx ∷ Si ∷ Di ∷ []) 11 filled text_start (refl, (refl, (refl, (refl, (refl, (refl, tt)))))) (omega arith) all-cleared starts-text
 
-  machine-meets_start : MachineMeets (length forms) machine_start text_start
+  machine-meets_start : MachineMeets forms (length forms) machine_start text_start
   machine-meets_start =
       machine-meets_from (Ax ∷ Cx ∷ Dx ∷ Bx ∷ Si ∷ Di ∷ []) 11 filled text_start (refl, (refl, (refl, (refl, (refl, (refl, tt)))))) (omega arith) all-cleared starts-text
 
@@ -130,7 +130,7 @@ line-agrees file image forms tokens input fill is ends enough =
     let placed = image-placed file image is in
     omega (arith, goes-length (code_of image) image.ip None forms (goes-from_ends (code_of image) image.ip forms ends), length-code_of image placed, placed.short) in
     record {
-      text_follows = follows_from_meets (IsClean image input) machine_system s text_system t (λ n. n + 6) (λ n. (n + 1) * tokens) text_lawful (λ n. omega (arith, mul-le-mul_left (n + 1) enough)) (λ n held. text n);
-      machine_follows = follows_from_meets (λ k. IsClean image input ((k + 1) * 65536)) text_system t machine_system s (λ k. length forms) (λ k. (k + 1) * 65536) machine_lawful (λ k. omega arith) (λ k held. let h = back k in (h.0, h.1, h.2));
+      text_follows = follows_from_meets (IsClean image input) machine_system s (text_system (tree_of forms)) t (λ n. n + 6) (λ n. (n + 1) * tokens) (text_lawful (tree_of forms)) (λ n. omega (arith, mul-le-mul_left (n + 1) enough)) (λ n held. text n);
+      machine_follows = follows_from_meets (λ k. IsClean image input ((k + 1) * 65536)) (text_system (tree_of forms)) t machine_system s (λ k. length forms) (λ k. (k + 1) * 65536) machine_lawful (λ k. omega arith) (λ k held. let h = back k in (h.0, h.1, h.2));
       never_stuck = λ k. (back k).3;
     }

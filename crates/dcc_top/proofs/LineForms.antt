@@ -1,5 +1,5 @@
 -- What the forms of a straight line do to registers and variables, on both sides.
-use Rattle.std.proofs.Common.{◌≡◌, ℕ, ◌+◌, ◌-◌, ◌*◌, ◌/◌, ◌%◌, ◌^◌, ◌<◌, true, List, [], ◌∷◌, Some, refl, sym, ap, ◌∙◌, arith}
+use Rattle.std.proofs.Common.{◌≡◌, ℕ, ◌+◌, ◌-◌, ◌*◌, ◌/◌, ◌%◌, ◌^◌, ◌<◌, true, false, List, [], ◌∷◌, refl, sym, ap, ◌∙◌, arith}
 use Rattle.std.specs.Prelude.{slice_index, slice_set, bit_and, bit_or}
 use Rattle.std.proofs.Math.Nat.{mod-eq_of_lt, mod-lt}
 use Rattle.std.proofs.lemmas.Bool.{ltb-true}
@@ -14,9 +14,11 @@ use Rattle.dcc_num.specs.declared.Half.TheVariants.{Low, High}
 use Rattle.dcc_prog.specs.Machine.{reg_number, word_with_half}
 use Rattle.dcc_c.specs.declared.syntax.Base.TheVariants.{Uint}
 use Rattle.dcc_c.specs.declared.syntax.CBin.{CBin}
-use Rattle.dcc_c.specs.declared.syntax.CBin.TheVariants.{Or, And, Add, Sub}
+use Rattle.dcc_c.specs.declared.syntax.CBin.TheVariants.{Or, Xor, And, Add, Sub}
 use Rattle.dcc_c.specs.Tree.{Expr, Binary}
-use Rattle.dcc_c.specs.Value.{binary_value, both_values, value, Binding, held_by, after_assignment, value_of}
+use Rattle.dcc_c.specs.Types.{plain}
+use Rattle.dcc_c.specs.Value.{binary_value, both_values, number as value, Value, Outcome, Gives, and_then, Unplaced, Binding, after_assignment, Scope, value_of, ToVariable, target_of}
+use Rattle.dcc_c.specs.Plain.{covers_operator}
 use Rattle.dcc_top.specs.declared.form.Form.{Form}
 use Rattle.dcc_top.specs.declared.form.Form.TheVariants.{Move, MoveHalf, Increase, Decrease, MoveSegment, PutChar, Leave}
 use Rattle.dcc_top.specs.declared.form.Term.{Term}
@@ -40,7 +42,7 @@ abbrev pub list_of : Words → List ℕ
 list_of w = w.ax ∷ w.cx ∷ w.dx ∷ w.bx ∷ w.sp ∷ w.bp ∷ w.si ∷ w.di ∷ []
 
 abbrev pub bound_to : Reg → ℕ → Binding
-bound_to r v = record { name = variable_name r; held = value Uint v }
+bound_to r v = record { name = variable_name r; type = plain Uint; is_array = false; storage = Unplaced v }
 
 -- the variables with the registers' values
 abbrev pub bindings_of : Words → List Binding
@@ -48,6 +50,10 @@ bindings_of w =
     bound_to Ax w.ax ∷ bound_to Cx w.cx ∷ bound_to Dx w.dx ∷ bound_to Bx w.bx ∷ bound_to Si w.si
     ∷ bound_to Di w.di
     ∷ []
+
+-- what the text's expressions are evaluated over
+abbrev pub scope_of_words : Words → List ℕ → Scope
+scope_of_words w memory = record { variables = bindings_of w; memory = memory }
 
 abbrev pub word_of : Words → Reg → ℕ
 word_of w Ax = w.ax
@@ -100,15 +106,25 @@ list-written w Bp v = refl
 list-written w Si v = refl
 list-written w Di v = refl
 
-pub binding-read : (w : Words) (r : Reg) → has_variable r ≡ true → held_by (bindings_of w) (variable_name r) ≡ Some (value Uint (word_of w r))
-binding-read w Ax h = refl
-binding-read w Cx h = refl
-binding-read w Dx h = refl
-binding-read w Bx h = refl
-binding-read w Sp h = cc
-binding-read w Bp h = cc
-binding-read w Si h = refl
-binding-read w Di h = refl
+pub binding-read : (w : Words) (memory : List ℕ) (r : Reg) → has_variable r ≡ true → value_of (scope_of_words w memory) (name r) ≡ Gives (value Uint (word_of w r))
+binding-read w memory Ax h = refl
+binding-read w memory Cx h = refl
+binding-read w memory Dx h = refl
+binding-read w memory Bx h = refl
+binding-read w memory Sp h = cc
+binding-read w memory Bp h = cc
+binding-read w memory Si h = refl
+binding-read w memory Di h = refl
+
+pub binding-target : (w : Words) (memory : List ℕ) (r : Reg) → has_variable r ≡ true → target_of (scope_of_words w memory) (name r) ≡ Gives (ToVariable (variable_name r))
+binding-target w memory Ax h = refl
+binding-target w memory Cx h = refl
+binding-target w memory Dx h = refl
+binding-target w memory Bx h = refl
+binding-target w memory Sp h = cc
+binding-target w memory Bp h = cc
+binding-target w memory Si h = refl
+binding-target w memory Di h = refl
 
 binding-written_mod : (w : Words) (r : Reg) (v : ℕ) → has_variable r ≡ true → after_assignment (bindings_of w) (variable_name r) (value Uint v) ≡ bindings_of (with_word w r (v % 65536))
 binding-written_mod w Ax v h = refl
@@ -154,9 +170,9 @@ pub term-fits : (w : Words) (t : Term) → AreWords w → fits_term t ≡ true �
 term-fits w (Register q) a h = word-fits w q a h
 term-fits w (Number c) a h = ltb-true c 65536 h
 
-pub term-value : (w : Words) (t : Term) → AreWords w → fits_term t ≡ true → value_of (bindings_of w) (term_expr t) ≡ Some (value Uint (term_value w t))
-term-value w (Register q) a h = binding-read w q h
-term-value w (Number c) a h = ap (λ n. Some (value Uint n)) (mod-eq_of_lt (ltb-true c 65536 h))
+pub term-value : (w : Words) (memory : List ℕ) (t : Term) → AreWords w → fits_term t ≡ true → value_of (scope_of_words w memory) (term_expr t) ≡ Gives (value Uint (term_value w t))
+term-value w memory (Register q) a h = binding-read w memory q h
+term-value w memory (Number c) a h = ap (λ n. Gives (value Uint n)) (mod-eq_of_lt (ltb-true c 65536 h))
 
 -- the registers after a form
 abbrev pub after_form : Form → Words → Words
@@ -187,20 +203,46 @@ keep_high v h =
 keep_low : (v : ℕ) → bit_and v 255 ≡ v % 256
 keep_low v = and_mask v 8
 
+-- the operators of a line on two unsigned numbers
+plainly : (operator : CBin) (a b : ℕ) → covers_operator operator ≡ true → both_values operator (value Uint a) (value Uint b) ≡ binary_value operator Uint (a % 65536) (b % 65536)
+plainly Or a b is = refl
+plainly Xor a b is = refl
+plainly And a b is = refl
+plainly Add a b is = refl
+plainly Sub a b is = refl
+plainly _ a b is = cc
+
 -- the value of an operator on two unsigned numbers that fit
-both-words : (operator : CBin) (a b : ℕ) → a < 65536 → b < 65536 → both_values operator (Some (value Uint a)) (Some (value Uint b)) ≡ binary_value operator Uint a b
-both-words operator a b ha hb =
-    ap (λ n. binary_value operator Uint n (b % 65536)) (mod-eq_of_lt ha) ∙ ap (λ n. binary_value operator Uint a n) (mod-eq_of_lt hb)
+both-words : (operator : CBin) (a b : ℕ) → covers_operator operator ≡ true → a < 65536 → b < 65536 → both_values operator (value Uint a) (value Uint b) ≡ binary_value operator Uint a b
+both-words operator a b is ha hb =
+    plainly operator a b is
+    ∙ ap (λ n. binary_value operator Uint n (b % 65536)) (mod-eq_of_lt ha)
+    ∙ ap (λ n. binary_value operator Uint a n) (mod-eq_of_lt hb)
+
+-- the value of such an operator, by those of its operands
+joined : CBin → Outcome Value → Outcome Value → Outcome Value
+joined operator u v = and_then (λ p. and_then (both_values operator p) v) u
+
+is-joined : (scope : Scope) (operator : CBin) (x y : Expr) → covers_operator operator ≡ true → value_of scope (Binary operator x y) ≡ joined operator (value_of scope x) (value_of scope y)
+unfolding joined
+is-joined scope Or x y is = refl
+is-joined scope Xor x y is = refl
+is-joined scope And x y is = refl
+is-joined scope Add x y is = refl
+is-joined scope Sub x y is = refl
+is-joined scope _ x y is = cc
 
 -- the value of an expression with an operator, from those of its operands
-binary-value : (w : Words) (operator : CBin) (x y : Expr) (a b : ℕ) → value_of (bindings_of w) x ≡ Some (value Uint a) → value_of (bindings_of w) y ≡ Some (value Uint b) → a < 65536 → b < 65536 → value_of (bindings_of w) (Binary operator x y) ≡ binary_value operator Uint a b
-binary-value w operator x y a b hx hy ha hb =
-    ap (λ v. both_values operator v (value_of (bindings_of w) y)) hx
-    ∙ ap (λ v. both_values operator (Some (value Uint a)) v) hy
-    ∙ both-words operator a b ha hb
+binary-value : (w : Words) (memory : List ℕ) (operator : CBin) (x y : Expr) (a b : ℕ) → covers_operator operator ≡ true → value_of (scope_of_words w memory) x ≡ Gives (value Uint a) → value_of (scope_of_words w memory) y ≡ Gives (value Uint b) → a < 65536 → b < 65536 → value_of (scope_of_words w memory) (Binary operator x y) ≡ binary_value operator Uint a b
+unfolding joined
+binary-value w memory operator x y a b is hx hy ha hb =
+    is-joined (scope_of_words w memory) operator x y is
+    ∙ ap (λ u. joined operator u (value_of (scope_of_words w memory) y)) hx
+    ∙ ap (joined operator (Gives (value Uint a))) hy
+    ∙ both-words operator a b is ha hb
 
-pub number-value : (w : Words) (c : ℕ) → c < 65536 → value_of (bindings_of w) (number c) ≡ Some (value Uint c)
-number-value w c h = ap (λ n. Some (value Uint n)) (mod-eq_of_lt h)
+pub number-value : (w : Words) (memory : List ℕ) (c : ℕ) → c < 65536 → value_of (scope_of_words w memory) (number c) ≡ Gives (value Uint c)
+number-value w memory c h = ap (λ n. Gives (value Uint n)) (mod-eq_of_lt h)
 
 low-below : (v : ℕ) → v % 256 < 256
 low-below v = let pos : 0 < 256 = omega arith in mod-lt v pos
@@ -209,34 +251,34 @@ pub half-fits : (half : Half) (v c : ℕ) → v < 65536 → c < 256 → word_wit
 half-fits Low v c h k = omega (arith, high-below v h)
 half-fits High v c h k = omega (arith, low-below v)
 
-pub half-value : (w : Words) (r : Reg) (half : Half) (c : ℕ) → AreWords w → has_variable r ≡ true → c < 256 → value_of (bindings_of w) (half_expr r half c) ≡ Some (value Uint (word_with_half half (word_of w r) c))
-half-value w r Low c a h k =
+pub half-value : (w : Words) (memory : List ℕ) (r : Reg) (half : Half) (c : ℕ) → AreWords w → has_variable r ≡ true → c < 256 → value_of (scope_of_words w memory) (half_expr r half c) ≡ Gives (value Uint (word_with_half half (word_of w r) c))
+half-value w memory r Low c a h k =
     let v = word_of w r in
     let fits : v < 65536 = word-fits w r a h in
-    let inner = binary-value w And (name r) (number 65280) v 65280 (binding-read w r h) (number-value w 65280 (omega arith)) fits (omega arith) in
+    let inner = binary-value w memory And (name r) (number 65280) v 65280 refl (binding-read w memory r h) (number-value w memory 65280 (omega arith)) fits (omega arith) in
     let masked : bit_and v 65280 < 65536 = omega (arith, and_le_l v 65280) in
     let small : c < 65536 = omega arith in
     let low : c < 2 ^ 8 = k in
-    binary-value w Or (Binary And (name r) (number 65280)) (number c) (bit_and v 65280) c inner (number-value w c small) masked small
-    ∙ ap (λ n. Some (value Uint n)) (ap (λ m. bit_or m c) (keep_high v fits) ∙ or_shifted (v / 256) 8 c low)
-half-value w r High c a h k =
+    binary-value w memory Or (Binary And (name r) (number 65280)) (number c) (bit_and v 65280) c refl inner (number-value w memory c small) masked small
+    ∙ ap (λ n. Gives (value Uint n)) (ap (λ m. bit_or m c) (keep_high v fits) ∙ or_shifted (v / 256) 8 c low)
+half-value w memory r High c a h k =
     let v = word_of w r in
     let fits : v < 65536 = word-fits w r a h in
-    let inner = binary-value w And (name r) (number 255) v 255 (binding-read w r h) (number-value w 255 (omega arith)) fits (omega arith) in
+    let inner = binary-value w memory And (name r) (number 255) v 255 refl (binding-read w memory r h) (number-value w memory 255 (omega arith)) fits (omega arith) in
     let masked : bit_and v 255 < 65536 = omega (arith, and_le_r v 255) in
     let small : 256 * c < 65536 = omega arith in
     let low : v % 256 < 2 ^ 8 = low-below v in
     let swapped : 256 * c ≡ c * 256 = omega arith in
-    binary-value w Or (Binary And (name r) (number 255)) (number (256 * c)) (bit_and v 255) (256 * c) inner (number-value w (256 * c) small) masked small
-    ∙ ap (λ n. Some (value Uint n)) (ap (λ m. bit_or m (256 * c)) (keep_low v) ∙ or_comm (v % 256) (256 * c) ∙ ap (λ m. bit_or m (v % 256)) swapped ∙ or_shifted c 8 (v % 256) low)
+    binary-value w memory Or (Binary And (name r) (number 255)) (number (256 * c)) (bit_and v 255) (256 * c) refl inner (number-value w memory (256 * c) small) masked small
+    ∙ ap (λ n. Gives (value Uint n)) (ap (λ m. bit_or m (256 * c)) (keep_low v) ∙ or_comm (v % 256) (256 * c) ∙ ap (λ m. bit_or m (v % 256)) swapped ∙ or_shifted c 8 (v % 256) low)
 
-pub sum-value : (w : Words) (r : Reg) (t : Term) → AreWords w → has_variable r ≡ true → fits_term t ≡ true → value_of (bindings_of w) (Binary Add (name r) (term_expr t)) ≡ Some (value Uint ((word_of w r + term_value w t) % 65536))
-sum-value w r t a h k =
-    binary-value w Add (name r) (term_expr t) (word_of w r) (term_value w t) (binding-read w r h) (term-value w t a k) (word-fits w r a h) (term-fits w t a k)
+pub sum-value : (w : Words) (memory : List ℕ) (r : Reg) (t : Term) → AreWords w → has_variable r ≡ true → fits_term t ≡ true → value_of (scope_of_words w memory) (Binary Add (name r) (term_expr t)) ≡ Gives (value Uint ((word_of w r + term_value w t) % 65536))
+sum-value w memory r t a h k =
+    binary-value w memory Add (name r) (term_expr t) (word_of w r) (term_value w t) refl (binding-read w memory r h) (term-value w memory t a k) (word-fits w r a h) (term-fits w t a k)
 
-pub difference-value : (w : Words) (r : Reg) (t : Term) → AreWords w → has_variable r ≡ true → fits_term t ≡ true → value_of (bindings_of w) (Binary Sub (name r) (term_expr t)) ≡ Some (value Uint ((word_of w r + 65536 - term_value w t) % 65536))
-difference-value w r t a h k =
-    binary-value w Sub (name r) (term_expr t) (word_of w r) (term_value w t) (binding-read w r h) (term-value w t a k) (word-fits w r a h) (term-fits w t a k)
+pub difference-value : (w : Words) (memory : List ℕ) (r : Reg) (t : Term) → AreWords w → has_variable r ≡ true → fits_term t ≡ true → value_of (scope_of_words w memory) (Binary Sub (name r) (term_expr t)) ≡ Gives (value Uint ((word_of w r + 65536 - term_value w t) % 65536))
+difference-value w memory r t a h k =
+    binary-value w memory Sub (name r) (term_expr t) (word_of w r) (term_value w t) refl (binding-read w memory r h) (term-value w memory t a k) (word-fits w r a h) (term-fits w t a k)
 
 -- a form leaves words in the registers
 pub form-keeps_words : (form : Form) (w : Words) → AreWords w → fits_form form ≡ true → AreWords (after_form form w)

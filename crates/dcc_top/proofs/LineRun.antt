@@ -5,7 +5,7 @@ use Rattle.std.proofs.lemmas.Bool.{ltb-true}
 use Rattle.std.proofs.lemmas.Nat.{div-mul-add}
 use Rattle.std.proofs.Math.Nat.{mod-lt}
 use Rattle.dcc_run.specs.End.{End, Running, Exit, Stuck, is_over}
-use Rattle.dcc_run.specs.System.{end_after}
+use Rattle.dcc_run.specs.System.{System, end_after}
 use Rattle.dcc_run.specs.Follows.{Stands}
 use Rattle.dcc_num.specs.declared.Reg.{Reg}
 use Rattle.dcc_num.specs.declared.Reg.TheVariants.{Ax, Cx, Dx, Bx, Sp, Bp, Si, Di}
@@ -23,18 +23,20 @@ use Rattle.dcc_prog.specs.declared.instr.Operand.{Operand}
 use Rattle.dcc_prog.specs.declared.instr.Operand.TheVariants.{Word as WordOperand, Byte, Seg, Const}
 use Rattle.dcc_prog.specs.declared.instr.Op.{Op}
 use Rattle.dcc_prog.specs.declared.instr.Op.TheVariants.{Alu as AluOp, Mov, Int21}
-use Rattle.dcc_c.specs.declared.syntax.Base.TheVariants.{Uint}
+use Rattle.dcc_c.specs.declared.syntax.Base.TheVariants.{Uchar, Uint}
 use Rattle.dcc_c.specs.declared.syntax.CBin.TheVariants.{Add, Sub}
 use Rattle.dcc_c.specs.Tree.{Expr, Binary, Stmt, Assign, Lines, line}
-use Rattle.dcc_c.specs.Value.{value, value_of, held_by, after_assignment}
-use Rattle.dcc_c.specs.Run.{Continuation, runs, State, assign_step, dos_step, stmt_step, step_at, step as text_step, text_system}
+use Rattle.dcc_c.specs.Types.{plain}
+use Rattle.dcc_c.specs.Value.{Value, number as value, converted, Outcome, Gives, and_then, Binding, after_assignment, value_of, Target, ToVariable, target_of}
+use Rattle.dcc_c.specs.Dos.{Putc, Leave as dos_leave}
+use Rattle.dcc_c.specs.Run.{Continuation, runs, State, goes_on as going_on, on, scope_of, takes, arguments_of, dos_step, stmt_step, step_at, step, text_system}
 use Rattle.dcc_top.specs.declared.form.Form.{Form}
 use Rattle.dcc_top.specs.declared.form.Form.TheVariants.{Move, MoveHalf, Increase, Decrease, MoveSegment, PutChar, Leave}
 use Rattle.dcc_top.specs.declared.form.Term.{Term}
 use Rattle.dcc_top.specs.declared.form.Term.TheVariants.{Register, Number}
 use Rattle.dcc_top.specs.Line.{Built, built_from, built_at, op_form, ah_after, ah_after_term, ah_after_half, ah_after_sum, Comes, at_entry, goes_on, Ends, has_variable, only_if, dos_form, term_of, register_form}
-use Rattle.dcc_top.specs.LineText.{variable_name, name, number, term_expr, half_expr, dos_call, statement_of, fits_form, fits_term}
-use Rattle.dcc_top.proofs.LineForms.{Words, bindings_of, word_of, with_word, AreWords, binding-read, binding-written, word-fits, term_value, term-value, term-fits, half-value, half-fits, sum-value, difference-value, after_form}
+use Rattle.dcc_top.specs.LineText.{variable_name, name, number, term_expr, half_expr, dos_call, statement_of, fits_form, fits_term, tree_of}
+use Rattle.dcc_top.proofs.LineForms.{Words, bindings_of, scope_of_words, word_of, with_word, AreWords, binding-read, binding-target, binding-written, word-fits, term_value, term-value, term-fits, half-value, half-fits, sum-value, difference-value, after_form}
 use Rattle.dcc_top.proofs.LineMachine.{only_if-some, register_form-some, dos-cases, out_after_form, MachineAt, HoldsAh}
 
 below_word : (n : ℕ) → n % 65536 < 65536
@@ -45,25 +47,40 @@ low_below n = let pos : 0 < 256 = omega arith in mod-lt n pos
 
 -- The text's side.
 
+-- the steps and the runs of the text of these forms
+abbrev pub text_step : List Form → State → State
+text_step all s = step (tree_of all) s
+
+abbrev pub text_runs : List Form → System State
+text_runs all = text_system (tree_of all)
+
 -- the text is about to execute the rest, with these variables, and has put this out
 pub record TextAt (rest : Continuation) (w : Words) (out : List ℕ) (s : State) : Type 0 where
   pub rest_is : s.rest ≡ rest
-  pub variables : s.variables ≡ bindings_of w
+  pub variables : s.frame.variables ≡ bindings_of w
   pub out_is : s.out ≡ out
   pub running : s.end ≡ Running
 
 -- the step that executes a statement
-text_step-is : (stmt : Stmt) (at : ℕ) (lines : Lines) (k : Continuation) (w : Words) (out : List ℕ) (s : State) → TextAt (runs (line stmt at lines) k) w out s → text_step s ≡ stmt_step stmt at (record s { rest = runs lines k })
-text_step-is stmt at lines k w out s t =
-    ap (λ e. if is_over e then s else step_at s.rest s) t.running ∙ ap (λ r. step_at r s) t.rest_is
+text_step-is : (all : List Form) (stmt : Stmt) (at : ℕ) (lines : Lines) (k : Continuation) (w : Words) (out : List ℕ) (s : State) → TextAt (runs (line stmt at lines) k) w out s → text_step all s ≡ stmt_step (tree_of all) stmt at (going_on (runs lines k) s)
+text_step-is all stmt at lines k w out s t =
+    ap (λ e. if is_over e then s else step_at (tree_of all) s.rest s) t.running ∙ ap (λ r. step_at (tree_of all) r s) t.rest_is
+
+-- what the text's expressions are evaluated over
+scope-is : (all : List Form) (w : Words) (s : State) → s.frame.variables ≡ bindings_of w → scope_of (tree_of all) s ≡ scope_of_words w s.memory
+scope-is all w s is = ap (λ (vs : List Binding). record { variables = vs ++ []; memory = s.memory }) is
 
 -- an assignment of a word to a register's variable
-pub text-assigns : (r : Reg) (e : Expr) (v at : ℕ) (lines : Lines) (k : Continuation) (w : Words) (out : List ℕ) (s : State) → TextAt (runs (line (Assign (name r) e) at lines) k) w out s → has_variable r ≡ true → value_of (bindings_of w) e ≡ Some (value Uint v) → v < 65536 → TextAt (runs lines k) (with_word w r v) out (text_step s)
-text-assigns r e v at lines k w out s t h is fits =
-    let there : State = record s { rest = runs lines k } in
-    let got = ap (λ b. value_of b e) t.variables ∙ is in
-    let does = text_step-is (Assign (name r) e) at lines k w out s t ∙ ap (λ o. assign_step (variable_name r) o at there) got in
-    let after : TextAt (runs lines k) (with_word w r v) out (assign_step (variable_name r) (Some (value Uint v)) at there) =
+pub text-assigns : (all : List Form) (r : Reg) (e : Expr) (v at : ℕ) (lines : Lines) (k : Continuation) (w : Words) (out : List ℕ) (s : State) → TextAt (runs (line (Assign (name r) e) at lines) k) w out s → has_variable r ≡ true → ((memory : List ℕ) → value_of (scope_of_words w memory) e ≡ Gives (value Uint v)) → v < 65536 → TextAt (runs lines k) (with_word w r v) out (text_step all s)
+text-assigns all r e v at lines k w out s t h is fits =
+    let there : State = going_on (runs lines k) s in
+    let next : Outcome Target → Value → State = λ o p. on o at there (λ target. takes target p there) in
+    let does : text_step all s ≡ takes (ToVariable (variable_name r)) (value Uint v) there =
+    text_step-is all (Assign (name r) e) at lines k w out s t
+    ∙ ap (λ scope. on (value_of scope e) at there (next (target_of scope (name r)))) (scope-is all w there t.variables)
+    ∙ ap (λ o. on o at there (next (target_of (scope_of_words w s.memory) (name r)))) (is s.memory)
+    ∙ ap (λ o. next o (value Uint v)) (binding-target w s.memory r h) in
+    let after : TextAt (runs lines k) (with_word w r v) out (takes (ToVariable (variable_name r)) (value Uint v) there) =
     record {
       rest_is = refl;
       variables = ap (λ b. after_assignment b (variable_name r) (value Uint v)) t.variables ∙ binding-written w r v h fits;
@@ -72,15 +89,19 @@ text-assigns r e v at lines k w out s t h is fits =
     } in
     subst (λ u. TextAt (runs lines k) (with_word w r v) out u) (sym does) after
 
--- what the variable of a register holds
-variable-read : (w : Words) (s : State) (r : Reg) → s.variables ≡ bindings_of w → has_variable r ≡ true → value_of s.variables (name r) ≡ Some (value Uint (word_of w r))
-variable-read w s r e h = ap (λ b. held_by b (variable_name r)) e ∙ binding-read w r h
+-- the argument of a DOS call, which takes a byte
+arguments-are : (all : List Form) (w : Words) (s : State) (r : Reg) → s.frame.variables ≡ bindings_of w → has_variable r ≡ true → arguments_of (scope_of (tree_of all) s) (plain Uchar ∷ []) (name r ∷ []) ≡ Gives (value Uchar (word_of w r % 256) ∷ [])
+arguments-are all w s r is h =
+    ap (λ scope. arguments_of scope (plain Uchar ∷ []) (name r ∷ [])) (scope-is all w s is)
+    ∙ ap (and_then (λ v. Gives (converted (plain Uchar) v ∷ []))) (binding-read w s.memory r h)
 
-text-puts : (at : ℕ) (lines : Lines) (k : Continuation) (w : Words) (out : List ℕ) (s : State) → TextAt (runs (line (dos_call (codes "dos_putc") Dx) at lines) k) w out s → TextAt (runs lines k) w (out ++ w.dx % 256 ∷ []) (text_step s)
-text-puts at lines k w out s t =
-    let there : State = record s { rest = runs lines k } in
-    let does = text_step-is (dos_call (codes "dos_putc") Dx) at lines k w out s t ∙ ap (λ o. dos_step (codes "dos_putc") o at there) (variable-read w s Dx t.variables refl) in
-    let after : TextAt (runs lines k) w (out ++ w.dx % 256 ∷ []) (dos_step (codes "dos_putc") (Some (value Uint w.dx)) at there) =
+pub text-puts : (all : List Form) (at : ℕ) (lines : Lines) (k : Continuation) (w : Words) (out : List ℕ) (s : State) → TextAt (runs (line (dos_call (codes "dos_putc") Dx) at lines) k) w out s → TextAt (runs lines k) w (out ++ w.dx % 256 ∷ []) (text_step all s)
+text-puts all at lines k w out s t =
+    let there : State = going_on (runs lines k) s in
+    let does : text_step all s ≡ dos_step Putc None (value Uchar (w.dx % 256) ∷ []) at there =
+    text_step-is all (dos_call (codes "dos_putc") Dx) at lines k w out s t
+    ∙ ap (λ o. on o at there (λ vs. dos_step Putc None vs at there)) (arguments-are all w there Dx t.variables refl) in
+    let after : TextAt (runs lines k) w (out ++ w.dx % 256 ∷ []) (dos_step Putc None (value Uchar (w.dx % 256) ∷ []) at there) =
     record {
       rest_is = refl;
       variables = t.variables;
@@ -90,38 +111,40 @@ text-puts at lines k w out s t =
     subst (λ u. TextAt (runs lines k) w (out ++ w.dx % 256 ∷ []) u) (sym does) after
 
 -- the end by the call that leaves
-pub text-leaves : (at : ℕ) (lines : Lines) (k : Continuation) (w : Words) (out : List ℕ) (s : State) → TextAt (runs (line (dos_call (codes "dos_exit") Ax) at lines) k) w out s → ((text_step s).end ≡ Exit (w.ax % 256)) × ((text_step s).out ≡ out)
-text-leaves at lines k w out s t =
-    let there : State = record s { rest = runs lines k } in
-    let does = text_step-is (dos_call (codes "dos_exit") Ax) at lines k w out s t ∙ ap (λ o. dos_step (codes "dos_exit") o at there) (variable-read w s Ax t.variables refl) in
+pub text-leaves : (all : List Form) (at : ℕ) (lines : Lines) (k : Continuation) (w : Words) (out : List ℕ) (s : State) → TextAt (runs (line (dos_call (codes "dos_exit") Ax) at lines) k) w out s → ((text_step all s).end ≡ Exit (w.ax % 256)) × ((text_step all s).out ≡ out)
+text-leaves all at lines k w out s t =
+    let there : State = going_on (runs lines k) s in
+    let does : text_step all s ≡ dos_step dos_leave None (value Uchar (w.ax % 256) ∷ []) at there =
+    text_step-is all (dos_call (codes "dos_exit") Ax) at lines k w out s t
+    ∙ ap (λ o. on o at there (λ vs. dos_step dos_leave None vs at there)) (arguments-are all w there Ax t.variables refl) in
     (ap (λ u. u.end) does, ap (λ u. u.out) does ∙ t.out_is)
 
 -- the statement of a form does to the variables what the form does to the registers
-pub text-form : (form : Form) (stmt : Stmt) (at : ℕ) (lines : Lines) (k : Continuation) (w : Words) (out : List ℕ) (s : State) → AreWords w → fits_form form ≡ true → form ≢ Leave → statement_of form ≡ Some stmt → TextAt (runs (line stmt at lines) k) w out s → TextAt (runs lines k) (after_form form w) (out_after_form form w out) (text_step s)
-text-form (Move r t) stmt at lines k w out s a h ne is x =
+pub text-form : (all : List Form) (form : Form) (stmt : Stmt) (at : ℕ) (lines : Lines) (k : Continuation) (w : Words) (out : List ℕ) (s : State) → AreWords w → fits_form form ≡ true → form ≢ Leave → statement_of form ≡ Some stmt → TextAt (runs (line stmt at lines) k) w out s → TextAt (runs lines k) (after_form form w) (out_after_form form w out) (text_step all s)
+text-form all (Move r t) stmt at lines k w out s a h ne is x =
     let x' = subst (λ o. TextAt (runs (line o at lines) k) w out s) (let e : stmt ≡ Assign (name r) (term_expr t) = cc in e) x in
     let fits = and_right (has_variable r) (fits_term t) h in
-    text-assigns r (term_expr t) (term_value w t) at lines k w out s x' (and_left (has_variable r) (fits_term t) h) (term-value w t a fits) (term-fits w t a fits)
-text-form (MoveHalf r half c) stmt at lines k w out s a h ne is x =
+    text-assigns all r (term_expr t) (term_value w t) at lines k w out s x' (and_left (has_variable r) (fits_term t) h) (λ memory. term-value w memory t a fits) (term-fits w t a fits)
+text-form all (MoveHalf r half c) stmt at lines k w out s a h ne is x =
     let x' = subst (λ o. TextAt (runs (line o at lines) k) w out s) (let e : stmt ≡ Assign (name r) (half_expr r half c) = cc in e) x in
     let has = and_left (has_variable r) (nat_lt c 256) h in
     let fits = ltb-true c 256 (and_right (has_variable r) (nat_lt c 256) h) in
-    text-assigns r (half_expr r half c) (machine.word_with_half half (word_of w r) c) at lines k w out s x' has (half-value w r half c a has fits) (half-fits half (word_of w r) c (word-fits w r a has) fits)
-text-form (Increase r t) stmt at lines k w out s a h ne is x =
+    text-assigns all r (half_expr r half c) (machine.word_with_half half (word_of w r) c) at lines k w out s x' has (λ memory. half-value w memory r half c a has fits) (half-fits half (word_of w r) c (word-fits w r a has) fits)
+text-form all (Increase r t) stmt at lines k w out s a h ne is x =
     let x' = subst (λ o. TextAt (runs (line o at lines) k) w out s) (let e : stmt ≡ Assign (name r) (Binary Add (name r) (term_expr t)) = cc in e) x in
     let has = and_left (has_variable r) (fits_term t) h in
     let fits = and_right (has_variable r) (fits_term t) h in
-    text-assigns r (Binary Add (name r) (term_expr t)) ((word_of w r + term_value w t) % 65536) at lines k w out s x' has (sum-value w r t a has fits) (below_word (word_of w r + term_value w t))
-text-form (Decrease r t) stmt at lines k w out s a h ne is x =
+    text-assigns all r (Binary Add (name r) (term_expr t)) ((word_of w r + term_value w t) % 65536) at lines k w out s x' has (λ memory. sum-value w memory r t a has fits) (below_word (word_of w r + term_value w t))
+text-form all (Decrease r t) stmt at lines k w out s a h ne is x =
     let x' = subst (λ o. TextAt (runs (line o at lines) k) w out s) (let e : stmt ≡ Assign (name r) (Binary Sub (name r) (term_expr t)) = cc in e) x in
     let has = and_left (has_variable r) (fits_term t) h in
     let fits = and_right (has_variable r) (fits_term t) h in
-    text-assigns r (Binary Sub (name r) (term_expr t)) ((word_of w r + 65536 - term_value w t) % 65536) at lines k w out s x' has (difference-value w r t a has fits) (below_word (word_of w r + 65536 - term_value w t))
-text-form MoveSegment stmt at lines k w out s a h ne is x = cc
-text-form PutChar stmt at lines k w out s a h ne is x =
+    text-assigns all r (Binary Sub (name r) (term_expr t)) ((word_of w r + 65536 - term_value w t) % 65536) at lines k w out s x' has (λ memory. difference-value w memory r t a has fits) (below_word (word_of w r + 65536 - term_value w t))
+text-form all MoveSegment stmt at lines k w out s a h ne is x = cc
+text-form all PutChar stmt at lines k w out s a h ne is x =
     let x' = subst (λ o. TextAt (runs (line o at lines) k) w out s) (let e : stmt ≡ dos_call (codes "dos_putc") Dx = cc in e) x in
-    text-puts at lines k w out s x'
-text-form Leave stmt at lines k w out s a h ne is x = absurd (ne refl)
+    text-puts all at lines k w out s x'
+text-form all Leave stmt at lines k w out s a h ne is x = absurd (ne refl)
 
 -- What AH is known to hold stays true.
 
@@ -275,22 +298,22 @@ op-fits ah len _ form h = cc
 -- Both sides together.
 
 -- after each number of the machine's steps the text stands there, after at most so many more
-abbrev pub TextMeets : ℕ → machine.State → State → Type 0
-TextMeets more s t =
-    (n : ℕ) → (k : ℕ) × (k ≤ n + more) × Stands machine_system s n text_system t k
+abbrev pub TextMeets : List Form → ℕ → machine.State → State → Type 0
+TextMeets all more s t =
+    (n : ℕ) → (k : ℕ) × (k ≤ n + more) × Stands machine_system s n (text_runs all) t k
 
 -- after each number of the text's steps the machine stands there, after at most so many, and the text is not stuck
-abbrev pub MachineMeets : ℕ → machine.State → State → Type 0
-MachineMeets most s t =
+abbrev pub MachineMeets : List Form → ℕ → machine.State → State → Type 0
+MachineMeets all most s t =
     (k : ℕ)
-    → (n : ℕ) × (n ≤ most) × Stands text_system t k machine_system s n × ((at : ℕ) → end_after text_system k t ≢ Stuck at)
+    → (n : ℕ) × (n ≤ most) × Stands (text_runs all) t k machine_system s n × ((at : ℕ) → end_after (text_runs all) k t ≢ Stuck at)
 
 -- both stand at the same place
-pub same-place : (image : Image) (at : ℕ) (w : Words) (out : List ℕ) (s : machine.State) (rest : Continuation) (t : State) → MachineAt image at w out s → TextAt rest w out t → Stands machine_system s 0 text_system t 0
-same-place image at w out s rest t m x = record { out = x.out_is ∙ sym m.out_is; end = x.running ∙ sym m.running }
+pub same-place : (all : List Form) (image : Image) (at : ℕ) (w : Words) (out : List ℕ) (s : machine.State) (rest : Continuation) (t : State) → MachineAt image at w out s → TextAt rest w out t → Stands machine_system s 0 (text_runs all) t 0
+same-place all image at w out s rest t m x = record { out = x.out_is ∙ sym m.out_is; end = x.running ∙ sym m.running }
 
-pub same-place_back : (image : Image) (at : ℕ) (w : Words) (out : List ℕ) (s : machine.State) (rest : Continuation) (t : State) → MachineAt image at w out s → TextAt rest w out t → Stands text_system t 0 machine_system s 0
-same-place_back image at w out s rest t m x = record { out = m.out_is ∙ sym x.out_is; end = m.running ∙ sym x.running }
+pub same-place_back : (all : List Form) (image : Image) (at : ℕ) (w : Words) (out : List ℕ) (s : machine.State) (rest : Continuation) (t : State) → MachineAt image at w out s → TextAt rest w out t → Stands (text_runs all) t 0 machine_system s 0
+same-place_back all image at w out s rest t m x = record { out = m.out_is ∙ sym x.out_is; end = m.running ∙ sym x.running }
 
 pub running-unstuck : (e : End) → e ≡ Running → (at : ℕ) → e ≢ Stuck at
 running-unstuck e is at stuck = let both : Running ≡ Stuck at = sym is ∙ stuck in cc
@@ -299,12 +322,12 @@ pub exit-unstuck : (e : End) (code : ℕ) → e ≡ Exit code → (at : ℕ) →
 exit-unstuck e code is at stuck = let both : Exit code ≡ Stuck at = sym is ∙ stuck in cc
 
 -- a silent step of the text
-pub text_meets-later : (more : ℕ) (s : machine.State) (t : State) → TextMeets more s (text_step t) → TextMeets (suc more) s t
-text_meets-later more s t meets n =
+pub text_meets-later : (all : List Form) (more : ℕ) (s : machine.State) (t : State) → TextMeets all more s (text_step all t) → TextMeets all (suc more) s t
+text_meets-later all more s t meets n =
     let h = meets n in (suc h.0, omega (arith, h.1), record { out = h.2.out; end = h.2.end })
 
-pub machine_meets-later : (most : ℕ) (s : machine.State) (t : State) → s.out ≡ t.out → s.end ≡ Running → t.end ≡ Running → MachineMeets most s (text_step t) → MachineMeets most s t
-machine_meets-later most s t out sr tr meets zero =
+pub machine_meets-later : (all : List Form) (most : ℕ) (s : machine.State) (t : State) → s.out ≡ t.out → s.end ≡ Running → t.end ≡ Running → MachineMeets all most s (text_step all t) → MachineMeets all most s t
+machine_meets-later all most s t out sr tr meets zero =
     (0, omega arith, record { out = out; end = sr ∙ sym tr }, running-unstuck t.end tr)
-machine_meets-later most s t out sr tr meets (suc k) =
+machine_meets-later all most s t out sr tr meets (suc k) =
     let h = meets k in (h.0, h.1, record { out = h.2.out; end = h.2.end }, h.3)

@@ -18,7 +18,7 @@ abbrev pub head : Word
 head =
     codes "#pragma dcc text 1\n#pragma dcc stack 0 0\nvoid start(void)\n{\n    unsigned int v1;\n    unsigned int v2;\n    unsigned int v3;\n    unsigned int v4;\n    unsigned int v5;\n    unsigned int v6;\n    v1 = 0U;\n    v2 = 0U;\n    v3 = 0U;\n    v4 = 0U;\n    v5 = 0U;\n    v6 = 0U;\n"
 
-lines-written : (forms : List Form) (at : ℕ) → written_lines 1 (lines_of forms at) ≡ flat_map statement_bytes forms
+lines-written : (forms : List Form) (at : ℕ) → written_lines 1 2 (lines_of forms at) ≡ flat_map statement_bytes forms
 lines-written [] at = refl
 lines-written (Move r term ∷ forms) at =
     ap (λ l. statement_bytes (Move r term) ++ l) (lines-written forms (at + 1))
@@ -43,7 +43,7 @@ clear_bytes z r = indentation 1 ++ (variable_name r ++ (codes " = " ++ ((z ++ co
 written_with : Word → Word → Word
 written_with z lines =
     codes "#pragma dcc text 1\n#pragma dcc stack "
-    ++ (z ++ (codes " " ++ (z ++ (codes "\n" ++ ((codes "void " ++ (codes "start" ++ (codes "(void)\n{\n" ++ (flat_map written_local (map variable registers) ++ ((clear_bytes z Ax ++ (clear_bytes z Cx ++ (clear_bytes z Dx ++ (clear_bytes z Bx ++ (clear_bytes z Si ++ (clear_bytes z Di ++ lines)))))) ++ codes "}\n"))))) ++ [])))))
+    ++ (z ++ (codes " " ++ (z ++ (codes "\n" ++ ((codes "void start" ++ (codes "(" ++ (codes "void" ++ (codes ")\n{\n" ++ (flat_map written_local (map variable registers) ++ ((clear_bytes z Ax ++ (clear_bytes z Cx ++ (clear_bytes z Dx ++ (clear_bytes z Bx ++ (clear_bytes z Si ++ (clear_bytes z Di ++ lines)))))) ++ codes "}\n")))))) ++ [])))))
 
 -- with the digit 0 the head is the one above
 written_with-digit : (lines : Word) → written_with (codes "0") lines ≡ head ++ ((lines ++ codes "}\n") ++ [])
@@ -54,7 +54,7 @@ written_with-digit lines = refl
 pub line-written : (forms : List Form) → written_form (tree_of forms) ≡ head ++ (flat_map statement_bytes forms ++ codes "}\n")
 unfolding written_with clear_bytes
 line-written forms =
-    let lines = written_lines 1 (lines_of forms 17) in
+    let lines = written_lines 1 2 (lines_of forms 17) in
     let spelled : written_form (tree_of forms) ≡ written_with (decimal 0) lines = refl in
     spelled ∙ ap (λ z. written_with z lines) zero-written ∙ written_with-digit lines
     ∙ ap (λ l. head ++ l) (append-nil (lines ++ codes "}\n"))

@@ -118,7 +118,7 @@ fits_form Leave = true
 
 -- the bytes of a form's statement, in a function's body
 abbrev pub statement_bytes : Form → Word
-statement_bytes form = elim (statement_of form) [ Some stmt ↦ written_stmt 1 stmt | None ↦ [] ]
+statement_bytes form = elim (statement_of form) [ Some stmt ↦ written_stmt 1 2 stmt | None ↦ [] ]
 
 -- the bytes of the statement that changes a register's variable by the operator
 abbrev pub operation_bytes : Reg → Word → Term → Word

@@ -1,9 +1,6 @@
-//! Small texts and their runs.
-
-ghost use Rattle.std.specs.Prelude.{◌<◌, IfOk, vec_len};
-
 use super::*;
-use crate::syntax::{CBin, CType, Class};
+use crate::syntax::{CBin, CType, Class, Global_};
+use std::process::Abort;
 use std::test::Fail;
 
 fn number(n: u32, base: Base) -> CExpr {
@@ -31,7 +28,7 @@ fn local(alloc: Global, word: &str, base: Base) -> Result<Var, AllocError> {
     })
 }
 
-// `word = e;` in this line.
+/// `word = e;` in this line.
 fn assigns(alloc: Global, line: u32, word: &str, e: CExpr) -> Result<Line, AllocError> {
     Ok(Line {
         stmt: CStmt::Assign(name(alloc, word)?, e),
@@ -39,7 +36,7 @@ fn assigns(alloc: Global, line: u32, word: &str, e: CExpr) -> Result<Line, Alloc
     })
 }
 
-// `function(e);` in this line.
+/// `function(e);` in this line.
 fn calls(alloc: Global, line: u32, function: &str, e: CExpr) -> Result<Line, AllocError> {
     let function = String::from_str(alloc, function)?;
     Ok(Line {
@@ -48,10 +45,13 @@ fn calls(alloc: Global, line: u32, function: &str, e: CExpr) -> Result<Line, All
     })
 }
 
-// The text with the function `start` alone.
-fn text(alloc: Global, locals: Vec<Var>, body: Vec<Line>, last: u32) -> Result<Unit, AllocError>
-    ensures { IfOk result (λ unit. 0 < vec_len unit.funcs) }
-{
+/// The text with the function `start` alone.
+fn text(
+    alloc: Global,
+    locals: Vec<Var>,
+    body: Vec<Line>,
+    last: u32,
+) -> Result<Unit, AllocError> {
     let name = String::from_str(alloc, "start")?;
     let start = Func {
         name,
@@ -152,4 +152,42 @@ fn a_run_is_stuck_at_the_closing_brace(rt: HostRuntime) -> Result<(), Fail> {
     assert_eq!(rt; whole.out.as_slice(), [7].as_slice());
     assert_eq!(rt; whole.end, End::Stuck(8));
     Ok(())
+}
+
+#[test]
+fn a_text_that_is_not_covered_is_refused(rt: HostRuntime) -> Result<(), Fail> {
+    let alloc = rt.alloc();
+    let mut unit = text(alloc, Vec::new(alloc), Vec::new(alloc), 5)?;
+    unit.globals.push(Global_ {
+        name: String::from_str(alloc, "g_0010")?,
+        at: 16,
+        ty: CType {
+            base: Base::Uint,
+            pointer: false,
+        },
+        len: None,
+        init: Vec::new(alloc),
+    })?;
+    check_refusal(&rt, alloc, &unit, Uncovered::Globals);
+
+    let mut pointer = local(alloc, "v1", Base::Uint)?;
+    pointer.ty.pointer = true;
+    let unit = text(alloc, vec![in alloc; pointer]?, Vec::new(alloc), 5)?;
+    check_refusal(&rt, alloc, &unit, Uncovered::Locals);
+
+    let forever = Line {
+        stmt: CStmt::Forever(Vec::new(alloc)),
+        line: 5,
+    };
+    let unit = text(alloc, Vec::new(alloc), vec![in alloc; forever]?, 7)?;
+    check_refusal(&rt, alloc, &unit, Uncovered::Statements);
+    Ok(())
+}
+
+/// The text is not run, since this of it is not covered.
+fn check_refusal(rt: &impl Abort, alloc: Global, unit: &Unit, what: Uncovered) {
+    match run(alloc, unit, &[], 0, 100) {
+        Ok(_) => assert!(rt; false),
+        Err(fault) => assert_eq!(rt; fault, RunFault::NotCovered(what)),
+    }
 }

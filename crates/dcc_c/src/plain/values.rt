@@ -1,28 +1,25 @@
 //! Values and conversions of the C dialect (ISO/IEC 9899:1990, 6.2 and 6.3).
 
-ghost use Rattle.std.specs.Prelude.{◌≡◌, ℕ, ◌+◌, ◌-◌, ◌%◌, ◌^◌, ◌<◌, ◌≤◌, map, option_map, string_bytes};
+ghost use Rattle.std.specs.Prelude.{◌≡◌, ℕ, ◌+◌, ◌-◌, ◌%◌, ◌^◌, ◌<◌, ◌≤◌, true, List, map, option_map, string_bytes, Option, Some, None};
 ghost use Rattle.dcc_c.specs.Types.{bits_of, promoted_type, common_type, wrapped_bits, extended_bits, convert};
-ghost use Rattle.dcc_c.specs.Value.{held_by, after_assignment, binary_value, both_values, value_of};
+ghost use Rattle.dcc_c.specs.Tree.{Name};
+ghost use Rattle.dcc_c.specs.Value.{after_assignment, given, binary_value, both_values, value_of};
 ghost use Rattle.dcc_c.specs.Views.{expr_of};
-ghost use Rattle.dcc_c.specs.Plain.{number_of, binding_of};
+ghost use Rattle.dcc_c.specs.Plain.{number_of, binding_of, scope_over, covers_operator, covers_expr};
 
 use crate::syntax::{Base, CBin, CExpr};
 
 /// A number with its type; `bits` is its pattern in two's complement, below `2^bits_of(base)`.
 #[derive(Clone, Copy, PartialEq, Eq, Debug)]
 pub struct Value {
-    /// Its type.
     pub base: Base,
-    /// The pattern, in as many bits as the type has.
     pub bits: u32,
 }
 
 /// A named variable with its value.
 #[derive(Drop)]
 pub struct Binding {
-    /// Its name.
     pub name: String,
-    /// Its value, of its type.
     pub held: Value,
 }
 
@@ -37,7 +34,7 @@ pub fn bits_of(base: Base) -> u32
     }
 }
 
-// How many patterns a number type has.
+/// How many patterns a number type has.
 fn modulus_of(base: Base) -> u64
     ensures { result ≡ 2 ^ bits_of base }
 {
@@ -70,7 +67,7 @@ pub fn common_type(a: Base, b: Base) -> Base
     }
 }
 
-// The low bits of a number that its type has.
+/// The low bits of a number that its type has.
 fn wrapped_bits(base: Base, n: u64) -> u32
     ensures value { result ≡ wrapped_bits base n }
     ensures within { result < 2 ^ bits_of base }
@@ -78,7 +75,7 @@ fn wrapped_bits(base: Base, n: u64) -> u32
     (n % modulus_of(base)) as u32
 }
 
-// The 32 bits of a value: a negative one is extended by ones.
+/// The 32 bits of a value: a negative one is extended by ones.
 fn extended_bits(base: Base, bits: u32) -> u64
     ensures { result ≡ extended_bits base bits }
 {
@@ -98,10 +95,11 @@ pub fn convert(from: Base, to: Base, bits: u32) -> u32
     wrapped_bits(to, extended_bits(from, bits))
 }
 
-// The value of an operator on two numbers of one type, where the operator has one.
+/// The value of an operator on two numbers of one type.
 fn binary_value(operator: CBin, base: Base, a: u32, b: u32) -> Option<Value>
-    requires { b < 2 ^ bits_of base }
-    ensures { option_map number_of result ≡ binary_value operator base a b }
+    requires covered { covers_operator operator ≡ true }
+    requires within { b < 2 ^ bits_of base }
+    ensures { given (option_map number_of result) ≡ binary_value operator base a b }
 {
     let bits = match operator {
         CBin::Or => a | b,
@@ -114,9 +112,10 @@ fn binary_value(operator: CBin, base: Base, a: u32, b: u32) -> Option<Value>
     Some(Value { base, bits })
 }
 
-// What the variable with the name holds.
-fn held_by(variables: &[Binding], name: &str) -> Option<Value>
-    ensures { option_map number_of result ≡ held_by (map binding_of variables.now) name.now }
+/// What the variable with the name holds.
+pub fn held_by(variables: &[Binding], name: &str) -> Option<Value>
+    ensures { (memory : List ℕ) →
+        given (option_map number_of result) ≡ value_of (scope_over variables.now memory) (Name name.now) }
 {
     for variable in variables {
         if variable.name.as_str() == name {
@@ -126,9 +125,11 @@ fn held_by(variables: &[Binding], name: &str) -> Option<Value>
     None
 }
 
-/// The value of an expression over these variables, where it has one.
+/// The value of a covered expression over these variables; none where a name is not one of them.
 pub fn value_of(variables: &[Binding], e: &CExpr) -> Option<Value>
-    ensures { option_map number_of result ≡ value_of (map binding_of variables.now) (expr_of e.now) }
+    requires { covers_expr (expr_of e.now) ≡ true }
+    ensures { (memory : List ℕ) →
+        given (option_map number_of result) ≡ value_of (scope_over variables.now memory) (expr_of e.now) }
 {
     match e {
         CExpr::Num(n, base) => Some(Value {
@@ -145,9 +146,10 @@ pub fn value_of(variables: &[Binding], e: &CExpr) -> Option<Value>
     }
 }
 
-// The value of an operator: both operands are converted to their common type.
+/// The value of an operator: both operands are converted to their common type.
 fn both_values(operator: CBin, a: Value, b: Value) -> Option<Value>
-    ensures { option_map number_of result ≡ both_values operator (Some (number_of a)) (Some (number_of b)) }
+    requires { covers_operator operator ≡ true }
+    ensures { given (option_map number_of result) ≡ both_values operator (number_of a) (number_of b) }
 {
     let base = common_type(a.base, b.base);
     binary_value(

@@ -1,7 +1,5 @@
 //! Runs of texts, as the dialect defines them.
 
-ghost use Rattle.std.specs.Prelude.{◌<◌, IfOk, vec_len};
-
 use super::files::{PRINTS_A, program, run_file};
 use dcc_c::plain::{End, run};
 use dcc_c::{Base, CBin, CExpr, CStmt, CType, Class, Func, Line, Unit, Var};
@@ -60,9 +58,7 @@ fn variable(alloc: Global, word: &str) -> Result<Var, AllocError> {
 }
 
 // The text whose six variables are cleared before these statements.
-fn text(alloc: Global, statements: Vec<CStmt>) -> Result<Unit, AllocError>
-    ensures { IfOk result (λ unit. 0 < vec_len unit.funcs) }
-{
+fn text(alloc: Global, statements: Vec<CStmt>) -> Result<Unit, AllocError> {
     let mut locals = Vec::new(alloc);
     let mut body = Vec::new(alloc);
     for word in VARIABLES {

@@ -1,7 +1,8 @@
-use Rattle.std.proofs.Common.{◌≡◌, ◌<◌, ◌+◌, ◌++◌, List, length, get_or, set, map, take, drop, sym, ap, string_bytes, subst, ◌∙◌, arith}
+use Rattle.std.proofs.Common.{◌≡◌, false, ◌<◌, ◌+◌, ◌++◌, List, length, get_or, set, map, take, drop, sym, ap, string_bytes, subst, ◌∙◌, arith}
 use Rattle.std.proofs.lemmas.List.{set-get_or}
 use Rattle.dcc_c.specs.declared.plain.values.Binding.{Binding as Named}
-use Rattle.dcc_c.specs.Value.{value, after_assignment}
+use Rattle.dcc_c.specs.Types.{plain}
+use Rattle.dcc_c.specs.Value.{after_assignment, Unplaced}
 use Rattle.dcc_c.specs.Plain.{number_of, binding_of}
 use Rattle.dcc_c.proofs.NameLaws.{same_bytes-answer, after_assignment-drop, after_assignment-set}
 use Rattle.dcc_c.proofs.plain.values.assign.Goals as goal
@@ -16,7 +17,7 @@ returns-then-eq c =
     ≡ map binding_of (take i vs) ++ after_assignment (map binding_of (drop i vs)) c.args.name.now (number_of c.args.v) =
     after_assignment-set vs i here within (ap (get_or vs i) c.variable-item.is) c.args.name.now (number_of c.args.v) _
     (same_bytes-answer _ _ c.args.name.now c.as_str.ensures.value c.eq.ensures c.if-eq.true)
-    (ap (λ n. record { name = string_bytes here.name; held = value here.held.base n }) c.convert-variable.ensures.value)
+    (ap (λ n. record { name = string_bytes here.name; type = plain here.held.base; is_array = false; storage = Unplaced n }) c.convert-variable.ensures.value)
     in
     written ∙ sym c.loop-variable.invariant.passed ∙ ap (λ l. after_assignment (map binding_of l) c.args.name.now (number_of c.args.v)) c.loop-variable.invariant.same
 
