@@ -8,7 +8,8 @@ use Rattle.dcc_prog.specs.declared.instr.Operand.{Operand}
 use Rattle.dcc_prog.specs.declared.instr.Operand.TheVariants.{Seg}
 use Rattle.dcc_prog.specs.declared.instr.Op.{Op}
 use Rattle.dcc_prog.specs.declared.instr.Op.TheVariants.{Mov, Plain as PlainOp, Table, Call, Ret, Int21}
-use Rattle.dcc_prog.specs.Operands.{byte_at, reg_field}
+use Rattle.dcc_prog.specs.Bytes.{byte_at}
+use Rattle.dcc_prog.specs.Operands.{reg_field}
 use Rattle.dcc_prog.specs.Layout.{HasLayout, is_control}
 use Rattle.dcc_prog.specs.Trail.{code_within, instruction_in, StandsAt, known_ah, table_number, IsTrail, IsNode, IsEntry}
 use Rattle.dcc_prog.specs.FrameForm.{is_frame_form}

@@ -15,7 +15,7 @@ use Rattle.dcc_prog.specs.declared.instr.Operand.TheVariants.{Word, Byte, Seg, C
 use Rattle.dcc_prog.specs.declared.instr.Op.{Op}
 use Rattle.dcc_prog.specs.declared.instr.Op.TheVariants.{Alu as AluOp, Shift as ShiftOp, Mov, Plain as PlainOp}
 use Rattle.dcc_prog.specs.declared.instr.Instr.{Instr}
-use Rattle.dcc_prog.specs.MzImage.{load_segment}
+use Rattle.dcc_prog.specs.Load.{load_segment}
 use Rattle.dcc_prog.specs.Code.{code_of}
 use Rattle.dcc_prog.specs.Table.{instruction_at}
 use Rattle.dcc_prog.specs.Machine.{State, word_in, stack_segment, data_segment, start_state}
