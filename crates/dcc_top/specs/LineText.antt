@@ -7,7 +7,7 @@ use Rattle.dcc_num.specs.declared.Half.TheVariants.{Low, High}
 use Rattle.dcc_c.specs.declared.syntax.Base.TheVariants.{Uint}
 use Rattle.dcc_c.specs.declared.syntax.CBin.TheVariants.{Or, And, Add, Sub}
 use Rattle.dcc_c.specs.declared.syntax.Class.TheVariants.{Plain}
-use Rattle.dcc_c.specs.Types.{number_type}
+use Rattle.dcc_c.specs.Types.{plain}
 use Rattle.dcc_c.specs.Tree.{Word, Expr, Number, Name, Binary, Stmt, Assign, Call, Lines, no_lines, line, Variable, Function, Tree}
 use Rattle.dcc_c.specs.Written.{written_expr, written_stmt}
 use Rattle.dcc_top.specs.Line.{has_variable}
@@ -32,7 +32,7 @@ abbrev pub registers : List Reg
 registers = Ax ∷ Cx ∷ Dx ∷ Bx ∷ Si ∷ Di ∷ []
 
 abbrev pub variable : Reg → Variable
-variable r = record { name = variable_name r; type = number_type Uint; len = None; class = Plain }
+variable r = record { name = variable_name r; type = plain Uint; len = None; class = Plain }
 
 -- an unsigned number
 abbrev pub number : ℕ → Expr
