@@ -8,3 +8,4 @@ pub mod StandLaws
 pub mod KeepsLaws
 pub mod ShiftLaws
 pub mod PassLaws
+pub mod FitLaws

@@ -1,7 +1,8 @@
 -- What a pass keeps of a program.
-use Rattle.std.specs.Prelude.{◌≡◌, ◌≢◌, ℕ, ◌<◌, ◌==◌, Bool, true, List, [], ◌∷◌, map, find, flat_map, All, Option, Some, None}
+use Rattle.std.specs.Prelude.{◌≡◌, ◌≢◌, ℕ, ◌<◌, ◌==◌, Bool, true, List, [], ◌∷◌, map, filter, find, flat_map, All, Option, Some, None}
 use Rattle.dcc_run.specs.Visits.{VisitsKept}
-use Rattle.dcc_ir.specs.Tree.{Stmt, Call, Block, Program}
+use Rattle.dcc_ir.specs.Tree.{Stmt, Call, Block, Graph, Program}
+use Rattle.dcc_ir.specs.WellFormed.{is_memory}
 use Rattle.dcc_ir.specs.Run.{graph_at, no_block, inner_system, first_state, block_mark, Place}
 use Rattle.dcc_ir.specs.Flow.{graph_or_none, flow_at, Reached, IsContraction, HaveOneEdge}
 
@@ -46,3 +47,13 @@ pub record Keeps (p q : Program) : Type 0 where
 pub record KeepsInOne (p q : Program) : Type 0 where
   pub keeps : Keeps p q
   pub edges : (entry : ℕ) → HaveOneEdge (flow_at p entry) (flow_at q entry)
+
+-- for each stack param, in their order, whether it is in memory
+abbrev pub stack_params : Graph → List Bool
+stack_params graph = map (λ q. is_memory q.put) (filter (λ q. q.stack) graph.params)
+
+-- what a pass leaves of a graph beside its run: the entry, the bytes that the frame keeps in memory, the stack params
+pub record KeepsFrame (before after : Graph) : Type 0 where
+  pub entry : after.entry ≡ before.entry
+  pub local : after.local ≡ before.local
+  pub stack : stack_params after ≡ stack_params before

@@ -1,7 +1,9 @@
 -- Laws of the inner language's definitions.
-use Rattle.std.specs.Prelude.{◌≡◌, ℕ, true, false}
+use Rattle.std.specs.Prelude.{◌≡◌, ℕ, true, false, ◌^◌, ◌<◌}
 use Rattle.dcc_run.specs.System.{IsLawful}
-use Rattle.dcc_ir.specs.Tree.{Program}
+use Rattle.dcc_ir.specs.Tree.{Expr, Program}
+use Rattle.dcc_ir.specs.Value.{width_of, Scene, value_of, Fits}
+use Rattle.dcc_ir.specs.WellFormed.{is_expr}
 use Rattle.dcc_ir.specs.Run.{inner_system}
 use Rattle.dcc_ir.specs.Flow.{Flow, Reached, Leads, HaveOneEdge}
 use Rattle.dcc_ir.specs.Keeps.{Keeps}
@@ -20,3 +22,7 @@ KeepsComposes = (p q r : Program) → Keeps p q → Keeps q r → Keeps p r
 -- where each block that goes has one edge in, it lies behind one block alone that stays
 abbrev pub OneEdgeLiesBehindOne : Type 0
 OneEdgeLiesBehindOne = (p q : Flow) → HaveOneEdge p q → (a b c : ℕ) → Reached p a → Reached p b → q.has a ≡ true → q.has b ≡ true → q.has c ≡ false → Leads p q a c → Leads p q b c → a ≡ b
+
+-- the value of a well-formed expression fits its width
+abbrev pub ValuesFit : Type 0
+ValuesFit = (scene : Scene) → Fits scene → (e : Expr) → is_expr scene.bits e ≡ true → value_of scene e < 2 ^ width_of scene.bits e

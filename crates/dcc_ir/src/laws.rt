@@ -1,6 +1,6 @@
 //! Laws of the inner language's definitions. Each function only states a law by its contract, and does nothing.
 
-ghost use Rattle.dcc_ir.specs.Laws.{RunsAreLawful, ProgramsKeepThemselves, KeepsComposes, OneEdgeLiesBehindOne};
+ghost use Rattle.dcc_ir.specs.Laws.{RunsAreLawful, ProgramsKeepThemselves, KeepsComposes, OneEdgeLiesBehindOne, ValuesFit};
 
 /// A run that has ended stays, and no step takes output back.
 pub fn runs_are_lawful()
@@ -20,4 +20,9 @@ pub fn keeps_composes()
 /// Where each block that a pass drops has one edge in, it lies behind one block alone that the pass leaves.
 pub fn one_edge_lies_behind_one()
     ensures { OneEdgeLiesBehindOne }
+{}
+
+/// The value of a well-formed expression fits its width.
+pub fn values_fit()
+    ensures { ValuesFit }
 {}

@@ -1,8 +1,7 @@
-use Rattle.std.proofs.Common.{◌≡◌, ◌≤◌, ◌⊎◌, inl, inr, true, sym, ap, ◌∙◌, arith}
+use Rattle.std.proofs.Common.{◌≡◌, ◌⊎◌, inl, inr, true, sym, ap, ◌∙◌, arith}
 use Rattle.dcc_run.specs.End.{is_over}
-use Rattle.dcc_run.specs.System.{after}
 use Rattle.dcc_run.proofs.RunLaws.{after-add}
-use Rattle.dcc_ir.specs.Run.{State, step, first_state}
+use Rattle.dcc_ir.specs.Run.{step, first_state}
 use Rattle.dcc_ir.specs.Views.{program_of}
 use Rattle.dcc_ir.specs.Plain.{state_of}
 use Rattle.dcc_ir.proofs.RunLaws.{stands_at_last}

@@ -1,4 +1,4 @@
-use Rattle.std.proofs.Common.{◌≡◌, ◌≤◌, ◌∙◌, min, length, sym, arith}
+use Rattle.std.proofs.Common.{◌≤◌, ◌∙◌, min, length, sym, arith}
 use Rattle.dcc_ir.proofs.PassLaws.{giving_done}
 use Rattle.dcc_ir.proofs.plain.state.PlainRun.give.Goals as goal
 

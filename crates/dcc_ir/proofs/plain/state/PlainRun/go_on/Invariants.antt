@@ -1,7 +1,6 @@
-use Rattle.std.proofs.Common.{◌≡◌, false, map, drop}
-use Rattle.dcc_run.specs.End.{is_over}
+use Rattle.std.proofs.Common.{◌≡◌, map, drop}
 use Rattle.dcc_ir.specs.Views.{stmt_of, graph_of}
-use Rattle.dcc_ir.specs.Plain.{state_of, end_of}
+use Rattle.dcc_ir.specs.Plain.{state_of}
 use Rattle.dcc_ir.specs.Run.{block_step}
 use Rattle.dcc_ir.proofs.plain.state.PlainRun.go_on.Given as goal
 
