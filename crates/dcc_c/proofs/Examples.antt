@@ -93,7 +93,7 @@ abbrev loop : Function
 loop = start_of (single (codes "v") ∷ [])
     (Assign (Name (codes "v")) (int 3)
     ∷ DoWhile (lines (Call None (codes "dos_putc") (Binary Add (int 64) (Name (codes "v")) ∷ []) 2
-        ∷ Assign (Name (codes "v")) (Binary Sub (Name (codes "v")) (int 1)) ∷ [])) (Name (codes "v"))
+    ∷ Assign (Name (codes "v")) (Binary Sub (Name (codes "v")) (int 1)) ∷ [])) (Name (codes "v"))
     ∷ Call None (codes "dos_exit") (Name (codes "v") ∷ []) 2 ∷ [])
 
 -- an assignment, the entry, three turns of two statements and a test, and the call
@@ -141,7 +141,7 @@ keys = start_of (single (codes "v") ∷ [])
     (Label (codes "again")
     ∷ Call (Some (Name (codes "v"))) (codes "dos_getche") [] 2
     ∷ Switch (Name (codes "v")) (arm (66 ∷ []) (lines (Call None (codes "dos_putc") (int 49 ∷ []) 2 ∷ [])) no_arms)
-        (arm [] (lines (Call None (codes "dos_exit") (int 7 ∷ []) 2 ∷ [])) no_arms)
+    (arm [] (lines (Call None (codes "dos_exit") (int 7 ∷ []) 2 ∷ [])) no_arms)
     ∷ Goto (codes "again") ∷ [])
 
 keys-end : (after (step (text_of keys [])) 9 (begins keys (66 ∷ []))).end ≡ Exit 7
@@ -154,9 +154,9 @@ keys-out = refl
 abbrev nested : Function
 nested = start_of (single (codes "v") ∷ [])
     (Forever (lines (Forever (lines (Break ∷ []))
-        ∷ While (int 1) (lines (Assign (Name (codes "v")) (Binary Add (Name (codes "v")) (int 1))
-            ∷ If (Binary Lt (Name (codes "v")) (int 3)) (lines (Continue ∷ [])) no_lines ∷ Break ∷ []))
-        ∷ Call None (codes "dos_exit") (Name (codes "v") ∷ []) 2 ∷ [])) ∷ [])
+    ∷ While (int 1) (lines (Assign (Name (codes "v")) (Binary Add (Name (codes "v")) (int 1))
+    ∷ If (Binary Lt (Name (codes "v")) (int 3)) (lines (Continue ∷ [])) no_lines ∷ Break ∷ []))
+    ∷ Call None (codes "dos_exit") (Name (codes "v") ∷ []) 2 ∷ [])) ∷ [])
 
 nested-end : (after (step (text_of nested [])) 16 (begins nested [])).end ≡ Exit 3
 nested-end = refl
@@ -169,7 +169,7 @@ nested-before = refl
 abbrev shown : Lines
 shown =
     lines (While (Name (codes "a")) (lines (If (Name (codes "b")) (lines (Break ∷ [])) (lines (Label (codes "L")
-        ∷ Call None (codes "g") (Name (codes "a") ∷ Unary Minus (Unary Minus (Name (codes "b"))) ∷ []) 2 ∷ [])) ∷ []))
+    ∷ Call None (codes "g") (Name (codes "a") ∷ Unary Minus (Unary Minus (Name (codes "b"))) ∷ []) 2 ∷ [])) ∷ []))
     ∷ DoWhile no_lines (Binary Mul (Binary Add (Name (codes "a")) (Name (codes "b"))) (Cast (pointer_to Int) (Name (codes "a"))))
     ∷ Switch (Name (codes "a")) no_arms (arm [] (lines (Return None ∷ [])) no_arms) ∷ [])
 

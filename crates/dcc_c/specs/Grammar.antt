@@ -162,7 +162,7 @@ pub data AreArguments : List Placed → List Expr → List Placed → Type 0 whe
 -- a call: a function's name and its arguments
 pub data IsCall : List Placed → Word → List Expr → List Placed → Type 0 where
   call : {at opening closing : ℕ} {tokens rest : List Placed}
-    {arguments : List Expr} (function : Word) →
+      {arguments : List Expr} (function : Word) →
       is_name function ≡ true → AreArguments tokens arguments (mark closing (codes ")") ∷ rest) →
       IsCall (word at function ∷ mark opening (codes "(") ∷ tokens) function arguments rest
 
@@ -204,7 +204,7 @@ pub data AreCases : List Placed → List ℕ → List Placed → Type 0 where
   more_cases : {at place colon n : ℕ} {token : Token} {others rest : List Placed} {cases : List ℕ} →
       IsCaseNumber token n → AreCases others cases rest →
       AreCases (word at (codes "case") ∷ placed place token ∷ mark colon (codes ":") ∷ others) (n ∷ cases)
-          rest
+      rest
 
 -- there is an arm
 abbrev pub has_arm : Arms → Bool
@@ -216,74 +216,74 @@ mutual
   -- calls before it and behind it.
   pub data IsStmt (limit : ℕ) : Around → ℕ → List Placed → Stmt → ℕ → List Placed → Type 0 where
     assign : {around : Around} {depth equals end : ℕ} {tokens right rest : List Placed}
-      {place e : Expr} →
+        {place e : Expr} →
         IsPlace tokens place (mark equals (codes "=") ∷ right) →
         IsExpr 0 right e (mark end (codes ";") ∷ rest) →
         IsStmt limit around depth tokens (Assign place e) depth rest
     call_alone : {around : Around} {depth end : ℕ} {tokens rest : List Placed} {function : Word}
-      {arguments : List Expr} →
+        {arguments : List Expr} →
         IsCall tokens function arguments (mark end (codes ";") ∷ rest) →
         IsStmt limit around depth tokens (Call None function arguments depth) depth rest
     call_into : {around : Around} {depth equals end : ℕ} {tokens right rest : List Placed}
-      {place : Expr}
-      {function : Word} {arguments : List Expr} →
+        {place : Expr}
+        {function : Word} {arguments : List Expr} →
         IsPlace tokens place (mark equals (codes "=") ∷ right) →
         IsCall right function arguments (mark end (codes ";") ∷ rest) →
         IsStmt limit around depth tokens (Call (Some place) function arguments depth) depth rest
     if_alone : {around : Around} {depth after at opening closing : ℕ} {tokens block rest : List Placed}
-      {e : Expr} {body : Lines} →
+        {e : Expr} {body : Lines} →
         IsExpr 0 tokens e (mark closing (codes ")") ∷ block) →
         IsBlock limit (in_block around) depth block body after rest →
         IsStmt limit around depth
-            (word at (codes "if") ∷ mark opening (codes "(") ∷ tokens) (If e body no_lines) after rest
+        (word at (codes "if") ∷ mark opening (codes "(") ∷ tokens) (If e body no_lines) after rest
     if_else : {around : Around} {depth between after at opening closing other : ℕ}
-      {tokens block second rest : List Placed}
-      {e : Expr} {body otherwise : Lines} →
+        {tokens block second rest : List Placed}
+        {e : Expr} {body otherwise : Lines} →
         IsExpr 0 tokens e (mark closing (codes ")") ∷ block) →
         IsBlock limit (in_block around) depth block body between (word other (codes "else") ∷ second) →
         IsBlock limit (in_block around) between second otherwise after rest →
         IsStmt limit around depth
-            (word at (codes "if") ∷ mark opening (codes "(") ∷ tokens) (If e body otherwise) after rest
+        (word at (codes "if") ∷ mark opening (codes "(") ∷ tokens) (If e body otherwise) after rest
     while : {around : Around} {depth after at opening closing : ℕ} {tokens block rest : List Placed}
-      {e : Expr} {body : Lines} →
+        {e : Expr} {body : Lines} →
         IsExpr 0 tokens e (mark closing (codes ")") ∷ block) →
         IsBlock limit (in_loop around) depth block body after rest →
         IsStmt limit around depth
-            (word at (codes "while") ∷ mark opening (codes "(") ∷ tokens) (While e body) after rest
+        (word at (codes "while") ∷ mark opening (codes "(") ∷ tokens) (While e body) after rest
     do_while : {around : Around} {depth after at again opening closing end : ℕ}
-      {block tokens rest : List Placed} {body : Lines} {e : Expr} →
+        {block tokens rest : List Placed} {body : Lines} {e : Expr} →
         IsBlock limit (in_loop around) depth block body after
-            (word again (codes "while") ∷ mark opening (codes "(") ∷ tokens) →
+        (word again (codes "while") ∷ mark opening (codes "(") ∷ tokens) →
         IsExpr 0 tokens e (mark closing (codes ")") ∷ mark end (codes ";") ∷ rest) →
         IsStmt limit around depth (word at (codes "do") ∷ block) (DoWhile body e) after rest
     for_ever : {around : Around} {depth after : ℕ} {all block rest : List Placed} {body : Lines} →
         Begins all
-            (WordToken (codes "for") ∷ Mark (codes "(") ∷ Mark (codes ";") ∷ Mark (codes ";") ∷ Mark (codes ")") ∷ [])
-            block →
+        (WordToken (codes "for") ∷ Mark (codes "(") ∷ Mark (codes ";") ∷ Mark (codes ";") ∷ Mark (codes ")") ∷ [])
+        block →
         IsBlock limit (in_loop around) depth block body after rest →
         IsStmt limit around depth all (Forever body) after rest
     switch : {around : Around} {depth after at opening closing brace end : ℕ}
-      {tokens inside rest : List Placed} {e : Expr}
-      {arms last : Arms} →
+        {tokens inside rest : List Placed} {e : Expr}
+        {arms last : Arms} →
         IsExpr 0 tokens e (mark closing (codes ")") ∷ mark brace (codes "{") ∷ inside) →
         AreArms limit (in_switch around) depth inside arms last after (mark end (codes "}") ∷ rest) →
         (has_arm arms || has_arm last) ≡ true →
         IsStmt limit around depth
-            (word at (codes "switch") ∷ mark opening (codes "(") ∷ tokens) (Switch e arms last) after rest
+        (word at (codes "switch") ∷ mark opening (codes "(") ∷ tokens) (Switch e arms last) after rest
     break : {around : Around} {depth at end : ℕ} {rest : List Placed} → around.breaks ≡ true →
         IsStmt limit around depth (word at (codes "break") ∷ mark end (codes ";") ∷ rest) Break depth rest
     continue : {around : Around} {depth at end : ℕ} {rest : List Placed} → around.continues ≡ true →
         IsStmt limit around depth (word at (codes "continue") ∷ mark end (codes ";") ∷ rest)
-            Continue depth rest
+        Continue depth rest
     goto : {around : Around} {depth at place end : ℕ} {rest : List Placed} (label : Word) →
-      is_name label ≡ true →
+        is_name label ≡ true →
         IsStmt limit around depth (word at (codes "goto") ∷ word place label ∷ mark end (codes ";") ∷ rest)
-            (Goto label) depth rest
+        (Goto label) depth rest
     empty : {around : Around} {depth end : ℕ} {rest : List Placed} →
         IsStmt limit around depth (mark end (codes ";") ∷ rest) Empty depth rest
     return_nothing : {around : Around} {depth at end : ℕ} {rest : List Placed} →
         IsStmt limit around depth (word at (codes "return") ∷ mark end (codes ";") ∷ rest) (Return None)
-            depth rest
+        depth rest
     return_value : {around : Around} {depth at end : ℕ} {tokens rest : List Placed} {e : Expr} →
         IsExpr 0 tokens e (mark end (codes ";") ∷ rest) →
         IsStmt limit around depth (word at (codes "return") ∷ tokens) (Return (Some e)) depth rest
@@ -291,7 +291,7 @@ mutual
   -- the tokens begin with a block, with this around its statements
   pub data IsBlock (limit : ℕ) : Around → ℕ → List Placed → Lines → ℕ → List Placed → Type 0 where
     block : {around : Around} {depth after opening closing : ℕ} {tokens rest : List Placed}
-      {lines : Lines} →
+        {lines : Lines} →
         AreLines limit around false depth tokens lines after (mark closing (codes "}") ∷ rest) →
         IsBlock limit around depth (mark opening (codes "{") ∷ tokens) lines after rest
 
@@ -301,18 +301,18 @@ mutual
     no_more : {around : Around} {depth : ℕ} {rest : List Placed} →
         AreLines limit around false depth rest no_lines depth rest
     depth_pragma : {around : Around} {depth after at place n : ℕ} {tokens rest : List Placed}
-      {lines : Lines} →
+        {lines : Lines} →
         around.blocks ≤ limit → AreLines limit around false n tokens lines after rest →
         AreLines limit around false depth
-            (placed at (Pragma depth_line) ∷ placed place (Decimal n plain_number) ∷ tokens) lines after rest
+        (placed at (Pragma depth_line) ∷ placed place (Decimal n plain_number) ∷ tokens) lines after rest
     label : {around : Around} {labelled : Bool} {depth after at colon : ℕ} {tokens rest : List Placed}
-      {lines : Lines} (name : Word) →
+        {lines : Lines} (name : Word) →
         is_name name ≡ true → around.blocks ≤ limit →
         AreLines limit around true depth tokens lines after rest →
         AreLines limit around labelled depth (word at name ∷ mark colon (codes ":") ∷ tokens)
-            (line (Label name) at lines) after rest
+        (line (Label name) at lines) after rest
     statement : {around : Around} {labelled : Bool} {depth between after at : ℕ} {token : Token}
-      {tokens others rest : List Placed} {stmt : Stmt} {lines : Lines} →
+        {tokens others rest : List Placed} {stmt : Stmt} {lines : Lines} →
         around.blocks ≤ limit →
         IsStmt limit around depth (placed at token ∷ tokens) stmt between others →
         AreLines limit around false between others lines after rest →
@@ -323,20 +323,20 @@ mutual
     no_arm : {around : Around} {depth : ℕ} {rest : List Placed} →
         AreArms limit around depth rest no_arms no_arms depth rest
     case_arm : {around : Around} {depth between after leaves end : ℕ}
-      {all tokens others rest : List Placed} {cases : List ℕ} {body : Lines} {arms last : Arms} →
+        {all tokens others rest : List Placed} {cases : List ℕ} {body : Lines} {arms last : Arms} →
         AreCases all cases tokens →
         AreLines limit around false depth tokens body between
-            (word leaves (codes "break") ∷ mark end (codes ";") ∷ others) →
+        (word leaves (codes "break") ∷ mark end (codes ";") ∷ others) →
         AreArms limit around between others arms last after rest →
         AreArms limit around depth all (arm cases body arms) last after rest
     default_arm : {around : Around} {depth between after at colon leaves end : ℕ}
-      {tokens others rest : List Placed}
-      {body : Lines} {arms last : Arms} →
+        {tokens others rest : List Placed}
+        {body : Lines} {arms last : Arms} →
         AreLines limit around false depth tokens body between
-            (word leaves (codes "break") ∷ mark end (codes ";") ∷ others) →
+        (word leaves (codes "break") ∷ mark end (codes ";") ∷ others) →
         AreArms limit around between others arms last after rest →
         AreArms limit around depth (word at (codes "default") ∷ mark colon (codes ":") ∷ tokens) arms
-            (arm [] body last) after rest
+        (arm [] body last) after rest
 
 -- Declarations.
 
@@ -345,8 +345,8 @@ pub data HasSize : List Placed → Option ℕ → List Placed → Type 0 where
   no_size : {rest : List Placed} → HasSize rest None rest
   size : {opening place closing n : ℕ} {rest : List Placed} →
       HasSize
-          (mark opening (codes "[") ∷ placed place (Decimal n plain_number) ∷ mark closing (codes "]") ∷ rest)
-          (Some n) rest
+      (mark opening (codes "[") ∷ placed place (Decimal n plain_number) ∷ mark closing (codes "]") ∷ rest)
+      (Some n) rest
 
 -- the tokens begin with numbers with commas between them
 pub data AreNumbers : List Placed → List ℕ → List Placed → Type 0 where
@@ -383,7 +383,7 @@ pub data AreGlobals : Option ℕ → List Placed → List Global → List Placed
   placed_at : {place : Option ℕ} {at number n : ℕ} {tokens rest : List Placed} {globals : List Global} →
       AreGlobals (Some n) tokens globals rest →
       AreGlobals place (placed at (Pragma place_line) ∷ placed number (Decimal n plain_number) ∷ tokens)
-          globals rest
+      globals rest
   one_global : {tokens others rest : List Placed} {g : Global} {globals : List Global} →
       IsGlobal tokens g others → AreGlobals (Some (behind_global g)) others globals rest →
       AreGlobals (Some g.at) tokens (g ∷ globals) rest
@@ -393,7 +393,7 @@ pub data HasClass : List Placed → Class → List Placed → Type 0 where
   no_class : {rest : List Placed} → HasClass rest Plain rest
   auto_class : {at : ℕ} {rest : List Placed} → HasClass (word at (codes "auto") ∷ rest) Auto rest
   register_class : {at : ℕ} {rest : List Placed} →
-    HasClass (word at (codes "register") ∷ rest) Register rest
+      HasClass (word at (codes "register") ∷ rest) Register rest
 
 -- The tokens begin with the declaration of the parameter: `class type name`
 pub record IsParam (tokens : List Placed) (v : Variable) (rest : List Placed) : Type 0 where
@@ -407,7 +407,7 @@ pub record IsParam (tokens : List Placed) (v : Variable) (rest : List Placed) : 
 -- the tokens begin with parameters with commas between them
 pub data AreSomeParams : List Placed → List Variable → List Placed → Type 0 where
   last_param : {tokens rest : List Placed} {v : Variable} → IsParam tokens v rest →
-    AreSomeParams tokens (v ∷ []) rest
+      AreSomeParams tokens (v ∷ []) rest
   more_params : {comma : ℕ} {tokens others rest : List Placed} {v : Variable} {params : List Variable} →
       IsParam tokens v (mark comma (codes ",") ∷ others) → AreSomeParams others params rest →
       AreSomeParams tokens (v ∷ params) rest
@@ -447,7 +447,7 @@ pub data AreLocals : List Placed → List Variable → List Placed → Type 0 wh
 pub data HasResult : List Placed → Option CType → List Placed → Type 0 where
   no_result : {at : ℕ} {rest : List Placed} → HasResult (word at (codes "void") ∷ rest) None rest
   result : {tokens rest : List Placed} (type : CType) → Begins tokens (type_tokens type) rest →
-    HasResult tokens (Some type) rest
+      HasResult tokens (Some type) rest
 
 -- The tokens begin with the function: `result name(params) { locals statements }`. Calls have depth 2 at its
 -- beginning.
@@ -470,7 +470,7 @@ pub record IsFunction (limit : ℕ) (tokens : List Placed) (f : Function) (rest 
 -- the tokens are one or more functions
 pub data AreFunctions (limit : ℕ) : List Placed → List Function → Type 0 where
   last_function : {tokens : List Placed} {f : Function} → IsFunction limit tokens f [] →
-    AreFunctions limit tokens (f ∷ [])
+      AreFunctions limit tokens (f ∷ [])
   more_functions : {tokens rest : List Placed} {f : Function} {functions : List Function} →
       IsFunction limit tokens f rest → AreFunctions limit rest functions →
       AreFunctions limit tokens (f ∷ functions)
@@ -483,7 +483,7 @@ pub record IsUnit (limit : ℕ) (tokens : List Placed) (tree : Tree) : Type 0 wh
   pub functions : List Placed
   pub head_is : tokens ≡ placed 1 (Pragma version_line) ∷ placed stack_at (Pragma stack_line)
       ∷ placed stack_at (Decimal tree.lo plain_number) ∷ placed stack_at (Decimal tree.hi plain_number)
-          ∷ globals
+      ∷ globals
   pub version_is : tree.version ≡ 1
   pub globals_are : AreGlobals None globals tree.globals functions
   pub functions_are : AreFunctions limit functions tree.functions

@@ -18,14 +18,14 @@ abbrev mutual
       let here = at + rows (written_depth depth own) in
       let behind = here + rows (written_stmt 1 own stmt) in
       line (numbered_stmt own here stmt) here
-          (numbered_lines (depth_behind own (stmt ∷ inner_stmts stmt)) behind lines)
+      (numbered_lines (depth_behind own (stmt ∷ inner_stmts stmt)) behind lines)
 
   -- the statements inside a statement in this line
   pub numbered_stmt : ℕ → ℕ → Stmt → Stmt
   numbered_stmt depth at (If e body otherwise) =
       let second = at + 2 + rows (written_lines 1 depth body) in
       If e (numbered_lines depth (at + 1) body)
-          (numbered_lines (depth_behind depth (stmts_in body)) second otherwise)
+      (numbered_lines (depth_behind depth (stmts_in body)) second otherwise)
   numbered_stmt depth at (While e body) = While e (numbered_lines depth (at + 1) body)
   numbered_stmt depth at (DoWhile body e) = DoWhile (numbered_lines depth (at + 1) body) e
   numbered_stmt depth at (Forever body) = Forever (numbered_lines depth (at + 1) body)
@@ -42,7 +42,7 @@ abbrev mutual
       let first = at + length cases in
       let behind = first + rows (written_lines 1 depth body) + 1 in
       arm cases (numbered_lines depth first body)
-          (numbered_arms (depth_behind depth (stmts_in body)) behind arms)
+      (numbered_arms (depth_behind depth (stmts_in body)) behind arms)
 
   -- the default arm, whose body begins in this line
   pub numbered_default : ℕ → ℕ → Arms → Arms

@@ -59,7 +59,7 @@ param_places body base number placed [] = []
 param_places body base number placed (v ∷ params) =
     if is_register v.class then None ∷ param_places body base number placed params
     else if placed || wants_place body v then
-      Some ((base + 2 * number) % 65536) ∷ param_places body base (number + 1) true params
+    Some ((base + 2 * number) % 65536) ∷ param_places body base (number + 1) true params
     else None ∷ param_places body base (number + 1) false params
 
 -- The addresses of local variables: those of `auto` ones go downwards, each its size below the one before, which is

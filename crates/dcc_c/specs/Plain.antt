@@ -124,7 +124,7 @@ Refuses what Memory = Unit {0}
 
 -- a run of the text from this function on has put out these bytes and has this end, after so many steps
 pub record RunsFrom (tree : Tree) (start : Function) (fill : ℕ) (input : List ℕ) (steps : ℕ)
-  (out : List ℕ) (end : End) : Type 0 where
+    (out : List ℕ) (end : End) : Type 0 where
   pub output : out ≡ out_after (text_system tree) steps (first_state tree start fill input)
   pub ending : end ≡ end_after (text_system tree) steps (first_state tree start fill input)
 

@@ -162,7 +162,7 @@ abbrev mutual
   from_label_inside word (Forever body) at lines rest = from_label word body (turns body (runs lines rest))
   from_label_inside word (Switch e arms last) at lines rest =
       first_of (from_label_in_arms word arms (ends_switch (runs lines rest)))
-          (from_label_in_arms word last (ends_switch (runs lines rest)))
+      (from_label_in_arms word last (ends_switch (runs lines rest)))
   from_label_inside word _ at lines rest = None
 
   -- from a label on in these arms
@@ -243,7 +243,7 @@ abbrev pub key_step : Bool → List ℕ → Option Target → ℕ → State → 
 key_step echo [] target at s = result_step target (Some (number Uchar 0x1A)) at s
 key_step echo (byte ∷ rest) target at s =
     result_step target (Some (number Uchar byte)) at
-        (record s { input = rest; out = s.out ++ (if echo then byte ∷ [] else []) })
+    (record s { input = rest; out = s.out ++ (if echo then byte ∷ [] else []) })
 
 -- a DOS call, whole
 abbrev pub dos_step : Dos → Option Target → List Value → ℕ → State → State
@@ -302,10 +302,10 @@ dos_or_call_step tree None word target arguments depth at s =
 abbrev pub stmt_step : Tree → Stmt → ℕ → State → State
 stmt_step tree (Assign place e) at s =
     on (value_of (scope_of tree s) e) at s
-        (λ v. on (target_of (scope_of tree s) place) at s (λ target. takes target v s))
+    (λ v. on (target_of (scope_of tree s) place) at s (λ target. takes target v s))
 stmt_step tree (Call place function arguments depth) at s =
     on (result_target (scope_of tree s) place) at s
-        (λ target. dos_or_call_step tree (dos_of function) function target arguments depth at s)
+    (λ target. dos_or_call_step tree (dos_of function) function target arguments depth at s)
 stmt_step tree (If e body otherwise) at s = on (value_of (scope_of tree s) e) at s (λ v. if_step v body otherwise s)
 stmt_step tree (While e body) at s = on (value_of (scope_of tree s) e) at s (λ v. test_step v e body at s.rest s)
 stmt_step tree (DoWhile body e) at s = goes_on (runs body (tests e body at s.rest)) s

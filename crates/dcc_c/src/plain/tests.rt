@@ -46,12 +46,7 @@ fn calls(alloc: Global, line: u32, function: &str, e: CExpr) -> Result<Line, All
 }
 
 /// The text with the function `start` alone.
-fn text(
-    alloc: Global,
-    locals: Vec<Var>,
-    body: Vec<Line>,
-    last: u32,
-) -> Result<Unit, AllocError> {
+fn text(alloc: Global, locals: Vec<Var>, body: Vec<Line>, last: u32) -> Result<Unit, AllocError> {
     let name = String::from_str(alloc, "start")?;
     let start = Func {
         name,
