@@ -387,6 +387,7 @@ fn calls_read_and_write(rt: HostRuntime) -> Result<(), Fail> {
         (ECHOES_TWO.as_slice(), "ab", 2, 0, Stepped::InFault, "a"),
         (ECHOES_TWO.as_slice(), "ab", 0, 2, Stepped::OutFault, "a"),
         (TAKES_ONE.as_slice(), "a", 0, 0, Stepped::Exit(b'a'), ""),
+        (TAKES_ONE.as_slice(), "", 0, 0, Stepped::Exit(26), ""),
         (TAKES_ONE.as_slice(), "a", 1, 0, Stepped::InFault, ""),
         (
             SAYS_HELLO.as_slice(),
