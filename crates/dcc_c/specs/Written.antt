@@ -248,7 +248,7 @@ written_numbers (n ∷ m ∷ ns) = decimal n ++ (codes ", " ++ written_numbers (
 abbrev pub written_initial : Option ℕ → List ℕ → Word
 written_initial len [] = []
 written_initial None (n ∷ ns) = codes " = " ++ written_numbers (n ∷ ns)
-written_initial (Some len) (n ∷ ns) = codes " = {" ++ (written_numbers (n ∷ ns) ++ codes "}\n")
+written_initial (Some len) (n ∷ ns) = codes " = {" ++ (written_numbers (n ∷ ns) ++ codes "}")
 
 abbrev pub written_global : Global → Word
 written_global g =

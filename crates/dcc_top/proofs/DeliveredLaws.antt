@@ -59,16 +59,16 @@ abbrev pub IsWritten : Reply → ℕ → Type 0 → Type 0 → Streams → Type 
 IsWritten reply status out_failed err_failed s =
     Delivers (text_in reply) (line_of reply) (status_of reply) status out_failed err_failed s ⊎ Delivers [] (line_of Memory) (status_of Memory) status out_failed err_failed s
 
-pub answered-by : (told : Files) (job : Option Job) (before left : Option (List ℕ)) (status : ℕ) (late_failed out_failed err_failed : Type 0) (out mid now err err_now : Option (List ℕ)) (reply : Reply) → HasReply told job before left out mid reply → (late_failed → out_failed) → IsWritten reply status late_failed err_failed (streams mid now err err_now) → IsAnswered told job before left status out_failed err_failed (streams out now err err_now)
-answered-by told job before left status late_failed out_failed err_failed out mid now err err_now reply h since (inl (inl d)) =
-    answered reply h.output h.allowed (d.0 ∙ ap (λ t. append_told t (text_in reply)) h.wrote ∙ append_told-append out h.output (text_in reply)) d.1
-answered-by told job before left status late_failed out_failed err_failed out mid now err err_now reply h since (inl (inr broke)) =
+pub answered-by : (told : Files) (job : Option Job) (before left : Option (List ℕ)) (caused : Reply → Type 0) (status : ℕ) (late_failed out_failed err_failed : Type 0) (out mid now err err_now : Option (List ℕ)) (reply : Reply) → HasReply told job before left out mid reply → caused reply → (late_failed → out_failed) → IsWritten reply status late_failed err_failed (streams mid now err err_now) → IsAnswered told job before left caused status out_failed err_failed (streams out now err err_now)
+answered-by told job before left caused status late_failed out_failed err_failed out mid now err err_now reply h cause since (inl (inl d)) =
+    answered reply h.output h.allowed cause (d.0 ∙ ap (λ t. append_told t (text_in reply)) h.wrote ∙ append_told-append out h.output (text_in reply)) d.1
+answered-by told job before left caused status late_failed out_failed err_failed out mid now err err_now reply h cause since (inl (inr broke)) =
     let due = due-of told job before left reply h.output h.allowed (nothing-breaks mid now (text_in reply) broke.out) in
     let same : mid ≡ out = h.wrote ∙ ap (append_told out) due.0 ∙ append_told-nil out in
     broke_off (text_in reply) due.1 (record { status_is = broke.status_is; out = subst (λ t. AppendsProperPrefix t now (text_in reply)) same broke.out; err = broke.err; failed = since broke.failed })
-answered-by told job before left status late_failed out_failed err_failed out mid now err err_now reply h since (inr (inl d)) =
+answered-by told job before left caused status late_failed out_failed err_failed out mid now err err_now reply h cause since (inr (inl d)) =
     found_no_memory reply h.output h.allowed (d.0 ∙ append_told-nil mid ∙ h.wrote) d.1
-answered-by told job before left status late_failed out_failed err_failed out mid now err err_now reply h since (inr (inr broke)) =
+answered-by told job before left caused status late_failed out_failed err_failed out mid now err err_now reply h cause since (inr (inr broke)) =
     absurd (nothing-breaks mid now [] broke.out refl)
 
 -- at any other status than those of a failed write and of want of memory, it is that of the answer

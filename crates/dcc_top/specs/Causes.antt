@@ -7,18 +7,25 @@ use Rattle.dcc_mz.specs.Fault.{IsRefusal}
 use Rattle.dcc_run.specs.End.{End, Running, Exit, Divide, Outside, Stuck}
 use Rattle.dcc_run.specs.Prefix.{IsPrefix}
 use Rattle.dcc_top.specs.declared.reply.Reply.{Reply}
-use Rattle.dcc_top.specs.declared.reply.Reply.TheVariants.{Memory, Format, NotYet}
+use Rattle.dcc_top.specs.declared.reply.Reply.TheVariants.{NoFile, FileFault, InputFault, Memory, Format, NotYet}
 use Rattle.dcc_top.specs.Words.{Job, Decompile, Execute, file_of, requests_of}
 use Rattle.dcc_top.specs.Answer.{Files, Allows, IsDue, Decompiles, StopsInFile, RunsFile, ShelfHas, ShelfLacks, status_of, line_of, text_in}
 use Rattle.dcc_top.specs.Delivery.{Streams, TellsLine, BreaksOff}
 
+-- the answer's cause in this call, where it is a fault of what lies outside: the shelf found no file, or failed, or a
+-- read of the input failed
+pub record IsCaused (absent unreadable read_failed : Type 0) (reply : Reply) : Type 0 where
+  pub no_file : reply ≡ NoFile → absent
+  pub file_fault : reply ≡ FileFault → unreadable
+  pub input_fault : reply ≡ InputFault → read_failed
+
 -- What a call comes to, from the input that was left before to that which is left. An answer that is allowed for the job
 -- was told, behind all that is due; or its line found no memory, and that was told in its place; or a write of what is due
--- failed, and a part of it is there.
-pub data IsAnswered (told : Files) (job : Option Job) (before left : Option (List ℕ)) (status : ℕ) (out_failed err_failed : Type 0) (s : Streams) : Type 0 where
-  answered : (reply : Reply) (output : List ℕ) → Allows told job before left reply output → s.out_after ≡ append_told s.out_before (output ++ text_in reply) → TellsLine (line_of reply) (status_of reply) status err_failed s → IsAnswered told job before left status out_failed err_failed s
-  found_no_memory : (reply : Reply) (output : List ℕ) → Allows told job before left reply output → s.out_after ≡ append_told s.out_before output → TellsLine (line_of Memory) (status_of Memory) status err_failed s → IsAnswered told job before left status out_failed err_failed s
-  broke_off : (due : List ℕ) → IsDue told job before due → BreaksOff due status out_failed s → IsAnswered told job before left status out_failed err_failed s
+-- failed, and a part of it is there. The answer has its cause in this call.
+pub data IsAnswered (told : Files) (job : Option Job) (before left : Option (List ℕ)) (caused : Reply → Type 0) (status : ℕ) (out_failed err_failed : Type 0) (s : Streams) : Type 0 where
+  answered : (reply : Reply) (output : List ℕ) → Allows told job before left reply output → caused reply → s.out_after ≡ append_told s.out_before (output ++ text_in reply) → TellsLine (line_of reply) (status_of reply) status err_failed s → IsAnswered told job before left caused status out_failed err_failed s
+  found_no_memory : (reply : Reply) (output : List ℕ) → Allows told job before left reply output → s.out_after ≡ append_told s.out_before output → TellsLine (line_of Memory) (status_of Memory) status err_failed s → IsAnswered told job before left caused status out_failed err_failed s
+  broke_off : (due : List ℕ) → IsDue told job before due → BreaksOff due status out_failed s → IsAnswered told job before left caused status out_failed err_failed s
 
 -- the job has its answer, behind the output that it has written itself by then
 pub record HasReply (told : Files) (job : Option Job) (before left out_before out_after : Option (List ℕ)) (reply : Reply) : Type 0 where
@@ -134,16 +141,16 @@ pub record IsOutOfMemory (told : Files) (job : Option Job) (before left : Option
 
 -- A write to the error stream failed: a part of what is due on the output is there, or all of it, and a part of the line
 -- of an answer that is allowed; want of memory may be told in the place of any.
-pub record IsCutInLine (told : Files) (job : Option Job) (before left : Option (List ℕ)) (s : Streams) : Type 0 where
+pub record IsCutInLine (told : Files) (job : Option Job) (before left : Option (List ℕ)) (caused : Reply → Type 0) (s : Streams) : Type 0 where
   pub reply : Reply
   pub output : List ℕ
   pub allowed : Allows told job before left reply output
   pub front : List ℕ
   pub is_front : IsPrefix front (output ++ text_in reply)
   pub out : s.out_after ≡ append_told s.out_before front
-  pub err : AppendsProperPrefix s.err_before s.err_after (line_of reply) ⊎ AppendsProperPrefix s.err_before s.err_after (line_of Memory)
+  pub err : (AppendsProperPrefix s.err_before s.err_after (line_of reply) × caused reply) ⊎ AppendsProperPrefix s.err_before s.err_after (line_of Memory)
 
 -- What is written where a write failed: a part of what is due, and nothing on the error stream; or a part of the line.
-abbrev pub IsCutOff : Files → Option Job → Option (List ℕ) → Option (List ℕ) → ℕ → Type 0 → Type 0 → Streams → Type 0
-IsCutOff told job before left status out_failed err_failed s =
-    ((due : List ℕ) × IsDue told job before due × BreaksOff due status out_failed s) ⊎ (IsCutInLine told job before left s × err_failed)
+abbrev pub IsCutOff : Files → Option Job → Option (List ℕ) → Option (List ℕ) → (Reply → Type 0) → ℕ → Type 0 → Type 0 → Streams → Type 0
+IsCutOff told job before left caused status out_failed err_failed s =
+    ((due : List ℕ) × IsDue told job before due × BreaksOff due status out_failed s) ⊎ (IsCutInLine told job before left caused s × err_failed)

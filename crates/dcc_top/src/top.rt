@@ -12,7 +12,7 @@ ghost use Rattle.dcc_top.specs.declared.reply.Reply.TheVariants.{NoFile, FileFau
 ghost use Rattle.dcc_top.specs.Words.{Decompile, Execute, IsExecution, job_in};
 ghost use Rattle.dcc_top.specs.Answer.{AllowsForImage, AllowsText, StopsInFile, EndsInFile, line_of};
 ghost use Rattle.dcc_top.specs.Delivery.{streams};
-ghost use Rattle.dcc_top.specs.Causes.{IsAnswered, HasReply, IsCutShort, HasText, HasRunFile, IsAbsent, IsUnreadable, HasFormatFault, HasStop, Names, IsMissing, IsOneOf, end_status, AsksPrefix, AsksAll, IsOutOfMemory, IsCutOff};
+ghost use Rattle.dcc_top.specs.Causes.{IsAnswered, IsCaused, HasReply, IsCutShort, HasText, HasRunFile, IsAbsent, IsUnreadable, HasFormatFault, HasStop, Names, IsMissing, IsOneOf, end_status, AsksPrefix, AsksAll, IsOutOfMemory, IsCutOff};
 
 use crate::deliver::{WRITE_FAULT, answer};
 use crate::execute::execute;
@@ -148,7 +148,10 @@ pub fn dcc<H: Shelf, I: Source, O: Sink, E: Sink>(
 ) -> u8
     // An answer that is allowed for the words is written, as far as the streams take it.
     ensures answered { IsAnswered (H.files shelf.old) (job_in words.now.items)
-        (I.left input.old) (I.left input.new) result
+        (I.left input.old) (I.left input.new)
+        (IsCaused (Rose (H.absences shelf.old) (H.absences shelf.new))
+            (Rose (H.faults shelf.old) (H.faults shelf.new))
+            (Rose (I.faults input.old) (I.faults input.new))) result
         (Rose (O.faults out.old) (O.faults out.new)) (Rose (E.faults err.old) (E.faults err.new))
         (streams (O.taken out.old) (O.taken out.new) (E.taken err.old) (E.taken err.new)) }
 
@@ -220,7 +223,10 @@ pub fn dcc<H: Shelf, I: Source, O: Sink, E: Sink>(
         (I.left input.old) (I.left input.new)
         (streams (O.taken out.old) (O.taken out.new) (E.taken err.old) (E.taken err.new)) }
     ensures cut_off { result ≡ 6 → IsCutOff (H.files shelf.old) (job_in words.now.items)
-        (I.left input.old) (I.left input.new) result
+        (I.left input.old) (I.left input.new)
+        (IsCaused (Rose (H.absences shelf.old) (H.absences shelf.new))
+            (Rose (H.faults shelf.old) (H.faults shelf.new))
+            (Rose (I.faults input.old) (I.faults input.new))) result
         (Rose (O.faults out.old) (O.faults out.new)) (Rose (E.faults err.old) (E.faults err.new))
         (streams (O.taken out.old) (O.taken out.new) (E.taken err.old) (E.taken err.new)) }
 

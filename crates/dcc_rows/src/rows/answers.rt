@@ -40,7 +40,12 @@ static WORDS: [WordsRow; 11] = [
     (&["c", "a", "b"], 0, 2, "dcc: usage\n"),
     (&["C", "ROW1.EXE"], 0, 2, "dcc: usage\n"),
     (&["run"], 0, 2, "dcc: usage\n"),
-    (&["run", "a", "--steps", "1", "--steps", "2"], 0, 2, "dcc: usage\n"),
+    (
+        &["run", "a", "--steps", "1", "--steps", "2"],
+        0,
+        2,
+        "dcc: usage\n",
+    ),
     (&["c", "ROW2.EXE"], 0, 3, "dcc: no file\n"),
     (&["run", "ROW2.EXE"], 0, 3, "dcc: no file\n"),
     (&["c", "ROW1.EXE"], 1, 4, "dcc: file fault\n"),

@@ -283,6 +283,8 @@ fn a_run_stops_after_the_steps_that_were_asked_for(rt: HostRuntime) -> Result<()
     let words = ["run", "ROW1.EXE", "--steps", "1000"];
     let given = answered(alloc, &words, &jumps_to_itself, NO_FAULTS)?;
     check(&rt, &given, 20, b"", "running after 1000 steps\n");
+    let given = answered(alloc, &["run", "ROW1.EXE"], &jumps_to_itself, NO_FAULTS)?;
+    check(&rt, &given, 20, b"", "running after 1000000 steps\n");
     let words = ["run", "--steps=0", "--", "ROW1.EXE"];
     let given = answered(alloc, &words, &PRINTS_A, NO_FAULTS)?;
     check(&rt, &given, 20, b"", "running after 0 steps\n");
@@ -299,7 +301,11 @@ fn a_run_stops_after_the_steps_that_were_asked_for(rt: HostRuntime) -> Result<()
 fn a_fault_of_the_streams_ends_a_run(rt: HostRuntime) -> Result<(), Fail> {
     let alloc = rt.alloc();
     let words = ["run", "ROW1.EXE"];
-    let reads = program(&rt, alloc, b"\xB4\x01\xCD\x21\xB4\x01\xCD\x21\xB4\x4C\xCD\x21")?;
+    let reads = program(
+        &rt,
+        alloc,
+        b"\xB4\x01\xCD\x21\xB4\x01\xCD\x21\xB4\x4C\xCD\x21",
+    )?;
     let first_read = Faults {
         read: 1,
         ..NO_FAULTS
@@ -318,6 +324,13 @@ fn a_fault_of_the_streams_ends_a_run(rt: HostRuntime) -> Result<(), Fail> {
     };
     let given = answered_on(alloc, &words, &reads, b"ab", second_write)?;
     check(&rt, &given, 6, b"a", "");
+    // A string of call 09h, which the second write breaks off.
+    let code = b"\xBA\x00\x00\xB4\x09\xCD\x21\xB4\x4C\xCD\x21";
+    let says = program_with_data(&rt, alloc, code, b"hello, world$")?;
+    let given = answered(alloc, &words, &says, second_write)?;
+    assert_eq!(rt; given.status, 6);
+    assert!(rt; given.err.is_empty() && !given.out.is_empty() && given.out.len() < 12);
+    assert!(rt; b"hello, world".starts_with(&given.out));
     let first_of_line = Faults {
         err: 1,
         ..NO_FAULTS
