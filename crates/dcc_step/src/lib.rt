@@ -2,6 +2,7 @@
 #![tactic(auto)]
 
 mod alu;
+mod cache;
 mod dos;
 mod ending;
 mod flow;

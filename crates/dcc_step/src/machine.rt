@@ -5,6 +5,7 @@ ghost use Rattle.dcc_prog.specs.Load.{image_address};
 ghost use Rattle.dcc_prog.specs.Machine.{start_state, word_in};
 ghost use Rattle.dcc_step.specs.Core.{with_console, state_of};
 
+use crate::cache::{Decoded, first_cache};
 use crate::ending::Ending;
 use dcc_num::{Flags, NO_FLAGS, Reg};
 use dcc_prog::{Image, LOAD_SEGMENT};
@@ -35,6 +36,8 @@ pub struct Machine {
     pub(crate) memory: Vec<u8>,
     /// How the run has ended, if it has.
     pub(crate) end: Ending,
+    /// Instructions that were decoded, 4,096 of them, each at its offset modulo 4,096.
+    pub(crate) cache: Vec<Decoded>,
 }
 
 impl Model for Machine {
@@ -47,7 +50,7 @@ impl Model for Machine {
 
     ghost view = { λ m. record { regs = m.regs; segs = m.segs; flags = m.flags; ip = m.ip; memory = m.memory.items; end = end_of m.end } };
 
-    ghost invariant = { λ m. vec_len m.memory ≡ 2 ^ 20 };
+    ghost invariant = { λ m. (vec_len m.memory ≡ 2 ^ 20) × (vec_len m.cache ≡ 4096) };
 }
 
 impl Machine {
@@ -61,6 +64,7 @@ impl Machine {
         memory.resize(IMAGE_ADDRESS, 0)?;
         memory.extend_from_slice(&image.bytes)?;
         memory.resize(MEMORY_SIZE, 0)?;
+        let cache = first_cache(alloc)?;
         Ok(Machine {
             regs: [0, 0, 0, 0, image.sp, 0, 0, 0],
             segs: [PREFIX_SEGMENT, image.cs, image.ss, PREFIX_SEGMENT],
@@ -68,6 +72,7 @@ impl Machine {
             ip: image.ip,
             memory,
             end: Ending::Running,
+            cache,
         })
     }
 

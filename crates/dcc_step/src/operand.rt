@@ -10,8 +10,8 @@ use crate::machine::Machine;
 use dcc_num::{Half, Reg, Width};
 use dcc_prog::{Ea, Operand};
 
-// The physical address of an offset in a segment.
-fn physical_address(segment: u16, offset: u16) -> usize
+/// The physical address of an offset in a segment.
+pub(crate) fn physical_address(segment: u16, offset: u16) -> usize
     ensures address { result ≡ physical segment offset }
     ensures within { result < 2 ^ 20 }
 {

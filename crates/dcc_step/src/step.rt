@@ -9,10 +9,11 @@ ghost use Rattle.dcc_prog.specs.WellFormed.{IsOperation};
 ghost use Rattle.dcc_step.specs.Core.{core_of, state_of};
 ghost use Rattle.dcc_step.specs.Stepped.{scene, Makes, IsRefused, Steps, TellsEnd, Runs};
 
+use crate::cache::{CACHE_SIZE, Decoded};
 use crate::ending::{Ending, Fault, Stepped};
 use crate::flow::is_met;
 use crate::machine::Machine;
-use dcc_decode::decode_window;
+use crate::operand::physical_address;
 use dcc_io::{Sink, Source};
 use dcc_num::Reg;
 use dcc_prog::{Instr, Op};
@@ -25,20 +26,49 @@ impl Machine {
         self.load_byte(self.cs(), self.ip.wrapping_add(k))
     }
 
-    // The instruction at the instruction pointer.
-    fn fetch(&self) -> Option<Instr>
-        ensures found { result ≡ instruction_at self.now.ip (code_bytes (state_of self.now)) }
+    // The bytes at the instruction pointer, as many as the longest instruction has. They stand one
+    // behind another where neither the offset nor the address wraps among them.
+    fn window(&self) -> [u8; 6]
+        ensures { result ≡ code_bytes (state_of self.now) }
+    {
+        let start = physical_address(self.cs(), self.ip);
+        if self.ip <= 0xFFFA && start <= 0xF_FFFA {
+            [
+                self.memory[start],
+                self.memory[start + 1],
+                self.memory[start + 2],
+                self.memory[start + 3],
+                self.memory[start + 4],
+                self.memory[start + 5],
+            ]
+        } else {
+            [
+                self.code_byte(0),
+                self.code_byte(1),
+                self.code_byte(2),
+                self.code_byte(3),
+                self.code_byte(4),
+                self.code_byte(5),
+            ]
+        }
+    }
+
+    // The instruction at the instruction pointer. It is decoded where the cache holds another offset
+    // or other bytes, so it is right whatever was written to memory.
+    fn fetch(&mut self) -> Option<Instr>
+        ensures kept { self.new ≡ self.old }
+        ensures found { result ≡ instruction_at self.old.ip (code_bytes (state_of self.old)) }
         ensures operation { IfSome result (λ instr. IsOperation instr.op) }
     {
-        let window = [
-            self.code_byte(0),
-            self.code_byte(1),
-            self.code_byte(2),
-            self.code_byte(3),
-            self.code_byte(4),
-            self.code_byte(5),
-        ];
-        decode_window(&window, self.ip)
+        let window = self.window();
+        let place = usize::from(self.ip) % CACHE_SIZE;
+        let last = self.cache[place];
+        if last.at == self.ip && last.window == window {
+            return last.instr;
+        }
+        let decoded = Decoded::of(self.ip, &window);
+        self.cache[place] = decoded;
+        decoded.instr
     }
 
     // An operation of the instruction at an offset, other than INT 21h.

@@ -30,4 +30,6 @@ returns-in_default-fetch-clause-step g c =
     let ip : c.self.inside.ip ≡ m.ip = ap (λ (k : Core). k.ip) c.self.view_is in
     subst (λ r. Steps r (scene m left taken) (scene c.finish.new.self left taken)) (sym c.answer-in_default-fetch.ensures)
     (answered c.self-in_default-fetch.inside.end _ _ (step_outside m c.finish.new.self left taken runs (sym c.fetch.ensures.found ∙ c.in_default-fetch.is)
-    (c.finish.ensures ∙ ap (λ at. core_of (with_end (Outside at) at (state_of m))) ip)))
+    (c.finish.ensures
+    ∙ ap (λ (k : Core). core_of (with_end (Outside c.self.inside.ip) c.self.inside.ip (state_of k))) c.fetch.ensures.kept
+    ∙ ap (λ at. core_of (with_end (Outside at) at (state_of m))) ip)))

@@ -1,0 +1,48 @@
+//! Decoded instructions, kept by their offsets.
+
+ghost use Rattle.std.specs.Prelude.{◌≡◌, ◌<◌, ◌^◌, ℕ, IfOk, slice_index, vec_len};
+ghost use Rattle.dcc_prog.specs.Table.{instruction_at};
+
+use dcc_decode::decode_window;
+use dcc_prog::Instr;
+use std::alloc::{AllocError, Global};
+
+/// How many decoded instructions are kept; the one at an offset stands at the offset modulo this.
+pub(crate) const CACHE_SIZE: usize = 4096;
+
+/// The instruction that bytes at an offset of the code segment are, if they are one.
+#[derive(Clone, Copy)]
+pub(crate) struct Decoded {
+    /// The offset.
+    pub(crate) at: u16,
+    /// The bytes there, as many as the longest instruction has.
+    pub(crate) window: [u8; 6],
+    /// The instruction.
+    pub(crate) instr: Option<Instr>,
+    ghost bytes: { (i : ℕ) → slice_index window i < 2 ^ 8 },
+    ghost found: { instr ≡ instruction_at at window },
+}
+
+impl Decoded {
+    /// Decodes the bytes at an offset.
+    pub(crate) fn of(at: u16, window: &[u8; 6]) -> Decoded
+        ensures at { result.at ≡ at }
+        ensures window { result.window ≡ window.now }
+    {
+        let instr = decode_window(window, at);
+        Decoded {
+            at,
+            window: *window,
+            instr,
+        }
+    }
+}
+
+/// A cache that knows no other bytes than zeros at offset 0.
+pub(crate) fn first_cache(alloc: Global) -> Result<Vec<Decoded>, AllocError>
+    ensures { IfOk result (λ cache. vec_len cache ≡ 4096) }
+{
+    let mut cache = Vec::with_capacity(alloc, CACHE_SIZE)?;
+    cache.resize(CACHE_SIZE, Decoded::of(0, &[0; 6]))?;
+    Ok(cache)
+}
