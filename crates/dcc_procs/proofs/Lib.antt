@@ -1,0 +1,10 @@
+pub mod Causes
+pub mod Seeing
+pub mod Going
+pub mod Searching
+pub mod Indirect
+pub mod Start
+pub mod Collected
+pub mod FoundLaws
+pub mod Counting
+pub mod AllFound

@@ -1,4 +1,13 @@
 //! The procedures of a program: their instructions and where each goes on.
 #![tactic(auto)]
 
+mod accepted;
+mod collect;
+mod form;
 pub mod laws;
+mod onward;
+mod procedures;
+mod search;
+mod seen;
+
+pub use procedures::find;
