@@ -21,6 +21,7 @@ use Rattle.dcc_prog.specs.declared.instr.Instr.{Instr}
 use Rattle.dcc_prog.specs.Trail.{code_within, instruction_in, next_of, known_ah, op_successors, successors, StandsAt, IsTrail, IsNode, IsEntry, start, called}
 use Rattle.dcc_prog.specs.FrameForm.{is_sp_or_bp, is_by_bp, names_sp_or_bp, uses_bp_address, is_sp_change, is_frame_form}
 use Rattle.dcc_prog.specs.Prepared.{is_division, IsUnprepared}
+use Rattle.dcc_procs.proofs.IndirectLaws.{jump-in_code, call-in_code}
 use Rattle.dcc_prog.specs.Construct.{is_system, is_dos_number, HasNumber, HasAh, HasNoNumber, not_known, other_number, two_numbers, IsFormless, IsAtNode, unknown, foreign, indirect_jump, formless, indirect_call, dos_number, entry_return, division, returns, calls, IsOfTrails}
 use Rattle.dcc_prog.specs.Construct as construct
 use Rattle.dcc_prog.specs.Limit.{HasMany, IsNodeOf, IsAbove, procedures, instructions, total, entries}
@@ -195,9 +196,9 @@ module _ (image : Image) (layout : Layout) (seen : List Seen) (all : AreAllSeen 
       let t = taken at h.op node h.stands in
       let clash = sym h.foreign ∙ or-both _ _ t.user (ap not (free-form image layout layout.start_ip at h.op t.built)) in
       cc
-  no-construct-at at _ node (indirect_jump h) = (all.accepted at (node-seen at node)).1.no_jump h
+  no-construct-at at _ node (indirect_jump h) = (all.accepted at (node-seen at node)).1.no_jump (jump-in_code image layout at h)
   no-construct-at at _ node (formless h) = no-formless layout.start_ip at refl h
-  no-construct-at at _ node (indirect_call h) = (all.accepted at (node-seen at node)).1.no_call h
+  no-construct-at at _ node (indirect_call h) = (all.accepted at (node-seen at node)).1.no_call (call-in_code image layout at h)
   no-construct-at at _ node (dos_number h) = no-missing at h
   no-construct-at at _ node (entry_return (returns {count} same stands)) = not-unbuilt at (Ret count) node stands refl
   no-construct-at at _ node (entry_return (calls stands)) = not-unbuilt at (Call layout.start_ip) node stands refl

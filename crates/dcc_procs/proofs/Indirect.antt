@@ -5,7 +5,8 @@ use Rattle.dcc_prog.specs.declared.instr.Instr.{Instr}
 use Rattle.dcc_prog.specs.Operands.{reg_field, byte_at}
 use Rattle.dcc_prog.specs.Table.{Row, BytePattern, table, fits, fits_byte, between, this_byte, any_operand, instruction_at}
 use Rattle.dcc_prog.specs.declared.refusal.Refusal.{Refusal}
-use Rattle.dcc_prog.specs.Construct.{HasIndirect, IsIndirectJump, IsIndirectCall, is_system}
+use Rattle.dcc_prog.specs.Construct.{is_system}
+use Rattle.dcc_procs.specs.Indirect.{HasIndirect, IsIndirectJump, IsIndirectCall}
 use Rattle.dcc_procs.specs.declared.seen.Seen.{Seen}
 use Rattle.dcc_procs.specs.Built.{is_unbuilt}
 use Rattle.dcc_procs.specs.Search.{tells_number, IsAccepted}
