@@ -150,8 +150,8 @@ pub fn dcc<H: Shelf, I: Source, O: Sink, E: Sink>(
     ensures answered { IsAnswered (H.files shelf.old) (job_in words.now.items)
         (I.left input.old) (I.left input.new)
         (IsCaused (Rose (H.absences shelf.old) (H.absences shelf.new))
-            (Rose (H.faults shelf.old) (H.faults shelf.new))
-            (Rose (I.faults input.old) (I.faults input.new))) result
+        (Rose (H.faults shelf.old) (H.faults shelf.new))
+        (Rose (I.faults input.old) (I.faults input.new))) result
         (Rose (O.faults out.old) (O.faults out.new)) (Rose (E.faults err.old) (E.faults err.new))
         (streams (O.taken out.old) (O.taken out.new) (E.taken err.old) (E.taken err.new)) }
 
@@ -225,8 +225,8 @@ pub fn dcc<H: Shelf, I: Source, O: Sink, E: Sink>(
     ensures cut_off { result ≡ 6 → IsCutOff (H.files shelf.old) (job_in words.now.items)
         (I.left input.old) (I.left input.new)
         (IsCaused (Rose (H.absences shelf.old) (H.absences shelf.new))
-            (Rose (H.faults shelf.old) (H.faults shelf.new))
-            (Rose (I.faults input.old) (I.faults input.new))) result
+        (Rose (H.faults shelf.old) (H.faults shelf.new))
+        (Rose (I.faults input.old) (I.faults input.new))) result
         (Rose (O.faults out.old) (O.faults out.new)) (Rose (E.faults err.old) (E.faults err.new))
         (streams (O.taken out.old) (O.taken out.new) (E.taken err.old) (E.taken err.new)) }
 
