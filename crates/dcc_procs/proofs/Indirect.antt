@@ -2,7 +2,8 @@
 use Rattle.std.proofs.Common.{◌≡◌, ◌⊎◌, inl, inr, ℕ, ◌+◌, ◌≤◌, ◌<◌, Bool, true, false, List, [], ◌∷◌, length, drop, get_or, Option, Some, None, Result, Ok, Err, IfOk, OnOk, refl, sym, ap, ◌∙◌, subst, arith, length-drop, get_or-drop}
 use Rattle.std.specs.Prelude.{find}
 use Rattle.dcc_prog.specs.declared.instr.Instr.{Instr}
-use Rattle.dcc_prog.specs.Operands.{reg_field, byte_at}
+use Rattle.dcc_prog.specs.Bytes.{byte_at}
+use Rattle.dcc_prog.specs.Operands.{reg_field}
 use Rattle.dcc_prog.specs.Table.{Row, BytePattern, table, fits, fits_byte, between, this_byte, any_operand, instruction_at}
 use Rattle.dcc_prog.specs.declared.refusal.Refusal.{Refusal}
 use Rattle.dcc_prog.specs.Construct.{is_system}
