@@ -11,7 +11,7 @@ use Rattle.dcc_procs.specs.declared.seen.Seen.{Seen}
 use Rattle.dcc_procs.specs.Search.{seen_at}
 use Rattle.dcc_procs.specs.Found.{IsNodeFound, IsListed, IsFound, AreFound}
 use Rattle.dcc_procs.specs.Nodes.{AreAllSeen, AreSeenNodes}
-use Rattle.dcc_procs.proofs.FoundLaws.{node-seen, only-entry, no-construct, no-table, node-found}
+use Rattle.dcc_procs.proofs.FoundLaws.{node-seen, only-entry, no-construct, no-table, all-built, node-found}
 use Rattle.dcc_procs.proofs.Counting.{few, no-two}
 
 module _ (image : Image) (layout : Layout) (seen : List Seen) (all : AreAllSeen image layout seen) (nodes : List (ℕ × Node)) (are : AreSeenNodes image layout seen nodes) where
@@ -50,4 +50,5 @@ module _ (image : Image) (layout : Layout) (seen : List Seen) (all : AreAllSeen 
     only = only-entry image layout seen all;
     no_construct = no-construct image layout seen all;
     no_limit = no-limit;
+    built = all-built image layout seen all;
   }

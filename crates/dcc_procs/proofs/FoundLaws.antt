@@ -27,11 +27,12 @@ use Rattle.dcc_prog.specs.Construct as construct
 use Rattle.dcc_prog.specs.Limit.{HasMany, IsNodeOf, IsAbove, procedures, instructions, total, entries}
 use Rattle.dcc_procs.specs.declared.seen.Seen.{Seen}
 use Rattle.dcc_procs.specs.declared.seen.Seen.TheVariants.{Never, Same, Differing}
-use Rattle.dcc_procs.specs.Built.{is_memory_or_stack, is_unbuilt_unary, is_unbuilt}
-use Rattle.dcc_procs.specs.Search.{seen_at, ah_of, is_built_number, tells_number, IsAccepted}
+use Rattle.dcc_procs.specs.Built.{is_memory_or_stack, is_unbuilt_unary, is_unbuilt, IsUnbuiltAt, IsNotYet}
+use Rattle.dcc_procs.specs.Built as built
+use Rattle.dcc_procs.specs.Search.{seen_at, ah_of, number_of, is_built_number, tells_number, IsAccepted}
 use Rattle.dcc_procs.specs.Found.{IsNodeFound, IsListed, IsFound, AreFound}
 use Rattle.dcc_procs.specs.Nodes.{Tells, HasInstruction, AreAllSeen, AreSeenNodes}
-use Rattle.dcc_procs.proofs.Going.{followed-same, trail-successors}
+use Rattle.dcc_procs.proofs.Going.{number-told, followed-same, trail-successors}
 
 -- What is built uses neither SP nor BP.
 
@@ -126,6 +127,17 @@ tells-one Never ah other e t u = absurd t
 tells-one (Same known) ah other e t u = t ∙ sym u
 tells-one Differing ah other e t u = let clash = e in cc
 
+-- where one number that is built is told, it is not 09h
+tells-string : (seen : Seen) → tells_number seen ≡ true → Tells seen (Some 0x09) → ⊥
+tells-string Never e t = t
+tells-string (Same known) e t = let clash = ap (λ ah. tells_number (Same ah)) t ∙ e in cc
+tells-string Differing e t = let clash = e in cc
+
+-- a DOS call alone has a number
+number-other : (op : Op) (seen : Seen) → ¬ (op ≡ Int21) → number_of op seen ≡ None
+number-other Int21 seen other = absurd (other refl)
+number-other op seen other = refl
+
 tells-seen : (seen : Seen) (ah : Option ℕ) → Tells seen ah → seen ≢ Never
 tells-seen seen ah t e = subst (λ s. Tells s ah) e t
 
@@ -210,6 +222,13 @@ module _ (image : Image) (layout : Layout) (seen : List Seen) (all : AreAllSeen 
       let same = only-entry h.entry h.is_entry in
       no-construct-at at kind (subst (λ e. IsNode image layout e at) same h.node) (subst (λ e. IsAtNode image layout e at kind) same h.stands)
 
+  pub all-built : (at : ℕ) → ¬ IsNotYet image layout at
+  all-built at h = built-there h.node h.unbuilt
+    where
+      built-there : IsNode image layout layout.start_ip at → IsUnbuiltAt image layout layout.start_ip at → ⊥
+      built-there node (built.operation {op} stands e) = not-unbuilt at op node stands e
+      built-there node (built.string h) = tells-string (seen_at seen at) (told-number at (Some 0x09) h) (told-ah at (Some 0x09) h)
+
   -- each node with what every trail to it says
   pub node-found : (found : ℕ × Node) → HasInstruction (code_within image layout) found.0 (seen_at seen found.0) found.1 → IsNodeFound image layout layout.start_ip found
   node-found found has =
@@ -225,4 +244,8 @@ module _ (image : Image) (layout : Layout) (seen : List Seen) (all : AreAllSeen 
             has.succ
             ∙ sym (followed-same image layout at (seen_at seen at) found.1.instr is (known_ah image layout before) (all.told at before trail))
             ∙ sym (trail-successors image layout at (seen_at seen at) found.1.instr is before);
+        number = λ dos before trail.
+            number-told (seen_at seen at) (known_ah image layout before) (is.number dos) (all.told at before trail)
+            ∙ sym (has.number ∙ ap (λ op. number_of op (seen_at seen at)) dos);
+        no_number = λ other. has.number ∙ number-other found.1.instr.op (seen_at seen at) other;
       }

@@ -24,7 +24,7 @@ targets-none image layout (Table r offset) before h = let clash = h in cc
 targets-none image layout op before h = refl
 
 -- where the trails tell one number, it is the same that each tells
-number-told : (seen : Seen) (ah : Option ℕ) → tells_number seen ≡ true → Tells seen ah → ah ≡ ah_of seen
+pub number-told : (seen : Seen) (ah : Option ℕ) → tells_number seen ≡ true → Tells seen ah → ah ≡ ah_of seen
 number-told Never ah h t = absurd t
 number-told (Same known) ah h t = t
 number-told Differing ah h t = let clash = h in cc

@@ -12,7 +12,7 @@ use Rattle.dcc_prog.specs.Table.{instruction_at}
 use Rattle.dcc_prog.specs.Trail.{code_within, next_of, known_ah, op_successors, IsTrail, IsNode}
 use Rattle.dcc_procs.specs.declared.seen.Seen.{Seen}
 use Rattle.dcc_procs.specs.declared.seen.Seen.TheVariants.{Never, Same, Differing}
-use Rattle.dcc_procs.specs.Search.{seen_at, ah_of, IsAccepted}
+use Rattle.dcc_procs.specs.Search.{seen_at, ah_of, number_of, IsAccepted}
 use Rattle.dcc_procs.specs.Found.{IsListed}
 
 -- this may be known of AH by a trail to an offset that is so seen
@@ -33,11 +33,12 @@ pub record AreAllSeen (image : Image) (layout : Layout) (seen : List Seen) : Typ
   pub node : (at : ℕ) → seen_at seen at ≢ Never → IsNode image layout layout.start_ip at
   pub accepted : (at : ℕ) → IsAcceptedWhereSeen (code_within image layout) at (seen_at seen at)
 
--- the node has its instruction and where it goes on
+-- the node has its instruction, where it goes on, and the number of a DOS call
 pub record HasInstruction (code : List ℕ) (at : ℕ) (seen : Seen) (node : Node) : Type 0 where
   pub is_seen : seen ≢ Never
   pub found : instruction_at at (drop at code) ≡ Some node.instr
   pub succ : node.succ.items ≡ op_successors node.instr.op (next_of at node.instr) (ah_of seen) []
+  pub number : node.number ≡ number_of node.instr.op seen
 
 -- there is such a node where trails come, and none elsewhere
 abbrev pub IsSeenNode : List ℕ → ℕ → Seen → Option Node → Type 0

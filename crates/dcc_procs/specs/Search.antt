@@ -44,6 +44,11 @@ abbrev pub ah_of : Seen → Option ℕ
 ah_of (Same ah) = ah
 ah_of seen = None
 
+-- the number of a DOS call, if the operation is one
+abbrev pub number_of : Op → Seen → Option ℕ
+number_of Int21 seen = ah_of seen
+number_of op seen = None
+
 -- The search.
 
 -- what is seen at an offset

@@ -30,7 +30,12 @@ fn node_at(alloc: Global, code: &[u8], at: u16, seen: Seen) -> Result<Option<Nod
         unreachable!();
     };
     let succ = Onward::new(at, instr, seen.ah()).offsets(alloc)?;
-    Ok(Some(Node { instr, succ }))
+    let number = seen.number(instr.op);
+    Ok(Some(Node {
+        instr,
+        succ,
+        number,
+    }))
 }
 
 // Puts a node behind the others, where there are not too many.

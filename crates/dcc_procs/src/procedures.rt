@@ -13,11 +13,12 @@ use std::alloc::Global;
 
 /// The procedures of a loaded program with its layout. The entry procedure alone is built: it has
 /// the instructions that are reached from the offset behind the prelude, in ascending order of
-/// offsets, each with its successors.
+/// offsets, each with its successors, and INT 21h with the number of its DOS call.
 ///
 /// A program is refused for a construct of the kinds 2 to 5, which then stands at the named offset;
 /// for an instruction that is reached and not built; and for more than 4,096 instructions. Where
-/// the answer is Ok, no construct that trails tell stands anywhere, and no count is too great.
+/// the answer is Ok, no construct that trails tell stands anywhere, no count is too great, and no
+/// instruction that is reached is one that is not built.
 pub fn find(alloc: Global, image: &Image, layout: &Layout) -> Result<Vec<Proc>, Refusal>
     requires loaded { IsLoaded image.now }
     requires layout { HasLayout image.now layout.now }

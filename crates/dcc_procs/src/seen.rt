@@ -2,7 +2,7 @@
 
 ghost use Rattle.std.specs.Prelude.{◌≡◌};
 ghost use Rattle.dcc_prog.specs.WellFormed.{IsOperation};
-ghost use Rattle.dcc_procs.specs.Search.{seen_behind, grown, ah_of};
+ghost use Rattle.dcc_procs.specs.Search.{seen_behind, grown, ah_of, number_of};
 
 use crate::form::{constant_to_ah, writes_ah};
 use dcc_prog::Op;
@@ -51,6 +51,16 @@ impl Seen {
     {
         match self {
             Seen::Same(ah) => ah,
+            _ => None,
+        }
+    }
+
+    /// The number of a DOS call, if the operation is one and each trail tells the same number.
+    pub fn number(self, op: Op) -> Option<u8>
+        ensures { result ≡ number_of op self }
+    {
+        match op {
+            Op::Int21 => self.ah(),
             _ => None,
         }
     }

@@ -12,6 +12,8 @@ pub struct Node {
     pub instr: Instr,
     /// The target and then the next instruction, where an instruction has both.
     pub succ: SmallVec<u16, 2>,
+    /// The number of the DOS call, which AH holds, of INT 21h; of other instructions none.
+    pub number: Option<u8>,
 }
 
 /// A procedure: its instructions by their offsets in the code segment, in ascending order.
