@@ -1,0 +1,2 @@
+//! From the machine's instructions to the inner language.
+#![tactic(auto)]
