@@ -1,3 +1,4 @@
 pub mod PrefixLaws
 pub mod RunLaws
 pub mod VisitLaws
+pub mod GatherLaws

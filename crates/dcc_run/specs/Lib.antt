@@ -3,3 +3,4 @@ pub mod Prefix
 pub mod System
 pub mod Follows
 pub mod Visits
+pub mod Gathers
