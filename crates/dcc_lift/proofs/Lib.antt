@@ -1,1 +1,3 @@
 pub mod MirrorLaws
+pub mod SumValues
+pub mod OperandMirrors
