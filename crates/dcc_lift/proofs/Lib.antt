@@ -1,1 +1,5 @@
 pub mod AhLaws
+pub mod MirrorLaws
+pub mod SumValues
+pub mod OperandMirrors
+pub mod Standing

@@ -1,0 +1,334 @@
+-- How the mirror of the machine is kept by single writes, and how what statements read fits its widths.
+use Rattle.std.proofs.Common.{◌≡◌, ◌≢◌, ℕ, zero, suc, ◌+◌, ◌*◌, ◌/◌, ◌%◌, ◌^◌, ◌<◌, Bool, true, false, ◌&&◌, ◌==◌, List, [], ◌∷◌, ◌++◌, length, slice_set, slice_index, refl, sym, ap, ◌∙◌, subst, arith, true≢false, eqb-true, eq-eqb}
+use Rattle.std.specs.Prelude.{if◌then◌else◌}
+use Rattle.std.specs.Int.{from_bool}
+use Rattle.std.specs.List.{list_all}
+use Rattle.std.proofs.lemmas.Bool.{and_parts, and_right, eqb-false, ne_eqb}
+use Rattle.std.proofs.lemmas.Grind.{get_or-set_at}
+use Rattle.std.proofs.lemmas.List.{get_or-set_other, length-set}
+use Rattle.dcc_num.specs.declared.Reg.{Reg}
+use Rattle.dcc_num.specs.declared.Reg.TheVariants.{Ax, Cx, Dx, Bx, Sp, Bp, Si, Di}
+use Rattle.dcc_num.specs.declared.Half.{Half as HalfName}
+use Rattle.dcc_num.specs.declared.Half.TheVariants.{Low, High}
+use Rattle.dcc_num.specs.declared.FlagName.{FlagName}
+use Rattle.dcc_num.specs.declared.FlagName.TheVariants.{Cf, Zf, Sf, Of}
+use Rattle.dcc_num.specs.declared.Flags.{Flags}
+use Rattle.dcc_prog.specs.declared.instr.Operand.TheVariants.{Word, Byte}
+use Rattle.dcc_prog.specs.Machine.{State, reg_number, word_in, half_of_word, word_with_half, with_word_in, with_operand}
+use Rattle.dcc_prog.specs.Operations.{with_flags}
+use Rattle.dcc_prog.specs.Operands.{word_register}
+use Rattle.dcc_ir.specs.declared.syntax.Loc.{Loc}
+use Rattle.dcc_ir.specs.declared.syntax.Loc.TheVariants.{Half, Flag, Cell, Temp}
+use Rattle.dcc_ir.specs.Location.{register_number, half_number, flag_number, same_location, location_width, Values, with_value}
+use Rattle.dcc_ir.specs.Tree.{Expr, Stmt, Set, Fetch, Store, Div, Call, Dos}
+use Rattle.dcc_ir.specs.Value.{width_of, Scene, value_of, Fits}
+use Rattle.dcc_ir.specs.WellFormed.{is_location, is_expr, is_expr_of, is_stmt}
+use Rattle.dcc_ir.proofs.FitLaws.{value_fits}
+use Rattle.dcc_lift.specs.Mirrors.{is_general, Mirrors, executed}
+
+-- Registers.
+
+-- both crates number the registers alike
+number_same : (r : Reg) → register_number r ≡ reg_number r
+number_same Ax = refl
+number_same Cx = refl
+number_same Dx = refl
+number_same Bx = refl
+number_same Sp = refl
+number_same Bp = refl
+number_same Si = refl
+number_same Di = refl
+
+number_below : (r : Reg) → reg_number r < 8
+number_below Ax = omega arith
+number_below Cx = omega arith
+number_below Dx = omega arith
+number_below Bx = omega arith
+number_below Sp = omega arith
+number_below Bp = omega arith
+number_below Si = omega arith
+number_below Di = omega arith
+
+-- a register reads what was written to it
+pub word_written : (s : State) (q r : Reg) (v : ℕ) → length s.regs ≡ 8 → reg_number q ≡ reg_number r → word_in (with_word_in s r v) q ≡ v
+word_written s q r v eight e = get_or-set_at s.regs (reg_number r) (reg_number q) v 0 e (omega (arith, number_below r))
+
+-- and another one what it held
+pub word_other : (s : State) (q r : Reg) (v : ℕ) → reg_number q ≢ reg_number r → word_in (with_word_in s r v) q ≡ word_in s q
+word_other s q r v other = get_or-set_other s.regs (reg_number r) (reg_number q) v 0 other
+
+-- Locations.
+
+-- two values that agree everywhere
+abbrev pub Alike : Values → Values → Type 0
+Alike values others = (location : Loc) → values location ≡ others location
+
+-- a mirror sees no more than what the locations hold
+pub mirrors_alike : (s : State) (values others : Values) → Alike values others → Mirrors s values → Mirrors s others
+mirrors_alike s values others same m = record {
+  eight = m.eight;
+  words = λ r g. m.words r g ∙ ap (λ k. k * 256 + values (Half r Low)) (same (Half r High)) ∙ ap (λ k. others (Half r High) * 256 + k) (same (Half r Low));
+  carry = sym (same (Flag Cf)) ∙ m.carry;
+  zero = sym (same (Flag Zf)) ∙ m.zero;
+  negative = sym (same (Flag Sf)) ∙ m.negative;
+  overflow = sym (same (Flag Of)) ∙ m.overflow;
+}
+
+-- locations by their tests
+
+register_numbered : (r : Reg) → word_register (register_number r) ≡ r
+register_numbered Ax = refl
+register_numbered Cx = refl
+register_numbered Dx = refl
+register_numbered Bx = refl
+register_numbered Sp = refl
+register_numbered Bp = refl
+register_numbered Si = refl
+register_numbered Di = refl
+
+register_same : (q r : Reg) → (register_number q == register_number r) ≡ true → q ≡ r
+register_same q r t = sym (register_numbered q) ∙ ap word_register (eqb-true (register_number q) (register_number r) t) ∙ register_numbered r
+
+half_same : (h k : HalfName) → (half_number h == half_number k) ≡ true → h ≡ k
+half_same Low Low t = refl
+half_same High High t = refl
+half_same Low High t = absurd (true≢false (sym t))
+half_same High Low t = absurd (true≢false (sym t))
+
+flag_same : (f g : FlagName) → (flag_number f == flag_number g) ≡ true → f ≡ g
+flag_same Cf Cf t = refl
+flag_same Zf Zf t = refl
+flag_same Sf Sf t = refl
+flag_same Of Of t = refl
+flag_same Cf Zf t = absurd (true≢false (sym t))
+flag_same Cf Sf t = absurd (true≢false (sym t))
+flag_same Cf Of t = absurd (true≢false (sym t))
+flag_same Zf Cf t = absurd (true≢false (sym t))
+flag_same Zf Sf t = absurd (true≢false (sym t))
+flag_same Zf Of t = absurd (true≢false (sym t))
+flag_same Sf Cf t = absurd (true≢false (sym t))
+flag_same Sf Zf t = absurd (true≢false (sym t))
+flag_same Sf Of t = absurd (true≢false (sym t))
+flag_same Of Cf t = absurd (true≢false (sym t))
+flag_same Of Zf t = absurd (true≢false (sym t))
+flag_same Of Sf t = absurd (true≢false (sym t))
+
+-- the test tells that two locations are one
+pub location_same : (a b : Loc) → same_location a b ≡ true → a ≡ b
+location_same (Half q h) (Half r k) t =
+    let both = and_parts (register_number q == register_number r) (half_number h == half_number k) t in
+    ap (λ x. Half x h) (register_same q r both.0) ∙ ap (Half r) (half_same h k both.1)
+location_same (Flag f) (Flag g) t = ap Flag (flag_same f g t)
+location_same (Cell m h) (Cell n k) t =
+    let both = and_parts (m == n) (half_number h == half_number k) t in
+    ap (λ x. Cell x h) (eqb-true m n both.0) ∙ ap (Cell n) (half_same h k both.1)
+location_same (Temp m) (Temp n) t = ap Temp (eqb-true m n t)
+location_same (Half q h) (Flag g) t = absurd (true≢false (sym t))
+location_same (Half q h) (Cell n k) t = absurd (true≢false (sym t))
+location_same (Half q h) (Temp n) t = absurd (true≢false (sym t))
+location_same (Flag f) (Half r k) t = absurd (true≢false (sym t))
+location_same (Flag f) (Cell n k) t = absurd (true≢false (sym t))
+location_same (Flag f) (Temp n) t = absurd (true≢false (sym t))
+location_same (Cell m h) (Half r k) t = absurd (true≢false (sym t))
+location_same (Cell m h) (Flag g) t = absurd (true≢false (sym t))
+location_same (Cell m h) (Temp n) t = absurd (true≢false (sym t))
+location_same (Temp m) (Half r k) t = absurd (true≢false (sym t))
+location_same (Temp m) (Flag g) t = absurd (true≢false (sym t))
+location_same (Temp m) (Cell n k) t = absurd (true≢false (sym t))
+
+-- the half that was written
+pub half_taken : (values : Values) (q r : Reg) (h : HalfName) (v : ℕ) → (register_number q == register_number r) ≡ true → with_value values (Half r h) v (Half q h) ≡ v
+half_taken values q r Low v e = ap (λ b. if b && true then v else values (Half q Low)) e
+half_taken values q r High v e = ap (λ b. if b && true then v else values (Half q High)) e
+
+-- a half of another register
+pub half_other : (values : Values) (q r : Reg) (h k : HalfName) (v : ℕ) → (register_number q == register_number r) ≡ false → with_value values (Half r h) v (Half q k) ≡ values (Half q k)
+half_other values q r h k v e = ap (λ b. if b && (half_number k == half_number h) then v else values (Half q k)) e
+
+-- the other half
+pub high_kept : (values : Values) (q r : Reg) (v : ℕ) → with_value values (Half r Low) v (Half q High) ≡ values (Half q High)
+high_kept values q r v = ap (λ b. if b then v else values (Half q High)) (and_right (register_number q == register_number r) false refl)
+
+pub low_kept : (values : Values) (q r : Reg) (v : ℕ) → with_value values (Half r High) v (Half q Low) ≡ values (Half q Low)
+low_kept values q r v = ap (λ b. if b then v else values (Half q Low)) (and_right (register_number q == register_number r) false refl)
+
+-- Temporaries and flags.
+
+pub mirrors_temp : (s : State) (values : Values) (n v : ℕ) → Mirrors s values → Mirrors s (with_value values (Temp n) v)
+mirrors_temp s values n v m = record {
+  eight = m.eight;
+  words = m.words;
+  carry = m.carry;
+  zero = m.zero;
+  negative = m.negative;
+  overflow = m.overflow;
+}
+
+-- where a state has the same registers and flags
+pub mirrors_state : (s t : State) (values : Values) → t.regs ≡ s.regs → t.flags ≡ s.flags → Mirrors s values → Mirrors t values
+mirrors_state s t values regs flags m = record {
+  eight = ap (λ (xs : List ℕ). length xs) regs ∙ m.eight;
+  words = λ r g. ap (λ xs. slice_index xs (reg_number r)) regs ∙ m.words r g;
+  carry = m.carry ∙ ap (λ (f : Flags). from_bool f.cf) (sym flags);
+  zero = m.zero ∙ ap (λ (f : Flags). from_bool f.zf) (sym flags);
+  negative = m.negative ∙ ap (λ (f : Flags). from_bool f.sf) (sym flags);
+  overflow = m.overflow ∙ ap (λ (f : Flags). from_bool f.of) (sym flags);
+}
+
+pub mirrors_cf : (s : State) (values : Values) (b : Bool) (v : ℕ) → v ≡ from_bool b → Mirrors s values → Mirrors (with_flags (record s.flags { cf = b }) s) (with_value values (Flag Cf) v)
+mirrors_cf s values b v e m = record { eight = m.eight; words = m.words; carry = e; zero = m.zero; negative = m.negative; overflow = m.overflow }
+
+pub mirrors_zf : (s : State) (values : Values) (b : Bool) (v : ℕ) → v ≡ from_bool b → Mirrors s values → Mirrors (with_flags (record s.flags { zf = b }) s) (with_value values (Flag Zf) v)
+mirrors_zf s values b v e m = record { eight = m.eight; words = m.words; carry = m.carry; zero = e; negative = m.negative; overflow = m.overflow }
+
+pub mirrors_sf : (s : State) (values : Values) (b : Bool) (v : ℕ) → v ≡ from_bool b → Mirrors s values → Mirrors (with_flags (record s.flags { sf = b }) s) (with_value values (Flag Sf) v)
+mirrors_sf s values b v e m = record { eight = m.eight; words = m.words; carry = m.carry; zero = m.zero; negative = e; overflow = m.overflow }
+
+pub mirrors_of : (s : State) (values : Values) (b : Bool) (v : ℕ) → v ≡ from_bool b → Mirrors s values → Mirrors (with_flags (record s.flags { of = b }) s) (with_value values (Flag Of) v)
+mirrors_of s values b v e m = record { eight = m.eight; words = m.words; carry = m.carry; zero = m.zero; negative = m.negative; overflow = e }
+
+-- OF, SF and ZF in the order of the statements; CF stays
+pub mirrors_three : (s : State) (values : Values) (f : Flags) (o n z : ℕ) → f.cf ≡ s.flags.cf → o ≡ from_bool f.of → n ≡ from_bool f.sf → z ≡ from_bool f.zf → Mirrors s values
+    → Mirrors (with_flags f s) (with_value (with_value (with_value values (Flag Of) o) (Flag Sf) n) (Flag Zf) z)
+mirrors_three s values f o n z kept eo en ez m = record { eight = m.eight; words = m.words; carry = m.carry ∙ ap from_bool (sym kept); zero = ez; negative = en; overflow = eo }
+
+-- all four
+pub mirrors_flags : (s : State) (values : Values) (f : Flags) (o n z c : ℕ) → o ≡ from_bool f.of → n ≡ from_bool f.sf → z ≡ from_bool f.zf → c ≡ from_bool f.cf → Mirrors s values
+    → Mirrors (with_flags f s) (with_value (with_value (with_value (with_value values (Flag Of) o) (Flag Sf) n) (Flag Zf) z) (Flag Cf) c)
+mirrors_flags s values f o n z c eo en ez ec m = record { eight = m.eight; words = m.words; carry = ec; zero = ez; negative = en; overflow = eo }
+
+-- OF and CF in the order of the statements; ZF and SF stay
+pub mirrors_two : (s : State) (values : Values) (f : Flags) (o c : ℕ) → f.zf ≡ s.flags.zf → f.sf ≡ s.flags.sf → o ≡ from_bool f.of → c ≡ from_bool f.cf → Mirrors s values
+    → Mirrors (with_flags f s) (with_value (with_value values (Flag Of) o) (Flag Cf) c)
+mirrors_two s values f o c zf sf eo ec m = record { eight = m.eight; words = m.words; carry = ec; zero = m.zero ∙ ap from_bool (sym zf); negative = m.negative ∙ ap from_bool (sym sf); overflow = eo }
+
+-- Words.
+
+-- after both halves have been written, a word is what it was but for the register itself
+written_halves : (s : State) (values : Values) (r : Reg) (v l h : ℕ) → Mirrors s values → v ≡ h * 256 + l → (q : Reg) → is_general q ≡ true
+    → (b : Bool) → (register_number q == register_number r) ≡ b
+    → word_in (with_word_in s r v) q ≡ with_value (with_value values (Half r Low) l) (Half r High) h (Half q High) * 256 + with_value (with_value values (Half r Low) l) (Half r High) h (Half q Low)
+written_halves s values r v l h m e q g true t =
+    let low : Values = with_value values (Half r Low) l in
+    let same : reg_number q ≡ reg_number r = sym (number_same q) ∙ eqb-true (register_number q) (register_number r) t ∙ number_same r in
+    let high_is : with_value low (Half r High) h (Half q High) ≡ h = half_taken low q r High h t in
+    let low_is : with_value low (Half r High) h (Half q Low) ≡ l = low_kept low q r h ∙ half_taken values q r Low l t in
+    word_written s q r v m.eight same ∙ e ∙ sym (ap (λ k. k * 256 + with_value low (Half r High) h (Half q Low)) high_is ∙ ap (λ k. h * 256 + k) low_is)
+written_halves s values r v l h m e q g false t =
+    let low : Values = with_value values (Half r Low) l in
+    let other : reg_number q ≢ reg_number r = λ same. eqb-false (register_number q) (register_number r) t (number_same q ∙ same ∙ sym (number_same r)) in
+    let high_is : with_value low (Half r High) h (Half q High) ≡ values (Half q High) = half_other low q r High High h t ∙ high_kept values q r l in
+    let low_is : with_value low (Half r High) h (Half q Low) ≡ values (Half q Low) = low_kept low q r h ∙ half_other values q r Low Low l t in
+    word_other s q r v other ∙ m.words q g ∙ sym (ap (λ k. k * 256 + with_value low (Half r High) h (Half q Low)) high_is ∙ ap (λ k. values (Half q High) * 256 + k) low_is)
+
+-- a word register takes a word, and its halves take the bytes
+pub mirrors_word : (s : State) (values : Values) (r : Reg) (v l h : ℕ) → v ≡ h * 256 + l → Mirrors s values → Mirrors (with_word_in s r v) (with_value (with_value values (Half r Low) l) (Half r High) h)
+mirrors_word s values r v l h e m = record {
+  eight = length-set s.regs (reg_number r) v ∙ m.eight;
+  words = λ q g. written_halves s values r v l h m e q g (register_number q == register_number r) refl;
+  carry = m.carry;
+  zero = m.zero;
+  negative = m.negative;
+  overflow = m.overflow;
+}
+
+-- Halves.
+
+-- writing again what the other half holds changes nothing
+again_low : (values : Values) (r : Reg) (v : ℕ) → Alike (with_value (with_value values (Half r Low) v) (Half r High) (values (Half r High))) (with_value values (Half r Low) v)
+again_low values r v location =
+    elim (same_location location (Half r High)) as (λ b. same_location location (Half r High) ≡ b → (if b then values (Half r High) else with_value values (Half r Low) v location) ≡ with_value values (Half r Low) v location) [
+      | true ↦ λ t. sym (ap (with_value values (Half r Low) v) (location_same location (Half r High) t) ∙ high_kept values r r v)
+      | false ↦ λ _. refl
+    ] refl
+
+again_high : (values : Values) (r : Reg) (v : ℕ) → Alike (with_value (with_value values (Half r Low) (values (Half r Low))) (Half r High) v) (with_value values (Half r High) v)
+again_high values r v location =
+    ap (λ n. if same_location location (Half r High) then v else n)
+    (elim (same_location location (Half r Low)) as (λ b. same_location location (Half r Low) ≡ b → (if b then values (Half r Low) else values location) ≡ values location) [
+      | true ↦ λ t. ap values (sym (location_same location (Half r Low) t))
+      | false ↦ λ _. refl
+    ] refl)
+
+-- one byte of a word register takes a byte; the bound is that of the low half, as it was
+pub mirrors_half : (s : State) (values : Values) (r : Reg) (h : HalfName) (v : ℕ) → is_general r ≡ true → values (Half r Low) < 256 → Mirrors s values
+    → Mirrors (with_operand s (Byte r h) v) (with_value values (Half r h) v)
+mirrors_half s values r Low v g small m =
+    let word : word_with_half Low (word_in s r) v ≡ values (Half r High) * 256 + v = ap (λ k. k / 256 * 256 + v) (m.words r g) ∙ omega (arith, small) in
+    mirrors_alike _ _ _ (again_low values r v) (mirrors_word s values r (word_with_half Low (word_in s r) v) v (values (Half r High)) word m)
+mirrors_half s values r High v g small m =
+    let word : word_with_half High (word_in s r) v ≡ v * 256 + values (Half r Low) = ap (λ k. v * 256 + k % 256) (m.words r g) ∙ omega (arith, small) in
+    mirrors_alike _ _ _ (again_high values r v) (mirrors_word s values r (word_with_half High (word_in s r) v) (values (Half r Low)) v word m)
+
+-- the bytes of a word
+pub word_low : (s : State) (values : Values) (r : Reg) → is_general r ≡ true → values (Half r Low) < 256 → Mirrors s values → half_of_word Low (word_in s r) ≡ values (Half r Low)
+word_low s values r g small m = ap (λ k. k % 256) (m.words r g) ∙ omega (arith, small)
+
+pub word_high : (s : State) (values : Values) (r : Reg) → is_general r ≡ true → values (Half r Low) < 256 → Mirrors s values → half_of_word High (word_in s r) ≡ values (Half r High)
+word_high s values r g small m = ap (λ k. k / 256) (m.words r g) ∙ omega (arith, small)
+
+-- Statements that set locations.
+
+pub executed_append : (first rest : List Stmt) (scene : Scene) → executed (first ++ rest) scene ≡ executed rest (executed first scene)
+executed_append [] rest scene = refl
+executed_append (Set location e ∷ first) rest scene = executed_append first rest (record scene { values = with_value scene.values location (value_of scene e) })
+executed_append (Fetch location width address ∷ first) rest scene = executed_append first rest scene
+executed_append (Store width address e ∷ first) rest scene = executed_append first rest scene
+executed_append (Div location e ∷ first) rest scene = executed_append first rest scene
+executed_append (Call results entry arguments depth ∷ first) rest scene = executed_append first rest scene
+executed_append (Dos number place argument ∷ first) rest scene = executed_append first rest scene
+
+-- they change nothing but values
+pub executed_bits : (stmts : List Stmt) (scene : Scene) → (executed stmts scene).bits ≡ scene.bits
+executed_bits [] scene = refl
+executed_bits (Set location e ∷ rest) scene = executed_bits rest (record scene { values = with_value scene.values location (value_of scene e) })
+executed_bits (Fetch location width address ∷ rest) scene = executed_bits rest scene
+executed_bits (Store width address e ∷ rest) scene = executed_bits rest scene
+executed_bits (Div location e ∷ rest) scene = executed_bits rest scene
+executed_bits (Call results entry arguments depth ∷ rest) scene = executed_bits rest scene
+executed_bits (Dos number place argument ∷ rest) scene = executed_bits rest scene
+
+pub executed_base : (stmts : List Stmt) (scene : Scene) → (executed stmts scene).base ≡ scene.base
+executed_base [] scene = refl
+executed_base (Set location e ∷ rest) scene = executed_base rest (record scene { values = with_value scene.values location (value_of scene e) })
+executed_base (Fetch location width address ∷ rest) scene = executed_base rest scene
+executed_base (Store width address e ∷ rest) scene = executed_base rest scene
+executed_base (Div location e ∷ rest) scene = executed_base rest scene
+executed_base (Call results entry arguments depth ∷ rest) scene = executed_base rest scene
+executed_base (Dos number place argument ∷ rest) scene = executed_base rest scene
+
+pub executed_memory : (stmts : List Stmt) (scene : Scene) → (executed stmts scene).memory ≡ scene.memory
+executed_memory [] scene = refl
+executed_memory (Set location e ∷ rest) scene = executed_memory rest (record scene { values = with_value scene.values location (value_of scene e) })
+executed_memory (Fetch location width address ∷ rest) scene = executed_memory rest scene
+executed_memory (Store width address e ∷ rest) scene = executed_memory rest scene
+executed_memory (Div location e ∷ rest) scene = executed_memory rest scene
+executed_memory (Call results entry arguments depth ∷ rest) scene = executed_memory rest scene
+executed_memory (Dos number place argument ∷ rest) scene = executed_memory rest scene
+
+-- a location takes a value of its width
+pub fits_taking : (scene : Scene) (location : Loc) (v : ℕ) → v < 2 ^ location_width scene.bits location → Fits scene → Fits (record scene { values = with_value scene.values location v })
+fits_taking scene location v small fits = record {
+  values = λ other. elim (same_location other location) as (λ b. same_location other location ≡ b → (if b then v else scene.values other) < 2 ^ location_width scene.bits other) [
+    | true ↦ λ t. subst (λ place. v < 2 ^ location_width scene.bits place) (sym (location_same other location t)) small
+    | false ↦ λ _. fits.values other
+  ] refl;
+  len = fits.len;
+  bytes = fits.bytes;
+}
+
+-- statements that are well formed keep what they read within its widths
+pub executed_fits : (stmts : List Stmt) (scene : Scene) → list_all (is_stmt scene.bits) stmts ≡ true → Fits scene → Fits (executed stmts scene)
+executed_fits [] scene ok fits = fits
+executed_fits (Set location e ∷ rest) scene ok fits =
+    let all = and_parts (is_stmt scene.bits (Set location e)) (list_all (is_stmt scene.bits) rest) ok in
+    let one = and_parts (is_location scene.bits location) (is_expr_of scene.bits (location_width scene.bits location) e) all.0 in
+    let two = and_parts (is_expr scene.bits e) (width_of scene.bits e == location_width scene.bits location) one.1 in
+    let small : value_of scene e < 2 ^ location_width scene.bits location
+    = subst (λ n. value_of scene e < 2 ^ n) (eqb-true (width_of scene.bits e) (location_width scene.bits location) two.1) (value_fits scene fits e two.0) in
+    executed_fits rest (record scene { values = with_value scene.values location (value_of scene e) }) all.1 (fits_taking scene location (value_of scene e) small fits)
+executed_fits (Fetch location width address ∷ rest) scene ok fits = executed_fits rest scene (and_parts _ (list_all (is_stmt scene.bits) rest) ok).1 fits
+executed_fits (Store width address e ∷ rest) scene ok fits = executed_fits rest scene (and_parts _ (list_all (is_stmt scene.bits) rest) ok).1 fits
+executed_fits (Div location e ∷ rest) scene ok fits = executed_fits rest scene (and_parts _ (list_all (is_stmt scene.bits) rest) ok).1 fits
+executed_fits (Call results entry arguments depth ∷ rest) scene ok fits = executed_fits rest scene (and_parts _ (list_all (is_stmt scene.bits) rest) ok).1 fits
+executed_fits (Dos number place argument ∷ rest) scene ok fits = executed_fits rest scene (and_parts _ (list_all (is_stmt scene.bits) rest) ok).1 fits
