@@ -69,7 +69,7 @@ block_place nodes entry at = suc (place_in (leaders nodes entry) at)
 
 abbrev pub node_stmts : Option Node → List Stmt
 node_stmts None = []
-node_stmts (Some node) = op_stmts node.instr.op None
+node_stmts (Some node) = op_stmts node.instr.op node.number
 
 abbrev pub stmts_at : Nodes → ℕ → List Stmt
 stmts_at nodes at = node_stmts (node_in nodes at)

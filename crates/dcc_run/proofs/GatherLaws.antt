@@ -74,9 +74,9 @@ module _ {S T P : Type 0} (kept : P → Bool) (first : System S) (mark : S → O
       record {
         visits_are = visits-over second other_mark other_law m t other ∙ sym (ap (visits_of kept) (visits-over first mark law n s o.over));
         alike = λ _. record {
-            end = ap second.end other_stay ∙ o.end ∙ sym (ap first.end stay);
-            out = ap second.out other_stay ∙ o.out ∙ sym (ap first.out stay);
-          };
+          end = ap second.end other_stay ∙ o.end ∙ sym (ap first.end stay);
+          out = ap second.out other_stay ∙ o.out ∙ sym (ap first.out stay);
+        };
       }
 
   abbrev first_over : S → T → Bool
@@ -97,11 +97,13 @@ module _ {S T P : Type 0} (kept : P → Bool) (first : System S) (mark : S → O
       elim (cases_lt n g.further) [
         | inl lt ↦
             let near : n ≤ g.further = omega (arith, lt) in
-            let high : suc n ≤ g.further = omega (arith, lt) in
-            (1, record {
-              visits_are = append-nil _ ∙ some-visits s t g n near;
-              alike = λ over. absurd (true≢false (sym over ∙ g.running (suc n) high));
-            })
+            let high : suc n ≤ g.further = omega (arith, lt) in (
+              1,
+              record {
+                visits_are = append-nil _ ∙ some-visits s t g n near;
+                alike = λ over. absurd (true≢false (sym over ∙ g.running (suc n) high));
+              },
+            )
         | inr ge ↦
             let d : ℕ = n - g.further in
             let e : suc g.further + d ≡ suc n = omega (arith, ge) in

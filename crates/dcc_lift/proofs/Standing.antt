@@ -1,0 +1,182 @@
+-- The machine at an offset of the procedure and the program's run within a block stand for each other; one instruction of
+-- the one and its statements in the other keep that.
+use Rattle.std.proofs.Common.{◌≡◌, ◌≢◌, ℕ, ◌+◌, ◌-◌, ◌*◌, ◌/◌, ◌%◌, ◌<◌, ◌≤◌, Bool, true, false, cond, List, [], ◌∷◌, ◌++◌, Option, Some, None, All, Contains, take, drop, length, refl, sym, ap, ap₂, ◌∙◌, subst, arith, true≢false}
+use Rattle.std.proofs.lemmas.List.{length-drop, length-take, drop-take, take-take}
+use Rattle.std.specs.Prelude.{if◌then◌else◌, ◌==◌, ◌||◌}
+use Rattle.dcc_run.specs.End.{Running, Exit as ExitWith, is_over}
+use Rattle.dcc_num.specs.declared.Reg.TheVariants.{Ax, Dx}
+use Rattle.dcc_num.specs.declared.Half.TheVariants.{Low, High}
+use Rattle.dcc_prog.specs.declared.image.Image.{Image}
+use Rattle.dcc_prog.specs.declared.procedure.Layout.{Layout}
+use Rattle.dcc_prog.specs.declared.procedure.Node.{Node}
+use Rattle.dcc_prog.specs.declared.instr.Op.{Op}
+use Rattle.dcc_prog.specs.declared.instr.Op.TheVariants.{Int21, Table}
+use Rattle.dcc_prog.specs.declared.instr.Instr.{Instr}
+use Rattle.dcc_prog.specs.Code.{code_of}
+use Rattle.dcc_prog.specs.Table.{instruction_at}
+use Rattle.dcc_prog.specs.Machine.{State as Machine, word_in, code_segment}
+use Rattle.dcc_prog.specs.Step.{code_bytes, op_step, instruction_step, step}
+use Rattle.dcc_prog.specs.Trail.{code_within, instruction_in, next_of, known_ah, ah_behind, targets_of, op_successors, successors, IsTrail}
+use Rattle.dcc_prog.specs.WellFormed.{IsOperation}
+use Rattle.dcc_prog.proofs.TableLaws.{instruction-length, instruction-prefix}
+use Rattle.dcc_prog.proofs.FetchLaws.{IsPlaced, HoldsImage, fetched-instruction}
+use Rattle.dcc_ir.specs.declared.syntax.Loc.TheVariants.{Half}
+use Rattle.dcc_ir.specs.Location.{Values}
+use Rattle.dcc_ir.specs.Tree.{Expr, Stmt, Graph}
+use Rattle.dcc_ir.specs.Value.{Scene, value_of, Fits}
+use Rattle.dcc_ir.specs.Run.{State as Inner, scene_of, value_in, block_step}
+use Rattle.dcc_lift.specs.Temporaries.{temporary_bits}
+use Rattle.dcc_lift.specs.Statements.{op_stmts, op_test}
+use Rattle.dcc_lift.specs.Mirrors.{Mirrors, executed}
+use Rattle.dcc_lift.specs.Liftable.{is_liftable}
+use Rattle.dcc_lift.specs.Blocks.{Nodes, node_in, node_stmts}
+use Rattle.dcc_lift.proofs.AhLaws.{ah-behind}
+
+-- What operations do, each by itself.
+
+-- a step leaves memory, segments, input, output and end
+pub record KeepsRest (s t : Machine) : Type 0 where
+  pub memory : t.memory ≡ s.memory
+  pub segs : t.segs ≡ s.segs
+  pub input : t.input ≡ s.input
+  pub out : t.out ≡ s.out
+  pub end : t.end ≡ s.end
+
+-- the run's state after statements that set locations
+abbrev pub having_set : List Stmt → Inner → Inner
+having_set stmts t = record t { running = record t.running { values = (executed stmts (scene_of t)).values } }
+
+-- of all operations but INT 21h that are lifted: what their statements do, and where they go
+pub record AreLifted : Type 0 where
+  pub mirrors : (op : Op) (number : Option ℕ) (at : ℕ) (s : Machine) (scene : Scene) → is_liftable op ≡ true → IsOperation op → op ≢ Int21
+      → scene.bits ≡ temporary_bits → Fits scene → Mirrors s scene.values → Mirrors (op_step op at s) (executed (op_stmts op number) scene).values
+  pub fits : (op : Op) (number : Option ℕ) (scene : Scene) → is_liftable op ≡ true → IsOperation op → op ≢ Int21
+      → scene.bits ≡ temporary_bits → Fits scene → Fits (record scene { values = (executed (op_stmts op number) scene).values })
+  pub keeps : (op : Op) (at : ℕ) (s : Machine) → is_liftable op ≡ true → op ≢ Int21 → KeepsRest s (op_step op at s)
+  pub single : (op : Op) (at : ℕ) (s : Machine) (ah : Option ℕ) → is_liftable op ≡ true → op ≢ Int21 → op_test op ≡ None
+      → op_successors op s.ip ah [] ≡ (op_step op at s).ip ∷ []
+  pub tested : (op : Op) (number : Option ℕ) (at : ℕ) (s : Machine) (ah : Option ℕ) (scene : Scene) (test : Expr) → is_liftable op ≡ true → IsOperation op → op ≢ Int21
+      → scene.bits ≡ temporary_bits → Fits scene → Mirrors s scene.values → op_test op ≡ Some test
+      → (target : ℕ) × (op_successors op s.ip ah [] ≡ target ∷ s.ip ∷ []) × ((op_step op at s).ip ≡ (if value_of (executed (op_stmts op number) scene) test == 1 then target else s.ip))
+  pub runs : (op : Op) (number : Option ℕ) (graphs : List Graph) (fill : ℕ) (rest : List Stmt) (t : Inner) → is_liftable op ≡ true → IsOperation op → op ≢ Int21 → t.end ≡ Running
+      → block_step graphs fill (op_stmts op number ++ rest) t ≡ block_step graphs fill rest (having_set (op_stmts op number) t)
+
+-- The instructions of the procedure.
+
+-- the number of a DOS call that is lifted
+abbrev pub is_lifted_number : ℕ → Bool
+is_lifted_number n = (n == 0x02) || ((n == 0x4C) || ((n == 0x01) || (n == 0x08)))
+
+-- an instruction of the procedure: where it stands, that it is lifted, its number, and its successors
+pub record IsInstruction (image : Image) (layout : Layout) (nodes : Nodes) (at : ℕ) (node : Node) : Type 0 where
+  pub found : node_in nodes at ≡ Some node
+  pub stands : instruction_in image layout at ≡ Some node.instr
+  pub liftable : is_liftable node.instr.op ≡ true
+  pub operation : IsOperation node.instr.op
+  pub number : node.instr.op ≡ Int21 → (n : ℕ) × (node.number ≡ Some n) × (is_lifted_number n ≡ true)
+  pub told : node.instr.op ≡ Int21 → (before : List ℕ) → IsTrail image layout layout.start_ip (at ∷ before) → known_ah image layout before ≡ node.number
+  pub succ : (before : List ℕ) → IsTrail image layout layout.start_ip (at ∷ before) → node.succ.items ≡ successors image layout (at ∷ before)
+
+-- The two runs.
+
+pub record BothStand (image : Image) (layout : Layout) (graph : Graph) (s : Machine) (t : Inner) (at : ℕ) (before : List ℕ) : Type 0 where
+  pub holds : HoldsImage image s
+  pub ip_is : s.ip ≡ at
+  pub running : s.end ≡ Running
+  pub trail : IsTrail image layout layout.start_ip (at ∷ before)
+  pub graph_is : t.running.graph ≡ graph
+  pub going : t.end ≡ Running
+  pub mirrors : Mirrors s t.running.values
+  pub fits : Fits (scene_of t)
+  pub input : t.input ≡ s.input
+  pub out : t.out ≡ s.out
+  pub bytes : All (λ byte. byte < 256) s.input
+  pub ah : (n : ℕ) → known_ah image layout before ≡ Some n → t.running.values (Half Ax High) ≡ n
+
+-- what one instruction that does not end the run leaves
+pub record IsPassed (image : Image) (layout : Layout) (graph : Graph) (graphs : List Graph) (fill : ℕ) (node : Node) (s : Machine) (t : Inner) (at : ℕ) (before : List ℕ) : Type 0 where
+  pub to : ℕ
+  pub next : Inner
+  pub single : op_test node.instr.op ≡ None → node.succ.items ≡ to ∷ []
+  pub tested : (test : Expr) → op_test node.instr.op ≡ Some test → (target : ℕ) × (other : ℕ) × (node.succ.items ≡ target ∷ other ∷ []) × (to ≡ (if value_in next test == 1 then target else other))
+  pub stand : BothStand image layout graph (step s) next to (at ∷ before)
+  pub block : next.running.block ≡ t.running.block
+  pub runs : (rest : List Stmt) → block_step graphs fill (node_stmts (Some node) ++ rest) t ≡ block_step graphs fill rest next
+
+-- both runs end with the same exit code
+pub record IsLeft (graphs : List Graph) (fill : ℕ) (node : Node) (s : Machine) (t : Inner) : Type 0 where
+  pub code : ℕ
+  pub machine : (step s).end ≡ ExitWith code
+  pub out : (step s).out ≡ s.out
+  pub ends : (rest : List Stmt) → (block_step graphs fill (node_stmts (Some node) ++ rest) t).end ≡ ExitWith code
+  pub inner_out : (rest : List Stmt) → (block_step graphs fill (node_stmts (Some node) ++ rest) t).out ≡ t.out
+  pub none : node.succ.items ≡ []
+
+-- The step.
+
+-- an instruction within the code stands in the whole code too
+within-code : (image : Image) (layout : Layout) (at : ℕ) (instr : Instr) → instruction_in image layout at ≡ Some instr → instruction_at at (drop at (code_of image)) ≡ Some instr
+within-code image layout at instr found =
+    let xs = code_of image in
+    let e : ℕ = layout.code_end in
+    let m : ℕ = e - at in
+    let bounds = instruction-length at (drop at (take e xs)) instr found in
+    let len : length (drop at (take e xs)) ≡ length (take e xs) - at = length-drop at (take e xs) in
+    let le : length (take e xs) ≤ e = omega (arith, length-take e xs) in
+    let inside : instr.len ≤ m = omega (arith, bounds.0, bounds.1, len, le) in
+    let split : e ≡ at + m = omega (arith, bounds.0, inside) in
+    let same : drop at (take e xs) ≡ take m (drop at xs) = ap (λ k. drop at (take k xs)) split ∙ drop-take at m xs in
+    instruction-prefix at (drop at (take e xs)) (drop at xs) instr found
+    (sym (ap (take instr.len) same ∙ take-take instr.len m (drop at xs) inside))
+
+-- the machine makes the step of the instruction
+step-is : (image : Image) (layout : Layout) (graph : Graph) (s : Machine) (t : Inner) (at : ℕ) (before : List ℕ) (instr : Instr) → IsPlaced image → BothStand image layout graph s t at before → instruction_in image layout at ≡ Some instr
+    → step s ≡ op_step instr.op s.ip (record s { ip = next_of s.ip instr })
+step-is image layout graph s t at before instr placed both found =
+    let here : instruction_at s.ip (drop s.ip (code_of image)) ≡ Some instr =
+    ap (λ a. instruction_at a (drop a (code_of image))) both.ip_is ∙ within-code image layout at instr found in
+    ap (λ e. if is_over e then s else instruction_step (instruction_at s.ip (code_bytes s)) s) both.running
+    ∙ ap (λ o. instruction_step o s) (fetched-instruction image s instr placed both.holds here)
+
+-- only jumps through tables have targets
+no-targets : (image : Image) (layout : Layout) (op : Op) (before : List ℕ) → is_liftable op ≡ true → targets_of image layout op before ≡ []
+no-targets image layout (Table r offset) before l = absurd (true≢false (sym l))
+no-targets image layout _ before l = refl
+
+-- the successors of an instruction, by what is known of AH alone
+successors-are : (image : Image) (layout : Layout) (nodes : Nodes) (at : ℕ) (node : Node) (before : List ℕ) → IsInstruction image layout nodes at node → IsTrail image layout layout.start_ip (at ∷ before)
+    → node.succ.items ≡ op_successors node.instr.op (next_of at node.instr) (known_ah image layout before) []
+successors-are image layout nodes at node before is trail =
+    is.succ before trail
+    ∙ ap (λ found. elim found [ Some instr ↦ op_successors instr.op (next_of at instr) (known_ah image layout before) (targets_of image layout instr.op before) | None ↦ [] ]) is.stands
+    ∙ ap (op_successors node.instr.op (next_of at node.instr) (known_ah image layout before)) (no-targets image layout node.instr.op before is.liftable)
+
+module _ (laws : AreLifted) (image : Image) (layout : Layout) (graph : Graph) (nodes : Nodes) (placed : IsPlaced image) (widths : graph.bits ≡ temporary_bits) (s : Machine) (t : Inner) (at : ℕ) (before : List ℕ) (node : Node) (both : BothStand image layout graph s t at before) (is : IsInstruction image layout nodes at node) where
+  -- the state behind the instruction, from which its operation works
+  behind : Machine
+  behind = record s { ip = next_of s.ip node.instr }
+
+  bits-are : (scene_of t).bits ≡ temporary_bits
+  bits-are = ap (λ g. g.bits) both.graph_is ∙ widths
+
+  same-offset : next_of s.ip node.instr ≡ next_of at node.instr
+  same-offset = ap (λ a. next_of a node.instr) both.ip_is
+
+  -- an instruction that is no INT 21h
+  module _ (other : node.instr.op ≢ Int21) where
+    moved : Machine
+    moved = op_step node.instr.op s.ip behind
+
+    mirrored : Mirrors behind t.running.values
+    unfolding behind
+    mirrored = record {
+      eight = both.mirrors.eight;
+      words = both.mirrors.words;
+      carry = both.mirrors.carry;
+      zero = both.mirrors.zero;
+      negative = both.mirrors.negative;
+      overflow = both.mirrors.overflow;
+    }
+
+    trail-on : (to : ℕ) → Contains node.succ.items to → IsTrail image layout layout.start_ip (to ∷ at ∷ before)
+    trail-on to c = (subst (λ l. Contains l to) (is.succ before both.trail) c, both.trail)
