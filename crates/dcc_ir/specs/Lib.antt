@@ -17,3 +17,4 @@ pub mod Idioms
 pub mod Joinable
 pub mod Laws
 pub mod Plain
+pub mod Demand

@@ -16,3 +16,4 @@ pub mod FrameForm
 pub mod Prepared
 pub mod Construct
 pub mod Limit
+pub mod Wanted

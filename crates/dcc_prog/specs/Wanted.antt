@@ -1,0 +1,293 @@
+-- Which locations of a procedure are wanted before an instruction: those whose value a jump, a store, a division or a DOS
+-- call may come to use (liveness by demand, after C. Cifuentes, Reverse Compilation Techniques, 1994, section 5.4). So far
+-- no word of the stack takes part: a procedure that pushes, pops or calls has further locations and rules.
+use Rattle.std.specs.Prelude.{◌≡◌, ℕ, ◌==◌, Bool, true, false, not, ◌&&◌, ◌||◌, if◌then◌else◌, Option, Some, None}
+use Rattle.dcc_num.specs.declared.Width.{Width}
+use Rattle.dcc_num.specs.declared.Width.TheVariants.{Byte as byte_width, Word as word_width}
+use Rattle.dcc_num.specs.declared.Reg.{Reg}
+use Rattle.dcc_num.specs.declared.Reg.TheVariants.{Ax, Cx, Dx, Bx}
+use Rattle.dcc_num.specs.declared.Half.{Half}
+use Rattle.dcc_num.specs.declared.Half.TheVariants.{Low, High}
+use Rattle.dcc_num.specs.declared.FlagName.{FlagName}
+use Rattle.dcc_num.specs.declared.FlagName.TheVariants.{Cf, Zf, Sf, Of}
+use Rattle.dcc_prog.specs.declared.image.Image.{Image}
+use Rattle.dcc_prog.specs.declared.procedure.Layout.{Layout}
+use Rattle.dcc_prog.specs.declared.instr.Alu.{Alu}
+use Rattle.dcc_prog.specs.declared.instr.Alu.TheVariants.{Adc, Sbb, And, Or, Xor, Test}
+use Rattle.dcc_prog.specs.declared.instr.Shift.{Shift}
+use Rattle.dcc_prog.specs.declared.instr.Shift.TheVariants.{Rcl, Rcr, Sar}
+use Rattle.dcc_prog.specs.declared.instr.Unary.{Unary}
+use Rattle.dcc_prog.specs.declared.instr.Unary.TheVariants.{Inc, Dec, Neg, Not, Mul, Imul, Div, Idiv}
+use Rattle.dcc_prog.specs.declared.instr.Cond.{Cond}
+use Rattle.dcc_prog.specs.declared.instr.Cond.TheVariants.{O, No, B, Ae, Z, Nz, Be, A, S, Ns, L, Ge, Le, G}
+use Rattle.dcc_prog.specs.declared.instr.Plain.{Plain}
+use Rattle.dcc_prog.specs.declared.instr.Plain.TheVariants.{Cbw, Cwd, Xlat, Cmc}
+use Rattle.dcc_prog.specs.declared.instr.Ea.{Ea}
+use Rattle.dcc_prog.specs.declared.instr.Operand.{Operand}
+use Rattle.dcc_prog.specs.declared.instr.Operand.TheVariants.{Word, Byte, Mem}
+use Rattle.dcc_prog.specs.declared.instr.Op.{Op}
+use Rattle.dcc_prog.specs.declared.instr.Op.TheVariants.{Alu as AluOp, Unary as UnaryOp, Shift as ShiftOp, Mov, Xchg, Lea, Plain as PlainOp, Branch, Loop, LoopE, LoopNe, Jcxz, Table, Int21}
+use Rattle.dcc_prog.specs.Machine.{operand_width}
+use Rattle.dcc_prog.specs.Trail.{StandsAt, IsNode, IsEdge}
+use Rattle.dcc_prog.specs.Construct.{HasAh}
+use Rattle.dcc_prog.specs.Writes.{is_same_register, is_same_half, is_half_of, writes_operand, is_in_pair, is_carry_or_overflow, unary_writes_flag, shift_writes_flag, writes_half, writes_flag}
+
+-- a half of a word register, or a flag
+pub data Location : Type 0 where
+  half_of : Reg → Half → Location
+  flag_of : FlagName → Location
+
+-- What operands read.
+
+-- the location is a part of the operand
+abbrev pub is_part : Location → Operand → Bool
+is_part (half_of r half) operand = is_half_of r half operand
+is_part (flag_of flag) operand = false
+
+-- the location is a half of the register
+abbrev pub is_half : Location → Reg → Bool
+is_half (half_of r half) q = is_same_register r q
+is_half (flag_of flag) q = false
+
+abbrev pub is_half_of_some : Location → Option Reg → Bool
+is_half_of_some location None = false
+is_half_of_some location (Some r) = is_half location r
+
+-- it takes part in an address
+abbrev pub is_in_address : Location → Ea → Bool
+is_in_address location ea = is_half_of_some location ea.base || is_half_of_some location ea.index
+
+abbrev pub is_in_address_of : Location → Operand → Bool
+is_in_address_of location (Mem width ea) = is_in_address location ea
+is_in_address_of location operand = false
+
+-- both halves of a word are read, and the address of what lies in memory
+abbrev pub is_read : Location → Operand → Bool
+is_read location operand = is_part location operand || is_in_address_of location operand
+
+abbrev pub is_flag : FlagName → Location → Bool
+is_flag Cf (flag_of Cf) = true
+is_flag Zf (flag_of Zf) = true
+is_flag Sf (flag_of Sf) = true
+is_flag Of (flag_of Of) = true
+is_flag flag location = false
+
+-- AL, and the accumulator of a width: AL or AX
+abbrev pub is_al : Location → Bool
+is_al (half_of r half) = is_same_register r Ax && is_same_half half Low
+is_al location = false
+
+abbrev pub is_accumulator : Width → Location → Bool
+is_accumulator byte_width location = is_al location
+is_accumulator word_width location = is_half location Ax
+
+-- What is made of what: the value that an operation gives the first location is made of that of the second.
+
+-- CF and OF of AND, OR, XOR and TEST are constants
+abbrev pub is_logic : Alu → Bool
+is_logic And = true
+is_logic Or = true
+is_logic Xor = true
+is_logic Test = true
+is_logic operation = false
+
+abbrev pub takes_carry : Alu → Bool
+takes_carry Adc = true
+takes_carry Sbb = true
+takes_carry operation = false
+
+-- the location takes a value that is no constant
+abbrev pub alu_makes : Alu → Operand → Location → Bool
+alu_makes operation a (half_of r half) = writes_operand operation && is_half_of r half a
+alu_makes operation a (flag_of flag) = not (is_logic operation && is_carry_or_overflow flag)
+
+-- the same of operations on one operand; ZF and SF of a product are constants
+abbrev pub unary_makes : Unary → Operand → Location → Bool
+unary_makes Mul a (half_of r half) = is_in_pair (operand_width a) r
+unary_makes Imul a (half_of r half) = is_in_pair (operand_width a) r
+unary_makes Mul a (flag_of flag) = is_carry_or_overflow flag
+unary_makes Imul a (flag_of flag) = is_carry_or_overflow flag
+unary_makes Div a location = false
+unary_makes Idiv a location = false
+unary_makes operation a (half_of r half) = is_half_of r half a
+unary_makes operation a (flag_of flag) = unary_writes_flag operation flag
+
+-- a product is made of the accumulator too
+abbrev pub unary_reads : Unary → Operand → Location → Bool
+unary_reads Mul a from = is_accumulator (operand_width a) from || is_read from a
+unary_reads Imul a from = is_accumulator (operand_width a) from || is_read from a
+unary_reads operation a from = is_read from a
+
+abbrev pub is_cl : Location → Bool
+is_cl (half_of r half) = is_same_register r Cx && is_same_half half Low
+is_cl location = false
+
+-- RCL and RCR, which are by one place
+abbrev pub is_turn : Shift → Bool
+is_turn Rcl = true
+is_turn Rcr = true
+is_turn operation = false
+
+-- the count is in CL
+abbrev pub is_by_cl : Shift → Bool → Bool
+is_by_cl operation by_cl = by_cl && not (is_turn operation)
+
+-- OF of SAR is a constant
+abbrev pub is_constant_flag : Shift → FlagName → Bool
+is_constant_flag Sar Of = true
+is_constant_flag operation flag = false
+
+-- RCL and RCR bring CF into the result, and so into OF, but not into the new CF
+abbrev pub brings_carry : Shift → Location → Bool
+brings_carry operation (half_of r half) = is_turn operation
+brings_carry operation (flag_of Of) = is_turn operation
+brings_carry operation to = false
+
+-- the operand is read for the location
+abbrev pub shift_reads : Shift → Location → Bool
+shift_reads operation (half_of r half) = true
+shift_reads operation (flag_of flag) = not (is_constant_flag operation flag)
+
+abbrev pub shift_writes : Shift → Operand → Location → Bool
+shift_writes operation a (half_of r half) = is_half_of r half a
+shift_writes operation a (flag_of flag) = shift_writes_flag operation flag
+
+abbrev pub shift_makes : Shift → Operand → Bool → Location → Location → Bool
+shift_makes operation a by_cl to from =
+    shift_writes operation a to
+    && ((shift_reads operation to && is_read from a)
+    || ((is_by_cl operation by_cl && is_cl from)
+    || (brings_carry operation to && is_flag Cf from)))
+
+-- MOV goes half by half
+abbrev pub moves : Operand → Operand → Location → Location → Bool
+moves (Word r) (Word q) (half_of t half) (half_of s other) =
+    is_same_register t r && (is_same_register s q && is_same_half half other)
+moves (Byte r half) (Byte q other) (half_of t k) (half_of s j) =
+    (is_same_register t r && is_same_half k half) && (is_same_register s q && is_same_half j other)
+moves to from location other = is_part location to && is_in_address_of other from
+
+abbrev pub plain_makes : Plain → Location → Location → Bool
+plain_makes Cbw (half_of r half) from = (is_same_register r Ax && is_same_half half High) && is_al from
+plain_makes Cwd (half_of r half) from = is_same_register r Dx && is_half from Ax
+plain_makes Xlat (half_of r half) from = (is_same_register r Ax && is_same_half half Low) && (is_al from || is_half from Bx)
+plain_makes Cmc (flag_of Cf) from = is_flag Cf from
+plain_makes operation to from = false
+
+-- CX is made of both its halves
+abbrev pub counts : Location → Location → Bool
+counts to from = is_half to Cx && is_half from Cx
+
+-- of all operations
+abbrev pub makes : Op → Location → Location → Bool
+makes (AluOp operation a b) to from =
+    alu_makes operation a to && (is_read from a || (is_read from b || (takes_carry operation && is_flag Cf from)))
+makes (UnaryOp operation a) to from = unary_makes operation a to && unary_reads operation a from
+makes (ShiftOp operation a by_cl) to from = shift_makes operation a by_cl to from
+makes (Mov to_operand operand) to from = moves to_operand operand to from
+makes (Xchg a b) to from = moves a b to from || moves b a to from
+makes (Lea r ea) to from = is_half to r && is_in_address from ea
+makes (PlainOp operation) to from = plain_makes operation to from
+makes (Loop target) to from = counts to from
+makes (LoopE target) to from = counts to from
+makes (LoopNe target) to from = counts to from
+makes op to from = false
+
+-- Uses.
+
+abbrev pub condition_uses : Cond → Location → Bool
+condition_uses O location = is_flag Of location
+condition_uses No location = is_flag Of location
+condition_uses B location = is_flag Cf location
+condition_uses Ae location = is_flag Cf location
+condition_uses Z location = is_flag Zf location
+condition_uses Nz location = is_flag Zf location
+condition_uses Be location = is_flag Cf location || is_flag Zf location
+condition_uses A location = is_flag Cf location || is_flag Zf location
+condition_uses S location = is_flag Sf location
+condition_uses Ns location = is_flag Sf location
+condition_uses L location = is_flag Sf location || is_flag Of location
+condition_uses Ge location = is_flag Sf location || is_flag Of location
+condition_uses Le location = is_flag Zf location || (is_flag Sf location || is_flag Of location)
+condition_uses G location = is_flag Zf location || (is_flag Sf location || is_flag Of location)
+
+-- the operand lies in memory
+abbrev pub is_in_memory : Operand → Bool
+is_in_memory (Mem width ea) = true
+is_in_memory operand = false
+
+-- what a DOS call of that number takes: 02h DL, 09h DX, 4Ch AL
+abbrev pub dos_uses : Option ℕ → Location → Bool
+dos_uses None location = false
+dos_uses (Some number) location =
+    if number == 0x02 then is_half location Dx && elim location [ half_of r half ↦ is_same_half half Low | flag_of flag ↦ false ]
+    else if number == 0x09 then is_half location Dx
+    else if number == 0x4C then is_al location
+    else false
+
+-- a division uses what it divides
+abbrev pub is_division : Unary → Bool
+is_division Div = true
+is_division Idiv = true
+is_division operation = false
+
+abbrev pub is_dividend : Width → Location → Bool
+is_dividend byte_width location = is_half location Ax
+is_dividend word_width location = is_half location Ax || is_half location Dx
+
+abbrev pub unary_uses : Unary → Operand → Location → Bool
+unary_uses operation a location =
+    if is_division operation then is_dividend (operand_width a) location || is_read location a
+    else is_in_memory a && is_read location a
+
+-- what an operation uses for a jump, a store, a division or a DOS call, whose number is given
+abbrev pub uses : Op → Option ℕ → Location → Bool
+uses (AluOp operation a b) number location =
+    (is_in_memory a && writes_operand operation) && (is_read location a || (is_read location b || (takes_carry operation && is_flag Cf location)))
+uses (UnaryOp operation a) number location = unary_uses operation a location
+uses (ShiftOp operation a by_cl) number location =
+    is_in_memory a && (is_read location a || ((is_by_cl operation by_cl && is_cl location) || (is_turn operation && is_flag Cf location)))
+uses (Mov to from) number location = is_in_memory to && (is_in_address_of location to || is_read location from)
+uses (Xchg a b) number location = (is_in_memory a || is_in_memory b) && (is_read location a || is_read location b)
+uses (Branch condition target) number location = condition_uses condition location
+uses (Loop target) number location = is_half location Cx
+uses (LoopE target) number location = is_half location Cx || is_flag Zf location
+uses (LoopNe target) number location = is_half location Cx || is_flag Zf location
+uses (Jcxz target) number location = is_half location Cx
+uses (Table r offset) number location = is_half location r
+uses Int21 number location = dos_uses number location
+uses op number location = false
+
+-- What is surely written.
+
+-- 01h and 08h give a byte
+abbrev pub gives_byte : Option ℕ → Bool
+gives_byte None = false
+gives_byte (Some number) = (number == 0x01) || (number == 0x08)
+
+abbrev pub surely_writes_half : Op → Option ℕ → Reg → Half → Bool
+surely_writes_half Int21 number r half = gives_byte number && writes_half Int21 r half
+surely_writes_half op number r half = writes_half op r half
+
+-- a shift or rotate by CL leaves the flags where the count is 0
+abbrev pub surely_writes_flag : Op → FlagName → Bool
+surely_writes_flag (ShiftOp operation a by_cl) flag = writes_flag (ShiftOp operation a by_cl) flag && not (is_by_cl operation by_cl)
+surely_writes_flag op flag = writes_flag op flag
+
+abbrev pub surely_writes : Op → Option ℕ → Location → Bool
+surely_writes op number (half_of r half) = surely_writes_half op number r half
+surely_writes op number (flag_of flag) = surely_writes_flag op flag
+
+-- Wanted.
+
+-- the operation stands at a node; INT 21h has that number
+pub record HasOperation (image : Image) (layout : Layout) (entry at : ℕ) (op : Op) (number : Option ℕ) : Type 0 where
+  pub node : IsNode image layout entry at
+  pub stands : StandsAt image layout at op
+  pub number_is : op ≡ Int21 → HasAh image layout entry at number
+
+-- the least relation: the location is wanted before the instruction at the offset
+pub data IsWanted (image : Image) (layout : Layout) (entry : ℕ) : ℕ → Location → Type 0 where
+  used : {at : ℕ} {location : Location} {op : Op} {number : Option ℕ} → HasOperation image layout entry at op number → uses op number location ≡ true → IsWanted image layout entry at location
+  made_of : {at next : ℕ} {location to : Location} {op : Op} {number : Option ℕ} → HasOperation image layout entry at op number → IsEdge image layout entry at next → makes op to location ≡ true → IsWanted image layout entry next to → IsWanted image layout entry at location
+  left : {at next : ℕ} {location : Location} {op : Op} {number : Option ℕ} → HasOperation image layout entry at op number → IsEdge image layout entry at next → surely_writes op number location ≡ false → IsWanted image layout entry next location → IsWanted image layout entry at location
