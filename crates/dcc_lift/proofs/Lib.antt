@@ -3,3 +3,4 @@ pub mod MirrorLaws
 pub mod SumValues
 pub mod OperandMirrors
 pub mod Standing
+pub mod AluMirrors
