@@ -38,14 +38,14 @@ use Rattle.dcc_lift.proofs.SumValues.{xor_bits, and_bits, or_bits, not_bit, chos
 
 -- Flags, as the expressions compute them of the operands a and b and of a result r.
 
-sign_flag : (w : Width) (r : ℕ) (outcome : ℕ × Flags) → r ≡ outcome.0 → outcome.0 < limit_of w → has_sign w outcome.0 ≡ outcome.1.sf → r / 2 ^ (bits_of w - 1) % 2 ^ 1 ≡ from_bool outcome.1.sf
+pub sign_flag : (w : Width) (r : ℕ) (outcome : ℕ × Flags) → r ≡ outcome.0 → outcome.0 < limit_of w → has_sign w outcome.0 ≡ outcome.1.sf → r / 2 ^ (bits_of w - 1) % 2 ^ 1 ≡ from_bool outcome.1.sf
 sign_flag w r outcome e small is = ap (λ n. n / 2 ^ (bits_of w - 1) % 2 ^ 1) e ∙ sign_value w outcome.0 small ∙ ap from_bool is
 
-zero_flag : (r : ℕ) (outcome : ℕ × Flags) → r ≡ outcome.0 → (outcome.0 == 0) ≡ outcome.1.zf → from_bool (r == 0) ≡ from_bool outcome.1.zf
+pub zero_flag : (r : ℕ) (outcome : ℕ × Flags) → r ≡ outcome.0 → (outcome.0 == 0) ≡ outcome.1.zf → from_bool (r == 0) ≡ from_bool outcome.1.zf
 zero_flag r outcome e is = ap (λ n. from_bool (n == 0)) e ∙ ap from_bool is
 
 -- OF of a sum
-sum_overflow_value : (w : Width) (a b r : ℕ) (c : Bool) → a < limit_of w → b < limit_of w → r ≡ (sum_of w a b c).0
+pub sum_overflow_value : (w : Width) (a b r : ℕ) (c : Bool) → a < limit_of w → b < limit_of w → r ≡ (sum_of w a b c).0
     → bit_and (bit_xor (a / 2 ^ (bits_of w - 1) % 2 ^ 1) (r / 2 ^ (bits_of w - 1) % 2 ^ 1)) (bit_xor (b / 2 ^ (bits_of w - 1) % 2 ^ 1) (r / 2 ^ (bits_of w - 1) % 2 ^ 1)) ≡ from_bool (sum_of w a b c).1.of
 sum_overflow_value w a b r c first second e =
     rw (e, sign_value w a first, sign_value w b second, sign_value w (sum_of w a b c).0 (sum_below w a b c), xor_bits (has_sign w a) (has_sign w (sum_of w a b c).0), xor_bits (has_sign w b) (has_sign w (sum_of w a b c).0), and_bits)
@@ -69,7 +69,7 @@ sum_with_carry_value : (w : Width) (a b k : ℕ) (c : Bool) → k ≡ from_bool 
 sum_with_carry_value w a b k c flag = rw flag (sum_with_carry w a b c)
 
 -- OF of a difference
-difference_overflow_value : (w : Width) (a b k r : ℕ) (c : Bool) → a < limit_of w → b < limit_of w → k ≡ from_bool c → r ≡ (difference_of w a b c).0
+pub difference_overflow_value : (w : Width) (a b k r : ℕ) (c : Bool) → a < limit_of w → b < limit_of w → k ≡ from_bool c → r ≡ (difference_of w a b c).0
     → bit_xor (if k == 1 then from_bool (int_le (signed_at (bits_of w) a) (signed_at (bits_of w) b)) else from_bool (int_lt (signed_at (bits_of w) a) (signed_at (bits_of w) b))) (r / 2 ^ (bits_of w - 1) % 2 ^ 1)
     ≡ from_bool (difference_of w a b c).1.of
 difference_overflow_value w a b k r c first second flag e =
@@ -126,7 +126,7 @@ sum_with_carry_worked word_width s scene m first second =
     (sum_carry_of_both_value word_width a b (scene.values (Flag Cf)) _ c first second m.carry r) m
 
 -- SUB, CMP and NEG
-difference_worked : (w : Width) (s : State) (scene : Scene) → Mirrors s scene.values → scene.values (left_place w) < limit_of w → scene.values (right_place w) < limit_of w
+pub difference_worked : (w : Width) (s : State) (scene : Scene) → Mirrors s scene.values → scene.values (left_place w) < limit_of w → scene.values (right_place w) < limit_of w
     → Worked w s (difference_of w (scene.values (left_place w)) (scene.values (right_place w)) false) scene (executed (subtracting w) scene)
 difference_worked byte_width s scene m first second =
     let a = scene.values (Temp 0) in

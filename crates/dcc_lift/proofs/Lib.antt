@@ -4,3 +4,4 @@ pub mod SumValues
 pub mod OperandMirrors
 pub mod Standing
 pub mod AluMirrors
+pub mod UnaryMirrors
