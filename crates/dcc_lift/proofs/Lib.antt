@@ -5,3 +5,5 @@ pub mod OperandMirrors
 pub mod Standing
 pub mod AluMirrors
 pub mod UnaryMirrors
+pub mod MoveMirrors
+pub mod ControlMirrors

@@ -59,20 +59,23 @@ word_other s q r v other = get_or-set_other s.regs (reg_number r) (reg_number q)
 
 -- Locations.
 
+-- a mirror sees no more than what halves and flags hold
+pub mirrors_seen : (s : State) (values others : Values) → ((r : Reg) (h : HalfName) → values (Half r h) ≡ others (Half r h)) → ((f : FlagName) → values (Flag f) ≡ others (Flag f)) → Mirrors s values → Mirrors s others
+mirrors_seen s values others halves flags m = record {
+  eight = m.eight;
+  words = λ r g. m.words r g ∙ ap (λ k. k * 256 + values (Half r Low)) (halves r High) ∙ ap (λ k. others (Half r High) * 256 + k) (halves r Low);
+  carry = sym (flags Cf) ∙ m.carry;
+  zero = sym (flags Zf) ∙ m.zero;
+  negative = sym (flags Sf) ∙ m.negative;
+  overflow = sym (flags Of) ∙ m.overflow;
+}
+
 -- two values that agree everywhere
 abbrev pub Alike : Values → Values → Type 0
 Alike values others = (location : Loc) → values location ≡ others location
 
--- a mirror sees no more than what the locations hold
 pub mirrors_alike : (s : State) (values others : Values) → Alike values others → Mirrors s values → Mirrors s others
-mirrors_alike s values others same m = record {
-  eight = m.eight;
-  words = λ r g. m.words r g ∙ ap (λ k. k * 256 + values (Half r Low)) (same (Half r High)) ∙ ap (λ k. others (Half r High) * 256 + k) (same (Half r Low));
-  carry = sym (same (Flag Cf)) ∙ m.carry;
-  zero = sym (same (Flag Zf)) ∙ m.zero;
-  negative = sym (same (Flag Sf)) ∙ m.negative;
-  overflow = sym (same (Flag Of)) ∙ m.overflow;
-}
+mirrors_alike s values others same m = mirrors_seen s values others (λ r h. same (Half r h)) (λ f. same (Flag f)) m
 
 -- locations by their tests
 
