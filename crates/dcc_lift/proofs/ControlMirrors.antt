@@ -32,7 +32,7 @@ pub stc_mirrors : (s : State) (scene : Scene) → Mirrors s scene.values → Mir
 stc_mirrors s scene m = mirrors_cf s scene.values true 1 refl m
 
 -- the negation of one bit that stands for a test
-negated_value : (k : ℕ) (p : Bool) → k ≡ from_bool p → 2 ^ 1 - 1 - k ≡ from_bool (not p)
+pub negated_value : (k : ℕ) (p : Bool) → k ≡ from_bool p → 2 ^ 1 - 1 - k ≡ from_bool (not p)
 negated_value k p e = ap (λ n. 2 ^ 1 - 1 - n) e ∙ not_bit p
 
 pub cmc_mirrors : (s : State) (scene : Scene) → Mirrors s scene.values → Mirrors (with_carry (not s.flags.cf) s) (executed (carry_taking (negated (flag Cf))) scene).values
@@ -40,7 +40,7 @@ cmc_mirrors s scene m = mirrors_cf s scene.values (not s.flags.cf) _ (negated_va
 
 -- Conditions.
 
-and_value : (j k : ℕ) (p q : Bool) → j ≡ from_bool p → k ≡ from_bool q → bit_and j k ≡ from_bool (p && q)
+pub and_value : (j k : ℕ) (p q : Bool) → j ≡ from_bool p → k ≡ from_bool q → bit_and j k ≡ from_bool (p && q)
 and_value j k p q e f = ap (λ n. bit_and n k) e ∙ ap (bit_and (from_bool p)) f ∙ and_bits p q
 
 or_value : (j k : ℕ) (p q : Bool) → j ≡ from_bool p → k ≡ from_bool q → bit_or j k ≡ from_bool (p || q)

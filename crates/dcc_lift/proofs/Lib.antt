@@ -7,3 +7,4 @@ pub mod AluMirrors
 pub mod UnaryMirrors
 pub mod MoveMirrors
 pub mod ControlMirrors
+pub mod OperationMirrors
