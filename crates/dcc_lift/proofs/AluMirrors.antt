@@ -1,40 +1,36 @@
 -- The operations on two operands, and INC, DEC, NEG and NOT: their statements do to the values what the machine does to its registers and flags.
-use Rattle.std.proofs.Common.{◌≡◌, ◌∙◌, sym, ap, refl, subst, ℕ, ◌+◌, ◌-◌, ◌*◌, ◌/◌, ◌%◌, ◌^◌, ◌<◌, Bool, true, false, not, ◌&&◌, nat_lt, nat_le, List, [], ◌∷◌, ◌++◌, arith, true≢false, lit<}
-use Rattle.std.specs.Prelude.{if◌then◌else◌, ◌==◌, int_lt, int_le, bit_and, bit_or, bit_xor}
+use Rattle.std.proofs.Common.{◌≡◌, ◌∙◌, sym, ap, refl, subst, ℕ, ◌+◌, ◌-◌, ◌/◌, ◌%◌, ◌^◌, ◌<◌, Bool, true, false, nat_lt, nat_le, List, ◌++◌, arith}
+use Rattle.std.specs.Prelude.{if◌then◌else◌, ◌==◌, int_lt, int_le, bit_and, bit_xor}
 use Rattle.std.specs.Int.{from_bool}
-use Rattle.std.proofs.lemmas.Bool.{and_parts}
 use Rattle.std.proofs.lemmas.Nat.{and_le_l, or_lt, xor_lt}
 use Rattle.dcc_num.specs.declared.Width.{Width}
 use Rattle.dcc_num.specs.declared.Width.TheVariants.{Byte as byte_width, Word as word_width}
 use Rattle.dcc_num.specs.declared.Reg.{Reg}
-use Rattle.dcc_num.specs.declared.Half.TheVariants.{Low, High}
-use Rattle.dcc_num.specs.declared.FlagName.TheVariants.{Cf, Zf, Sf, Of}
+use Rattle.dcc_num.specs.declared.Half.TheVariants.{Low}
+use Rattle.dcc_num.specs.declared.FlagName.TheVariants.{Cf}
 use Rattle.dcc_num.specs.declared.Flags.{Flags}
-use Rattle.dcc_num.specs.Numbers.{bits_of, limit_of, has_sign, differ, signed_of, result_flags}
-use Rattle.dcc_num.specs.Sum.{sum_of, difference_of, negation_of, increment_of, decrement_of}
+use Rattle.dcc_num.specs.Numbers.{bits_of, limit_of, has_sign, result_flags}
+use Rattle.dcc_num.specs.Sum.{sum_of, difference_of}
 use Rattle.dcc_num.specs.Logic.{conjunction_of, disjunction_of, exclusive_of}
 use Rattle.dcc_prog.specs.declared.instr.Alu.{Alu}
 use Rattle.dcc_prog.specs.declared.instr.Alu.TheVariants.{Add, Or, Adc, Sbb, And, Sub, Xor, Cmp, Test}
 use Rattle.dcc_prog.specs.declared.instr.Operand.{Operand}
-use Rattle.dcc_prog.specs.declared.instr.Operand.TheVariants.{Word, Byte}
-use Rattle.dcc_prog.specs.Machine.{State, operand_value, operand_width, with_operand}
+use Rattle.dcc_prog.specs.Machine.{State, operand_value, operand_width}
 use Rattle.dcc_prog.specs.Operations.{with_flags, with_result, alu_step}
 use Rattle.dcc_prog.specs.WellFormed.{AreOperands}
-use Rattle.dcc_ir.specs.declared.syntax.Loc.{Loc}
 use Rattle.dcc_ir.specs.declared.syntax.Loc.TheVariants.{Half, Flag, Temp}
-use Rattle.dcc_ir.specs.Location.{Values, with_value}
-use Rattle.dcc_ir.specs.Tree.{Expr, Stmt, Set}
+use Rattle.dcc_ir.specs.Tree.{Stmt}
 use Rattle.dcc_ir.specs.Value.{signed_at, binary_value, Scene, value_of, Fits}
-use Rattle.dcc_lift.specs.Temporaries.{left_place, right_place, result_place}
+use Rattle.dcc_lift.specs.Temporaries.{left_place, right_place}
 use Rattle.dcc_ir.specs.declared.syntax.BinOp.{BinOp}
 use Rattle.dcc_ir.specs.declared.syntax.BinOp.TheVariants.{And as AndOp, Or as OrOp, Xor as XorOp, Eq}
 use Rattle.dcc_lift.specs.Expressions.{operand_expr, left, right, result, at_width, bit, sign, is_zero, sum, sum_and_carry, carry_out, carry_out_of_both, sum_overflow, difference, difference_and_borrow, borrow_out, borrow_out_of_both, difference_overflow, difference_overflow_of_both}
-use Rattle.dcc_lift.specs.Statements.{taking, storing, flags_taking, carry_taking, result_taking, subtracting, combining, alu_working, alu_storing, alu_stmts}
+use Rattle.dcc_lift.specs.Statements.{taking, storing, subtracting, combining, alu_working, alu_storing, alu_stmts}
 use Rattle.dcc_lift.specs.Mirrors.{Mirrors, executed}
 use Rattle.dcc_lift.specs.Liftable.{is_register, is_source}
 use Rattle.dcc_lift.proofs.MirrorLaws.{executed_append}
-use Rattle.dcc_lift.proofs.OperandMirrors.{operand_read, operand_below, operand_kept, register_source, setting, KeepsHalves, Taken, taken, Worked, worked, worked_three, stored}
-use Rattle.dcc_lift.proofs.SumValues.{xor_bits, and_bits, or_bits, not_bit, chosen, sign_value, sum_result, sum_with_carry, sum_below, sum_carry, sum_carry_of_both, sum_sign, sum_zero, sum_overflow_flag, difference_result, difference_with_borrow, difference_below, difference_borrow, difference_borrow_of_both, difference_sign, difference_zero, difference_equal, signed_same, difference_overflow_flag}
+use Rattle.dcc_lift.proofs.OperandMirrors.{operand_read, operand_below, operand_kept, register_source, setting, Taken, taken, Worked, worked, stored}
+use Rattle.dcc_lift.proofs.SumValues.{xor_bits, and_bits, sign_value, sum_result, sum_with_carry, sum_below, sum_carry, sum_carry_of_both, sum_sign, sum_zero, sum_overflow_flag, difference_result, difference_with_borrow, difference_below, difference_borrow, difference_borrow_of_both, difference_sign, difference_zero, difference_equal, signed_same, difference_overflow_flag}
 
 -- Flags, as the expressions compute them of the operands a and b and of a result r.
 

@@ -1,26 +1,25 @@
 -- Operations without operands, jumps and loops: their statements do to the values what the machine does to its registers and flags, and their tests tell where it goes.
-use Rattle.std.proofs.Common.{◌≡◌, ◌≢◌, ◌∙◌, sym, ap, refl, subst, ℕ, ◌+◌, ◌-◌, ◌*◌, ◌/◌, ◌%◌, ◌^◌, ◌<◌, Bool, true, false, not, ◌&&◌, ◌||◌, List, [], ◌∷◌, Option, Some, None, arith, true≢false}
+use Rattle.std.proofs.Common.{◌≡◌, ◌∙◌, sym, ap, refl, ℕ, ◌+◌, ◌-◌, ◌%◌, ◌^◌, Bool, true, false, not, ◌&&◌, ◌||◌, arith}
 use Rattle.std.specs.Prelude.{if◌then◌else◌, ◌==◌, bit_and, bit_or, bit_xor}
 use Rattle.std.specs.Int.{from_bool}
 use Rattle.dcc_num.specs.declared.Width.TheVariants.{Word as word_width}
-use Rattle.dcc_num.specs.declared.Reg.{Reg}
 use Rattle.dcc_num.specs.declared.Reg.TheVariants.{Cx}
-use Rattle.dcc_num.specs.declared.Half.TheVariants.{Low, High}
-use Rattle.dcc_num.specs.declared.FlagName.TheVariants.{Cf, Zf, Sf, Of}
+use Rattle.dcc_num.specs.declared.Half.TheVariants.{Low}
+use Rattle.dcc_num.specs.declared.FlagName.TheVariants.{Cf, Of}
 use Rattle.dcc_num.specs.Numbers.{differ}
 use Rattle.dcc_prog.specs.declared.instr.Operand.TheVariants.{Word}
 use Rattle.dcc_prog.specs.declared.instr.Cond.{Cond}
 use Rattle.dcc_prog.specs.declared.instr.Cond.TheVariants.{O, No, B, Ae, Z, Nz, Be, A, S, Ns, L, Ge, Le, G}
 use Rattle.dcc_prog.specs.Machine.{State, word_in, with_word_in}
-use Rattle.dcc_prog.specs.Operations.{with_carry, holds, after_jump, after_jump_if, loop_step}
+use Rattle.dcc_prog.specs.Operations.{with_carry, holds, loop_step}
 use Rattle.dcc_ir.specs.declared.syntax.Loc.TheVariants.{Half, Flag, Temp}
 use Rattle.dcc_ir.specs.Value.{Scene, value_of, Fits}
 use Rattle.dcc_ir.specs.declared.syntax.BinOp.TheVariants.{Sub as SubOp}
 use Rattle.dcc_lift.specs.Expressions.{word_of, at_width, number, flag, bit, negated, is_zero, less, condition, goes_round}
 use Rattle.dcc_lift.specs.Statements.{carry_taking, counting, result_taking}
-use Rattle.dcc_lift.specs.Mirrors.{is_general, Mirrors, executed}
+use Rattle.dcc_lift.specs.Mirrors.{Mirrors, executed}
 use Rattle.dcc_lift.proofs.MirrorLaws.{mirrors_cf, mirrors_temp, mirrors_state}
-use Rattle.dcc_lift.proofs.OperandMirrors.{setting, stored}
+use Rattle.dcc_lift.proofs.OperandMirrors.{stored}
 use Rattle.dcc_lift.proofs.SumValues.{xor_bits, and_bits, or_bits, not_bit, chosen}
 
 -- CF.

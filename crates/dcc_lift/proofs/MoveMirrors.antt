@@ -4,23 +4,19 @@ use Rattle.std.specs.Prelude.{if◌then◌else◌}
 use Rattle.dcc_num.specs.declared.Reg.{Reg}
 use Rattle.dcc_num.specs.declared.Half.{Half as HalfName}
 use Rattle.dcc_num.specs.declared.Half.TheVariants.{Low, High}
-use Rattle.dcc_num.specs.declared.FlagName.{FlagName}
-use Rattle.dcc_num.specs.declared.FlagName.TheVariants.{Cf, Zf, Sf, Of}
 use Rattle.dcc_prog.specs.declared.instr.Operand.{Operand}
 use Rattle.dcc_prog.specs.declared.instr.Operand.TheVariants.{Word, Byte, Seg, Mem, Const as Constant}
 use Rattle.dcc_prog.specs.Machine.{State, word_in, with_word_in, operand_value, with_operand}
 use Rattle.dcc_prog.specs.Operations.{mov_step, xchg_step}
 use Rattle.dcc_prog.specs.WellFormed.{AreOperands}
-use Rattle.dcc_ir.specs.declared.syntax.Loc.{Loc}
-use Rattle.dcc_ir.specs.declared.syntax.Loc.TheVariants.{Half, Flag, Temp}
+use Rattle.dcc_ir.specs.declared.syntax.Loc.TheVariants.{Half, Temp}
 use Rattle.dcc_ir.specs.Location.{same_location, Values, with_value}
-use Rattle.dcc_ir.specs.Value.{Scene, value_of, Fits}
-use Rattle.dcc_lift.specs.Expressions.{operand_expr}
+use Rattle.dcc_ir.specs.Value.{Scene, Fits}
 use Rattle.dcc_lift.specs.Statements.{mov_stmts, xchg_stmts}
 use Rattle.dcc_lift.specs.Mirrors.{Mirrors, executed}
 use Rattle.dcc_lift.specs.Liftable.{is_register, is_source}
 use Rattle.dcc_lift.proofs.MirrorLaws.{mirrors_seen, mirrors_temp, mirrors_word, mirrors_half, high_kept}
-use Rattle.dcc_lift.proofs.OperandMirrors.{operand_read, operand_below, register_source}
+use Rattle.dcc_lift.proofs.OperandMirrors.{operand_read, operand_below}
 
 -- a byte takes a source
 mov_byte : (r : Reg) (half : HalfName) (from : Operand) (s : State) (scene : Scene) → is_register (Byte r half) ≡ true → is_source from ≡ true → Fits scene → Mirrors s scene.values

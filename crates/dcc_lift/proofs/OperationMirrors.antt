@@ -1,5 +1,5 @@
 -- Of all operations that are lifted but INT 21h: what they leave as it was, where they go on, and that the values mirror the machine after their statements.
-use Rattle.std.proofs.Common.{◌≡◌, ◌≢◌, ◌∙◌, sym, ap, refl, subst, ℕ, ◌+◌, ◌%◌, Bool, true, false, not, ◌&&◌, List, [], ◌∷◌, Option, Some, None, true≢false}
+use Rattle.std.proofs.Common.{◌≡◌, ◌≢◌, ◌∙◌, sym, ap, refl, subst, ℕ, ◌+◌, ◌%◌, Bool, true, false, not, ◌&&◌, [], ◌∷◌, Option, Some, None, true≢false}
 use Rattle.std.specs.Prelude.{if◌then◌else◌, ◌==◌}
 use Rattle.std.proofs.lemmas.Bool.{and_parts}
 use Rattle.dcc_num.specs.declared.Width.{Width}
@@ -20,7 +20,7 @@ use Rattle.dcc_prog.specs.declared.instr.Op.{Op}
 use Rattle.dcc_prog.specs.declared.instr.Op.TheVariants.{Alu as AluOp, Unary as UnaryOp, Shift as ShiftOp, Mov, Xchg, Lea, Push, Pop, Plain as PlainOp, Jump, Branch, Loop, LoopE, LoopNe, Jcxz, Table, Call, Ret, Int21}
 use Rattle.dcc_prog.specs.declared.instr.Cond.{Cond}
 use Rattle.dcc_prog.specs.Machine.{State, word_in, operand_value, operand_width, with_operand}
-use Rattle.dcc_prog.specs.Operations.{with_flags, with_result, with_pair, with_product, alu_step, unary_step, shift_step, shift_result, count_in, mov_step, xchg_step, plain_step, holds}
+use Rattle.dcc_prog.specs.Operations.{with_flags, with_result, with_product, alu_step, unary_step, shift_result, count_in, plain_step, holds}
 use Rattle.dcc_prog.specs.Step.{op_step}
 use Rattle.dcc_prog.specs.Trail.{op_successors}
 use Rattle.dcc_prog.specs.WellFormed.{IsOperation}
@@ -29,7 +29,7 @@ use Rattle.dcc_ir.specs.Tree.{Expr, Binary}
 use Rattle.dcc_ir.specs.Value.{Scene, value_of, Fits}
 use Rattle.dcc_lift.specs.Temporaries.{temporary_bits}
 use Rattle.dcc_lift.specs.Expressions.{word_of, flag, negated, is_zero, condition, goes_round}
-use Rattle.dcc_lift.specs.Statements.{op_stmts, op_test, counting}
+use Rattle.dcc_lift.specs.Statements.{op_stmts, op_test}
 use Rattle.dcc_lift.specs.Mirrors.{Mirrors, executed}
 use Rattle.dcc_lift.specs.Liftable.{is_register, is_source, is_liftable, is_lifted_unary}
 use Rattle.dcc_lift.proofs.Standing.{KeepsRest}

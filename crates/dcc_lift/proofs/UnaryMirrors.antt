@@ -1,12 +1,10 @@
 -- INC, DEC, NEG and NOT: their statements do to the values what the machine does to its registers and flags.
-use Rattle.std.proofs.Common.{◌≡◌, ◌∙◌, sym, ap, refl, subst, ℕ, ◌+◌, ◌-◌, ◌*◌, ◌/◌, ◌%◌, ◌^◌, ◌<◌, Bool, true, false, List, [], ◌∷◌, ◌++◌, arith, lit<}
-use Rattle.std.specs.Prelude.{◌==◌}
+use Rattle.std.proofs.Common.{◌≡◌, ◌∙◌, sym, ap, refl, subst, ℕ, ◌-◌, ◌<◌, true, false, List, ◌++◌, arith}
 use Rattle.std.specs.Int.{from_bool}
 use Rattle.dcc_num.specs.declared.Width.{Width}
 use Rattle.dcc_num.specs.declared.Width.TheVariants.{Byte as byte_width, Word as word_width}
 use Rattle.dcc_num.specs.declared.Reg.{Reg}
 use Rattle.dcc_num.specs.declared.Half.TheVariants.{Low}
-use Rattle.dcc_num.specs.declared.FlagName.TheVariants.{Cf}
 use Rattle.dcc_num.specs.declared.Flags.{Flags}
 use Rattle.dcc_num.specs.Numbers.{bits_of, limit_of}
 use Rattle.dcc_num.specs.Sum.{sum_of, difference_of, negation_of, keeping_carry, increment_of, decrement_of}
@@ -15,7 +13,7 @@ use Rattle.dcc_prog.specs.declared.instr.Operand.{Operand}
 use Rattle.dcc_prog.specs.Machine.{State, operand_value, operand_width, with_operand}
 use Rattle.dcc_prog.specs.Operations.{with_result}
 use Rattle.dcc_prog.specs.WellFormed.{IsOperand}
-use Rattle.dcc_ir.specs.declared.syntax.Loc.TheVariants.{Half, Flag, Temp}
+use Rattle.dcc_ir.specs.declared.syntax.Loc.TheVariants.{Half, Temp}
 use Rattle.dcc_ir.specs.declared.syntax.UnOp.TheVariants.{Not as NotOp}
 use Rattle.dcc_ir.specs.declared.syntax.BinOp.TheVariants.{Eq}
 use Rattle.dcc_ir.specs.Tree.{Expr, Unary as UnaryExpr, Stmt}
@@ -26,7 +24,7 @@ use Rattle.dcc_lift.specs.Statements.{taking, storing, result_taking, sum_flags,
 use Rattle.dcc_lift.specs.Mirrors.{Mirrors, executed}
 use Rattle.dcc_lift.specs.Liftable.{is_register}
 use Rattle.dcc_lift.proofs.MirrorLaws.{executed_append, mirrors_temp}
-use Rattle.dcc_lift.proofs.OperandMirrors.{operand_read, operand_below, operand_kept, register_source, setting, KeepsHalves, Taken, taken, Worked, worked_three, stored}
+use Rattle.dcc_lift.proofs.OperandMirrors.{operand_read, operand_below, operand_kept, register_source, setting, Taken, taken, Worked, worked_three, stored}
 use Rattle.dcc_lift.proofs.SumValues.{sum_result, sum_below, sum_sign, sum_zero, difference_result, difference_below, difference_sign, difference_equal}
 use Rattle.dcc_lift.proofs.AluMirrors.{sum_overflow_value, difference_overflow_value, sign_flag, zero_flag, difference_worked, finished}
 
