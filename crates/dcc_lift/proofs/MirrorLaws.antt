@@ -1,9 +1,9 @@
 -- How the mirror of the machine is kept by single writes, and how what statements read fits its widths.
-use Rattle.std.proofs.Common.{◌≡◌, ◌≢◌, ℕ, zero, suc, ◌+◌, ◌*◌, ◌/◌, ◌%◌, ◌^◌, ◌<◌, Bool, true, false, ◌&&◌, ◌==◌, List, [], ◌∷◌, ◌++◌, length, slice_set, slice_index, refl, sym, ap, ◌∙◌, subst, arith, true≢false, eqb-true, eq-eqb}
+use Rattle.std.proofs.Common.{◌≡◌, ◌≢◌, ℕ, ◌+◌, ◌*◌, ◌/◌, ◌%◌, ◌^◌, ◌<◌, Bool, true, false, ◌&&◌, ◌==◌, List, [], ◌∷◌, ◌++◌, length, slice_index, refl, sym, ap, ◌∙◌, subst, arith, true≢false, eqb-true}
 use Rattle.std.specs.Prelude.{if◌then◌else◌}
 use Rattle.std.specs.Int.{from_bool}
 use Rattle.std.specs.List.{list_all}
-use Rattle.std.proofs.lemmas.Bool.{and_parts, and_right, eqb-false, ne_eqb}
+use Rattle.std.proofs.lemmas.Bool.{and_parts, and_right, eqb-false}
 use Rattle.std.proofs.lemmas.Grind.{get_or-set_at}
 use Rattle.std.proofs.lemmas.List.{get_or-set_other, length-set}
 use Rattle.dcc_num.specs.declared.Reg.{Reg}
@@ -13,14 +13,14 @@ use Rattle.dcc_num.specs.declared.Half.TheVariants.{Low, High}
 use Rattle.dcc_num.specs.declared.FlagName.{FlagName}
 use Rattle.dcc_num.specs.declared.FlagName.TheVariants.{Cf, Zf, Sf, Of}
 use Rattle.dcc_num.specs.declared.Flags.{Flags}
-use Rattle.dcc_prog.specs.declared.instr.Operand.TheVariants.{Word, Byte}
+use Rattle.dcc_prog.specs.declared.instr.Operand.TheVariants.{Byte}
 use Rattle.dcc_prog.specs.Machine.{State, reg_number, word_in, half_of_word, word_with_half, with_word_in, with_operand}
 use Rattle.dcc_prog.specs.Operations.{with_flags}
 use Rattle.dcc_prog.specs.Operands.{word_register}
 use Rattle.dcc_ir.specs.declared.syntax.Loc.{Loc}
 use Rattle.dcc_ir.specs.declared.syntax.Loc.TheVariants.{Half, Flag, Cell, Temp}
 use Rattle.dcc_ir.specs.Location.{register_number, half_number, flag_number, same_location, location_width, Values, with_value}
-use Rattle.dcc_ir.specs.Tree.{Expr, Stmt, Set, Fetch, Store, Div, Call, Dos}
+use Rattle.dcc_ir.specs.Tree.{Stmt, Set, Fetch, Store, Div, Call, Dos}
 use Rattle.dcc_ir.specs.Value.{width_of, Scene, value_of, Fits}
 use Rattle.dcc_ir.specs.WellFormed.{is_location, is_expr, is_expr_of, is_stmt}
 use Rattle.dcc_ir.proofs.FitLaws.{value_fits}
@@ -59,20 +59,23 @@ word_other s q r v other = get_or-set_other s.regs (reg_number r) (reg_number q)
 
 -- Locations.
 
+-- a mirror sees no more than what halves and flags hold
+pub mirrors_seen : (s : State) (values others : Values) → ((r : Reg) (h : HalfName) → values (Half r h) ≡ others (Half r h)) → ((f : FlagName) → values (Flag f) ≡ others (Flag f)) → Mirrors s values → Mirrors s others
+mirrors_seen s values others halves flags m = record {
+  eight = m.eight;
+  words = λ r g. m.words r g ∙ ap (λ k. k * 256 + values (Half r Low)) (halves r High) ∙ ap (λ k. others (Half r High) * 256 + k) (halves r Low);
+  carry = sym (flags Cf) ∙ m.carry;
+  zero = sym (flags Zf) ∙ m.zero;
+  negative = sym (flags Sf) ∙ m.negative;
+  overflow = sym (flags Of) ∙ m.overflow;
+}
+
 -- two values that agree everywhere
 abbrev pub Alike : Values → Values → Type 0
 Alike values others = (location : Loc) → values location ≡ others location
 
--- a mirror sees no more than what the locations hold
 pub mirrors_alike : (s : State) (values others : Values) → Alike values others → Mirrors s values → Mirrors s others
-mirrors_alike s values others same m = record {
-  eight = m.eight;
-  words = λ r g. m.words r g ∙ ap (λ k. k * 256 + values (Half r Low)) (same (Half r High)) ∙ ap (λ k. others (Half r High) * 256 + k) (same (Half r Low));
-  carry = sym (same (Flag Cf)) ∙ m.carry;
-  zero = sym (same (Flag Zf)) ∙ m.zero;
-  negative = sym (same (Flag Sf)) ∙ m.negative;
-  overflow = sym (same (Flag Of)) ∙ m.overflow;
-}
+mirrors_alike s values others same m = mirrors_seen s values others (λ r h. same (Half r h)) (λ f. same (Flag f)) m
 
 -- locations by their tests
 
@@ -278,7 +281,7 @@ executed_append (Div location e ∷ first) rest scene = executed_append first re
 executed_append (Call results entry arguments depth ∷ first) rest scene = executed_append first rest scene
 executed_append (Dos number place argument ∷ first) rest scene = executed_append first rest scene
 
--- they change nothing but values
+-- what they read stays but for the values
 pub executed_bits : (stmts : List Stmt) (scene : Scene) → (executed stmts scene).bits ≡ scene.bits
 executed_bits [] scene = refl
 executed_bits (Set location e ∷ rest) scene = executed_bits rest (record scene { values = with_value scene.values location (value_of scene e) })
@@ -332,3 +335,16 @@ executed_fits (Store width address e ∷ rest) scene ok fits = executed_fits res
 executed_fits (Div location e ∷ rest) scene ok fits = executed_fits rest scene (and_parts _ (list_all (is_stmt scene.bits) rest) ok).1 fits
 executed_fits (Call results entry arguments depth ∷ rest) scene ok fits = executed_fits rest scene (and_parts _ (list_all (is_stmt scene.bits) rest) ok).1 fits
 executed_fits (Dos number place argument ∷ rest) scene ok fits = executed_fits rest scene (and_parts _ (list_all (is_stmt scene.bits) rest) ok).1 fits
+
+-- they change nothing but values
+pub executed_values : (stmts : List Stmt) (scene : Scene) → executed stmts scene ≡ record scene { values = (executed stmts scene).values }
+executed_values [] scene = refl
+executed_values (Set location e ∷ rest) scene = executed_values rest (record scene { values = with_value scene.values location (value_of scene e) })
+executed_values (Fetch location width address ∷ rest) scene = executed_values rest scene
+executed_values (Store width address e ∷ rest) scene = executed_values rest scene
+executed_values (Div location e ∷ rest) scene = executed_values rest scene
+executed_values (Call results entry arguments depth ∷ rest) scene = executed_values rest scene
+executed_values (Dos number place argument ∷ rest) scene = executed_values rest scene
+
+pub values_fit : (stmts : List Stmt) (scene : Scene) → list_all (is_stmt scene.bits) stmts ≡ true → Fits scene → Fits (record scene { values = (executed stmts scene).values })
+values_fit stmts scene ok fits = subst Fits (executed_values stmts scene) (executed_fits stmts scene ok fits)

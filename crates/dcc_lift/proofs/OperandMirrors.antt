@@ -1,14 +1,14 @@
 -- Operands, results and flags of the statements are those of the operations.
-use Rattle.std.proofs.Common.{◌≡◌, ◌∙◌, sym, ap, refl, subst, ℕ, ◌+◌, ◌*◌, ◌/◌, ◌%◌, ◌^◌, ◌<◌, Bool, true, false, List, [], ◌∷◌, ◌++◌, arith, true≢false}
+use Rattle.std.proofs.Common.{◌≡◌, ◌∙◌, sym, ap, refl, subst, ℕ, ◌+◌, ◌*◌, ◌/◌, ◌%◌, ◌^◌, ◌<◌, true, ◌++◌, arith, true≢false}
 use Rattle.std.specs.Int.{from_bool}
 use Rattle.dcc_num.specs.declared.Width.{Width}
 use Rattle.dcc_num.specs.declared.Width.TheVariants.{Byte as byte_width, Word as word_width}
 use Rattle.dcc_num.specs.declared.Reg.{Reg}
 use Rattle.dcc_num.specs.declared.Half.{Half as HalfName}
 use Rattle.dcc_num.specs.declared.Half.TheVariants.{Low, High}
-use Rattle.dcc_num.specs.declared.FlagName.TheVariants.{Cf, Zf, Sf, Of}
+use Rattle.dcc_num.specs.declared.FlagName.TheVariants.{Zf, Sf, Of}
 use Rattle.dcc_num.specs.declared.Flags.{Flags}
-use Rattle.dcc_num.specs.Numbers.{bits_of, limit_of}
+use Rattle.dcc_num.specs.Numbers.{limit_of}
 use Rattle.dcc_prog.specs.declared.instr.Operand.{Operand}
 use Rattle.dcc_prog.specs.declared.instr.Operand.TheVariants.{Word, Byte, Seg, Mem, Const as Constant}
 use Rattle.dcc_prog.specs.Machine.{State, operand_value, operand_width, with_operand}
@@ -16,13 +16,13 @@ use Rattle.dcc_prog.specs.Operations.{with_flags}
 use Rattle.dcc_prog.specs.WellFormed.{IsOperand}
 use Rattle.dcc_ir.specs.declared.syntax.Loc.{Loc}
 use Rattle.dcc_ir.specs.declared.syntax.Loc.TheVariants.{Half, Flag, Temp}
-use Rattle.dcc_ir.specs.Location.{Values, with_value}
-use Rattle.dcc_ir.specs.Tree.{Expr, Stmt, Set}
+use Rattle.dcc_ir.specs.Location.{with_value}
+use Rattle.dcc_ir.specs.Tree.{Expr}
 use Rattle.dcc_ir.specs.Value.{Scene, value_of, Fits}
 use Rattle.dcc_lift.specs.Temporaries.{left_place, right_place, result_place}
 use Rattle.dcc_lift.specs.Expressions.{operand_expr}
 use Rattle.dcc_lift.specs.Statements.{taking, storing, flags_taking, carry_taking, result_taking}
-use Rattle.dcc_lift.specs.Mirrors.{is_general, Mirrors, executed}
+use Rattle.dcc_lift.specs.Mirrors.{Mirrors, executed}
 use Rattle.dcc_lift.specs.Liftable.{is_register, is_source}
 use Rattle.dcc_lift.proofs.MirrorLaws.{mirrors_temp, mirrors_flags, mirrors_three, mirrors_word, mirrors_half, word_low, word_high}
 

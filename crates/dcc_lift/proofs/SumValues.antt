@@ -1,18 +1,15 @@
 -- Sums and differences, and their flags, as the statements compute them, are those of the operations.
-use Rattle.std.proofs.Common.{arith, ◌≡◌, ◌∙◌, sym, ap, refl, ℕ, ◌+◌, ◌-◌, ◌*◌, ◌/◌, ◌%◌, ◌^◌, ◌<◌, ◌≤◌, Bool, true, false, not, ◌&&◌, ◌||◌, nat_eq, nat_le, nat_lt, inl, inr, ℤ, pos, negsuc, neg_ℤ, ◌+ℤ◌, ◌-ℤ◌, ◌≤ℤ◌, ◌<ℤ◌, ◌⊎◌}
+use Rattle.std.proofs.Common.{arith, ◌≡◌, sym, ap, refl, ℕ, ◌+◌, ◌-◌, ◌/◌, ◌%◌, ◌^◌, ◌<◌, Bool, true, false, not, ◌&&◌, ◌||◌, nat_le, nat_lt, ℤ, pos, ◌+ℤ◌, ◌-ℤ◌}
 use Rattle.std.specs.Prelude.{int_lt, int_le, bit_and, bit_or, bit_xor, if◌then◌else◌, ◌==◌}
 use Rattle.std.specs.Int.{from_bool}
 use Rattle.std.proofs.lemmas.Int.{ints}
 use Rattle.std.proofs.lemmas.Bool.Decides.{nat_tests}
 use Rattle.dcc_num.specs.declared.Width.{Width}
 use Rattle.dcc_num.specs.declared.Width.TheVariants.{Byte, Word}
-use Rattle.dcc_num.specs.declared.Flags.{Flags}
-use Rattle.dcc_num.specs.Numbers.{bits_of, limit_of, half_of, has_sign, differ, result_flags, signed_of, fits_signed}
-use Rattle.dcc_num.specs.Sum.{sum_of, difference_of, negation_of, increment_of, decrement_of}
-use Rattle.dcc_num.specs.Laws.{Compares}
-use Rattle.dcc_num.proofs.Steps.{signed_cases}
-use Rattle.dcc_num.proofs.Differences.{InRange, in_range, not_in_range, Stands, stands, differences_compare}
-use Rattle.dcc_ir.specs.Value.{signed_at, binary_value}
+use Rattle.dcc_num.specs.Numbers.{bits_of, limit_of, has_sign, differ, result_flags, signed_of, fits_signed}
+use Rattle.dcc_num.specs.Sum.{sum_of, difference_of}
+use Rattle.dcc_num.proofs.Differences.{Stands, stands, differences_compare}
+use Rattle.dcc_ir.specs.Value.{signed_at}
 
 -- One bit.
 
