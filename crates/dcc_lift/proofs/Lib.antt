@@ -3,8 +3,8 @@ pub mod MirrorLaws
 pub mod SumValues
 pub mod OperandMirrors
 pub mod Standing
-pub mod AluMirrors
-pub mod UnaryMirrors
-pub mod MoveMirrors
-pub mod ControlMirrors
-pub mod OperationMirrors
+pub mod ShiftValues
+pub mod ProductValues
+pub mod TemporaryLaws
+pub mod ShiftMirrors
+pub mod ProductMirrors
