@@ -1,0 +1,3 @@
+pub mod ListTests
+pub mod NodeLaws
+pub mod ChainLaws
