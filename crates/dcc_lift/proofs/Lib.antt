@@ -1,3 +1,4 @@
 pub mod ListTests
 pub mod NodeLaws
 pub mod ChainLaws
+pub mod BlockLaws

@@ -1,0 +1,139 @@
+-- Laws of the blocks that stand for a procedure's instructions: where they stand, and where they go.
+use Rattle.std.proofs.Common.{◌≡◌, ℕ, zero, suc, Bool, true, false, ◌&&◌, ◌||◌, ◌==◌, if◌then◌else◌, ◌⊎◌, inl, inr, List, [], ◌∷◌, map, slice_get, Option, Some, None, refl, sym, ap, ◌∙◌, subst, true≢false, eqb-true, eq-eqb}
+use Rattle.std.specs.List.{list_any}
+use Rattle.dcc_prog.specs.declared.procedure.Node.{Node}
+use Rattle.dcc_ir.specs.Tree.{Expr, Exit, Goto, If, Stop, Block, Graph}
+use Rattle.dcc_ir.specs.Flow.{Flow, targets, stands_at, has_edge, flow_of}
+use Rattle.dcc_ir.proofs.PathLaws.{decided, clash, or_false}
+use Rattle.dcc_lift.specs.Statements.{op_test, exit_to}
+use Rattle.dcc_lift.specs.Blocks.{Nodes, node_in, successors_in, onward, IsChain, leaders, place_in, block_place, node_exit, exit_at, last_of, IsBlockAt, AreBlocksAt}
+use Rattle.dcc_lift.specs.Sound.{AgreesWith, AreSound}
+use Rattle.dcc_lift.proofs.ListTests.{and_left, and_right, and_both, or_here, or_there, or_none, or_cases, same_number, any_agree, any_map, any_same, any_at, Passing, passing}
+use Rattle.dcc_lift.proofs.NodeLaws.{is_node, goes_on, node_in_holds}
+use Rattle.dcc_lift.proofs.ChainLaws.{is_leader, has_successor, entry_is_leader}
+
+-- Blocks by their places.
+
+module _ (nodes : Nodes) (entry : ℕ) where
+  -- the blocks stand at the offsets, in their order
+  pub blocks_stand : (places : List ℕ) (blocks : List Block) (a : ℕ) → AreBlocksAt nodes entry places blocks → list_any (λ block. block.at == a) blocks ≡ list_any (λ x. x == a) places
+  blocks_stand [] [] a are = refl
+  blocks_stand [] (block ∷ blocks) a are = absurd are
+  blocks_stand (at ∷ places) [] a are = absurd are
+  blocks_stand (at ∷ places) (block ∷ blocks) a are =
+      ap (λ n. (n == a) || list_any (λ block. block.at == a) blocks) are.0.at_is
+      ∙ ap (λ b. (at == a) || b) (blocks_stand places blocks a are.1)
+
+  -- the block at the place of an offset stands at that offset; where no block begins, there is none
+  pub block_stands : (places : List ℕ) (blocks : List Block) (s b : ℕ) → AreBlocksAt nodes entry places blocks
+      → stands_at (slice_get blocks (place_in places s)) b ≡ (list_any (λ x. x == s) places && (s == b))
+  block_stands [] [] s b are = refl
+  block_stands [] (block ∷ blocks) s b are = absurd are
+  block_stands (at ∷ places) [] s b are = absurd are
+  block_stands (at ∷ places) (block ∷ blocks) s b are = go (at == s) refl (block_stands places blocks s b are.1)
+    where
+      go : (c : Bool) → (at == s) ≡ c → stands_at (slice_get blocks (place_in places s)) b ≡ (list_any (λ x. x == s) places && (s == b))
+          → stands_at (slice_get (block ∷ blocks) (if c then 0 else suc (place_in places s))) b ≡ ((c || list_any (λ x. x == s) places) && (s == b))
+      go true t later = ap (λ n. n == b) (are.0.at_is ∙ eqb-true at s t)
+      go false n later = later
+
+  -- the block that begins at an offset, at its place
+  pub record HasBlock (blocks : List Block) (place at : ℕ) : Type 0 where
+    pub block : Block
+    pub found : slice_get blocks place ≡ Some block
+    pub is_block : IsBlockAt nodes entry at block
+
+  pub block_found : (places : List ℕ) (blocks : List Block) (a : ℕ) → AreBlocksAt nodes entry places blocks → list_any (λ x. x == a) places ≡ true → HasBlock blocks (place_in places a) a
+  block_found [] blocks a are e = absurd (true≢false (sym e))
+  block_found (at ∷ places) [] a are e = absurd are
+  block_found (at ∷ places) (block ∷ blocks) a are e = go (at == a) refl e (λ f. block_found places blocks a are.1 f)
+    where
+      go : (c : Bool) → (at == a) ≡ c → (c || list_any (λ x. x == a) places) ≡ true → (list_any (λ x. x == a) places ≡ true → HasBlock blocks (place_in places a) a)
+          → HasBlock (block ∷ blocks) (if c then 0 else suc (place_in places a)) a
+      go true t e later = record { block = block; found = refl; is_block = subst (λ n. IsBlockAt nodes entry n block) (eqb-true at a t) are.0 }
+      go false n e later = let there = later e in record { block = there.block; found = there.found; is_block = there.is_block }
+
+  -- each block of the list begins at its own offset
+  pub block_is : (places : List ℕ) (blocks : List Block) (place : ℕ) (block : Block) → AreBlocksAt nodes entry places blocks → slice_get blocks place ≡ Some block → IsBlockAt nodes entry block.at block
+  block_is places [] place block are e = absurd (cc)
+  block_is [] (first ∷ blocks) place block are e = absurd are
+  block_is (at ∷ places) (first ∷ blocks) zero block are e =
+      let same : first ≡ block = cc in
+      subst (λ (x : Block). IsBlockAt nodes entry x.at x) same (subst (λ n. IsBlockAt nodes entry n first) (sym are.0.at_is) are.0)
+  block_is (at ∷ places) (first ∷ blocks) (suc place) block are e = block_is places blocks place block are.1 e
+
+-- Exits.
+
+-- an exit goes to all the places
+targets_of_exit : (test : Option Expr) (places : List ℕ) → AgreesWith test places → targets (exit_to test places) ≡ places
+targets_of_exit (Some test) [] agree = absurd agree
+targets_of_exit (Some test) (one ∷ []) agree = absurd agree
+targets_of_exit (Some test) (one ∷ other ∷ []) agree = refl
+targets_of_exit (Some test) (one ∷ other ∷ more ∷ places) agree = absurd agree
+targets_of_exit None [] agree = refl
+targets_of_exit None (one ∷ []) agree = refl
+targets_of_exit None (one ∷ other ∷ places) agree = absurd agree
+
+agreeing_map : (f : ℕ → ℕ) (test : Option Expr) (places : List ℕ) → AgreesWith test places → AgreesWith test (map f places)
+agreeing_map f (Some test) [] agree = absurd agree
+agreeing_map f (Some test) (one ∷ []) agree = absurd agree
+agreeing_map f (Some test) (one ∷ other ∷ []) agree = tt
+agreeing_map f (Some test) (one ∷ other ∷ more ∷ places) agree = absurd agree
+agreeing_map f None [] agree = tt
+agreeing_map f None (one ∷ []) agree = tt
+agreeing_map f None (one ∷ other ∷ places) agree = absurd agree
+
+module _ (nodes : Nodes) (entry prelude : ℕ) (sound : AreSound nodes entry prelude) where
+  -- a block that ends at an instruction goes to the blocks at its successors
+  pub targets_at : (at : ℕ) → targets (exit_at nodes entry at) ≡ map (block_place nodes entry) (successors_in (node_in nodes at))
+  targets_at at = go (node_in nodes at) refl
+    where
+      go : (o : Option Node) → node_in nodes at ≡ o → targets (node_exit nodes entry o) ≡ map (block_place nodes entry) (successors_in o)
+      go None e = refl
+      go (Some node) e =
+          targets_of_exit (op_test node.instr.op) (map (block_place nodes entry) node.succ.items)
+          (agreeing_map (block_place nodes entry) (op_test node.instr.op) node.succ.items
+          (node_in_holds (λ (found : ℕ × Node). AgreesWith (op_test found.1.instr.op) found.1.succ.items) nodes at node sound.agree e))
+
+-- The graph: the block of the prelude before those that begin at the leaders.
+
+module _ (nodes : Nodes) (entry prelude : ℕ) (sound : AreSound nodes entry prelude) (first : Block) (first_at : first.at ≡ prelude) (first_exit : first.exit ≡ Goto (block_place nodes entry entry)) (blocks : List Block) (are : AreBlocksAt nodes entry (leaders nodes entry) blocks) where
+  -- there are blocks at the prelude's offset and at the leaders
+  pub has_block : (a : ℕ) → list_any (λ block. block.at == a) (first ∷ blocks) ≡ ((prelude == a) || is_leader nodes entry a)
+  has_block a =
+      ap (λ n. (n == a) || list_any (λ block. block.at == a) blocks) first_at
+      ∙ ap (λ b. (prelude == a) || b) (blocks_stand nodes entry (leaders nodes entry) blocks a are)
+
+  -- the block of a leader is found at its place
+  pub leader_block : (a : ℕ) → is_leader nodes entry a ≡ true → HasBlock nodes entry (first ∷ blocks) (block_place nodes entry a) a
+  leader_block a leader =
+      let there = block_found nodes entry (leaders nodes entry) blocks a are leader in
+      record { block = there.block; found = there.found; is_block = there.is_block }
+
+  stands : (s b : ℕ) → stands_at (slice_get (first ∷ blocks) (block_place nodes entry s)) b ≡ (is_leader nodes entry s && (s == b))
+  stands s b = block_stands nodes entry (leaders nodes entry) blocks s b are
+
+  -- the prelude's block goes to that of the entry
+  pub first_edge : (b : ℕ) → has_edge (first ∷ blocks) first b ≡ (entry == b)
+  first_edge b =
+      ap (λ exit. list_any (λ place. stands_at (slice_get (first ∷ blocks) place) b) (targets exit)) first_exit
+      ∙ or_none (stands_at (slice_get (first ∷ blocks) (block_place nodes entry entry)) b)
+      ∙ stands entry b
+      ∙ ap (λ c. c && (entry == b)) (entry_is_leader nodes entry prelude sound)
+
+  -- the block of a leader goes to those at the successors of its last instruction
+  pub block_edge : (block : Block) (at b : ℕ) (is : IsBlockAt nodes entry at block) → has_edge (first ∷ blocks) block b ≡ (is_leader nodes entry b && has_successor nodes (last_of at is.rest) b)
+  block_edge block at b is =
+      let succ = successors_in (node_in nodes (last_of at is.rest)) in
+      ap (list_any (λ place. stands_at (slice_get (first ∷ blocks) place) b)) (ap targets is.exit_is ∙ targets_at nodes entry prelude sound (last_of at is.rest))
+      ∙ any_map (λ place. stands_at (slice_get (first ∷ blocks) place) b) (block_place nodes entry) succ
+      ∙ any_agree (λ s. stands_at (slice_get (first ∷ blocks) (block_place nodes entry s)) b) (λ s. is_leader nodes entry s && (s == b)) (λ s. stands s b) succ
+      ∙ any_same (is_leader nodes entry) b succ
+
+  -- Edges of the graph.
+
+  edge_of : (block : Block) (a b : ℕ) → block.at ≡ a → has_edge (first ∷ blocks) block b ≡ true → ((block.at == a) && has_edge (first ∷ blocks) block b) ≡ true
+  edge_of block a b e f = and_both (block.at == a) (has_edge (first ∷ blocks) block b) (eq-eqb block.at a e) f
+
+  goes_between : ℕ → ℕ → Bool
+  goes_between a b = list_any (λ block. (block.at == a) && has_edge (first ∷ blocks) block b) (first ∷ blocks)
