@@ -10,7 +10,7 @@ use Rattle.dcc_lift.specs.Blocks.{Nodes, node_in, successors_in, onward, IsChain
 use Rattle.dcc_lift.specs.Sound.{AgreesWith, AreSound}
 use Rattle.dcc_lift.proofs.ListTests.{and_left, and_right, and_both, or_here, or_there, or_none, or_cases, same_number, any_agree, any_map, any_same, any_at, Passing, passing}
 use Rattle.dcc_lift.proofs.NodeLaws.{is_node, goes_on, node_in_holds}
-use Rattle.dcc_lift.proofs.ChainLaws.{is_leader, has_successor, entry_is_leader}
+use Rattle.dcc_lift.proofs.ChainLaws.{is_leader, has_successor, entry_is_leader, chain_once}
 
 -- Blocks by their places.
 
@@ -97,6 +97,18 @@ module _ (nodes : Nodes) (entry prelude : ℕ) (sound : AreSound nodes entry pre
 
 -- The graph: the block of the prelude before those that begin at the leaders.
 
+-- an edge leads from the one block to the other
+abbrev pub goes_between : List Block → ℕ → ℕ → Bool
+goes_between blocks a b = list_any (λ block. (block.at == a) && has_edge blocks block b) blocks
+
+-- an edge from a leader to a leader, where the chain of the first ends
+pub record IsFromLeader (nodes : Nodes) (entry a b : ℕ) : Type 0 where
+  pub leader : is_leader nodes entry a ≡ true
+  pub rest : List ℕ
+  pub chain : IsChain nodes entry a rest
+  pub to_leader : is_leader nodes entry b ≡ true
+  pub goes : has_successor nodes (last_of a rest) b ≡ true
+
 module _ (nodes : Nodes) (entry prelude : ℕ) (sound : AreSound nodes entry prelude) (first : Block) (first_at : first.at ≡ prelude) (first_exit : first.exit ≡ Goto (block_place nodes entry entry)) (blocks : List Block) (are : AreBlocksAt nodes entry (leaders nodes entry) blocks) where
   -- there are blocks at the prelude's offset and at the leaders
   pub has_block : (a : ℕ) → list_any (λ block. block.at == a) (first ∷ blocks) ≡ ((prelude == a) || is_leader nodes entry a)
@@ -135,5 +147,35 @@ module _ (nodes : Nodes) (entry prelude : ℕ) (sound : AreSound nodes entry pre
   edge_of : (block : Block) (a b : ℕ) → block.at ≡ a → has_edge (first ∷ blocks) block b ≡ true → ((block.at == a) && has_edge (first ∷ blocks) block b) ≡ true
   edge_of block a b e f = and_both (block.at == a) (has_edge (first ∷ blocks) block b) (eq-eqb block.at a e) f
 
-  goes_between : ℕ → ℕ → Bool
-  goes_between a b = list_any (λ block. (block.at == a) && has_edge (first ∷ blocks) block b) (first ∷ blocks)
+  pub edge_cases : (a b : ℕ) → goes_between (first ∷ blocks) a b ≡ true → ((a ≡ prelude) × (b ≡ entry)) ⊎ IsFromLeader nodes entry a b
+  edge_cases a b e = elim (or_cases ((first.at == a) && has_edge (first ∷ blocks) first b) (list_any (λ block. (block.at == a) && has_edge (first ∷ blocks) block b) blocks) e) [
+    | inl t ↦
+        let here : first.at ≡ a = eqb-true first.at a (and_left (first.at == a) (has_edge (first ∷ blocks) first b) t) in
+        let there : entry ≡ b = eqb-true entry b (sym (first_edge b) ∙ and_right (first.at == a) (has_edge (first ∷ blocks) first b) t) in
+        inl (sym here ∙ first_at, sym there)
+    | inr t ↦
+        let from = passing (λ block. (block.at == a) && has_edge (first ∷ blocks) block b) blocks t in
+        let here : from.element.at ≡ a = eqb-true from.element.at a (and_left (from.element.at == a) (has_edge (first ∷ blocks) from.element b) from.passes) in
+        let is : IsBlockAt nodes entry a from.element = subst (λ n. IsBlockAt nodes entry n from.element) here (block_is nodes entry (leaders nodes entry) blocks from.place from.element are from.found) in
+        let both = sym (block_edge from.element a b is) ∙ and_right (from.element.at == a) (has_edge (first ∷ blocks) from.element b) from.passes in
+        inr (record {
+          leader = sym (blocks_stand nodes entry (leaders nodes entry) blocks a are) ∙ any_at (λ block. block.at == a) blocks from.place from.element from.found (eq-eqb from.element.at a here);
+          rest = is.rest;
+          chain = is.chain;
+          to_leader = and_left (is_leader nodes entry b) (has_successor nodes (last_of a is.rest) b) both;
+          goes = and_right (is_leader nodes entry b) (has_successor nodes (last_of a is.rest) b) both;
+        })
+  ]
+
+  pub prelude_goes : goes_between (first ∷ blocks) prelude entry ≡ true
+  prelude_goes = or_here ((first.at == prelude) && has_edge (first ∷ blocks) first entry) (list_any (λ block. (block.at == prelude) && has_edge (first ∷ blocks) block entry) blocks)
+      (edge_of first prelude entry first_at (first_edge entry ∙ same_number entry))
+
+  pub leader_goes : (a b : ℕ) → IsFromLeader nodes entry a b → goes_between (first ∷ blocks) a b ≡ true
+  leader_goes a b from =
+      let there = leader_block a from.leader in
+      let is = there.is_block in
+      let end : last_of a from.rest ≡ last_of a is.rest = ap (last_of a) (chain_once nodes entry prelude sound from.rest is.rest a from.chain is.chain) in
+      any_at (λ block. (block.at == a) && has_edge (first ∷ blocks) block b) (first ∷ blocks) (block_place nodes entry a) there.block there.found
+      (edge_of there.block a b is.at_is (block_edge there.block a b is
+      ∙ and_both (is_leader nodes entry b) (has_successor nodes (last_of a is.rest) b) from.to_leader (subst (λ n. has_successor nodes n b ≡ true) end from.goes)))

@@ -73,6 +73,12 @@ pub record IsOnward (nodes : Nodes) (entry at next : ℕ) : Type 0 where
   pub inner : next ≢ entry
   pub node : (found : Node) × (node_in nodes next ≡ Some found)
 
+-- an instruction that joins the block of the one before it begins none
+pub record IsInner (nodes : Nodes) (entry c : ℕ) : Type 0 where
+  pub joins : joins nodes entry c ≡ true
+  pub leader : is_leader nodes entry c ≡ false
+  pub node : is_node nodes c ≡ true
+
 onward_by : (nodes : Nodes) (entry next : ℕ) (places : List ℕ) → if_joins nodes entry places ≡ Some next → (places ≡ next ∷ []) × (joins nodes entry next ≡ true)
 onward_by nodes entry next [] e = absurd (cc)
 onward_by nodes entry next (x ∷ []) e = go (joins nodes entry x) refl e
@@ -149,18 +155,12 @@ module _ (nodes : Nodes) (entry prelude : ℕ) (sound : AreSound nodes entry pre
 
   -- Chains.
 
-  -- the instruction joins the block of the one before it
-  pub record IsInner (c : ℕ) : Type 0 where
-    pub joins : joins nodes entry c ≡ true
-    pub leader : is_leader nodes entry c ≡ false
-    pub node : is_node nodes c ≡ true
-
   -- all instructions of a chain but the first join
-  pub chain_inner : (rest : List ℕ) (at : ℕ) → IsChain nodes entry at rest → All IsInner rest
-  chain_inner [] at chain = All-nil IsInner
+  pub chain_inner : (rest : List ℕ) (at : ℕ) → IsChain nodes entry at rest → All (IsInner nodes entry) rest
+  chain_inner [] at chain = All-nil (IsInner nodes entry)
   chain_inner (next ∷ rest) at chain =
       let on = onward_tells at next chain.0 in
-      All-cons IsInner next rest (record { joins = on.joins; leader = joins_no_leader next on.joins; node = node_in_has nodes next on.node.0 on.node.1 })
+      All-cons (IsInner nodes entry) next rest (record { joins = on.joins; leader = joins_no_leader next on.joins; node = node_in_has nodes next on.node.0 on.node.1 })
       (chain_inner rest next chain.1)
 
   chain_above : (rest : List ℕ) (at : ℕ) → IsChain nodes entry at rest → All (λ c. at < c) rest
