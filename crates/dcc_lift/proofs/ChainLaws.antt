@@ -59,7 +59,7 @@ one_member [] e = absurd (true≢false (sym e))
 one_member (x ∷ []) e = (x, refl)
 one_member (x ∷ y ∷ xs) e = absurd (true≢false (sym e))
 
-sole : (x a : ℕ) (xs : List ℕ) → xs ≡ x ∷ [] → list_any (λ y. y == a) xs ≡ true → x ≡ a
+pub sole : (x a : ℕ) (xs : List ℕ) → xs ≡ x ∷ [] → list_any (λ y. y == a) xs ≡ true → x ≡ a
 sole x a xs e t = eqb-true x a (sym (or_none (x == a)) ∙ sym (ap (list_any (λ y. y == a)) e) ∙ t)
 
 -- Going on within a block.
@@ -67,6 +67,7 @@ sole x a xs e t = eqb-true x a (sym (or_none (x == a)) ∙ sym (ap (list_any (λ
 -- what it says that the block goes on from one instruction to the next
 pub record IsOnward (nodes : Nodes) (entry at next : ℕ) : Type 0 where
   pub succ : successors_in (node_in nodes at) ≡ next ∷ []
+  pub goes : has_successor nodes at next ≡ true
   pub joins : joins nodes entry next ≡ true
   pub edges : edges_into nodes next ≡ at ∷ []
   pub below : at < next
@@ -103,6 +104,7 @@ module _ (nodes : Nodes) (entry prelude : ℕ) (sound : AreSound nodes entry pre
       let same : j.from ≡ at = joined_from at next j goes in
       record {
         succ = first.0;
+        goes = goes;
         joins = first.1;
         edges = j.edges ∙ ap (λ n. n ∷ []) same;
         below = subst (λ n. n < next) same j.below;

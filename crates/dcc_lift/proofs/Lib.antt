@@ -2,3 +2,4 @@ pub mod ListTests
 pub mod NodeLaws
 pub mod ChainLaws
 pub mod BlockLaws
+pub mod ContractionLaws

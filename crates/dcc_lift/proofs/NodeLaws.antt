@@ -103,7 +103,7 @@ node_in_found (found ∷ nodes) (suc place) at node differ e =
 
 -- Edges.
 
-goes_from : (nodes : Nodes) (a b : ℕ) → goes_on nodes a b ≡ true → is_node nodes a ≡ true
+pub goes_from : (nodes : Nodes) (a b : ℕ) → goes_on nodes a b ≡ true → is_node nodes a ≡ true
 goes_from [] a b e = e
 goes_from (found ∷ nodes) a b e = elim (decided (found.0 == a)) [
   | inl t ↦ or_here (found.0 == a) (is_node nodes a) t
