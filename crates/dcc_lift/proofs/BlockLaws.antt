@@ -83,6 +83,13 @@ agreeing_map f None [] agree = tt
 agreeing_map f None (one ∷ []) agree = tt
 agreeing_map f None (one ∷ other ∷ places) agree = absurd agree
 
+-- how a block ends whose last instruction is this one: the run stops, or it goes to the one successor, or parts by the test
+pub data IsExitOf (nodes : Nodes) (entry : ℕ) (node : Node) (exit : Exit) : Type 0 where
+  stops : op_test node.instr.op ≡ None → node.succ.items ≡ [] → exit ≡ Stop → IsExitOf nodes entry node exit
+  goes : {next : ℕ} → op_test node.instr.op ≡ None → node.succ.items ≡ next ∷ [] → exit ≡ Goto (block_place nodes entry next) → IsExitOf nodes entry node exit
+  parts : {test : Expr} {target next : ℕ} → op_test node.instr.op ≡ Some test → node.succ.items ≡ target ∷ next ∷ []
+      → exit ≡ If test (block_place nodes entry target) (block_place nodes entry next) → IsExitOf nodes entry node exit
+
 module _ (nodes : Nodes) (entry prelude : ℕ) (sound : AreSound nodes entry prelude) where
   -- a block that ends at an instruction goes to the blocks at its successors
   pub targets_at : (at : ℕ) → targets (exit_at nodes entry at) ≡ map (block_place nodes entry) (successors_in (node_in nodes at))
@@ -94,6 +101,45 @@ module _ (nodes : Nodes) (entry prelude : ℕ) (sound : AreSound nodes entry pre
           targets_of_exit (op_test node.instr.op) (map (block_place nodes entry) node.succ.items)
           (agreeing_map (block_place nodes entry) (op_test node.instr.op) node.succ.items
           (node_in_holds (λ (found : ℕ × Node). AgreesWith (op_test found.1.instr.op) found.1.succ.items) nodes at node sound.agree e))
+
+  -- and it ends the run where that instruction goes on nowhere, and only there
+  pub stops_at_end : (at : ℕ) → successors_in (node_in nodes at) ≡ [] → exit_at nodes entry at ≡ Stop
+  stops_at_end at e = go (node_in nodes at) e
+    where
+      none : (test : Option Expr) → exit_to test [] ≡ Stop
+      none (Some test) = refl
+      none None = refl
+
+      go : (o : Option Node) → successors_in o ≡ [] → node_exit nodes entry o ≡ Stop
+      go None e = refl
+      go (Some node) e = ap (λ places. exit_to (op_test node.instr.op) (map (block_place nodes entry) places)) e ∙ none (op_test node.instr.op)
+
+  pub end_of_stops : (at : ℕ) → exit_at nodes entry at ≡ Stop → successors_in (node_in nodes at) ≡ []
+  end_of_stops at e = no_places (successors_in (node_in nodes at)) (sym (targets_at at) ∙ ap targets e)
+    where
+      no_places : (places : List ℕ) → map (block_place nodes entry) places ≡ [] → places ≡ []
+      no_places [] e = refl
+      no_places (place ∷ places) e = absurd (cc)
+
+  -- the three ways in which the block ends whose last instruction is found at an offset
+  pub exit_forms : (at : ℕ) (node : Node) → node_in nodes at ≡ Some node → IsExitOf nodes entry node (exit_at nodes entry at)
+  exit_forms at node e =
+      go (op_test node.instr.op) node.succ.items refl refl (node_in_holds (λ (found : ℕ × Node). AgreesWith (op_test found.1.instr.op) found.1.succ.items) nodes at node sound.agree e)
+    where
+      is : exit_at nodes entry at ≡ exit_to (op_test node.instr.op) (map (block_place nodes entry) node.succ.items)
+      is = ap (node_exit nodes entry) e
+
+      by : (test : Option Expr) (succ : List ℕ) → op_test node.instr.op ≡ test → node.succ.items ≡ succ → exit_at nodes entry at ≡ exit_to test (map (block_place nodes entry) succ)
+      by test succ t s = is ∙ ap (λ x. exit_to x (map (block_place nodes entry) node.succ.items)) t ∙ ap (λ l. exit_to test (map (block_place nodes entry) l)) s
+
+      go : (test : Option Expr) (succ : List ℕ) → op_test node.instr.op ≡ test → node.succ.items ≡ succ → AgreesWith test succ → IsExitOf nodes entry node (exit_at nodes entry at)
+      go (Some test) [] t s agree = absurd agree
+      go (Some test) (one ∷ []) t s agree = absurd agree
+      go (Some test) (target ∷ next ∷ []) t s agree = parts t s (by (Some test) (target ∷ next ∷ []) t s)
+      go (Some test) (one ∷ other ∷ more ∷ succ) t s agree = absurd agree
+      go None [] t s agree = stops t s (by None [] t s)
+      go None (next ∷ []) t s agree = goes t s (by None (next ∷ []) t s)
+      go None (one ∷ other ∷ succ) t s agree = absurd agree
 
 -- The graph: the block of the prelude before those that begin at the leaders.
 

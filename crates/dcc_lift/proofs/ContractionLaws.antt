@@ -18,6 +18,7 @@ use Rattle.dcc_lift.specs.Lifted.{procedure_flow, behind_prelude, HasBlocks}
 use Rattle.dcc_lift.proofs.ListTests.{and_left, and_right, and_both, or_here, or_there, or_cases, same_number}
 use Rattle.dcc_lift.proofs.NodeLaws.{is_node, goes_on, goes_from, goes_on_is, nodes_differ, entry_is_node, prelude_no_node, successor_is_node}
 use Rattle.dcc_lift.proofs.ChainLaws.{is_leader, has_successor, sole, IsJoined, joined, joined_from, IsOnward, onward_tells, edge_to_joined, leader_node, leader_begins, no_leader_joins, joins_no_leader, entry_is_leader, prelude_no_leader}
+use Rattle.dcc_lift.proofs.TranslationLaws.{the_graph, translation_flow}
 use Rattle.dcc_lift.proofs.BlockLaws.{has_block, HasBlock, leader_block, goes_between, IsFromLeader, edge_cases, prelude_goes, leader_goes}
 
 -- the instructions and where they go on, with that entry
@@ -221,35 +222,18 @@ module _ (nodes : Nodes) (entry prelude : ℕ) (sound : AreSound nodes entry pre
 -- The translation.
 
 module _ (image : Image) (layout : Layout) (start : Proc) (p : Program) (translation : IsTranslation image layout start p) (entry_is : start.entry ≡ layout.start_ip) where
-  -- the graph of a translation
-  abbrev pub the_graph : Graph
-  the_graph = record {
-    entry = layout.start_ip;
-    params = [];
-    local = 0;
-    pushed = 0;
-    blocks = prelude_block image layout start.nodes.entries ∷ translation.blocks;
-    bits = temporary_bits;
-  }
-
-  pub graph_found : graph_at p.graphs start.entry ≡ Some the_graph
-  graph_found =
-      ap (λ (q : Program). graph_at q.graphs start.entry) translation.program_is
-      ∙ ap (λ b. cond b (Some the_graph) None) (eq-eqb layout.start_ip start.entry (sym entry_is))
-
-  pub translation_flow : flow_at p start.entry ≡ flow_of the_graph
-  translation_flow = ap (λ o. flow_of (graph_or_none o)) graph_found
-
   pub translation_has_blocks : AreSound start.nodes.entries layout.start_ip image.ip → HasBlocks image start p
   translation_has_blocks sound =
       let first = prelude_block image layout start.nodes.entries in
-      let contracts : IsContraction (behind_prelude image.ip (nodes_flow start.nodes.entries layout.start_ip)) (flow_of the_graph) =
-        contraction start.nodes.entries layout.start_ip image.ip sound the_graph first refl refl translation.blocks translation.blocks_are refl in
-      let one : HaveOneEdge (behind_prelude image.ip (nodes_flow start.nodes.entries layout.start_ip)) (flow_of the_graph) =
-        one_edge start.nodes.entries layout.start_ip image.ip sound the_graph first refl refl translation.blocks translation.blocks_are refl in
+      let graph = the_graph image layout start p translation in
+      let flow = translation_flow image layout start p translation entry_is in
+      let contracts : IsContraction (behind_prelude image.ip (nodes_flow start.nodes.entries layout.start_ip)) (flow_of graph) =
+        contraction start.nodes.entries layout.start_ip image.ip sound graph first refl refl translation.blocks translation.blocks_are refl in
+      let one : HaveOneEdge (behind_prelude image.ip (nodes_flow start.nodes.entries layout.start_ip)) (flow_of graph) =
+        one_edge start.nodes.entries layout.start_ip image.ip sound graph first refl refl translation.blocks translation.blocks_are refl in
       record {
-        contraction = subst (λ q. IsContraction (behind_prelude image.ip (procedure_flow start)) q) (sym translation_flow)
-            (subst (λ n. IsContraction (behind_prelude image.ip (nodes_flow start.nodes.entries n)) (flow_of the_graph)) (sym entry_is) contracts);
-        one_edge = subst (λ q. HaveOneEdge (behind_prelude image.ip (procedure_flow start)) q) (sym translation_flow)
-            (subst (λ n. HaveOneEdge (behind_prelude image.ip (nodes_flow start.nodes.entries n)) (flow_of the_graph)) (sym entry_is) one);
+        contraction = subst (λ q. IsContraction (behind_prelude image.ip (procedure_flow start)) q) (sym flow)
+            (subst (λ n. IsContraction (behind_prelude image.ip (nodes_flow start.nodes.entries n)) (flow_of graph)) (sym entry_is) contracts);
+        one_edge = subst (λ q. HaveOneEdge (behind_prelude image.ip (procedure_flow start)) q) (sym flow)
+            (subst (λ n. HaveOneEdge (behind_prelude image.ip (nodes_flow start.nodes.entries n)) (flow_of graph)) (sym entry_is) one);
       }
