@@ -2,14 +2,13 @@
 use Rattle.std.proofs.Common.{◌≡◌, ℕ, zero, suc, Bool, true, false, ◌&&◌, ◌||◌, ◌==◌, if◌then◌else◌, ◌⊎◌, inl, inr, List, [], ◌∷◌, map, slice_get, Option, Some, None, refl, sym, ap, ◌∙◌, subst, true≢false, eqb-true, eq-eqb}
 use Rattle.std.specs.List.{list_any}
 use Rattle.dcc_prog.specs.declared.procedure.Node.{Node}
-use Rattle.dcc_ir.specs.Tree.{Expr, Exit, Goto, If, Stop, Block, Graph}
-use Rattle.dcc_ir.specs.Flow.{Flow, targets, stands_at, has_edge, flow_of}
-use Rattle.dcc_ir.proofs.PathLaws.{decided, clash, or_false}
+use Rattle.dcc_ir.specs.Tree.{Expr, Exit, Goto, If, Stop, Block}
+use Rattle.dcc_ir.specs.Flow.{targets, stands_at, has_edge}
 use Rattle.dcc_lift.specs.Statements.{op_test, exit_to}
-use Rattle.dcc_lift.specs.Blocks.{Nodes, node_in, successors_in, onward, IsChain, leaders, place_in, block_place, node_exit, exit_at, last_of, IsBlockAt, AreBlocksAt}
+use Rattle.dcc_lift.specs.Blocks.{Nodes, node_in, successors_in, IsChain, leaders, place_in, block_place, node_exit, exit_at, last_of, IsBlockAt, AreBlocksAt}
 use Rattle.dcc_lift.specs.Sound.{AgreesWith, AreSound}
-use Rattle.dcc_lift.proofs.ListTests.{and_left, and_right, and_both, or_here, or_there, or_none, or_cases, same_number, any_agree, any_map, any_same, any_at, Passing, passing}
-use Rattle.dcc_lift.proofs.NodeLaws.{is_node, goes_on, node_in_holds}
+use Rattle.dcc_lift.proofs.ListTests.{and_left, and_right, and_both, or_here, or_none, or_cases, same_number, any_agree, any_map, any_same, any_at, passing}
+use Rattle.dcc_lift.proofs.NodeLaws.{node_in_holds}
 use Rattle.dcc_lift.proofs.ChainLaws.{is_leader, has_successor, entry_is_leader, chain_once}
 
 -- Blocks by their places.

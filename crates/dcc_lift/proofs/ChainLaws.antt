@@ -1,14 +1,14 @@
 -- Laws of the instructions that join the block of the one before them, and of the chains that they make.
-use Rattle.std.proofs.Common.{◌≡◌, ◌≢◌, ◌<◌, ℕ, Bool, true, false, not, ◌&&◌, ◌||◌, ◌==◌, nat_lt, if◌then◌else◌, ◌⊎◌, inl, inr, List, [], ◌∷◌, map, Option, Some, None, All, AllPairs, refl, sym, ap, ◌∙◌, subst, true≢false, eqb-true, eq-eqb, ltb-true, lt-ltb, lt_trans, arith}
+use Rattle.std.proofs.Common.{◌≡◌, ◌≢◌, ◌<◌, ℕ, Bool, true, false, not, ◌&&◌, ◌==◌, nat_lt, if◌then◌else◌, inl, inr, List, [], ◌∷◌, map, Some, None, All, AllPairs, refl, sym, ap, ◌∙◌, subst, true≢false, eqb-true, eq-eqb, ltb-true, lt-ltb, arith}
 use Rattle.std.specs.List.{list_any}
 use Rattle.std.proofs.lemmas.List.Elements.{All-nil, All-cons, All-weaker}
 use Rattle.std.proofs.lemmas.List.Kept.{AllPairs-cons}
 use Rattle.dcc_prog.specs.declared.procedure.Node.{Node}
 use Rattle.dcc_ir.proofs.PathLaws.{decided, clash}
 use Rattle.dcc_lift.specs.Blocks.{Nodes, node_in, successors_in, edges_into, is_one, comes_from_below, joins, if_joins, onward, IsChain, leaders, last_of}
-use Rattle.dcc_lift.specs.Sound.{offsets_of, AreSound}
-use Rattle.dcc_lift.proofs.ListTests.{and_left, and_right, and_both, or_none, not_true, not_false, same_number, any_map, any_filter}
-use Rattle.dcc_lift.proofs.NodeLaws.{is_node, node_in_some, node_in_has, nodes_differ, entry_is_node, prelude_no_node, successor_is_node, edges_are}
+use Rattle.dcc_lift.specs.Sound.{AreSound}
+use Rattle.dcc_lift.proofs.ListTests.{and_left, and_right, and_both, or_none, not_true, same_number, any_map, any_filter}
+use Rattle.dcc_lift.proofs.NodeLaws.{is_node, node_in_some, node_in_has, entry_is_node, prelude_no_node, successor_is_node, edges_are}
 
 -- a block begins at the offset
 abbrev pub is_leader : Nodes → ℕ → ℕ → Bool

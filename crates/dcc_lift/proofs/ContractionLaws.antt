@@ -1,25 +1,23 @@
 -- The blocks of a translation are those of the procedure's instructions: the one flow graph contracts to the other.
-use Rattle.std.proofs.Common.{◌≡◌, ◌<◌, ℕ, Bool, true, false, cond, not, ◌&&◌, ◌||◌, ◌==◌, ◌⊎◌, inl, inr, List, [], ◌∷◌, Option, Some, None, refl, sym, ap, ◌∙◌, subst, true≢false, eqb-true, eq-eqb, lt_trans, lt_irrefl, arith}
+use Rattle.std.proofs.Common.{◌≡◌, ◌<◌, ℕ, true, false, ◌&&◌, ◌||◌, ◌==◌, ◌⊎◌, inl, inr, List, [], ◌∷◌, refl, sym, ap, ◌∙◌, subst, eqb-true, lt_trans, arith}
 use Rattle.std.specs.List.{list_any}
 use Rattle.dcc_prog.specs.declared.image.Image.{Image}
 use Rattle.dcc_prog.specs.declared.procedure.Layout.{Layout}
 use Rattle.dcc_prog.specs.declared.procedure.Proc.{Proc}
 use Rattle.dcc_ir.specs.Tree.{Goto, Block, Graph, Program}
-use Rattle.dcc_ir.specs.Flow.{Flow, first_address, flow_of, flow_at, graph_or_none, IsPath, Any, Reached, Leads, IsContraction, HaveOneEdge}
-use Rattle.dcc_ir.specs.Run.{graph_at}
+use Rattle.dcc_ir.specs.Flow.{Flow, first_address, flow_of, IsPath, Any, Reached, Leads, IsContraction, HaveOneEdge}
 use Rattle.dcc_ir.proofs.PathLaws.{decided, clash, or_left, or_right, path_of_none, path_last, reached_has}
 use Rattle.dcc_ir.proofs.GraphLaws.{flow_of-flow}
 use Rattle.dcc_ir.proofs.EdgeLaws.{behind_one_from_edges}
-use Rattle.dcc_lift.specs.Temporaries.{temporary_bits}
-use Rattle.dcc_lift.specs.Blocks.{Nodes, node_in, successors_in, joins, onward, IsChain, leaders, block_place, last_of, IsBlockAt, AreBlocksAt}
+use Rattle.dcc_lift.specs.Blocks.{Nodes, node_in, successors_in, joins, IsChain, leaders, block_place, last_of, AreBlocksAt}
 use Rattle.dcc_lift.specs.Sound.{AreSound}
-use Rattle.dcc_lift.specs.Translation.{prelude_block, data_image, IsTranslation}
+use Rattle.dcc_lift.specs.Translation.{prelude_block, IsTranslation}
 use Rattle.dcc_lift.specs.Lifted.{procedure_flow, behind_prelude, HasBlocks}
 use Rattle.dcc_lift.proofs.ListTests.{and_left, and_right, and_both, or_here, or_there, or_cases, same_number}
 use Rattle.dcc_lift.proofs.NodeLaws.{is_node, goes_on, goes_from, goes_on_is, nodes_differ, entry_is_node, prelude_no_node, successor_is_node}
-use Rattle.dcc_lift.proofs.ChainLaws.{is_leader, has_successor, sole, IsJoined, joined, joined_from, IsOnward, onward_tells, edge_to_joined, leader_node, leader_begins, no_leader_joins, joins_no_leader, entry_is_leader, prelude_no_leader}
+use Rattle.dcc_lift.proofs.ChainLaws.{is_leader, has_successor, sole, IsJoined, joined, joined_from, onward_tells, edge_to_joined, leader_node, leader_begins, no_leader_joins, joins_no_leader, entry_is_leader}
 use Rattle.dcc_lift.proofs.TranslationLaws.{the_graph, translation_flow}
-use Rattle.dcc_lift.proofs.BlockLaws.{has_block, HasBlock, leader_block, goes_between, IsFromLeader, edge_cases, prelude_goes, leader_goes}
+use Rattle.dcc_lift.proofs.BlockLaws.{has_block, leader_block, goes_between, edge_cases, prelude_goes, leader_goes}
 
 -- the instructions and where they go on, with that entry
 abbrev pub nodes_flow : Nodes → ℕ → Flow
@@ -228,9 +226,9 @@ module _ (image : Image) (layout : Layout) (start : Proc) (p : Program) (transla
       let graph = the_graph image layout start p translation in
       let flow = translation_flow image layout start p translation entry_is in
       let contracts : IsContraction (behind_prelude image.ip (nodes_flow start.nodes.entries layout.start_ip)) (flow_of graph) =
-        contraction start.nodes.entries layout.start_ip image.ip sound graph first refl refl translation.blocks translation.blocks_are refl in
+      contraction start.nodes.entries layout.start_ip image.ip sound graph first refl refl translation.blocks translation.blocks_are refl in
       let one : HaveOneEdge (behind_prelude image.ip (nodes_flow start.nodes.entries layout.start_ip)) (flow_of graph) =
-        one_edge start.nodes.entries layout.start_ip image.ip sound graph first refl refl translation.blocks translation.blocks_are refl in
+      one_edge start.nodes.entries layout.start_ip image.ip sound graph first refl refl translation.blocks translation.blocks_are refl in
       record {
         contraction = subst (λ q. IsContraction (behind_prelude image.ip (procedure_flow start)) q) (sym flow)
             (subst (λ n. IsContraction (behind_prelude image.ip (nodes_flow start.nodes.entries n)) (flow_of graph)) (sym entry_is) contracts);

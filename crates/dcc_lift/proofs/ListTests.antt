@@ -1,8 +1,8 @@
 -- Laws of tests and of the lists in which one passes.
-use Rattle.std.proofs.Common.{◌≡◌, ℕ, zero, suc, ◌<◌, Bool, true, false, cond, ◌&&◌, ◌||◌, not, eqb, ◌==◌, ◌⊎◌, inl, inr, List, [], ◌∷◌, ◌++◌, map, filter, flat_map, Option, Some, None, slice_get, get_or, length, All, Contains, refl, sym, ap, ◌∙◌, subst, true≢false, eqb-true, eq-eqb, arith}
+use Rattle.std.proofs.Common.{◌≡◌, ℕ, zero, suc, ◌<◌, Bool, true, false, cond, ◌&&◌, ◌||◌, not, ◌==◌, ◌⊎◌, inl, inr, List, [], ◌∷◌, map, filter, flat_map, Some, slice_get, get_or, length, Contains, refl, sym, ap, ◌∙◌, true≢false, eqb-true, eq-eqb, arith}
 use Rattle.std.specs.List.{list_any}
 use Rattle.std.proofs.lemmas.List.Folds.{list_any-append}
-use Rattle.dcc_ir.proofs.PathLaws.{decided, clash, or_false}
+use Rattle.dcc_ir.proofs.PathLaws.{decided, or_false}
 
 -- Tests.
 

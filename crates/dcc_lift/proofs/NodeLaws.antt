@@ -1,13 +1,13 @@
 -- Laws of instructions by their offsets, and of the edges between them.
-use Rattle.std.proofs.Common.{◌≡◌, ◌<◌, ℕ, zero, suc, Bool, true, false, ◌&&◌, ◌||◌, ◌==◌, if◌then◌else◌, ◌⊎◌, inl, inr, List, [], ◌∷◌, length, map, filter, Option, Some, None, slice_get, get_or, All, AllPairs, Contains, refl, sym, ap, ◌∙◌, subst, true≢false, eqb-true, eq-eqb, ne_eqb, arith}
+use Rattle.std.proofs.Common.{◌≡◌, ◌<◌, ℕ, zero, suc, Bool, true, false, ◌&&◌, ◌||◌, ◌==◌, if◌then◌else◌, inl, inr, [], ◌∷◌, map, filter, Option, Some, None, slice_get, get_or, All, AllPairs, Contains, refl, sym, ap, ◌∙◌, subst, true≢false, eqb-true, eq-eqb, ne_eqb, arith}
 use Rattle.std.specs.List.{list_any}
 use Rattle.std.proofs.lemmas.List.Elements.{All-head, All-tail, All-contains}
 use Rattle.std.proofs.lemmas.List.Folds.{list_any_none}
 use Rattle.dcc_prog.specs.declared.procedure.Node.{Node}
-use Rattle.dcc_ir.proofs.PathLaws.{decided, clash, or_false, or_left, or_right}
+use Rattle.dcc_ir.proofs.PathLaws.{decided, clash, or_false}
 use Rattle.dcc_lift.specs.Blocks.{Nodes, node_in, successors_in, edges_into}
 use Rattle.dcc_lift.specs.Sound.{offsets_of, AreSound}
-use Rattle.dcc_lift.proofs.ListTests.{and_left, and_right, and_both, and_false, or_here, or_there, or_none, any_agree, any_map, any_flat_map, any_constant, any_contained, contained_any}
+use Rattle.dcc_lift.proofs.ListTests.{or_here, or_there, or_none, any_agree, any_map, any_flat_map, any_constant, any_contained, contained_any}
 
 -- an instruction stands at the offset
 abbrev pub is_node : Nodes → ℕ → Bool

@@ -1,19 +1,18 @@
 -- Laws of the program that stands for a procedure: its graph, and which blocks that has.
-use Rattle.std.proofs.Common.{◌≡◌, ℕ, Bool, true, false, cond, ◌||◌, ◌==◌, inl, inr, List, [], ◌∷◌, slice_get, Option, Some, None, refl, sym, ap, ◌∙◌, subst, eqb-true, eq-eqb}
+use Rattle.std.proofs.Common.{◌≡◌, ℕ, true, cond, ◌||◌, ◌==◌, [], ◌∷◌, Some, None, refl, ap, ◌∙◌, eq-eqb}
 use Rattle.std.specs.List.{list_any}
 use Rattle.dcc_prog.specs.declared.image.Image.{Image}
 use Rattle.dcc_prog.specs.declared.procedure.Layout.{Layout}
 use Rattle.dcc_prog.specs.declared.procedure.Proc.{Proc}
-use Rattle.dcc_ir.specs.Tree.{Block, Graph, Program}
+use Rattle.dcc_ir.specs.Tree.{Graph, Program}
 use Rattle.dcc_ir.specs.Flow.{flow_of, flow_at, graph_or_none}
 use Rattle.dcc_ir.specs.Run.{graph_at}
 use Rattle.dcc_lift.specs.Temporaries.{temporary_bits}
-use Rattle.dcc_lift.specs.Blocks.{joins, block_place, exit_at}
+use Rattle.dcc_lift.specs.Blocks.{block_place}
 use Rattle.dcc_lift.specs.Sound.{AreSound}
 use Rattle.dcc_lift.specs.Translation.{prelude_block, IsTranslation}
 use Rattle.dcc_lift.specs.Lifted.{has_block_at, IsFramed}
 use Rattle.dcc_lift.proofs.ListTests.{or_none}
-use Rattle.dcc_lift.proofs.NodeLaws.{is_node}
 use Rattle.dcc_lift.proofs.ChainLaws.{is_leader}
 use Rattle.dcc_lift.proofs.BlockLaws.{has_block, HasBlock, leader_block}
 
