@@ -1,10 +1,6 @@
-pub mod AhLaws
-pub mod MirrorLaws
-pub mod SumValues
-pub mod OperandMirrors
-pub mod Standing
-pub mod ShiftValues
-pub mod ProductValues
-pub mod TemporaryLaws
-pub mod ShiftMirrors
-pub mod ProductMirrors
+pub mod ListTests
+pub mod NodeLaws
+pub mod ChainLaws
+pub mod BlockLaws
+pub mod TranslationLaws
+pub mod ContractionLaws

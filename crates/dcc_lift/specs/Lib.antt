@@ -4,5 +4,6 @@ pub mod Statements
 pub mod Mirrors
 pub mod Liftable
 pub mod Blocks
+pub mod Sound
 pub mod Translation
 pub mod Lifted

@@ -1,0 +1,201 @@
+-- Laws of the instructions that join the block of the one before them, and of the chains that they make.
+use Rattle.std.proofs.Common.{◌≡◌, ◌≢◌, ◌<◌, ℕ, Bool, true, false, not, ◌&&◌, ◌==◌, nat_lt, if◌then◌else◌, inl, inr, List, [], ◌∷◌, map, Some, None, All, AllPairs, refl, sym, ap, ◌∙◌, subst, true≢false, eqb-true, eq-eqb, ltb-true, lt-ltb, arith}
+use Rattle.std.specs.List.{list_any}
+use Rattle.std.proofs.lemmas.List.Elements.{All-nil, All-cons, All-weaker}
+use Rattle.std.proofs.lemmas.List.Kept.{AllPairs-cons}
+use Rattle.dcc_prog.specs.declared.procedure.Node.{Node}
+use Rattle.dcc_ir.proofs.PathLaws.{decided, clash}
+use Rattle.dcc_lift.specs.Blocks.{Nodes, node_in, successors_in, edges_into, is_one, comes_from_below, joins, if_joins, onward, IsChain, leaders, last_of}
+use Rattle.dcc_lift.specs.Sound.{AreSound}
+use Rattle.dcc_lift.proofs.ListTests.{and_left, and_right, and_both, or_none, not_true, same_number, any_map, any_filter}
+use Rattle.dcc_lift.proofs.NodeLaws.{is_node, node_in_some, node_in_has, entry_is_node, prelude_no_node, successor_is_node, edges_are}
+
+-- a block begins at the offset
+abbrev pub is_leader : Nodes → ℕ → ℕ → Bool
+is_leader nodes entry at = list_any (λ leader. leader == at) (leaders nodes entry)
+
+-- the offset is among the successors
+abbrev pub has_successor : Nodes → ℕ → ℕ → Bool
+has_successor nodes a b = list_any (λ next. next == b) (successors_in (node_in nodes a))
+
+-- Joining.
+
+-- what it says that an instruction joins the block of the one before it
+pub record IsJoined (nodes : Nodes) (entry at : ℕ) : Type 0 where
+  pub from : ℕ
+  pub edges : edges_into nodes at ≡ from ∷ []
+  pub below : from < at
+  pub one : is_one (successors_in (node_in nodes from)) ≡ true
+  pub inner : at ≢ entry
+
+joined_by : (nodes : Nodes) (entry at : ℕ) (edges : List ℕ) → edges_into nodes at ≡ edges → comes_from_below nodes edges at ≡ true → at ≢ entry → IsJoined nodes entry at
+joined_by nodes entry at [] e t other = absurd (true≢false (sym t))
+joined_by nodes entry at (from ∷ []) e t other = record {
+  from = from;
+  edges = e;
+  below = ltb-true from at (and_left (nat_lt from at) (is_one (successors_in (node_in nodes from))) t);
+  one = and_right (nat_lt from at) (is_one (successors_in (node_in nodes from))) t;
+  inner = other;
+}
+joined_by nodes entry at (from ∷ second ∷ rest) e t other = absurd (true≢false (sym t))
+
+pub joined : (nodes : Nodes) (entry at : ℕ) → joins nodes entry at ≡ true → IsJoined nodes entry at
+joined nodes entry at t =
+    let other = not_true (at == entry) (and_left (not (at == entry)) (comes_from_below nodes (edges_into nodes at) at) t) in
+    joined_by nodes entry at (edges_into nodes at) refl (and_right (not (at == entry)) (comes_from_below nodes (edges_into nodes at) at) t) (λ same. clash (eq-eqb at entry same) other)
+
+pub joined_joins : (nodes : Nodes) (entry at : ℕ) → IsJoined nodes entry at → joins nodes entry at ≡ true
+joined_joins nodes entry at j = and_both (not (at == entry)) (comes_from_below nodes (edges_into nodes at) at)
+    (elim (decided (at == entry)) [ inl same ↦ absurd (j.inner (eqb-true at entry same)) | inr other ↦ ap not other ])
+    (ap (λ edges. comes_from_below nodes edges at) j.edges ∙ and_both (nat_lt j.from at) (is_one (successors_in (node_in nodes j.from))) (lt-ltb j.from at j.below) j.one)
+
+-- the first instruction of a procedure begins a block
+pub entry_begins : (nodes : Nodes) (entry : ℕ) → joins nodes entry entry ≡ false
+entry_begins nodes entry = ap (λ b. not b && comes_from_below nodes (edges_into nodes entry) entry) (same_number entry)
+
+-- a list with one member
+one_member : (xs : List ℕ) → is_one xs ≡ true → (x : ℕ) × (xs ≡ x ∷ [])
+one_member [] e = absurd (true≢false (sym e))
+one_member (x ∷ []) e = (x, refl)
+one_member (x ∷ y ∷ xs) e = absurd (true≢false (sym e))
+
+pub sole : (x a : ℕ) (xs : List ℕ) → xs ≡ x ∷ [] → list_any (λ y. y == a) xs ≡ true → x ≡ a
+sole x a xs e t = eqb-true x a (sym (or_none (x == a)) ∙ sym (ap (list_any (λ y. y == a)) e) ∙ t)
+
+-- Going on within a block.
+
+-- what it says that the block goes on from one instruction to the next
+pub record IsOnward (nodes : Nodes) (entry at next : ℕ) : Type 0 where
+  pub succ : successors_in (node_in nodes at) ≡ next ∷ []
+  pub goes : has_successor nodes at next ≡ true
+  pub joins : joins nodes entry next ≡ true
+  pub edges : edges_into nodes next ≡ at ∷ []
+  pub below : at < next
+  pub inner : next ≢ entry
+  pub node : (found : Node) × (node_in nodes next ≡ Some found)
+
+-- an instruction that joins the block of the one before it begins none
+pub record IsInner (nodes : Nodes) (entry c : ℕ) : Type 0 where
+  pub joins : joins nodes entry c ≡ true
+  pub leader : is_leader nodes entry c ≡ false
+  pub node : is_node nodes c ≡ true
+
+onward_by : (nodes : Nodes) (entry next : ℕ) (places : List ℕ) → if_joins nodes entry places ≡ Some next → (places ≡ next ∷ []) × (joins nodes entry next ≡ true)
+onward_by nodes entry next [] e = absurd (cc)
+onward_by nodes entry next (x ∷ []) e = go (joins nodes entry x) refl e
+  where
+    go : (b : Bool) → joins nodes entry x ≡ b → (if b then Some x else None) ≡ Some next → (x ∷ [] ≡ next ∷ []) × (joins nodes entry next ≡ true)
+    go true t e =
+        let same : x ≡ next = cc in
+        (ap (λ n. n ∷ []) same, subst (λ n. joins nodes entry n ≡ true) same t)
+    go false t e = absurd (cc)
+onward_by nodes entry next (x ∷ y ∷ places) e = absurd (cc)
+
+module _ (nodes : Nodes) (entry prelude : ℕ) (sound : AreSound nodes entry prelude) where
+  -- the only edge to an instruction that joins comes from the one before it
+  pub joined_from : (at next : ℕ) (j : IsJoined nodes entry next) → has_successor nodes at next ≡ true → j.from ≡ at
+  joined_from at next j t = sole j.from at (edges_into nodes next) j.edges (edges_are nodes entry prelude sound at next ∙ t)
+
+  pub onward_tells : (at next : ℕ) → onward nodes entry at ≡ Some next → IsOnward nodes entry at next
+  onward_tells at next e =
+      let first = onward_by nodes entry next (successors_in (node_in nodes at)) e in
+      let goes : has_successor nodes at next ≡ true = ap (list_any (λ x. x == next)) first.0 ∙ or_none (next == next) ∙ same_number next in
+      let j = joined nodes entry next first.1 in
+      let same : j.from ≡ at = joined_from at next j goes in
+      record {
+        succ = first.0;
+        goes = goes;
+        joins = first.1;
+        edges = j.edges ∙ ap (λ n. n ∷ []) same;
+        below = subst (λ n. n < next) same j.below;
+        inner = j.inner;
+        node = node_in_some nodes next (successor_is_node nodes entry prelude sound at next goes);
+      }
+
+  -- an edge to an instruction that joins goes on within the block
+  pub edge_to_joined : (at next : ℕ) → joins nodes entry next ≡ true → has_successor nodes at next ≡ true → onward nodes entry at ≡ Some next
+  edge_to_joined at next t goes =
+      let j = joined nodes entry next t in
+      let one = one_member (successors_in (node_in nodes at)) (subst (λ n. is_one (successors_in (node_in nodes n)) ≡ true) (joined_from at next j goes) j.one) in
+      let same : one.0 ≡ next = sole one.0 next (successors_in (node_in nodes at)) one.1 goes in
+      ap (if_joins nodes entry) (one.1 ∙ ap (λ n. n ∷ []) same) ∙ ap (λ b. if b then Some next else None) t
+
+  -- Leaders.
+
+  pub leader_is : (at : ℕ) → is_leader nodes entry at ≡ (is_node nodes at && not (joins nodes entry at))
+  leader_is at =
+      any_filter (λ a. not (joins nodes entry a)) at (map (λ found. found.0) nodes)
+      ∙ ap (λ b. b && not (joins nodes entry at)) (any_map (λ n. n == at) (λ (found : ℕ × Node). found.0) nodes)
+
+  pub leader_node : (at : ℕ) → is_leader nodes entry at ≡ true → is_node nodes at ≡ true
+  leader_node at e = and_left (is_node nodes at) (not (joins nodes entry at)) (sym (leader_is at) ∙ e)
+
+  pub leader_begins : (at : ℕ) → is_leader nodes entry at ≡ true → joins nodes entry at ≡ false
+  leader_begins at e = not_true (joins nodes entry at) (and_right (is_node nodes at) (not (joins nodes entry at)) (sym (leader_is at) ∙ e))
+
+  pub begins_leader : (at : ℕ) → is_node nodes at ≡ true → joins nodes entry at ≡ false → is_leader nodes entry at ≡ true
+  begins_leader at node begins = leader_is at ∙ and_both (is_node nodes at) (not (joins nodes entry at)) node (ap not begins)
+
+  pub joins_no_leader : (at : ℕ) → joins nodes entry at ≡ true → is_leader nodes entry at ≡ false
+  joins_no_leader at t = elim (decided (is_leader nodes entry at)) [
+    | inl leader ↦ absurd (clash t (leader_begins at leader))
+    | inr none ↦ none
+  ]
+
+  -- an instruction that begins no block joins that of the one before it
+  pub no_leader_joins : (at : ℕ) → is_node nodes at ≡ true → is_leader nodes entry at ≡ false → joins nodes entry at ≡ true
+  no_leader_joins at node none = elim (decided (joins nodes entry at)) [
+    | inl t ↦ t
+    | inr begins ↦ absurd (clash (begins_leader at node begins) none)
+  ]
+
+  pub entry_is_leader : is_leader nodes entry entry ≡ true
+  entry_is_leader = begins_leader entry (entry_is_node nodes entry prelude sound) (entry_begins nodes entry)
+
+  pub prelude_no_leader : is_leader nodes entry prelude ≡ false
+  prelude_no_leader = leader_is prelude ∙ ap (λ b. b && not (joins nodes entry prelude)) (prelude_no_node nodes entry prelude sound)
+
+  -- Chains.
+
+  -- all instructions of a chain but the first join
+  pub chain_inner : (rest : List ℕ) (at : ℕ) → IsChain nodes entry at rest → All (IsInner nodes entry) rest
+  chain_inner [] at chain = All-nil (IsInner nodes entry)
+  chain_inner (next ∷ rest) at chain =
+      let on = onward_tells at next chain.0 in
+      All-cons (IsInner nodes entry) next rest (record { joins = on.joins; leader = joins_no_leader next on.joins; node = node_in_has nodes next on.node.0 on.node.1 })
+      (chain_inner rest next chain.1)
+
+  chain_above : (rest : List ℕ) (at : ℕ) → IsChain nodes entry at rest → All (λ c. at < c) rest
+  chain_above [] at chain = All-nil (λ c. at < c)
+  chain_above (next ∷ rest) at chain =
+      let on = onward_tells at next chain.0 in
+      All-cons (λ c. at < c) next rest on.below
+      (All-weaker (λ c. next < c) (λ c. at < c) (λ c less. omega (arith, on.below)) rest (chain_above rest next chain.1))
+
+  -- offsets ascend along a chain
+  pub chain_ascends : (rest : List ℕ) (at : ℕ) → IsChain nodes entry at rest → AllPairs (λ a b. a < b) (at ∷ rest)
+  chain_ascends [] at chain = λ i j d less inside. absurd (omega arith)
+  chain_ascends (next ∷ rest) at chain = AllPairs-cons (λ a b. a < b) at (next ∷ rest) (chain_above (next ∷ rest) at chain) (chain_ascends rest next chain.1)
+
+  -- a chain goes to its end
+  pub chain_end : (rest : List ℕ) (at : ℕ) → IsChain nodes entry at rest → onward nodes entry (last_of at rest) ≡ None
+  chain_end [] at chain = chain
+  chain_end (next ∷ rest) at chain = chain_end rest next chain.1
+
+  -- where the last instruction of a chain goes on, blocks begin
+  pub last_goes_to_leaders : (at : ℕ) (rest : List ℕ) (b : ℕ) → IsChain nodes entry at rest → has_successor nodes (last_of at rest) b ≡ true → is_leader nodes entry b ≡ true
+  last_goes_to_leaders at rest b chain goes =
+      let node = successor_is_node nodes entry prelude sound (last_of at rest) b goes in
+      elim (decided (joins nodes entry b)) [
+        | inl t ↦ let on = edge_to_joined (last_of at rest) b t goes in let end = chain_end rest at chain in absurd (cc)
+        | inr begins ↦ begins_leader b node begins
+      ]
+
+  -- there is one chain at most from an instruction on
+  pub chain_once : (rest other : List ℕ) (at : ℕ) → IsChain nodes entry at rest → IsChain nodes entry at other → rest ≡ other
+  chain_once [] [] at chain second = refl
+  chain_once [] (next ∷ other) at chain second = absurd (cc (chain, second.0))
+  chain_once (next ∷ rest) [] at chain second = absurd (cc (chain.0, second))
+  chain_once (next ∷ rest) (after ∷ other) at chain second =
+      let same : next ≡ after = cc (chain.0, second.0) in
+      ap (λ n. n ∷ rest) same ∙ ap (λ l. after ∷ l) (chain_once rest other after (subst (λ n. IsChain nodes entry n rest) same chain.1) second.1)

@@ -1,0 +1,237 @@
+-- The blocks of a translation are those of the procedure's instructions: the one flow graph contracts to the other.
+use Rattle.std.proofs.Common.{◌≡◌, ◌<◌, ℕ, true, false, ◌&&◌, ◌||◌, ◌==◌, ◌⊎◌, inl, inr, List, [], ◌∷◌, refl, sym, ap, ◌∙◌, subst, eqb-true, lt_trans, arith}
+use Rattle.std.specs.List.{list_any}
+use Rattle.dcc_prog.specs.declared.image.Image.{Image}
+use Rattle.dcc_prog.specs.declared.procedure.Layout.{Layout}
+use Rattle.dcc_prog.specs.declared.procedure.Proc.{Proc}
+use Rattle.dcc_ir.specs.Tree.{Goto, Block, Graph, Program}
+use Rattle.dcc_ir.specs.Flow.{Flow, first_address, flow_of, IsPath, Any, Reached, Leads, IsContraction, HaveOneEdge}
+use Rattle.dcc_ir.proofs.PathLaws.{decided, clash, or_left, or_right, path_of_none, path_last, reached_has}
+use Rattle.dcc_ir.proofs.GraphLaws.{flow_of-flow}
+use Rattle.dcc_ir.proofs.EdgeLaws.{behind_one_from_edges}
+use Rattle.dcc_lift.specs.Blocks.{Nodes, node_in, successors_in, joins, IsChain, leaders, block_place, last_of, AreBlocksAt}
+use Rattle.dcc_lift.specs.Sound.{AreSound}
+use Rattle.dcc_lift.specs.Translation.{prelude_block, IsTranslation}
+use Rattle.dcc_lift.specs.Lifted.{procedure_flow, behind_prelude, HasBlocks}
+use Rattle.dcc_lift.proofs.ListTests.{and_left, and_right, and_both, or_here, or_there, or_cases, same_number}
+use Rattle.dcc_lift.proofs.NodeLaws.{is_node, goes_on, goes_from, goes_on_is, nodes_differ, entry_is_node, prelude_no_node, successor_is_node}
+use Rattle.dcc_lift.proofs.ChainLaws.{is_leader, has_successor, sole, IsJoined, joined, joined_from, onward_tells, edge_to_joined, leader_node, leader_begins, no_leader_joins, joins_no_leader, entry_is_leader}
+use Rattle.dcc_lift.proofs.TranslationLaws.{the_graph, translation_flow}
+use Rattle.dcc_lift.proofs.BlockLaws.{has_block, leader_block, goes_between, edge_cases, prelude_goes, leader_goes}
+
+-- the instructions and where they go on, with that entry
+abbrev pub nodes_flow : Nodes → ℕ → Flow
+nodes_flow nodes entry = record { start = entry; has = is_node nodes; goes = goes_on nodes }
+
+module _ (nodes : Nodes) (entry prelude : ℕ) (sound : AreSound nodes entry prelude) (graph : Graph) (first : Block) (first_at : first.at ≡ prelude) (first_exit : first.exit ≡ Goto (block_place nodes entry entry)) (blocks : List Block) (are : AreBlocksAt nodes entry (leaders nodes entry) blocks) (graph_is : graph.blocks ≡ first ∷ blocks) where
+  abbrev P : Flow
+  P = behind_prelude prelude (nodes_flow nodes entry)
+
+  abbrev Q : Flow
+  Q = flow_of graph
+
+  q_has : (a : ℕ) → Q.has a ≡ ((prelude == a) || is_leader nodes entry a)
+  q_has a = ap (list_any (λ block. block.at == a)) graph_is ∙ has_block nodes entry prelude sound first first_at first_exit blocks are a
+
+  q_goes : (a b : ℕ) → Q.goes a b ≡ goes_between (first ∷ blocks) a b
+  q_goes a b = ap (λ all. goes_between all a b) graph_is
+
+  -- what begins no block
+  not_prelude : (c : ℕ) → Q.has c ≡ false → (prelude == c) ≡ false
+  not_prelude c none = or_left (prelude == c) (is_leader nodes entry c) (sym (q_has c) ∙ none)
+
+  not_leader : (c : ℕ) → Q.has c ≡ false → is_leader nodes entry c ≡ false
+  not_leader c none = or_right (prelude == c) (is_leader nodes entry c) (sym (q_has c) ∙ none)
+
+  inner_none : (c : ℕ) → is_node nodes c ≡ true → joins nodes entry c ≡ true → Q.has c ≡ false
+  inner_none c node t = elim (decided (Q.has c)) [
+    | inl has ↦ elim (or_cases (prelude == c) (is_leader nodes entry c) (sym (q_has c) ∙ has)) [
+      | inl here ↦ absurd (clash node (subst (λ n. is_node nodes n ≡ false) (eqb-true prelude c here) (prelude_no_node nodes entry prelude sound)))
+      | inr leader ↦ absurd (clash leader (joins_no_leader nodes entry prelude sound c t))
+    ]
+    | inr none ↦ none
+  ]
+
+  leader_has : (c : ℕ) → is_leader nodes entry c ≡ true → Q.has c ≡ true
+  leader_has c leader = q_has c ∙ or_there (prelude == c) (is_leader nodes entry c) leader
+
+  -- an edge of the instructions
+  p_cases : (a b : ℕ) → P.goes a b ≡ true → ((a ≡ prelude) × (b ≡ entry)) ⊎ (has_successor nodes a b ≡ true)
+  p_cases a b e = elim (or_cases ((prelude == a) && (entry == b)) (goes_on nodes a b) e) [
+    | inl t ↦ inl (sym (eqb-true prelude a (and_left (prelude == a) (entry == b) t)), sym (eqb-true entry b (and_right (prelude == a) (entry == b) t)))
+    | inr t ↦ inr (sym (goes_on_is nodes a b (nodes_differ nodes entry prelude sound)) ∙ t)
+  ]
+
+  p_goes : (a b : ℕ) → has_successor nodes a b ≡ true → P.goes a b ≡ true
+  p_goes a b t = or_there ((prelude == a) && (entry == b)) (goes_on nodes a b) (goes_on_is nodes a b (nodes_differ nodes entry prelude sound) ∙ t)
+
+  prelude_to_entry : P.goes prelude entry ≡ true
+  prelude_to_entry = or_here ((prelude == prelude) && (entry == entry)) (goes_on nodes prelude entry) (and_both (prelude == prelude) (entry == entry) (same_number prelude) (same_number entry))
+
+  -- an edge to an instruction that begins no block comes from the one before it
+  pub record IsEdgeInside (a c : ℕ) : Type 0 where
+    pub goes : has_successor nodes a c ≡ true
+    pub joins : joins nodes entry c ≡ true
+    pub joined : IsJoined nodes entry c
+    pub from : joined.from ≡ a
+
+  edge_inside : (a c : ℕ) → P.goes a c ≡ true → Q.has c ≡ false → IsEdgeInside a c
+  edge_inside a c e none = elim (p_cases a c e) [
+    | inl way ↦ absurd (clash (subst (λ n. is_leader nodes entry n ≡ true) (sym way.1) (entry_is_leader nodes entry prelude sound)) (not_leader c none))
+    | inr goes ↦
+        let t = no_leader_joins nodes entry prelude sound c (successor_is_node nodes entry prelude sound a c goes) (not_leader c none) in
+        let j = joined nodes entry c t in
+        record { goes = goes; joins = t; joined = j; from = joined_from nodes entry prelude sound a c j goes }
+  ]
+
+  -- each such instruction has one edge in
+  pub one_edge : HaveOneEdge P Q
+  one_edge a b c ra rb none e f =
+      let x = edge_inside a c e none in
+      sym x.from ∙ joined_from nodes entry prelude sound b c x.joined (edge_inside b c f none).goes
+
+  -- a path of such instructions ascends
+  ascends : (between : List ℕ) (a c : ℕ) → IsPath P.goes (λ y. Q.has y ≡ false) a between c → Q.has c ≡ false → a < c
+  ascends [] a c e none = let x = edge_inside a c e none in subst (λ n. n < c) x.from x.joined.below
+  ascends (m ∷ ms) a c path none =
+      let x = edge_inside a m path.0 path.1 in
+      let below : x.joined.from < m = x.joined.below in
+      let later = ascends ms m c path.2 none in
+      subst (λ n. n < c) x.from (lt_trans below later)
+
+  cycles_hold : (a : ℕ) (between : List ℕ) → Reached P a → IsPath P.goes Any a between a → list_any Q.has (a ∷ between) ≡ true
+  cycles_hold a between reached path = elim (decided (list_any Q.has (a ∷ between))) [
+    | inl t ↦ t
+    | inr none ↦
+        let here = or_left (Q.has a) (list_any Q.has between) none in
+        let up = ascends between a a (path_of_none P.goes Q.has a between a (or_right (Q.has a) (list_any Q.has between) none) path) here in
+        absurd (omega (arith, up))
+  ]
+
+  -- A chain is a path to where its last instruction goes on.
+  chain_path : (rest : List ℕ) (at b : ℕ) → IsChain nodes entry at rest → has_successor nodes (last_of at rest) b ≡ true → IsPath P.goes (λ y. Q.has y ≡ false) at rest b
+  chain_path [] at b chain goes = p_goes at b goes
+  chain_path (next ∷ rest) at b chain goes =
+      let on = onward_tells nodes entry prelude sound at next chain.0 in
+      let here : has_successor nodes at next ≡ true = on.goes in
+      (p_goes at next here, inner_none next (successor_is_node nodes entry prelude sound at next here) on.joins, chain_path rest next b chain.1 goes)
+
+  node_goes : (a b : ℕ) → is_node nodes a ≡ true → P.goes a b ≡ true → has_successor nodes a b ≡ true
+  node_goes a b node e = elim (p_cases a b e) [
+    | inl way ↦ absurd (clash (subst (λ n. is_node nodes n ≡ true) way.0 node) (prelude_no_node nodes entry prelude sound))
+    | inr goes ↦ goes
+  ]
+
+  -- a path that comes to no block before its end follows the chain
+  path_follows : (between rest : List ℕ) (at b : ℕ) → is_node nodes at ≡ true → IsChain nodes entry at rest → is_leader nodes entry b ≡ true
+      → IsPath P.goes (λ y. Q.has y ≡ false) at between b → has_successor nodes (last_of at rest) b ≡ true
+  path_follows [] [] at b node chain leader path = node_goes at b node path
+  path_follows [] (next ∷ rest) at b node chain leader path =
+      let on = onward_tells nodes entry prelude sound at next chain.0 in
+      let same : next ≡ b = sole next b (successors_in (node_in nodes at)) on.succ (node_goes at b node path) in
+      absurd (clash (subst (λ n. joins nodes entry n ≡ true) same on.joins) (leader_begins nodes entry prelude sound b leader))
+  path_follows (m ∷ ms) [] at b node chain leader path =
+      let x = edge_inside at m path.0 path.1 in
+      let on = edge_to_joined nodes entry prelude sound at m x.joins x.goes in
+      absurd (cc (chain, on))
+  path_follows (m ∷ ms) (next ∷ rest) at b node chain leader path =
+      let x = edge_inside at m path.0 path.1 in
+      let same : next ≡ m = cc (chain.0, edge_to_joined nodes entry prelude sound at m x.joins x.goes) in
+      path_follows ms rest next b
+      (subst (λ n. is_node nodes n ≡ true) (sym same) (successor_is_node nodes entry prelude sound at m x.goes)) chain.1 leader
+      (subst (λ n. IsPath P.goes (λ y. Q.has y ≡ false) n ms b) (sym same) path.2)
+
+  -- Edges between blocks.
+
+  edge_leads : (a b : ℕ) → Q.goes a b ≡ true → Leads P Q a b
+  edge_leads a b e = elim (edge_cases nodes entry prelude sound first first_at first_exit blocks are a b (sym (q_goes a b) ∙ e)) [
+    | inl way ↦ ([], subst (λ n. P.goes n b ≡ true) (sym way.0) (subst (λ n. P.goes prelude n ≡ true) (sym way.1) prelude_to_entry))
+    | inr from ↦ (from.rest, chain_path from.rest a b from.chain from.goes)
+  ]
+
+  -- from the prelude there is one edge alone, to the entry, and to it there is none
+  from_prelude : (c : ℕ) → P.goes prelude c ≡ true → c ≡ entry
+  from_prelude c e = elim (p_cases prelude c e) [
+    | inl way ↦ way.1
+    | inr goes ↦ absurd (clash (goes_from nodes prelude c (goes_on_is nodes prelude c (nodes_differ nodes entry prelude sound) ∙ goes)) (prelude_no_node nodes entry prelude sound))
+  ]
+
+  to_prelude : (c : ℕ) → P.goes c prelude ≡ true → ⊥
+  to_prelude c e = elim (p_cases c prelude e) [
+    | inl way ↦ clash (subst (λ n. is_node nodes n ≡ true) (sym way.1) (entry_is_node nodes entry prelude sound)) (prelude_no_node nodes entry prelude sound)
+    | inr goes ↦ clash (successor_is_node nodes entry prelude sound c prelude goes) (prelude_no_node nodes entry prelude sound)
+  ]
+
+  prelude_leads : (between : List ℕ) (b : ℕ) → IsPath P.goes (λ y. Q.has y ≡ false) prelude between b → b ≡ entry
+  prelude_leads [] b path = from_prelude b path
+  prelude_leads (m ∷ ms) b path =
+      let leader = subst (λ n. is_leader nodes entry n ≡ true) (sym (from_prelude m path.0)) (entry_is_leader nodes entry prelude sound) in
+      absurd (clash (leader_has m leader) path.1)
+
+  leader_leads : (a b : ℕ) → is_leader nodes entry a ≡ true → is_leader nodes entry b ≡ true → Leads P Q a b → Q.goes a b ≡ true
+  leader_leads a b leader to_leader leads =
+      let is = (leader_block nodes entry prelude sound first first_at first_exit blocks are a leader).is_block in
+      q_goes a b ∙ leader_goes nodes entry prelude sound first first_at first_exit blocks are a b (record {
+        leader = leader;
+        rest = is.rest;
+        chain = is.chain;
+        to_leader = to_leader;
+        goes = path_follows leads.0 is.rest a b (leader_node nodes entry prelude sound a leader) is.chain to_leader leads.1;
+      })
+
+  leads_edge : (a b : ℕ) → Q.has a ≡ true → Q.has b ≡ true → Leads P Q a b → Q.goes a b ≡ true
+  leads_edge a b ha hb leads = elim (or_cases (prelude == a) (is_leader nodes entry a) (sym (q_has a) ∙ ha)) [
+    | inl t ↦
+        let here : prelude ≡ a = eqb-true prelude a t in
+        let there : b ≡ entry = prelude_leads leads.0 b (subst (λ n. IsPath P.goes (λ y. Q.has y ≡ false) n leads.0 b) (sym here) leads.1) in
+        subst (λ n. Q.goes n b ≡ true) here (subst (λ n. Q.goes prelude n ≡ true) (sym there)
+        (q_goes prelude entry ∙ prelude_goes nodes entry prelude sound first first_at first_exit blocks are))
+    | inr leader ↦ elim (or_cases (prelude == b) (is_leader nodes entry b) (sym (q_has b) ∙ hb)) [
+      | inl t ↦
+          let last = path_last P.goes (λ y. Q.has y ≡ false) a leads.0 b leads.1 in
+          absurd (to_prelude last.0 (subst (λ n. P.goes last.0 n ≡ true) (sym (eqb-true prelude b t)) last.1))
+      | inr to_leader ↦ leader_leads a b leader to_leader leads
+    ]
+  ]
+
+  -- The graph's blocks are instructions or the prelude's.
+  has_before : (a : ℕ) → Q.has a ≡ true → P.has a ≡ true
+  has_before a has = elim (or_cases (prelude == a) (is_leader nodes entry a) (sym (q_has a) ∙ has)) [
+    | inl here ↦ or_here (prelude == a) (is_node nodes a) here
+    | inr leader ↦ or_there (prelude == a) (is_node nodes a) (leader_node nodes entry prelude sound a leader)
+  ]
+
+  first_has : Q.has prelude ≡ true
+  first_has = q_has prelude ∙ or_here (prelude == prelude) (is_leader nodes entry prelude) (same_number prelude)
+
+  q_start : Q.start ≡ prelude
+  q_start = ap first_address graph_is ∙ first_at
+
+  pub contraction : IsContraction P Q
+  contraction = record {
+    start = q_start;
+    blocks = has_before;
+    first = λ h. first_has;
+    cycles = cycles_hold;
+    edges = λ a b reached hb. (edge_leads a b, leads_edge a b (reached_has Q (flow_of-flow graph) a reached) hb);
+    behind_one = behind_one_from_edges P Q one_edge;
+  }
+
+-- The translation.
+
+module _ (image : Image) (layout : Layout) (start : Proc) (p : Program) (translation : IsTranslation image layout start p) (entry_is : start.entry ≡ layout.start_ip) where
+  pub translation_has_blocks : AreSound start.nodes.entries layout.start_ip image.ip → HasBlocks image start p
+  translation_has_blocks sound =
+      let first = prelude_block image layout start.nodes.entries in
+      let graph = the_graph image layout start p translation in
+      let flow = translation_flow image layout start p translation entry_is in
+      let contracts : IsContraction (behind_prelude image.ip (nodes_flow start.nodes.entries layout.start_ip)) (flow_of graph) =
+      contraction start.nodes.entries layout.start_ip image.ip sound graph first refl refl translation.blocks translation.blocks_are refl in
+      let one : HaveOneEdge (behind_prelude image.ip (nodes_flow start.nodes.entries layout.start_ip)) (flow_of graph) =
+      one_edge start.nodes.entries layout.start_ip image.ip sound graph first refl refl translation.blocks translation.blocks_are refl in
+      record {
+        contraction = subst (λ q. IsContraction (behind_prelude image.ip (procedure_flow start)) q) (sym flow)
+            (subst (λ n. IsContraction (behind_prelude image.ip (nodes_flow start.nodes.entries n)) (flow_of graph)) (sym entry_is) contracts);
+        one_edge = subst (λ q. HaveOneEdge (behind_prelude image.ip (procedure_flow start)) q) (sym flow)
+            (subst (λ n. HaveOneEdge (behind_prelude image.ip (nodes_flow start.nodes.entries n)) (flow_of graph)) (sym entry_is) one);
+      }
