@@ -7,4 +7,3 @@ pub mod Blocks
 pub mod Sound
 pub mod Translation
 pub mod Lifted
-pub mod Demand
