@@ -131,7 +131,7 @@ within-code image layout at instr found =
     (sym (ap (take instr.len) same ∙ take-take instr.len m (drop at xs) inside))
 
 -- the machine makes the step of the instruction
-step-is : (image : Image) (layout : Layout) (graph : Graph) (s : Machine) (t : Inner) (at : ℕ) (before : List ℕ) (instr : Instr) → IsPlaced image → BothStand image layout graph s t at before → instruction_in image layout at ≡ Some instr
+pub step-is : (image : Image) (layout : Layout) (graph : Graph) (s : Machine) (t : Inner) (at : ℕ) (before : List ℕ) (instr : Instr) → IsPlaced image → BothStand image layout graph s t at before → instruction_in image layout at ≡ Some instr
     → step s ≡ op_step instr.op s.ip (record s { ip = next_of s.ip instr })
 step-is image layout graph s t at before instr placed both found =
     let here : instruction_at s.ip (drop s.ip (code_of image)) ≡ Some instr =
@@ -139,10 +139,10 @@ step-is image layout graph s t at before instr placed both found =
     ap (λ e. if is_over e then s else instruction_step (instruction_at s.ip (code_bytes s)) s) both.running
     ∙ ap (λ o. instruction_step o s) (fetched-instruction image s instr placed both.holds here)
 
-no-some : {A : Type 0} {x : A} → None ≡ Some x → ⊥
+pub no-some : {A : Type 0} {x : A} → None ≡ Some x → ⊥
 no-some e = cc
 
-some-same : {A : Type 0} {x y : A} → Some x ≡ Some y → x ≡ y
+pub some-same : {A : Type 0} {x y : A} → Some x ≡ Some y → x ≡ y
 some-same e = cc
 
 -- one of two is among them
@@ -150,7 +150,7 @@ chosen-of-two : (b : Bool) (x y to : ℕ) → to ≡ (if b then x else y) → Co
 chosen-of-two true x y to e = (0, lit< tt, sym e)
 chosen-of-two false x y to e = (1, lit< tt, sym e)
 
-first-of-one : (x : ℕ) → Contains (x ∷ []) x
+pub first-of-one : (x : ℕ) → Contains (x ∷ []) x
 first-of-one x = (0, lit< tt, refl)
 
 -- only jumps through tables have targets
@@ -159,7 +159,7 @@ no-targets image layout (Table r offset) before l = absurd (true≢false (sym l)
 no-targets image layout _ before l = refl
 
 -- the successors of an instruction, by what is known of AH alone
-successors-are : (image : Image) (layout : Layout) (nodes : Nodes) (at : ℕ) (node : Node) (before : List ℕ) → IsInstruction image layout nodes at node → IsTrail image layout layout.start_ip (at ∷ before)
+pub successors-are : (image : Image) (layout : Layout) (nodes : Nodes) (at : ℕ) (node : Node) (before : List ℕ) → IsInstruction image layout nodes at node → IsTrail image layout layout.start_ip (at ∷ before)
     → node.succ.items ≡ op_successors node.instr.op (next_of at node.instr) (known_ah image layout before) []
 successors-are image layout nodes at node before is trail =
     is.succ before trail
@@ -232,7 +232,7 @@ module _ (laws : AreLifted) (image : Image) (layout : Layout) (graph : Graph) (n
     passed-runs graphs fill rest = laws.runs node.instr.op node.number graphs fill rest t is.liftable is.operation other both.going
 
     -- the instruction is passed
-    passed : (graphs : List Graph) (fill : ℕ) → IsPassed image layout graph graphs fill node s t at before
+    pub passed : (graphs : List Graph) (fill : ℕ) → IsPassed image layout graph graphs fill node s t at before
     unfolding moved next-state behind
     passed graphs fill =
         let stepped = step-is image layout graph s t at before node.instr placed both is.stands in

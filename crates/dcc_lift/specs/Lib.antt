@@ -7,3 +7,4 @@ pub mod Blocks
 pub mod Sound
 pub mod Translation
 pub mod Lifted
+pub mod Demand
