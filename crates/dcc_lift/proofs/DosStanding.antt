@@ -1,5 +1,6 @@
 -- INT 21h: the machine's call and the statement that stands for it.
-use Rattle.std.proofs.Common.{◌≡◌, ◌≢◌, ℕ, ◌+◌, ◌*◌, ◌/◌, ◌%◌, ◌<◌, Bool, true, false, List, [], ◌∷◌, ◌++◌, Option, Some, None, All, Contains, refl, sym, ap, ap₂, ◌∙◌, subst, ◌⊎◌, inl, inr, arith, true≢false, eqb-true}
+use Rattle.std.proofs.Common.{◌≡◌, ◌≢◌, ℕ, ◌+◌, ◌*◌, ◌/◌, ◌%◌, ◌<◌, Bool, true, false, List, [], ◌∷◌, ◌++◌, Option, Some, None, All, Contains, refl, sym, ap, ap₂, ◌∙◌, subst, ◌⊎◌, inl, inr, lit<, eqb-true}
+use Rattle.std.proofs.lemmas.List.Elements.{All-head, All-tail}
 use Rattle.std.specs.Prelude.{if◌then◌else◌, ◌==◌, ◌||◌, slice_index}
 use Rattle.dcc_run.specs.End.{Running, Exit as ExitWith, is_over}
 use Rattle.dcc_num.specs.declared.Reg.TheVariants.{Ax, Dx}
@@ -32,8 +33,8 @@ use Rattle.dcc_lift.proofs.Standing.{BothStand, IsInstruction, IsPassed, IsLeft,
 data IsLiftedNumber : ℕ → Type 0 where
   put : IsLiftedNumber 0x02
   leave : IsLiftedNumber 0x4C
-  echo : IsLiftedNumber 0x01
-  key : IsLiftedNumber 0x08
+  echoed_key : IsLiftedNumber 0x01
+  silent_key : IsLiftedNumber 0x08
 
 either : (a b : Bool) → (a || b) ≡ true → (a ≡ true) ⊎ (b ≡ true)
 either true b e = inl refl
@@ -46,14 +47,14 @@ lifted-number n h =
       | inr rest ↦ elim (either (n == 0x4C) ((n == 0x01) || (n == 0x08)) rest) [
         | inl exits ↦ subst IsLiftedNumber (sym (eqb-true n 0x4C exits)) leave
         | inr keys ↦ elim (either (n == 0x01) (n == 0x08) keys) [
-          | inl one ↦ subst IsLiftedNumber (sym (eqb-true n 0x01 one)) echo
-          | inr eight ↦ subst IsLiftedNumber (sym (eqb-true n 0x08 eight)) key
+          | inl one ↦ subst IsLiftedNumber (sym (eqb-true n 0x01 one)) echoed_key
+          | inr eight ↦ subst IsLiftedNumber (sym (eqb-true n 0x08 eight)) silent_key
         ]
       ]
     ]
 
 -- what a run of an instruction of INT 21h leaves: it is passed, or both runs end
-data IsDone (image : Image) (layout : Layout) (graph : Graph) (graphs : List Graph) (fill : ℕ) (node : Node) (s : Machine) (t : Inner) (at : ℕ) (before : List ℕ) : Type 0 where
+pub data IsDone (image : Image) (layout : Layout) (graph : Graph) (graphs : List Graph) (fill : ℕ) (node : Node) (s : Machine) (t : Inner) (at : ℕ) (before : List ℕ) : Type 0 where
   goes_on : IsPassed image layout graph graphs fill node s t at before → IsDone image layout graph graphs fill node s t at before
   ends : IsLeft graphs fill node s t → IsDone image layout graph graphs fill node s t at before
 
@@ -183,3 +184,69 @@ module _ (image : Image) (layout : Layout) (graph : Graph) (nodes : Nodes) (plac
         inner_out = λ rest. ap (λ l. (block_step graphs fill (l ++ rest) t).out) stmts;
         none = goes 0x4C number;
       }
+
+  -- 01h and 08h, with what is left of the input
+  key-left : (echo : Bool) (input : List ℕ) → s.input ≡ input → step s ≡ with_key echo input behind → Left (step s) (keyed echo (Some (Half Ax Low)) input t)
+  unfolding behind
+  key-left echo [] e st = record {
+    memory = ap (λ u. u.memory) st;
+    segs = ap (λ u. u.segs) st;
+    ip = ap (λ u. u.ip) st;
+    running = ap (λ u. u.end) st ∙ both.running;
+    graph_is = refl;
+    block_is = refl;
+    going = both.going;
+    mirrors = subst (λ u. Mirrors u (with_value t.running.values (Half Ax Low) 0x1A)) (sym st) (taken-mirrors behind t.running.values 0x1A small (mirrors_state s behind t.running.values refl refl both.mirrors));
+    fits = fits_taking (scene_of t) (Half Ax Low) 0x1A (lit< tt) both.fits;
+    input = both.input ∙ sym (ap (λ u. u.input) st);
+    out = both.out ∙ sym (ap (λ u. u.out) st);
+    bytes = subst (All (λ byte. byte < 256)) (sym (ap (λ u. u.input) st)) both.bytes;
+    ah = refl;
+  }
+  key-left echo (byte ∷ rest) e st =
+      let bytes : All (λ b. b < 256) (byte ∷ rest) = subst (All (λ b. b < 256)) e both.bytes in
+      let echoed : List ℕ = if echo then byte ∷ [] else [] in
+      record {
+        memory = ap (λ u. u.memory) st;
+        segs = ap (λ u. u.segs) st;
+        ip = ap (λ u. u.ip) st;
+        running = ap (λ u. u.end) st ∙ both.running;
+        graph_is = refl;
+        block_is = refl;
+        going = both.going;
+        mirrors = subst (λ u. Mirrors u (with_value t.running.values (Half Ax Low) byte)) (sym st)
+          (mirrors_state (with_operand behind (Byte Ax Low) byte) (with_key echo (byte ∷ rest) behind) (with_value t.running.values (Half Ax Low) byte) refl refl
+          (taken-mirrors behind t.running.values byte small (mirrors_state s behind t.running.values refl refl both.mirrors)));
+        fits = fits_taking (scene_of t) (Half Ax Low) byte (All-head (λ b. b < 256) byte rest bytes) both.fits;
+        input = sym (ap (λ u. u.input) st);
+        out = ap (λ l. l ++ echoed) both.out ∙ sym (ap (λ u. u.out) st);
+        bytes = subst (All (λ b. b < 256)) (sym (ap (λ u. u.input) st)) (All-tail (λ b. b < 256) byte rest bytes);
+        ah = refl;
+      }
+
+  key-going : (echo : Bool) (input : List ℕ) → (keyed echo (Some (Half Ax Low)) input t).end ≡ Running
+  key-going echo [] = both.going
+  key-going echo (byte ∷ rest) = both.going
+
+  key-done : (echo : Bool) (n : ℕ) → node.number ≡ Some n → op_successors Int21 (next_of s.ip node.instr) (Some n) [] ≡ next_of s.ip node.instr ∷ []
+      → ((rest : List Stmt) → block_step graphs fill (dos_stmts (Some n) ++ rest) t ≡ (let v = keyed echo (Some (Half Ax Low)) t.input t in if is_over v.end then v else block_step graphs fill rest v))
+      → ((u : Machine) → dos_step n s.ip u ≡ with_key echo u.input u) → IsPassed image layout graph graphs fill node s t at before
+  unfolding behind
+  key-done echo n number onward runs key_is =
+      let v : Inner = keyed echo (Some (Half Ax Low)) t.input t in
+      let st : step s ≡ with_key echo t.input behind = stepped n number ∙ key_is behind ∙ ap (λ l. with_key echo l behind) (sym both.input) in
+      done n number v onward
+      (λ rest. runs rest ∙ ap (λ e. if is_over e then v else block_step graphs fill rest v) (key-going echo t.input))
+      (key-left echo t.input (sym both.input) st)
+
+  -- INT 21h, whatever its number
+  pub dos-done : IsDone image layout graph graphs fill node s t at before
+  dos-done =
+      let n = is.number int in
+      by-number n.0 n.1 (lifted-number n.0 n.2)
+    where
+      by-number : (n : ℕ) → node.number ≡ Some n → IsLiftedNumber n → IsDone image layout graph graphs fill node s t at before
+      by-number _ number put = goes_on (put-done number)
+      by-number _ number leave = ends (leave-done number)
+      by-number _ number echoed_key = goes_on (key-done true 0x01 number refl (λ rest. refl) (λ u. refl))
+      by-number _ number silent_key = goes_on (key-done false 0x08 number refl (λ rest. refl) (λ u. refl))
