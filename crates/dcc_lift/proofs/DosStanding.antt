@@ -116,6 +116,7 @@ module _ (image : Image) (layout : Layout) (graph : Graph) (nodes : Nodes) (plac
       record {
         to = to;
         next = v;
+        goes = contained;
         single = λ _. one;
         tested = λ test e. absurd (no-some (sym untested ∙ e));
         stand = record {

@@ -98,6 +98,7 @@ pub record BothStand (image : Image) (layout : Layout) (graph : Graph) (s : Mach
 pub record IsPassed (image : Image) (layout : Layout) (graph : Graph) (graphs : List Graph) (fill : ℕ) (node : Node) (s : Machine) (t : Inner) (at : ℕ) (before : List ℕ) : Type 0 where
   pub to : ℕ
   pub next : Inner
+  pub goes : Contains node.succ.items to
   pub single : op_test node.instr.op ≡ None → node.succ.items ≡ to ∷ []
   pub tested : (test : Expr) → op_test node.instr.op ≡ Some test → (target : ℕ) × (other : ℕ) × (node.succ.items ≡ target ∷ other ∷ []) × (to ≡ (if value_in next test == 1 then target else other))
   pub stand : BothStand image layout graph (step s) next to (at ∷ before)
@@ -247,6 +248,7 @@ module _ (laws : AreLifted) (image : Image) (layout : Layout) (graph : Graph) (n
               record {
                 to = to;
                 next = next-state;
+                goes = contained;
                 single = λ _. one;
                 tested = λ test e. absurd (no-some (sym none ∙ e));
                 stand = goes-to to stepped ip contained;
@@ -263,6 +265,7 @@ module _ (laws : AreLifted) (image : Image) (layout : Layout) (graph : Graph) (n
               record {
                 to = to;
                 next = next-state;
+                goes = contained;
                 single = λ none. absurd (no-some (sym none ∙ some));
                 tested = λ other_test e. (x.0, behind.ip, two, goes ∙ ap (λ test'. if value_in next-state test' == 1 then x.0 else behind.ip) (some-same (sym some ∙ e)));
                 stand = goes-to to stepped ip contained;
