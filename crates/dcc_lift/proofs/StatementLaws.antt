@@ -1,14 +1,14 @@
 -- The statements of an instruction are well formed, no expression in them is deeper than 7, and all but those of INT 21h set
 -- locations.
-use Rattle.std.proofs.Common.{◌≡◌, ℕ, zero, suc, ◌+◌, ◌%◌, ◌/◌, ◌<◌, ◌≤◌, Bool, true, false, ◌&&◌, ◌||◌, not, List, [], ◌∷◌, ◌++◌, refl, sym, ◌∙◌, ap, subst, true≢false, leb-true, arith}
-use Rattle.std.specs.Prelude.{Option, Some, None, ◌==◌, nat_le, nat_lt, if◌then◌else◌}
+use Rattle.std.proofs.Common.{◌≡◌, ℕ, zero, suc, ◌+◌, ◌%◌, ◌/◌, ◌<◌, ◌≤◌, Bool, true, false, ◌&&◌, ◌||◌, not, List, [], ◌∷◌, ◌++◌, refl, sym, ◌∙◌, ap, subst, true≢false, leb-true, eqb-true, arith}
+use Rattle.std.specs.Prelude.{option_to_list, Option, Some, None, ◌==◌, nat_le, nat_lt, if◌then◌else◌}
 use Rattle.std.specs.List.{list_all}
 use Rattle.std.proofs.lemmas.Bool.Decides.{nat_tests}
 use Rattle.std.proofs.lemmas.List.Folds.{list_all-append}
 use Rattle.dcc_num.specs.declared.Width.{Width}
 use Rattle.dcc_num.specs.declared.Width.TheVariants.{Byte as byte_width, Word as word_width}
 use Rattle.dcc_num.specs.declared.Reg.{Reg}
-use Rattle.dcc_num.specs.declared.Reg.TheVariants.{Cx}
+use Rattle.dcc_num.specs.declared.Reg.TheVariants.{Ax, Cx, Dx}
 use Rattle.dcc_num.specs.declared.Half.TheVariants.{Low, High}
 use Rattle.dcc_num.specs.declared.FlagName.TheVariants.{Zf}
 use Rattle.dcc_num.specs.declared.Half.{Half as HalfName}
@@ -32,14 +32,14 @@ use Rattle.dcc_prog.specs.WellFormed.{IsOperand, AreOperands, IsOperation}
 use Rattle.dcc_ir.specs.declared.syntax.Loc.{Loc}
 use Rattle.dcc_ir.specs.declared.syntax.Loc.TheVariants.{Half}
 use Rattle.dcc_ir.specs.declared.syntax.BinOp.TheVariants.{And as AndOp}
-use Rattle.dcc_ir.specs.Tree.{Expr, Const, Binary, Stmt, Set}
+use Rattle.dcc_ir.specs.Tree.{Expr, Const, Get, Binary, Stmt, Set, Dos}
 use Rattle.dcc_ir.specs.Location.{location_width}
 use Rattle.dcc_ir.specs.Value.{width_of}
 use Rattle.dcc_ir.specs.WellFormed.{is_location, is_expr, is_expr_of, is_stmt}
 use Rattle.dcc_ir.specs.Measure.{depth_of}
 use Rattle.dcc_lift.specs.Temporaries.{temporary_bits, left_place, right_place}
 use Rattle.dcc_lift.specs.Expressions.{operand_expr, condition, goes_round, flag, negated, is_zero, word_of}
-use Rattle.dcc_lift.specs.Statements.{taking, alu_working, alu_storing, alu_stmts, unary_stmts, shift_stmts, mov_stmts, xchg_stmts, plain_stmts, counting, op_stmts, op_test}
+use Rattle.dcc_lift.specs.Statements.{taking, alu_working, alu_storing, alu_stmts, unary_stmts, shift_stmts, mov_stmts, xchg_stmts, plain_stmts, counting, dos_stmts, op_stmts, op_test}
 use Rattle.dcc_lift.specs.Liftable.{is_register, is_source, is_lifted_unary, is_liftable}
 
 -- Tests.
@@ -330,3 +330,52 @@ test-sound (LoopE target) test e = let same : Binary AndOp 1 (flag Zf) goes_roun
 test-sound (LoopNe target) test e = let same : Binary AndOp 1 (negated (flag Zf)) goes_round ≡ test = cc in rw (← same) refl
 test-sound (Jcxz target) test e = let same : is_zero word_width (word_of Cx) ≡ test = cc in rw (← same) refl
 test-sound op test e = cc
+
+-- The statements of a whole operation, those of INT 21h too.
+
+-- a sound statement, or a DOS call that is well formed and whose argument is at most 7 deep
+abbrev pub is_sound_stmt : Stmt → Bool
+is_sound_stmt (Set location e) = is_sound (Set location e)
+is_sound_stmt (Dos number place argument) =
+    is_stmt temporary_bits (Dos number place argument) && list_all (λ e. nat_le (depth_of e) 7) (option_to_list argument)
+is_sound_stmt stmt = false
+
+pub record AreSound (stmts : List Stmt) : Type 0 where
+  pub each : list_all is_sound_stmt stmts ≡ true
+
+sets-sound : (stmts : List Stmt) → are_sound stmts ≡ true → AreSound stmts
+sets-sound [] h = record { each = refl }
+sets-sound (Set location e ∷ stmts) h =
+    let p = parts (is_sound (Set location e)) (are_sound stmts) h in
+    record { each = both (is_sound (Set location e)) (list_all is_sound_stmt stmts) p.0 (sets-sound stmts p.1).each }
+sets-sound (stmt ∷ stmts) h = absurd (true≢false (sym h))
+
+by_test : (b : Bool) (stmts others : List Stmt) → (b ≡ true → AreSound stmts) → AreSound others → AreSound (if b then stmts else others)
+by_test true stmts others p q = p refl
+by_test false stmts others p q = q
+
+-- a test of a number tells it
+at_number : (n m : ℕ) (stmts : ℕ → List Stmt) → AreSound (stmts m) → n == m ≡ true → AreSound (stmts n)
+at_number n m stmts p e = subst (λ k. AreSound (stmts k)) (sym (eqb-true n m e)) p
+
+at_either : (n m k : ℕ) (stmts : ℕ → List Stmt) → AreSound (stmts m) → AreSound (stmts k) → (n == m) || (n == k) ≡ true → AreSound (stmts n)
+at_either n m k stmts p q e =
+    let cases : (b : Bool) → n == m ≡ b → b || (n == k) ≡ true → AreSound (stmts n) = λ b. elim b as (λ b. n == m ≡ b → b || (n == k) ≡ true → AreSound (stmts n)) [
+      | true ↦ λ f _. at_number n m stmts p f
+      | false ↦ λ _ f. at_number n k stmts q f
+    ] in
+    cases (n == m) refl e
+
+dos-sound : (number : Option ℕ) → AreSound (dos_stmts number)
+dos-sound None = record { each = refl }
+dos-sound (Some n) =
+    let writes : ℕ → List Stmt = λ k. Dos k None (Some (Get (Half Dx Low))) ∷ [] in
+    let ends : ℕ → List Stmt = λ k. Dos k None (Some (Get (Half Ax Low))) ∷ [] in
+    let reads : ℕ → List Stmt = λ k. Dos k (Some (Half Ax Low)) None ∷ [] in
+    let reading = by_test ((n == 0x01) || (n == 0x08)) (reads n) [] (at_either n 0x01 0x08 reads (record { each = refl }) (record { each = refl })) (record { each = refl }) in
+    let ending = by_test (n == 0x4C) (ends n) _ (at_number n 0x4C ends (record { each = refl })) reading in
+    by_test (n == 0x02) (writes n) _ (at_number n 0x02 writes (record { each = refl })) ending
+
+pub stmts-sound : (op : Op) (number : Option ℕ) → is_liftable op ≡ true → IsOperation op → AreSound (op_stmts op number)
+stmts-sound Int21 number lifted well = dos-sound number
+stmts-sound op number lifted well = sets-sound (op_stmts op number) (op-sound op number lifted well (λ e. cc))
