@@ -1,10 +1,12 @@
 -- The statements of an instruction are well formed, no expression in them is deeper than 7, and all but those of INT 21h set
 -- locations.
 use Rattle.std.proofs.Common.{◌≡◌, ℕ, zero, suc, ◌+◌, ◌%◌, ◌/◌, ◌<◌, ◌≤◌, Bool, true, false, ◌&&◌, ◌||◌, not, List, [], ◌∷◌, ◌++◌, refl, sym, ◌∙◌, ap, subst, true≢false, leb-true, eqb-true, arith}
-use Rattle.std.specs.Prelude.{option_to_list, Option, Some, None, ◌==◌, nat_le, nat_lt, if◌then◌else◌}
+use Rattle.std.specs.Prelude.{All, flat_map, option_to_list, Option, Some, None, ◌==◌, nat_le, nat_lt, if◌then◌else◌}
 use Rattle.std.specs.List.{list_all}
 use Rattle.std.proofs.lemmas.Bool.Decides.{nat_tests}
 use Rattle.std.proofs.lemmas.List.Folds.{list_all-append}
+use Rattle.std.proofs.lemmas.List.Elements.{All-nil, All-cons, All-head, All-tail, All-append}
+use Rattle.dcc_run.specs.End.{Running, is_over}
 use Rattle.dcc_num.specs.declared.Width.{Width}
 use Rattle.dcc_num.specs.declared.Width.TheVariants.{Byte as byte_width, Word as word_width}
 use Rattle.dcc_num.specs.declared.Reg.{Reg}
@@ -18,7 +20,7 @@ use Rattle.dcc_prog.specs.declared.instr.Alu.TheVariants.{Add, Or, Adc, Sbb, And
 use Rattle.dcc_prog.specs.declared.instr.Shift.{Shift}
 use Rattle.dcc_prog.specs.declared.instr.Shift.TheVariants.{Rol, Ror, Rcl, Rcr, Shl, Shr, Sar}
 use Rattle.dcc_prog.specs.declared.instr.Unary.{Unary}
-use Rattle.dcc_prog.specs.declared.instr.Unary.TheVariants.{Inc, Dec, Neg, Not, Mul, Imul, Div, Idiv}
+use Rattle.dcc_prog.specs.declared.instr.Unary.TheVariants.{Inc, Dec, Neg, Not, Mul, Imul, Div as DivOp, Idiv}
 use Rattle.dcc_prog.specs.declared.instr.Cond.{Cond}
 use Rattle.dcc_prog.specs.declared.instr.Cond.TheVariants.{O, No, B, Ae, Z, Nz, Be, A, S, Ns, L, Ge, Le, G}
 use Rattle.dcc_prog.specs.declared.instr.Plain.{Plain}
@@ -32,14 +34,18 @@ use Rattle.dcc_prog.specs.WellFormed.{IsOperand, AreOperands, IsOperation}
 use Rattle.dcc_ir.specs.declared.syntax.Loc.{Loc}
 use Rattle.dcc_ir.specs.declared.syntax.Loc.TheVariants.{Half}
 use Rattle.dcc_ir.specs.declared.syntax.BinOp.TheVariants.{And as AndOp}
-use Rattle.dcc_ir.specs.Tree.{Expr, Const, Get, Binary, Stmt, Set, Dos}
+use Rattle.dcc_ir.specs.Tree.{Expr, Const, Get, Binary, Stmt, Set, Fetch, Store, Div, Call as CallStmt, Dos, Graph, Program}
 use Rattle.dcc_ir.specs.Location.{location_width}
 use Rattle.dcc_ir.specs.Value.{width_of}
-use Rattle.dcc_ir.specs.WellFormed.{is_location, is_expr, is_expr_of, is_stmt}
+use Rattle.dcc_ir.specs.WellFormed.{is_location, is_expr_of, is_stmt, IsCalling}
+use Rattle.dcc_ir.specs.Use.{exprs_of}
+use Rattle.dcc_ir.specs.Keeps.{calls_of}
+use Rattle.dcc_ir.specs.Run.{State, scene_of, value_in, setting, block_step}
 use Rattle.dcc_ir.specs.Measure.{depth_of}
 use Rattle.dcc_lift.specs.Temporaries.{temporary_bits, left_place, right_place}
 use Rattle.dcc_lift.specs.Expressions.{operand_expr, condition, goes_round, flag, negated, is_zero, word_of}
 use Rattle.dcc_lift.specs.Statements.{taking, alu_working, alu_storing, alu_stmts, unary_stmts, shift_stmts, mov_stmts, xchg_stmts, plain_stmts, counting, dos_stmts, op_stmts, op_test}
+use Rattle.dcc_lift.specs.Mirrors.{executed}
 use Rattle.dcc_lift.specs.Liftable.{is_register, is_source, is_lifted_unary, is_liftable}
 
 -- Tests.
@@ -72,8 +78,8 @@ is_sound stmt = false
 abbrev pub are_sound : List Stmt → Bool
 are_sound stmts = list_all is_sound stmts
 
-sound-append : (stmts others : List Stmt) → are_sound stmts ≡ true → are_sound others ≡ true → are_sound (stmts ++ others) ≡ true
-sound-append stmts others p q = list_all-append is_sound stmts others ∙ both (are_sound stmts) (are_sound others) p q
+sets-append : (stmts others : List Stmt) → are_sound stmts ≡ true → are_sound others ≡ true → are_sound (stmts ++ others) ≡ true
+sets-append stmts others p q = list_all-append is_sound stmts others ∙ both (are_sound stmts) (are_sound others) p q
 
 -- Pieces that stand whatever the operands are.
 
@@ -126,7 +132,7 @@ unary_word-sound Neg r = refl
 unary_word-sound Not r = refl
 unary_word-sound Mul r = refl
 unary_word-sound Imul r = refl
-unary_word-sound Div r = refl
+unary_word-sound DivOp r = refl
 unary_word-sound Idiv r = refl
 
 unary_byte-sound : (operation : Unary) (r : Reg) (half : HalfName) → are_sound (unary_stmts operation byte_width (Byte r half)) ≡ true
@@ -136,7 +142,7 @@ unary_byte-sound Neg r half = refl
 unary_byte-sound Not r half = refl
 unary_byte-sound Mul r half = refl
 unary_byte-sound Imul r half = refl
-unary_byte-sound Div r half = refl
+unary_byte-sound DivOp r half = refl
 unary_byte-sound Idiv r half = refl
 
 shift_word-sound : (operation : Shift) (r : Reg) (by_cl : Bool) → are_sound (shift_stmts operation word_width (Word r) by_cl) ≡ true
@@ -249,8 +255,8 @@ alu-sound operation a b s t well =
     let first = source-sound a (register-source a s) well.first in
     let second = subst (λ v. is_sound_expr 2 (bits_of v) (operand_expr b) ≡ true) (sym well.widths) (source-sound b t well.second) in
     let taken = taking-sound w (operand_expr a) (operand_expr b) first second in
-    let worked = sound-append (alu_working operation w) (alu_storing operation a) (alu_working-sound operation w) (alu_storing-sound operation a s) in
-    sound-append (taking w (operand_expr a) (operand_expr b)) (alu_working operation w ++ alu_storing operation a) taken worked
+    let worked = sets-append (alu_working operation w) (alu_storing operation a) (alu_working-sound operation w) (alu_storing-sound operation a s) in
+    sets-append (taking w (operand_expr a) (operand_expr b)) (alu_working operation w ++ alu_storing operation a) taken worked
 
 unary-sound : (operation : Unary) (a : Operand) → is_register a ≡ true → are_sound (unary_stmts operation (operand_width a) a) ≡ true
 unary-sound operation (Word r) s = unary_word-sound operation r
@@ -379,3 +385,122 @@ dos-sound (Some n) =
 pub stmts-sound : (op : Op) (number : Option ℕ) → is_liftable op ≡ true → IsOperation op → AreSound (op_stmts op number)
 stmts-sound Int21 number lifted well = dos-sound number
 stmts-sound op number lifted well = sets-sound (op_stmts op number) (op-sound op number lifted well (λ e. cc))
+
+-- What soundness gives.
+
+sound-well : (stmt : Stmt) → is_sound_stmt stmt ≡ true → is_stmt temporary_bits stmt ≡ true
+sound-well (Set location e) h =
+    let width = location_width temporary_bits location in
+    let p = parts (is_location temporary_bits location) (is_sound_expr 7 width e) h in
+    let q = parts (is_expr_of temporary_bits width e) (nat_le (depth_of e) 7) p.1 in
+    both (is_location temporary_bits location) (is_expr_of temporary_bits width e) p.0 q.0
+sound-well (Dos number place argument) h =
+    (parts (is_stmt temporary_bits (Dos number place argument)) (list_all (λ e. nat_le (depth_of e) 7) (option_to_list argument)) h).0
+sound-well stmt h = absurd (true≢false (sym h))
+
+pub sound-append : (stmts others : List Stmt) → AreSound stmts → AreSound others → AreSound (stmts ++ others)
+sound-append stmts others p q = record {
+  each =
+      list_all-append is_sound_stmt stmts others
+      ∙ both (list_all is_sound_stmt stmts) (list_all is_sound_stmt others) p.each q.each;
+}
+
+sound-tail : (stmt : Stmt) (stmts : List Stmt) → AreSound (stmt ∷ stmts) → AreSound stmts
+sound-tail stmt stmts p = record { each = (parts (is_sound_stmt stmt) (list_all is_sound_stmt stmts) p.each).1 }
+
+sound-head : (stmt : Stmt) (stmts : List Stmt) → AreSound (stmt ∷ stmts) → is_sound_stmt stmt ≡ true
+sound-head stmt stmts p = (parts (is_sound_stmt stmt) (list_all is_sound_stmt stmts) p.each).0
+
+-- they are well formed
+pub well_formed : (stmts : List Stmt) → AreSound stmts → list_all (is_stmt temporary_bits) stmts ≡ true
+well_formed [] p = refl
+well_formed (stmt ∷ stmts) p =
+    both (is_stmt temporary_bits stmt) (list_all (is_stmt temporary_bits) stmts) (sound-well stmt (sound-head stmt stmts p)) (well_formed stmts (sound-tail stmt stmts p))
+
+sound-calling : (p : Program) (graph : Graph) (stmt : Stmt) → is_sound_stmt stmt ≡ true → IsCalling p graph stmt
+sound-calling p graph (CallStmt results entry arguments depth) h = absurd (true≢false (sym h))
+sound-calling p graph stmt h = tt
+
+-- none is a call
+pub calls_agree : (p : Program) (graph : Graph) (stmts : List Stmt) → AreSound stmts → All (IsCalling p graph) stmts
+calls_agree p graph [] h = All-nil (IsCalling p graph)
+calls_agree p graph (stmt ∷ stmts) h =
+    All-cons (IsCalling p graph) stmt stmts (sound-calling p graph stmt (sound-head stmt stmts h)) (calls_agree p graph stmts (sound-tail stmt stmts h))
+
+sound-uncalling : (stmt : Stmt) → is_sound_stmt stmt ≡ true → calls_of stmt ≡ []
+sound-uncalling (CallStmt results entry arguments depth) h = absurd (true≢false (sym h))
+sound-uncalling stmt h = refl
+
+pub no_calls : (stmts : List Stmt) → AreSound stmts → flat_map calls_of stmts ≡ []
+no_calls [] h = refl
+no_calls (stmt ∷ stmts) h =
+    let here = sound-uncalling stmt (sound-head stmt stmts h) in
+    let rest = no_calls stmts (sound-tail stmt stmts h) in
+    ap (λ calls. calls ++ flat_map calls_of stmts) here ∙ rest
+
+-- no expression of some is deeper
+abbrev pub AreShallow : List Expr → Type 0
+AreShallow es = All (λ e. depth_of e ≤ 7) es
+
+shallow-list : (es : List Expr) → list_all (λ e. nat_le (depth_of e) 7) es ≡ true → AreShallow es
+shallow-list [] h = All-nil (λ e. depth_of e ≤ 7)
+shallow-list (e ∷ es) h =
+    let p = parts (nat_le (depth_of e) 7) (list_all (λ e. nat_le (depth_of e) 7) es) h in
+    All-cons (λ e. depth_of e ≤ 7) e es (leb-true (depth_of e) 7 p.0) (shallow-list es p.1)
+
+sound-shallow : (stmt : Stmt) → is_sound_stmt stmt ≡ true → AreShallow (exprs_of stmt)
+sound-shallow (Set location e) h =
+    let width = location_width temporary_bits location in
+    let p = parts (is_location temporary_bits location) (is_sound_expr 7 width e) h in
+    let q = parts (is_expr_of temporary_bits width e) (nat_le (depth_of e) 7) p.1 in
+    All-cons (λ e. depth_of e ≤ 7) e [] (leb-true (depth_of e) 7 q.1) (All-nil (λ e. depth_of e ≤ 7))
+sound-shallow (Dos number place argument) h =
+    shallow-list (option_to_list argument) (parts (is_stmt temporary_bits (Dos number place argument)) (list_all (λ e. nat_le (depth_of e) 7) (option_to_list argument)) h).1
+sound-shallow stmt h = absurd (true≢false (sym h))
+
+pub shallow : (stmts : List Stmt) → AreSound stmts → AreShallow (flat_map exprs_of stmts)
+shallow [] h = All-nil (λ e. depth_of e ≤ 7)
+shallow (stmt ∷ stmts) h =
+    All-append (λ e. depth_of e ≤ 7) (exprs_of stmt) (flat_map exprs_of stmts) (sound-shallow stmt (sound-head stmt stmts h)) (shallow stmts (sound-tail stmt stmts h))
+
+-- the test is well formed, and no deeper
+pub test-well : (op : Op) (test : Expr) → op_test op ≡ Some test → is_expr_of temporary_bits 1 test ≡ true
+test-well op test e = (parts (is_expr_of temporary_bits 1 test) (nat_le (depth_of test) 7) (test-sound op test e)).0
+
+pub test-shallow : (op : Op) (test : Expr) → op_test op ≡ Some test → depth_of test ≤ 7
+test-shallow op test e = leb-true (depth_of test) 7 (parts (is_expr_of temporary_bits 1 test) (nat_le (depth_of test) 7) (test-sound op test e)).1
+
+-- Statements that set locations.
+
+abbrev pub IsSet : Stmt → Type 0
+IsSet (Set location e) = Unit {0}
+IsSet stmt = ⊥
+
+are_sound-sets : (stmts : List Stmt) → are_sound stmts ≡ true → All IsSet stmts
+are_sound-sets [] h = All-nil IsSet
+are_sound-sets (Set location e ∷ stmts) h =
+    All-cons IsSet (Set location e) stmts tt (are_sound-sets stmts (parts (is_sound (Set location e)) (are_sound stmts) h).1)
+are_sound-sets (stmt ∷ stmts) h = absurd (true≢false (sym h))
+
+-- all operations but INT 21h
+pub op-sets : (op : Op) (number : Option ℕ) → is_liftable op ≡ true → IsOperation op → ¬ (op ≡ Int21) → All IsSet (op_stmts op number)
+op-sets op number lifted well other = are_sound-sets (op_stmts op number) (op-sound op number lifted well other)
+
+-- the state after these statements
+abbrev pub after_sets : List Stmt → State → State
+after_sets stmts t = record t { running = record t.running { values = (executed stmts (scene_of t)).values } }
+
+-- a block that goes on runs them all
+pub sets-step : (graphs : List Graph) (fill : ℕ) (stmts rest : List Stmt) (t : State) → All IsSet stmts → t.end ≡ Running
+    → block_step graphs fill (stmts ++ rest) t ≡ block_step graphs fill rest (after_sets stmts t)
+sets-step graphs fill [] rest t sets runs = refl
+sets-step graphs fill (Set location e ∷ stmts) rest t sets runs =
+    let next = setting location (value_in t e) t in
+    let goes : is_over t.end ≡ false = ap is_over runs in
+    ap (λ b. if b then next else block_step graphs fill (stmts ++ rest) next) goes
+    ∙ sets-step graphs fill stmts rest next (All-tail IsSet (Set location e) stmts sets) runs
+sets-step graphs fill (Fetch location width address ∷ stmts) rest t sets runs = absurd (All-head IsSet (Fetch location width address) stmts sets)
+sets-step graphs fill (Store width address e ∷ stmts) rest t sets runs = absurd (All-head IsSet (Store width address e) stmts sets)
+sets-step graphs fill (Div location e ∷ stmts) rest t sets runs = absurd (All-head IsSet (Div location e) stmts sets)
+sets-step graphs fill (CallStmt results entry arguments depth ∷ stmts) rest t sets runs = absurd (All-head IsSet (CallStmt results entry arguments depth) stmts sets)
+sets-step graphs fill (Dos number place argument ∷ stmts) rest t sets runs = absurd (All-head IsSet (Dos number place argument) stmts sets)
