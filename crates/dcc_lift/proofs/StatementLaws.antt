@@ -1,7 +1,7 @@
 -- The statements of an instruction are well formed, no expression in them is deeper than 7, and all but those of INT 21h set
 -- locations.
 use Rattle.std.proofs.Common.{◌≡◌, ℕ, zero, suc, ◌+◌, ◌%◌, ◌/◌, ◌<◌, ◌≤◌, Bool, true, false, ◌&&◌, ◌||◌, not, List, [], ◌∷◌, ◌++◌, refl, sym, ◌∙◌, ap, subst, true≢false, leb-true, eqb-true, arith}
-use Rattle.std.specs.Prelude.{All, flat_map, option_to_list, Option, Some, None, ◌==◌, nat_le, nat_lt, if◌then◌else◌}
+use Rattle.std.specs.Prelude.{slice_index, All, flat_map, option_to_list, Option, Some, None, ◌==◌, nat_le, nat_lt, if◌then◌else◌}
 use Rattle.std.specs.List.{list_all}
 use Rattle.std.proofs.lemmas.Bool.Decides.{nat_tests}
 use Rattle.std.proofs.lemmas.List.Folds.{list_all-append}
@@ -12,7 +12,10 @@ use Rattle.dcc_num.specs.declared.Width.TheVariants.{Byte as byte_width, Word as
 use Rattle.dcc_num.specs.declared.Reg.{Reg}
 use Rattle.dcc_num.specs.declared.Reg.TheVariants.{Ax, Cx, Dx}
 use Rattle.dcc_num.specs.declared.Half.TheVariants.{Low, High}
-use Rattle.dcc_num.specs.declared.FlagName.TheVariants.{Zf}
+use Rattle.dcc_num.specs.declared.FlagName.{FlagName}
+use Rattle.dcc_num.specs.declared.FlagName.TheVariants.{Cf, Zf, Sf, Of}
+use Rattle.dcc_prog.specs.declared.image.Image.{Image}
+use Rattle.dcc_prog.specs.declared.procedure.Layout.{Layout}
 use Rattle.dcc_num.specs.declared.Half.{Half as HalfName}
 use Rattle.dcc_num.specs.Numbers.{bits_of, limit_of}
 use Rattle.dcc_prog.specs.declared.instr.Alu.{Alu}
@@ -29,14 +32,14 @@ use Rattle.dcc_prog.specs.declared.instr.Operand.{Operand}
 use Rattle.dcc_prog.specs.declared.instr.Operand.TheVariants.{Word, Byte, Seg, Mem, Const as Constant}
 use Rattle.dcc_prog.specs.declared.instr.Op.{Op}
 use Rattle.dcc_prog.specs.declared.instr.Op.TheVariants.{Alu as AluOp, Unary as UnaryOp, Shift as ShiftOp, Mov, Xchg, Lea, Push, Pop, Plain as PlainOp, Jump, Branch, Loop, LoopE, LoopNe, Jcxz, Table, Call, Ret, Int21}
-use Rattle.dcc_prog.specs.Machine.{operand_width}
+use Rattle.dcc_prog.specs.Machine.{reg_number, operand_width}
 use Rattle.dcc_prog.specs.WellFormed.{IsOperand, AreOperands, IsOperation}
 use Rattle.dcc_ir.specs.declared.syntax.Loc.{Loc}
 use Rattle.dcc_ir.specs.declared.syntax.Loc.TheVariants.{Half}
 use Rattle.dcc_ir.specs.declared.syntax.BinOp.TheVariants.{And as AndOp}
 use Rattle.dcc_ir.specs.Tree.{Expr, Const, Get, Binary, Stmt, Set, Fetch, Store, Div, Call as CallStmt, Dos, Graph, Program}
-use Rattle.dcc_ir.specs.Location.{location_width}
-use Rattle.dcc_ir.specs.Value.{width_of}
+use Rattle.dcc_ir.specs.Location.{location_width, with_value}
+use Rattle.dcc_ir.specs.Value.{Scene, value_of}
 use Rattle.dcc_ir.specs.WellFormed.{is_location, is_expr_of, is_stmt, IsCalling}
 use Rattle.dcc_ir.specs.Use.{exprs_of}
 use Rattle.dcc_ir.specs.Keeps.{calls_of}
@@ -47,6 +50,8 @@ use Rattle.dcc_lift.specs.Expressions.{operand_expr, condition, goes_round, flag
 use Rattle.dcc_lift.specs.Statements.{taking, alu_working, alu_storing, alu_stmts, unary_stmts, shift_stmts, mov_stmts, xchg_stmts, plain_stmts, counting, dos_stmts, op_stmts, op_test}
 use Rattle.dcc_lift.specs.Mirrors.{executed}
 use Rattle.dcc_lift.specs.Liftable.{is_register, is_source, is_lifted_unary, is_liftable}
+use Rattle.dcc_lift.specs.Blocks.{Nodes}
+use Rattle.dcc_lift.specs.Translation.{general_registers, register_starting, flag_starting, flags_starting, prelude_block}
 
 -- Tests.
 
@@ -504,3 +509,44 @@ sets-step graphs fill (Store width address e ∷ stmts) rest t sets runs = absur
 sets-step graphs fill (Div location e ∷ stmts) rest t sets runs = absurd (All-head IsSet (Div location e) stmts sets)
 sets-step graphs fill (CallStmt results entry arguments depth ∷ stmts) rest t sets runs = absurd (All-head IsSet (CallStmt results entry arguments depth) stmts sets)
 sets-step graphs fill (Dos number place argument ∷ stmts) rest t sets runs = absurd (All-head IsSet (Dos number place argument) stmts sets)
+
+-- what expressions read after them is what they read in that state
+pub scene-after : (stmts : List Stmt) (t : State) → scene_of (after_sets stmts t) ≡ executed stmts (scene_of t)
+scene-after [] t = refl
+scene-after (Set location e ∷ stmts) t = scene-after stmts (setting location (value_in t e) t)
+scene-after (stmt ∷ stmts) t = scene-after stmts t
+
+pub executed-append : (stmts others : List Stmt) (scene : Scene) → executed (stmts ++ others) scene ≡ executed others (executed stmts scene)
+executed-append [] others scene = refl
+executed-append (Set location e ∷ stmts) others scene =
+    executed-append stmts others (record scene { values = with_value scene.values location (value_of scene e) })
+executed-append (stmt ∷ stmts) others scene = executed-append stmts others scene
+
+-- The block of the prelude.
+
+flag_starting-sound : (f : FlagName) (set : Bool) (stmts : List Stmt) → are_sound stmts ≡ true → are_sound (flag_starting f set ∷ stmts) ≡ true
+flag_starting-sound f true stmts h = h
+flag_starting-sound f false stmts h = h
+
+registers-sound : (regs : List ℕ) (rs : List Reg) → ((i : ℕ) → slice_index regs i < 65536) → are_sound (flat_map (register_starting regs) rs) ≡ true
+registers-sound regs [] words = refl
+registers-sound regs (r ∷ rs) words =
+    let word = slice_index regs (reg_number r) in
+    let fits : word < 65536 = words (reg_number r) in
+    let here = halves-sound r (word % 256) (word / 256) (omega arith) (omega (arith, fits)) in
+    sets-append (register_starting regs r) (flat_map (register_starting regs) rs) here (registers-sound regs rs words)
+
+prelude-sound_sets : (image : Image) (layout : Layout) (nodes : Nodes) → ((i : ℕ) → slice_index layout.regs i < 65536) → are_sound (prelude_block image layout nodes).stmts ≡ true
+prelude-sound_sets image layout nodes words =
+    let flags = layout.flags in
+    let flags_sound =
+    flag_starting-sound Cf flags.cf (flag_starting Zf flags.zf ∷ flag_starting Sf flags.sf ∷ flag_starting Of flags.of ∷ [])
+    (flag_starting-sound Zf flags.zf (flag_starting Sf flags.sf ∷ flag_starting Of flags.of ∷ [])
+    (flag_starting-sound Sf flags.sf (flag_starting Of flags.of ∷ []) (flag_starting-sound Of flags.of [] refl))) in
+    sets-append (flat_map (register_starting layout.regs) general_registers) (flags_starting flags) (registers-sound layout.regs general_registers words) flags_sound
+
+pub prelude-sound : (image : Image) (layout : Layout) (nodes : Nodes) → ((i : ℕ) → slice_index layout.regs i < 65536) → AreSound (prelude_block image layout nodes).stmts
+prelude-sound image layout nodes words = sets-sound (prelude_block image layout nodes).stmts (prelude-sound_sets image layout nodes words)
+
+pub prelude-sets : (image : Image) (layout : Layout) (nodes : Nodes) → ((i : ℕ) → slice_index layout.regs i < 65536) → All IsSet (prelude_block image layout nodes).stmts
+prelude-sets image layout nodes words = are_sound-sets (prelude_block image layout nodes).stmts (prelude-sound_sets image layout nodes words)
