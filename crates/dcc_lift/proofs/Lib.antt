@@ -21,3 +21,4 @@ pub mod ContractionLaws
 pub mod Standing
 pub mod TableLaws
 pub mod StatementLaws
+pub mod ProgramLaws

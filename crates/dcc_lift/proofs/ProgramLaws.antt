@@ -1,0 +1,323 @@
+-- The program that stands for a procedure is well formed, and its expressions are at most 7 deep.
+use Rattle.std.proofs.Common.{◌≡◌, ℕ, zero, suc, ◌<◌, ◌≤◌, Bool, true, false, ◌&&◌, ◌||◌, not, List, [], ◌∷◌, ◌++◌, length, map, refl, sym, ◌∙◌, ap, subst, true≢false, eqb-true, leb-true, arith}
+use Rattle.std.specs.Prelude.{slice_get, nat_le, filter, flat_map, All, AllPairs, Contains, Option, Some, None, ◌==◌, nat_lt, if◌then◌else◌}
+use Rattle.std.specs.List.{list_any, list_all}
+use Rattle.std.proofs.lemmas.Bool.Decides.{nat_tests}
+use Rattle.std.proofs.lemmas.List.Folds.{list_all-append, list_any-append}
+use Rattle.std.proofs.lemmas.List.Elements.{All-nil, All-cons, All-head, All-tail, All-append}
+use Rattle.dcc_prog.specs.declared.procedure.Node.{Node}
+use Rattle.dcc_procs.specs.Found.{IsListed}
+use Rattle.dcc_ir.specs.Tree.{Expr, Stmt, Exit, Goto, If, Stop, Block, Graph, Program}
+use Rattle.dcc_ir.specs.WellFormed.{is_expr_of, is_stmt, is_exit, is_block, all_differ, ret_widths, all_ret_widths, IsCalling, IsGraph, IsProgram}
+use Rattle.dcc_ir.specs.Use.{exit_exprs, block_exprs, graph_exprs}
+use Rattle.dcc_ir.specs.Measure.{depth_of}
+use Rattle.dcc_lift.specs.Temporaries.{temporary_bits}
+use Rattle.dcc_lift.specs.Statements.{op_stmts, op_test, exit_to}
+use Rattle.dcc_lift.specs.Blocks.{Nodes, node_in, successors_in, edges_into, is_one, comes_from_below, joins, if_joins, onward, IsChain, leaders, place_in, block_place, stmts_at, node_exit, exit_at, last_of, IsBlockAt, AreBlocksAt}
+use Rattle.dcc_lift.specs.Lifting.{IsLiftableNode, IsLiftableProcedure}
+use Rattle.dcc_lift.proofs.StatementLaws.{is_sound_expr, AreSound, AreShallow, sound-append, stmts-sound, test-sound, well_formed, calls_agree, shallow, prelude-sound}
+
+-- Tests.
+
+both : (a b : Bool) → a ≡ true → b ≡ true → (a && b) ≡ true
+both true b p q = q
+both false b p q = p
+
+parts : (a b : Bool) → (a && b) ≡ true → (a ≡ true) × (b ≡ true)
+parts true b e = (refl, e)
+parts false b e = absurd (true≢false (sym e))
+
+neither : (a b : Bool) → (a || b) ≡ false → (a ≡ false) × (b ≡ false)
+neither true b e = absurd (true≢false e)
+neither false b e = (refl, e)
+
+both_false : (a b : Bool) → a ≡ false → b ≡ false → (a || b) ≡ false
+both_false true b p q = p
+both_false false b p q = q
+
+or_left : (a b : Bool) → a ≡ true → (a || b) ≡ true
+or_left true b p = p
+or_left false b p = absurd (true≢false (sym p))
+
+or_right : (a b : Bool) → b ≡ true → (a || b) ≡ true
+or_right true b p = refl
+or_right false b p = p
+
+not_true : (a : Bool) → not a ≡ true → a ≡ false
+not_true true h = sym h
+not_true false h = refl
+
+and_false : (a b : Bool) → b ≡ false → (a && b) ≡ false
+and_false true b p = p
+and_false false b p = refl
+
+-- a disjunction with nothing
+only : (a : Bool) → (a || false) ≡ true → a ≡ true
+only true h = refl
+only false h = h
+
+below-true : (m n : ℕ) → m < n → nat_lt m n ≡ true
+below-true m n lt = grind (arith, nat_tests)
+
+eqb-of : (m n : ℕ) → m ≡ n → m == n ≡ true
+eqb-of m n e = grind (arith, nat_tests)
+
+-- Offsets in lists.
+
+-- the list has the number
+abbrev pub is_in : List ℕ → ℕ → Bool
+is_in xs n = list_any (λ m. m == n) xs
+
+abbrev pub offsets : Nodes → List ℕ
+offsets nodes = map (λ (found : ℕ × Node). found.0) nodes
+
+same : (n : ℕ) → n == n ≡ true
+same n = grind (arith, nat_tests)
+
+-- where the list has a number, its place lies in the list
+pub place-below : (xs : List ℕ) (n : ℕ) → is_in xs n ≡ true → place_in xs n < length xs
+place-below [] n h = absurd (true≢false (sym h))
+place-below (x ∷ xs) n h =
+    let Q : Bool → Type 0 = λ b. (b || is_in xs n) ≡ true → (if b then 0 else suc (place_in xs n)) < suc (length xs) in
+    let cases : (b : Bool) → Q b = λ b. elim b as Q [ true ↦ λ _. omega arith | false ↦ λ there. let rest = place-below xs n there in omega (arith, rest) ] in
+    cases (x == n) h
+
+-- what passes a filter stays
+filter-in : (keep : ℕ → Bool) (xs : List ℕ) (n : ℕ) → keep n ≡ true → is_in xs n ≡ true → is_in (filter keep xs) n ≡ true
+filter-in keep [] n k h = h
+filter-in keep (x ∷ xs) n k h =
+    let rest = filter-in keep xs n k in
+    let Q : Bool → Bool → Type 0 = λ b c. keep x ≡ b → x == n ≡ c → (c || is_in xs n) ≡ true → is_in (if b then x ∷ filter keep xs else filter keep xs) n ≡ true in
+    let kept : (c : Bool) → Q true c = λ c. elim c as (Q true) [
+      | true ↦ λ _ e _. or_left (x == n) (is_in (filter keep xs) n) e
+      | false ↦ λ _ e there. or_right (x == n) (is_in (filter keep xs) n) (rest there)
+    ] in
+    let dropped : (c : Bool) → Q false c = λ c. elim c as (Q false) [
+      | true ↦ λ f e _. absurd (true≢false (sym k ∙ sym (ap keep (eqb-true x n e)) ∙ f))
+      | false ↦ λ _ _ there. rest there
+    ] in
+    let cases : (b c : Bool) → Q b c = λ b c. elim b as (λ b. Q b c) [ true ↦ kept c | false ↦ dropped c ] in
+    cases (keep x) (x == n) refl refl h
+
+-- what a list lacks, a part of it lacks
+filter-lacks : (test keep : ℕ → Bool) (xs : List ℕ) → list_any test xs ≡ false → list_any test (filter keep xs) ≡ false
+filter-lacks test keep [] h = h
+filter-lacks test keep (x ∷ xs) h =
+    let p = neither (test x) (list_any test xs) h in
+    let rest = filter-lacks test keep xs p.1 in
+    elim (keep x) as (λ b. list_any test (if b then x ∷ filter keep xs else filter keep xs) ≡ false) [
+      | true ↦ both_false (test x) (list_any test (filter keep xs)) p.0 rest
+      | false ↦ rest
+    ]
+
+filter-differ : (keep : ℕ → Bool) (xs : List ℕ) → all_differ xs ≡ true → all_differ (filter keep xs) ≡ true
+filter-differ keep [] h = h
+filter-differ keep (x ∷ xs) h =
+    let p = parts (not (list_any (λ m. x == m) xs)) (all_differ xs) h in
+    let rest = filter-differ keep xs p.1 in
+    let other = filter-lacks (λ m. x == m) keep xs (not_true (list_any (λ m. x == m) xs) p.0) in
+    elim (keep x) as (λ b. all_differ (if b then x ∷ filter keep xs else filter keep xs) ≡ true) [
+      | true ↦ both (not (list_any (λ m. x == m) (filter keep xs))) (all_differ (filter keep xs)) (ap not other) rest
+      | false ↦ rest
+    ]
+
+-- Nodes.
+
+placed-in : (nodes : Nodes) (k at : ℕ) (node : Node) → slice_get nodes k ≡ Some (at, node) → is_in (offsets nodes) at ≡ true
+placed-in [] k at node e = cc
+placed-in (found ∷ nodes) zero at node e =
+    let here : found ≡ (at, node) = cc in
+    let offset : found.0 ≡ at = ap (λ (x : ℕ × Node). x.0) here in
+    or_left (found.0 == at) (is_in (offsets nodes) at) (eqb-of found.0 at offset)
+placed-in (found ∷ nodes) (suc k) at node e = or_right (found.0 == at) (is_in (offsets nodes) at) (placed-in nodes k at node e)
+
+pub listed-in : (nodes : Nodes) (at : ℕ) → IsListed nodes at → is_in (offsets nodes) at ≡ true
+listed-in nodes at h = placed-in nodes h.place at h.node h.listed
+
+listed-of_in : (nodes : Nodes) (at : ℕ) → list_any (λ m. at == m) (offsets nodes) ≡ true → IsListed nodes at
+listed-of_in [] at h = absurd (true≢false (sym h))
+listed-of_in (found ∷ nodes) at h =
+    let Q : Bool → Type 0 = λ b. at == found.0 ≡ b → (b || list_any (λ m. at == m) (offsets nodes)) ≡ true → IsListed (found ∷ nodes) at in
+    let cases : (b : Bool) → Q b = λ b. elim b as Q [
+      | true ↦ λ e _. record { node = found.1; place = 0; listed = ap (λ n. Some (n, found.1)) (sym (eqb-true at found.0 e)) }
+      | false ↦ λ _ there. let rest = listed-of_in nodes at there in record { node = rest.node; place = suc rest.place; listed = rest.listed }
+    ] in
+    cases (at == found.0) refl h
+
+above-lack : (at : ℕ) (nodes : Nodes) → All (λ (b : ℕ × Node). at < b.0) nodes → list_any (λ m. at == m) (offsets nodes) ≡ false
+above-lack at [] h = refl
+above-lack at (found ∷ nodes) h =
+    let here : at < found.0 = All-head (λ (b : ℕ × Node). at < b.0) found nodes h in
+    let rest = above-lack at nodes (All-tail (λ (b : ℕ × Node). at < b.0) found nodes h) in
+    both_false (at == found.0) (list_any (λ m. at == m) (offsets nodes)) (grind (arith, nat_tests)) rest
+
+ascending-differ : (nodes : Nodes) → AllPairs (λ (a b : ℕ × Node). a.0 < b.0) nodes → all_differ (offsets nodes) ≡ true
+ascending-differ [] h = refl
+ascending-differ (found ∷ nodes) h =
+    let above : All (λ (b : ℕ × Node). found.0 < b.0) nodes = λ k d lt. h 0 (suc k) d (omega arith) (omega (arith, lt)) in
+    let rest : AllPairs (λ (a b : ℕ × Node). a.0 < b.0) nodes = λ i j d lt within. h (suc i) (suc j) d (omega (arith, lt)) (omega (arith, within)) in
+    both (not (list_any (λ m. found.0 == m) (offsets nodes))) (all_differ (offsets nodes)) (ap not (above-lack found.0 nodes above)) (ascending-differ nodes rest)
+
+-- the node at an offset has what all have
+node_in-has : (P : ℕ × Node → Type 0) (nodes : Nodes) (at : ℕ) (node : Node) → All P nodes → node_in nodes at ≡ Some node → P (at, node)
+node_in-has P [] at node h e = cc
+node_in-has P (found ∷ nodes) at node h e =
+    let Q : Bool → Type 0 = λ b. found.0 == at ≡ b → (if b then Some found.1 else node_in nodes at) ≡ Some node → P (at, node) in
+    let cases : (b : Bool) → Q b = λ b. elim b as Q [
+      | true ↦ λ f g.
+          let one : found.1 ≡ node = cc in
+          let at_is : found.0 ≡ at = eqb-true found.0 at f in
+          let pair : (found.0, found.1) ≡ (at, node) = cc in
+          subst P pair (All-head P found nodes h)
+      | false ↦ λ _ g. node_in-has P nodes at node (All-tail P found nodes h) g
+    ] in
+    cases (found.0 == at) refl e
+
+-- Leaders.
+
+-- the entry begins a block
+pub entry-leads : (nodes : Nodes) (entry : ℕ) → joins nodes entry entry ≡ false
+entry-leads nodes entry = ap (λ b. not b && comes_from_below nodes (edges_into nodes entry) entry) (same entry)
+
+-- an instruction that joins no block begins one, and the block has a place
+pub leader-in : (nodes : Nodes) (entry at : ℕ) → IsListed nodes at → joins nodes entry at ≡ false → is_in (leaders nodes entry) at ≡ true
+leader-in nodes entry at listed h = filter-in (λ n. not (joins nodes entry n)) (offsets nodes) at (ap not h) (listed-in nodes at listed)
+
+pub block_place-below : (nodes : Nodes) (entry at : ℕ) → IsListed nodes at → joins nodes entry at ≡ false → block_place nodes entry at < suc (length (leaders nodes entry))
+block_place-below nodes entry at listed h =
+    let below = place-below (leaders nodes entry) at (leader-in nodes entry at listed h) in omega (arith, below)
+
+-- Edges.
+
+found-in : (found : ℕ) (to : ℕ) (succ : List ℕ) → is_in succ to ≡ true → is_in (map (λ _. found) (filter (λ next. next == to) succ)) found ≡ true
+found-in found to [] h = absurd (true≢false (sym h))
+found-in found to (next ∷ succ) h =
+    let Q : Bool → Type 0 = λ b. (b || is_in succ to) ≡ true → is_in (map (λ _. found) (if b then next ∷ filter (λ next. next == to) succ else filter (λ next. next == to) succ)) found ≡ true in
+    let cases : (b : Bool) → Q b = λ b. elim b as Q [
+      | true ↦ λ _. or_left (found == found) (is_in (map (λ _. found) (filter (λ next. next == to) succ)) found) (same found)
+      | false ↦ λ there. found-in found to succ there
+    ] in
+    cases (next == to) h
+
+-- an instruction is among those from which edges lead to its successors
+pub edge-in : (nodes : Nodes) (from to : ℕ) (node : Node) → node_in nodes from ≡ Some node → is_in node.succ.items to ≡ true → is_in (edges_into nodes to) from ≡ true
+edge-in [] from to node e h = cc
+edge-in (found ∷ nodes) from to node e h =
+    let here = map (λ _. found.0) (filter (λ next. next == to) found.1.succ.items) in
+    let joined : is_in (here ++ edges_into nodes to) from ≡ (is_in here from || is_in (edges_into nodes to) from) = list_any-append (λ m. m == from) here (edges_into nodes to) in
+    let Q : Bool → Type 0 = λ b. found.0 == from ≡ b → (if b then Some found.1 else node_in nodes from) ≡ Some node → (is_in here from || is_in (edges_into nodes to) from) ≡ true in
+    let cases : (b : Bool) → Q b = λ b. elim b as Q [
+      | true ↦ λ f g.
+          let one : found.1 ≡ node = cc in
+          let leads : is_in found.1.succ.items to ≡ true = subst (λ (n : Node). is_in n.succ.items to ≡ true) (sym one) h in
+          let at_is : found.0 ≡ from = eqb-true found.0 from f in
+          or_left (is_in here from) (is_in (edges_into nodes to) from) (subst (λ n. is_in here n ≡ true) at_is (found-in found.0 to found.1.succ.items leads))
+      | false ↦ λ _ g. or_right (is_in here from) (is_in (edges_into nodes to) from) (edge-in nodes from to node g h)
+    ] in
+    joined ∙ cases (found.0 == from) refl e
+
+-- Successors of the last instruction of a block.
+
+-- where the instruction goes on at two places or more, none of them joins its block
+two-lead : (nodes : Nodes) (entry from to : ℕ) (edges : List ℕ) → is_in edges from ≡ true → is_one (successors_in (node_in nodes from)) ≡ false → comes_from_below nodes edges to ≡ false
+two-lead nodes entry from to [] h two = refl
+two-lead nodes entry from to (other ∷ []) h two =
+    let at_is : other ≡ from = eqb-true other from (only (other == from) h) in
+    let here : is_one (successors_in (node_in nodes other)) ≡ false = subst (λ n. is_one (successors_in (node_in nodes n)) ≡ false) (sym at_is) two in
+    and_false (nat_lt other to) (is_one (successors_in (node_in nodes other))) here
+two-lead nodes entry from to (x ∷ y ∷ edges) h two = refl
+
+ended : (joined : Bool) (next : ℕ) → (if joined then Some next else None) ≡ None → joined ≡ false
+ended true next h = cc
+ended false next h = refl
+
+listed-lead :
+    (nodes : Nodes) (entry at to : ℕ) (succ : List ℕ) → successors_in (node_in nodes at) ≡ succ → if_joins nodes entry succ ≡ None
+    → is_in succ to ≡ true → is_in (edges_into nodes to) at ≡ true → joins nodes entry to ≡ false
+listed-lead nodes entry at to [] told ends h edge = absurd (true≢false (sym h))
+listed-lead nodes entry at to (next ∷ []) told ends h edge =
+    let to_is : next ≡ to = eqb-true next to (only (next == to) h) in
+    subst (λ n. joins nodes entry n ≡ false) to_is (ended (joins nodes entry next) next ends)
+listed-lead nodes entry at to (x ∷ y ∷ succ) told ends h edge =
+    and_false (not (to == entry)) (comes_from_below nodes (edges_into nodes to) to) (two-lead nodes entry at to (edges_into nodes to) edge (ap is_one told))
+
+-- the successors of an instruction that ends a block begin blocks
+pub successor-leads :
+    (nodes : Nodes) (entry at to : ℕ) (node : Node) → node_in nodes at ≡ Some node → onward nodes entry at ≡ None
+    → is_in node.succ.items to ≡ true → joins nodes entry to ≡ false
+successor-leads nodes entry at to node e ends h =
+    let told : successors_in (node_in nodes at) ≡ node.succ.items = ap successors_in e in
+    listed-lead nodes entry at to node.succ.items told (sym (ap (if_joins nodes entry) told) ∙ ends) h (edge-in nodes at to node e h)
+
+-- a block ends where no instruction joins it
+pub chain-ends : (nodes : Nodes) (entry at : ℕ) (rest : List ℕ) → IsChain nodes entry at rest → onward nodes entry (last_of at rest) ≡ None
+chain-ends nodes entry at [] chain = chain
+chain-ends nodes entry at (next ∷ rest) chain = chain-ends nodes entry next rest chain.1
+
+-- Ends of blocks.
+
+-- an end in a graph of so many blocks that gives nothing back, and whose test is at most 7 deep
+pub record IsGoodExit (count : ℕ) (exit : Exit) : Type 0 where
+  pub well : is_exit temporary_bits count exit ≡ true
+  pub gives_nothing : ret_widths temporary_bits exit ≡ []
+  pub shallow : AreShallow (exit_exprs exit)
+
+stop-good : (count : ℕ) → IsGoodExit count Stop
+stop-good count = record { well = refl; gives_nothing = refl; shallow = All-nil (λ e. depth_of e ≤ 7) }
+
+goto-good : (count place : ℕ) → place < count → IsGoodExit count (Goto place)
+goto-good count place lt = record {
+  well = below-true place count lt;
+  gives_nothing = refl;
+  shallow = All-nil (λ e. depth_of e ≤ 7);
+}
+
+if-good : (count : ℕ) (test : Expr) (one other : ℕ) → is_sound_expr 7 1 test ≡ true → one < count → other < count → IsGoodExit count (If test one other)
+if-good count test one other sound first second =
+    let p = parts (is_expr_of temporary_bits 1 test) (nat_le (depth_of test) 7) sound in
+    record {
+      well =
+          both (is_expr_of temporary_bits 1 test && nat_lt one count) (nat_lt other count)
+          (both (is_expr_of temporary_bits 1 test) (nat_lt one count) p.0 (below-true one count first))
+          (below-true other count second);
+      gives_nothing = refl;
+      shallow = All-cons (λ e. depth_of e ≤ 7) test [] (leb-true (depth_of test) 7 p.1) (All-nil (λ e. depth_of e ≤ 7));
+    }
+
+exit_to-good :
+    (count : ℕ) (test : Option Expr) (places : List ℕ) → ((e : Expr) → test ≡ Some e → is_sound_expr 7 1 e ≡ true)
+    → ((n : ℕ) → is_in places n ≡ true → n < count) → IsGoodExit count (exit_to test places)
+exit_to-good count None [] sound below = stop-good count
+exit_to-good count (Some e) [] sound below = stop-good count
+exit_to-good count None (next ∷ []) sound below = goto-good count next (below next (or_left (next == next) false (same next)))
+exit_to-good count (Some e) (next ∷ []) sound below = goto-good count next (below next (or_left (next == next) false (same next)))
+exit_to-good count None (one ∷ other ∷ []) sound below = stop-good count
+exit_to-good count (Some e) (one ∷ other ∷ []) sound below =
+    let first = below one (or_left (one == one) (is_in (other ∷ []) one) (same one)) in
+    let second = below other (or_right (one == other) (is_in (other ∷ []) other) (or_left (other == other) false (same other))) in
+    if-good count e one other (sound e refl) first second
+exit_to-good count None (x ∷ y ∷ z ∷ places) sound below = stop-good count
+exit_to-good count (Some e) (x ∷ y ∷ z ∷ places) sound below = stop-good count
+
+-- what is in a list after a change comes from what was in it
+mapped-in : (change : ℕ → ℕ) (xs : List ℕ) (n : ℕ) → is_in (map change xs) n ≡ true → (m : ℕ) × (is_in xs m ≡ true) × (change m ≡ n)
+mapped-in change [] n h = absurd (true≢false (sym h))
+mapped-in change (x ∷ xs) n h =
+    let Found : Type 0 = (m : ℕ) × (is_in (x ∷ xs) m ≡ true) × (change m ≡ n) in
+    let Q : Bool → Type 0 = λ b. change x == n ≡ b → (b || is_in (map change xs) n) ≡ true → Found in
+    let cases : (b : Bool) → Q b = λ b. elim b as Q [
+      | true ↦ λ e _. (x, or_left (x == x) (is_in xs x) (same x), eqb-true (change x) n e)
+      | false ↦ λ _ there. let rest = mapped-in change xs n there in (rest.0, or_right (x == rest.0) (is_in xs rest.0) rest.1, rest.2)
+    ] in
+    cases (change x == n) refl h
+
+-- a list has what all in it have
+in-has : (P : ℕ → Type 0) (xs : List ℕ) (n : ℕ) → All P xs → is_in xs n ≡ true → P n
+in-has P [] n all h = absurd (true≢false (sym h))
+in-has P (x ∷ xs) n all h =
+    let Q : Bool → Type 0 = λ b. x == n ≡ b → (b || is_in xs n) ≡ true → P n in
+    let cases : (b : Bool) → Q b = λ b. elim b as Q [
+      | true ↦ λ e _. subst P (eqb-true x n e) (All-head P x xs all)
+      | false ↦ λ _ there. in-has P xs n (All-tail P x xs all) there
+    ] in
+    cases (x == n) refl h
