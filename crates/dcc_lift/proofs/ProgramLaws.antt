@@ -3,17 +3,22 @@ use Rattle.std.proofs.Common.{◌≡◌, ℕ, zero, suc, ◌<◌, ◌≤◌, Boo
 use Rattle.std.specs.Prelude.{slice_get, nat_le, filter, flat_map, All, AllPairs, Contains, Option, Some, None, ◌==◌, nat_lt, if◌then◌else◌}
 use Rattle.std.specs.List.{list_any, list_all}
 use Rattle.std.proofs.lemmas.Bool.Decides.{nat_tests}
-use Rattle.std.proofs.lemmas.List.Folds.{list_all-append, list_any-append}
+use Rattle.std.proofs.lemmas.List.Folds.{list_any-append}
 use Rattle.std.proofs.lemmas.List.Elements.{All-nil, All-cons, All-head, All-tail, All-append}
+use Rattle.dcc_prog.specs.declared.image.Image.{Image}
+use Rattle.dcc_prog.specs.declared.procedure.Layout.{Layout}
 use Rattle.dcc_prog.specs.declared.procedure.Node.{Node}
+use Rattle.dcc_prog.specs.declared.procedure.Proc.{Proc}
 use Rattle.dcc_procs.specs.Found.{IsListed}
-use Rattle.dcc_ir.specs.Tree.{Expr, Stmt, Exit, Goto, If, Stop, Block, Graph, Program}
-use Rattle.dcc_ir.specs.WellFormed.{is_expr_of, is_stmt, is_exit, is_block, all_differ, ret_widths, all_ret_widths, IsCalling, IsGraph, IsProgram}
-use Rattle.dcc_ir.specs.Use.{exit_exprs, block_exprs, graph_exprs}
+use Rattle.dcc_ir.specs.Tree.{Expr, Exit, Goto, If, Stop, Block, Graph, Program}
+use Rattle.dcc_ir.specs.WellFormed.{is_expr_of, is_stmt, is_exit, is_block, all_differ, ret_widths, all_ret_widths, is_param_list, IsCalling, IsGraph, IsProgram}
+use Rattle.dcc_ir.specs.Use.{exprs_of, exit_exprs, block_exprs}
 use Rattle.dcc_ir.specs.Measure.{depth_of}
 use Rattle.dcc_lift.specs.Temporaries.{temporary_bits}
-use Rattle.dcc_lift.specs.Statements.{op_stmts, op_test, exit_to}
-use Rattle.dcc_lift.specs.Blocks.{Nodes, node_in, successors_in, edges_into, is_one, comes_from_below, joins, if_joins, onward, IsChain, leaders, place_in, block_place, stmts_at, node_exit, exit_at, last_of, IsBlockAt, AreBlocksAt}
+use Rattle.dcc_lift.specs.Statements.{op_test, exit_to}
+use Rattle.dcc_lift.specs.Blocks.{Nodes, node_in, node_stmts, successors_in, edges_into, is_one, comes_from_below, joins, if_joins, onward, IsChain, leaders, place_in, block_place, stmts_at, node_exit, exit_at, last_of, IsBlockAt, AreBlocksAt}
+use Rattle.dcc_lift.specs.Translation.{prelude_block, data_image, IsTranslation}
+use Rattle.dcc_lift.specs.Lifted.{IsShallow}
 use Rattle.dcc_lift.specs.Lifting.{IsLiftableNode, IsLiftableProcedure}
 use Rattle.dcc_lift.proofs.StatementLaws.{is_sound_expr, AreSound, AreShallow, sound-append, stmts-sound, test-sound, well_formed, calls_agree, shallow, prelude-sound}
 
@@ -58,6 +63,10 @@ only false h = h
 
 below-true : (m n : ℕ) → m < n → nat_lt m n ≡ true
 below-true m n lt = grind (arith, nat_tests)
+
+untrue : (a : Bool) → (a ≡ true → ⊥) → a ≡ false
+untrue true h = absurd (h refl)
+untrue false h = refl
 
 eqb-of : (m n : ℕ) → m ≡ n → m == n ≡ true
 eqb-of m n e = grind (arith, nat_tests)
@@ -321,3 +330,222 @@ in-has P (x ∷ xs) n all h =
       | false ↦ λ _ there. in-has P xs n (All-tail P x xs all) there
     ] in
     cases (x == n) refl h
+
+-- Blocks.
+
+-- the premises on the instructions, as they are used here
+pub record AreLiftable (nodes : Nodes) : Type 0 where
+  pub each : All IsLiftableNode nodes
+  pub closed : All (λ (found : ℕ × Node). All (IsListed nodes) found.1.succ.items) nodes
+
+-- the statements of an instruction are sound
+pub node-sound : (nodes : Nodes) (at : ℕ) → AreLiftable nodes → AreSound (stmts_at nodes at)
+node-sound nodes at good =
+    let Q : Option Node → Type 0 = λ node. node_in nodes at ≡ node → AreSound (node_stmts node) in
+    let cases : (node : Option Node) → Q node = λ node. elim node as Q [
+      | None ↦ λ _. record { each = refl }
+      | Some node ↦ λ e. let one = node_in-has IsLiftableNode nodes at node good.each e in stmts-sound node.instr.op None one.lifted one.operation
+    ] in
+    cases (node_in nodes at) refl
+
+chain-sound : (nodes : Nodes) (places : List ℕ) → AreLiftable nodes → AreSound (flat_map (stmts_at nodes) places)
+chain-sound nodes [] good = record { each = refl }
+chain-sound nodes (at ∷ places) good = sound-append (stmts_at nodes at) (flat_map (stmts_at nodes) places) (node-sound nodes at good) (chain-sound nodes places good)
+
+-- a block that ends with an instruction ends well
+exit-good : (nodes : Nodes) (entry at : ℕ) → AreLiftable nodes → onward nodes entry at ≡ None → IsGoodExit (suc (length (leaders nodes entry))) (exit_at nodes entry at)
+exit-good nodes entry at good ends =
+    let count = suc (length (leaders nodes entry)) in
+    let Q : Option Node → Type 0 = λ node. node_in nodes at ≡ node → IsGoodExit count (node_exit nodes entry node) in
+    let cases : (node : Option Node) → Q node = λ node. elim node as Q [
+      | None ↦ λ _. stop-good count
+      | Some node ↦ λ e.
+          let listed : All (IsListed nodes) node.succ.items = node_in-has (λ (found : ℕ × Node). All (IsListed nodes) found.1.succ.items) nodes at node good.closed e in
+          let below : (n : ℕ) → is_in (map (block_place nodes entry) node.succ.items) n ≡ true → n < count = λ n there.
+          let from = mapped-in (block_place nodes entry) node.succ.items n there in
+          let leads = successor-leads nodes entry at from.0 node e ends from.1 in
+          subst (λ k. k < count) from.2 (block_place-below nodes entry from.0 (in-has (IsListed nodes) node.succ.items from.0 listed from.1) leads) in
+          exit_to-good count (op_test node.instr.op) (map (block_place nodes entry) node.succ.items) (test-sound node.instr.op) below
+    ] in
+    cases (node_in nodes at) refl
+
+pub record IsGoodBlock (count : ℕ) (block : Block) : Type 0 where
+  pub stmts : AreSound block.stmts
+  pub exit : IsGoodExit count block.exit
+
+block-good : (nodes : Nodes) (entry at : ℕ) (block : Block) → AreLiftable nodes → IsBlockAt nodes entry at block → IsGoodBlock (suc (length (leaders nodes entry))) block
+block-good nodes entry at block good is = record {
+  stmts = subst AreSound (sym is.stmts_are) (chain-sound nodes (at ∷ is.rest) good);
+  exit =
+      subst (IsGoodExit (suc (length (leaders nodes entry)))) (sym is.exit_is)
+      (exit-good nodes entry (last_of at is.rest) good (chain-ends nodes entry at is.rest is.chain));
+}
+
+abbrev AreGood : ℕ → List Block → Type 0
+AreGood count [] = Unit {0}
+AreGood count (block ∷ blocks) = IsGoodBlock count block × AreGood count blocks
+
+blocks-good : (nodes : Nodes) (entry : ℕ) (places : List ℕ) (blocks : List Block) → AreLiftable nodes → AreBlocksAt nodes entry places blocks → AreGood (suc (length (leaders nodes entry))) blocks
+blocks-good nodes entry [] [] good are = tt
+blocks-good nodes entry [] (block ∷ blocks) good are = absurd are
+blocks-good nodes entry (at ∷ places) [] good are = absurd are
+blocks-good nodes entry (at ∷ places) (block ∷ blocks) good are = (block-good nodes entry at block good are.0, blocks-good nodes entry places blocks good are.1)
+
+blocks-addresses : (nodes : Nodes) (entry : ℕ) (places : List ℕ) (blocks : List Block) → AreBlocksAt nodes entry places blocks → map (λ (b : Block). b.at) blocks ≡ places
+blocks-addresses nodes entry [] [] are = refl
+blocks-addresses nodes entry [] (block ∷ blocks) are = absurd are
+blocks-addresses nodes entry (at ∷ places) [] are = absurd are
+blocks-addresses nodes entry (at ∷ places) (block ∷ blocks) are =
+    let here = are.0.at_is in
+    let rest = blocks-addresses nodes entry places blocks are.1 in
+    rw here (ap (λ xs. at ∷ xs) rest)
+
+blocks-length : (nodes : Nodes) (entry : ℕ) (places : List ℕ) (blocks : List Block) → AreBlocksAt nodes entry places blocks → length blocks ≡ length places
+blocks-length nodes entry [] [] are = refl
+blocks-length nodes entry [] (block ∷ blocks) are = absurd are
+blocks-length nodes entry (at ∷ places) [] are = absurd are
+blocks-length nodes entry (at ∷ places) (block ∷ blocks) are = ap suc (blocks-length nodes entry places blocks are.1)
+
+-- What good blocks give.
+
+good-well : (count : ℕ) (blocks : List Block) → AreGood count blocks → list_all (is_block temporary_bits count) blocks ≡ true
+good-well count [] good = refl
+good-well count (block ∷ blocks) good =
+    both (is_block temporary_bits count block) (list_all (is_block temporary_bits count) blocks)
+    (both (list_all (is_stmt temporary_bits) block.stmts) (is_exit temporary_bits count block.exit) (well_formed block.stmts good.0.stmts) good.0.exit.well)
+    (good-well count blocks good.1)
+
+good-calls : (count : ℕ) (p : Program) (graph : Graph) (blocks : List Block) → AreGood count blocks → All (λ (b : Block). All (IsCalling p graph) b.stmts) blocks
+good-calls count p graph [] good = All-nil (λ (b : Block). All (IsCalling p graph) b.stmts)
+good-calls count p graph (block ∷ blocks) good =
+    All-cons (λ (b : Block). All (IsCalling p graph) b.stmts) block blocks (calls_agree p graph block.stmts good.0.stmts) (good-calls count p graph blocks good.1)
+
+good-rets : (count : ℕ) (blocks : List Block) → AreGood count blocks → flat_map (λ (b : Block). ret_widths temporary_bits b.exit) blocks ≡ []
+good-rets count [] good = refl
+good-rets count (block ∷ blocks) good =
+    ap (λ widths. widths ++ flat_map (λ (b : Block). ret_widths temporary_bits b.exit) blocks) good.0.exit.gives_nothing
+    ∙ good-rets count blocks good.1
+
+good-shallow : (count : ℕ) (blocks : List Block) → AreGood count blocks → AreShallow (flat_map block_exprs blocks)
+good-shallow count [] good = All-nil (λ e. depth_of e ≤ 7)
+good-shallow count (block ∷ blocks) good =
+    let here =
+    All-append (λ e. depth_of e ≤ 7) (flat_map exprs_of block.stmts) (exit_exprs block.exit) (shallow block.stmts good.0.stmts) good.0.exit.shallow in
+    All-append (λ e. depth_of e ≤ 7) (block_exprs block) (flat_map block_exprs blocks) here (good-shallow count blocks good.1)
+
+-- The program.
+
+-- the graph of these blocks behind that of the prelude
+abbrev pub lifted_graph : Image → Layout → Nodes → List Block → Graph
+lifted_graph image layout nodes blocks = record {
+  entry = layout.start_ip;
+  params = [];
+  local = 0;
+  pushed = 0;
+  blocks = prelude_block image layout nodes ∷ blocks;
+  bits = temporary_bits;
+}
+
+abbrev pub lifted_program : Image → Layout → Nodes → List Block → Program
+lifted_program image layout nodes blocks = record {
+  graphs = lifted_graph image layout nodes blocks ∷ [];
+  image = data_image image layout;
+  lo = layout.lo;
+  hi = layout.hi;
+}
+
+-- a list without members has none
+none-contained : (xs : List (List ℕ)) (x : List ℕ) → xs ≡ [] → Contains xs x → ⊥
+none-contained [] x e h = omega (arith, h.1)
+none-contained (y ∷ xs) x e h = cc
+
+-- the blocks of the whole graph are good
+all-good :
+    (image : Image) (layout : Layout) (start : Proc) (blocks : List Block) → IsLiftableProcedure image layout start
+    → AreBlocksAt start.nodes.entries layout.start_ip (leaders start.nodes.entries layout.start_ip) blocks
+    → AreGood (suc (length (leaders start.nodes.entries layout.start_ip))) (prelude_block image layout start.nodes.entries ∷ blocks)
+all-good image layout start blocks given are =
+    let nodes = start.nodes.entries in
+    let entry = layout.start_ip in
+    let good : AreLiftable nodes = record { each = given.nodes; closed = given.closed } in
+    let count = suc (length (leaders nodes entry)) in
+    let first : IsGoodBlock count (prelude_block image layout nodes) = record {
+      stmts = prelude-sound image layout nodes given.words;
+      exit = goto-good count (block_place nodes entry entry) (block_place-below nodes entry entry given.entry (entry-leads nodes entry));
+    } in
+    (first, blocks-good nodes entry (leaders nodes entry) blocks good are)
+
+graph-addresses :
+    (image : Image) (layout : Layout) (start : Proc) (blocks : List Block) → IsLiftableProcedure image layout start
+    → AreBlocksAt start.nodes.entries layout.start_ip (leaders start.nodes.entries layout.start_ip) blocks
+    → all_differ (map (λ (b : Block). b.at) (prelude_block image layout start.nodes.entries ∷ blocks)) ≡ true
+graph-addresses image layout start blocks given are =
+    let nodes = start.nodes.entries in
+    let entry = layout.start_ip in
+    let keep : ℕ → Bool = λ n. not (joins nodes entry n) in
+    let nowhere : list_any (λ m. image.ip == m) (offsets nodes) ≡ false = untrue (list_any (λ m. image.ip == m) (offsets nodes)) (λ there. given.outside (listed-of_in nodes image.ip there)) in
+    let outside = filter-lacks (λ m. image.ip == m) keep (offsets nodes) nowhere in
+    let differ = filter-differ keep (offsets nodes) (ascending-differ nodes given.ascending) in
+    let whole : all_differ (image.ip ∷ leaders nodes entry) ≡ true = both (not (list_any (λ m. image.ip == m) (leaders nodes entry))) (all_differ (leaders nodes entry)) (ap not outside) differ in
+    subst (λ xs. all_differ (image.ip ∷ xs) ≡ true) (sym (blocks-addresses nodes entry (leaders nodes entry) blocks are)) whole
+
+graph-well :
+    (image : Image) (layout : Layout) (start : Proc) (blocks : List Block) → IsLiftableProcedure image layout start
+    → AreBlocksAt start.nodes.entries layout.start_ip (leaders start.nodes.entries layout.start_ip) blocks
+    → IsGraph (lifted_graph image layout start.nodes.entries blocks)
+graph-well image layout start blocks given are =
+    let nodes = start.nodes.entries in
+    let entry = layout.start_ip in
+    let all = prelude_block image layout nodes ∷ blocks in
+    let well = good-well (suc (length (leaders nodes entry))) all (all-good image layout start blocks given are) in
+    record {
+      begins = omega arith;
+      addresses = graph-addresses image layout start blocks given are;
+      bits = refl;
+      params = refl;
+      blocks = subst (λ n. list_all (is_block temporary_bits (suc n)) all ≡ true) (sym (blocks-length nodes entry (leaders nodes entry) blocks are)) well;
+    }
+
+-- of a list of one
+one_all : {X : Type 0} (P : X → Type 0) (x : X) → P x → All P (x ∷ [])
+one_all P x h = All-cons P x [] h (All-nil P)
+
+program-well :
+    (image : Image) (layout : Layout) (start : Proc) (blocks : List Block) → IsLiftableProcedure image layout start
+    → AreBlocksAt start.nodes.entries layout.start_ip (leaders start.nodes.entries layout.start_ip) blocks
+    → IsProgram (lifted_program image layout start.nodes.entries blocks)
+program-well image layout start blocks given are =
+    let nodes = start.nodes.entries in
+    let p = lifted_program image layout nodes blocks in
+    let graph = lifted_graph image layout nodes blocks in
+    let count = suc (length (leaders nodes layout.start_ip)) in
+    let good = all-good image layout start blocks given are in
+    let none : all_ret_widths graph ≡ [] = good-rets count graph.blocks good in
+    record {
+      begins = omega arith;
+      entries = refl;
+      graphs = one_all IsGraph graph (graph-well image layout start blocks given are);
+      params = one_all (λ (g : Graph). is_param_list g.bits g.params ≡ true) graph refl;
+      start = one_all (λ (g : Graph). g.params ≡ []) graph refl;
+      start_rets =
+          one_all (λ (g : Graph). All (λ widths. widths ≡ []) (all_ret_widths g)) graph
+          (subst (λ xs. All (λ widths. widths ≡ []) xs) (sym none) (All-nil (λ widths. widths ≡ [])));
+      rets =
+          one_all (λ (g : Graph). (a b : List ℕ) → Contains (all_ret_widths g) a → Contains (all_ret_widths g) b → a ≡ b) graph
+          (λ a b there _. absurd (none-contained (all_ret_widths graph) a none there));
+      calls = one_all (λ (g : Graph). All (λ (b : Block). All (IsCalling p g) b.stmts) g.blocks) graph (good-calls count p graph graph.blocks good);
+    }
+
+-- the program that stands for a procedure is well formed
+pub translation-well_formed : (image : Image) (layout : Layout) (start : Proc) (p : Program) → IsLiftableProcedure image layout start → IsTranslation image layout start p → IsProgram p
+translation-well_formed image layout start p given is =
+    subst IsProgram (sym is.program_is) (program-well image layout start is.blocks given is.blocks_are)
+
+-- and no expression of it is deeper than 7
+pub translation-shallow : (image : Image) (layout : Layout) (start : Proc) (p : Program) → IsLiftableProcedure image layout start → IsTranslation image layout start p → All (IsShallow 7) p.graphs
+translation-shallow image layout start p given is =
+    let nodes = start.nodes.entries in
+    let graph = lifted_graph image layout nodes is.blocks in
+    let good = all-good image layout start is.blocks given is.blocks_are in
+    let low : All (IsShallow 7) (graph ∷ []) = one_all (IsShallow 7) graph (good-shallow (suc (length (leaders nodes layout.start_ip))) graph.blocks good) in
+    subst (λ (q : Program). All (IsShallow 7) q.graphs) (sym is.program_is) low

@@ -1,6 +1,6 @@
 -- The statements of an instruction are well formed, no expression in them is deeper than 7, and all but those of INT 21h set
 -- locations.
-use Rattle.std.proofs.Common.{◌≡◌, ℕ, zero, suc, ◌+◌, ◌%◌, ◌/◌, ◌<◌, ◌≤◌, Bool, true, false, ◌&&◌, ◌||◌, not, List, [], ◌∷◌, ◌++◌, refl, sym, ◌∙◌, ap, subst, true≢false, leb-true, eqb-true, arith}
+use Rattle.std.proofs.Common.{◌≡◌, ℕ, ◌%◌, ◌/◌, ◌<◌, ◌≤◌, Bool, true, false, ◌&&◌, ◌||◌, List, [], ◌∷◌, ◌++◌, refl, sym, ◌∙◌, ap, subst, true≢false, leb-true, eqb-true, arith}
 use Rattle.std.specs.Prelude.{slice_index, All, flat_map, option_to_list, Option, Some, None, ◌==◌, nat_le, nat_lt, if◌then◌else◌}
 use Rattle.std.specs.List.{list_all}
 use Rattle.std.proofs.lemmas.Bool.Decides.{nat_tests}
@@ -34,7 +34,6 @@ use Rattle.dcc_prog.specs.declared.instr.Op.{Op}
 use Rattle.dcc_prog.specs.declared.instr.Op.TheVariants.{Alu as AluOp, Unary as UnaryOp, Shift as ShiftOp, Mov, Xchg, Lea, Push, Pop, Plain as PlainOp, Jump, Branch, Loop, LoopE, LoopNe, Jcxz, Table, Call, Ret, Int21}
 use Rattle.dcc_prog.specs.Machine.{reg_number, operand_width}
 use Rattle.dcc_prog.specs.WellFormed.{IsOperand, AreOperands, IsOperation}
-use Rattle.dcc_ir.specs.declared.syntax.Loc.{Loc}
 use Rattle.dcc_ir.specs.declared.syntax.Loc.TheVariants.{Half}
 use Rattle.dcc_ir.specs.declared.syntax.BinOp.TheVariants.{And as AndOp}
 use Rattle.dcc_ir.specs.Tree.{Expr, Const, Get, Binary, Stmt, Set, Fetch, Store, Div, Call as CallStmt, Dos, Graph, Program}
@@ -45,9 +44,9 @@ use Rattle.dcc_ir.specs.Use.{exprs_of}
 use Rattle.dcc_ir.specs.Keeps.{calls_of}
 use Rattle.dcc_ir.specs.Run.{State, scene_of, value_in, setting, block_step}
 use Rattle.dcc_ir.specs.Measure.{depth_of}
-use Rattle.dcc_lift.specs.Temporaries.{temporary_bits, left_place, right_place}
+use Rattle.dcc_lift.specs.Temporaries.{temporary_bits}
 use Rattle.dcc_lift.specs.Expressions.{operand_expr, condition, goes_round, flag, negated, is_zero, word_of}
-use Rattle.dcc_lift.specs.Statements.{taking, alu_working, alu_storing, alu_stmts, unary_stmts, shift_stmts, mov_stmts, xchg_stmts, plain_stmts, counting, dos_stmts, op_stmts, op_test}
+use Rattle.dcc_lift.specs.Statements.{taking, alu_working, alu_storing, alu_stmts, unary_stmts, shift_stmts, mov_stmts, xchg_stmts, plain_stmts, dos_stmts, op_stmts, op_test}
 use Rattle.dcc_lift.specs.Mirrors.{executed}
 use Rattle.dcc_lift.specs.Liftable.{is_register, is_source, is_lifted_unary, is_liftable}
 use Rattle.dcc_lift.specs.Blocks.{Nodes}

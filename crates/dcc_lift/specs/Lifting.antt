@@ -1,6 +1,6 @@
 -- What a procedure is that is lifted. This stands between the search of procedures and the code: the public contract says
 -- what the program is to the executable.
-use Rattle.std.specs.Prelude.{◌≡◌, ◌<◌, ℕ, true, List, All, AllPairs, slice_index}
+use Rattle.std.specs.Prelude.{◌≡◌, ◌<◌, ℕ, true, All, AllPairs, slice_index}
 use Rattle.dcc_prog.specs.declared.image.Image.{Image}
 use Rattle.dcc_prog.specs.declared.procedure.Layout.{Layout}
 use Rattle.dcc_prog.specs.declared.procedure.Node.{Node}
