@@ -344,7 +344,7 @@ node-sound nodes at good =
     let Q : Option Node → Type 0 = λ node. node_in nodes at ≡ node → AreSound (node_stmts node) in
     let cases : (node : Option Node) → Q node = λ node. elim node as Q [
       | None ↦ λ _. record { each = refl }
-      | Some node ↦ λ e. let one = node_in-has IsLiftableNode nodes at node good.each e in stmts-sound node.instr.op None one.lifted one.operation
+      | Some node ↦ λ e. let one = node_in-has IsLiftableNode nodes at node good.each e in stmts-sound node.instr.op node.number one.lifted one.operation
     ] in
     cases (node_in nodes at) refl
 
