@@ -22,3 +22,4 @@ pub mod Standing
 pub mod TableLaws
 pub mod StatementLaws
 pub mod ProgramLaws
+pub mod FoundLaws
