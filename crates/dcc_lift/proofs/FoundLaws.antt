@@ -1,17 +1,14 @@
 -- What is found of a program in which everything that is reached is built is lifted.
-use Rattle.std.proofs.Common.{◌≡◌, ℕ, zero, suc, ◌+◌, ◌-◌, ◌*◌, ◌%◌, ◌<◌, ◌≤◌, Bool, true, false, ◌&&◌, ◌||◌, not, List, [], ◌∷◌, length, take, drop, get_or, refl, sym, ◌∙◌, ap, subst, true≢false, eqb-true, get_or-take, get_or-drop, arith}
-use Rattle.std.specs.Prelude.{slice_get, IfSome, All, Contains, Option, Some, None, ◌==◌}
+use Rattle.std.proofs.Common.{◌≡◌, ℕ, zero, suc, ◌+◌, ◌-◌, ◌*◌, ◌<◌, ◌≤◌, Bool, true, false, ◌||◌, not, List, [], ◌∷◌, take, drop, refl, sym, ◌∙◌, ap, subst, true≢false, eqb-true, get_or-drop, arith}
+use Rattle.std.specs.Prelude.{slice_index, All, Contains, Option, Some, None, ◌==◌}
 use Rattle.std.specs.List.{list_any}
-use Rattle.std.proofs.lemmas.Bool.Decides.{nat_tests}
 use Rattle.std.proofs.lemmas.List.{drop-take, take-take}
-use Rattle.std.proofs.lemmas.List.Elements.{All-weaker, All-contains_itself, All-contains}
+use Rattle.std.proofs.lemmas.List.Elements.{All-weaker, All-contains_itself}
 use Rattle.std.proofs.lemmas.Option.{slice_get_within, get_or_from_slice_get}
 use Rattle.dcc_prog.specs.declared.image.Image.{Image}
 use Rattle.dcc_prog.specs.declared.procedure.Layout.{Layout}
 use Rattle.dcc_prog.specs.declared.procedure.Node.{Node}
 use Rattle.dcc_prog.specs.declared.procedure.Proc.{Proc}
-use Rattle.dcc_prog.specs.declared.instr.Alu.TheVariants.{Add, Sub}
-use Rattle.dcc_prog.specs.declared.instr.Shift.TheVariants.{Shl}
 use Rattle.dcc_prog.specs.declared.instr.Operand.TheVariants.{Seg}
 use Rattle.dcc_prog.specs.declared.instr.Op.{Op}
 use Rattle.dcc_prog.specs.declared.instr.Op.TheVariants.{Alu as AluOp, Shift as ShiftOp, Mov, Plain as PlainOp, Int21}
@@ -20,16 +17,14 @@ use Rattle.dcc_prog.specs.Bytes.{byte_at}
 use Rattle.dcc_prog.specs.Code.{code_of}
 use Rattle.dcc_prog.specs.Load.{load_segment}
 use Rattle.dcc_prog.specs.Table.{instruction_at}
-use Rattle.dcc_prog.specs.Layout.{is_prelude_form, writes_ds, IsFormAt, IsRun, end_of, HasLayout}
-use Rattle.dcc_prog.specs.Trail.{code_within, instruction_in, next_of, known_ah, op_successors, targets_of, instr_successors, successors, StandsAt, IsTrail, IsNode, start}
+use Rattle.dcc_prog.specs.Layout.{is_prelude_form, writes_ds, IsRun, end_of, HasLayout}
+use Rattle.dcc_prog.specs.Trail.{code_within, instruction_in, next_of, known_ah, op_successors, targets_of, instr_successors, successors, IsNode, start}
 use Rattle.dcc_prog.specs.FrameForm.{is_frame_form}
-use Rattle.dcc_prog.specs.Construct.{is_system, is_dos_number, HasAh, HasNoNumber, not_known, other_number, IsAtNode, foreign, dos_number, IsOfTrails}
-use Rattle.dcc_prog.specs.WellFormed.{IsOperation}
+use Rattle.dcc_prog.specs.Construct.{is_system, is_dos_number, HasAh, HasNoNumber, not_known, other_number, foreign, dos_number}
 use Rattle.dcc_prog.proofs.TableLaws.{instruction-prefix}
 use Rattle.dcc_prog.proofs.WellFormedLaws.{instruction-operation}
-use Rattle.dcc_procs.specs.Built.{is_unbuilt, IsUnbuiltAt, operation, string, IsNotYet}
-use Rattle.dcc_procs.specs.Found.{IsNodeFound, IsListed, IsFound, AreFound}
-use Rattle.dcc_lift.specs.Liftable.{is_liftable}
+use Rattle.dcc_procs.specs.Built.{is_unbuilt, operation, string}
+use Rattle.dcc_procs.specs.Found.{IsNodeFound, IsListed, AreFound}
 use Rattle.dcc_lift.specs.Lifting.{is_lifted_number, IsLiftableNode, IsLiftableProcedure}
 use Rattle.dcc_lift.proofs.TableLaws.{instruction-liftable}
 
@@ -78,13 +73,48 @@ lifted-number n known other = without (n == 0x01) (n == 0x02) (n == 0x08) (n == 
     without false false false true e h k = absurd (true≢false k)
     without false false false false e h k = h
 
+-- The prelude.
+
+-- what may stand in a prelude goes on to the next instruction
+form-goes_on : (op : Op) (next : ℕ) (ah : Option ℕ) (targets : List ℕ) → is_prelude_form op ≡ true → op_successors op next ah targets ≡ next ∷ []
+form-goes_on (Mov to from) next ah targets form = refl
+form-goes_on (AluOp kind a b) next ah targets form = refl
+form-goes_on (ShiftOp kind a by_cl) next ah targets form = refl
+form-goes_on (PlainOp kind) next ah targets form = refl
+form-goes_on op next ah targets form = absurd (true≢false (sym form))
+
+-- what writes DS is one of a prelude
+ds-system : (op : Op) → writes_ds op ≡ true → is_system op ≡ true
+ds-system (Mov (Seg number) from) h = refl
+ds-system op h = absurd (true≢false (sym h))
+
+end-above : (at : ℕ) (instrs : List Instr) → at ≤ end_of at instrs
+end-above at [] = omega arith
+end-above at (instr ∷ rest) = let further = end-above (at + instr.len) rest in omega (arith, further)
+
+-- an instruction of the code segment that ends within the code stands in the code
+form-within :
+    (image : Image) (layout : Layout) (at : ℕ) (instr : Instr) → instruction_at at (drop at (code_of image)) ≡ Some instr
+    → at + instr.len ≤ layout.code_end → instruction_in image layout at ≡ Some instr
+form-within image layout at instr found within =
+    let code = code_of image in
+    let more = layout.code_end - at in
+    let whole : layout.code_end ≡ at + more = omega (arith, within) in
+    let cut : drop at (take layout.code_end code) ≡ take more (drop at code) = ap (λ n. drop at (take n code)) whole ∙ drop-take at more code in
+    let same : take instr.len (drop at (take layout.code_end code)) ≡ take instr.len (drop at code) =
+    ap (take instr.len) cut ∙ take-take instr.len more (drop at code) (omega (arith, within)) in
+    instruction-prefix at (drop at code) (drop at (take layout.code_end code)) instr found same
+
 -- Nodes.
 
-module _ (image : Image) (layout : Layout) (procs : List Proc) (are : AreFound image layout procs) where
-  -- a node of the entry procedure
-  AtStart : ℕ → Type 0
-  AtStart at = IsNode image layout layout.start_ip at
+-- what is listed has what all have
+listed-has : (P : ℕ × Node → Type 0) (nodes : List (ℕ × Node)) (at : ℕ) → All P nodes → (listed : IsListed nodes at) → P (at, listed.node)
+listed-has P nodes at all listed =
+    let one : ℕ × Node = (at, listed.node) in
+    let within = slice_get_within nodes listed.place one listed.listed in
+    subst P (get_or_from_slice_get nodes listed.place one one listed.listed) (all listed.place one within)
 
+module _ (image : Image) (layout : Layout) (procs : List Proc) (are : AreFound image layout procs) where
   node-built : (at : ℕ) (instr : Instr) → IsNode image layout layout.start_ip at → instruction_in image layout at ≡ Some instr → is_unbuilt instr.op ≡ false
   node-built at instr node e = untrue (is_unbuilt instr.op) (λ h. are.built at (record { node = node; unbuilt = operation (instr, e, refl) h }))
 
@@ -116,8 +146,8 @@ module _ (image : Image) (layout : Layout) (procs : List Proc) (are : AreFound i
       let ah : HasAh image layout layout.start_ip at (Some n) = record { before = node.before; trail = node.trail; stands = (instr, e, dos); ah_is = told } in
       let known : is_dos_number n ≡ true = true-of (is_dos_number n) (λ unknown. node-told at instr node e (other_number ah unknown)) in
       let other : n == 0x09 ≡ false = untrue (n == 0x09) (λ nine.
-          let is_nine : n ≡ 0x09 = eqb-true n 0x09 nine in
-          are.built at (record { node = node; unbuilt = string (subst (λ k. HasAh image layout layout.start_ip at (Some k)) is_nine ah) })) in
+      let is_nine : n ≡ 0x09 = eqb-true n 0x09 nine in
+      are.built at (record { node = node; unbuilt = string (subst (λ k. HasAh image layout layout.start_ip at (Some k)) is_nine ah) })) in
       lifted-number n known other
 
   node-liftable :
@@ -143,3 +173,58 @@ module _ (image : Image) (layout : Layout) (procs : List Proc) (are : AreFound i
       All-weaker (Contains succ) (IsListed nodes)
       (λ to there. every to (record { before = found.0 ∷ before; trail = (subst (λ xs. Contains xs to) told there, is.node.trail) }))
       succ (All-contains_itself succ)
+
+  -- a node at an instruction of the prelude leads to the one that writes DS
+  prelude-unreached :
+      (at : ℕ) (prelude : List Instr) → IsRun (code_of image) at prelude → end_of at prelude ≤ layout.code_end
+      → end_of at prelude < 65536 → list_any (λ (i : Instr). writes_ds i.op) prelude ≡ true → ¬ IsNode image layout layout.start_ip at
+  prelude-unreached at [] run within small writes node = true≢false (sym writes)
+  prelude-unreached at (instr ∷ rest) run within small writes node =
+      let above = end-above (at + instr.len) rest in
+      let here : instruction_in image layout at ≡ Some instr = form-within image layout at instr run.0.found (omega (arith, above, within)) in
+      let next_is : next_of at instr ≡ at + instr.len = omega (arith, above, small) in
+      let goes : successors image layout (at ∷ node.before) ≡ (at + instr.len) ∷ [] =
+      ap (instr_successors image layout at node.before) here
+      ∙ form-goes_on instr.op (next_of at instr) (known_ah image layout node.before) (targets_of image layout instr.op node.before) run.0.form
+      ∙ ap (λ n. n ∷ []) next_is in
+      let there : Contains (successors image layout (at ∷ node.before)) (at + instr.len) = subst (λ xs. Contains xs (at + instr.len)) (sym goes) (0, omega arith, refl) in
+      let next : IsNode image layout layout.start_ip (at + instr.len) = record { before = at ∷ node.before; trail = (there, node.trail) } in
+      let Q : Bool → Type 0 = λ b. writes_ds instr.op ≡ b → (b || list_any (λ (i : Instr). writes_ds i.op) rest) ≡ true → ⊥ in
+      let cases : (b : Bool) → Q b = λ b. elim b as Q [
+        | true ↦ λ e _. true≢false (sym (ds-system instr.op e) ∙ node-regular at instr node here)
+        | false ↦ λ _ further. prelude-unreached (at + instr.len) rest run.1 within small further next
+      ] in
+      cases (writes_ds instr.op) refl writes
+
+  -- the program's first instruction is not reached again
+  start-unreached : HasLayout image layout → layout.start_ip < 65536 → ¬ IsNode image layout layout.start_ip image.ip
+  start-unreached has small =
+      let ends : layout.start_ip ≡ end_of image.ip has.prelude = has.left.start_ip in
+      let within : end_of image.ip has.prelude ≤ layout.code_end = omega (arith, ends, has.small.has_code) in
+      prelude-unreached image.ip has.prelude has.is_prelude.run within (omega (arith, ends, small)) has.ds_written
+
+  -- what is found is lifted
+  pub found-liftable :
+      HasLayout image layout → layout.start_ip < 65536 → ((i : ℕ) → byte_at image.bytes.items i < 256)
+      → ((i : ℕ) → slice_index layout.regs i < 65536) → IsLiftableProcedure image layout are.start
+  found-liftable has small bytes words =
+      let proc = are.start in
+      let nodes = proc.nodes.entries in
+      let found : All (IsNodeFound image layout layout.start_ip) nodes = subst (λ e. All (IsNodeFound image layout e) nodes) are.entry are.found.nodes in
+      let every : (at : ℕ) → IsNode image layout layout.start_ip at → IsListed nodes at =
+      subst (λ e. (at : ℕ) → IsNode image layout e at → IsListed nodes at) are.entry are.found.every in
+      let code = code-bytes image layout bytes in
+      let closed : All (λ (one : ℕ × Node). All (IsListed nodes) one.1.succ.items) nodes =
+      All-weaker (IsNodeFound image layout layout.start_ip) (λ (one : ℕ × Node). All (IsListed nodes) one.1.succ.items)
+      (λ one is. successor-listed nodes one every is) nodes found in
+      record {
+        nodes =
+            All-weaker (IsNodeFound image layout layout.start_ip) IsLiftableNode (λ one is. node-liftable one code is) nodes found;
+        ascending = are.found.ascending;
+        closed = closed;
+        entry = every layout.start_ip (record { before = []; trail = refl });
+        outside = λ listed.
+            let one : IsNodeFound image layout layout.start_ip (image.ip, listed.node) = listed-has (IsNodeFound image layout layout.start_ip) nodes image.ip found listed in
+            start-unreached has small one.node;
+        words = words;
+      }

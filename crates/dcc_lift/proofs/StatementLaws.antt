@@ -474,6 +474,20 @@ test-well op test e = (parts (is_expr_of temporary_bits 1 test) (nat_le (depth_o
 pub test-shallow : (op : Op) (test : Expr) → op_test op ≡ Some test → depth_of test ≤ 7
 test-shallow op test e = leb-true (depth_of test) 7 (parts (is_expr_of temporary_bits 1 test) (nat_le (depth_of test) 7) (test-sound op test e)).1
 
+-- The same of an operation's statements, whatever the number of the DOS call is.
+
+pub op-well_formed : (op : Op) (number : Option ℕ) → is_liftable op ≡ true → IsOperation op → list_all (is_stmt temporary_bits) (op_stmts op number) ≡ true
+op-well_formed op number lifted well = well_formed (op_stmts op number) (stmts-sound op number lifted well)
+
+pub op-calls_agree : (p : Program) (graph : Graph) (op : Op) (number : Option ℕ) → is_liftable op ≡ true → IsOperation op → All (IsCalling p graph) (op_stmts op number)
+op-calls_agree p graph op number lifted well = calls_agree p graph (op_stmts op number) (stmts-sound op number lifted well)
+
+pub op-no_calls : (op : Op) (number : Option ℕ) → is_liftable op ≡ true → IsOperation op → flat_map calls_of (op_stmts op number) ≡ []
+op-no_calls op number lifted well = no_calls (op_stmts op number) (stmts-sound op number lifted well)
+
+pub op-shallow : (op : Op) (number : Option ℕ) → is_liftable op ≡ true → IsOperation op → AreShallow (flat_map exprs_of (op_stmts op number))
+op-shallow op number lifted well = shallow (op_stmts op number) (stmts-sound op number lifted well)
+
 -- Statements that set locations.
 
 abbrev pub IsSet : Stmt → Type 0
@@ -508,6 +522,14 @@ sets-step graphs fill (Store width address e ∷ stmts) rest t sets runs = absur
 sets-step graphs fill (Div location e ∷ stmts) rest t sets runs = absurd (All-head IsSet (Div location e) stmts sets)
 sets-step graphs fill (CallStmt results entry arguments depth ∷ stmts) rest t sets runs = absurd (All-head IsSet (CallStmt results entry arguments depth) stmts sets)
 sets-step graphs fill (Dos number place argument ∷ stmts) rest t sets runs = absurd (All-head IsSet (Dos number place argument) stmts sets)
+
+-- all operations but INT 21h
+pub op-step :
+    (graphs : List Graph) (fill : ℕ) (op : Op) (number : Option ℕ) (rest : List Stmt) (t : State) → is_liftable op ≡ true → IsOperation op
+    → ¬ (op ≡ Int21) → t.end ≡ Running
+    → block_step graphs fill (op_stmts op number ++ rest) t ≡ block_step graphs fill rest (after_sets (op_stmts op number) t)
+op-step graphs fill op number rest t lifted well other runs =
+    sets-step graphs fill (op_stmts op number) rest t (op-sets op number lifted well other) runs
 
 -- what expressions read after them is what they read in that state
 pub scene-after : (stmts : List Stmt) (t : State) → scene_of (after_sets stmts t) ≡ executed stmts (scene_of t)
