@@ -1,31 +1,38 @@
 -- What is found of a program in which everything that is reached is built is lifted.
-use Rattle.std.proofs.Common.{◌≡◌, ℕ, zero, suc, ◌+◌, ◌-◌, ◌*◌, ◌<◌, ◌≤◌, Bool, true, false, ◌||◌, not, List, [], ◌∷◌, take, drop, refl, sym, ◌∙◌, ap, subst, true≢false, eqb-true, get_or-drop, arith}
-use Rattle.std.specs.Prelude.{slice_index, All, Contains, Option, Some, None, ◌==◌}
+use Rattle.std.proofs.Common.{◌≡◌, ℕ, zero, suc, ◌+◌, ◌-◌, ◌*◌, ◌<◌, ◌≤◌, Bool, true, false, ◌||◌, not, List, [], ◌∷◌, length, take, drop, refl, sym, ◌∙◌, ap, subst, true≢false, eqb-true, get_or-drop, length-take, length-drop, arith}
+use Rattle.std.specs.Prelude.{if◌then◌else◌, slice_index, All, Contains, Option, Some, None, ◌==◌}
 use Rattle.std.specs.List.{list_any}
 use Rattle.std.proofs.lemmas.List.{drop-take, take-take}
-use Rattle.std.proofs.lemmas.List.Elements.{All-weaker, All-contains_itself}
-use Rattle.std.proofs.lemmas.Option.{slice_get_within, get_or_from_slice_get}
+use Rattle.std.proofs.lemmas.List.Elements.{All-head, All-tail, All-weaker, All-contains_itself}
 use Rattle.dcc_prog.specs.declared.image.Image.{Image}
 use Rattle.dcc_prog.specs.declared.procedure.Layout.{Layout}
 use Rattle.dcc_prog.specs.declared.procedure.Node.{Node}
 use Rattle.dcc_prog.specs.declared.procedure.Proc.{Proc}
 use Rattle.dcc_prog.specs.declared.instr.Operand.TheVariants.{Seg}
 use Rattle.dcc_prog.specs.declared.instr.Op.{Op}
-use Rattle.dcc_prog.specs.declared.instr.Op.TheVariants.{Alu as AluOp, Shift as ShiftOp, Mov, Plain as PlainOp, Int21}
+use Rattle.dcc_prog.specs.declared.instr.Op.TheVariants.{Alu as AluOp, Shift as ShiftOp, Mov, Plain as PlainOp, Table, Int21}
 use Rattle.dcc_prog.specs.declared.instr.Instr.{Instr}
 use Rattle.dcc_prog.specs.Bytes.{byte_at}
 use Rattle.dcc_prog.specs.Code.{code_of}
 use Rattle.dcc_prog.specs.Load.{load_segment}
 use Rattle.dcc_prog.specs.Table.{instruction_at}
 use Rattle.dcc_prog.specs.Layout.{is_prelude_form, writes_ds, IsRun, end_of, HasLayout}
-use Rattle.dcc_prog.specs.Trail.{code_within, instruction_in, next_of, known_ah, op_successors, targets_of, instr_successors, successors, IsNode, start}
+use Rattle.dcc_prog.specs.Trail.{code_within, instruction_in, next_of, known_ah, op_successors, targets_of, is_exit, instr_successors, successors, IsNode, start}
 use Rattle.dcc_prog.specs.FrameForm.{is_frame_form}
 use Rattle.dcc_prog.specs.Construct.{is_system, is_dos_number, HasAh, HasNoNumber, not_known, other_number, foreign, dos_number}
-use Rattle.dcc_prog.proofs.TableLaws.{instruction-prefix}
+use Rattle.dcc_prog.specs.MzImage.{IsLoaded}
+use Rattle.dcc_prog.proofs.TableLaws.{instruction-length, instruction-prefix}
+use Rattle.dcc_prog.proofs.MzImageLaws.{All-loaded, code_len-loaded}
+use Rattle.dcc_prog.proofs.FetchLaws.{image-placed, length-code_of}
 use Rattle.dcc_prog.proofs.WellFormedLaws.{instruction-operation}
 use Rattle.dcc_procs.specs.Built.{is_unbuilt, operation, string}
 use Rattle.dcc_procs.specs.Found.{IsNodeFound, IsListed, AreFound}
+use Rattle.dcc_lift.specs.Statements.{op_test}
+use Rattle.dcc_lift.specs.Blocks.{Nodes}
+use Rattle.dcc_lift.specs.Sound.{offsets_of, AgreesWith, AreSound}
 use Rattle.dcc_lift.specs.Lifting.{is_lifted_number, IsLiftableNode, IsLiftableProcedure}
+use Rattle.dcc_lift.proofs.ListTests.{any_at, same_number}
+use Rattle.dcc_lift.proofs.NodeLaws.{node_contained, contained_node, node_in_some, node_in_holds}
 use Rattle.dcc_lift.proofs.TableLaws.{instruction-liftable}
 
 -- Tests.
@@ -53,12 +60,29 @@ taken-byte (suc n) (x ∷ xs) bytes (suc i) = taken-byte n xs (λ k. bytes (suc 
 dropped-byte : (n : ℕ) (xs : List ℕ) → ((i : ℕ) → byte_at xs i < 256) → (i : ℕ) → byte_at (drop n xs) i < 256
 dropped-byte n xs bytes i = subst (λ b. b < 256) (sym (get_or-drop n xs i 0)) (bytes (n + i))
 
--- the code of an image of bytes has bytes
-pub code-bytes : (image : Image) (layout : Layout) → ((i : ℕ) → byte_at image.bytes.items i < 256) → (i : ℕ) → byte_at (code_within image layout) i < 256
+all-byte : (xs : List ℕ) → All (λ b. b < 256) xs → (i : ℕ) → byte_at xs i < 256
+all-byte [] all i = omega arith
+all-byte (x ∷ xs) all zero = All-head (λ b. b < 256) x xs all
+all-byte (x ∷ xs) all (suc i) = all-byte xs (All-tail (λ b. b < 256) x xs all) i
+
+-- the code of a loaded image has bytes
+pub code-bytes : (image : Image) (layout : Layout) → IsLoaded image → (i : ℕ) → byte_at (code_within image layout) i < 256
 unfolding code_of
-code-bytes image layout bytes =
+code-bytes image layout loaded =
+    let bytes : (i : ℕ) → byte_at image.bytes.items i < 256 = all-byte image.bytes.items (All-loaded image loaded) in
     let rest = (image.cs - load_segment) * 16 in
-    taken-byte layout.code_end _ (taken-byte image.code_len (drop rest image.bytes.items) (dropped-byte rest image.bytes.items bytes))
+    taken-byte layout.code_end (take image.code_len (drop rest image.bytes.items)) (taken-byte image.code_len (drop rest image.bytes.items) (dropped-byte rest image.bytes.items bytes))
+
+-- an instruction of the code stands below the end of the segment
+instruction-below : (image : Image) (layout : Layout) (at : ℕ) (instr : Instr) → IsLoaded image → instruction_in image layout at ≡ Some instr → at < 65536
+instruction-below image layout at instr loaded e =
+    let code = code_within image layout in
+    let placed = image-placed loaded.file image loaded.is_image in
+    let room = instruction-length at (drop at code) instr e in
+    let left : length (drop at code) ≡ length code - at = length-drop at code in
+    let cut = length-take layout.code_end (code_of image) in
+    let whole = length-code_of image placed in
+    omega (arith, room.0, room.1, left, cut, whole, placed.short)
 
 -- Numbers.
 
@@ -107,12 +131,16 @@ form-within image layout at instr found within =
 
 -- Nodes.
 
--- what is listed has what all have
-listed-has : (P : ℕ × Node → Type 0) (nodes : List (ℕ × Node)) (at : ℕ) → All P nodes → (listed : IsListed nodes at) → P (at, listed.node)
-listed-has P nodes at all listed =
-    let one : ℕ × Node = (at, listed.node) in
-    let within = slice_get_within nodes listed.place one listed.listed in
-    subst P (get_or_from_slice_get nodes listed.place one one listed.listed) (all listed.place one within)
+-- what is listed is among the offsets
+listed-contained : (nodes : Nodes) (at : ℕ) → IsListed nodes at → Contains (offsets_of nodes) at
+listed-contained nodes at listed =
+    contained_node nodes at (any_at (λ (found : ℕ × Node). found.0 == at) nodes listed.place (at, listed.node) listed.listed (same_number at))
+
+-- what is built goes on at as many places as the operation says
+operation-agrees : (op : Op) (next : ℕ) (ah : Option ℕ) (targets : List ℕ) → is_unbuilt op ≡ false → AgreesWith (op_test op) (op_successors op next ah targets)
+operation-agrees (Table r offset) next ah targets built = absurd (true≢false built)
+operation-agrees Int21 next ah targets built = elim (is_exit ah) as (λ b. AgreesWith None (if b then [] else next ∷ [])) [ true ↦ tt | false ↦ tt ]
+operation-agrees op next ah targets built = tt
 
 module _ (image : Image) (layout : Layout) (procs : List Proc) (are : AreFound image layout procs) where
   node-built : (at : ℕ) (instr : Instr) → IsNode image layout layout.start_ip at → instruction_in image layout at ≡ Some instr → is_unbuilt instr.op ≡ false
@@ -162,17 +190,27 @@ module _ (image : Image) (layout : Layout) (procs : List Proc) (are : AreFound i
         number = λ dos. node-number at instr found.1.number is.node is.instr dos (is.number dos is.node.before is.node.trail);
       }
 
-  -- what an instruction goes on to is a node
+  -- what an instruction goes on to is listed
   successor-listed :
-      (nodes : List (ℕ × Node)) (found : ℕ × Node) → ((at : ℕ) → IsNode image layout layout.start_ip at → IsListed nodes at)
-      → IsNodeFound image layout layout.start_ip found → All (IsListed nodes) found.1.succ.items
+      (nodes : Nodes) (found : ℕ × Node) → ((at : ℕ) → IsNode image layout layout.start_ip at → Contains (offsets_of nodes) at)
+      → IsNodeFound image layout layout.start_ip found → All (Contains (offsets_of nodes)) found.1.succ.items
   successor-listed nodes found every is =
       let succ = found.1.succ.items in
       let before = is.node.before in
       let told : succ ≡ successors image layout (found.0 ∷ before) = is.succ before is.node.trail in
-      All-weaker (Contains succ) (IsListed nodes)
+      All-weaker (Contains succ) (Contains (offsets_of nodes))
       (λ to there. every to (record { before = found.0 ∷ before; trail = (subst (λ xs. Contains xs to) told there, is.node.trail) }))
       succ (All-contains_itself succ)
+
+  -- an instruction goes on at as many places as its operation says
+  successors-agree : (found : ℕ × Node) → IsNodeFound image layout layout.start_ip found → AgreesWith (op_test found.1.instr.op) found.1.succ.items
+  successors-agree found is =
+      let before = is.node.before in
+      let instr = found.1.instr in
+      let goes : found.1.succ.items ≡ instr_successors image layout found.0 before (Some instr) =
+      is.succ before is.node.trail ∙ ap (instr_successors image layout found.0 before) is.instr in
+      subst (AgreesWith (op_test instr.op)) (sym goes)
+      (operation-agrees instr.op (next_of found.0 instr) (known_ah image layout before) (targets_of image layout instr.op before) (node-built found.0 instr is.node is.instr))
 
   -- a node at an instruction of the prelude leads to the one that writes DS
   prelude-unreached :
@@ -197,34 +235,47 @@ module _ (image : Image) (layout : Layout) (procs : List Proc) (are : AreFound i
       cases (writes_ds instr.op) refl writes
 
   -- the program's first instruction is not reached again
-  start-unreached : HasLayout image layout → layout.start_ip < 65536 → ¬ IsNode image layout layout.start_ip image.ip
-  start-unreached has small =
+  start-unreached : IsLoaded image → HasLayout image layout → ¬ IsNode image layout layout.start_ip image.ip
+  start-unreached loaded has =
+      let short = code_len-loaded image loaded in
+      let small : layout.start_ip < 65536 = omega (arith, short, has.left.code_end, has.small.has_code) in
       let ends : layout.start_ip ≡ end_of image.ip has.prelude = has.left.start_ip in
       let within : end_of image.ip has.prelude ≤ layout.code_end = omega (arith, ends, has.small.has_code) in
       prelude-unreached image.ip has.prelude has.is_prelude.run within (omega (arith, ends, small)) has.ds_written
 
-  -- what is found is lifted
-  pub found-liftable :
-      HasLayout image layout → layout.start_ip < 65536 → ((i : ℕ) → byte_at image.bytes.items i < 256)
-      → ((i : ℕ) → slice_index layout.regs i < 65536) → IsLiftableProcedure image layout are.start
-  found-liftable has small bytes words =
-      let proc = are.start in
-      let nodes = proc.nodes.entries in
-      let found : All (IsNodeFound image layout layout.start_ip) nodes = subst (λ e. All (IsNodeFound image layout e) nodes) are.entry are.found.nodes in
-      let every : (at : ℕ) → IsNode image layout layout.start_ip at → IsListed nodes at =
+  -- what is found is sound
+  pub found-sound : IsLoaded image → HasLayout image layout → AreSound are.start.nodes.entries layout.start_ip image.ip
+  found-sound loaded has =
+      let nodes = are.start.nodes.entries in
+      let Found : ℕ × Node → Type 0 = IsNodeFound image layout layout.start_ip in
+      let found : All Found nodes = subst (λ e. All (IsNodeFound image layout e) nodes) are.entry are.found.nodes in
+      let listed : (at : ℕ) → IsNode image layout layout.start_ip at → IsListed nodes at =
       subst (λ e. (at : ℕ) → IsNode image layout e at → IsListed nodes at) are.entry are.found.every in
-      let code = code-bytes image layout bytes in
-      let closed : All (λ (one : ℕ × Node). All (IsListed nodes) one.1.succ.items) nodes =
-      All-weaker (IsNodeFound image layout layout.start_ip) (λ (one : ℕ × Node). All (IsListed nodes) one.1.succ.items)
-      (λ one is. successor-listed nodes one every is) nodes found in
+      let every : (at : ℕ) → IsNode image layout layout.start_ip at → Contains (offsets_of nodes) at = λ at node. listed-contained nodes at (listed at node) in
+      record {
+        ascending = are.found.ascending;
+        below =
+            All-weaker Found (λ (one : ℕ × Node). one.0 < 65536) (λ one is. instruction-below image layout one.0 one.1.instr loaded is.instr) nodes found;
+        closed =
+            All-weaker Found (λ (one : ℕ × Node). All (Contains (offsets_of nodes)) one.1.succ.items) (λ one is. successor-listed nodes one every is) nodes found;
+        entered = every layout.start_ip (record { before = []; trail = refl });
+        apart = λ there.
+            let some = node_in_some nodes image.ip (node_contained nodes image.ip there) in
+            let one : Found (image.ip, some.0) = node_in_holds Found nodes image.ip some.0 found some.1 in
+            start-unreached loaded has one.node;
+        agree =
+            All-weaker Found (λ (one : ℕ × Node). AgreesWith (op_test one.1.instr.op) one.1.succ.items) (λ one is. successors-agree one is) nodes found;
+      }
+
+  -- what is found is lifted
+  pub found-liftable : IsLoaded image → HasLayout image layout → ((i : ℕ) → slice_index layout.regs i < 65536) → IsLiftableProcedure image layout are.start
+  found-liftable loaded has words =
+      let nodes = are.start.nodes.entries in
+      let found : All (IsNodeFound image layout layout.start_ip) nodes = subst (λ e. All (IsNodeFound image layout e) nodes) are.entry are.found.nodes in
+      let code = code-bytes image layout loaded in
       record {
         nodes =
             All-weaker (IsNodeFound image layout layout.start_ip) IsLiftableNode (λ one is. node-liftable one code is) nodes found;
-        ascending = are.found.ascending;
-        closed = closed;
-        entry = every layout.start_ip (record { before = []; trail = refl });
-        outside = λ listed.
-            let one : IsNodeFound image layout layout.start_ip (image.ip, listed.node) = listed-has (IsNodeFound image layout layout.start_ip) nodes image.ip found listed in
-            start-unreached has small one.node;
+        sound = found-sound loaded has;
         words = words;
       }

@@ -1,6 +1,6 @@
 -- The program that stands for a procedure is well formed, and its expressions are at most 7 deep.
-use Rattle.std.proofs.Common.{◌≡◌, ℕ, zero, suc, ◌<◌, ◌≤◌, Bool, true, false, ◌&&◌, ◌||◌, not, List, [], ◌∷◌, ◌++◌, length, map, refl, sym, ◌∙◌, ap, subst, true≢false, eqb-true, leb-true, arith}
-use Rattle.std.specs.Prelude.{slice_get, nat_le, filter, flat_map, All, AllPairs, Contains, Option, Some, None, ◌==◌, nat_lt, if◌then◌else◌}
+use Rattle.std.proofs.Common.{◌≡◌, ℕ, suc, ◌<◌, ◌≤◌, Bool, true, false, ◌&&◌, ◌||◌, not, List, [], ◌∷◌, ◌++◌, length, map, refl, sym, ◌∙◌, ap, subst, true≢false, eqb-true, leb-true, arith}
+use Rattle.std.specs.Prelude.{nat_le, filter, flat_map, All, AllPairs, Contains, Option, Some, None, ◌==◌, nat_lt, if◌then◌else◌}
 use Rattle.std.specs.List.{list_any, list_all}
 use Rattle.std.proofs.lemmas.Bool.Decides.{nat_tests}
 use Rattle.std.proofs.lemmas.List.Folds.{list_any-append}
@@ -9,7 +9,6 @@ use Rattle.dcc_prog.specs.declared.image.Image.{Image}
 use Rattle.dcc_prog.specs.declared.procedure.Layout.{Layout}
 use Rattle.dcc_prog.specs.declared.procedure.Node.{Node}
 use Rattle.dcc_prog.specs.declared.procedure.Proc.{Proc}
-use Rattle.dcc_procs.specs.Found.{IsListed}
 use Rattle.dcc_ir.specs.Tree.{Expr, Exit, Goto, If, Stop, Block, Graph, Program}
 use Rattle.dcc_ir.specs.WellFormed.{is_expr_of, is_stmt, is_exit, is_block, all_differ, ret_widths, all_ret_widths, is_param_list, IsCalling, IsGraph, IsProgram}
 use Rattle.dcc_ir.specs.Use.{exprs_of, exit_exprs, block_exprs}
@@ -19,8 +18,10 @@ use Rattle.dcc_lift.specs.Statements.{op_test, exit_to}
 use Rattle.dcc_lift.specs.Blocks.{Nodes, node_in, node_stmts, successors_in, edges_into, is_one, comes_from_below, joins, if_joins, onward, IsChain, leaders, place_in, block_place, stmts_at, node_exit, exit_at, last_of, IsBlockAt, AreBlocksAt}
 use Rattle.dcc_lift.specs.Translation.{prelude_block, data_image, IsTranslation}
 use Rattle.dcc_lift.specs.Lifted.{IsShallow}
+use Rattle.dcc_lift.specs.Sound.{offsets_of}
 use Rattle.dcc_lift.specs.Lifting.{IsLiftableNode, IsLiftableProcedure}
-use Rattle.dcc_lift.proofs.StatementLaws.{is_sound_expr, AreSound, AreShallow, sound-append, stmts-sound, test-sound, well_formed, calls_agree, shallow, prelude-sound}
+use Rattle.dcc_lift.proofs.ListTests.{any_contained, contained_any}
+use Rattle.dcc_lift.proofs.StatementLaws.{is_sound_expr, AreSoundStmts, AreShallow, sound-append, stmts-sound, test-sound, well_formed, calls_agree, shallow, prelude-sound}
 
 -- Tests.
 
@@ -77,9 +78,6 @@ eqb-of m n e = grind (arith, nat_tests)
 abbrev pub is_in : List ℕ → ℕ → Bool
 is_in xs n = list_any (λ m. m == n) xs
 
-abbrev pub offsets : Nodes → List ℕ
-offsets nodes = map (λ (found : ℕ × Node). found.0) nodes
-
 same : (n : ℕ) → n == n ≡ true
 same n = grind (arith, nat_tests)
 
@@ -132,40 +130,30 @@ filter-differ keep (x ∷ xs) h =
 
 -- Nodes.
 
-placed-in : (nodes : Nodes) (k at : ℕ) (node : Node) → slice_get nodes k ≡ Some (at, node) → is_in (offsets nodes) at ≡ true
-placed-in [] k at node e = cc
-placed-in (found ∷ nodes) zero at node e =
-    let here : found ≡ (at, node) = cc in
-    let offset : found.0 ≡ at = ap (λ (x : ℕ × Node). x.0) here in
-    or_left (found.0 == at) (is_in (offsets nodes) at) (eqb-of found.0 at offset)
-placed-in (found ∷ nodes) (suc k) at node e = or_right (found.0 == at) (is_in (offsets nodes) at) (placed-in nodes k at node e)
-
-pub listed-in : (nodes : Nodes) (at : ℕ) → IsListed nodes at → is_in (offsets nodes) at ≡ true
-listed-in nodes at h = placed-in nodes h.place at h.node h.listed
-
-listed-of_in : (nodes : Nodes) (at : ℕ) → list_any (λ m. at == m) (offsets nodes) ≡ true → IsListed nodes at
-listed-of_in [] at h = absurd (true≢false (sym h))
-listed-of_in (found ∷ nodes) at h =
-    let Q : Bool → Type 0 = λ b. at == found.0 ≡ b → (b || list_any (λ m. at == m) (offsets nodes)) ≡ true → IsListed (found ∷ nodes) at in
+-- a test with the numbers the other way round
+flipped-in : (xs : List ℕ) (n : ℕ) → list_any (λ m. n == m) xs ≡ true → is_in xs n ≡ true
+flipped-in [] n h = h
+flipped-in (x ∷ xs) n h =
+    let Q : Bool → Type 0 = λ b. n == x ≡ b → (b || list_any (λ m. n == m) xs) ≡ true → is_in (x ∷ xs) n ≡ true in
     let cases : (b : Bool) → Q b = λ b. elim b as Q [
-      | true ↦ λ e _. record { node = found.1; place = 0; listed = ap (λ n. Some (n, found.1)) (sym (eqb-true at found.0 e)) }
-      | false ↦ λ _ there. let rest = listed-of_in nodes at there in record { node = rest.node; place = suc rest.place; listed = rest.listed }
+      | true ↦ λ e _. or_left (x == n) (is_in xs n) (eqb-of x n (sym (eqb-true n x e)))
+      | false ↦ λ _ there. or_right (x == n) (is_in xs n) (flipped-in xs n there)
     ] in
-    cases (at == found.0) refl h
+    cases (n == x) refl h
 
-above-lack : (at : ℕ) (nodes : Nodes) → All (λ (b : ℕ × Node). at < b.0) nodes → list_any (λ m. at == m) (offsets nodes) ≡ false
+above-lack : (at : ℕ) (nodes : Nodes) → All (λ (b : ℕ × Node). at < b.0) nodes → list_any (λ m. at == m) (offsets_of nodes) ≡ false
 above-lack at [] h = refl
 above-lack at (found ∷ nodes) h =
     let here : at < found.0 = All-head (λ (b : ℕ × Node). at < b.0) found nodes h in
     let rest = above-lack at nodes (All-tail (λ (b : ℕ × Node). at < b.0) found nodes h) in
-    both_false (at == found.0) (list_any (λ m. at == m) (offsets nodes)) (grind (arith, nat_tests)) rest
+    both_false (at == found.0) (list_any (λ m. at == m) (offsets_of nodes)) (grind (arith, nat_tests)) rest
 
-ascending-differ : (nodes : Nodes) → AllPairs (λ (a b : ℕ × Node). a.0 < b.0) nodes → all_differ (offsets nodes) ≡ true
+ascending-differ : (nodes : Nodes) → AllPairs (λ (a b : ℕ × Node). a.0 < b.0) nodes → all_differ (offsets_of nodes) ≡ true
 ascending-differ [] h = refl
 ascending-differ (found ∷ nodes) h =
     let above : All (λ (b : ℕ × Node). found.0 < b.0) nodes = λ k d lt. h 0 (suc k) d (omega arith) (omega (arith, lt)) in
     let rest : AllPairs (λ (a b : ℕ × Node). a.0 < b.0) nodes = λ i j d lt within. h (suc i) (suc j) d (omega (arith, lt)) (omega (arith, within)) in
-    both (not (list_any (λ m. found.0 == m) (offsets nodes))) (all_differ (offsets nodes)) (ap not (above-lack found.0 nodes above)) (ascending-differ nodes rest)
+    both (not (list_any (λ m. found.0 == m) (offsets_of nodes))) (all_differ (offsets_of nodes)) (ap not (above-lack found.0 nodes above)) (ascending-differ nodes rest)
 
 -- the node at an offset has what all have
 node_in-has : (P : ℕ × Node → Type 0) (nodes : Nodes) (at : ℕ) (node : Node) → All P nodes → node_in nodes at ≡ Some node → P (at, node)
@@ -189,10 +177,10 @@ pub entry-leads : (nodes : Nodes) (entry : ℕ) → joins nodes entry entry ≡ 
 entry-leads nodes entry = ap (λ b. not b && comes_from_below nodes (edges_into nodes entry) entry) (same entry)
 
 -- an instruction that joins no block begins one, and the block has a place
-pub leader-in : (nodes : Nodes) (entry at : ℕ) → IsListed nodes at → joins nodes entry at ≡ false → is_in (leaders nodes entry) at ≡ true
-leader-in nodes entry at listed h = filter-in (λ n. not (joins nodes entry n)) (offsets nodes) at (ap not h) (listed-in nodes at listed)
+pub leader-in : (nodes : Nodes) (entry at : ℕ) → Contains (offsets_of nodes) at → joins nodes entry at ≡ false → is_in (leaders nodes entry) at ≡ true
+leader-in nodes entry at listed h = filter-in (λ n. not (joins nodes entry n)) (offsets_of nodes) at (ap not h) (any_contained (offsets_of nodes) at listed)
 
-pub block_place-below : (nodes : Nodes) (entry at : ℕ) → IsListed nodes at → joins nodes entry at ≡ false → block_place nodes entry at < suc (length (leaders nodes entry))
+pub block_place-below : (nodes : Nodes) (entry at : ℕ) → Contains (offsets_of nodes) at → joins nodes entry at ≡ false → block_place nodes entry at < suc (length (leaders nodes entry))
 block_place-below nodes entry at listed h =
     let below = place-below (leaders nodes entry) at (leader-in nodes entry at listed h) in omega (arith, below)
 
@@ -336,19 +324,19 @@ in-has P (x ∷ xs) n all h =
 -- the premises on the instructions, as they are used here
 pub record AreLiftable (nodes : Nodes) : Type 0 where
   pub each : All IsLiftableNode nodes
-  pub closed : All (λ (found : ℕ × Node). All (IsListed nodes) found.1.succ.items) nodes
+  pub closed : All (λ (found : ℕ × Node). All (Contains (offsets_of nodes)) found.1.succ.items) nodes
 
 -- the statements of an instruction are sound
-pub node-sound : (nodes : Nodes) (at : ℕ) → AreLiftable nodes → AreSound (stmts_at nodes at)
+pub node-sound : (nodes : Nodes) (at : ℕ) → AreLiftable nodes → AreSoundStmts (stmts_at nodes at)
 node-sound nodes at good =
-    let Q : Option Node → Type 0 = λ node. node_in nodes at ≡ node → AreSound (node_stmts node) in
+    let Q : Option Node → Type 0 = λ node. node_in nodes at ≡ node → AreSoundStmts (node_stmts node) in
     let cases : (node : Option Node) → Q node = λ node. elim node as Q [
       | None ↦ λ _. record { each = refl }
       | Some node ↦ λ e. let one = node_in-has IsLiftableNode nodes at node good.each e in stmts-sound node.instr.op node.number one.lifted one.operation
     ] in
     cases (node_in nodes at) refl
 
-chain-sound : (nodes : Nodes) (places : List ℕ) → AreLiftable nodes → AreSound (flat_map (stmts_at nodes) places)
+chain-sound : (nodes : Nodes) (places : List ℕ) → AreLiftable nodes → AreSoundStmts (flat_map (stmts_at nodes) places)
 chain-sound nodes [] good = record { each = refl }
 chain-sound nodes (at ∷ places) good = sound-append (stmts_at nodes at) (flat_map (stmts_at nodes) places) (node-sound nodes at good) (chain-sound nodes places good)
 
@@ -360,22 +348,22 @@ exit-good nodes entry at good ends =
     let cases : (node : Option Node) → Q node = λ node. elim node as Q [
       | None ↦ λ _. stop-good count
       | Some node ↦ λ e.
-          let listed : All (IsListed nodes) node.succ.items = node_in-has (λ (found : ℕ × Node). All (IsListed nodes) found.1.succ.items) nodes at node good.closed e in
+          let listed : All (Contains (offsets_of nodes)) node.succ.items = node_in-has (λ (found : ℕ × Node). All (Contains (offsets_of nodes)) found.1.succ.items) nodes at node good.closed e in
           let below : (n : ℕ) → is_in (map (block_place nodes entry) node.succ.items) n ≡ true → n < count = λ n there.
           let from = mapped-in (block_place nodes entry) node.succ.items n there in
           let leads = successor-leads nodes entry at from.0 node e ends from.1 in
-          subst (λ k. k < count) from.2 (block_place-below nodes entry from.0 (in-has (IsListed nodes) node.succ.items from.0 listed from.1) leads) in
+          subst (λ k. k < count) from.2 (block_place-below nodes entry from.0 (in-has (Contains (offsets_of nodes)) node.succ.items from.0 listed from.1) leads) in
           exit_to-good count (op_test node.instr.op) (map (block_place nodes entry) node.succ.items) (test-sound node.instr.op) below
     ] in
     cases (node_in nodes at) refl
 
 pub record IsGoodBlock (count : ℕ) (block : Block) : Type 0 where
-  pub stmts : AreSound block.stmts
+  pub stmts : AreSoundStmts block.stmts
   pub exit : IsGoodExit count block.exit
 
 block-good : (nodes : Nodes) (entry at : ℕ) (block : Block) → AreLiftable nodes → IsBlockAt nodes entry at block → IsGoodBlock (suc (length (leaders nodes entry))) block
 block-good nodes entry at block good is = record {
-  stmts = subst AreSound (sym is.stmts_are) (chain-sound nodes (at ∷ is.rest) good);
+  stmts = subst AreSoundStmts (sym is.stmts_are) (chain-sound nodes (at ∷ is.rest) good);
   exit =
       subst (IsGoodExit (suc (length (leaders nodes entry)))) (sym is.exit_is)
       (exit-good nodes entry (last_of at is.rest) good (chain-ends nodes entry at is.rest is.chain));
@@ -467,11 +455,11 @@ all-good :
 all-good image layout start blocks given are =
     let nodes = start.nodes.entries in
     let entry = layout.start_ip in
-    let good : AreLiftable nodes = record { each = given.nodes; closed = given.closed } in
+    let good : AreLiftable nodes = record { each = given.nodes; closed = given.sound.closed } in
     let count = suc (length (leaders nodes entry)) in
     let first : IsGoodBlock count (prelude_block image layout nodes) = record {
       stmts = prelude-sound image layout nodes given.words;
-      exit = goto-good count (block_place nodes entry entry) (block_place-below nodes entry entry given.entry (entry-leads nodes entry));
+      exit = goto-good count (block_place nodes entry entry) (block_place-below nodes entry entry given.sound.entered (entry-leads nodes entry));
     } in
     (first, blocks-good nodes entry (leaders nodes entry) blocks good are)
 
@@ -483,9 +471,9 @@ graph-addresses image layout start blocks given are =
     let nodes = start.nodes.entries in
     let entry = layout.start_ip in
     let keep : ℕ → Bool = λ n. not (joins nodes entry n) in
-    let nowhere : list_any (λ m. image.ip == m) (offsets nodes) ≡ false = untrue (list_any (λ m. image.ip == m) (offsets nodes)) (λ there. given.outside (listed-of_in nodes image.ip there)) in
-    let outside = filter-lacks (λ m. image.ip == m) keep (offsets nodes) nowhere in
-    let differ = filter-differ keep (offsets nodes) (ascending-differ nodes given.ascending) in
+    let nowhere : list_any (λ m. image.ip == m) (offsets_of nodes) ≡ false = untrue (list_any (λ m. image.ip == m) (offsets_of nodes)) (λ there. given.sound.apart (contained_any (offsets_of nodes) image.ip (flipped-in (offsets_of nodes) image.ip there))) in
+    let outside = filter-lacks (λ m. image.ip == m) keep (offsets_of nodes) nowhere in
+    let differ = filter-differ keep (offsets_of nodes) (ascending-differ nodes given.sound.ascending) in
     let whole : all_differ (image.ip ∷ leaders nodes entry) ≡ true = both (not (list_any (λ m. image.ip == m) (leaders nodes entry))) (all_differ (leaders nodes entry)) (ap not outside) differ in
     subst (λ xs. all_differ (image.ip ∷ xs) ≡ true) (sym (blocks-addresses nodes entry (leaders nodes entry) blocks are)) whole
 

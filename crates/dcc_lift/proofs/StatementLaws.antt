@@ -350,33 +350,33 @@ is_sound_stmt (Dos number place argument) =
     is_stmt temporary_bits (Dos number place argument) && list_all (λ e. nat_le (depth_of e) 7) (option_to_list argument)
 is_sound_stmt stmt = false
 
-pub record AreSound (stmts : List Stmt) : Type 0 where
+pub record AreSoundStmts (stmts : List Stmt) : Type 0 where
   pub each : list_all is_sound_stmt stmts ≡ true
 
-sets-sound : (stmts : List Stmt) → are_sound stmts ≡ true → AreSound stmts
+sets-sound : (stmts : List Stmt) → are_sound stmts ≡ true → AreSoundStmts stmts
 sets-sound [] h = record { each = refl }
 sets-sound (Set location e ∷ stmts) h =
     let p = parts (is_sound (Set location e)) (are_sound stmts) h in
     record { each = both (is_sound (Set location e)) (list_all is_sound_stmt stmts) p.0 (sets-sound stmts p.1).each }
 sets-sound (stmt ∷ stmts) h = absurd (true≢false (sym h))
 
-by_test : (b : Bool) (stmts others : List Stmt) → (b ≡ true → AreSound stmts) → AreSound others → AreSound (if b then stmts else others)
+by_test : (b : Bool) (stmts others : List Stmt) → (b ≡ true → AreSoundStmts stmts) → AreSoundStmts others → AreSoundStmts (if b then stmts else others)
 by_test true stmts others p q = p refl
 by_test false stmts others p q = q
 
 -- a test of a number tells it
-at_number : (n m : ℕ) (stmts : ℕ → List Stmt) → AreSound (stmts m) → n == m ≡ true → AreSound (stmts n)
-at_number n m stmts p e = subst (λ k. AreSound (stmts k)) (sym (eqb-true n m e)) p
+at_number : (n m : ℕ) (stmts : ℕ → List Stmt) → AreSoundStmts (stmts m) → n == m ≡ true → AreSoundStmts (stmts n)
+at_number n m stmts p e = subst (λ k. AreSoundStmts (stmts k)) (sym (eqb-true n m e)) p
 
-at_either : (n m k : ℕ) (stmts : ℕ → List Stmt) → AreSound (stmts m) → AreSound (stmts k) → (n == m) || (n == k) ≡ true → AreSound (stmts n)
+at_either : (n m k : ℕ) (stmts : ℕ → List Stmt) → AreSoundStmts (stmts m) → AreSoundStmts (stmts k) → (n == m) || (n == k) ≡ true → AreSoundStmts (stmts n)
 at_either n m k stmts p q e =
-    let cases : (b : Bool) → n == m ≡ b → b || (n == k) ≡ true → AreSound (stmts n) = λ b. elim b as (λ b. n == m ≡ b → b || (n == k) ≡ true → AreSound (stmts n)) [
+    let cases : (b : Bool) → n == m ≡ b → b || (n == k) ≡ true → AreSoundStmts (stmts n) = λ b. elim b as (λ b. n == m ≡ b → b || (n == k) ≡ true → AreSoundStmts (stmts n)) [
       | true ↦ λ f _. at_number n m stmts p f
       | false ↦ λ _ f. at_number n k stmts q f
     ] in
     cases (n == m) refl e
 
-dos-sound : (number : Option ℕ) → AreSound (dos_stmts number)
+dos-sound : (number : Option ℕ) → AreSoundStmts (dos_stmts number)
 dos-sound None = record { each = refl }
 dos-sound (Some n) =
     let writes : ℕ → List Stmt = λ k. Dos k None (Some (Get (Half Dx Low))) ∷ [] in
@@ -386,7 +386,7 @@ dos-sound (Some n) =
     let ending = by_test (n == 0x4C) (ends n) _ (at_number n 0x4C ends (record { each = refl })) reading in
     by_test (n == 0x02) (writes n) _ (at_number n 0x02 writes (record { each = refl })) ending
 
-pub stmts-sound : (op : Op) (number : Option ℕ) → is_liftable op ≡ true → IsOperation op → AreSound (op_stmts op number)
+pub stmts-sound : (op : Op) (number : Option ℕ) → is_liftable op ≡ true → IsOperation op → AreSoundStmts (op_stmts op number)
 stmts-sound Int21 number lifted well = dos-sound number
 stmts-sound op number lifted well = sets-sound (op_stmts op number) (op-sound op number lifted well (λ e. cc))
 
@@ -402,21 +402,21 @@ sound-well (Dos number place argument) h =
     (parts (is_stmt temporary_bits (Dos number place argument)) (list_all (λ e. nat_le (depth_of e) 7) (option_to_list argument)) h).0
 sound-well stmt h = absurd (true≢false (sym h))
 
-pub sound-append : (stmts others : List Stmt) → AreSound stmts → AreSound others → AreSound (stmts ++ others)
+pub sound-append : (stmts others : List Stmt) → AreSoundStmts stmts → AreSoundStmts others → AreSoundStmts (stmts ++ others)
 sound-append stmts others p q = record {
   each =
       list_all-append is_sound_stmt stmts others
       ∙ both (list_all is_sound_stmt stmts) (list_all is_sound_stmt others) p.each q.each;
 }
 
-sound-tail : (stmt : Stmt) (stmts : List Stmt) → AreSound (stmt ∷ stmts) → AreSound stmts
+sound-tail : (stmt : Stmt) (stmts : List Stmt) → AreSoundStmts (stmt ∷ stmts) → AreSoundStmts stmts
 sound-tail stmt stmts p = record { each = (parts (is_sound_stmt stmt) (list_all is_sound_stmt stmts) p.each).1 }
 
-sound-head : (stmt : Stmt) (stmts : List Stmt) → AreSound (stmt ∷ stmts) → is_sound_stmt stmt ≡ true
+sound-head : (stmt : Stmt) (stmts : List Stmt) → AreSoundStmts (stmt ∷ stmts) → is_sound_stmt stmt ≡ true
 sound-head stmt stmts p = (parts (is_sound_stmt stmt) (list_all is_sound_stmt stmts) p.each).0
 
 -- they are well formed
-pub well_formed : (stmts : List Stmt) → AreSound stmts → list_all (is_stmt temporary_bits) stmts ≡ true
+pub well_formed : (stmts : List Stmt) → AreSoundStmts stmts → list_all (is_stmt temporary_bits) stmts ≡ true
 well_formed [] p = refl
 well_formed (stmt ∷ stmts) p =
     both (is_stmt temporary_bits stmt) (list_all (is_stmt temporary_bits) stmts) (sound-well stmt (sound-head stmt stmts p)) (well_formed stmts (sound-tail stmt stmts p))
@@ -426,7 +426,7 @@ sound-calling p graph (CallStmt results entry arguments depth) h = absurd (true�
 sound-calling p graph stmt h = tt
 
 -- none is a call
-pub calls_agree : (p : Program) (graph : Graph) (stmts : List Stmt) → AreSound stmts → All (IsCalling p graph) stmts
+pub calls_agree : (p : Program) (graph : Graph) (stmts : List Stmt) → AreSoundStmts stmts → All (IsCalling p graph) stmts
 calls_agree p graph [] h = All-nil (IsCalling p graph)
 calls_agree p graph (stmt ∷ stmts) h =
     All-cons (IsCalling p graph) stmt stmts (sound-calling p graph stmt (sound-head stmt stmts h)) (calls_agree p graph stmts (sound-tail stmt stmts h))
@@ -435,7 +435,7 @@ sound-uncalling : (stmt : Stmt) → is_sound_stmt stmt ≡ true → calls_of stm
 sound-uncalling (CallStmt results entry arguments depth) h = absurd (true≢false (sym h))
 sound-uncalling stmt h = refl
 
-pub no_calls : (stmts : List Stmt) → AreSound stmts → flat_map calls_of stmts ≡ []
+pub no_calls : (stmts : List Stmt) → AreSoundStmts stmts → flat_map calls_of stmts ≡ []
 no_calls [] h = refl
 no_calls (stmt ∷ stmts) h =
     let here = sound-uncalling stmt (sound-head stmt stmts h) in
@@ -462,7 +462,7 @@ sound-shallow (Dos number place argument) h =
     shallow-list (option_to_list argument) (parts (is_stmt temporary_bits (Dos number place argument)) (list_all (λ e. nat_le (depth_of e) 7) (option_to_list argument)) h).1
 sound-shallow stmt h = absurd (true≢false (sym h))
 
-pub shallow : (stmts : List Stmt) → AreSound stmts → AreShallow (flat_map exprs_of stmts)
+pub shallow : (stmts : List Stmt) → AreSoundStmts stmts → AreShallow (flat_map exprs_of stmts)
 shallow [] h = All-nil (λ e. depth_of e ≤ 7)
 shallow (stmt ∷ stmts) h =
     All-append (λ e. depth_of e ≤ 7) (exprs_of stmt) (flat_map exprs_of stmts) (sound-shallow stmt (sound-head stmt stmts h)) (shallow stmts (sound-tail stmt stmts h))
@@ -566,7 +566,7 @@ prelude-sound_sets image layout nodes words =
     (flag_starting-sound Sf flags.sf (flag_starting Of flags.of ∷ []) (flag_starting-sound Of flags.of [] refl))) in
     sets-append (flat_map (register_starting layout.regs) general_registers) (flags_starting flags) (registers-sound layout.regs general_registers words) flags_sound
 
-pub prelude-sound : (image : Image) (layout : Layout) (nodes : Nodes) → ((i : ℕ) → slice_index layout.regs i < 65536) → AreSound (prelude_block image layout nodes).stmts
+pub prelude-sound : (image : Image) (layout : Layout) (nodes : Nodes) → ((i : ℕ) → slice_index layout.regs i < 65536) → AreSoundStmts (prelude_block image layout nodes).stmts
 prelude-sound image layout nodes words = sets-sound (prelude_block image layout nodes).stmts (prelude-sound_sets image layout nodes words)
 
 pub prelude-sets : (image : Image) (layout : Layout) (nodes : Nodes) → ((i : ℕ) → slice_index layout.regs i < 65536) → All IsSet (prelude_block image layout nodes).stmts
