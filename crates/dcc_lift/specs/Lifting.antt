@@ -1,7 +1,5 @@
 -- What is asked of the procedure that is lifted. This stands between the search of procedures and the code: the public
 -- contract says what the program is to the executable.
--- What a procedure is that is lifted. This stands between the search of procedures and the code: the public contract says
--- what the program is to the executable.
 use Rattle.std.specs.Prelude.{◌≡◌, ◌<◌, ℕ, ◌==◌, Bool, true, false, ◌||◌, Option, Some, None, All, slice_index}
 use Rattle.dcc_prog.specs.declared.image.Image.{Image}
 use Rattle.dcc_prog.specs.declared.procedure.Layout.{Layout}
