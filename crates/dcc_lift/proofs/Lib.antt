@@ -18,6 +18,10 @@ pub mod ChainLaws
 pub mod BlockLaws
 pub mod TranslationLaws
 pub mod ContractionLaws
+pub mod TableLaws
+pub mod StatementLaws
+pub mod ProgramLaws
+pub mod FoundLaws
 pub mod Standing
 pub mod DosStanding
 pub mod RunLaws

@@ -1,7 +1,7 @@
 -- The run of the lifted program: one of its steps, a block, stands for the machine's steps through the block's instructions.
 use Rattle.std.proofs.Common.{◌≡◌, ◌≢◌, ℕ, zero, suc, ◌≤◌, Bool, true, false, cond, List, [], ◌∷◌, ◌++◌, Option, Some, None, All, Contains, refl, sym, ap, ap₂, ◌∙◌, subst, ◌⊎◌, inl, inr, arith, true≢false, eqb-true}
 use Rattle.std.proofs.lemmas.List.{append-nil}
-use Rattle.std.specs.Prelude.{if◌then◌else◌, ◌==◌, ◌||◌, flat_map, map, slice_get}
+use Rattle.std.specs.Prelude.{if◌then◌else◌, ◌==◌, ◌||◌, flat_map, map, slice_get, option_map}
 use Rattle.std.specs.List.{list_any}
 use Rattle.dcc_run.specs.End.{Running, Exit as ExitWith, is_over}
 use Rattle.dcc_run.specs.System.{after}
@@ -19,7 +19,7 @@ use Rattle.dcc_prog.specs.Step.{step as machine_step, machine_system}
 use Rattle.dcc_prog.specs.Trail.{IsNode}
 use Rattle.dcc_prog.proofs.FetchLaws.{IsPlaced}
 use Rattle.dcc_ir.specs.Tree.{Expr, Stmt, Exit, Goto, If, Block, Graph, Program}
-use Rattle.dcc_ir.specs.Run.{State as Inner, value_in, block_step, exit_step, going_to, entering, inner_system, step as inner_step}
+use Rattle.dcc_ir.specs.Run.{State as Inner, Place, value_in, block_step, exit_step, going_to, entering, inner_system, step as inner_step}
 use Rattle.dcc_ir.proofs.PathLaws.{decided}
 use Rattle.dcc_lift.specs.Statements.{op_test}
 use Rattle.dcc_lift.specs.Blocks.{Nodes, node_in, node_stmts, successors_in, onward, IsChain, block_place, stmts_at, exit_at, last_of, IsBlockAt}
@@ -263,7 +263,11 @@ module _ (laws : AreLifted) (image : Image) (layout : Layout) (start : Proc) (p 
         let here : kept b.at ≡ true = program_has_block image layout start p translation sound b.at ∙ ap (λ l. (image.ip == b.at) || l) b.leader ∙ or-true (image.ip == b.at) in
         record {
           further = x.further;
-          visit = ?;
+          visit =
+              ap₂ (λ e begins. if is_over e then [] else visit_at (inner_system p fill) t (option_map (λ (place : Place). place.at) (if begins then Some (record { entry = t.running.graph.entry; at = t.running.block.at }) else None))) b.both.going b.begins
+              ∙ ap₂ (λ at out. record { place = at; out = out } ∷ []) (block.at_is ∙ sym b.both.ip_is) b.both.out
+              ∙ sym (ap (λ e. visits_of kept (if is_over e then [] else visit_at machine_system s (Some s.ip))) b.both.running
+              ∙ ap (λ k. cond k (record { place = s.ip; out = s.out } ∷ []) []) (ap kept b.both.ip_is ∙ here));
           quiet = x.quiet;
           running = x.running;
           goes_on = subst (λ v. GoOn machine_system (inner_system p fill) related (after machine_step (suc x.further) s) v) (sym step_is) x.goes_on_to;
