@@ -22,6 +22,10 @@ pub mod TableLaws
 pub mod StatementLaws
 pub mod ProgramLaws
 pub mod FoundLaws
+pub mod CodeBounds
+pub mod PreludeOffsets
+pub mod PreludeWords
+pub mod FoundSound
 pub mod Standing
 pub mod DosStanding
 pub mod RunLaws
