@@ -19,3 +19,7 @@ pub mod BlockLaws
 pub mod TranslationLaws
 pub mod ContractionLaws
 pub mod Standing
+pub mod TableLaws
+pub mod CodeBounds
+pub mod PreludeOffsets
+pub mod FoundSound
