@@ -3,6 +3,7 @@
 use Rattle.std.proofs.Common.{◌≡◌, ◌≢◌, ◌⊎◌, inl, inr, ℕ, zero, suc, ◌+◌, ◌%◌, ◌<◌, ◌≤◌, Bool, true, false, not, ◌||◌, ◌==◌, if◌then◌else◌, List, [], ◌∷◌, length, drop, Option, Some, None, slice_get, All, Contains, refl, sym, ap, ◌∙◌, subst, true≢false, eqb-true, arith}
 use Rattle.std.proofs.lemmas.List.Elements.{All-weaker, All-contains_itself}
 use Rattle.std.proofs.Math.Nat.{mod-eq_of_lt}
+use Rattle.std.specs.List.{list_any}
 use Rattle.dcc_num.specs.declared.Reg.TheVariants.{Sp}
 use Rattle.dcc_prog.specs.declared.image.Image.{Image}
 use Rattle.dcc_prog.specs.declared.procedure.Layout.{Layout}
@@ -17,7 +18,7 @@ use Rattle.dcc_prog.specs.declared.instr.Op.TheVariants.{Alu as AluOp, Shift as 
 use Rattle.dcc_prog.specs.declared.instr.Instr.{Instr}
 use Rattle.dcc_prog.specs.MzImage.{IsLoaded}
 use Rattle.dcc_prog.specs.Code.{code_of}
-use Rattle.dcc_prog.specs.Layout.{is_prelude_form, may_end_prelude, IsRun, end_of, ends_prelude, HasLayout}
+use Rattle.dcc_prog.specs.Layout.{is_prelude_form, may_end_prelude, writes_ds, IsRun, end_of, ends_prelude, HasLayout}
 use Rattle.dcc_prog.specs.Trail.{code_within, instruction_in, next_of, known_ah, is_exit, op_successors, targets_of, instr_successors, successors, IsTrail, IsNode, start}
 use Rattle.dcc_prog.specs.FrameForm.{is_frame_form}
 use Rattle.dcc_prog.specs.Construct.{is_system, is_dos_number, HasAh, HasNoNumber, not_known, other_number, foreign, dos_number}
@@ -185,3 +186,134 @@ module _ (image : Image) (layout : Layout) (procs : List Proc) (are : AreFound i
   places-unreached at (instr ∷ []) (suc k) is within small ends inside = absurd (omega arith)
   places-unreached at (instr ∷ second ∷ rest) (suc k) is within small ends inside =
       places-unreached (at + instr.len) (second ∷ rest) k is.1 within small ends (omega arith)
+
+-- Bounds of a layout.
+
+module _ (image : Image) (layout : Layout) (loaded : IsLoaded image) (has : HasLayout image layout) where
+  -- the prelude's end, and with it the procedure's entry, lies below the code's end, which is below offset 65536
+  pub prelude-within : end_of image.ip has.prelude ≤ layout.code_end
+  prelude-within = omega (arith, has.left.start_ip, has.small.has_code)
+
+  pub prelude-short : end_of image.ip has.prelude < 65536
+  prelude-short =
+      let placed = loaded-placed image loaded in
+      omega (arith, has.left.start_ip, has.small.has_code, has.left.code_end, placed.short)
+
+  pub start-below : layout.start_ip < 65536
+  start-below = omega (arith, has.left.start_ip, prelude-short)
+
+  -- there is an instruction in the prelude, that which writes DS
+  pub prelude-some : 0 < length has.prelude
+  prelude-some = go has.prelude has.ds_written
+    where
+      go : (prelude : List Instr) → list_any (λ (i : Instr). writes_ds i.op) prelude ≡ true → 0 < length prelude
+      go [] e = absurd (true≢false (sym e))
+      go (i ∷ rest) e = omega arith
+
+  pub prelude-before_start : (k : ℕ) → k < length has.prelude → offset_in k has.prelude image.ip < layout.start_ip
+  prelude-before_start k inside =
+      let before = offset-before_end (code_of image) k has.prelude image.ip has.is_prelude.run inside in
+      omega (arith, before, has.left.start_ip)
+
+  pub prelude-below : (k : ℕ) → k < length has.prelude → offset_in k has.prelude image.ip < 65536
+  prelude-below k inside = omega (arith, prelude-before_start k inside, start-below)
+
+  pub start-apart : image.ip ≢ layout.start_ip
+  start-apart same = let before : image.ip < layout.start_ip = prelude-before_start 0 prelude-some in absurd (omega (arith, before, same))
+
+-- What is found.
+
+module _ (image : Image) (layout : Layout) (procs : List Proc) (loaded : IsLoaded image) (has : HasLayout image layout) (are : AreFound image layout procs) where
+  -- no instruction of the procedure stands where one of the prelude does
+  pub prelude-unreached : (k : ℕ) → k < length has.prelude → ¬ IsNode image layout layout.start_ip (offset_in k has.prelude image.ip)
+  prelude-unreached k inside =
+      places-unreached image layout procs are image.ip has.prelude k has.is_prelude.run (prelude-within image layout loaded has)
+      (prelude-short image layout loaded has) has.is_prelude.ends inside
+
+  nodes-found : All (IsNodeFound image layout layout.start_ip) are.start.nodes.entries
+  nodes-found = subst (λ e. All (IsNodeFound image layout e) are.start.nodes.entries) are.entry are.found.nodes
+
+  nodes-every : (at : ℕ) → IsNode image layout layout.start_ip at → IsListed are.start.nodes.entries at
+  nodes-every = subst (λ e. (at : ℕ) → IsNode image layout e at → IsListed are.start.nodes.entries at) are.entry are.found.every
+
+  -- a node has its place in the list
+  pub node-listed : (at : ℕ) → IsNode image layout layout.start_ip at → (node : Node) × (node_in are.start.nodes.entries at ≡ Some node)
+  node-listed at node =
+      let listed = nodes-every at node in
+      (listed.node, node_in_found are.start.nodes.entries listed.place at listed.node (ascending_differ are.start.nodes.entries are.found.ascending) listed.listed)
+
+  -- what is listed is found
+  listed-found : (at : ℕ) (node : Node) → node_in are.start.nodes.entries at ≡ Some node → IsNodeFound image layout layout.start_ip (at, node)
+  listed-found at node e = node_in_holds (IsNodeFound image layout layout.start_ip) are.start.nodes.entries at node nodes-found e
+
+  pub node-contained : (at : ℕ) → IsNode image layout layout.start_ip at → Contains (offsets_of are.start.nodes.entries) at
+  node-contained at node =
+      let listed = node-listed at node in
+      contained_node are.start.nodes.entries at (node_in_has are.start.nodes.entries at listed.0 listed.1)
+
+  pub contained-node : (at : ℕ) → Contains (offsets_of are.start.nodes.entries) at → IsNode image layout layout.start_ip at
+  contained-node at h =
+      let listed = node_in_some are.start.nodes.entries at (node_contained are.start.nodes.entries at h) in
+      (listed-found at listed.0 listed.1).node
+
+  found-below : (found : ℕ × Node) → IsNodeFound image layout layout.start_ip found → found.0 < 65536
+  found-below found is =
+      let bounds = instruction-below image layout found.0 found.1.instr (loaded-placed image loaded) is.instr in
+      omega (arith, bounds.0, bounds.1)
+
+  found-closed : (found : ℕ × Node) → IsNodeFound image layout layout.start_ip found → All (Contains (offsets_of are.start.nodes.entries)) found.1.succ.items
+  found-closed found is =
+      let succ = found.1.succ.items in
+      let before = is.node.before in
+      let told : succ ≡ successors image layout (found.0 ∷ before) = is.succ before is.node.trail in
+      All-weaker (Contains succ) (Contains (offsets_of are.start.nodes.entries))
+      (λ to there. node-contained to (node-successor image layout layout.start_ip to (found.0 ∷ before) is.node.trail (subst (λ xs. Contains xs to) told there)))
+      succ (All-contains_itself succ)
+
+  found-agrees : (found : ℕ × Node) → IsNodeFound image layout layout.start_ip found → AgreesWith (op_test found.1.instr.op) found.1.succ.items
+  found-agrees found is =
+      let before = is.node.before in
+      let instr = found.1.instr in
+      let goes : found.1.succ.items ≡ op_successors instr.op (next_of found.0 instr) (known_ah image layout before) [] =
+      is.succ before is.node.trail ∙ node-successors image layout procs are found.0 before instr is.node.trail is.instr in
+      subst (AgreesWith (op_test instr.op)) (sym goes) (op-agrees instr.op (next_of found.0 instr) (known_ah image layout before))
+
+  -- the instructions are sound
+  pub found-sound : AreSound are.start.nodes.entries layout.start_ip image.ip
+  found-sound =
+      let nodes = are.start.nodes.entries in
+      record {
+        ascending = are.found.ascending;
+        below = All-weaker (IsNodeFound image layout layout.start_ip) (λ (found : ℕ × Node). found.0 < 65536) found-below nodes nodes-found;
+        closed = All-weaker (IsNodeFound image layout layout.start_ip) (λ (found : ℕ × Node). All (Contains (offsets_of nodes)) found.1.succ.items) found-closed nodes nodes-found;
+        entered = node-contained layout.start_ip (node-entry image layout layout.start_ip);
+        apart = λ h. prelude-unreached 0 (prelude-some image layout loaded has) (contained-node image.ip h);
+        agree = All-weaker (IsNodeFound image layout layout.start_ip) (λ (found : ℕ × Node). AgreesWith (op_test found.1.instr.op) found.1.succ.items) found-agrees nodes nodes-found;
+      }
+
+  -- a listed instruction is one of the procedure
+  pub listed-instruction : (at : ℕ) (node : Node) → node_in are.start.nodes.entries at ≡ Some node → IsInstruction image layout are.start.nodes.entries at node
+  listed-instruction at node e =
+      let is = listed-found at node e in
+      let code = code_within image layout in
+      let bytes = bytes-dropped at code (code-bytes image layout (loaded-bytes image loaded)) in
+      record {
+        found = e;
+        stands = is.instr;
+        liftable = instruction-liftable at (drop at code) node.instr is.instr (node-built image layout procs are at node.instr is.node is.instr) (node-user image layout procs are at node.instr is.node is.instr);
+        operation = instruction-operation at (drop at code) node.instr bytes is.instr;
+        number = λ dos. node-number image layout procs are at node.instr node.number is.node is.instr dos (is.number dos is.node.before is.node.trail);
+        told = is.number;
+        succ = is.succ;
+      }
+
+  -- at each node there is one
+  pub node-instruction : (at : ℕ) → IsNode image layout layout.start_ip at → (node : Node) × IsInstruction image layout are.start.nodes.entries at node
+  node-instruction at node =
+      let listed = node-listed at node in
+      (listed.0, listed-instruction at listed.0 listed.1)
+
+  -- and at each place of the list
+  pub place-instruction : (place at : ℕ) (node : Node) → slice_get are.start.nodes.entries place ≡ Some (at, node) → IsInstruction image layout are.start.nodes.entries at node
+  place-instruction place at node e =
+      listed-instruction at node (node_in_found are.start.nodes.entries place at node (ascending_differ are.start.nodes.entries are.found.ascending) e)
