@@ -58,11 +58,14 @@ pub bytes-dropped : (n : ℕ) (xs : List ℕ) → AreBytes xs → AreBytes (drop
 bytes-dropped n xs bytes = λ i. subst (λ b. b < 256) (sym (get_or-drop n xs i 0)) (bytes (n + i))
 
 -- the code of an image of bytes has bytes
-pub code-bytes : (image : Image) (layout : Layout) → AreBytes image.bytes.items → AreBytes (code_within image layout)
+pub whole-bytes : (image : Image) → AreBytes image.bytes.items → AreBytes (code_of image)
 unfolding code_of
-code-bytes image layout bytes =
+whole-bytes image bytes =
     let skipped = (image.cs - load_segment) * 16 in
-    bytes-taken layout.code_end _ (bytes-taken image.code_len (drop skipped image.bytes.items) (bytes-dropped skipped image.bytes.items bytes))
+    bytes-taken image.code_len (drop skipped image.bytes.items) (bytes-dropped skipped image.bytes.items bytes)
+
+pub code-bytes : (image : Image) (layout : Layout) → AreBytes image.bytes.items → AreBytes (code_within image layout)
+code-bytes image layout bytes = bytes-taken layout.code_end (code_of image) (whole-bytes image bytes)
 
 bytes-of : (xs : List ℕ) → All (λ b. b < 256) xs → (i : ℕ) → byte_at xs i < 256
 bytes-of [] all i = omega arith

@@ -22,4 +22,5 @@ pub mod Standing
 pub mod TableLaws
 pub mod CodeBounds
 pub mod PreludeOffsets
+pub mod PreludeWords
 pub mod FoundSound
