@@ -1,6 +1,6 @@
 -- What is found of a program is what its translation rests on: the instructions are lifted and sound, and none of them stands
 -- at an offset of the prelude.
-use Rattle.std.proofs.Common.{◌≡◌, ◌≢◌, ◌⊎◌, inl, inr, ℕ, zero, suc, ◌+◌, ◌%◌, ◌<◌, ◌≤◌, Bool, true, false, not, ◌||◌, ◌==◌, if◌then◌else◌, List, [], ◌∷◌, length, drop, Option, Some, None, slice_get, All, Contains, refl, sym, ap, ◌∙◌, subst, true≢false, eqb-true, arith}
+use Rattle.std.proofs.Common.{◌≡◌, ◌≢◌, ◌⊎◌, inl, inr, ℕ, zero, suc, ◌+◌, ◌<◌, ◌≤◌, Bool, true, false, not, ◌||◌, ◌==◌, if◌then◌else◌, List, [], ◌∷◌, length, drop, Option, Some, None, slice_get, All, Contains, refl, sym, ap, ◌∙◌, subst, true≢false, eqb-true, arith}
 use Rattle.std.proofs.lemmas.List.Elements.{All-weaker, All-contains_itself}
 use Rattle.std.proofs.Math.Nat.{mod-eq_of_lt}
 use Rattle.std.specs.List.{list_any}
@@ -22,18 +22,14 @@ use Rattle.dcc_prog.specs.Layout.{is_prelude_form, may_end_prelude, writes_ds, I
 use Rattle.dcc_prog.specs.Trail.{code_within, instruction_in, next_of, known_ah, is_exit, op_successors, targets_of, instr_successors, successors, IsTrail, IsNode, start}
 use Rattle.dcc_prog.specs.FrameForm.{is_frame_form}
 use Rattle.dcc_prog.specs.Construct.{is_system, is_dos_number, HasAh, HasNoNumber, not_known, other_number, foreign, dos_number}
-use Rattle.dcc_prog.proofs.MzImageLaws.{ip-loaded}
-use Rattle.dcc_prog.proofs.FetchLaws.{IsPlaced, length-code_of}
-use Rattle.dcc_prog.proofs.PreludeLaws.{form-inside, run-inside}
 use Rattle.dcc_prog.proofs.TrailLaws.{node-entry, node-successor}
 use Rattle.dcc_prog.proofs.WellFormedLaws.{instruction-operation}
 use Rattle.dcc_procs.specs.Built.{is_unbuilt, operation, string}
 use Rattle.dcc_procs.specs.Found.{IsNodeFound, IsListed, AreFound}
 use Rattle.dcc_lift.specs.Statements.{op_test}
-use Rattle.dcc_lift.specs.Liftable.{is_liftable}
-use Rattle.dcc_lift.specs.Blocks.{Nodes, node_in}
+use Rattle.dcc_lift.specs.Blocks.{node_in}
 use Rattle.dcc_lift.specs.Sound.{offsets_of, AgreesWith, AreSound}
-use Rattle.dcc_lift.proofs.NodeLaws.{is_node, node_in_some, node_in_has, node_in_holds, node_in_found, ascending_differ, node_contained, contained_node}
+use Rattle.dcc_lift.proofs.NodeLaws.{node_in_some, node_in_has, node_in_holds, node_in_found, ascending_differ, node_contained, contained_node}
 use Rattle.dcc_lift.proofs.Standing.{is_lifted_number, IsInstruction}
 use Rattle.dcc_lift.proofs.TableLaws.{instruction-liftable}
 use Rattle.dcc_lift.proofs.CodeBounds.{loaded-placed, instruction-below, instruction-within, code-bytes, bytes-dropped, loaded-bytes}

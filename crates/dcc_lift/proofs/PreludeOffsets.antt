@@ -1,8 +1,6 @@
 -- Where the instructions of a prelude stand: in ascending order from its first one, and where no instruction of the procedure
 -- stands.
-use Rattle.std.proofs.Common.{◌≡◌, ◌≢◌, ℕ, zero, suc, ◌+◌, ◌<◌, ◌≤◌, Bool, true, false, ◌||◌, List, [], ◌∷◌, length, take, drop, Option, Some, None, slice_get, Contains, refl, sym, ap, ◌∙◌, subst, true≢false, arith}
-use Rattle.dcc_prog.specs.declared.image.Image.{Image}
-use Rattle.dcc_prog.specs.declared.procedure.Layout.{Layout}
+use Rattle.std.proofs.Common.{◌≡◌, ℕ, zero, suc, ◌+◌, ◌<◌, ◌≤◌, List, [], ◌∷◌, length, take, Some, slice_get, refl, subst, arith}
 use Rattle.dcc_prog.specs.declared.instr.Instr.{Instr}
 use Rattle.dcc_prog.specs.Layout.{IsFormAt, IsRun, end_of}
 use Rattle.dcc_prog.proofs.PreludeLaws.{form-inside}

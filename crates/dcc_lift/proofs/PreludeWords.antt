@@ -1,11 +1,10 @@
 -- The registers that a prelude leaves: eight words.
-use Rattle.std.proofs.Common.{◌≡◌, ℕ, zero, suc, ◌+◌, ◌*◌, ◌/◌, ◌%◌, ◌<◌, ◌≤◌, Bool, true, false, ◌==◌, List, [], ◌∷◌, length, drop, slice_index, get_or, All, refl, sym, ap, ◌∙◌, subst, true≢false, arith}
+use Rattle.std.proofs.Common.{◌≡◌, ℕ, zero, suc, ◌+◌, ◌<◌, Bool, true, false, ◌==◌, List, [], ◌∷◌, length, drop, slice_index, All, refl, sym, ap, ◌∙◌, subst, arith}
 use Rattle.std.specs.Prelude.{slice_set, if◌then◌else◌}
 use Rattle.std.proofs.lemmas.List.{length-set, get_or_default}
 use Rattle.dcc_num.specs.declared.Half.{Half}
 use Rattle.dcc_num.specs.declared.Half.TheVariants.{Low, High}
-use Rattle.dcc_num.specs.declared.Width.{Width}
-use Rattle.dcc_num.specs.declared.Width.TheVariants.{Byte as byte_width, Word as word_width}
+use Rattle.dcc_num.specs.declared.Width.TheVariants.{Word as word_width}
 use Rattle.dcc_num.specs.declared.Flags.{Flags}
 use Rattle.dcc_num.specs.Numbers.{limit_of}
 use Rattle.dcc_num.specs.Shift.{left_shift_of}
@@ -21,9 +20,9 @@ use Rattle.dcc_prog.specs.declared.instr.Instr.{Instr}
 use Rattle.dcc_prog.specs.MzImage.{IsLoaded}
 use Rattle.dcc_prog.specs.Load.{prefix_segment}
 use Rattle.dcc_prog.specs.Code.{code_of}
-use Rattle.dcc_prog.specs.Machine.{State, reg_number, word_in, half_of_word, word_with_half, operand_value, start_state}
+use Rattle.dcc_prog.specs.Machine.{State, reg_number, word_in, half_of_word, word_with_half, start_state}
 use Rattle.dcc_prog.specs.Step.{op_step}
-use Rattle.dcc_prog.specs.Layout.{is_prelude_form, IsRun, end_of, HasLayout}
+use Rattle.dcc_prog.specs.Layout.{is_prelude_form, IsRun, HasLayout}
 use Rattle.dcc_prog.specs.Operations.{count_in}
 use Rattle.dcc_prog.specs.WellFormed.{IsOperation}
 use Rattle.dcc_prog.proofs.MzImageLaws.{word_at-lt}
