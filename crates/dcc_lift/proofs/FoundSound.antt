@@ -29,11 +29,11 @@ use Rattle.dcc_procs.specs.Found.{IsNodeFound, IsListed, AreFound}
 use Rattle.dcc_lift.specs.Statements.{op_test}
 use Rattle.dcc_lift.specs.Blocks.{node_in}
 use Rattle.dcc_lift.specs.Sound.{offsets_of, AgreesWith, AreSound}
-use Rattle.dcc_lift.proofs.NodeLaws.{node_in_some, node_in_has, node_in_holds, node_in_found, ascending_differ, node_contained, contained_node}
+use Rattle.dcc_lift.proofs.NodeLaws.{is_node, node_in_some, node_in_has, node_in_holds, node_in_found, ascending_differ, node_contained, contained_node}
 use Rattle.dcc_lift.proofs.Standing.{is_lifted_number, IsInstruction}
 use Rattle.dcc_lift.proofs.TableLaws.{instruction-liftable}
 use Rattle.dcc_lift.proofs.CodeBounds.{loaded-placed, instruction-below, instruction-within, code-bytes, bytes-dropped, loaded-bytes}
-use Rattle.dcc_lift.proofs.PreludeOffsets.{offset_in, run-above, offset-before_end}
+use Rattle.dcc_lift.proofs.PreludeOffsets.{offset_in, run-above, offset-before_end, offset-first}
 
 -- Tests.
 
@@ -214,6 +214,10 @@ module _ (image : Image) (layout : Layout) (loaded : IsLoaded image) (has : HasL
   pub prelude-below : (k : ℕ) → k < length has.prelude → offset_in k has.prelude image.ip < 65536
   prelude-below k inside = omega (arith, prelude-before_start k inside, start-below)
 
+  -- the first instruction of the prelude alone stands where the program begins
+  pub prelude-first : (k : ℕ) → k < length has.prelude → offset_in k has.prelude image.ip ≡ image.ip → k ≡ 0
+  prelude-first k inside same = offset-first (code_of image) k has.prelude image.ip has.is_prelude.run inside same
+
   pub start-apart : image.ip ≢ layout.start_ip
   start-apart same = let before : image.ip < layout.start_ip = prelude-before_start 0 prelude-some in absurd (omega (arith, before, same))
 
@@ -251,6 +255,12 @@ module _ (image : Image) (layout : Layout) (procs : List Proc) (loaded : IsLoade
   contained-node at h =
       let listed = node_in_some are.start.nodes.entries at (node_contained are.start.nodes.entries at h) in
       (listed-found at listed.0 listed.1).node
+
+  -- the offsets of the prelude are not listed
+  pub prelude-unlisted : (k : ℕ) → k < length has.prelude → is_node are.start.nodes.entries (offset_in k has.prelude image.ip) ≡ false
+  prelude-unlisted k inside =
+      let at = offset_in k has.prelude image.ip in
+      untrue (is_node are.start.nodes.entries at) (λ there. prelude-unreached k inside (contained-node at (contained_node are.start.nodes.entries at there)))
 
   found-below : (found : ℕ × Node) → IsNodeFound image layout layout.start_ip found → found.0 < 65536
   found-below found is =

@@ -29,3 +29,4 @@ pub mod FoundSound
 pub mod Standing
 pub mod DosStanding
 pub mod RunLaws
+pub mod StartLaws
