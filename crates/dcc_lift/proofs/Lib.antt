@@ -30,3 +30,4 @@ pub mod Standing
 pub mod DosStanding
 pub mod RunLaws
 pub mod StartLaws
+pub mod RunsLaws

@@ -88,7 +88,7 @@ module _ (laws : AreLifted) (image : Image) (layout : Layout) (start : Proc) (p 
       ]
 
   -- the run comes to the block at a leader
-  arrived : (s : Machine) (v : Inner) (to : ℕ) (before : List ℕ) → BothStand image layout graph s v to before → is_leader nodes entry to ≡ true → AtBlock s (going_to (block_place nodes entry to) v)
+  pub arrived : (s : Machine) (v : Inner) (to : ℕ) (before : List ℕ) → BothStand image layout graph s v to before → is_leader nodes entry to ≡ true → AtBlock s (going_to (block_place nodes entry to) v)
   arrived s v to before both leader =
       let h = block_at_leader image layout start p translation sound to leader in
       let found : slice_get v.running.graph.blocks (block_place nodes entry to) ≡ Some h.block = ap (λ (g : Graph). slice_get g.blocks (block_place nodes entry to)) both.graph_is ∙ h.found in

@@ -1,7 +1,9 @@
 -- The start: the block of the prelude stands for the machine's steps through the prelude.
-use Rattle.std.proofs.Common.{◌≡◌, ◌≢◌, ℕ, zero, suc, ◌+◌, ◌*◌, ◌/◌, ◌%◌, ◌^◌, ◌<◌, ◌≤◌, Bool, true, false, cond, List, [], ◌∷◌, ◌++◌, length, take, Option, Some, None, All, Contains, refl, sym, ap, ap₂, ◌∙◌, subst, ◌⊎◌, inl, inr, arith, true≢false, eqb-true, get_or, pow_pos}
+use Rattle.std.proofs.Common.{◌≡◌, ◌≢◌, ℕ, zero, suc, ◌+◌, ◌*◌, ◌/◌, ◌%◌, ◌-◌, ◌^◌, ◌<◌, ◌≤◌, Bool, true, false, cond, List, [], ◌∷◌, ◌++◌, length, take, Option, Some, None, All, Contains, refl, sym, ap, ap₂, ◌∙◌, subst, ◌⊎◌, inl, inr, arith, true≢false, eqb-true, get_or, drop, lit<, pow_pos}
+use Rattle.std.proofs.lemmas.Bool.{cases_lt}
+use Rattle.std.proofs.Math.Nat.{mod-eq_of_lt}
 use Rattle.std.proofs.lemmas.Nat.{mod_below}
-use Rattle.std.proofs.lemmas.List.{append-nil}
+use Rattle.std.proofs.lemmas.List.{append-nil, get_or_past}
 use Rattle.std.proofs.lemmas.List.FromFn.{length-map-range_with_len, get_or-map-range_with_len}
 use Rattle.std.specs.Prelude.{if◌then◌else◌, ◌==◌, ◌||◌, ◌&&◌, nat_le, nat_lt, map, slice_index, slice_get, option_map}
 use Rattle.std.specs.Int.{from_bool}
@@ -17,6 +19,7 @@ use Rattle.dcc_prog.specs.declared.procedure.Layout.{Layout}
 use Rattle.dcc_prog.specs.declared.procedure.Proc.{Proc}
 use Rattle.dcc_prog.specs.declared.instr.Instr.{Instr}
 use Rattle.dcc_prog.specs.MzImage.{IsLoaded}
+use Rattle.dcc_prog.specs.Load.{load_segment}
 use Rattle.dcc_prog.specs.Code.{code_of}
 use Rattle.dcc_prog.specs.Machine.{State as Machine, reg_number, word_in, code_segment, start_state}
 use Rattle.dcc_prog.specs.Step.{step as machine_step}
@@ -38,8 +41,9 @@ use Rattle.dcc_lift.specs.Translation.{data_image, prelude_block, IsTranslation}
 use Rattle.dcc_lift.proofs.MirrorLaws.{values_fit}
 use Rattle.dcc_lift.proofs.TranslationLaws.{the_graph, graphs_are}
 use Rattle.dcc_lift.proofs.StatementLaws.{well_formed, prelude-sound, prelude-sets, after_sets, sets-step}
+use Rattle.dcc_lift.proofs.CodeBounds.{bytes-taken, bytes-dropped, loaded-bytes}
 use Rattle.dcc_lift.proofs.PreludeWords.{layout-registers, layout-eight, layout-words}
-use Rattle.dcc_lift.proofs.Standing.{BothStand}
+use Rattle.dcc_lift.proofs.Standing.{BothStand, no-some}
 
 -- What the locations and the memory hold at the start.
 
@@ -53,11 +57,26 @@ memory-len p fill =
     length-map-range_with_len (λ at. if nat_le p.lo at && nat_lt at p.hi then fill % 256 else slice_index p.image at) 0 65536
 
 memory-bytes : (p : Program) (fill : ℕ) → ((at : ℕ) → slice_index p.image at < 256) → (at : ℕ) → slice_index (first_memory p fill) at < 256
-memory-bytes p fill small at = ?
+unfolding first_memory
+memory-bytes p fill small at = elim (cases_lt at 65536) [
+  | inl low ↦
+      let byte : ℕ → ℕ = λ k. if nat_le p.lo k && nat_lt k p.hi then fill % 256 else slice_index p.image k in
+      subst (λ b. b < 256) (sym (get_or-map-range_with_len byte 0 65536 at at 0 low (omega arith))) (one-byte (nat_le p.lo at && nat_lt at p.hi) at)
+  | inr high ↦
+      let len = length-map-range_with_len (λ k. if nat_le p.lo k && nat_lt k p.hi then fill % 256 else slice_index p.image k) 0 65536 in
+      subst (λ b. b < 256) (sym (get_or_past (map (λ k. if nat_le p.lo k && nat_lt k p.hi then fill % 256 else slice_index p.image k) (range_with_len 0 65536)) at 0 (omega (arith, high, len)))) (lit< tt)
+]
+  where
+    one-byte : (b : Bool) (at : ℕ) → (if b then fill % 256 else slice_index p.image at) < 256
+    one-byte true at = mod_below fill 256 (lit< tt)
+    one-byte false at = small at
 
 -- each part of a list of bytes is bytes
-data-bytes : (image : Image) (layout : Layout) → All (λ byte. byte < 256) image.bytes.items → (at : ℕ) → slice_index (data_image image layout) at < 256
-data-bytes image layout small at = ?
+data-bytes : (image : Image) (layout : Layout) → IsLoaded image → (at : ℕ) → slice_index (data_image image layout) at < 256
+unfolding data_image
+data-bytes image layout loaded at =
+    let skipped : ℕ = (layout.ds - load_segment) * 16 in
+    bytes-taken 65536 (drop skipped image.bytes.items) (bytes-dropped skipped image.bytes.items (loaded-bytes image loaded)) at
 
 -- Registers and flags behind the prelude's block.
 
@@ -88,3 +107,88 @@ module _ (image : Image) (layout : Layout) (start : Proc) (values : Values) wher
       word Bp g = absurd (true≢false (sym g))
       word Si g = refl
       word Di g = refl
+
+module _ (image : Image) (layout : Layout) (start : Proc) (p : Program) (fill : ℕ) (input : List ℕ) (loaded : IsLoaded image) (has : HasLayout image layout) (translation : IsTranslation image layout start p) (bytes : All (λ byte. byte < 256) input) where
+  abbrev graph : Graph
+  graph = the_graph image layout start p translation
+
+  abbrev first_block : Block
+  first_block = prelude_block image layout start.nodes.entries
+
+  -- the state in which the first graph begins
+  abbrev pub begin : Inner
+  begin = going_to 0 (record {
+    running = activation graph (filled temporary_bits fill) ((p.hi + 2) % 65536);
+    waiting = [];
+    memory = first_memory p fill;
+    input = input;
+    out = [];
+    end = Running;
+  })
+
+  pub first-is : first_state p fill input ≡ begin
+  first-is =
+      ap (λ graphs.
+      let g = get_or graphs 0 no_graph in
+      going_to 0 (record {
+        running = activation g (filled g.bits fill) ((p.hi + 2) % 65536);
+        waiting = [];
+        memory = first_memory p fill;
+        input = input;
+        out = [];
+        end = Running;
+      })) (graphs_are image layout start p translation)
+
+  begin-fits : Fits (scene_of begin)
+  begin-fits = record {
+    values = filled-fits temporary_bits fill;
+    len = memory-len p fill;
+    bytes = memory-bytes p fill (λ at. subst (λ l. slice_index l at < 256) (sym (ap (λ (q : Program). q.image) translation.program_is)) (data-bytes image layout loaded at));
+  }
+
+  words : (i : ℕ) → slice_index layout.regs i < 65536
+  words = layout-words image layout loaded has
+
+  -- the state behind the statements of the prelude's block
+  abbrev pub set_up : Inner
+  set_up = after_sets first_block.stmts begin
+
+  -- one step goes to the procedure's entry
+  pub begin-step : inner_step p fill begin ≡ going_to (block_place start.nodes.entries layout.start_ip layout.start_ip) set_up
+  begin-step =
+      ap (λ l. block_step p.graphs fill l begin) (sym (append-nil first_block.stmts))
+      ∙ sets-step p.graphs fill first_block.stmts [] begin (prelude-sets image layout start.nodes.entries words) refl
+
+  -- the machine behind the prelude
+  abbrev pub behind_prelude : Machine
+  behind_prelude = at_offset image input (executed_run (start_state image []) has.prelude) layout.start_ip
+
+  pub prelude-steps : after machine_step (length has.prelude) (start_state image input) ≡ behind_prelude
+  prelude-steps =
+      steps-from_start image input has.prelude loaded has.is_prelude.run
+      ∙ ap (λ a. at_offset image input (executed_run (start_state image []) has.prelude) a) (sym has.left.start_ip)
+
+  layout-flags : layout.flags ≡ (executed_run (start_state image []) has.prelude).flags
+  layout-flags = has.left.flags ∙ ap (λ (s : Machine). s.flags) (state_behind-is image has.prelude loaded has.is_prelude.run)
+
+  -- both runs stand at the procedure's entry
+  pub begun-stand : layout.start_ip < 65536 → BothStand image layout graph behind_prelude set_up layout.start_ip []
+  begun-stand below =
+      let regs = layout-registers image layout loaded has in
+      record {
+        holds = record {
+            memory = refl;
+            code = executed-code (code_of image) image.ip has.prelude (start_state image []) has.is_prelude.run;
+          };
+        ip_is = mod-eq_of_lt below;
+        running = refl;
+        trail = refl;
+        graph_is = refl;
+        going = refl;
+        mirrors = begun-mirrors image layout start set_up.running.values behind_prelude (scene_of begin) (ap length (sym regs) ∙ layout-eight image layout loaded has) (sym regs) (sym layout-flags);
+        fits = values_fit first_block.stmts (scene_of begin) (well_formed first_block.stmts (prelude-sound image layout start.nodes.entries words)) begin-fits;
+        input = refl;
+        out = refl;
+        bytes = bytes;
+        ah = λ n e. absurd (no-some e);
+      }
