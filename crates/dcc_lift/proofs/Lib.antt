@@ -31,3 +31,5 @@ pub mod DosStanding
 pub mod RunLaws
 pub mod StartLaws
 pub mod RunsLaws
+pub mod MachineEnds
+pub mod LiftedLaws
