@@ -1,5 +1,5 @@
 -- Why an instruction is refused, in terms of constructs and trails.
-use Rattle.std.proofs.Common.{◌≡◌, ◌≢◌, ◌⊎◌, inl, inr, ℕ, ◌+◌, Bool, true, false, ◌==◌, ◌||◌, List, [], ◌∷◌, drop, Option, Some, None, Result, Ok, Err, IfErr, if◌then◌else◌, refl, sym, ap, ◌∙◌, subst, arith, eq-eqb, eqb-true}
+use Rattle.std.proofs.Common.{◌≡◌, ◌≢◌, inl, inr, ℕ, Bool, true, false, ◌==◌, ◌||◌, List, ◌∷◌, drop, Option, Some, None, Result, Ok, Err, IfErr, if◌then◌else◌, refl, sym, ap, ◌∙◌, subst, eq-eqb, eqb-true}
 use Rattle.dcc_prog.specs.declared.image.Image.{Image}
 use Rattle.dcc_prog.specs.declared.procedure.Layout.{Layout}
 use Rattle.dcc_prog.specs.declared.instr.Instr.{Instr}
@@ -7,10 +7,8 @@ use Rattle.dcc_prog.specs.declared.instr.Op.TheVariants.{Int21}
 use Rattle.dcc_prog.specs.declared.refusal.Refusal.{Refusal}
 use Rattle.dcc_prog.specs.declared.refusal.Refusal.TheVariants.{Construct, Limit, NotYet, Memory}
 use Rattle.dcc_prog.specs.Table.{instruction_at}
-use Rattle.dcc_prog.specs.Trail.{code_within, StandsAt, known_ah, IsTrail, IsNode, IsEntry, start}
-use Rattle.dcc_prog.specs.Construct.{is_system, is_dos_number, HasAh, HasNoNumber, not_known, other_number, two_numbers, IsAtNode, unknown, foreign, indirect_jump, indirect_call, dos_number, IsOfTrails}
-use Rattle.dcc_procs.proofs.IndirectLaws.{jump-in_image, jump-in_code, call-in_image, call-in_code}
-use Rattle.dcc_procs.specs.Indirect.{HasIndirect, IsIndirectJump, IsIndirectCall}
+use Rattle.dcc_prog.specs.Trail.{code_within, StandsAt, known_ah, IsTrail, IsNode, start}
+use Rattle.dcc_prog.specs.Construct.{HasIndirect, is_system, HasAh, HasNoNumber, not_known, other_number, two_numbers, IsAtNode, unknown, foreign, indirect_jump, indirect_call, dos_number, IsOfTrails}
 use Rattle.dcc_procs.specs.declared.seen.Seen.{Seen}
 use Rattle.dcc_procs.specs.declared.seen.Seen.TheVariants.{Never, Same, Differing}
 use Rattle.dcc_procs.specs.Built.{is_unbuilt, IsUnbuiltAt, IsNotYet}
@@ -98,9 +96,9 @@ module _ (image : Image) (layout : Layout) (at : ℕ) where
   or-true false b e = let clash = e in cc
 
   construct-kind : (seen : Seen) (kind : ℕ) → seen ≢ Never → IsWitnessed image layout at seen → IsKind (code_within image layout) at seen kind → IsAtNode image layout layout.start_ip at kind
-  construct-kind seen _ is w (kept.unknown none jump call) = unknown (record { none = none; no_jump = λ h. jump (jump-in_code image layout at h); no_call = λ h. call (call-in_code image layout at h) })
-  construct-kind seen _ is w (kept.jump h) = indirect_jump (jump-in_image image layout at h)
-  construct-kind seen _ is w (kept.call h) = indirect_call (call-in_image image layout at h)
+  construct-kind seen _ is w (kept.unknown none jump call) = unknown (record { none = none; no_jump = jump; no_call = call })
+  construct-kind seen _ is w (kept.jump h) = indirect_jump h
+  construct-kind seen _ is w (kept.call h) = indirect_call h
   construct-kind seen _ is w (kept.system {instr} found system) =
       foreign (record { op = instr.op; stands = stands-op instr found; foreign = or-true (is_system instr.op) _ system })
   construct-kind seen _ is w (kept.number {instr} found dos other) = dos_number (no_number-seen seen (stands-int instr found dos) is other w)

@@ -4,4 +4,3 @@ pub mod Found
 pub mod Search
 pub mod Nodes
 pub mod Laws
-pub mod Indirect
