@@ -24,12 +24,14 @@ use Rattle.dcc_prog.specs.FrameForm.{is_frame_form}
 use Rattle.dcc_prog.specs.Construct.{is_system, is_dos_number, HasAh, HasNoNumber, not_known, other_number, foreign, dos_number}
 use Rattle.dcc_prog.proofs.TrailLaws.{node-entry, node-successor}
 use Rattle.dcc_prog.proofs.WellFormedLaws.{instruction-operation}
-use Rattle.dcc_procs.specs.Built.{is_unbuilt, operation, string}
-use Rattle.dcc_procs.specs.Found.{IsNodeFound, IsListed, AreFound}
+use Rattle.dcc_prog.specs.Built.{is_unbuilt, operation, string}
+use Rattle.dcc_prog.specs.Found.{IsNodeFound, IsListed, AreFound}
 use Rattle.dcc_lift.specs.Statements.{op_test}
 use Rattle.dcc_lift.specs.Blocks.{node_in}
 use Rattle.dcc_lift.specs.Sound.{offsets_of, AgreesWith, AreSound}
 use Rattle.dcc_lift.proofs.NodeLaws.{is_node, node_in_some, node_in_has, node_in_holds, node_in_found, ascending_differ, node_contained, contained_node}
+use Rattle.dcc_lift.specs.Lifting.{IsLiftableNode, IsLiftableProcedure}
+use Rattle.dcc_lift.proofs.PreludeWords.{layout-words}
 use Rattle.dcc_lift.proofs.Standing.{is_lifted_number, IsInstruction}
 use Rattle.dcc_lift.proofs.TableLaws.{instruction-liftable}
 use Rattle.dcc_lift.proofs.CodeBounds.{loaded-placed, instruction-below, instruction-within, code-bytes, bytes-dropped, loaded-bytes}
@@ -323,3 +325,22 @@ module _ (image : Image) (layout : Layout) (procs : List Proc) (loaded : IsLoade
   pub place-instruction : (place at : ℕ) (node : Node) → slice_get are.start.nodes.entries place ≡ Some (at, node) → IsInstruction image layout are.start.nodes.entries at node
   place-instruction place at node e =
       listed-instruction at node (node_in_found are.start.nodes.entries place at node (ascending_differ are.start.nodes.entries are.found.ascending) e)
+
+  found-lifted : (found : ℕ × Node) → IsNodeFound image layout layout.start_ip found → IsLiftableNode found
+  found-lifted found is =
+      let at = found.0 in
+      let instr = found.1.instr in
+      let code = code_within image layout in
+      let bytes = bytes-dropped at code (code-bytes image layout (loaded-bytes image loaded)) in
+      record {
+        lifted = instruction-liftable at (drop at code) instr is.instr (node-built image layout procs are at instr is.node is.instr) (node-user image layout procs are at instr is.node is.instr);
+        operation = instruction-operation at (drop at code) instr bytes is.instr;
+      }
+
+  -- what is found is lifted
+  pub found-liftable : IsLiftableProcedure image layout are.start
+  found-liftable = record {
+    nodes = All-weaker (IsNodeFound image layout layout.start_ip) IsLiftableNode found-lifted are.start.nodes.entries nodes-found;
+    sound = found-sound;
+    words = layout-words image layout loaded has;
+  }

@@ -21,7 +21,6 @@ pub mod ContractionLaws
 pub mod TableLaws
 pub mod StatementLaws
 pub mod ProgramLaws
-pub mod FoundLaws
 pub mod CodeBounds
 pub mod PreludeOffsets
 pub mod PreludeWords
@@ -31,5 +30,4 @@ pub mod DosStanding
 pub mod RunLaws
 pub mod StartLaws
 pub mod RunsLaws
-pub mod MachineEnds
 pub mod LiftedLaws

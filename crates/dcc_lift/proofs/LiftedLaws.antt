@@ -9,7 +9,7 @@ use Rattle.dcc_prog.specs.declared.instr.Op.{Op}
 use Rattle.dcc_prog.specs.declared.instr.Op.TheVariants.{Int21}
 use Rattle.dcc_prog.specs.MzImage.{IsLoaded}
 use Rattle.dcc_prog.specs.Layout.{HasLayout}
-use Rattle.dcc_procs.specs.Found.{AreFound}
+use Rattle.dcc_prog.specs.Found.{AreFound}
 use Rattle.dcc_ir.specs.Tree.{Program}
 use Rattle.dcc_ir.specs.WellFormed.{is_stmt}
 use Rattle.dcc_lift.specs.Statements.{op_stmts}
@@ -22,13 +22,11 @@ use Rattle.dcc_lift.proofs.ShiftMirrors.{shift_op_mirrors}
 use Rattle.dcc_lift.proofs.ProductMirrors.{mul_op_mirrors, imul_op_mirrors, cbw_op_mirrors, cwd_op_mirrors}
 use Rattle.dcc_lift.proofs.StatementLaws.{op-well_formed, op-step}
 use Rattle.dcc_lift.proofs.ProgramLaws.{translation-well_formed, translation-shallow}
-use Rattle.dcc_lift.proofs.FoundLaws.{found-liftable}
 use Rattle.dcc_lift.proofs.TranslationLaws.{translation_framed}
 use Rattle.dcc_lift.proofs.ContractionLaws.{translation_has_blocks}
-use Rattle.dcc_lift.proofs.FoundSound.{found-sound}
-use Rattle.dcc_lift.proofs.PreludeWords.{layout-words}
+use Rattle.dcc_lift.proofs.FoundSound.{found-sound, found-liftable}
 use Rattle.dcc_lift.proofs.Standing.{AreLifted}
-use Rattle.dcc_lift.proofs.MachineEnds.{machine-not_stuck}
+use Rattle.dcc_prog.proofs.MachineEnds.{machine-not_stuck}
 use Rattle.dcc_lift.proofs.RunsLaws.{runs-alike}
 
 -- shifts, products and sign extensions
@@ -57,7 +55,7 @@ module _ (image : Image) (layout : Layout) (procs : List Proc) (loaded : IsLoade
   runs-as_machine fill input small bytes = runs-alike operations-lifted image layout procs loaded has are p translation fill input bytes
 
   liftable : IsLiftableProcedure image layout are.start
-  liftable = found-liftable image layout procs are loaded has (layout-words image layout loaded has)
+  liftable = found-liftable image layout procs loaded has are
 
   never-stuck : IsNeverStuck p
   never-stuck fill input n entry small bytes e =

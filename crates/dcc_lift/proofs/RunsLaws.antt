@@ -22,7 +22,7 @@ use Rattle.dcc_prog.specs.Layout.{HasLayout, IsRun, end_of}
 use Rattle.dcc_prog.proofs.StepLaws.{machine_lawful}
 use Rattle.dcc_prog.proofs.FetchLaws.{IsPlaced}
 use Rattle.dcc_prog.proofs.PreludeSteps.{executed as executed_run, form-code, step-at, at_offset, steps-from_start}
-use Rattle.dcc_procs.specs.Found.{AreFound}
+use Rattle.dcc_prog.specs.Found.{AreFound}
 use Rattle.dcc_ir.proofs.PathLaws.{decided}
 use Rattle.dcc_ir.proofs.RunLaws.{inner_lawful}
 use Rattle.dcc_ir.specs.Tree.{Program}

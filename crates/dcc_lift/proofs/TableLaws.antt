@@ -31,7 +31,7 @@ use Rattle.dcc_prog.specs.Construct.{is_segment, is_system}
 use Rattle.dcc_prog.specs.WellFormed.{IsOperation}
 use Rattle.dcc_prog.proofs.TableLaws.{instruction-row}
 use Rattle.dcc_prog.proofs.WellFormedLaws.{found-operation}
-use Rattle.dcc_procs.specs.Built.{is_memory_or_stack, is_unbuilt}
+use Rattle.dcc_prog.specs.Built.{is_memory_or_stack, is_unbuilt}
 use Rattle.dcc_lift.specs.Mirrors.{is_general}
 use Rattle.dcc_lift.specs.Liftable.{is_register, is_source, is_liftable}
 

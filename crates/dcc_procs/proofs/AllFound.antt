@@ -8,7 +8,7 @@ use Rattle.dcc_prog.specs.declared.refusal.LimitName.{LimitName}
 use Rattle.dcc_prog.specs.Trail.{IsNode, IsEntry}
 use Rattle.dcc_prog.specs.Limit.{IsNodeOf, IsAbove, procedures, instructions, total, entries}
 use Rattle.dcc_procs.specs.declared.seen.Seen.{Seen}
-use Rattle.dcc_procs.specs.Found.{IsNodeFound, IsListed, AreFound}
+use Rattle.dcc_prog.specs.Found.{IsNodeFound, IsListed, AreFound}
 use Rattle.dcc_procs.specs.Nodes.{AreAllSeen, AreSeenNodes}
 use Rattle.dcc_procs.proofs.FoundLaws.{node-seen, only-entry, no-construct, no-table, all-built, node-found}
 use Rattle.dcc_procs.proofs.Counting.{few, no-two}

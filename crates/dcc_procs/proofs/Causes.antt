@@ -11,8 +11,8 @@ use Rattle.dcc_prog.specs.Trail.{code_within, StandsAt, known_ah, IsTrail, IsNod
 use Rattle.dcc_prog.specs.Construct.{HasIndirect, is_system, HasAh, HasNoNumber, not_known, other_number, two_numbers, IsAtNode, unknown, foreign, indirect_jump, indirect_call, dos_number, IsOfTrails}
 use Rattle.dcc_procs.specs.declared.seen.Seen.{Seen}
 use Rattle.dcc_procs.specs.declared.seen.Seen.TheVariants.{Never, Same, Differing}
-use Rattle.dcc_procs.specs.Built.{is_unbuilt, IsUnbuiltAt, IsNotYet}
-use Rattle.dcc_procs.specs.Built as built
+use Rattle.dcc_prog.specs.Built.{is_unbuilt, IsUnbuiltAt, IsNotYet}
+use Rattle.dcc_prog.specs.Built as built
 use Rattle.dcc_procs.specs.Refusal.{IsRefusal}
 use Rattle.dcc_procs.specs.Search.{is_known_number, indirect_kind, IsKind, IsUnbuiltHere, IsNumberCause, IsCause}
 use Rattle.dcc_procs.specs.Search as kept

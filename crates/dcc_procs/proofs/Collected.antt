@@ -17,7 +17,7 @@ use Rattle.dcc_prog.specs.Limit.{IsAbove, instructions}
 use Rattle.dcc_procs.specs.declared.seen.Seen.{Seen}
 use Rattle.dcc_procs.specs.declared.seen.Seen.TheVariants.{Never}
 use Rattle.dcc_procs.specs.Search.{seen_at}
-use Rattle.dcc_procs.specs.Found.{IsListed}
+use Rattle.dcc_prog.specs.Found.{IsListed}
 use Rattle.dcc_procs.specs.Nodes.{HasInstruction, AreAllSeen, AreSeenNodes, IsFull}
 
 -- the nodes below an offset that are seen, in ascending order

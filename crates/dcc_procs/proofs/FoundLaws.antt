@@ -18,10 +18,10 @@ use Rattle.dcc_prog.specs.Construct.{is_system, is_dos_number, HasNumber, HasAh,
 use Rattle.dcc_prog.specs.Construct as construct
 use Rattle.dcc_procs.specs.declared.seen.Seen.{Seen}
 use Rattle.dcc_procs.specs.declared.seen.Seen.TheVariants.{Never, Same, Differing}
-use Rattle.dcc_procs.specs.Built.{is_memory_or_stack, is_unbuilt_unary, is_unbuilt, IsUnbuiltAt, IsNotYet}
-use Rattle.dcc_procs.specs.Built as built
+use Rattle.dcc_prog.specs.Built.{is_memory_or_stack, is_unbuilt_unary, is_unbuilt, IsUnbuiltAt, IsNotYet}
+use Rattle.dcc_prog.specs.Built as built
 use Rattle.dcc_procs.specs.Search.{seen_at, number_of, is_built_number, tells_number, IsAccepted}
-use Rattle.dcc_procs.specs.Found.{IsNodeFound}
+use Rattle.dcc_prog.specs.Found.{IsNodeFound}
 use Rattle.dcc_procs.specs.Nodes.{Tells, HasInstruction, AreAllSeen}
 use Rattle.dcc_procs.proofs.Going.{number-told, followed-same, trail-successors}
 

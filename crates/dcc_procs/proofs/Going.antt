@@ -8,7 +8,7 @@ use Rattle.dcc_prog.specs.declared.instr.Instr.{Instr}
 use Rattle.dcc_prog.specs.Trail.{code_within, next_of, known_ah, ah_behind, targets_of, op_successors, instr_successors, successors}
 use Rattle.dcc_procs.specs.declared.seen.Seen.{Seen}
 use Rattle.dcc_procs.specs.declared.seen.Seen.TheVariants.{Never, Same, Differing}
-use Rattle.dcc_procs.specs.Built.{is_unbuilt}
+use Rattle.dcc_prog.specs.Built.{is_unbuilt}
 use Rattle.dcc_procs.specs.Search.{ah_of, tells_number, IsAccepted}
 use Rattle.dcc_procs.specs.Nodes.{Tells}
 use Rattle.dcc_procs.proofs.Causes.{HasTrail}

@@ -8,7 +8,7 @@ use Rattle.dcc_prog.specs.Table.{Row, BytePattern, table, fits, this_byte, any_o
 use Rattle.dcc_prog.specs.declared.refusal.Refusal.{Refusal}
 use Rattle.dcc_prog.specs.Construct.{HasIndirect, IsIndirectJump, IsIndirectCall, is_system}
 use Rattle.dcc_procs.specs.declared.seen.Seen.{Seen}
-use Rattle.dcc_procs.specs.Built.{is_unbuilt}
+use Rattle.dcc_prog.specs.Built.{is_unbuilt}
 use Rattle.dcc_procs.specs.Search.{tells_number, IsAccepted}
 use Rattle.dcc_prog.proofs.TableLaws.{and_left, and_both, find-fits, find-within, rows_within, instruction-row}
 use Rattle.dcc_decode.proofs.Forms.{fits-this, fits-any_operand}

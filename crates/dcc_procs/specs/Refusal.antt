@@ -5,7 +5,7 @@ use Rattle.dcc_prog.specs.declared.refusal.Refusal.{Refusal}
 use Rattle.dcc_prog.specs.declared.refusal.Refusal.TheVariants.{Construct, Limit, NotYet, Memory}
 use Rattle.dcc_prog.specs.Construct.{IsOfTrails}
 use Rattle.dcc_prog.specs.Limit.{IsAbove}
-use Rattle.dcc_procs.specs.Built.{IsNotYet}
+use Rattle.dcc_prog.specs.Built.{IsNotYet}
 
 -- the refusal names a construct that stands there, a count that is too great, or an instruction that is not built and is
 -- reached; want of memory has no cause

@@ -16,7 +16,7 @@ use Rattle.dcc_procs.specs.declared.seen.Seen.{Seen}
 use Rattle.dcc_procs.specs.declared.seen.Seen.TheVariants.{Never, Same, Differing}
 use Rattle.dcc_procs.specs.declared.search.Search.{Search}
 use Rattle.dcc_procs.specs.declared.onward.Onward.{Onward}
-use Rattle.dcc_procs.specs.Built.{is_unbuilt}
+use Rattle.dcc_prog.specs.Built.{is_unbuilt}
 
 -- What is known of AH, by all trails together.
 
