@@ -1,5 +1,5 @@
 -- INT 21h: the machine's call and the statement that stands for it.
-use Rattle.std.proofs.Common.{◌≡◌, ◌≢◌, ℕ, ◌+◌, ◌*◌, ◌/◌, ◌%◌, ◌<◌, Bool, true, false, List, [], ◌∷◌, ◌++◌, Option, Some, None, All, Contains, refl, sym, ap, ap₂, ◌∙◌, subst, ◌⊎◌, inl, inr, lit<, eqb-true}
+use Rattle.std.proofs.Common.{◌≡◌, ℕ, ◌/◌, ◌%◌, ◌<◌, Bool, true, false, List, [], ◌∷◌, ◌++◌, Some, None, All, Contains, refl, sym, ap, ap₂, ◌∙◌, subst, ◌⊎◌, inl, inr, lit<, eqb-true}
 use Rattle.std.proofs.lemmas.List.Elements.{All-head, All-tail}
 use Rattle.std.specs.Prelude.{if◌then◌else◌, ◌==◌, ◌||◌, slice_index}
 use Rattle.dcc_run.specs.End.{Running, Exit as ExitWith, is_over}
@@ -9,19 +9,17 @@ use Rattle.dcc_prog.specs.declared.image.Image.{Image}
 use Rattle.dcc_prog.specs.declared.procedure.Layout.{Layout}
 use Rattle.dcc_prog.specs.declared.procedure.Node.{Node}
 use Rattle.dcc_prog.specs.declared.instr.Operand.TheVariants.{Byte}
-use Rattle.dcc_prog.specs.declared.instr.Op.{Op}
 use Rattle.dcc_prog.specs.declared.instr.Op.TheVariants.{Int21}
-use Rattle.dcc_prog.specs.declared.instr.Instr.{Instr}
-use Rattle.dcc_prog.specs.Machine.{State as Machine, word_in, code_segment, with_operand}
-use Rattle.dcc_prog.specs.Dos.{after_write, with_key, dos_step, dos_call}
+use Rattle.dcc_prog.specs.Machine.{State as Machine, word_in, with_operand}
+use Rattle.dcc_prog.specs.Dos.{with_key, dos_step}
 use Rattle.dcc_prog.specs.Step.{op_step, step}
-use Rattle.dcc_prog.specs.Trail.{instruction_in, next_of, known_ah, ah_behind, op_successors, IsTrail}
-use Rattle.dcc_prog.proofs.FetchLaws.{IsPlaced, HoldsImage}
+use Rattle.dcc_prog.specs.Trail.{next_of, known_ah, ah_behind, op_successors}
+use Rattle.dcc_prog.proofs.FetchLaws.{IsPlaced}
 use Rattle.dcc_ir.specs.declared.syntax.Loc.TheVariants.{Half}
 use Rattle.dcc_ir.specs.Location.{Values, with_value}
-use Rattle.dcc_ir.specs.Tree.{Expr, Get, Stmt, Dos, Graph}
-use Rattle.dcc_ir.specs.Value.{Scene, Fits}
-use Rattle.dcc_ir.specs.Run.{State as Inner, scene_of, value_in, block_step, stmt_step, dos_step as inner_dos_step, keyed}
+use Rattle.dcc_ir.specs.Tree.{Get, Stmt, Graph}
+use Rattle.dcc_ir.specs.Value.{Fits}
+use Rattle.dcc_ir.specs.Run.{State as Inner, scene_of, value_in, block_step, dos_step as inner_dos_step, keyed}
 use Rattle.dcc_lift.specs.Temporaries.{temporary_bits}
 use Rattle.dcc_lift.specs.Statements.{dos_stmts, op_stmts, op_test}
 use Rattle.dcc_lift.specs.Mirrors.{Mirrors}
@@ -120,24 +118,24 @@ module _ (image : Image) (layout : Layout) (graph : Graph) (nodes : Nodes) (plac
         single = λ _. one;
         tested = λ test e. absurd (no-some (sym untested ∙ e));
         stand = record {
-            holds = record {
-              memory = left.memory ∙ both.holds.memory;
-              code = ap (λ l. slice_index l 1) left.segs ∙ both.holds.code;
-            };
-            ip_is = left.ip;
-            running = left.running;
-            trail = (subst (λ l. Contains l to) (is.succ before both.trail) contained, both.trail);
-            graph_is = left.graph_is ∙ both.graph_is;
-            going = left.going;
-            mirrors = left.mirrors;
-            fits = left.fits;
-            input = left.input;
-            out = left.out;
-            bytes = left.bytes;
-            ah = λ k e.
-                left.ah ∙ both.ah k
-                (sym (ap (λ found. ah_behind found (known_ah image layout before)) is.stands ∙ ap (λ op. ah_behind (Some (record node.instr { op = op })) (known_ah image layout before)) int) ∙ e);
+          holds = record {
+            memory = left.memory ∙ both.holds.memory;
+            code = ap (λ l. slice_index l 1) left.segs ∙ both.holds.code;
           };
+          ip_is = left.ip;
+          running = left.running;
+          trail = (subst (λ l. Contains l to) (is.succ before both.trail) contained, both.trail);
+          graph_is = left.graph_is ∙ both.graph_is;
+          going = left.going;
+          mirrors = left.mirrors;
+          fits = left.fits;
+          input = left.input;
+          out = left.out;
+          bytes = left.bytes;
+          ah = λ k e.
+              left.ah ∙ both.ah k
+              (sym (ap (λ found. ah_behind found (known_ah image layout before)) is.stands ∙ ap (λ op. ah_behind (Some (record node.instr { op = op })) (known_ah image layout before)) int) ∙ e);
+        };
         block = left.block_is;
         runs = λ rest. ap (λ l. block_step graphs fill (l ++ rest) t) (stmts-are n number) ∙ runs rest;
       }
@@ -216,8 +214,8 @@ module _ (image : Image) (layout : Layout) (graph : Graph) (nodes : Nodes) (plac
         block_is = refl;
         going = both.going;
         mirrors = subst (λ u. Mirrors u (with_value t.running.values (Half Ax Low) byte)) (sym st)
-          (mirrors_state (with_operand behind (Byte Ax Low) byte) (with_key echo (byte ∷ rest) behind) (with_value t.running.values (Half Ax Low) byte) refl refl
-          (taken-mirrors behind t.running.values byte small (mirrors_state s behind t.running.values refl refl both.mirrors)));
+            (mirrors_state (with_operand behind (Byte Ax Low) byte) (with_key echo (byte ∷ rest) behind) (with_value t.running.values (Half Ax Low) byte) refl refl
+            (taken-mirrors behind t.running.values byte small (mirrors_state s behind t.running.values refl refl both.mirrors)));
         fits = fits_taking (scene_of t) (Half Ax Low) byte (All-head (λ b. b < 256) byte rest bytes) both.fits;
         input = sym (ap (λ u. u.input) st);
         out = ap (λ l. l ++ echoed) both.out ∙ sym (ap (λ u. u.out) st);

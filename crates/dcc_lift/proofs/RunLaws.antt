@@ -1,12 +1,11 @@
 -- The run of the lifted program: one of its steps, a block, stands for the machine's steps through the block's instructions.
-use Rattle.std.proofs.Common.{◌≡◌, ◌≢◌, ℕ, zero, suc, ◌≤◌, Bool, true, false, cond, List, [], ◌∷◌, ◌++◌, Option, Some, None, All, Contains, refl, sym, ap, ap₂, ◌∙◌, subst, ◌⊎◌, inl, inr, arith, true≢false, eqb-true}
-use Rattle.std.proofs.lemmas.List.{append-nil}
-use Rattle.std.specs.Prelude.{if◌then◌else◌, ◌==◌, ◌||◌, flat_map, map, slice_get, option_map}
+use Rattle.std.proofs.Common.{◌≡◌, ◌≢◌, ℕ, zero, suc, ◌≤◌, Bool, true, false, cond, List, [], ◌∷◌, ◌++◌, Some, None, Contains, refl, sym, ap, ap₂, ◌∙◌, subst, ◌⊎◌, inl, inr, arith, eqb-true}
+use Rattle.std.specs.Prelude.{if◌then◌else◌, ◌==◌, ◌||◌, flat_map, slice_get, option_map}
 use Rattle.std.specs.List.{list_any}
-use Rattle.dcc_run.specs.End.{Running, Exit as ExitWith, is_over}
+use Rattle.dcc_run.specs.End.{Running, is_over}
 use Rattle.dcc_run.specs.System.{after}
 use Rattle.dcc_run.specs.Visits.{visit_at, visit_of, visits, visits_of}
-use Rattle.dcc_run.specs.Gathers.{AreOverAlike, GoOn, still_related, both_over, IsGathered}
+use Rattle.dcc_run.specs.Gathers.{GoOn, still_related, both_over, IsGathered}
 use Rattle.dcc_run.proofs.VisitLaws.{visits_of-append}
 use Rattle.dcc_prog.specs.declared.image.Image.{Image}
 use Rattle.dcc_prog.specs.declared.procedure.Layout.{Layout}
@@ -18,20 +17,20 @@ use Rattle.dcc_prog.specs.Machine.{State as Machine}
 use Rattle.dcc_prog.specs.Step.{step as machine_step, machine_system}
 use Rattle.dcc_prog.specs.Trail.{IsNode}
 use Rattle.dcc_prog.proofs.FetchLaws.{IsPlaced}
-use Rattle.dcc_ir.specs.Tree.{Expr, Stmt, Exit, Goto, If, Block, Graph, Program}
+use Rattle.dcc_ir.specs.Tree.{Exit, Graph, Program}
 use Rattle.dcc_ir.specs.Run.{State as Inner, Place, value_in, block_step, exit_step, going_to, entering, inner_system, step as inner_step}
 use Rattle.dcc_ir.proofs.PathLaws.{decided}
 use Rattle.dcc_lift.specs.Statements.{op_test}
-use Rattle.dcc_lift.specs.Blocks.{Nodes, node_in, node_stmts, successors_in, onward, IsChain, block_place, stmts_at, exit_at, last_of, IsBlockAt}
+use Rattle.dcc_lift.specs.Blocks.{Nodes, node_in, node_stmts, successors_in, IsChain, block_place, stmts_at, exit_at, last_of, IsBlockAt}
 use Rattle.dcc_lift.specs.Sound.{offsets_of, AreSound}
 use Rattle.dcc_lift.specs.Translation.{IsTranslation}
 use Rattle.dcc_lift.specs.Lifted.{instruction_mark, offset_mark, has_block_at}
-use Rattle.dcc_lift.proofs.ListTests.{or_none, same_number, any_contained}
+use Rattle.dcc_lift.proofs.ListTests.{any_contained}
 use Rattle.dcc_lift.proofs.NodeLaws.{node_in_has, contained_node}
 use Rattle.dcc_lift.proofs.ChainLaws.{is_leader, has_successor, IsOnward, onward_tells, joins_no_leader, last_goes_to_leaders}
-use Rattle.dcc_lift.proofs.BlockLaws.{IsExitOf, stops, goes, parts, exit_forms, HasBlock}
-use Rattle.dcc_lift.proofs.TranslationLaws.{the_graph, graphs_are, block_at_leader, program_has_block}
-use Rattle.dcc_lift.proofs.Standing.{AreLifted, IsInstruction, BothStand, IsPassed, IsLeft, passed, no-some}
+use Rattle.dcc_lift.proofs.BlockLaws.{IsExitOf, stops, goes, parts, exit_forms}
+use Rattle.dcc_lift.proofs.TranslationLaws.{the_graph, block_at_leader, program_has_block}
+use Rattle.dcc_lift.proofs.Standing.{AreLifted, IsInstruction, BothStand, IsPassed, passed}
 use Rattle.dcc_lift.proofs.DosStanding.{IsDone, goes_on, ends, dos-done}
 
 -- an operation is INT 21h or another one
@@ -96,19 +95,19 @@ module _ (laws : AreLifted) (image : Image) (layout : Layout) (start : Proc) (p 
         at = to;
         before = before;
         both = record {
-            holds = both.holds;
-            ip_is = both.ip_is;
-            running = both.running;
-            trail = both.trail;
-            graph_is = both.graph_is;
-            going = both.going;
-            mirrors = both.mirrors;
-            fits = both.fits;
-            input = both.input;
-            out = both.out;
-            bytes = both.bytes;
-            ah = both.ah;
-          };
+          holds = both.holds;
+          ip_is = both.ip_is;
+          running = both.running;
+          trail = both.trail;
+          graph_is = both.graph_is;
+          going = both.going;
+          mirrors = both.mirrors;
+          fits = both.fits;
+          input = both.input;
+          out = both.out;
+          bytes = both.bytes;
+          ah = both.ah;
+        };
         leader = leader;
         is_block = h.is_block;
         begins = refl;
@@ -188,10 +187,10 @@ module _ (laws : AreLifted) (image : Image) (layout : Layout) (start : Proc) (p 
                 quiet = refl;
                 running = λ j le. let e : j ≡ 0 = omega (arith, le) in ap (λ k. is_over (after machine_step k s).end) e ∙ not-over s both.running;
                 goes_on_to = both_over (record {
-                    over = ap is_over x.machine;
-                    end = ap (λ l. (block_step p.graphs fill (l ++ []) t).end) stmts ∙ x.ends [] ∙ sym x.machine;
-                    out = ap (λ l. (block_step p.graphs fill (l ++ []) t).out) stmts ∙ x.inner_out [] ∙ both.out ∙ sym x.out;
-                  });
+                  over = ap is_over x.machine;
+                  end = ap (λ l. (block_step p.graphs fill (l ++ []) t).end) stmts ∙ x.ends [] ∙ sym x.machine;
+                  out = ap (λ l. (block_step p.graphs fill (l ++ []) t).out) stmts ∙ x.inner_out [] ∙ both.out ∙ sym x.out;
+                });
               }
         ]
       where
@@ -236,7 +235,7 @@ module _ (laws : AreLifted) (image : Image) (layout : Layout) (start : Proc) (p 
               same-further related s _ _ run (record {
                 further = suc later.further;
                 quiet = visits_of-append kept (visit_of machine_system instruction_mark (machine_step s)) (visits machine_system instruction_mark later.further (machine_step (machine_step s)))
-                  ∙ ap₂ (λ a b. a ++ b) (inner-quiet (machine_step s) at next onwards stand.running stand.ip_is) later.quiet;
+                    ∙ ap₂ (λ a b. a ++ b) (inner-quiet (machine_step s) at next onwards stand.running stand.ip_is) later.quiet;
                 running = within s later.further (not-over s both.running) later.running;
                 goes_on_to = later.goes_on_to;
               })

@@ -1,36 +1,33 @@
 -- The runs of the lifted program and of the machine.
-use Rattle.std.proofs.Common.{◌≡◌, ◌≢◌, ℕ, zero, suc, ◌+◌, ◌-◌, ◌%◌, ◌<◌, ◌≤◌, Bool, true, false, cond, List, [], ◌∷◌, ◌++◌, length, take, Option, Some, None, All, Contains, refl, sym, ap, ap₂, ◌∙◌, subst, ◌⊎◌, inl, inr, arith, true≢false, eqb-true}
+use Rattle.std.proofs.Common.{◌≡◌, ℕ, zero, suc, ◌+◌, ◌-◌, ◌%◌, ◌<◌, ◌≤◌, Bool, true, false, cond, List, [], ◌∷◌, ◌++◌, length, take, All, refl, sym, ap, ap₂, ◌∙◌, subst, inl, inr, arith, true≢false, eqb-true}
 use Rattle.std.proofs.lemmas.List.{length-take-le}
 use Rattle.std.proofs.Math.Nat.{mod-eq_of_lt}
-use Rattle.std.specs.Prelude.{if◌then◌else◌, ◌==◌, ◌||◌, option_map}
-use Rattle.dcc_run.specs.End.{End, Running, Exit as ExitWith, Divide, Outside, Stuck, is_over}
-use Rattle.dcc_run.specs.System.{after, end_after}
-use Rattle.dcc_run.specs.Visits.{visit_at, visit_of, visits, visits_of, VisitsKept}
-use Rattle.dcc_run.specs.Gathers.{AreOverAlike, GoOn, still_related, both_over, IsGathered, Gathers}
+use Rattle.std.specs.Prelude.{◌==◌, ◌||◌}
+use Rattle.dcc_run.specs.End.{is_over}
+use Rattle.dcc_run.specs.System.{after}
+use Rattle.dcc_run.specs.Visits.{visit_of, visits, visits_of, VisitsKept}
+use Rattle.dcc_run.specs.Gathers.{still_related, IsGathered, Gathers}
 use Rattle.dcc_run.proofs.RunLaws.{after-add}
 use Rattle.dcc_run.proofs.VisitLaws.{visits_of-append}
 use Rattle.dcc_run.proofs.GatherLaws.{visits_kept_gathered}
 use Rattle.dcc_prog.specs.declared.image.Image.{Image}
 use Rattle.dcc_prog.specs.declared.procedure.Layout.{Layout}
 use Rattle.dcc_prog.specs.declared.procedure.Proc.{Proc}
-use Rattle.dcc_prog.specs.declared.instr.Instr.{Instr}
 use Rattle.dcc_prog.specs.MzImage.{IsLoaded}
 use Rattle.dcc_prog.specs.Code.{code_of}
-use Rattle.dcc_prog.specs.Machine.{State as Machine, code_segment, start_state}
-use Rattle.dcc_prog.specs.Step.{step as machine_step, op_step, machine_system}
-use Rattle.dcc_prog.specs.Layout.{HasLayout, IsRun, end_of}
+use Rattle.dcc_prog.specs.Machine.{State as Machine, start_state}
+use Rattle.dcc_prog.specs.Step.{step as machine_step, machine_system}
+use Rattle.dcc_prog.specs.Layout.{HasLayout}
 use Rattle.dcc_prog.proofs.StepLaws.{machine_lawful}
-use Rattle.dcc_prog.proofs.FetchLaws.{IsPlaced}
-use Rattle.dcc_prog.proofs.PreludeSteps.{executed as executed_run, form-code, step-at, at_offset, steps-from_start}
+use Rattle.dcc_prog.proofs.PreludeSteps.{executed as executed_run, at_offset, steps-from_start}
 use Rattle.dcc_prog.specs.Found.{AreFound}
 use Rattle.dcc_ir.proofs.PathLaws.{decided}
 use Rattle.dcc_ir.proofs.RunLaws.{inner_lawful}
 use Rattle.dcc_ir.specs.Tree.{Program}
 use Rattle.dcc_ir.specs.Run.{State as Inner, inner_system, first_state, step as inner_step}
-use Rattle.dcc_lift.specs.Blocks.{block_place}
 use Rattle.dcc_lift.specs.Sound.{AreSound}
-use Rattle.dcc_lift.specs.Translation.{prelude_block, IsTranslation}
-use Rattle.dcc_lift.specs.Lifted.{instruction_mark, offset_mark, has_block_at, RunsAsMachine, IsNeverStuck}
+use Rattle.dcc_lift.specs.Translation.{IsTranslation}
+use Rattle.dcc_lift.specs.Lifted.{instruction_mark, offset_mark, has_block_at}
 use Rattle.dcc_lift.proofs.ListTests.{same_number}
 use Rattle.dcc_lift.proofs.ChainLaws.{is_leader, leader_node, entry_is_leader}
 use Rattle.dcc_lift.proofs.TranslationLaws.{program_has_block}

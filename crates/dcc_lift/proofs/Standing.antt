@@ -1,11 +1,11 @@
 -- The machine at an offset of the procedure and the program's run within a block stand for each other; one instruction of
 -- the one and its statements in the other keep that.
-use Rattle.std.proofs.Common.{◌≡◌, ◌≢◌, ℕ, ◌+◌, ◌-◌, ◌*◌, ◌/◌, ◌%◌, ◌<◌, ◌≤◌, Bool, true, false, cond, List, [], ◌∷◌, ◌++◌, Option, Some, None, All, Contains, take, drop, length, refl, sym, ap, ap₂, ◌∙◌, subst, lit<, arith, true≢false}
+use Rattle.std.proofs.Common.{◌≡◌, ◌≢◌, ℕ, ◌+◌, ◌-◌, ◌<◌, ◌≤◌, Bool, true, false, List, [], ◌∷◌, ◌++◌, Option, Some, None, All, Contains, take, drop, length, refl, sym, ap, ◌∙◌, subst, lit<, arith, true≢false}
 use Rattle.std.proofs.lemmas.List.{length-drop, length-take, drop-take, take-take}
 use Rattle.std.specs.Prelude.{slice_index, if◌then◌else◌, ◌==◌, ◌||◌}
 use Rattle.dcc_run.specs.End.{Running, Exit as ExitWith, is_over}
-use Rattle.dcc_num.specs.declared.Reg.TheVariants.{Ax, Dx}
-use Rattle.dcc_num.specs.declared.Half.TheVariants.{Low, High}
+use Rattle.dcc_num.specs.declared.Reg.TheVariants.{Ax}
+use Rattle.dcc_num.specs.declared.Half.TheVariants.{High}
 use Rattle.dcc_prog.specs.declared.image.Image.{Image}
 use Rattle.dcc_prog.specs.declared.procedure.Layout.{Layout}
 use Rattle.dcc_prog.specs.declared.procedure.Node.{Node}
@@ -14,14 +14,13 @@ use Rattle.dcc_prog.specs.declared.instr.Op.TheVariants.{Int21, Table}
 use Rattle.dcc_prog.specs.declared.instr.Instr.{Instr}
 use Rattle.dcc_prog.specs.Code.{code_of}
 use Rattle.dcc_prog.specs.Table.{instruction_at}
-use Rattle.dcc_prog.specs.Machine.{State as Machine, word_in, code_segment}
+use Rattle.dcc_prog.specs.Machine.{State as Machine, code_segment}
 use Rattle.dcc_prog.specs.Step.{code_bytes, op_step, instruction_step, step}
-use Rattle.dcc_prog.specs.Trail.{code_within, instruction_in, next_of, known_ah, ah_behind, targets_of, op_successors, successors, IsTrail}
+use Rattle.dcc_prog.specs.Trail.{instruction_in, next_of, known_ah, ah_behind, targets_of, op_successors, successors, IsTrail}
 use Rattle.dcc_prog.specs.WellFormed.{IsOperation}
 use Rattle.dcc_prog.proofs.TableLaws.{instruction-length, instruction-prefix}
 use Rattle.dcc_prog.proofs.FetchLaws.{IsPlaced, HoldsImage, fetched-instruction}
 use Rattle.dcc_ir.specs.declared.syntax.Loc.TheVariants.{Half}
-use Rattle.dcc_ir.specs.Location.{Values}
 use Rattle.dcc_ir.specs.Tree.{Expr, Stmt, Graph}
 use Rattle.dcc_ir.specs.Value.{Scene, value_of, Fits}
 use Rattle.dcc_ir.specs.Run.{State as Inner, scene_of, value_in, block_step}

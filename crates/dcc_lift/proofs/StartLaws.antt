@@ -1,42 +1,37 @@
 -- The start: the block of the prelude stands for the machine's steps through the prelude.
-use Rattle.std.proofs.Common.{◌≡◌, ◌≢◌, ℕ, zero, suc, ◌+◌, ◌*◌, ◌/◌, ◌%◌, ◌-◌, ◌^◌, ◌<◌, ◌≤◌, Bool, true, false, cond, List, [], ◌∷◌, ◌++◌, length, take, Option, Some, None, All, Contains, refl, sym, ap, ap₂, ◌∙◌, subst, ◌⊎◌, inl, inr, arith, true≢false, eqb-true, get_or, drop, lit<, pow_pos}
+use Rattle.std.proofs.Common.{◌≡◌, ℕ, ◌+◌, ◌*◌, ◌/◌, ◌%◌, ◌-◌, ◌^◌, ◌<◌, Bool, true, false, List, [], length, All, refl, sym, ap, ◌∙◌, subst, inl, inr, arith, true≢false, get_or, drop, lit<, pow_pos}
 use Rattle.std.proofs.lemmas.Bool.{cases_lt}
 use Rattle.std.proofs.Math.Nat.{mod-eq_of_lt}
 use Rattle.std.proofs.lemmas.Nat.{mod_below}
 use Rattle.std.proofs.lemmas.List.{append-nil, get_or_past}
 use Rattle.std.proofs.lemmas.List.FromFn.{length-map-range_with_len, get_or-map-range_with_len}
-use Rattle.std.specs.Prelude.{if◌then◌else◌, ◌==◌, ◌||◌, ◌&&◌, nat_le, nat_lt, map, slice_index, slice_get, option_map}
+use Rattle.std.specs.Prelude.{if◌then◌else◌, ◌&&◌, nat_le, nat_lt, map, slice_index}
 use Rattle.std.specs.Int.{from_bool}
 use Rattle.std.specs.List.{range_with_len}
-use Rattle.dcc_run.specs.End.{Running, is_over}
+use Rattle.dcc_run.specs.End.{Running}
 use Rattle.dcc_run.specs.System.{after}
 use Rattle.dcc_num.specs.declared.Reg.{Reg}
 use Rattle.dcc_num.specs.declared.Reg.TheVariants.{Ax, Cx, Dx, Bx, Sp, Bp, Si, Di}
 use Rattle.dcc_num.specs.declared.Half.TheVariants.{Low, High}
-use Rattle.dcc_num.specs.declared.Flags.{Flags}
 use Rattle.dcc_prog.specs.declared.image.Image.{Image}
 use Rattle.dcc_prog.specs.declared.procedure.Layout.{Layout}
 use Rattle.dcc_prog.specs.declared.procedure.Proc.{Proc}
-use Rattle.dcc_prog.specs.declared.instr.Instr.{Instr}
 use Rattle.dcc_prog.specs.MzImage.{IsLoaded}
 use Rattle.dcc_prog.specs.Load.{load_segment}
 use Rattle.dcc_prog.specs.Code.{code_of}
-use Rattle.dcc_prog.specs.Machine.{State as Machine, reg_number, word_in, code_segment, start_state}
+use Rattle.dcc_prog.specs.Machine.{State as Machine, reg_number, start_state}
 use Rattle.dcc_prog.specs.Step.{step as machine_step}
-use Rattle.dcc_prog.specs.Layout.{HasLayout, end_of, state_behind}
-use Rattle.dcc_prog.proofs.FetchLaws.{IsPlaced, HoldsImage, image-placed}
-use Rattle.dcc_prog.proofs.MzImageLaws.{All-loaded}
+use Rattle.dcc_prog.specs.Layout.{HasLayout}
 use Rattle.dcc_prog.proofs.PreludeSteps.{executed as executed_run, executed-code, at_offset, steps-from_start, state_behind-is}
 use Rattle.dcc_ir.specs.declared.syntax.Loc.{Loc}
-use Rattle.dcc_ir.specs.declared.syntax.Loc.TheVariants.{Half, Flag}
-use Rattle.dcc_ir.specs.Location.{Values, location_width, fill_at, filled}
-use Rattle.dcc_ir.specs.Tree.{Stmt, Block, Graph, Program}
+use Rattle.dcc_ir.specs.declared.syntax.Loc.TheVariants.{Half}
+use Rattle.dcc_ir.specs.Location.{Values, location_width, filled}
+use Rattle.dcc_ir.specs.Tree.{Block, Graph, Program}
 use Rattle.dcc_ir.specs.Value.{Scene, Fits}
-use Rattle.dcc_ir.specs.WellFormed.{is_stmt}
-use Rattle.dcc_ir.specs.Run.{State as Inner, scene_of, activation, no_graph, first_memory, first_state, going_to, exit_step, block_step, inner_system, step as inner_step}
+use Rattle.dcc_ir.specs.Run.{State as Inner, scene_of, activation, no_graph, first_memory, first_state, going_to, block_step, step as inner_step}
 use Rattle.dcc_lift.specs.Temporaries.{temporary_bits}
 use Rattle.dcc_lift.specs.Mirrors.{is_general, Mirrors, executed}
-use Rattle.dcc_lift.specs.Blocks.{Nodes, block_place}
+use Rattle.dcc_lift.specs.Blocks.{block_place}
 use Rattle.dcc_lift.specs.Translation.{data_image, prelude_block, IsTranslation}
 use Rattle.dcc_lift.proofs.MirrorLaws.{values_fit}
 use Rattle.dcc_lift.proofs.TranslationLaws.{the_graph, graphs_are}
@@ -177,9 +172,9 @@ module _ (image : Image) (layout : Layout) (start : Proc) (p : Program) (fill : 
       let regs = layout-registers image layout loaded has in
       record {
         holds = record {
-            memory = refl;
-            code = executed-code (code_of image) image.ip has.prelude (start_state image []) has.is_prelude.run;
-          };
+          memory = refl;
+          code = executed-code (code_of image) image.ip has.prelude (start_state image []) has.is_prelude.run;
+        };
         ip_is = mod-eq_of_lt below;
         running = refl;
         trail = refl;

@@ -1,8 +1,8 @@
 -- The machine ends by an exit code, a divide fault or an instruction without a row, and in no other way.
-use Rattle.std.proofs.Common.{◌≡◌, ◌≢◌, ℕ, zero, suc, ◌*◌, ◌%◌, ◌/◌, ◌+◌, Bool, true, false, cond, List, [], ◌∷◌, Option, Some, None, refl, sym, ap, ◌∙◌, subst}
+use Rattle.std.proofs.Common.{◌≡◌, ◌≢◌, ℕ, zero, suc, ◌%◌, ◌/◌, ◌+◌, Bool, true, false, List, [], ◌∷◌, Option, Some, None, refl, sym, ◌∙◌, subst}
 use Rattle.std.specs.Prelude.{◌==◌, if◌then◌else◌}
-use Rattle.dcc_run.specs.End.{End, Running, Exit, Divide, Outside, Stuck, is_over}
-use Rattle.dcc_run.specs.System.{after, end_after}
+use Rattle.dcc_run.specs.End.{End, Exit, Outside, Stuck, is_over}
+use Rattle.dcc_run.specs.System.{end_after}
 use Rattle.dcc_num.specs.declared.Width.{Width}
 use Rattle.dcc_num.specs.declared.Width.TheVariants.{Byte as byte_width, Word as word_width}
 use Rattle.dcc_num.specs.declared.Reg.TheVariants.{Ax, Dx}
@@ -21,7 +21,7 @@ use Rattle.dcc_prog.specs.declared.instr.Op.TheVariants.{Alu, Unary, Shift, Mov,
 use Rattle.dcc_prog.specs.declared.instr.Instr.{Instr}
 use Rattle.dcc_prog.specs.Table.{instruction_at}
 use Rattle.dcc_prog.specs.Machine.{State, word_in, operand_value, operand_width, with_operand, start_state}
-use Rattle.dcc_prog.specs.Operations.{with_end, with_flags, with_result, with_pair, with_product, with_division, alu_step, unary_step, shift_result, count_in, plain_step, with_sp_raised, top_word}
+use Rattle.dcc_prog.specs.Operations.{with_end, with_flags, with_pair, with_division, alu_step, unary_step, plain_step, with_sp_raised, top_word}
 use Rattle.dcc_prog.specs.Dos.{dos_string, after_write, with_key, key_step, dos_step}
 use Rattle.dcc_prog.specs.Step.{code_bytes, op_step, instruction_step, step, machine_system}
 

@@ -17,7 +17,7 @@ use Rattle.dcc_prog.specs.declared.instr.Alu.TheVariants.{Adc, Sbb, And, Or, Xor
 use Rattle.dcc_prog.specs.declared.instr.Shift.{Shift}
 use Rattle.dcc_prog.specs.declared.instr.Shift.TheVariants.{Rcl, Rcr, Sar}
 use Rattle.dcc_prog.specs.declared.instr.Unary.{Unary}
-use Rattle.dcc_prog.specs.declared.instr.Unary.TheVariants.{Inc, Dec, Neg, Not, Mul, Imul, Div, Idiv}
+use Rattle.dcc_prog.specs.declared.instr.Unary.TheVariants.{Mul, Imul, Div, Idiv}
 use Rattle.dcc_prog.specs.declared.instr.Cond.{Cond}
 use Rattle.dcc_prog.specs.declared.instr.Cond.TheVariants.{O, No, B, Ae, Z, Nz, Be, A, S, Ns, L, Ge, Le, G}
 use Rattle.dcc_prog.specs.declared.instr.Plain.{Plain}
