@@ -1,5 +1,5 @@
 -- Why an instruction is refused, in terms of constructs and trails.
-use Rattle.std.proofs.Common.{◌≡◌, ◌≢◌, inl, inr, ℕ, Bool, true, false, ◌==◌, ◌||◌, List, ◌∷◌, drop, Option, Some, None, Result, Ok, Err, IfErr, if◌then◌else◌, refl, sym, ap, ◌∙◌, subst, eq-eqb, eqb-true}
+use Rattle.std.proofs.Common.{◌≤◌, arith, ◌≡◌, ◌≢◌, inl, inr, ℕ, Bool, true, false, ◌==◌, ◌||◌, List, ◌∷◌, drop, Option, Some, None, Result, Ok, Err, IfErr, if◌then◌else◌, refl, sym, ap, ◌∙◌, subst, eq-eqb, eqb-true}
 use Rattle.dcc_prog.specs.declared.image.Image.{Image}
 use Rattle.dcc_prog.specs.declared.procedure.Layout.{Layout}
 use Rattle.dcc_prog.specs.declared.instr.Instr.{Instr}
@@ -108,11 +108,19 @@ module _ (image : Image) (layout : Layout) (at : ℕ) where
   unbuilt-here seen w (kept.string {instr} found dos nine) =
       built.string (has-ah (Some 0x09) (stands-int instr found dos) (subst (IsWitnessed image layout at) nine w))
 
+-- the kinds are the first five
+kind-small : (code : List ℕ) (at : ℕ) (seen : Seen) (kind : ℕ) → IsKind code at seen kind → kind ≤ 5
+kind-small code at seen _ (kept.unknown none jump call) = omega arith
+kind-small code at seen _ (kept.jump h) = omega arith
+kind-small code at seen _ (kept.call h) = omega arith
+kind-small code at seen _ (kept.system found system) = omega arith
+kind-small code at seen _ (kept.number found dos other) = omega arith
+
 -- a refusal of an instruction to which trails come is a refusal of the program
 pub refusal-cause : (image : Image) (layout : Layout) (at : ℕ) (seen : Seen) (refusal : Refusal) → seen ≢ Never → IsWitnessed image layout at seen → IsCause (code_within image layout) at seen refusal → IsRefusal image layout refusal
 refusal-cause image layout at seen (Construct kind place) is w cause =
-    subst (IsOfTrails kind image layout) (sym cause.0)
-    (record { entry = layout.start_ip; is_entry = start; node = node-witnessed image layout at seen is w; stands = construct-kind image layout at seen kind is w cause.1 })
+    let there : IsOfTrails kind image layout at = record { entry = layout.start_ip; is_entry = start; node = node-witnessed image layout at seen is w; stands = construct-kind image layout at seen kind is w cause.1 } in
+    (subst (IsOfTrails kind image layout) (sym cause.0) there, kind-small (code_within image layout) at seen kind cause.1)
 refusal-cause image layout at seen (NotYet place) is w cause =
     subst (IsNotYet image layout) (sym cause.0)
     (record { node = node-witnessed image layout at seen is w; unbuilt = unbuilt-here image layout at seen w cause.1 })
