@@ -1,0 +1,6 @@
+//! The text writer: a unit in its written form.
+#![tactic(auto)]
+
+mod declaration;
+mod expression;
+mod statement;
