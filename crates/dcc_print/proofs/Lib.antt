@@ -1,2 +1,5 @@
+pub mod DepthLaws
+pub mod IndentLaws
 pub mod JoinedLaws
 pub mod MinusLaws
+pub mod RowLaws
