@@ -1,3 +1,4 @@
+pub mod BlockLaws
 pub mod DepthLaws
 pub mod IndentLaws
 pub mod JoinedLaws

@@ -94,9 +94,11 @@ fn push_else(
         ++ (indentation braces ++ codes "}\n"))) }
     ensures depth { IfOk result (λ behind. behind ≡ depth_behind depth (stmts_in (lines_of otherwise.now))) }
 {
-    if !otherwise.is_empty() {
-        push_line(text, braces, "} else {\n")?;
+    if otherwise.is_empty() {
+        push_line(text, braces, "}\n")?;
+        return Ok(depth);
     }
+    push_line(text, braces, "} else {\n")?;
     push_block(text, braces, depth, otherwise)
 }
 
@@ -150,14 +152,20 @@ fn push_default(
         ++ (written_default (1 + braces) depth (arms_if last.now) ++ (indentation braces ++ codes "}\n"))) }
     ensures depth { IfOk result (λ behind. behind ≡ depth_behind depth (arm_stmts (arms_if last.now))) }
 {
-    let mut behind = depth;
-    if let Some(arm) = last {
-        push_line(text, inside(braces), "default:\n")?;
-        behind = push_inner(text, braces, depth, &arm.body)?;
-        push_line(text, inside(braces), "break;\n")?;
+    match last {
+        None => {
+            push_line(text, braces, "}\n")?;
+            Ok(depth)
+        }
+        Some(arm) => {
+            let inner = inside(braces);
+            push_line(text, inner, "default:\n")?;
+            let behind = push_lines(text, inner, depth, &arm.body)?;
+            push_line(text, inner, "break;\n")?;
+            push_line(text, braces, "}\n")?;
+            Ok(behind)
+        }
     }
-    push_line(text, braces, "}\n")?;
-    Ok(behind)
 }
 
 /// Appends the statements inside a statement that is itself inside so many pairs of braces. The

@@ -42,7 +42,7 @@ fn class_word(class: Class) -> &'static str
 }
 
 /// Appends the declaration of a local variable.
-fn push_local(text: &mut String, v: &Var) -> Result<(), AllocError>
+pub(crate) fn push_local(text: &mut String, v: &Var) -> Result<(), AllocError>
     ensures { OnOk result (string_bytes text.new ≡ string_bytes text.old ++ written_local (variable_of v.now)) }
 {
     text.push_str("    ")?;
@@ -61,7 +61,7 @@ fn push_param(text: &mut String, v: &Var) -> Result<(), AllocError>
 }
 
 /// Appends the parameters in a function's head.
-fn push_params(text: &mut String, params: &[Var]) -> Result<(), AllocError>
+pub(crate) fn push_params(text: &mut String, params: &[Var]) -> Result<(), AllocError>
     ensures { OnOk result (string_bytes text.new ≡ string_bytes text.old ++ written_head_params (map variable_of params.now)) }
 {
     match params {
@@ -78,7 +78,7 @@ fn push_params(text: &mut String, params: &[Var]) -> Result<(), AllocError>
 }
 
 /// Appends the result and the name in a function's head.
-fn push_head(text: &mut String, ty: Option<CType>, name: &str) -> Result<(), AllocError>
+pub(crate) fn push_head(text: &mut String, ty: Option<CType>, name: &str) -> Result<(), AllocError>
     ensures { OnOk result (string_bytes text.new ≡ string_bytes text.old ++ written_head ty name.now) }
 {
     match ty {

@@ -5,3 +5,6 @@ mod block;
 mod declaration;
 mod expression;
 mod statement;
+pub mod unit;
+
+pub use unit::{PrintFault, print};

@@ -1,4 +1,4 @@
-use Rattle.std.proofs.Common.{◌≡◌, ◌++◌, map, take, drop, string_bytes, None}
+use Rattle.std.proofs.Common.{◌≡◌, ◌++◌, map, drop, string_bytes, None}
 use Rattle.dcc_c.specs.Written.{written_globals}
 use Rattle.dcc_c.specs.Views.{global_of}
 use Rattle.dcc_print.proofs.declaration.push_globals.Given as goal

@@ -1,4 +1,4 @@
-use Rattle.std.proofs.Common.{◌≡◌, ◌++◌, ap, ◌∙◌, get_or, string_bytes}
+use Rattle.std.proofs.Common.{◌++◌, ap, ◌∙◌, string_bytes}
 use Rattle.dcc_c.specs.Written.{written_param}
 use Rattle.dcc_c.specs.Views.{variable_of}
 use Rattle.dcc_print.proofs.JoinedLaws.{params-joined, head_params-joined}

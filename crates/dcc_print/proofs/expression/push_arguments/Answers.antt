@@ -1,4 +1,4 @@
-use Rattle.std.proofs.Common.{◌≡◌, ◌++◌, ap, ◌∙◌, get_or, string_bytes}
+use Rattle.std.proofs.Common.{◌++◌, ap, ◌∙◌, string_bytes}
 use Rattle.dcc_c.specs.Written.{written_expr}
 use Rattle.dcc_c.specs.Views.{expr_of}
 use Rattle.dcc_print.proofs.JoinedLaws.{arguments-joined}
