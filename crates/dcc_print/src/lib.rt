@@ -8,3 +8,6 @@ mod statement;
 pub mod unit;
 
 pub use unit::{PrintFault, print};
+
+#[cfg(test)]
+mod tests;
