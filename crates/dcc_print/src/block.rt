@@ -64,7 +64,8 @@ fn push_stmt(text: &mut String, braces: usize, depth: u32, stmt: &CStmt) -> Resu
     Ok(depth)
 }
 
-/// Appends the statements inside a statement, and the line that ends it.
+/// Appends the statements inside a statement, and the line that ends it. The answer is the depth in
+/// force behind it.
 #[cycle(block)]
 fn push_block(
     text: &mut String,
@@ -81,7 +82,8 @@ fn push_block(
     Ok(behind)
 }
 
-/// Appends the else part of an `if`, where it is not empty, and the line that ends the `if`.
+/// Appends the else part of an `if`, where it is not empty, and the line that ends the `if`. The
+/// answer is the depth in force behind it.
 #[cycle(block)]
 fn push_else(
     text: &mut String,
@@ -102,7 +104,7 @@ fn push_else(
     push_block(text, braces, depth, otherwise)
 }
 
-/// Appends a `do` loop.
+/// Appends a `do` loop. The answer is the depth in force behind it.
 #[cycle(block)]
 fn push_do_while(
     text: &mut String,

@@ -139,11 +139,11 @@ pub(crate) fn push_expr(text: &mut String, e: &CExpr) -> Result<(), AllocError>
             text.push_str(" : ")?;
             push_operand(text, c)
         }
-        CExpr::Cast(ty, a) => {
+        CExpr::Cast(ty, value) => {
             text.push_str("(")?;
             push_cast(text, *ty)?;
             text.push_str(")")?;
-            push_operand(text, a)
+            push_operand(text, value)
         }
     }
 }
