@@ -1,0 +1,6 @@
+pub mod BlockLaws
+pub mod DepthLaws
+pub mod IndentLaws
+pub mod JoinedLaws
+pub mod MinusLaws
+pub mod RowLaws

@@ -1,0 +1,208 @@
+//! Blocks in their written form: statements, and the statements inside them.
+
+ghost use Rattle.std.specs.Prelude.{◌≡◌, ◌+◌, ◌++◌, ◌∷◌, OnOk, IfOk, min, codes, string_bytes};
+ghost use Rattle.dcc_c.specs.Tree.{DoWhile};
+ghost use Rattle.dcc_c.specs.Parts.{stmts_in, inner_stmts, arm_stmts};
+ghost use Rattle.dcc_c.specs.Written.{indentation, depth_behind, written_stmt, written_else, written_lines, written_arms, written_default};
+ghost use Rattle.dcc_c.specs.Views.{expr_of, stmt_of, lines_of, arms_of};
+ghost use Rattle.dcc_print.specs.Blocks.{arms_if};
+
+use crate::expression::push_expr;
+use crate::statement::{
+    is_label, push_assign, push_call, push_cases, push_depth, push_goto, push_label, push_line,
+    push_return, push_test,
+};
+use dcc_c::{Arm, CExpr, CStmt, Line};
+use std::alloc::AllocError;
+
+/// The pairs of braces around what is inside a statement, as far as the indentation counts them.
+fn inside(braces: usize) -> usize
+    ensures { min result 16 ≡ min (1 + braces) 16 }
+{
+    braces.min(16) + 1
+}
+
+/// Appends a statement inside so many pairs of braces, where calls have this depth. The answer is
+/// the depth in force behind it.
+#[cycle(block)]
+fn push_stmt(text: &mut String, braces: usize, depth: u32, stmt: &CStmt) -> Result<u32, AllocError>
+    ensures text { OnOk result (string_bytes text.new ≡ string_bytes text.old ++ written_stmt braces depth (stmt_of stmt.now)) }
+    ensures depth { IfOk result (λ behind. behind ≡ depth_behind depth (stmt_of stmt.now ∷ inner_stmts (stmt_of stmt.now))) }
+{
+    match stmt {
+        CStmt::Assign(place, e) => push_assign(text, braces, place, e)?,
+        CStmt::Call(place, function, arguments, own) => {
+            push_call(text, braces, place, function.as_str(), arguments)?;
+            return Ok(*own);
+        }
+        CStmt::If(e, body, otherwise) => {
+            push_test(text, braces, "if", e)?;
+            let middle = push_inner(text, braces, depth, body)?;
+            return push_else(text, braces, middle, otherwise);
+        }
+        CStmt::While(e, body) => {
+            push_test(text, braces, "while", e)?;
+            return push_block(text, braces, depth, body);
+        }
+        CStmt::DoWhile(body, e) => return push_do_while(text, braces, depth, body, e),
+        CStmt::Forever(body) => {
+            push_line(text, braces, "for (;;) {\n")?;
+            return push_block(text, braces, depth, body);
+        }
+        CStmt::Switch(e, arms, last) => {
+            push_test(text, braces, "switch", e)?;
+            let middle = push_arms(text, inside(braces), depth, arms)?;
+            return push_default(text, braces, middle, last);
+        }
+        CStmt::Break => push_line(text, braces, "break;\n")?,
+        CStmt::Continue => push_line(text, braces, "continue;\n")?,
+        CStmt::Goto(name) => push_goto(text, braces, name.as_str())?,
+        CStmt::Label(name) => push_label(text, name.as_str())?,
+        CStmt::Empty => push_line(text, braces, ";\n")?,
+        CStmt::Return(e) => push_return(text, braces, e)?,
+    }
+    Ok(depth)
+}
+
+/// Appends the statements inside a statement, and the line that ends it. The answer is the depth in
+/// force behind it.
+#[cycle(block)]
+fn push_block(
+    text: &mut String,
+    braces: usize,
+    depth: u32,
+    body: &[Line],
+) -> Result<u32, AllocError>
+    ensures text { OnOk result (string_bytes text.new ≡ string_bytes text.old
+        ++ (written_lines (1 + braces) depth (lines_of body.now) ++ (indentation braces ++ codes "}\n"))) }
+    ensures depth { IfOk result (λ behind. behind ≡ depth_behind depth (stmts_in (lines_of body.now))) }
+{
+    let behind = push_inner(text, braces, depth, body)?;
+    push_line(text, braces, "}\n")?;
+    Ok(behind)
+}
+
+/// Appends the else part of an `if`, where it is not empty, and the line that ends the `if`. The
+/// answer is the depth in force behind it.
+#[cycle(block)]
+fn push_else(
+    text: &mut String,
+    braces: usize,
+    depth: u32,
+    otherwise: &[Line],
+) -> Result<u32, AllocError>
+    ensures text { OnOk result (string_bytes text.new ≡ string_bytes text.old
+        ++ (written_else braces (lines_of otherwise.now) (written_lines (1 + braces) depth (lines_of otherwise.now))
+        ++ (indentation braces ++ codes "}\n"))) }
+    ensures depth { IfOk result (λ behind. behind ≡ depth_behind depth (stmts_in (lines_of otherwise.now))) }
+{
+    if otherwise.is_empty() {
+        push_line(text, braces, "}\n")?;
+        return Ok(depth);
+    }
+    push_line(text, braces, "} else {\n")?;
+    push_block(text, braces, depth, otherwise)
+}
+
+/// Appends a `do` loop. The answer is the depth in force behind it.
+#[cycle(block)]
+fn push_do_while(
+    text: &mut String,
+    braces: usize,
+    depth: u32,
+    body: &[Line],
+    e: &CExpr,
+) -> Result<u32, AllocError>
+    ensures text { OnOk result (string_bytes text.new ≡ string_bytes text.old
+        ++ written_stmt braces depth (DoWhile (lines_of body.now) (expr_of e.now))) }
+    ensures depth { IfOk result (λ behind. behind ≡ depth_behind depth (stmts_in (lines_of body.now))) }
+{
+    push_line(text, braces, "do {\n")?;
+    let behind = push_inner(text, braces, depth, body)?;
+    push_line(text, braces, "} while (")?;
+    push_expr(text, e)?;
+    text.push_str(");\n")?;
+    Ok(behind)
+}
+
+/// Appends the arms of a `switch`, each with the `break` that ends it. The answer is the depth in
+/// force behind them.
+#[cycle(block)]
+fn push_arms(text: &mut String, braces: usize, depth: u32, arms: &[Arm]) -> Result<u32, AllocError>
+    ensures text { OnOk result (string_bytes text.new ≡ string_bytes text.old ++ written_arms braces depth (arms_of arms.now)) }
+    ensures depth { IfOk result (λ behind. behind ≡ depth_behind depth (arm_stmts (arms_of arms.now))) }
+{
+    let mut behind = depth;
+    for arm in arms {
+        push_cases(text, braces, &arm.cases)?;
+        behind = push_lines(text, braces, behind, &arm.body)?;
+        push_line(text, braces, "break;\n")?;
+    }
+    Ok(behind)
+}
+
+/// Appends the default arm of a `switch`, where there is one, and the line that ends the `switch`.
+/// The answer is the depth in force behind it.
+#[cycle(block)]
+fn push_default(
+    text: &mut String,
+    braces: usize,
+    depth: u32,
+    last: &Option<Arm>,
+) -> Result<u32, AllocError>
+    ensures text { OnOk result (string_bytes text.new ≡ string_bytes text.old
+        ++ (written_default (1 + braces) depth (arms_if last.now) ++ (indentation braces ++ codes "}\n"))) }
+    ensures depth { IfOk result (λ behind. behind ≡ depth_behind depth (arm_stmts (arms_if last.now))) }
+{
+    match last {
+        None => {
+            push_line(text, braces, "}\n")?;
+            Ok(depth)
+        }
+        Some(arm) => {
+            let inner = inside(braces);
+            push_line(text, inner, "default:\n")?;
+            let behind = push_lines(text, inner, depth, &arm.body)?;
+            push_line(text, inner, "break;\n")?;
+            push_line(text, braces, "}\n")?;
+            Ok(behind)
+        }
+    }
+}
+
+/// Appends the statements inside a statement that is itself inside so many pairs of braces. The
+/// answer is the depth in force behind them.
+#[cycle(block)]
+fn push_inner(
+    text: &mut String,
+    braces: usize,
+    depth: u32,
+    lines: &[Line],
+) -> Result<u32, AllocError>
+    ensures text { OnOk result (string_bytes text.new ≡ string_bytes text.old ++ written_lines (1 + braces) depth (lines_of lines.now)) }
+    ensures depth { IfOk result (λ behind. behind ≡ depth_behind depth (stmts_in (lines_of lines.now))) }
+{
+    push_lines(text, inside(braces), depth, lines)
+}
+
+/// Appends statements, with this depth in force before them. The answer is the depth in force
+/// behind them.
+#[cycle(block)]
+pub(crate) fn push_lines(
+    text: &mut String,
+    braces: usize,
+    depth: u32,
+    lines: &[Line],
+) -> Result<u32, AllocError>
+    ensures text { OnOk result (string_bytes text.new ≡ string_bytes text.old ++ written_lines braces depth (lines_of lines.now)) }
+    ensures depth { IfOk result (λ behind. behind ≡ depth_behind depth (stmts_in (lines_of lines.now))) }
+{
+    let mut behind = depth;
+    let mut is_behind_label = false;
+    for (i, line) in lines.iter().enumerate() {
+        let own = push_depth(text, behind, is_behind_label, &lines[i..])?;
+        behind = push_stmt(text, braces, own, &line.stmt)?;
+        is_behind_label = is_label(&line.stmt);
+    }
+    Ok(behind)
+}

@@ -1,0 +1,28 @@
+use super::*;
+use std::test::Fail;
+
+const TEXT: &str = "#pragma dcc text 1
+#pragma dcc stack 0 256
+void start(void)
+{
+}
+";
+
+#[test]
+fn a_failed_write_leaves_a_part_of_the_text(rt: HostRuntime) -> Result<(), Fail> {
+    let alloc = rt.alloc();
+    let unit = unit(alloc, Vec::new(alloc))?;
+    // Eight writes of at most 8 bytes.
+    for (fail, want, taken) in [
+        (1, Err(PrintFault::Failed), 0),
+        (2, Err(PrintFault::Failed), 8),
+        (8, Err(PrintFault::Failed), 56),
+        (9, Ok(()), TEXT.len()),
+    ] {
+        let mut sink = MemSink::new(alloc, [fail].to_vec(alloc)?, 8);
+        assert_eq!(rt; print(alloc, &mut sink, &unit), want);
+        assert_eq!(rt; sink.taken().len(), taken);
+        assert!(rt; TEXT.as_bytes().starts_with(sink.taken().as_slice()));
+    }
+    Ok(())
+}
