@@ -19,3 +19,4 @@ pub mod BlockLaws
 pub mod TranslationLaws
 pub mod ContractionLaws
 pub mod Standing
+pub mod WantedStatements
