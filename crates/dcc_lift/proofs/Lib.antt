@@ -20,3 +20,4 @@ pub mod TranslationLaws
 pub mod ContractionLaws
 pub mod Standing
 pub mod WantedStatements
+pub mod WantedMakes
