@@ -21,3 +21,5 @@ pub mod ContractionLaws
 pub mod Standing
 pub mod WantedStatements
 pub mod WantedMakes
+pub mod WantedUnary
+pub mod WantedShifts

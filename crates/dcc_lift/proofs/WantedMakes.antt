@@ -311,7 +311,7 @@ half_joined x y c m k = grind arith
 flag_joined : (x y c z m s : Bool) → ((x && m) || ((y && m) || (c && (z && m)))) ≡ ((m && (x || (y || (c && z)))) || (s && false))
 flag_joined x y c z m s = grind arith
 
-alu_agrees : (operation : Alu) (a b : Operand) (number : Option ℕ) (l to : Location) → is_register a ≡ true → is_source b ≡ true
+pub alu_agrees : (operation : Alu) (a b : Operand) (number : Option ℕ) (l to : Location) → is_register a ≡ true → is_source b ≡ true
     → before (alu_stmts operation a b) (alone (place_of to)) (place_of l) ≡ comes_from (AluOp operation a b) number l to
 alu_agrees operation a b number (half_of s k) to g h =
     before_both (taking (operand_width a) (operand_expr a) (operand_expr b)) (alu_working operation (operand_width a) ++ alu_storing operation a) (alone (place_of to)) (Half s k)

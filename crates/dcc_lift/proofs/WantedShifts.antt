@@ -1,0 +1,111 @@
+-- What the statements of shifts and rotates make of what.
+use Rattle.std.proofs.Common.{◌≡◌, ◌≢◌, ℕ, Bool, true, false, not, ◌&&◌, ◌||◌, ◌==◌, List, [], ◌∷◌, ◌++◌, Option, None, refl, sym, ap, ◌∙◌, subst, true≢false, arith}
+use Rattle.std.specs.List.{list_any, list_all}
+use Rattle.dcc_num.specs.declared.Width.{Width}
+use Rattle.dcc_num.specs.declared.Width.TheVariants.{Byte as byte_width, Word as word_width}
+use Rattle.dcc_num.specs.declared.Reg.{Reg}
+use Rattle.dcc_num.specs.declared.Half.{Half as HalfName}
+use Rattle.dcc_num.specs.declared.FlagName.{FlagName}
+use Rattle.dcc_num.specs.declared.FlagName.TheVariants.{Cf, Zf, Sf, Of}
+use Rattle.dcc_prog.specs.declared.instr.Operand.{Operand}
+use Rattle.dcc_prog.specs.declared.instr.Shift.{Shift}
+use Rattle.dcc_prog.specs.declared.instr.Shift.TheVariants.{Rol, Ror, Rcl, Rcr, Shl, Shr, Sar}
+use Rattle.dcc_prog.specs.declared.instr.Op.{Op}
+use Rattle.dcc_prog.specs.declared.instr.Op.TheVariants.{Shift as ShiftOp}
+use Rattle.dcc_prog.specs.Machine.{operand_width}
+use Rattle.dcc_prog.specs.Writes.{is_half_of, shift_writes_flag}
+use Rattle.dcc_prog.specs.Wanted.{Location, half_of, flag_of, is_part, is_read, is_flag, is_cl, is_turn, is_by_cl, brings_carry, shift_reads, shift_writes, shift_makes, makes, surely_writes}
+use Rattle.dcc_ir.specs.declared.syntax.Loc.{Loc}
+use Rattle.dcc_ir.specs.declared.syntax.Loc.TheVariants.{Half, Flag, Temp}
+use Rattle.dcc_ir.specs.Tree.{Expr, Stmt, Set}
+use Rattle.dcc_lift.specs.Temporaries.{left_place, right_place, result_place}
+use Rattle.dcc_lift.specs.Expressions.{operand_expr, count}
+use Rattle.dcc_lift.specs.Statements.{taking, storing, shift_working, shift_stmts}
+use Rattle.dcc_lift.specs.Liftable.{is_register}
+use Rattle.dcc_lift.specs.Demand.{place_of}
+use Rattle.dcc_lift.proofs.OperandMirrors.{register_source}
+use Rattle.dcc_lift.proofs.WantedStatements.{reads, before, alone, before_both}
+use Rattle.dcc_lift.proofs.WantedMakes.{is_same, and_true, place_same, no_left, no_right, operand_reads, taken, stored_result, stored_half, stored_flag, stored_left, stored_right, comes_from}
+
+-- The count.
+
+count_reads : (w : Width) (by_cl : Bool) (l : Location) → reads (place_of l) (count w by_cl) ≡ (by_cl && is_cl l)
+count_reads byte_width true (half_of s k) = grind arith
+count_reads byte_width true (flag_of f) = refl
+count_reads word_width true (half_of s k) = grind arith
+count_reads word_width true (flag_of f) = refl
+count_reads w false l = refl
+
+count_reads_left : (w : Width) (by_cl : Bool) → reads (left_place w) (count w by_cl) ≡ false
+count_reads_left byte_width true = refl
+count_reads_left word_width true = refl
+count_reads_left w false = refl
+
+-- The workings.
+
+-- some flag that is written
+abbrev written_flags : Shift → (Loc → Bool) → Bool
+written_flags Shl u = u (Flag Of) || (u (Flag Sf) || (u (Flag Zf) || u (Flag Cf)))
+written_flags Shr u = u (Flag Of) || (u (Flag Sf) || (u (Flag Zf) || u (Flag Cf)))
+written_flags Sar u = u (Flag Of) || (u (Flag Sf) || (u (Flag Zf) || u (Flag Cf)))
+written_flags operation u = u (Flag Of) || u (Flag Cf)
+
+-- some flag for which the operand is read
+abbrev read_flags : Shift → (Loc → Bool) → Bool
+read_flags Sar u = u (Flag Sf) || (u (Flag Zf) || u (Flag Cf))
+read_flags operation u = written_flags operation u
+
+shift_left : (operation : Shift) (w : Width) (by_cl : Bool) (u : Loc → Bool) → u (left_place w) ≡ false → u (right_place w) ≡ false
+    → before (shift_working operation w by_cl) u (left_place w) ≡ (read_flags operation u || u (result_place w))
+shift_left Rol byte_width true u e f = grind arith
+shift_left Rol byte_width false u e f = grind arith
+shift_left Rol word_width true u e f = grind arith
+shift_left Rol word_width false u e f = grind arith
+shift_left _ _ _ u e f = grind arith
+
+shift_right : (operation : Shift) (w : Width) (by_cl : Bool) (u : Loc → Bool) → u (left_place w) ≡ false → u (right_place w) ≡ false
+    → (by_cl && before (shift_working operation w by_cl) u (right_place w)) ≡ (is_by_cl operation by_cl && (written_flags operation u || u (result_place w)))
+shift_right Rol byte_width true u e f = grind arith
+shift_right Rol byte_width false u e f = grind arith
+shift_right Rol word_width true u e f = grind arith
+shift_right Rol word_width false u e f = grind arith
+shift_right _ _ _ u e f = grind arith
+
+shift_half : (w : Width) (by_cl : Bool) (operation : Shift) (u : Loc → Bool) (s : Reg) (k : HalfName) → before (shift_working operation w by_cl) u (Half s k) ≡ u (Half s k)
+shift_half byte_width true Rol u s k = refl
+shift_half byte_width false Rol u s k = refl
+shift_half word_width true Rol u s k = refl
+shift_half word_width false Rol u s k = refl
+shift_half _ _ _ u s k = refl
+
+shift_flag : (w : Width) (by_cl : Bool) (f : FlagName) (operation : Shift) (u : Loc → Bool)
+    → before (shift_working operation w by_cl) u (Flag f) ≡ ((is_flag Cf (flag_of f) && (is_turn operation && (u (Flag Of) || u (result_place w)))) || (u (Flag f) && not (shift_writes_flag operation f && not (is_by_cl operation by_cl))))
+shift_flag byte_width true Cf Rol u = grind arith
+shift_flag byte_width false Cf Rol u = grind arith
+shift_flag word_width true Cf Rol u = grind arith
+shift_flag word_width false Cf Rol u = grind arith
+shift_flag _ _ _ _ u = grind arith
+
+-- What is made of what.
+
+read_made : (to : Location) (operation : Shift) (a : Operand) (u : Loc → Bool) → ((f : FlagName) → u (Flag f) ≡ is_same (flag_of f) to)
+    → (read_flags operation u || is_part to a) ≡ (shift_writes operation a to && shift_reads operation to)
+read_made (half_of t j) Rol a u h = simp h (sym (and_true (is_half_of t j a)))
+read_made (flag_of Cf) Rol a u h = simp h
+read_made (flag_of Zf) Rol a u h = simp h
+read_made (flag_of Sf) Rol a u h = simp h
+read_made (flag_of Of) Rol a u h = simp h
+read_made (half_of t j) _ a u h = simp h (sym (and_true (is_half_of t j a)))
+read_made _ _ a u h = simp h
+
+written_made : (to : Location) (operation : Shift) (a : Operand) (u : Loc → Bool) → ((f : FlagName) → u (Flag f) ≡ is_same (flag_of f) to) → (written_flags operation u || is_part to a) ≡ shift_writes operation a to
+written_made (half_of t j) Rol a u h = simp h
+written_made (flag_of Cf) Rol a u h = simp h
+written_made (flag_of Zf) Rol a u h = simp h
+written_made (flag_of Sf) Rol a u h = simp h
+written_made (flag_of Of) Rol a u h = simp h
+written_made _ _ a u h = simp h
+
+turn_made : (to : Location) (operation : Shift) (a : Operand) (u : Loc → Bool) → ((f : FlagName) → u (Flag f) ≡ is_same (flag_of f) to)
+    → (is_turn operation && (u (Flag Of) || is_part to a)) ≡ (shift_writes operation a to && brings_carry operation to)
+turn_made to operation a u h = ?tm
