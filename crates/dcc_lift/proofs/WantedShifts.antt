@@ -23,6 +23,7 @@ use Rattle.dcc_lift.specs.Expressions.{operand_expr, count}
 use Rattle.dcc_lift.specs.Statements.{taking, storing, shift_working, shift_stmts}
 use Rattle.dcc_lift.specs.Liftable.{is_register}
 use Rattle.dcc_lift.specs.Demand.{place_of}
+use Rattle.dcc_lift.proofs.ListTests.{and_false}
 use Rattle.dcc_lift.proofs.OperandMirrors.{register_source}
 use Rattle.dcc_lift.proofs.WantedStatements.{reads, before, alone, before_both}
 use Rattle.dcc_lift.proofs.WantedMakes.{is_same, and_true, place_same, no_left, no_right, operand_reads, taken, stored_result, stored_half, stored_flag, stored_left, stored_right, comes_from}
@@ -108,4 +109,92 @@ written_made _ _ a u h = simp h
 
 turn_made : (to : Location) (operation : Shift) (a : Operand) (u : Loc → Bool) → ((f : FlagName) → u (Flag f) ≡ is_same (flag_of f) to)
     → (is_turn operation && (u (Flag Of) || is_part to a)) ≡ (shift_writes operation a to && brings_carry operation to)
-turn_made to operation a u h = ?tm
+turn_made (half_of t j) Rol a u h = sym (and_false (is_half_of t j a))
+turn_made (half_of t j) Rcl a u h = simp h (sym (and_true (is_half_of t j a)))
+turn_made (half_of t j) Rcr a u h = simp h (sym (and_true (is_half_of t j a)))
+turn_made (half_of t j) _ a u h = sym (and_false (is_half_of t j a))
+turn_made (flag_of Cf) Rol a u h = refl
+turn_made (flag_of Cf) Rcl a u h = simp h
+turn_made (flag_of Cf) Rcr a u h = simp h
+turn_made (flag_of Zf) Rol a u h = refl
+turn_made (flag_of Zf) Rcl a u h = simp h
+turn_made (flag_of Zf) Rcr a u h = simp h
+turn_made (flag_of Sf) Rol a u h = refl
+turn_made (flag_of Sf) Rcl a u h = simp h
+turn_made (flag_of Sf) Rcr a u h = simp h
+turn_made (flag_of Of) Rol a u h = refl
+turn_made (flag_of Of) Rcl a u h = simp h
+turn_made (flag_of Of) Rcr a u h = simp h
+turn_made _ _ a u h = refl
+
+counted_joined : (b c v : Bool) → ((b && c) && v) ≡ (c && (b && v))
+counted_joined b c v = grind arith
+
+half_joined : (x m r c b t k : Bool) → ((x && (m && r)) || ((c && (b && m)) || k)) ≡ ((m && ((r && x) || ((b && c) || (t && false)))) || k)
+half_joined x m r c b t k = grind arith
+
+flag_joined : (x m r c b t z k : Bool) → ((x && (m && r)) || ((c && (b && m)) || ((z && (m && t)) || k))) ≡ ((m && ((r && x) || ((b && c) || (t && z)))) || k)
+flag_joined x m r c b t z k = grind arith
+
+module _ (operation : Shift) (a : Operand) (by_cl : Bool) (to : Location) (g : is_register a ≡ true) where
+  abbrev shift_behind : Loc → Bool
+  shift_behind = before (shift_working operation (operand_width a) by_cl ++ storing a) (alone (place_of to))
+
+  abbrev shift_stored : Loc → Bool
+  shift_stored = before (storing a) (alone (place_of to))
+
+  shift_flags_are : (f : FlagName) → shift_stored (Flag f) ≡ is_same (flag_of f) to
+  shift_flags_are f = stored_flag a f (alone (place_of to)) ∙ place_same (flag_of f) to
+
+  shift_behind_left : shift_behind (left_place (operand_width a)) ≡ (shift_writes operation a to && shift_reads operation to)
+  shift_behind_left =
+      before_both (shift_working operation (operand_width a) by_cl) (storing a) (alone (place_of to)) (left_place (operand_width a))
+      ∙ shift_left operation (operand_width a) by_cl shift_stored (stored_left a (alone (place_of to)) g ∙ no_left to (operand_width a)) (stored_right a (alone (place_of to)) g ∙ no_right to (operand_width a))
+      ∙ ap (λ b. read_flags operation shift_stored || b) (stored_result a to g)
+      ∙ read_made to operation a shift_stored shift_flags_are
+
+  shift_behind_right : (by_cl && shift_behind (right_place (operand_width a))) ≡ (is_by_cl operation by_cl && shift_writes operation a to)
+  shift_behind_right =
+      ap (λ b. by_cl && b) (before_both (shift_working operation (operand_width a) by_cl) (storing a) (alone (place_of to)) (right_place (operand_width a)))
+      ∙ shift_right operation (operand_width a) by_cl shift_stored (stored_left a (alone (place_of to)) g ∙ no_left to (operand_width a)) (stored_right a (alone (place_of to)) g ∙ no_right to (operand_width a))
+      ∙ ap (λ b. is_by_cl operation by_cl && (written_flags operation shift_stored || b)) (stored_result a to g)
+      ∙ ap (λ b. is_by_cl operation by_cl && b) (written_made to operation a shift_stored shift_flags_are)
+
+  shift_behind_half : (s : Reg) (k : HalfName) → shift_behind (Half s k) ≡ (is_same (half_of s k) to && not (is_half_of s k a))
+  shift_behind_half s k =
+      before_both (shift_working operation (operand_width a) by_cl) (storing a) (alone (place_of to)) (Half s k)
+      ∙ shift_half (operand_width a) by_cl operation shift_stored s k
+      ∙ stored_half a s k to g
+
+  shift_behind_flag : (f : FlagName) → shift_behind (Flag f)
+      ≡ ((is_flag Cf (flag_of f) && (shift_writes operation a to && brings_carry operation to)) || (is_same (flag_of f) to && not (shift_writes_flag operation f && not (is_by_cl operation by_cl))))
+  shift_behind_flag f =
+      before_both (shift_working operation (operand_width a) by_cl) (storing a) (alone (place_of to)) (Flag f)
+      ∙ shift_flag (operand_width a) by_cl f operation shift_stored
+      ∙ ap (λ b. (is_flag Cf (flag_of f) && (is_turn operation && (shift_stored (Flag Of) || b))) || (shift_stored (Flag f) && not (shift_writes_flag operation f && not (is_by_cl operation by_cl)))) (stored_result a to g)
+      ∙ ap (λ b. (is_flag Cf (flag_of f) && b) || (shift_stored (Flag f) && not (shift_writes_flag operation f && not (is_by_cl operation by_cl)))) (turn_made to operation a shift_stored shift_flags_are)
+      ∙ ap (λ b. (is_flag Cf (flag_of f) && (shift_writes operation a to && brings_carry operation to)) || (b && not (shift_writes_flag operation f && not (is_by_cl operation by_cl)))) (shift_flags_are f)
+
+  -- the operands
+  shift_taken : (l : Location) → before (shift_stmts operation (operand_width a) a by_cl) (alone (place_of to)) (place_of l)
+      ≡ ((is_read l a && (shift_writes operation a to && shift_reads operation to)) || ((is_cl l && (is_by_cl operation by_cl && shift_writes operation a to)) || shift_behind (place_of l)))
+  shift_taken l =
+      let w = operand_width a in
+      before_both (taking w (operand_expr a) (count w by_cl)) (shift_working operation w by_cl ++ storing a) (alone (place_of to)) (place_of l)
+      ∙ taken w (operand_expr a) (count w by_cl) shift_behind l (count_reads_left w by_cl)
+      ∙ ap (λ b. (b && shift_behind (left_place w)) || ((reads (place_of l) (count w by_cl) && shift_behind (right_place w)) || shift_behind (place_of l))) (operand_reads a l (register_source a g))
+      ∙ ap (λ b. (is_read l a && b) || ((reads (place_of l) (count w by_cl) && shift_behind (right_place w)) || shift_behind (place_of l))) shift_behind_left
+      ∙ ap (λ b. (is_read l a && (shift_writes operation a to && shift_reads operation to)) || (b || shift_behind (place_of l)))
+      (ap (λ b. b && shift_behind (right_place w)) (count_reads w by_cl l) ∙ counted_joined by_cl (is_cl l) (shift_behind (right_place w)) ∙ ap (λ b. is_cl l && b) shift_behind_right)
+
+pub shift_agrees : (operation : Shift) (a : Operand) (by_cl : Bool) (number : Option ℕ) (l to : Location) → is_register a ≡ true
+    → before (shift_stmts operation (operand_width a) a by_cl) (alone (place_of to)) (place_of l) ≡ comes_from (ShiftOp operation a by_cl) number l to
+shift_agrees operation a by_cl number (half_of s k) to g =
+    shift_taken operation a by_cl to g (half_of s k)
+    ∙ ap (λ b. (is_read (half_of s k) a && (shift_writes operation a to && shift_reads operation to)) || ((is_cl (half_of s k) && (is_by_cl operation by_cl && shift_writes operation a to)) || b)) (shift_behind_half operation a by_cl to g s k)
+    ∙ half_joined (is_read (half_of s k) a) (shift_writes operation a to) (shift_reads operation to) (is_cl (half_of s k)) (is_by_cl operation by_cl) (brings_carry operation to) (is_same (half_of s k) to && not (is_half_of s k a))
+shift_agrees operation a by_cl number (flag_of f) to g =
+    shift_taken operation a by_cl to g (flag_of f)
+    ∙ ap (λ b. (is_read (flag_of f) a && (shift_writes operation a to && shift_reads operation to)) || ((is_cl (flag_of f) && (is_by_cl operation by_cl && shift_writes operation a to)) || b)) (shift_behind_flag operation a by_cl to g f)
+    ∙ flag_joined (is_read (flag_of f) a) (shift_writes operation a to) (shift_reads operation to) (is_cl (flag_of f)) (is_by_cl operation by_cl) (brings_carry operation to) (is_flag Cf (flag_of f))
+    (is_same (flag_of f) to && not (shift_writes_flag operation f && not (is_by_cl operation by_cl)))
