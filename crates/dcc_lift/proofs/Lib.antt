@@ -23,3 +23,4 @@ pub mod WantedStatements
 pub mod WantedMakes
 pub mod WantedUnary
 pub mod WantedShifts
+pub mod WantedMoves

@@ -52,7 +52,7 @@ numbers Di = refl
 pub registers : (r q : Reg) → (register_number r == register_number q) ≡ is_same_register r q
 registers r q = rw (numbers r, numbers q) refl
 
-equal_both : (m n : ℕ) → (m == n) ≡ (n == m)
+pub equal_both : (m n : ℕ) → (m == n) ≡ (n == m)
 equal_both m n = grind arith
 
 pub halves_turned : (h k : HalfName) → is_same_half h k ≡ is_same_half k h
@@ -159,13 +159,13 @@ stored_result (Constant width c) to g = absurd (true≢false (sym g))
 stored_result (Seg n) to g = absurd (true≢false (sym g))
 stored_result (Mem width ea) to g = absurd (true≢false (sym g))
 
-stored_half_low : (p q : Bool) → (not (p && true) && (not (p && false) && q)) ≡ (q && not p)
+pub stored_half_low : (p q : Bool) → (not (p && true) && (not (p && false) && q)) ≡ (q && not p)
 stored_half_low p q = grind arith
 
-stored_half_high : (p q : Bool) → (not (p && false) && (not (p && true) && q)) ≡ (q && not p)
+pub stored_half_high : (p q : Bool) → (not (p && false) && (not (p && true) && q)) ≡ (q && not p)
 stored_half_high p q = grind arith
 
-turned : (p q : Bool) → (not p && q) ≡ (q && not p)
+pub turned : (p q : Bool) → (not p && q) ≡ (q && not p)
 turned p q = grind arith
 
 pub stored_half : (a : Operand) (s : Reg) (k : HalfName) (to : Location) → is_register a ≡ true

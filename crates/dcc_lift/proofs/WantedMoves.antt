@@ -1,0 +1,167 @@
+-- What the statements of moves, exchanges and operations without operands make of what.
+use Rattle.std.proofs.Common.{◌≡◌, ◌≢◌, ℕ, Bool, true, false, not, ◌&&◌, ◌||◌, ◌==◌, ◌⊎◌, inl, inr, List, [], ◌∷◌, ◌++◌, Option, None, refl, sym, ap, ◌∙◌, subst, true≢false, arith}
+use Rattle.std.specs.List.{list_any, list_all}
+use Rattle.dcc_num.specs.declared.Width.{Width}
+use Rattle.dcc_num.specs.declared.Width.TheVariants.{Byte as byte_width, Word as word_width}
+use Rattle.dcc_num.specs.declared.Reg.{Reg}
+use Rattle.dcc_num.specs.declared.Reg.TheVariants.{Ax, Cx, Dx}
+use Rattle.dcc_num.specs.declared.Half.{Half as HalfName}
+use Rattle.dcc_num.specs.declared.Half.TheVariants.{Low, High}
+use Rattle.dcc_num.specs.declared.FlagName.{FlagName}
+use Rattle.dcc_num.specs.declared.FlagName.TheVariants.{Cf, Zf, Sf, Of}
+use Rattle.dcc_prog.specs.declared.instr.Operand.{Operand}
+use Rattle.dcc_prog.specs.declared.instr.Operand.TheVariants.{Word, Byte, Seg, Mem, Const as Constant}
+use Rattle.dcc_prog.specs.declared.instr.Plain.{Plain}
+use Rattle.dcc_prog.specs.declared.instr.Plain.TheVariants.{Nop, Cbw, Cwd, Xlat, Clc, Stc, Cmc, Cli, Sti, Cld}
+use Rattle.dcc_prog.specs.declared.instr.Op.{Op}
+use Rattle.dcc_prog.specs.declared.instr.Op.TheVariants.{Mov, Xchg, Plain as PlainOp, Loop, LoopE, LoopNe}
+use Rattle.dcc_prog.specs.Machine.{operand_width}
+use Rattle.dcc_prog.specs.WellFormed.{AreOperands}
+use Rattle.dcc_prog.specs.Writes.{is_same_register, is_same_half, is_half_of}
+use Rattle.dcc_prog.specs.Wanted.{Location, half_of, flag_of, is_part, moves, plain_makes, counts, makes, surely_writes}
+use Rattle.dcc_ir.specs.declared.syntax.Loc.{Loc}
+use Rattle.dcc_ir.specs.declared.syntax.Loc.TheVariants.{Half, Flag, Temp}
+use Rattle.dcc_ir.specs.Location.{register_number, half_number, flag_number, same_location}
+use Rattle.dcc_ir.specs.Tree.{Expr, Stmt, Set}
+use Rattle.dcc_lift.specs.Statements.{mov_stmts, exchanging, xchg_stmts, plain_stmts, counting}
+use Rattle.dcc_lift.specs.Liftable.{is_register, is_source, is_lifted_plain}
+use Rattle.dcc_lift.specs.Demand.{place_of}
+use Rattle.dcc_lift.proofs.WantedStatements.{reads, before, alone, before_both, location_itself}
+use Rattle.dcc_lift.proofs.MirrorLaws.{location_same}
+use Rattle.dcc_lift.proofs.ListTests.{and_false}
+use Rattle.dcc_lift.proofs.WantedMakes.{is_same, and_true, place_same, stored_half_low, stored_half_high, turned, registers, registers_turned, halves, halves_turned, equal_both, no_temporary, operand_reads, comes_from}
+
+-- Moves.
+
+mov_low_low : (a b c d e f : Bool) → ((((a && true) || false) && ((((b && false) || false) && (c && false)) || (not (d && false) && (c && true)))) || (not (e && true) && ((((a && false) || false) && (c && false)) || (not (e && false) && (f && true))))) ≡ ((c && (a && true)) || ((f && true) && not e))
+mov_low_low a b c d e f = grind arith
+
+mov_low_high : (a b c d e f : Bool) → ((((a && true) || false) && ((((b && false) || false) && (c && true)) || (not (d && false) && (c && false)))) || (not (e && true) && ((((a && false) || false) && (c && true)) || (not (e && false) && (f && false))))) ≡ ((c && (a && false)) || ((f && false) && not e))
+mov_low_high a b c d e f = grind arith
+
+mov_high_low : (a b c d e f : Bool) → ((((a && false) || false) && ((((b && false) || false) && (c && false)) || (not (d && false) && (c && true)))) || (not (e && false) && ((((a && true) || false) && (c && false)) || (not (e && true) && (f && false))))) ≡ ((c && (a && false)) || ((f && false) && not e))
+mov_high_low a b c d e f = grind arith
+
+mov_high_high : (a b c d e f : Bool) → ((((a && false) || false) && ((((b && false) || false) && (c && true)) || (not (d && false) && (c && false)))) || (not (e && false) && ((((a && true) || false) && (c && true)) || (not (e && true) && (f && true))))) ≡ ((c && (a && true)) || ((f && true) && not e))
+mov_high_high a b c d e f = grind arith
+
+mov_word : (r q s t : Reg) (k j : HalfName) (number : Option ℕ) → before (mov_stmts (Word r) (Word q)) (alone (Half t j)) (Half s k) ≡ comes_from (Mov (Word r) (Word q)) number (half_of s k) (half_of t j)
+mov_word r q s t Low Low number =
+    rw (registers s q, registers r t, registers_turned r t, registers s t, registers s r)
+    (mov_low_low (is_same_register s q) (register_number r == register_number q) (is_same_register t r) (register_number r == register_number r) (is_same_register s r) (is_same_register s t))
+mov_word r q s t Low High number =
+    rw (registers s q, registers r t, registers_turned r t, registers s t, registers s r)
+    (mov_low_high (is_same_register s q) (register_number r == register_number q) (is_same_register t r) (register_number r == register_number r) (is_same_register s r) (is_same_register s t))
+mov_word r q s t High Low number =
+    rw (registers s q, registers r t, registers_turned r t, registers s t, registers s r)
+    (mov_high_low (is_same_register s q) (register_number r == register_number q) (is_same_register t r) (register_number r == register_number r) (is_same_register s r) (is_same_register s t))
+mov_word r q s t High High number =
+    rw (registers s q, registers r t, registers_turned r t, registers s t, registers s r)
+    (mov_high_high (is_same_register s q) (register_number r == register_number q) (is_same_register t r) (register_number r == register_number r) (is_same_register s r) (is_same_register s t))
+
+-- no flag is moved, and to none
+no_flag_from : (a b : Operand) (to : Location) (e : FlagName) → is_register a ≡ true → is_source b ≡ true → moves a b to (flag_of e) ≡ false
+no_flag_from (Word r) (Word q) (half_of t j) e g h = and_false (is_same_register t r)
+no_flag_from (Word r) (Word q) (flag_of f) e g h = refl
+no_flag_from (Word r) (Byte q other) to e g h = and_false (is_part to (Word r))
+no_flag_from (Word r) (Constant width c) to e g h = and_false (is_part to (Word r))
+no_flag_from (Byte r half) (Byte q other) (half_of t j) e g h = and_false (is_same_register t r && is_same_half j half)
+no_flag_from (Byte r half) (Byte q other) (flag_of f) e g h = refl
+no_flag_from (Byte r half) (Word q) to e g h = and_false (is_part to (Byte r half))
+no_flag_from (Byte r half) (Constant width c) to e g h = and_false (is_part to (Byte r half))
+no_flag_from (Constant width c) b to e g h = absurd (true≢false (sym g))
+no_flag_from (Seg n) b to e g h = absurd (true≢false (sym g))
+no_flag_from (Mem width ea) b to e g h = absurd (true≢false (sym g))
+no_flag_from (Word r) (Seg n) to e g h = absurd (true≢false (sym h))
+no_flag_from (Word r) (Mem width ea) to e g h = absurd (true≢false (sym h))
+no_flag_from (Byte r half) (Seg n) to e g h = absurd (true≢false (sym h))
+no_flag_from (Byte r half) (Mem width ea) to e g h = absurd (true≢false (sym h))
+
+-- a flag takes no part
+no_flag_to : (a b c d e f : Bool) → (((a || false) && ((((b && false) || false) && false) || (not (d && false) && false))) || (not e && (((c || false) && false) || (not f && false)))) ≡ false
+no_flag_to a b c d e f = grind arith
+
+no_flag_to_half : (a c : Bool) → (((a || false) && false) || (not c && false)) ≡ false
+no_flag_to_half a c = grind arith
+
+byte_joined : (a b c d : Bool) → (((a || false) && b) || (not c && d)) ≡ ((b && a) || (d && not c))
+byte_joined a b c d = grind arith
+
+nothing_made : (x y : Bool) → ((x && false) || y) ≡ y
+nothing_made x y = grind arith
+
+flag_stays : (a b : Operand) (number : Option ℕ) (e : FlagName) (to : Location) → is_register a ≡ true → is_source b ≡ true → alone (place_of to) (Flag e) ≡ comes_from (Mov a b) number (flag_of e) to
+flag_stays a b number e to g h = place_same (flag_of e) to ∙ sym (ap (λ x. x || (is_same (flag_of e) to && true)) (no_flag_from a b to e g h) ∙ and_true (is_same (flag_of e) to))
+
+mov_agrees : (a b : Operand) (number : Option ℕ) (l to : Location) → is_register a ≡ true → is_source b ≡ true → operand_width a ≡ operand_width b
+    → before (mov_stmts a b) (alone (place_of to)) (place_of l) ≡ comes_from (Mov a b) number l to
+mov_agrees (Word r) (Word q) number (half_of s k) (half_of t j) g h same = mov_word r q s t k j number
+mov_agrees (Word r) (Word q) number (half_of s k) (flag_of f) g h same =
+    no_flag_to (same_location (Half s k) (Half q Low)) (register_number r == register_number q) (same_location (Half s k) (Half q High)) (register_number r == register_number r)
+    (same_location (Half s k) (Half r Low)) (same_location (Half s k) (Half r High))
+mov_agrees (Word r) (Word q) number (flag_of e) to g h same = flag_stays (Word r) (Word q) number e to g h
+mov_agrees (Word r) (Constant width c) number (half_of s Low) to g h same =
+    rw (registers s r, place_same (half_of s Low) to) (stored_half_low (is_same_register s r) (is_same (half_of s Low) to) ∙ sym (nothing_made (is_part to (Word r)) (is_same (half_of s Low) to && not (is_same_register s r))))
+mov_agrees (Word r) (Constant width c) number (half_of s High) to g h same =
+    rw (registers s r, place_same (half_of s High) to) (stored_half_high (is_same_register s r) (is_same (half_of s High) to) ∙ sym (nothing_made (is_part to (Word r)) (is_same (half_of s High) to && not (is_same_register s r))))
+mov_agrees (Word r) (Constant width c) number (flag_of e) to g h same = flag_stays (Word r) (Constant width c) number e to g h
+mov_agrees (Byte r half) (Byte q other) number (half_of s k) (half_of t j) g h same =
+    rw (registers s q, halves k other, registers r t, registers_turned r t, halves half j, halves_turned half j, registers s r, halves k half, registers s t, halves k j)
+    (byte_joined (is_same_register s q && is_same_half k other) (is_same_register t r && is_same_half j half) (is_same_register s r && is_same_half k half) (is_same_register s t && is_same_half k j))
+mov_agrees (Byte r half) (Byte q other) number (half_of s k) (flag_of f) g h same = no_flag_to_half (same_location (Half s k) (Half q other)) (same_location (Half s k) (Half r half))
+mov_agrees (Byte r half) (Byte q other) number (flag_of e) to g h same = flag_stays (Byte r half) (Byte q other) number e to g h
+mov_agrees (Byte r half) (Constant width c) number (half_of s k) to g h same =
+    rw (registers s r, halves k half, place_same (half_of s k) to)
+    (turned (is_same_register s r && is_same_half k half) (is_same (half_of s k) to) ∙ sym (nothing_made (is_part to (Byte r half)) (is_same (half_of s k) to && not (is_same_register s r && is_same_half k half))))
+mov_agrees (Byte r half) (Constant width c) number (flag_of e) to g h same = flag_stays (Byte r half) (Constant width c) number e to g h
+mov_agrees (Word r) (Byte q half) number l to g h same = absurd (cc)
+mov_agrees (Byte r half) (Word q) number l to g h same = absurd (cc)
+mov_agrees (Word r) (Seg n) number l to g h same = absurd (true≢false (sym h))
+mov_agrees (Byte r half) (Seg n) number l to g h same = absurd (true≢false (sym h))
+mov_agrees (Word r) (Mem width ea) number l to g h same = absurd (true≢false (sym h))
+mov_agrees (Byte r half) (Mem width ea) number l to g h same = absurd (true≢false (sym h))
+mov_agrees (Seg n) b number l to g h same = absurd (true≢false (sym g))
+mov_agrees (Mem width ea) b number l to g h same = absurd (true≢false (sym g))
+mov_agrees (Constant width c) b number l to g h same = absurd (true≢false (sym g))
+
+-- Exchanges.
+
+exchange_joined : (a b c v x y z : Bool) → v ≡ false → (((a || false) && (x || v)) || (((b || false) && (not c && y)) || (not a && (not b && z)))) ≡ ((a && x) || ((b && (not c && y)) || (not a && (not b && z))))
+exchange_joined a b c v x y z e = grind arith
+
+-- before two halves are exchanged
+exchanged : (r q : Reg) (h k : HalfName) (l : Location) (w : Loc → Bool) → w (Temp 0) ≡ false
+    → before (exchanging (Half r h) (Half q k)) w (place_of l)
+    ≡ ((is_same l (half_of r h) && w (Half q k)) || ((is_same l (half_of q k) && (not (is_same (half_of r h) (half_of q k)) && w (Half r h))) || (not (is_same l (half_of r h)) && (not (is_same l (half_of q k)) && w (place_of l)))))
+exchanged r q h k (half_of s j) w e =
+    rw (registers s r, halves j h, registers s q, halves j k, registers r q, halves h k)
+    (exchange_joined (is_same (half_of s j) (half_of r h)) (is_same (half_of s j) (half_of q k)) (is_same (half_of r h) (half_of q k)) (w (Temp 0)) (w (Half q k)) (w (Half r h)) (w (Half s j)) e)
+exchanged r q h k (flag_of f) w e = refl
+
+same_turned : (l to : Location) → is_same l to ≡ is_same to l
+same_turned (half_of r h) (half_of q k) = rw (registers_turned r q, halves_turned h k) refl
+same_turned (half_of r h) (flag_of f) = refl
+same_turned (flag_of f) (half_of q k) = refl
+same_turned (flag_of f) (flag_of e) = equal_both (flag_number f) (flag_number e)
+
+-- two that are one are the same as any
+one_place : (a b l : Location) → is_same a b ≡ true → is_same l a ≡ is_same l b
+one_place a b l e =
+    sym (place_same l a)
+    ∙ ap (λ x. same_location (place_of l) x) (location_same (place_of a) (place_of b) (place_same a b ∙ e))
+    ∙ place_same l b
+
+both_ways : (a b c x y z : Bool) → (c ≡ true → a ≡ b) → (c ≡ true → x ≡ y)
+    → ((a && y) || ((b && (not c && x)) || (not a && (not b && z)))) ≡ (((x && b) || (y && a)) || (z && not (a || b)))
+both_ways a b true x y z f g = grind (arith, f refl, g refl)
+both_ways a b false x y z f g = grind arith
+
+-- and where one location is wanted behind
+exchange_agrees : (r q : Reg) (h k : HalfName) (l to : Location) → before (exchanging (Half r h) (Half q k)) (alone (place_of to)) (place_of l)
+    ≡ (((is_same to (half_of r h) && is_same l (half_of q k)) || (is_same to (half_of q k) && is_same l (half_of r h))) || (is_same l to && not (is_same l (half_of r h) || is_same l (half_of q k))))
+exchange_agrees r q h k l to =
+    let a = half_of r h in
+    let b = half_of q k in
+    exchanged r q h k l (alone (place_of to)) (no_temporary to 0)
+    ∙ rw (place_same b to, same_turned b to, place_same a to, same_turned a to, place_same l to)
+    (both_ways (is_same l a) (is_same l b) (is_same a b) (is_same to a) (is_same to b) (is_same l to) (one_place a b l) (one_place a b to))
