@@ -18,18 +18,21 @@ use Rattle.dcc_prog.specs.declared.instr.Op.TheVariants.{Mov, Xchg, Plain as Pla
 use Rattle.dcc_prog.specs.Machine.{operand_width}
 use Rattle.dcc_prog.specs.WellFormed.{AreOperands}
 use Rattle.dcc_prog.specs.Writes.{is_same_register, is_same_half, is_half_of}
-use Rattle.dcc_prog.specs.Wanted.{Location, half_of, flag_of, is_part, moves, plain_makes, counts, makes, surely_writes}
+use Rattle.dcc_prog.specs.Wanted.{Location, half_of, flag_of, is_part, is_flag, moves, plain_makes, counts, makes, surely_writes}
 use Rattle.dcc_ir.specs.declared.syntax.Loc.{Loc}
 use Rattle.dcc_ir.specs.declared.syntax.Loc.TheVariants.{Half, Flag, Temp}
 use Rattle.dcc_ir.specs.Location.{register_number, half_number, flag_number, same_location}
 use Rattle.dcc_ir.specs.Tree.{Expr, Stmt, Set}
-use Rattle.dcc_lift.specs.Statements.{mov_stmts, exchanging, xchg_stmts, plain_stmts, counting}
+use Rattle.dcc_lift.specs.Expressions.{word_of}
+use Rattle.dcc_lift.specs.Statements.{storing, mov_stmts, exchanging, xchg_stmts, plain_stmts, counting}
 use Rattle.dcc_lift.specs.Liftable.{is_register, is_source, is_lifted_plain}
+use Rattle.dcc_lift.specs.Mirrors.{is_general}
 use Rattle.dcc_lift.specs.Demand.{place_of}
 use Rattle.dcc_lift.proofs.WantedStatements.{reads, before, alone, before_both, location_itself}
 use Rattle.dcc_lift.proofs.MirrorLaws.{location_same}
+use Rattle.dcc_lift.proofs.OperandMirrors.{register_source}
 use Rattle.dcc_lift.proofs.ListTests.{and_false}
-use Rattle.dcc_lift.proofs.WantedMakes.{is_same, and_true, place_same, stored_half_low, stored_half_high, turned, registers, registers_turned, halves, halves_turned, equal_both, no_temporary, operand_reads, comes_from}
+use Rattle.dcc_lift.proofs.WantedMakes.{is_same, and_true, place_same, stored_half_low, stored_half_high, turned, registers, registers_turned, halves, halves_turned, equal_both, no_temporary, operand_reads, stored_result, stored_half, comes_from}
 
 -- Moves.
 
@@ -93,7 +96,7 @@ nothing_made x y = grind arith
 flag_stays : (a b : Operand) (number : Option ℕ) (e : FlagName) (to : Location) → is_register a ≡ true → is_source b ≡ true → alone (place_of to) (Flag e) ≡ comes_from (Mov a b) number (flag_of e) to
 flag_stays a b number e to g h = place_same (flag_of e) to ∙ sym (ap (λ x. x || (is_same (flag_of e) to && true)) (no_flag_from a b to e g h) ∙ and_true (is_same (flag_of e) to))
 
-mov_agrees : (a b : Operand) (number : Option ℕ) (l to : Location) → is_register a ≡ true → is_source b ≡ true → operand_width a ≡ operand_width b
+pub mov_agrees : (a b : Operand) (number : Option ℕ) (l to : Location) → is_register a ≡ true → is_source b ≡ true → operand_width a ≡ operand_width b
     → before (mov_stmts a b) (alone (place_of to)) (place_of l) ≡ comes_from (Mov a b) number l to
 mov_agrees (Word r) (Word q) number (half_of s k) (half_of t j) g h same = mov_word r q s t k j number
 mov_agrees (Word r) (Word q) number (half_of s k) (flag_of f) g h same =
@@ -165,3 +168,167 @@ exchange_agrees r q h k l to =
     exchanged r q h k l (alone (place_of to)) (no_temporary to 0)
     ∙ rw (place_same b to, same_turned b to, place_same a to, same_turned a to, place_same l to)
     (both_ways (is_same l a) (is_same l b) (is_same a b) (is_same to a) (is_same to b) (is_same l to) (one_place a b l) (one_place a b to))
+
+exchange_stays : (a b : Operand) (number : Option ℕ) (e : FlagName) (to : Location) → is_register a ≡ true → is_register b ≡ true → alone (place_of to) (Flag e) ≡ comes_from (Xchg a b) number (flag_of e) to
+exchange_stays a b number e to g h =
+    place_same (flag_of e) to
+    ∙ sym (ap (λ x. (x || moves b a to (flag_of e)) || (is_same (flag_of e) to && true)) (no_flag_from a b to e g (register_source b h))
+    ∙ ap (λ x. x || (is_same (flag_of e) to && true)) (no_flag_from b a to e h (register_source a g))
+    ∙ and_true (is_same (flag_of e) to))
+
+xchg_byte : (r q : Reg) (h k : HalfName) (number : Option ℕ) (s : Reg) (j : HalfName) (to : Location)
+    → before (xchg_stmts (Byte r h) (Byte q k)) (alone (place_of to)) (Half s j) ≡ comes_from (Xchg (Byte r h) (Byte q k)) number (half_of s j) to
+xchg_byte r q h k number s j (half_of t i) = exchange_agrees r q h k (half_of s j) (half_of t i)
+xchg_byte r q h k number s j (flag_of f) = exchange_agrees r q h k (half_of s j) (flag_of f)
+
+-- words are exchanged half by half
+
+unmoved_low : (a b x y z : Bool) → ((((a && false) || false) && x) || ((((b && false) || false) && y) || (not (a && false) && (not (b && false) && z)))) ≡ z
+unmoved_low a b x y z = grind arith
+
+low_unmoved : (r q s : Reg) (w : Loc → Bool) → before (exchanging (Half r High) (Half q High)) w (Half s Low) ≡ w (Half s Low)
+low_unmoved r q s w =
+    unmoved_low (register_number s == register_number r) (register_number s == register_number q) (w (Half q High) || w (Temp 0)) (not (register_number r == register_number q && true) && w (Half r High)) (w (Half s Low))
+
+high_unmoved : (r q s : Reg) (w : Loc → Bool) → before (exchanging (Half r Low) (Half q Low)) w (Half s High) ≡ w (Half s High)
+high_unmoved r q s w =
+    unmoved_low (register_number s == register_number r) (register_number s == register_number q) (w (Half q Low) || w (Temp 0)) (not (register_number r == register_number q && true) && w (Half r Low)) (w (Half s High))
+
+word_half : (tr tq sr sq i z : Bool) → (((tr && i) && (sq && true)) || ((tq && i) && (sr && true)) || (z && not ((sr && true) || (sq && true)))) ≡ (((tr && (sq && i)) || (tq && (sr && i))) || (z && not (sr || sq)))
+word_half tr tq sr sq i z = grind arith
+
+-- an exchange of halves, as one of words
+halves_exchanged : (r q s : Reg) (k : HalfName) (number : Option ℕ) (to : Location)
+    → (((is_same to (half_of r k) && is_same (half_of s k) (half_of q k)) || (is_same to (half_of q k) && is_same (half_of s k) (half_of r k))) || (is_same (half_of s k) to && not (is_same (half_of s k) (half_of r k) || is_same (half_of s k) (half_of q k))))
+    ≡ comes_from (Xchg (Word r) (Word q)) number (half_of s k) to
+halves_exchanged r q s Low number (half_of t i) =
+    word_half (is_same_register t r) (is_same_register t q) (is_same_register s r) (is_same_register s q) (is_same_half i Low) (is_same (half_of s Low) (half_of t i))
+halves_exchanged r q s High number (half_of t i) =
+    word_half (is_same_register t r) (is_same_register t q) (is_same_register s r) (is_same_register s q) (is_same_half i High) (is_same (half_of s High) (half_of t i))
+halves_exchanged r q s k number (flag_of f) = refl
+
+xchg_word : (r q s : Reg) (k : HalfName) (number : Option ℕ) (to : Location) → before (xchg_stmts (Word r) (Word q)) (alone (place_of to)) (Half s k) ≡ comes_from (Xchg (Word r) (Word q)) number (half_of s k) to
+xchg_word r q s Low number to =
+    let w : Loc → Bool = before (exchanging (Half r High) (Half q High)) (alone (place_of to)) in
+    before_both (exchanging (Half r Low) (Half q Low)) (exchanging (Half r High) (Half q High)) (alone (place_of to)) (Half s Low)
+    ∙ exchanged r q Low Low (half_of s Low) w refl
+    ∙ rw (low_unmoved r q q (alone (place_of to)), low_unmoved r q r (alone (place_of to)), low_unmoved r q s (alone (place_of to)))
+    (sym (exchanged r q Low Low (half_of s Low) (alone (place_of to)) (no_temporary to 0)) ∙ exchange_agrees r q Low Low (half_of s Low) to ∙ halves_exchanged r q s Low number to)
+xchg_word r q s High number to =
+    before_both (exchanging (Half r Low) (Half q Low)) (exchanging (Half r High) (Half q High)) (alone (place_of to)) (Half s High)
+    ∙ high_unmoved r q s (before (exchanging (Half r High) (Half q High)) (alone (place_of to)))
+    ∙ exchange_agrees r q High High (half_of s High) to ∙ halves_exchanged r q s High number to
+
+pub xchg_agrees : (a b : Operand) (number : Option ℕ) (l to : Location) → is_register a ≡ true → is_register b ≡ true → operand_width a ≡ operand_width b
+    → before (xchg_stmts a b) (alone (place_of to)) (place_of l) ≡ comes_from (Xchg a b) number l to
+xchg_agrees (Word r) (Word q) number (half_of s k) to g h same = xchg_word r q s k number to
+xchg_agrees (Word r) (Word q) number (flag_of e) to g h same = exchange_stays (Word r) (Word q) number e to g h
+xchg_agrees (Byte r half) (Byte q other) number (half_of s j) to g h same = xchg_byte r q half other number s j to
+xchg_agrees (Byte r half) (Byte q other) number (flag_of e) to g h same = exchange_stays (Byte r half) (Byte q other) number e to g h
+xchg_agrees (Word r) (Byte q half) number l to g h same = absurd (cc)
+xchg_agrees (Byte r half) (Word q) number l to g h same = absurd (cc)
+xchg_agrees (Word r) (Seg n) number l to g h same = absurd (true≢false (sym h))
+xchg_agrees (Word r) (Mem width ea) number l to g h same = absurd (true≢false (sym h))
+xchg_agrees (Word r) (Constant width c) number l to g h same = absurd (true≢false (sym h))
+xchg_agrees (Byte r half) (Seg n) number l to g h same = absurd (true≢false (sym h))
+xchg_agrees (Byte r half) (Mem width ea) number l to g h same = absurd (true≢false (sym h))
+xchg_agrees (Byte r half) (Constant width c) number l to g h same = absurd (true≢false (sym h))
+xchg_agrees (Seg n) b number l to g h same = absurd (true≢false (sym g))
+xchg_agrees (Mem width ea) b number l to g h same = absurd (true≢false (sym g))
+xchg_agrees (Constant width c) b number l to g h same = absurd (true≢false (sym g))
+
+-- Operations without operands, and the counting of a loop.
+
+-- nothing is set
+same_left : (l to : Location) → alone (place_of to) (place_of l) ≡ (is_same l to && true)
+same_left l to = place_same l to ∙ sym (and_true (is_same l to))
+
+nop_agrees : (number : Option ℕ) (l to : Location) → alone (place_of to) (place_of l) ≡ comes_from (PlainOp Nop) number l to
+nop_agrees number (half_of s k) to = same_left (half_of s k) to
+nop_agrees number (flag_of e) to = same_left (flag_of e) to
+
+-- CBW is a move of AL to AH
+cbw_agrees : (number : Option ℕ) (l to : Location) → before (plain_stmts Cbw) (alone (place_of to)) (place_of l) ≡ comes_from (PlainOp Cbw) number l to
+cbw_agrees number (half_of s k) (half_of t j) = mov_agrees (Byte Ax High) (Byte Ax Low) number (half_of s k) (half_of t j) refl refl refl
+cbw_agrees number (half_of s k) (flag_of f) = mov_agrees (Byte Ax High) (Byte Ax Low) number (half_of s k) (flag_of f) refl refl refl
+cbw_agrees number (flag_of e) (half_of t j) = mov_agrees (Byte Ax High) (Byte Ax Low) number (flag_of e) (half_of t j) refl refl refl
+cbw_agrees number (flag_of e) (flag_of f) = mov_agrees (Byte Ax High) (Byte Ax Low) number (flag_of e) (flag_of f) refl refl refl
+
+word_joined : (x m k : Bool) → (((x || false) && m) || k) ≡ ((m && x) || k)
+word_joined x m k = grind arith
+
+-- the result goes to a word that is made of a word
+word_made : (a b : Reg) (s : Reg) (k : HalfName) (to : Location) → is_general a ≡ true → is_general b ≡ true
+    → ((reads (Half s k) (word_of b) && before (storing (Word a)) (alone (place_of to)) (Temp 5)) || before (storing (Word a)) (alone (place_of to)) (Half s k))
+    ≡ ((is_part to (Word a) && is_same_register s b) || (is_same (half_of s k) to && not (is_same_register s a)))
+word_made a b s k to g h =
+    ap (λ x. (x && before (storing (Word a)) (alone (place_of to)) (Temp 5)) || before (storing (Word a)) (alone (place_of to)) (Half s k)) (operand_reads (Word b) (half_of s k) h)
+    ∙ ap (λ x. ((is_same_register s b || false) && x) || before (storing (Word a)) (alone (place_of to)) (Half s k)) (stored_result (Word a) to g)
+    ∙ ap (λ x. ((is_same_register s b || false) && is_part to (Word a)) || x) (stored_half (Word a) s k to g)
+    ∙ word_joined (is_same_register s b) (is_part to (Word a)) (is_same (half_of s k) to && not (is_same_register s a))
+
+cwd_agrees : (number : Option ℕ) (l to : Location) → before (plain_stmts Cwd) (alone (place_of to)) (place_of l) ≡ comes_from (PlainOp Cwd) number l to
+cwd_agrees number (half_of s k) (half_of t j) = word_made Dx Ax s k (half_of t j) refl refl
+cwd_agrees number (half_of s k) (flag_of f) = word_made Dx Ax s k (flag_of f) refl refl
+cwd_agrees number (flag_of e) (half_of t j) = sym (ap (λ x. x || false) (and_false (is_same_register t Dx)))
+cwd_agrees number (flag_of e) (flag_of f) = same_left (flag_of e) (flag_of f)
+
+counting_agrees : (number : Option ℕ) (l to : Location) → before counting (alone (place_of to)) (place_of l) ≡ (counts to l || (is_same l to && not (surely_writes (Loop 0) number l)))
+counting_agrees number (half_of s k) (half_of t j) = word_made Cx Cx s k (half_of t j) refl refl
+counting_agrees number (half_of s k) (flag_of f) = word_made Cx Cx s k (flag_of f) refl refl
+counting_agrees number (flag_of e) (half_of t j) = sym (ap (λ x. x || false) (and_false (is_same_register t Cx)))
+counting_agrees number (flag_of e) (flag_of f) = same_left (flag_of e) (flag_of f)
+
+-- CLC, STC and CMC
+clc_agrees : (number : Option ℕ) (l to : Location) → before (plain_stmts Clc) (alone (place_of to)) (place_of l) ≡ comes_from (PlainOp Clc) number l to
+clc_agrees number (half_of s k) to = same_left (half_of s k) to
+clc_agrees number (flag_of Cf) to = sym (and_false (is_same (flag_of Cf) to))
+clc_agrees number (flag_of Zf) to = same_left (flag_of Zf) to
+clc_agrees number (flag_of Sf) to = same_left (flag_of Sf) to
+clc_agrees number (flag_of Of) to = same_left (flag_of Of) to
+
+stc_agrees : (number : Option ℕ) (l to : Location) → before (plain_stmts Stc) (alone (place_of to)) (place_of l) ≡ comes_from (PlainOp Stc) number l to
+stc_agrees number (half_of s k) to = same_left (half_of s k) to
+stc_agrees number (flag_of Cf) to = sym (and_false (is_same (flag_of Cf) to))
+stc_agrees number (flag_of Zf) to = same_left (flag_of Zf) to
+stc_agrees number (flag_of Sf) to = same_left (flag_of Sf) to
+stc_agrees number (flag_of Of) to = same_left (flag_of Of) to
+
+cmc_agrees : (number : Option ℕ) (l to : Location) → before (plain_stmts Cmc) (alone (place_of to)) (place_of l) ≡ comes_from (PlainOp Cmc) number l to
+cmc_agrees number (half_of s k) (half_of t j) = same_left (half_of s k) (half_of t j)
+cmc_agrees number (half_of s k) (flag_of Cf) = refl
+cmc_agrees number (half_of s k) (flag_of Zf) = refl
+cmc_agrees number (half_of s k) (flag_of Sf) = refl
+cmc_agrees number (half_of s k) (flag_of Of) = refl
+cmc_agrees number (flag_of Cf) (half_of t j) = refl
+cmc_agrees number (flag_of Cf) (flag_of Cf) = refl
+cmc_agrees number (flag_of Cf) (flag_of Zf) = refl
+cmc_agrees number (flag_of Cf) (flag_of Sf) = refl
+cmc_agrees number (flag_of Cf) (flag_of Of) = refl
+cmc_agrees number (flag_of Zf) (half_of t j) = refl
+cmc_agrees number (flag_of Zf) (flag_of Cf) = refl
+cmc_agrees number (flag_of Zf) (flag_of Zf) = refl
+cmc_agrees number (flag_of Zf) (flag_of Sf) = refl
+cmc_agrees number (flag_of Zf) (flag_of Of) = refl
+cmc_agrees number (flag_of Sf) (half_of t j) = refl
+cmc_agrees number (flag_of Sf) (flag_of Cf) = refl
+cmc_agrees number (flag_of Sf) (flag_of Zf) = refl
+cmc_agrees number (flag_of Sf) (flag_of Sf) = refl
+cmc_agrees number (flag_of Sf) (flag_of Of) = refl
+cmc_agrees number (flag_of Of) (half_of t j) = refl
+cmc_agrees number (flag_of Of) (flag_of Cf) = refl
+cmc_agrees number (flag_of Of) (flag_of Zf) = refl
+cmc_agrees number (flag_of Of) (flag_of Sf) = refl
+cmc_agrees number (flag_of Of) (flag_of Of) = refl
+
+pub plain_agrees : (operation : Plain) (number : Option ℕ) (l to : Location) → is_lifted_plain operation ≡ true → before (plain_stmts operation) (alone (place_of to)) (place_of l) ≡ comes_from (PlainOp operation) number l to
+plain_agrees Nop number l to lifted = nop_agrees number l to
+plain_agrees Cbw number l to lifted = cbw_agrees number l to
+plain_agrees Cwd number l to lifted = cwd_agrees number l to
+plain_agrees Clc number l to lifted = clc_agrees number l to
+plain_agrees Stc number l to lifted = stc_agrees number l to
+plain_agrees Cmc number l to lifted = cmc_agrees number l to
+plain_agrees Xlat number l to lifted = absurd (true≢false (sym lifted))
+plain_agrees Cli number l to lifted = absurd (true≢false (sym lifted))
+plain_agrees Sti number l to lifted = absurd (true≢false (sym lifted))
+plain_agrees Cld number l to lifted = absurd (true≢false (sym lifted))

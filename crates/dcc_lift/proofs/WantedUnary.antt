@@ -198,7 +198,7 @@ neg_agrees a n l to g =
     ∙ other_joined (is_read l a) (unary_makes Neg a to) (is_same l to && not (surely_writes (UnaryOp Neg a) n l))
 
 -- NOT has no second operand
-inverted : (w : Width) (e : Expr) (u : Loc → Bool) (l : Location) → before (result_taking w e) u (place_of l) ≡ ((reads (place_of l) e && u (result_place w)) || u (place_of l))
+pub inverted : (w : Width) (e : Expr) (u : Loc → Bool) (l : Location) → before (result_taking w e) u (place_of l) ≡ ((reads (place_of l) e && u (result_place w)) || u (place_of l))
 inverted byte_width e u (half_of s k) = refl
 inverted byte_width e u (flag_of f) = refl
 inverted word_width e u (half_of s k) = refl
