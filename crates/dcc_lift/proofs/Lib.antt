@@ -24,3 +24,4 @@ pub mod WantedMakes
 pub mod WantedUnary
 pub mod WantedShifts
 pub mod WantedMoves
+pub mod WantedOperations

@@ -240,7 +240,7 @@ xchg_agrees (Constant width c) b number l to g h same = absurd (true≢false (sy
 -- Operations without operands, and the counting of a loop.
 
 -- nothing is set
-same_left : (l to : Location) → alone (place_of to) (place_of l) ≡ (is_same l to && true)
+pub same_left : (l to : Location) → alone (place_of to) (place_of l) ≡ (is_same l to && true)
 same_left l to = place_same l to ∙ sym (and_true (is_same l to))
 
 nop_agrees : (number : Option ℕ) (l to : Location) → alone (place_of to) (place_of l) ≡ comes_from (PlainOp Nop) number l to
@@ -273,7 +273,7 @@ cwd_agrees number (half_of s k) (flag_of f) = word_made Dx Ax s k (flag_of f) re
 cwd_agrees number (flag_of e) (half_of t j) = sym (ap (λ x. x || false) (and_false (is_same_register t Dx)))
 cwd_agrees number (flag_of e) (flag_of f) = same_left (flag_of e) (flag_of f)
 
-counting_agrees : (number : Option ℕ) (l to : Location) → before counting (alone (place_of to)) (place_of l) ≡ (counts to l || (is_same l to && not (surely_writes (Loop 0) number l)))
+pub counting_agrees : (number : Option ℕ) (l to : Location) → before counting (alone (place_of to)) (place_of l) ≡ (counts to l || (is_same l to && not (surely_writes (Loop 0) number l)))
 counting_agrees number (half_of s k) (half_of t j) = word_made Cx Cx s k (half_of t j) refl refl
 counting_agrees number (half_of s k) (flag_of f) = word_made Cx Cx s k (flag_of f) refl refl
 counting_agrees number (flag_of e) (half_of t j) = sym (ap (λ x. x || false) (and_false (is_same_register t Cx)))

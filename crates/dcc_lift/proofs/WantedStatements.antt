@@ -88,26 +88,42 @@ before_weaker (Div to e ∷ xs) v w l le t = before_weaker xs v w l le t
 before_weaker (Call results entry arguments depth ∷ xs) v w l le t = before_weaker xs v w l le t
 before_weaker (Dos n place argument ∷ xs) v w l le t = before_weaker xs v w l le t
 
+both_none : (a b : Bool) → ((a && false) || (b && false)) ≡ false
+both_none a b = grind arith
+
+-- nothing is wanted where nothing is wanted behind
+pub before_none : (xs : List Stmt) (l : Loc) → before xs (λ x. false) l ≡ false
+before_none [] l = refl
+before_none (Set to e ∷ xs) l =
+    ap (λ b. (reads l e && b) || (not (same_location l to) && before xs (λ x. false) l)) (before_none xs to)
+    ∙ ap (λ b. (reads l e && false) || (not (same_location l to) && b)) (before_none xs l)
+    ∙ both_none (reads l e) (not (same_location l to))
+before_none (Fetch to width address ∷ xs) l = before_none xs l
+before_none (Store width address e ∷ xs) l = before_none xs l
+before_none (Div to e ∷ xs) l = before_none xs l
+before_none (Call results entry arguments depth ∷ xs) l = before_none xs l
+before_none (Dos n place argument ∷ xs) l = before_none xs l
+
 -- Statements that read no temporary before they set it.
 
 -- the locations that are known after statements, where these are known before them
 abbrev pub known_behind : List Stmt → (Loc → Bool) → Loc → Bool
 known_behind [] known = known
-known_behind (Set to e ∷ rest) known = known_behind rest (λ l. same_location l to || known l)
+known_behind (Set to e ∷ rest) known = known_behind rest (λ l. known l || same_location l to)
 known_behind (stmt ∷ rest) known = known_behind rest known
 
 -- the statements set locations, and read only what is known
 abbrev pub sets_first : List Stmt → (Loc → Bool) → Bool
 sets_first [] known = true
-sets_first (Set to e ∷ rest) known = list_all known (reads_of e) && sets_first rest (λ l. same_location l to || known l)
+sets_first (Set to e ∷ rest) known = list_all known (reads_of e) && sets_first rest (λ l. known l || same_location l to)
 sets_first (stmt ∷ rest) known = false
 
 pub sets_both : (xs ys : List Stmt) (known : Loc → Bool) → sets_first xs known ≡ true → sets_first ys (known_behind xs known) ≡ true → sets_first (xs ++ ys) known ≡ true
 sets_both [] ys known s t = t
 sets_both (Set to e ∷ xs) ys known s t =
-    and_both (list_all known (reads_of e)) (sets_first (xs ++ ys) (λ l. same_location l to || known l))
-    (and_left (list_all known (reads_of e)) (sets_first xs (λ l. same_location l to || known l)) s)
-    (sets_both xs ys (λ l. same_location l to || known l) (and_right (list_all known (reads_of e)) (sets_first xs (λ l. same_location l to || known l)) s) t)
+    and_both (list_all known (reads_of e)) (sets_first (xs ++ ys) (λ l. known l || same_location l to))
+    (and_left (list_all known (reads_of e)) (sets_first xs (λ l. known l || same_location l to)) s)
+    (sets_both xs ys (λ l. known l || same_location l to) (and_right (list_all known (reads_of e)) (sets_first xs (λ l. known l || same_location l to)) s) t)
 sets_both (Fetch to width address ∷ xs) ys known s t = absurd (true≢false (sym s))
 sets_both (Store width address e ∷ xs) ys known s t = absurd (true≢false (sym s))
 sets_both (Div to e ∷ xs) ys known s t = absurd (true≢false (sym s))
@@ -116,14 +132,14 @@ sets_both (Dos n place argument ∷ xs) ys known s t = absurd (true≢false (sym
 
 pub known_stays : (xs : List Stmt) (known : Loc → Bool) (l : Loc) → known l ≡ true → known_behind xs known l ≡ true
 known_stays [] known l e = e
-known_stays (Set to e ∷ xs) known l t = known_stays xs (λ x. same_location x to || known x) l (or_there (same_location l to) (known l) t)
+known_stays (Set to e ∷ xs) known l t = known_stays xs (λ x. known x || same_location x to) l (or_here (known l) (same_location l to) t)
 known_stays (Fetch to width address ∷ xs) known l t = known_stays xs known l t
 known_stays (Store width address e ∷ xs) known l t = known_stays xs known l t
 known_stays (Div to e ∷ xs) known l t = known_stays xs known l t
 known_stays (Call results entry arguments depth ∷ xs) known l t = known_stays xs known l t
 known_stays (Dos n place argument ∷ xs) known l t = known_stays xs known l t
 
-known_read : (known : Loc → Bool) (l : Loc) (xs : List Loc) → list_all known xs ≡ true → list_any (same_location l) xs ≡ true → known l ≡ true
+pub known_read : (known : Loc → Bool) (l : Loc) (xs : List Loc) → list_all known xs ≡ true → list_any (same_location l) xs ≡ true → known l ≡ true
 known_read known l [] a e = absurd (true≢false (sym e))
 known_read known l (x ∷ xs) a e = elim (or_cases (same_location l x) (list_any (same_location l) xs) e) [
   | inl t ↦ ap known (location_same l x t) ∙ and_left (known x) (list_all known xs) a
@@ -134,10 +150,12 @@ known_read known l (x ∷ xs) a e = elim (or_cases (same_location l x) (list_any
 pub wanted_known : (xs : List Stmt) (known w : Loc → Bool) (l : Loc) → sets_first xs known ≡ true → ((x : Loc) → w x ≡ true → known_behind xs known x ≡ true) → before xs w l ≡ true → known l ≡ true
 wanted_known [] known w l s behind e = behind l e
 wanted_known (Set to e ∷ xs) known w l s behind t = elim (or_cases (reads l e && before xs w to) (not (same_location l to) && before xs w l) t) [
-  | inl a ↦ known_read known l (reads_of e) (and_left (list_all known (reads_of e)) (sets_first xs (λ x. same_location x to || known x)) s) (and_left (reads l e) (before xs w to) a)
-  | inr b ↦ or_false (same_location l to) (known l) (not_true (same_location l to) (and_left (not (same_location l to)) (before xs w l) b))
-      (wanted_known xs (λ x. same_location x to || known x) w l (and_right (list_all known (reads_of e)) (sets_first xs (λ x. same_location x to || known x)) s) behind
-      (and_right (not (same_location l to)) (before xs w l) b))
+  | inl a ↦ known_read known l (reads_of e) (and_left (list_all known (reads_of e)) (sets_first xs (λ x. known x || same_location x to)) s) (and_left (reads l e) (before xs w to) a)
+  | inr b ↦ elim (or_cases (known l) (same_location l to) (wanted_known xs (λ x. known x || same_location x to) w l (and_right (list_all known (reads_of e)) (sets_first xs (λ x. known x || same_location x to)) s) behind
+      (and_right (not (same_location l to)) (before xs w l) b))) [
+        | inl t ↦ t
+        | inr t ↦ absurd (clash t (not_true (same_location l to) (and_left (not (same_location l to)) (before xs w l) b)))
+      ]
 ]
 wanted_known (Fetch to width address ∷ xs) known w l s behind t = absurd (true≢false (sym s))
 wanted_known (Store width address e ∷ xs) known w l s behind t = absurd (true≢false (sym s))
@@ -174,16 +192,16 @@ pub leads : (End : Loc → Type 0) (xs ys : List Stmt) (known : Loc → Bool) (l
     → (to : Loc) × (before xs (alone to) l ≡ true) × WantedWith End ys to
 leads End [] ys known l s d = (l, location_itself l, d)
 leads End (Set x e ∷ xs) ys known l s d =
-    let rest = and_right (list_all known (reads_of e)) (sets_first xs (λ l. same_location l x || known l)) s in
+    let rest = and_right (list_all known (reads_of e)) (sets_first xs (λ l. known l || same_location l x)) s in
     elim d [
       | inl c ↦ absurd (no_location l c)
       | inr (inl m) ↦
-          let on = leads End xs ys (λ l. same_location l x || known l) m.0 rest m.3 in
+          let on = leads End xs ys (λ l. known l || same_location l x) m.0 rest m.3 in
           let here : m.0 ≡ x = one_location x m.0 m.1 in
           (on.0, or_here (reads l e && before xs (alone on.0) x) (not (same_location l x) && before xs (alone on.0) l)
           (and_both (reads l e) (before xs (alone on.0) x) (location_contained (reads_of e) l m.2) (subst (λ y. before xs (alone on.0) y ≡ true) here on.1)), on.2)
       | inr (inr n) ↦
-          let on = leads End xs ys (λ l. same_location l x || known l) l rest n.1 in
+          let on = leads End xs ys (λ l. known l || same_location l x) l rest n.1 in
           let other : same_location l x ≡ false = elim (decided (same_location l x)) [
             | inl t ↦ absurd (n.0 (contained_location (x ∷ []) l (or_here (same_location l x) false t)))
             | inr f ↦ f
@@ -202,12 +220,12 @@ pub led : (graph : Graph) (block : Block) (xs ys : List Stmt) (known w : Loc →
     → before xs w l ≡ true → IsWantedIn graph block (xs ++ ys) l
 led graph block [] ys known w l s behind t = behind l t
 led graph block (Set x e ∷ xs) ys known w l s behind t =
-    let rest = and_right (list_all known (reads_of e)) (sets_first xs (λ l. same_location l x || known l)) s in
+    let rest = and_right (list_all known (reads_of e)) (sets_first xs (λ l. known l || same_location l x)) s in
     elim (or_cases (reads l e && before xs w x) (not (same_location l x) && before xs w l) t) [
       | inl a ↦ made_of (contained_location (x ∷ []) x (or_here (same_location x x) false (location_itself x))) (contained_location (reads_of e) l (and_left (reads l e) (before xs w x) a))
-          (led graph block xs ys (λ l. same_location l x || known l) w x rest behind (and_right (reads l e) (before xs w x) a))
+          (led graph block xs ys (λ l. known l || same_location l x) w x rest behind (and_right (reads l e) (before xs w x) a))
       | inr b ↦ left (λ c. clash (subst (λ y. same_location l y ≡ true) (one_location x l c) (location_itself l)) (not_true (same_location l x) (and_left (not (same_location l x)) (before xs w l) b)))
-          (led graph block xs ys (λ l. same_location l x || known l) w l rest behind (and_right (not (same_location l x)) (before xs w l) b))
+          (led graph block xs ys (λ l. known l || same_location l x) w l rest behind (and_right (not (same_location l x)) (before xs w l) b))
     ]
 led graph block (Fetch to width address ∷ xs) ys known w l s behind t = absurd (true≢false (sym s))
 led graph block (Store width address e ∷ xs) ys known w l s behind t = absurd (true≢false (sym s))
