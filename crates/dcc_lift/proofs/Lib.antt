@@ -25,3 +25,4 @@ pub mod WantedUnary
 pub mod WantedShifts
 pub mod WantedMoves
 pub mod WantedOperations
+pub mod WantedDos

@@ -44,10 +44,10 @@ contained_location (x ∷ xs) l e = elim (decided (same_location l x)) [
   | inr n ↦ let later = contained_location xs l (or_false (same_location l x) (list_any (same_location l) xs) n e) in (suc later.0, omega (arith, later.1), later.2)
 ]
 
-no_location : (l : Loc) → ¬ Contains [] l
+pub no_location : (l : Loc) → ¬ Contains [] l
 no_location l h = absurd (omega (arith, h.1))
 
-one_location : (x l : Loc) → Contains (x ∷ []) l → l ≡ x
+pub one_location : (x l : Loc) → Contains (x ∷ []) l → l ≡ x
 one_location x l h = location_same l x (sym (or_none (same_location l x)) ∙ location_contained (x ∷ []) l h)
 
 -- Statements.
