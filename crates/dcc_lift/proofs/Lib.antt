@@ -26,3 +26,4 @@ pub mod WantedShifts
 pub mod WantedMoves
 pub mod WantedOperations
 pub mod WantedDos
+pub mod WantedLaws
