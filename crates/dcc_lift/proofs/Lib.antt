@@ -27,3 +27,4 @@ pub mod WantedMoves
 pub mod WantedOperations
 pub mod WantedDos
 pub mod WantedLaws
+pub mod WantedChains

@@ -35,12 +35,12 @@ use Rattle.dcc_lift.proofs.WantedOperations.{agrees, is_visible, sets, reads_tes
 use Rattle.dcc_lift.proofs.WantedDos.{location_of, placed, place_visible, same_place, DosWants, taken, kept, dos_wants, dos_uses_wanted, dos_keeps}
 
 -- INT 21h, or another operation
-is_dos : (op : Op) → (op ≡ Int21) ⊎ (op ≢ Int21)
+pub is_dos : (op : Op) → (op ≡ Int21) ⊎ (op ≢ Int21)
 is_dos Int21 = inl refl
 is_dos _ = inr (λ e. absurd (cc))
 
 -- the numbers of DOS calls are looked at by INT 21h alone
-uses_any : (op : Op) (m n : Option ℕ) (l : Location) → op ≢ Int21 → uses op m l ≡ uses op n l
+pub uses_any : (op : Op) (m n : Option ℕ) (l : Location) → op ≢ Int21 → uses op m l ≡ uses op n l
 uses_any (AluOp operation a b) m n l other = refl
 uses_any Int21 m n l other = absurd (other refl)
 uses_any _ m n l other = refl
@@ -50,7 +50,7 @@ writes_half_any (AluOp operation a b) m n r h other = refl
 writes_half_any Int21 m n r h other = absurd (other refl)
 writes_half_any _ m n r h other = refl
 
-writes_any : (op : Op) (m n : Option ℕ) (l : Location) → op ≢ Int21 → surely_writes op m l ≡ surely_writes op n l
+pub writes_any : (op : Op) (m n : Option ℕ) (l : Location) → op ≢ Int21 → surely_writes op m l ≡ surely_writes op n l
 writes_any op m n (half_of r h) other = writes_half_any op m n r h other
 writes_any op m n (flag_of f) other = refl
 
@@ -157,7 +157,7 @@ module _ (image : Image) (layout : Layout) (nodes : Nodes) (at : ℕ) (node : No
         by_wants (kept f d) = by_behind f (behind l d)
 
     -- what is wanted before the statements of an instruction is wanted before it
-    ahead : (l : Loc) → WantedWith End (op_stmts node.instr.op node.number ++ ys) l → IsWantedAt image layout at l
+    pub ahead : (l : Loc) → WantedWith End (op_stmts node.instr.op node.number ++ ys) l → IsWantedAt image layout at l
     ahead l d = elim (is_dos node.instr.op) [
       | inl same ↦ ahead_dos same l d
       | inr other ↦ ahead_other other l d
