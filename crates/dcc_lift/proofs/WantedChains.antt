@@ -21,17 +21,17 @@ use Rattle.dcc_lift.specs.Blocks.{Nodes, node_in, successors_in, onward, IsChain
 use Rattle.dcc_lift.specs.Sound.{AreSound}
 use Rattle.dcc_lift.specs.Translation.{prelude_block, IsTranslation}
 use Rattle.dcc_lift.specs.Demand.{place_of, IsPlace, WantsTheSame}
-use Rattle.dcc_lift.proofs.ListTests.{and_left, and_right, or_cases, or_here, or_there, not_true, any_map, any_at, any_contained, contained_any, same_number, Passing, passing}
+use Rattle.dcc_lift.proofs.ListTests.{and_left, and_right, and_both, or_cases, or_here, or_there, not_true, any_map, any_at, any_contained, contained_any, same_number, Passing, passing}
 use Rattle.dcc_lift.proofs.NodeLaws.{is_node, node_in_some, node_in_has, successor_is_node}
 use Rattle.dcc_lift.proofs.ChainLaws.{is_leader, has_successor, onward_tells, last_goes_to_leaders, leader_node, sole}
 use Rattle.dcc_lift.proofs.BlockLaws.{blocks_stand, block_is, HasBlock, IsExitOf, stops, goes as goes_on, parts, targets_at, exit_forms}
 use Rattle.dcc_lift.proofs.Standing.{is_lifted_number, IsInstruction}
 use Rattle.dcc_lift.proofs.MirrorLaws.{location_same}
-use Rattle.dcc_lift.proofs.TranslationLaws.{the_graph, block_at_leader}
-use Rattle.dcc_lift.proofs.WantedStatements.{before, alone, WantedWith, WantedAtEnd, counted, led, location_contained, contained_location, no_location}
+use Rattle.dcc_lift.proofs.TranslationLaws.{the_graph, graphs_are, block_at_leader}
+use Rattle.dcc_lift.proofs.WantedStatements.{before, alone, WantedWith, WantedAtEnd, counted, led, location_itself, location_contained, contained_location, no_location}
 use Rattle.dcc_lift.proofs.WantedMakes.{is_same, place_same, comes_from}
 use Rattle.dcc_lift.proofs.WantedOperations.{agrees, is_visible, sets, reads_test, uses_agree}
-use Rattle.dcc_lift.proofs.WantedDos.{dos_uses_wanted, dos_keeps}
+use Rattle.dcc_lift.proofs.WantedDos.{location_of, located, dos_uses_wanted, dos_keeps}
 use Rattle.dcc_lift.proofs.WantedLaws.{is_dos, uses_any, writes_any, IsWantedAt, IsWantedBehind, by_test, by_next, ahead}
 
 -- what the test of a block's end uses is read by the test of its last instruction
@@ -204,3 +204,90 @@ module _ (image : Image) (layout : Layout) (nodes : Nodes) (prelude : ℕ) (soun
         let number = (instructions at node found).number same in
         at_node (place_of location) (dos_node same (place_of location) number.0 number.1 (dos_keeps graph block (flat_map (stmts_at nodes) rest) number.0 number.2 location
         (sym (ap (λ op. surely_writes op node.number location) same ∙ ap (λ m. surely_writes Int21 m location) number.1) ∙ w) d))
+
+  -- What is wanted at an instruction is wanted in the graph wherever it stands in a block.
+  abbrev pub WantsHere : ℕ → Location → Type 0
+  WantsHere at location =
+      (node : Node) → node_in nodes at ≡ Some node → (block : Block) (rest : List ℕ) → IsChain nodes layout.start_ip at rest → block.exit ≡ exit_at nodes layout.start_ip (last_of at rest)
+      → IsWantedIn graph block (flat_map (stmts_at nodes) (at ∷ rest)) (place_of location)
+
+  -- an instruction goes on to one that a block begins with
+  goes_to_target : (at next : ℕ) → has_successor nodes at next ≡ true → Contains (targets (exit_at nodes layout.start_ip at)) (block_place nodes layout.start_ip next)
+  goes_to_target at next e =
+      let succ = successors_in (node_in nodes at) in
+      let from = passing (λ x. x == next) succ e in
+      let here : (block_place nodes layout.start_ip from.element == block_place nodes layout.start_ip next) ≡ true =
+          eq-eqb (block_place nodes layout.start_ip from.element) (block_place nodes layout.start_ip next) (ap (block_place nodes layout.start_ip) (eqb-true from.element next from.passes)) in
+      subst (λ l. Contains l (block_place nodes layout.start_ip next)) (sym (targets_at nodes layout.start_ip prelude sound at))
+      (contained_any (map (block_place nodes layout.start_ip) succ) (block_place nodes layout.start_ip next)
+      (any_map (λ x. x == block_place nodes layout.start_ip next) (block_place nodes layout.start_ip) succ
+      ∙ any_at (λ x. block_place nodes layout.start_ip x == block_place nodes layout.start_ip next) succ from.place from.element from.found here))
+
+  -- what is wanted at the next instruction is wanted behind the statements of the one before
+  wanted_on : (at next : ℕ) (location : Location) → has_successor nodes at next ≡ true → WantsHere next location → (block : Block) (rest : List ℕ) → IsChain nodes layout.start_ip at rest
+      → block.exit ≡ exit_at nodes layout.start_ip (last_of at rest) → IsWantedIn graph block (flat_map (stmts_at nodes) rest) (place_of location)
+  wanted_on at next location e later block [] chain exit =
+      let leader = last_goes_to_leaders nodes layout.start_ip prelude sound at [] next chain e in
+      let there = has next leader in
+      let node = node_in_some nodes next (leader_node nodes layout.start_ip prelude sound next leader) in
+      goes (subst (λ x. Contains (targets x) (block_place nodes layout.start_ip next)) (sym exit) (goes_to_target at next e)) there.found
+      (subst (λ stmts. IsWantedIn graph there.block stmts (place_of location)) (sym there.is_block.stmts_are)
+      (later node.0 node.1 there.block there.is_block.rest there.is_block.chain there.is_block.exit_is))
+  wanted_on at next location e later block (after ∷ rest) chain exit =
+      let on = onward_tells nodes layout.start_ip prelude sound at after chain.0 in
+      let same : after ≡ next = sole after next (successors_in (node_in nodes at)) on.succ e in
+      subst (λ n. WantsHere n location) (sym same) later on.node.0 on.node.1 block rest chain.1 exit
+
+  procedure_wanted : (at : ℕ) (location : Location) → IsWanted image layout layout.start_ip at location → WantsHere at location
+  procedure_wanted at location (used {op = op} {number = number} h u) node found block rest chain exit =
+      used_here at node found block rest chain exit location (sym (own_uses at node op number location found h) ∙ u)
+  procedure_wanted at location (made_of {next = next} {to = to} {op = op} {number = number} h on m d) node found block rest chain exit =
+      let behind = wanted_on at next to (edge_goes at node found next on) (procedure_wanted next to d) block rest chain exit in
+      let makes_here : makes node.instr.op to location ≡ true = sym (own_makes at node op number to location found h) ∙ m in
+      elim (is_dos node.instr.op) [
+        | inl same ↦ absurd (true≢false (sym (subst (λ o. makes o to location ≡ true) same makes_here)))
+        | inr other ↦ made_here at node found block rest chain exit location to other
+            (or_here (makes node.instr.op to location) (is_same location to && not (surely_writes node.instr.op node.number location)) makes_here) behind
+      ]
+  procedure_wanted at location (left {next = next} {op = op} {number = number} h on w d) node found block rest chain exit =
+      let behind = wanted_on at next location (edge_goes at node found next on) (procedure_wanted next location d) block rest chain exit in
+      let stays : surely_writes node.instr.op node.number location ≡ false = sym (own_writes at node op number location found h) ∙ w in
+      elim (is_dos node.instr.op) [
+        | inl same ↦ kept_here at node found block rest chain exit location same stays behind
+        | inr other ↦ made_here at node found block rest chain exit location location other
+            (or_there (makes node.instr.op location location) (is_same location location && not (surely_writes node.instr.op node.number location))
+            (and_both (is_same location location) (not (surely_writes node.instr.op node.number location)) (sym (place_same location location) ∙ location_itself (place_of location)) (ap not stays))) behind
+      ]
+
+  -- both ways, at a block that begins at a leader
+  pub block_wants : (at : ℕ) (block : Block) (location : Location) → is_leader nodes layout.start_ip at ≡ true → IsBlockAt nodes layout.start_ip at block
+      → IsWanted image layout layout.start_ip at location ↔ IsWantedIn graph block block.stmts (place_of location)
+  block_wants at block location leader is =
+      let node = leader_node nodes layout.start_ip prelude sound at leader in
+      let found = node_in_some nodes at node in
+      (λ d. subst (λ stmts. IsWantedIn graph block stmts (place_of location)) (sym is.stmts_are) (procedure_wanted at location d found.0 found.1 block is.rest is.chain is.exit_is),
+      λ d.
+      let n = counted graph block block.stmts (place_of location) d in
+      let there = block_ahead n.0 at block is node (place_of location) n.1 in
+      subst (λ x. IsWanted image layout layout.start_ip at x) (sym (located there.location) ∙ ap location_of there.is ∙ located location) there.wanted)
+
+-- The translation of a procedure.
+
+module _ (image : Image) (layout : Layout) (start : Proc) (p : Program) (translation : IsTranslation image layout start p) (sound : AreSound start.nodes.entries layout.start_ip image.ip)
+    (instructions : (at : ℕ) (node : Node) → node_in start.nodes.entries at ≡ Some node → IsInstruction image layout start.nodes.entries at node)
+    (reached : (at : ℕ) (node : Node) → node_in start.nodes.entries at ≡ Some node → IsNode image layout layout.start_ip at) where
+  -- at each block the graph wants what the procedure wants
+  pub translation_wants : WantsTheSame image layout (the_graph image layout start p translation)
+  translation_wants place block location e is_place =
+      let nodes = start.nodes.entries in
+      let is = block_is nodes layout.start_ip (leaders nodes layout.start_ip) translation.blocks place block translation.blocks_are e in
+      let leader : is_leader nodes layout.start_ip block.at ≡ true =
+          sym (blocks_stand nodes layout.start_ip (leaders nodes layout.start_ip) translation.blocks block.at translation.blocks_are)
+          ∙ any_at (λ other. other.at == block.at) translation.blocks place block e (same_number block.at) in
+      block_wants image layout nodes image.ip sound instructions reached (the_graph image layout start p translation) (block_at_leader image layout start p translation sound) block.at block location leader is
+
+  -- the same of the graph by which the program is named
+  pub program_wants : (graph : Graph) → p.graphs ≡ graph ∷ [] → WantsTheSame image layout graph
+  program_wants graph one =
+      let same : the_graph image layout start p translation ≡ graph = cc (graphs_are image layout start p translation, one) in
+      subst (λ g. WantsTheSame image layout g) same translation_wants
