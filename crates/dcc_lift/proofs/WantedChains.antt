@@ -1,6 +1,6 @@
 -- Along the chains of instructions and from block to block the graph wants what the procedure wants.
-use Rattle.std.proofs.Common.{◌≡◌, ◌≢◌, ℕ, zero, suc, Bool, true, false, not, ◌&&◌, ◌||◌, ◌==◌, ◌⊎◌, inl, inr, ◌↔◌, List, [], ◌∷◌, ◌++◌, map, flat_map, slice_get, Option, Some, None, Contains, refl, sym, ap, ◌∙◌, subst, true≢false, eqb-true, eq-eqb}
-use Rattle.std.specs.List.{list_any, list_all}
+use Rattle.std.proofs.Common.{◌≡◌, ◌≢◌, ℕ, zero, suc, true, false, not, ◌&&◌, ◌==◌, inl, inr, ◌↔◌, List, [], ◌∷◌, ◌++◌, map, flat_map, slice_get, Option, Some, Contains, sym, ap, ◌∙◌, subst, true≢false, eqb-true, eq-eqb}
+use Rattle.std.specs.List.{list_any}
 use Rattle.dcc_prog.specs.declared.image.Image.{Image}
 use Rattle.dcc_prog.specs.declared.procedure.Layout.{Layout}
 use Rattle.dcc_prog.specs.declared.procedure.Node.{Node}
@@ -8,27 +8,27 @@ use Rattle.dcc_prog.specs.declared.procedure.Proc.{Proc}
 use Rattle.dcc_prog.specs.declared.instr.Instr.{Instr}
 use Rattle.dcc_prog.specs.declared.instr.Op.{Op}
 use Rattle.dcc_prog.specs.declared.instr.Op.TheVariants.{Int21}
-use Rattle.dcc_prog.specs.Trail.{instruction_in, known_ah, successors, IsTrail, IsNode, IsEdge}
+use Rattle.dcc_prog.specs.Trail.{successors, IsNode, IsEdge}
 use Rattle.dcc_prog.specs.Wanted.{Location, uses, makes, surely_writes, HasOperation, IsWanted, used, made_of, left}
 use Rattle.dcc_ir.specs.declared.syntax.Loc.{Loc}
-use Rattle.dcc_ir.specs.Tree.{Expr, Stmt, Exit, Goto, If, Stop, Block, Graph, Program}
+use Rattle.dcc_ir.specs.Tree.{Exit, Block, Graph, Program}
 use Rattle.dcc_ir.specs.Use.{reads_of}
 use Rattle.dcc_ir.specs.Flow.{targets}
 use Rattle.dcc_ir.specs.Demand.{tests_of, IsWantedIn, tested, goes}
-use Rattle.dcc_ir.proofs.PathLaws.{decided, clash}
+use Rattle.dcc_ir.proofs.PathLaws.{clash}
 use Rattle.dcc_lift.specs.Statements.{op_stmts, op_test, dos_stmts}
-use Rattle.dcc_lift.specs.Blocks.{Nodes, node_in, successors_in, onward, IsChain, leaders, block_place, node_stmts, stmts_at, exit_at, last_of, IsBlockAt, AreBlocksAt}
+use Rattle.dcc_lift.specs.Blocks.{Nodes, node_in, successors_in, IsChain, leaders, block_place, node_stmts, stmts_at, exit_at, last_of, IsBlockAt}
 use Rattle.dcc_lift.specs.Sound.{AreSound}
-use Rattle.dcc_lift.specs.Translation.{prelude_block, IsTranslation}
-use Rattle.dcc_lift.specs.Demand.{place_of, IsPlace, WantsTheSame}
-use Rattle.dcc_lift.proofs.ListTests.{and_left, and_right, and_both, or_cases, or_here, or_there, not_true, any_map, any_at, any_contained, contained_any, same_number, Passing, passing}
-use Rattle.dcc_lift.proofs.NodeLaws.{is_node, node_in_some, node_in_has, successor_is_node}
+use Rattle.dcc_lift.specs.Translation.{IsTranslation}
+use Rattle.dcc_lift.specs.Demand.{place_of, WantsTheSame}
+use Rattle.dcc_lift.proofs.ListTests.{and_both, or_here, or_there, any_map, any_at, any_contained, contained_any, same_number, passing}
+use Rattle.dcc_lift.proofs.NodeLaws.{is_node, node_in_some, node_in_has}
 use Rattle.dcc_lift.proofs.ChainLaws.{is_leader, has_successor, onward_tells, last_goes_to_leaders, leader_node, sole}
 use Rattle.dcc_lift.proofs.BlockLaws.{blocks_stand, block_is, HasBlock, IsExitOf, stops, goes as goes_on, parts, targets_at, exit_forms}
-use Rattle.dcc_lift.proofs.Standing.{is_lifted_number, IsInstruction}
+use Rattle.dcc_lift.proofs.Standing.{IsInstruction}
 use Rattle.dcc_lift.proofs.MirrorLaws.{location_same}
 use Rattle.dcc_lift.proofs.TranslationLaws.{the_graph, graphs_are, block_at_leader}
-use Rattle.dcc_lift.proofs.WantedStatements.{before, alone, WantedWith, WantedAtEnd, counted, led, location_itself, location_contained, contained_location, no_location}
+use Rattle.dcc_lift.proofs.WantedStatements.{alone, WantedWith, WantedAtEnd, counted, led, location_itself, location_contained, contained_location, no_location}
 use Rattle.dcc_lift.proofs.WantedMakes.{is_same, place_same, comes_from}
 use Rattle.dcc_lift.proofs.WantedOperations.{agrees, is_visible, sets, reads_test, uses_agree}
 use Rattle.dcc_lift.proofs.WantedDos.{location_of, located, dos_uses_wanted, dos_keeps}
@@ -58,7 +58,6 @@ module _ (image : Image) (layout : Layout) (nodes : Nodes) (prelude : ℕ) (soun
     (instructions : (at : ℕ) (node : Node) → node_in nodes at ≡ Some node → IsInstruction image layout nodes at node)
     (reached : (at : ℕ) (node : Node) → node_in nodes at ≡ Some node → IsNode image layout layout.start_ip at)
     (graph : Graph) (has : (at : ℕ) → is_leader nodes layout.start_ip at ≡ true → HasBlock nodes layout.start_ip graph.blocks (block_place nodes layout.start_ip at) at) where
-
   -- where an instruction goes on a trail does
   edge : (at : ℕ) (node : Node) → node_in nodes at ≡ Some node → (next : ℕ) → has_successor nodes at next ≡ true → IsEdge image layout layout.start_ip at next
   edge at node found next e =
@@ -217,7 +216,7 @@ module _ (image : Image) (layout : Layout) (nodes : Nodes) (prelude : ℕ) (soun
       let succ = successors_in (node_in nodes at) in
       let from = passing (λ x. x == next) succ e in
       let here : (block_place nodes layout.start_ip from.element == block_place nodes layout.start_ip next) ≡ true =
-          eq-eqb (block_place nodes layout.start_ip from.element) (block_place nodes layout.start_ip next) (ap (block_place nodes layout.start_ip) (eqb-true from.element next from.passes)) in
+      eq-eqb (block_place nodes layout.start_ip from.element) (block_place nodes layout.start_ip next) (ap (block_place nodes layout.start_ip) (eqb-true from.element next from.passes)) in
       subst (λ l. Contains l (block_place nodes layout.start_ip next)) (sym (targets_at nodes layout.start_ip prelude sound at))
       (contained_any (map (block_place nodes layout.start_ip) succ) (block_place nodes layout.start_ip next)
       (any_map (λ x. x == block_place nodes layout.start_ip next) (block_place nodes layout.start_ip) succ
@@ -264,12 +263,13 @@ module _ (image : Image) (layout : Layout) (nodes : Nodes) (prelude : ℕ) (soun
       → IsWanted image layout layout.start_ip at location ↔ IsWantedIn graph block block.stmts (place_of location)
   block_wants at block location leader is =
       let node = leader_node nodes layout.start_ip prelude sound at leader in
-      let found = node_in_some nodes at node in
-      (λ d. subst (λ stmts. IsWantedIn graph block stmts (place_of location)) (sym is.stmts_are) (procedure_wanted at location d found.0 found.1 block is.rest is.chain is.exit_is),
-      λ d.
-      let n = counted graph block block.stmts (place_of location) d in
-      let there = block_ahead n.0 at block is node (place_of location) n.1 in
-      subst (λ x. IsWanted image layout layout.start_ip at x) (sym (located there.location) ∙ ap location_of there.is ∙ located location) there.wanted)
+      let found = node_in_some nodes at node in (
+        λ d. subst (λ stmts. IsWantedIn graph block stmts (place_of location)) (sym is.stmts_are) (procedure_wanted at location d found.0 found.1 block is.rest is.chain is.exit_is),
+        λ d.
+            let n = counted graph block block.stmts (place_of location) d in
+            let there = block_ahead n.0 at block is node (place_of location) n.1 in
+            subst (λ x. IsWanted image layout layout.start_ip at x) (sym (located there.location) ∙ ap location_of there.is ∙ located location) there.wanted,
+      )
 
 -- The translation of a procedure.
 
@@ -282,8 +282,8 @@ module _ (image : Image) (layout : Layout) (start : Proc) (p : Program) (transla
       let nodes = start.nodes.entries in
       let is = block_is nodes layout.start_ip (leaders nodes layout.start_ip) translation.blocks place block translation.blocks_are e in
       let leader : is_leader nodes layout.start_ip block.at ≡ true =
-          sym (blocks_stand nodes layout.start_ip (leaders nodes layout.start_ip) translation.blocks block.at translation.blocks_are)
-          ∙ any_at (λ other. other.at == block.at) translation.blocks place block e (same_number block.at) in
+      sym (blocks_stand nodes layout.start_ip (leaders nodes layout.start_ip) translation.blocks block.at translation.blocks_are)
+      ∙ any_at (λ other. other.at == block.at) translation.blocks place block e (same_number block.at) in
       block_wants image layout nodes image.ip sound instructions reached (the_graph image layout start p translation) (block_at_leader image layout start p translation sound) block.at block location leader is
 
   -- the same of the graph by which the program is named

@@ -1,9 +1,7 @@
 -- What the statements of a DOS call want is what the call wants.
-use Rattle.std.proofs.Common.{◌≡◌, ◌≢◌, ℕ, Bool, true, false, not, ◌&&◌, ◌||◌, ◌==◌, ◌⊎◌, inl, inr, List, [], ◌∷◌, ◌++◌, Option, Some, None, Contains, refl, sym, ap, ◌∙◌, subst, true≢false, eqb-true}
-use Rattle.dcc_num.specs.declared.Reg.{Reg}
+use Rattle.std.proofs.Common.{◌≡◌, ℕ, true, false, ◌&&◌, ◌||◌, ◌==◌, inl, inr, List, [], ◌∷◌, ◌++◌, Some, Contains, refl, sym, ap, ◌∙◌, subst, true≢false, eqb-true}
 use Rattle.dcc_num.specs.declared.Reg.TheVariants.{Ax, Dx}
-use Rattle.dcc_num.specs.declared.Half.{Half as HalfName}
-use Rattle.dcc_num.specs.declared.Half.TheVariants.{Low, High}
+use Rattle.dcc_num.specs.declared.Half.TheVariants.{Low}
 use Rattle.dcc_num.specs.declared.FlagName.TheVariants.{Cf}
 use Rattle.dcc_prog.specs.declared.instr.Op.TheVariants.{Int21}
 use Rattle.dcc_prog.specs.Writes.{is_same_register, is_same_half}
@@ -12,14 +10,14 @@ use Rattle.dcc_ir.specs.declared.syntax.Loc.{Loc}
 use Rattle.dcc_ir.specs.declared.syntax.Loc.TheVariants.{Half, Flag, Cell, Temp}
 use Rattle.dcc_ir.specs.Location.{same_location}
 use Rattle.dcc_ir.specs.Tree.{Stmt, Block, Graph}
-use Rattle.dcc_ir.specs.Demand.{IsWantedIn, used, made_of, left}
+use Rattle.dcc_ir.specs.Demand.{IsWantedIn, used, left}
 use Rattle.dcc_ir.proofs.PathLaws.{decided, clash}
 use Rattle.dcc_lift.specs.Statements.{dos_stmts}
 use Rattle.dcc_lift.specs.Demand.{place_of}
 use Rattle.dcc_lift.proofs.ListTests.{or_cases, or_here}
 use Rattle.dcc_lift.proofs.MirrorLaws.{location_same}
 use Rattle.dcc_lift.proofs.Standing.{is_lifted_number}
-use Rattle.dcc_lift.proofs.WantedStatements.{WantedWith, contained_location, location_itself, one_location, no_location}
+use Rattle.dcc_lift.proofs.WantedStatements.{WantedWith, contained_location, one_location, no_location}
 use Rattle.dcc_lift.proofs.WantedMakes.{is_same, place_same}
 use Rattle.dcc_lift.proofs.WantedOperations.{is_visible}
 

@@ -1,38 +1,27 @@
 -- At each block the graph wants what the procedure wants.
-use Rattle.std.proofs.Common.{◌≡◌, ◌≢◌, ℕ, zero, suc, Bool, true, false, not, ◌&&◌, ◌||◌, ◌==◌, ◌⊎◌, inl, inr, ◌↔◌, List, [], ◌∷◌, ◌++◌, map, flat_map, slice_get, Option, Some, None, Contains, refl, sym, ap, ◌∙◌, subst, true≢false}
-use Rattle.std.specs.List.{list_any, list_all}
+use Rattle.std.proofs.Common.{◌≡◌, ◌≢◌, ℕ, Bool, true, false, not, ◌&&◌, ◌⊎◌, inl, inr, List, ◌++◌, Option, Some, None, refl, sym, ap, ◌∙◌, subst, true≢false}
 use Rattle.dcc_num.specs.declared.Reg.{Reg}
 use Rattle.dcc_num.specs.declared.Half.{Half as HalfName}
 use Rattle.dcc_prog.specs.declared.image.Image.{Image}
 use Rattle.dcc_prog.specs.declared.procedure.Layout.{Layout}
 use Rattle.dcc_prog.specs.declared.procedure.Node.{Node}
-use Rattle.dcc_prog.specs.declared.procedure.Proc.{Proc}
-use Rattle.dcc_prog.specs.declared.instr.Instr.{Instr}
 use Rattle.dcc_prog.specs.declared.instr.Op.{Op}
-use Rattle.dcc_prog.specs.declared.instr.Op.TheVariants.{Alu as AluOp, Unary as UnaryOp, Shift as ShiftOp, Mov, Int21}
-use Rattle.dcc_prog.specs.Trail.{instruction_in, known_ah, successors, IsTrail, IsNode, IsEdge}
+use Rattle.dcc_prog.specs.declared.instr.Op.TheVariants.{Alu as AluOp, Int21}
+use Rattle.dcc_prog.specs.Trail.{IsNode, IsEdge}
 use Rattle.dcc_prog.specs.Wanted.{Location, half_of, flag_of, uses, makes, surely_writes_half, surely_writes, HasOperation, IsWanted, used, made_of, left}
 use Rattle.dcc_ir.specs.declared.syntax.Loc.{Loc}
-use Rattle.dcc_ir.specs.Tree.{Expr, Stmt, Exit, Goto, If, Stop, Block, Graph, Program}
+use Rattle.dcc_ir.specs.Tree.{Expr, Stmt}
 use Rattle.dcc_ir.specs.Use.{reads_of}
-use Rattle.dcc_ir.specs.Flow.{targets}
-use Rattle.dcc_ir.specs.Demand.{tests_of, IsWantedIn, tested, goes}
-use Rattle.dcc_ir.proofs.PathLaws.{decided, clash}
-use Rattle.dcc_lift.specs.Statements.{op_stmts, op_test, dos_stmts}
-use Rattle.dcc_lift.specs.Blocks.{Nodes, node_in, successors_in, onward, IsChain, leaders, block_place, node_stmts, stmts_at, exit_at, last_of, IsBlockAt, AreBlocksAt}
-use Rattle.dcc_lift.specs.Sound.{AreSound}
-use Rattle.dcc_lift.specs.Translation.{prelude_block, IsTranslation}
-use Rattle.dcc_lift.specs.Demand.{place_of, IsPlace, WantsTheSame}
-use Rattle.dcc_lift.proofs.ListTests.{and_left, and_right, or_cases, or_here, or_there, not_true, any_map, any_at, any_contained, contained_any, same_number, passing}
-use Rattle.dcc_lift.proofs.NodeLaws.{is_node, node_in_some, node_in_has, successor_is_node}
-use Rattle.dcc_lift.proofs.ChainLaws.{is_leader, has_successor, onward_tells, last_goes_to_leaders, leader_node}
-use Rattle.dcc_lift.proofs.BlockLaws.{blocks_stand, block_is, HasBlock, IsExitOf, stops, goes as goes_on, parts, targets_at, exit_forms}
+use Rattle.dcc_lift.specs.Statements.{op_stmts, op_test}
+use Rattle.dcc_lift.specs.Blocks.{Nodes}
+use Rattle.dcc_lift.specs.Demand.{place_of}
+use Rattle.dcc_lift.proofs.ListTests.{and_left, and_right, or_cases, not_true}
 use Rattle.dcc_lift.proofs.Standing.{is_lifted_number, IsInstruction}
 use Rattle.dcc_lift.proofs.MirrorLaws.{location_same}
-use Rattle.dcc_lift.proofs.WantedStatements.{before, alone, before_weaker, known_behind, known_stays, known_read, sets_first, wanted_known, WantedWith, WantedAtEnd, counted, leads, led, location_itself, location_contained, contained_location, no_location}
-use Rattle.dcc_lift.proofs.WantedMakes.{is_same, place_same, comes_from}
+use Rattle.dcc_lift.proofs.WantedStatements.{before, alone, before_weaker, known_behind, known_stays, known_read, wanted_known, WantedWith, leads}
+use Rattle.dcc_lift.proofs.WantedMakes.{is_same, comes_from}
 use Rattle.dcc_lift.proofs.WantedOperations.{agrees, is_visible, sets, reads_test, test_known, tests_known, uses_agree}
-use Rattle.dcc_lift.proofs.WantedDos.{location_of, placed, place_visible, same_place, DosWants, taken, kept, dos_wants, dos_uses_wanted, dos_keeps}
+use Rattle.dcc_lift.proofs.WantedDos.{location_of, placed, place_visible, same_place, DosWants, taken, kept, dos_wants}
 
 -- INT 21h, or another operation
 pub is_dos : (op : Op) → (op ≡ Int21) ⊎ (op ≢ Int21)
@@ -88,8 +77,8 @@ module _ (image : Image) (layout : Layout) (nodes : Nodes) (at : ℕ) (node : No
         let stmts = op_stmts op node.number in
         let w : before stmts (reads_test (op_test op)) l ≡ true = before_weaker stmts (alone to) (reads_test (op_test op)) l (λ x e. subst (λ y. reads_test (op_test op) y ≡ true) (sym (location_same x to e)) t) b in
         let v : is_visible l ≡ true =
-            wanted_known stmts is_visible (reads_test (op_test op)) l (sets op node.number is.liftable other)
-            (λ x e. test_reads_known (op_test op) (known_behind stmts is_visible) x (tests_known op node.number) e) w in
+        wanted_known stmts is_visible (reads_test (op_test op)) l (sets op node.number is.liftable other)
+        (λ x e. test_reads_known (op_test op) (known_behind stmts is_visible) x (tests_known op node.number) e) w in
         let e : place_of (location_of l) ≡ l = placed l v in
         record {
           location = location_of l;
@@ -105,12 +94,12 @@ module _ (image : Image) (layout : Layout) (nodes : Nodes) (at : ℕ) (node : No
         let stmts = op_stmts op node.number in
         let seen : is_visible to ≡ true = subst (λ y. is_visible y ≡ true) there.is (place_visible there.location) in
         let v : is_visible l ≡ true =
-            wanted_known stmts is_visible (alone to) l (sets op node.number is.liftable other)
-            (λ x e. known_stays stmts is_visible x (subst (λ y. is_visible y ≡ true) (sym (location_same x to e)) seen)) b in
+        wanted_known stmts is_visible (alone to) l (sets op node.number is.liftable other)
+        (λ x e. known_stays stmts is_visible x (subst (λ y. is_visible y ≡ true) (sym (location_same x to e)) seen)) b in
         let e : place_of (location_of l) ≡ l = placed l v in
         let c : comes_from op node.number (location_of l) there.location ≡ true =
-            sym (agrees op node.number (location_of l) there.location is.liftable is.operation other)
-            ∙ subst (λ y. before stmts (alone y) (place_of (location_of l)) ≡ true) (sym there.is) (subst (λ y. before stmts (alone to) y ≡ true) (sym e) b) in
+        sym (agrees op node.number (location_of l) there.location is.liftable is.operation other)
+        ∙ subst (λ y. before stmts (alone y) (place_of (location_of l)) ≡ true) (sym there.is) (subst (λ y. before stmts (alone to) y ≡ true) (sym e) b) in
         record {
           location = location_of l;
           is = e;

@@ -1,6 +1,5 @@
 -- What statements make of what: the locations that an operation reads for a location, and those that it leaves.
-use Rattle.std.proofs.Common.{◌≡◌, ◌≢◌, ℕ, Bool, true, false, not, ◌&&◌, ◌||◌, ◌==◌, List, [], ◌∷◌, ◌++◌, Option, refl, sym, ap, ◌∙◌, subst, true≢false, arith}
-use Rattle.std.specs.List.{list_any, list_all}
+use Rattle.std.proofs.Common.{◌≡◌, ℕ, Bool, true, false, not, ◌&&◌, ◌||◌, ◌==◌, ◌++◌, Option, refl, sym, ap, ◌∙◌, true≢false, arith}
 use Rattle.dcc_num.specs.declared.Width.{Width}
 use Rattle.dcc_num.specs.declared.Width.TheVariants.{Byte as byte_width, Word as word_width}
 use Rattle.dcc_num.specs.declared.Reg.{Reg}
@@ -12,16 +11,16 @@ use Rattle.dcc_num.specs.declared.FlagName.TheVariants.{Cf, Zf, Sf, Of}
 use Rattle.dcc_prog.specs.declared.instr.Operand.{Operand}
 use Rattle.dcc_prog.specs.declared.instr.Operand.TheVariants.{Word, Byte, Seg, Mem, Const as Constant}
 use Rattle.dcc_prog.specs.declared.instr.Alu.{Alu}
-use Rattle.dcc_prog.specs.declared.instr.Alu.TheVariants.{Add, Or, Adc, Sbb, And, Sub, Xor, Cmp, Test}
+use Rattle.dcc_prog.specs.declared.instr.Alu.TheVariants.{Add, Cmp, Test}
 use Rattle.dcc_prog.specs.declared.instr.Op.{Op}
-use Rattle.dcc_prog.specs.declared.instr.Op.TheVariants.{Alu as AluOp, Unary as UnaryOp, Shift as ShiftOp, Mov, Xchg, Plain as PlainOp, Jump, Branch, Loop, LoopE, LoopNe, Jcxz, Int21}
+use Rattle.dcc_prog.specs.declared.instr.Op.TheVariants.{Alu as AluOp}
 use Rattle.dcc_prog.specs.Machine.{reg_number, operand_width}
 use Rattle.dcc_prog.specs.Writes.{is_same_register, is_same_half, is_half_of, writes_operand}
 use Rattle.dcc_prog.specs.Wanted.{Location, half_of, flag_of, is_part, is_read, is_flag, is_logic, takes_carry, alu_makes, makes, surely_writes}
 use Rattle.dcc_ir.specs.declared.syntax.Loc.{Loc}
 use Rattle.dcc_ir.specs.declared.syntax.Loc.TheVariants.{Half, Flag, Temp}
 use Rattle.dcc_ir.specs.Location.{register_number, half_number, flag_number, same_location}
-use Rattle.dcc_ir.specs.Tree.{Expr, Stmt, Set}
+use Rattle.dcc_ir.specs.Tree.{Expr}
 use Rattle.dcc_lift.specs.Temporaries.{left_place, right_place, result_place}
 use Rattle.dcc_lift.specs.Expressions.{operand_expr}
 use Rattle.dcc_lift.specs.Statements.{taking, storing, alu_working, alu_storing, alu_stmts}

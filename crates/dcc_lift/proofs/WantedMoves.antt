@@ -1,8 +1,5 @@
 -- What the statements of moves, exchanges and operations without operands make of what.
-use Rattle.std.proofs.Common.{◌≡◌, ◌≢◌, ℕ, Bool, true, false, not, ◌&&◌, ◌||◌, ◌==◌, ◌⊎◌, inl, inr, List, [], ◌∷◌, ◌++◌, Option, None, refl, sym, ap, ◌∙◌, subst, true≢false, arith}
-use Rattle.std.specs.List.{list_any, list_all}
-use Rattle.dcc_num.specs.declared.Width.{Width}
-use Rattle.dcc_num.specs.declared.Width.TheVariants.{Byte as byte_width, Word as word_width}
+use Rattle.std.proofs.Common.{◌≡◌, ℕ, Bool, true, false, not, ◌&&◌, ◌||◌, ◌==◌, Option, refl, sym, ap, ◌∙◌, true≢false, arith}
 use Rattle.dcc_num.specs.declared.Reg.{Reg}
 use Rattle.dcc_num.specs.declared.Reg.TheVariants.{Ax, Cx, Dx}
 use Rattle.dcc_num.specs.declared.Half.{Half as HalfName}
@@ -13,22 +10,19 @@ use Rattle.dcc_prog.specs.declared.instr.Operand.{Operand}
 use Rattle.dcc_prog.specs.declared.instr.Operand.TheVariants.{Word, Byte, Seg, Mem, Const as Constant}
 use Rattle.dcc_prog.specs.declared.instr.Plain.{Plain}
 use Rattle.dcc_prog.specs.declared.instr.Plain.TheVariants.{Nop, Cbw, Cwd, Xlat, Clc, Stc, Cmc, Cli, Sti, Cld}
-use Rattle.dcc_prog.specs.declared.instr.Op.{Op}
-use Rattle.dcc_prog.specs.declared.instr.Op.TheVariants.{Mov, Xchg, Plain as PlainOp, Loop, LoopE, LoopNe}
+use Rattle.dcc_prog.specs.declared.instr.Op.TheVariants.{Mov, Xchg, Plain as PlainOp, Loop}
 use Rattle.dcc_prog.specs.Machine.{operand_width}
-use Rattle.dcc_prog.specs.WellFormed.{AreOperands}
-use Rattle.dcc_prog.specs.Writes.{is_same_register, is_same_half, is_half_of}
-use Rattle.dcc_prog.specs.Wanted.{Location, half_of, flag_of, is_part, is_flag, moves, plain_makes, counts, makes, surely_writes}
+use Rattle.dcc_prog.specs.Writes.{is_same_register, is_same_half}
+use Rattle.dcc_prog.specs.Wanted.{Location, half_of, flag_of, is_part, moves, counts, surely_writes}
 use Rattle.dcc_ir.specs.declared.syntax.Loc.{Loc}
 use Rattle.dcc_ir.specs.declared.syntax.Loc.TheVariants.{Half, Flag, Temp}
-use Rattle.dcc_ir.specs.Location.{register_number, half_number, flag_number, same_location}
-use Rattle.dcc_ir.specs.Tree.{Expr, Stmt, Set}
+use Rattle.dcc_ir.specs.Location.{register_number, flag_number, same_location}
 use Rattle.dcc_lift.specs.Expressions.{word_of}
 use Rattle.dcc_lift.specs.Statements.{storing, mov_stmts, exchanging, xchg_stmts, plain_stmts, counting}
 use Rattle.dcc_lift.specs.Liftable.{is_register, is_source, is_lifted_plain}
 use Rattle.dcc_lift.specs.Mirrors.{is_general}
 use Rattle.dcc_lift.specs.Demand.{place_of}
-use Rattle.dcc_lift.proofs.WantedStatements.{reads, before, alone, before_both, location_itself}
+use Rattle.dcc_lift.proofs.WantedStatements.{reads, before, alone, before_both}
 use Rattle.dcc_lift.proofs.MirrorLaws.{location_same}
 use Rattle.dcc_lift.proofs.OperandMirrors.{register_source}
 use Rattle.dcc_lift.proofs.ListTests.{and_false}

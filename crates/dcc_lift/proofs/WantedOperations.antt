@@ -1,43 +1,41 @@
 -- What the statements and tests of an operation want is what the operation wants.
-use Rattle.std.proofs.Common.{◌≡◌, ◌≢◌, ℕ, Bool, true, false, not, ◌&&◌, ◌||◌, ◌==◌, List, [], ◌∷◌, ◌++◌, Option, Some, None, refl, sym, ap, ◌∙◌, subst, true≢false, arith}
-use Rattle.std.specs.List.{list_any, list_all}
-use Rattle.dcc_num.specs.declared.Width.{Width}
-use Rattle.dcc_num.specs.declared.Width.TheVariants.{Byte as byte_width, Word as word_width}
+use Rattle.std.proofs.Common.{◌≡◌, ◌≢◌, ℕ, Bool, true, false, not, ◌&&◌, ◌||◌, Option, Some, None, refl, sym, ap, ◌∙◌, true≢false, arith}
+use Rattle.std.specs.List.{list_all}
 use Rattle.dcc_num.specs.declared.Reg.{Reg}
-use Rattle.dcc_num.specs.declared.Reg.TheVariants.{Ax, Cx, Dx}
+use Rattle.dcc_num.specs.declared.Reg.TheVariants.{Cx}
 use Rattle.dcc_num.specs.declared.Half.{Half as HalfName}
 use Rattle.dcc_num.specs.declared.Half.TheVariants.{Low, High}
 use Rattle.dcc_num.specs.declared.FlagName.{FlagName}
 use Rattle.dcc_num.specs.declared.FlagName.TheVariants.{Cf, Zf, Sf, Of}
 use Rattle.dcc_prog.specs.declared.instr.Alu.{Alu}
-use Rattle.dcc_prog.specs.declared.instr.Alu.TheVariants.{Add, Or, Adc, Sbb, And, Sub, Xor, Cmp, Test}
+use Rattle.dcc_prog.specs.declared.instr.Alu.TheVariants.{Add}
 use Rattle.dcc_prog.specs.declared.instr.Shift.{Shift}
-use Rattle.dcc_prog.specs.declared.instr.Shift.TheVariants.{Rol, Ror, Rcl, Rcr, Shl, Shr, Sar}
+use Rattle.dcc_prog.specs.declared.instr.Shift.TheVariants.{Rol}
 use Rattle.dcc_prog.specs.declared.instr.Unary.{Unary}
-use Rattle.dcc_prog.specs.declared.instr.Unary.TheVariants.{Inc, Dec, Neg, Not, Mul, Imul, Div, Idiv}
+use Rattle.dcc_prog.specs.declared.instr.Unary.TheVariants.{Inc, Div, Idiv}
 use Rattle.dcc_prog.specs.declared.instr.Plain.{Plain}
-use Rattle.dcc_prog.specs.declared.instr.Plain.TheVariants.{Nop, Cbw, Cwd, Xlat, Clc, Stc, Cmc, Cli, Sti, Cld}
+use Rattle.dcc_prog.specs.declared.instr.Plain.TheVariants.{Nop}
 use Rattle.dcc_prog.specs.declared.instr.Cond.{Cond}
-use Rattle.dcc_prog.specs.declared.instr.Cond.TheVariants.{O, No, B, Ae, Z, Nz, Be, A, S, Ns, L, Ge, Le, G}
+use Rattle.dcc_prog.specs.declared.instr.Cond.TheVariants.{O, No, B}
 use Rattle.dcc_prog.specs.declared.instr.Operand.{Operand}
 use Rattle.dcc_prog.specs.declared.instr.Operand.TheVariants.{Word, Byte, Seg, Mem, Const as Constant}
 use Rattle.dcc_prog.specs.declared.instr.Op.{Op}
 use Rattle.dcc_prog.specs.declared.instr.Op.TheVariants.{Alu as AluOp, Unary as UnaryOp, Shift as ShiftOp, Mov, Xchg, Lea, Push, Pop, Plain as PlainOp, Jump, Branch, Loop, LoopE, LoopNe, Jcxz, Table, Call, Ret, Int21}
 use Rattle.dcc_prog.specs.Machine.{operand_width}
 use Rattle.dcc_prog.specs.WellFormed.{IsOperation}
-use Rattle.dcc_prog.specs.Writes.{is_same_register, is_same_half}
-use Rattle.dcc_prog.specs.Wanted.{Location, half_of, flag_of, is_half, is_flag, condition_uses, uses, counts, makes, surely_writes}
+use Rattle.dcc_prog.specs.Writes.{is_same_register}
+use Rattle.dcc_prog.specs.Wanted.{Location, half_of, flag_of, is_flag, condition_uses, uses, makes, surely_writes}
 use Rattle.dcc_ir.specs.declared.syntax.Loc.{Loc}
-use Rattle.dcc_ir.specs.declared.syntax.Loc.TheVariants.{Half, Flag, Cell, Temp}
+use Rattle.dcc_ir.specs.declared.syntax.Loc.TheVariants.{Half, Flag}
 use Rattle.dcc_ir.specs.Location.{same_location}
-use Rattle.dcc_ir.specs.Tree.{Expr, Stmt, Set}
+use Rattle.dcc_ir.specs.Tree.{Expr}
 use Rattle.dcc_ir.specs.Use.{reads_of}
-use Rattle.dcc_lift.specs.Expressions.{operand_expr, condition}
-use Rattle.dcc_lift.specs.Statements.{taking, alu_working, alu_storing, alu_stmts, unary_stmts, shift_stmts, mov_stmts, xchg_stmts, plain_stmts, counting, op_stmts, op_test}
-use Rattle.dcc_lift.specs.Liftable.{is_register, is_source, is_lifted_unary, is_lifted_plain, is_liftable}
+use Rattle.dcc_lift.specs.Expressions.{condition}
+use Rattle.dcc_lift.specs.Statements.{alu_stmts, unary_stmts, shift_stmts, mov_stmts, xchg_stmts, plain_stmts, counting, op_stmts, op_test}
+use Rattle.dcc_lift.specs.Liftable.{is_register, is_source, is_lifted_unary, is_liftable}
 use Rattle.dcc_lift.specs.Demand.{place_of}
 use Rattle.dcc_lift.proofs.ListTests.{and_left, and_right, or_none}
-use Rattle.dcc_lift.proofs.WantedStatements.{reads, before, alone, before_none, known_behind, sets_first, sets_both}
+use Rattle.dcc_lift.proofs.WantedStatements.{reads, before, alone, before_none, known_behind, sets_first}
 use Rattle.dcc_lift.proofs.WantedMakes.{is_same, comes_from, operand_reads, alu_agrees}
 use Rattle.dcc_lift.proofs.WantedUnary.{unary_agrees}
 use Rattle.dcc_lift.proofs.WantedShifts.{shift_agrees}

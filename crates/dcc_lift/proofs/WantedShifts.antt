@@ -1,6 +1,5 @@
 -- What the statements of shifts and rotates make of what.
-use Rattle.std.proofs.Common.{◌≡◌, ◌≢◌, ℕ, Bool, true, false, not, ◌&&◌, ◌||◌, ◌==◌, List, [], ◌∷◌, ◌++◌, Option, None, refl, sym, ap, ◌∙◌, subst, true≢false, arith}
-use Rattle.std.specs.List.{list_any, list_all}
+use Rattle.std.proofs.Common.{◌≡◌, ℕ, Bool, true, false, not, ◌&&◌, ◌||◌, ◌++◌, Option, refl, sym, ap, ◌∙◌, arith}
 use Rattle.dcc_num.specs.declared.Width.{Width}
 use Rattle.dcc_num.specs.declared.Width.TheVariants.{Byte as byte_width, Word as word_width}
 use Rattle.dcc_num.specs.declared.Reg.{Reg}
@@ -9,15 +8,13 @@ use Rattle.dcc_num.specs.declared.FlagName.{FlagName}
 use Rattle.dcc_num.specs.declared.FlagName.TheVariants.{Cf, Zf, Sf, Of}
 use Rattle.dcc_prog.specs.declared.instr.Operand.{Operand}
 use Rattle.dcc_prog.specs.declared.instr.Shift.{Shift}
-use Rattle.dcc_prog.specs.declared.instr.Shift.TheVariants.{Rol, Ror, Rcl, Rcr, Shl, Shr, Sar}
-use Rattle.dcc_prog.specs.declared.instr.Op.{Op}
+use Rattle.dcc_prog.specs.declared.instr.Shift.TheVariants.{Rol, Rcl, Rcr, Shl, Shr, Sar}
 use Rattle.dcc_prog.specs.declared.instr.Op.TheVariants.{Shift as ShiftOp}
 use Rattle.dcc_prog.specs.Machine.{operand_width}
 use Rattle.dcc_prog.specs.Writes.{is_half_of, shift_writes_flag}
-use Rattle.dcc_prog.specs.Wanted.{Location, half_of, flag_of, is_part, is_read, is_flag, is_cl, is_turn, is_by_cl, brings_carry, shift_reads, shift_writes, shift_makes, makes, surely_writes}
+use Rattle.dcc_prog.specs.Wanted.{Location, half_of, flag_of, is_part, is_read, is_flag, is_cl, is_turn, is_by_cl, brings_carry, shift_reads, shift_writes}
 use Rattle.dcc_ir.specs.declared.syntax.Loc.{Loc}
-use Rattle.dcc_ir.specs.declared.syntax.Loc.TheVariants.{Half, Flag, Temp}
-use Rattle.dcc_ir.specs.Tree.{Expr, Stmt, Set}
+use Rattle.dcc_ir.specs.declared.syntax.Loc.TheVariants.{Half, Flag}
 use Rattle.dcc_lift.specs.Temporaries.{left_place, right_place, result_place}
 use Rattle.dcc_lift.specs.Expressions.{operand_expr, count}
 use Rattle.dcc_lift.specs.Statements.{taking, storing, shift_working, shift_stmts}

@@ -1,14 +1,10 @@
 -- Which locations are wanted before statements that set locations, where a location is wanted behind them.
-use Rattle.std.proofs.Common.{◌≡◌, ℕ, zero, suc, ◌<◌, Bool, true, false, not, ◌&&◌, ◌||◌, ◌==◌, ◌⊎◌, inl, inr, List, [], ◌∷◌, ◌++◌, length, get_or, slice_get, Some, Contains, refl, sym, ap, ◌∙◌, subst, true≢false, arith, eq-eqb}
+use Rattle.std.proofs.Common.{◌≡◌, ℕ, zero, suc, ◌<◌, Bool, true, false, not, ◌&&◌, ◌||◌, ◌==◌, ◌⊎◌, inl, inr, List, [], ◌∷◌, ◌++◌, length, get_or, slice_get, Some, Contains, refl, sym, ap, ◌∙◌, subst, true≢false, arith}
 use Rattle.std.specs.List.{list_any, list_all}
-use Rattle.dcc_num.specs.declared.Half.{Half as HalfName}
-use Rattle.dcc_num.specs.declared.Half.TheVariants.{Low, High}
-use Rattle.dcc_num.specs.declared.FlagName.{FlagName}
-use Rattle.dcc_num.specs.declared.FlagName.TheVariants.{Cf, Zf, Sf, Of}
 use Rattle.dcc_ir.specs.declared.syntax.Loc.{Loc}
 use Rattle.dcc_ir.specs.declared.syntax.Loc.TheVariants.{Half, Flag, Cell, Temp}
 use Rattle.dcc_ir.specs.Location.{register_number, half_number, flag_number, same_location}
-use Rattle.dcc_ir.specs.Tree.{Expr, Stmt, Set, Fetch, Store, Div, Call, Dos, Exit, Block, Graph}
+use Rattle.dcc_ir.specs.Tree.{Expr, Stmt, Set, Fetch, Store, Div, Call, Dos, Block, Graph}
 use Rattle.dcc_ir.specs.Use.{reads_of, writes_of}
 use Rattle.dcc_ir.specs.Flow.{targets}
 use Rattle.dcc_ir.specs.Demand.{uses_of, makes_of, tests_of, IsWantedIn, used, made_of, left, tested, goes}
@@ -197,17 +193,23 @@ leads End (Set x e ∷ xs) ys known l s d =
       | inl c ↦ absurd (no_location l c)
       | inr (inl m) ↦
           let on = leads End xs ys (λ l. known l || same_location l x) m.0 rest m.3 in
-          let here : m.0 ≡ x = one_location x m.0 m.1 in
-          (on.0, or_here (reads l e && before xs (alone on.0) x) (not (same_location l x) && before xs (alone on.0) l)
-          (and_both (reads l e) (before xs (alone on.0) x) (location_contained (reads_of e) l m.2) (subst (λ y. before xs (alone on.0) y ≡ true) here on.1)), on.2)
+          let here : m.0 ≡ x = one_location x m.0 m.1 in (
+            on.0,
+            or_here (reads l e && before xs (alone on.0) x) (not (same_location l x) && before xs (alone on.0) l)
+                (and_both (reads l e) (before xs (alone on.0) x) (location_contained (reads_of e) l m.2) (subst (λ y. before xs (alone on.0) y ≡ true) here on.1)),
+            on.2,
+          )
       | inr (inr n) ↦
           let on = leads End xs ys (λ l. known l || same_location l x) l rest n.1 in
           let other : same_location l x ≡ false = elim (decided (same_location l x)) [
             | inl t ↦ absurd (n.0 (contained_location (x ∷ []) l (or_here (same_location l x) false t)))
             | inr f ↦ f
-          ] in
-          (on.0, or_there (reads l e && before xs (alone on.0) x) (not (same_location l x) && before xs (alone on.0) l)
-          (and_both (not (same_location l x)) (before xs (alone on.0) l) (ap not other) on.1), on.2)
+          ] in (
+            on.0,
+            or_there (reads l e && before xs (alone on.0) x) (not (same_location l x) && before xs (alone on.0) l)
+                (and_both (not (same_location l x)) (before xs (alone on.0) l) (ap not other) on.1),
+            on.2,
+          )
     ]
 leads End (Fetch to width address ∷ xs) ys known l s d = absurd (true≢false (sym s))
 leads End (Store width address e ∷ xs) ys known l s d = absurd (true≢false (sym s))

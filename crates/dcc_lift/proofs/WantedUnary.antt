@@ -1,38 +1,32 @@
 -- What the statements of operations on one operand make of what.
-use Rattle.std.proofs.Common.{◌≡◌, ◌≢◌, ℕ, Bool, true, false, not, ◌&&◌, ◌||◌, ◌==◌, List, [], ◌∷◌, ◌++◌, Option, None, refl, sym, ap, ◌∙◌, subst, true≢false, arith}
-use Rattle.std.specs.List.{list_any, list_all}
+use Rattle.std.proofs.Common.{◌≡◌, ℕ, Bool, true, false, not, ◌&&◌, ◌||◌, List, ◌∷◌, ◌++◌, Option, None, refl, sym, ap, ◌∙◌, true≢false, arith}
 use Rattle.dcc_num.specs.declared.Width.{Width}
 use Rattle.dcc_num.specs.declared.Width.TheVariants.{Byte as byte_width, Word as word_width}
 use Rattle.dcc_num.specs.declared.Reg.{Reg}
-use Rattle.dcc_num.specs.declared.Reg.TheVariants.{Ax, Cx, Dx, Bx, Sp, Bp, Si, Di}
 use Rattle.dcc_num.specs.declared.Half.{Half as HalfName}
-use Rattle.dcc_num.specs.declared.Half.TheVariants.{Low, High}
 use Rattle.dcc_num.specs.declared.FlagName.{FlagName}
 use Rattle.dcc_num.specs.declared.FlagName.TheVariants.{Cf, Zf, Sf, Of}
 use Rattle.dcc_num.specs.Numbers.{bits_of}
 use Rattle.dcc_prog.specs.declared.instr.Operand.{Operand}
-use Rattle.dcc_prog.specs.declared.instr.Operand.TheVariants.{Word, Byte, Seg, Mem, Const as Constant}
 use Rattle.dcc_prog.specs.declared.instr.Unary.{Unary}
 use Rattle.dcc_prog.specs.declared.instr.Unary.TheVariants.{Inc, Dec, Neg, Not, Mul, Imul, Div, Idiv}
-use Rattle.dcc_prog.specs.declared.instr.Op.{Op}
 use Rattle.dcc_prog.specs.declared.instr.Op.TheVariants.{Unary as UnaryOp}
 use Rattle.dcc_prog.specs.Machine.{operand_width}
-use Rattle.dcc_prog.specs.Writes.{is_same_register, is_same_half, is_half_of, is_in_pair, is_carry, is_carry_or_overflow, unary_writes_half, unary_writes_flag}
-use Rattle.dcc_prog.specs.Wanted.{Location, half_of, flag_of, is_part, is_read, is_accumulator, unary_makes, unary_reads, makes, surely_writes}
+use Rattle.dcc_prog.specs.Writes.{is_in_pair, is_carry}
+use Rattle.dcc_prog.specs.Wanted.{Location, half_of, flag_of, is_part, is_read, is_accumulator, unary_makes, unary_reads, surely_writes}
 use Rattle.dcc_ir.specs.declared.syntax.Loc.{Loc}
-use Rattle.dcc_ir.specs.declared.syntax.Loc.TheVariants.{Half, Flag, Temp}
+use Rattle.dcc_ir.specs.declared.syntax.Loc.TheVariants.{Half, Flag}
 use Rattle.dcc_ir.specs.declared.syntax.UnOp.TheVariants.{Not as NotOp}
-use Rattle.dcc_ir.specs.Location.{register_number, half_number, flag_number, same_location}
 use Rattle.dcc_ir.specs.Tree.{Expr, Stmt, Set, Unary as UnaryExpr}
 use Rattle.dcc_lift.specs.Temporaries.{left_place, right_place, result_place, product_place}
 use Rattle.dcc_lift.specs.Expressions.{operand_expr, number, bit, sum, difference, accumulator, multiplied, needs_upper_half}
 use Rattle.dcc_lift.specs.Statements.{taking, storing, result_taking, sum_flags, difference_flags, subtracting, flags_taking, carry_taking, product_storing, multiplying, unary_stmts}
-use Rattle.dcc_lift.specs.Liftable.{is_register, is_source, is_lifted_unary}
+use Rattle.dcc_lift.specs.Liftable.{is_register, is_lifted_unary}
 use Rattle.dcc_lift.specs.Demand.{place_of}
 use Rattle.dcc_lift.proofs.OperandMirrors.{register_source}
 use Rattle.dcc_lift.proofs.WantedStatements.{reads, before, alone, before_both}
 use Rattle.dcc_lift.proofs.ListTests.{and_false}
-use Rattle.dcc_lift.proofs.WantedMakes.{is_same, and_true, place_same, registers, registers_turned, halves, no_left, no_right, operand_reads, operand_reads_left, taken, stored_result, stored_half, stored_flag, stored_left, stored_right, made_flags, comes_from}
+use Rattle.dcc_lift.proofs.WantedMakes.{is_same, and_true, place_same, no_left, no_right, operand_reads, operand_reads_left, taken, stored_result, stored_half, stored_flag, stored_left, stored_right, made_flags, comes_from}
 
 -- the flags of INC and DEC
 abbrev made_three : (Loc → Bool) → Bool
@@ -120,12 +114,12 @@ module _ (working : List Stmt) (a : Operand) (g : is_register a ≡ true)
   three_agrees l to =
       let u : Loc → Bool = before (storing a) (alone (place_of to)) in
       let made : before (working ++ storing a) (alone (place_of to)) (left_place (operand_width a)) ≡ unary_makes Inc a to =
-          before_both working (storing a) (alone (place_of to)) (left_place (operand_width a))
-          ∙ read u (stored_left a (alone (place_of to)) g ∙ no_left to (operand_width a)) (stored_right a (alone (place_of to)) g ∙ no_right to (operand_width a))
-          ∙ ap (λ b. made_three u || b) (stored_result a to g)
-          ∙ three_made to a u (λ f. stored_flag a f (alone (place_of to)) ∙ place_same (flag_of f) to) in
+      before_both working (storing a) (alone (place_of to)) (left_place (operand_width a))
+      ∙ read u (stored_left a (alone (place_of to)) g ∙ no_left to (operand_width a)) (stored_right a (alone (place_of to)) g ∙ no_right to (operand_width a))
+      ∙ ap (λ b. made_three u || b) (stored_result a to g)
+      ∙ three_made to a u (λ f. stored_flag a f (alone (place_of to)) ∙ place_same (flag_of f) to) in
       let stays : before (working ++ storing a) (alone (place_of to)) (place_of l) ≡ (is_same l to && not (surely_writes (UnaryOp Inc a) None l)) =
-          before_both working (storing a) (alone (place_of to)) (place_of l) ∙ kept u l ∙ three_left a l to g in
+      before_both working (storing a) (alone (place_of to)) (place_of l) ∙ kept u l ∙ three_left a l to g in
       before_both (taking (operand_width a) (operand_expr a) (number (operand_width a) 1)) (working ++ storing a) (alone (place_of to)) (place_of l)
       ∙ taken (operand_width a) (operand_expr a) (number (operand_width a) 1) (before (working ++ storing a) (alone (place_of to))) l refl
       ∙ ap (λ b. (b && before (working ++ storing a) (alone (place_of to)) (left_place (operand_width a))) || (false || before (working ++ storing a) (alone (place_of to)) (place_of l))) (operand_reads a l (register_source a g))
@@ -183,13 +177,13 @@ neg_agrees a n l to g =
     let u : Loc → Bool = before (storing a) (alone (place_of to)) in
     let v : Loc → Bool = before (subtracting w ++ storing a) (alone (place_of to)) in
     let made : v (right_place w) ≡ unary_makes Neg a to =
-        before_both (subtracting w) (storing a) (alone (place_of to)) (right_place w)
-        ∙ subtracting_right w u (stored_left a (alone (place_of to)) g ∙ no_left to w) (stored_right a (alone (place_of to)) g ∙ no_right to w)
-        ∙ ap (λ b. made_flags false u || b) (stored_result a to g)
-        ∙ four_made to a u (λ f. stored_flag a f (alone (place_of to)) ∙ place_same (flag_of f) to) in
+    before_both (subtracting w) (storing a) (alone (place_of to)) (right_place w)
+    ∙ subtracting_right w u (stored_left a (alone (place_of to)) g ∙ no_left to w) (stored_right a (alone (place_of to)) g ∙ no_right to w)
+    ∙ ap (λ b. made_flags false u || b) (stored_result a to g)
+    ∙ four_made to a u (λ f. stored_flag a f (alone (place_of to)) ∙ place_same (flag_of f) to) in
     let stays : v (place_of l) ≡ (is_same l to && not (surely_writes (UnaryOp Neg a) n l)) =
-        before_both (subtracting w) (storing a) (alone (place_of to)) (place_of l) ∙ neg_left a l to g
-        ∙ ap (λ b. is_same l to && not b) (any_number Neg a n l) in
+    before_both (subtracting w) (storing a) (alone (place_of to)) (place_of l) ∙ neg_left a l to g
+    ∙ ap (λ b. is_same l to && not b) (any_number Neg a n l) in
     before_both (taking w (number w 0) (operand_expr a)) (subtracting w ++ storing a) (alone (place_of to)) (place_of l)
     ∙ taken w (number w 0) (operand_expr a) v l (operand_reads_left w a)
     ∙ ap (λ b. false || ((b && v (right_place w)) || v (place_of l))) (operand_reads a l (register_source a g))
@@ -322,16 +316,16 @@ product_agrees signed a l to g =
     let u : Loc → Bool = before (product_storing w) (alone (place_of to)) in
     let v : Loc → Bool = before (product_working w signed ++ product_storing w) (alone (place_of to)) in
     let made : ((u (Flag Of) || u (Flag Cf)) || u (product_place w)) ≡ unary_makes Mul a to =
-        ap (λ b. (u (Flag Of) || u (Flag Cf)) || b) (product_result w to)
-        ∙ product_made to a u (λ f. product_stored_flag w (alone (place_of to)) f ∙ place_same (flag_of f) to) in
+    ap (λ b. (u (Flag Of) || u (Flag Cf)) || b) (product_result w to)
+    ∙ product_made to a u (λ f. product_stored_flag w (alone (place_of to)) f ∙ place_same (flag_of f) to) in
     let first : v (left_place w) ≡ unary_makes Mul a to =
-        before_both (product_working w signed) (product_storing w) (alone (place_of to)) (left_place w)
-        ∙ product_left w signed u (product_stored_left w (alone (place_of to)) ∙ no_left to w) ∙ made in
+    before_both (product_working w signed) (product_storing w) (alone (place_of to)) (left_place w)
+    ∙ product_left w signed u (product_stored_left w (alone (place_of to)) ∙ no_left to w) ∙ made in
     let second : v (right_place w) ≡ unary_makes Mul a to =
-        before_both (product_working w signed) (product_storing w) (alone (place_of to)) (right_place w)
-        ∙ product_right w signed u (product_stored_right w (alone (place_of to)) ∙ no_right to w) ∙ made in
+    before_both (product_working w signed) (product_storing w) (alone (place_of to)) (right_place w)
+    ∙ product_right w signed u (product_stored_right w (alone (place_of to)) ∙ no_right to w) ∙ made in
     let stays : v (place_of l) ≡ (is_same l to && not (surely_writes (UnaryOp Mul a) None l)) =
-        before_both (product_working w signed) (product_storing w) (alone (place_of to)) (place_of l) ∙ product_stays a signed l to in
+    before_both (product_working w signed) (product_storing w) (alone (place_of to)) (place_of l) ∙ product_stays a signed l to in
     before_both (taking w (accumulator w) (operand_expr a)) (product_working w signed ++ product_storing w) (alone (place_of to)) (place_of l)
     ∙ taken w (accumulator w) (operand_expr a) v l (operand_reads_left w a)
     ∙ ap (λ b. (b && v (left_place w)) || ((reads (place_of l) (operand_expr a) && v (right_place w)) || v (place_of l))) (accumulator_reads w l)
