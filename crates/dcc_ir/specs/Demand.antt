@@ -2,7 +2,7 @@
 -- (liveness by demand). So far no call takes part: a graph with calls has further rules.
 use Rattle.std.specs.Prelude.{◌≡◌, ℕ, List, [], ◌∷◌, ◌++◌, flat_map, Contains, slice_get, option_to_list, Some}
 use Rattle.dcc_ir.specs.declared.syntax.Loc.{Loc}
-use Rattle.dcc_ir.specs.Tree.{Stmt, Set, Fetch, Store, Div, Call, Dos, Exit, If, Switch, Block, Graph}
+use Rattle.dcc_ir.specs.Tree.{Stmt, Set, Fetch, Store, Div, Dos, Exit, If, Switch, Block, Graph}
 use Rattle.dcc_ir.specs.Use.{reads_of, writes_of}
 use Rattle.dcc_ir.specs.Flow.{targets}
 

@@ -18,6 +18,13 @@ pub mod ChainLaws
 pub mod BlockLaws
 pub mod TranslationLaws
 pub mod ContractionLaws
+pub mod TableLaws
+pub mod StatementLaws
+pub mod ProgramLaws
+pub mod CodeBounds
+pub mod PreludeOffsets
+pub mod PreludeWords
+pub mod FoundSound
 pub mod Standing
 pub mod WantedStatements
 pub mod WantedMakes
@@ -28,3 +35,8 @@ pub mod WantedOperations
 pub mod WantedDos
 pub mod WantedLaws
 pub mod WantedChains
+pub mod DosStanding
+pub mod RunLaws
+pub mod StartLaws
+pub mod RunsLaws
+pub mod LiftedLaws

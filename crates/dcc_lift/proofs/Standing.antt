@@ -1,11 +1,11 @@
 -- The machine at an offset of the procedure and the program's run within a block stand for each other; one instruction of
 -- the one and its statements in the other keep that.
-use Rattle.std.proofs.Common.{◌≡◌, ◌≢◌, ℕ, ◌+◌, ◌-◌, ◌*◌, ◌/◌, ◌%◌, ◌<◌, ◌≤◌, Bool, true, false, cond, List, [], ◌∷◌, ◌++◌, Option, Some, None, All, Contains, take, drop, length, refl, sym, ap, ap₂, ◌∙◌, subst, arith, true≢false}
+use Rattle.std.proofs.Common.{◌≡◌, ◌≢◌, ℕ, ◌+◌, ◌-◌, ◌<◌, ◌≤◌, Bool, true, false, List, [], ◌∷◌, ◌++◌, Option, Some, None, All, Contains, take, drop, length, refl, sym, ap, ◌∙◌, subst, lit<, arith, true≢false}
 use Rattle.std.proofs.lemmas.List.{length-drop, length-take, drop-take, take-take}
-use Rattle.std.specs.Prelude.{if◌then◌else◌, ◌==◌, ◌||◌}
+use Rattle.std.specs.Prelude.{slice_index, if◌then◌else◌, ◌==◌, ◌||◌}
 use Rattle.dcc_run.specs.End.{Running, Exit as ExitWith, is_over}
-use Rattle.dcc_num.specs.declared.Reg.TheVariants.{Ax, Dx}
-use Rattle.dcc_num.specs.declared.Half.TheVariants.{Low, High}
+use Rattle.dcc_num.specs.declared.Reg.TheVariants.{Ax}
+use Rattle.dcc_num.specs.declared.Half.TheVariants.{High}
 use Rattle.dcc_prog.specs.declared.image.Image.{Image}
 use Rattle.dcc_prog.specs.declared.procedure.Layout.{Layout}
 use Rattle.dcc_prog.specs.declared.procedure.Node.{Node}
@@ -14,14 +14,13 @@ use Rattle.dcc_prog.specs.declared.instr.Op.TheVariants.{Int21, Table}
 use Rattle.dcc_prog.specs.declared.instr.Instr.{Instr}
 use Rattle.dcc_prog.specs.Code.{code_of}
 use Rattle.dcc_prog.specs.Table.{instruction_at}
-use Rattle.dcc_prog.specs.Machine.{State as Machine, word_in, code_segment}
+use Rattle.dcc_prog.specs.Machine.{State as Machine, code_segment}
 use Rattle.dcc_prog.specs.Step.{code_bytes, op_step, instruction_step, step}
-use Rattle.dcc_prog.specs.Trail.{code_within, instruction_in, next_of, known_ah, ah_behind, targets_of, op_successors, successors, IsTrail}
+use Rattle.dcc_prog.specs.Trail.{instruction_in, next_of, known_ah, ah_behind, targets_of, op_successors, successors, IsTrail}
 use Rattle.dcc_prog.specs.WellFormed.{IsOperation}
 use Rattle.dcc_prog.proofs.TableLaws.{instruction-length, instruction-prefix}
 use Rattle.dcc_prog.proofs.FetchLaws.{IsPlaced, HoldsImage, fetched-instruction}
 use Rattle.dcc_ir.specs.declared.syntax.Loc.TheVariants.{Half}
-use Rattle.dcc_ir.specs.Location.{Values}
 use Rattle.dcc_ir.specs.Tree.{Expr, Stmt, Graph}
 use Rattle.dcc_ir.specs.Value.{Scene, value_of, Fits}
 use Rattle.dcc_ir.specs.Run.{State as Inner, scene_of, value_in, block_step}
@@ -30,6 +29,7 @@ use Rattle.dcc_lift.specs.Statements.{op_stmts, op_test}
 use Rattle.dcc_lift.specs.Mirrors.{Mirrors, executed}
 use Rattle.dcc_lift.specs.Liftable.{is_liftable}
 use Rattle.dcc_lift.specs.Blocks.{Nodes, node_in, node_stmts}
+use Rattle.dcc_lift.proofs.MirrorLaws.{executed_values}
 use Rattle.dcc_lift.proofs.AhLaws.{ah-behind}
 
 -- What operations do, each by itself.
@@ -97,6 +97,7 @@ pub record BothStand (image : Image) (layout : Layout) (graph : Graph) (s : Mach
 pub record IsPassed (image : Image) (layout : Layout) (graph : Graph) (graphs : List Graph) (fill : ℕ) (node : Node) (s : Machine) (t : Inner) (at : ℕ) (before : List ℕ) : Type 0 where
   pub to : ℕ
   pub next : Inner
+  pub goes : Contains node.succ.items to
   pub single : op_test node.instr.op ≡ None → node.succ.items ≡ to ∷ []
   pub tested : (test : Expr) → op_test node.instr.op ≡ Some test → (target : ℕ) × (other : ℕ) × (node.succ.items ≡ target ∷ other ∷ []) × (to ≡ (if value_in next test == 1 then target else other))
   pub stand : BothStand image layout graph (step s) next to (at ∷ before)
@@ -130,7 +131,7 @@ within-code image layout at instr found =
     (sym (ap (take instr.len) same ∙ take-take instr.len m (drop at xs) inside))
 
 -- the machine makes the step of the instruction
-step-is : (image : Image) (layout : Layout) (graph : Graph) (s : Machine) (t : Inner) (at : ℕ) (before : List ℕ) (instr : Instr) → IsPlaced image → BothStand image layout graph s t at before → instruction_in image layout at ≡ Some instr
+pub step-is : (image : Image) (layout : Layout) (graph : Graph) (s : Machine) (t : Inner) (at : ℕ) (before : List ℕ) (instr : Instr) → IsPlaced image → BothStand image layout graph s t at before → instruction_in image layout at ≡ Some instr
     → step s ≡ op_step instr.op s.ip (record s { ip = next_of s.ip instr })
 step-is image layout graph s t at before instr placed both found =
     let here : instruction_at s.ip (drop s.ip (code_of image)) ≡ Some instr =
@@ -138,13 +139,27 @@ step-is image layout graph s t at before instr placed both found =
     ap (λ e. if is_over e then s else instruction_step (instruction_at s.ip (code_bytes s)) s) both.running
     ∙ ap (λ o. instruction_step o s) (fetched-instruction image s instr placed both.holds here)
 
+pub no-some : {A : Type 0} {x : A} → None ≡ Some x → ⊥
+no-some e = cc
+
+pub some-same : {A : Type 0} {x y : A} → Some x ≡ Some y → x ≡ y
+some-same e = cc
+
+-- one of two is among them
+chosen-of-two : (b : Bool) (x y to : ℕ) → to ≡ (if b then x else y) → Contains (x ∷ y ∷ []) to
+chosen-of-two true x y to e = (0, lit< tt, sym e)
+chosen-of-two false x y to e = (1, lit< tt, sym e)
+
+pub first-of-one : (x : ℕ) → Contains (x ∷ []) x
+first-of-one x = (0, lit< tt, refl)
+
 -- only jumps through tables have targets
 no-targets : (image : Image) (layout : Layout) (op : Op) (before : List ℕ) → is_liftable op ≡ true → targets_of image layout op before ≡ []
 no-targets image layout (Table r offset) before l = absurd (true≢false (sym l))
 no-targets image layout _ before l = refl
 
 -- the successors of an instruction, by what is known of AH alone
-successors-are : (image : Image) (layout : Layout) (nodes : Nodes) (at : ℕ) (node : Node) (before : List ℕ) → IsInstruction image layout nodes at node → IsTrail image layout layout.start_ip (at ∷ before)
+pub successors-are : (image : Image) (layout : Layout) (nodes : Nodes) (at : ℕ) (node : Node) (before : List ℕ) → IsInstruction image layout nodes at node → IsTrail image layout layout.start_ip (at ∷ before)
     → node.succ.items ≡ op_successors node.instr.op (next_of at node.instr) (known_ah image layout before) []
 successors-are image layout nodes at node before is trail =
     is.succ before trail
@@ -180,3 +195,80 @@ module _ (laws : AreLifted) (image : Image) (layout : Layout) (graph : Graph) (n
 
     trail-on : (to : ℕ) → Contains node.succ.items to → IsTrail image layout layout.start_ip (to ∷ at ∷ before)
     trail-on to c = (subst (λ l. Contains l to) (is.succ before both.trail) c, both.trail)
+
+    next-state : Inner
+    next-state = having_set (op_stmts node.instr.op node.number) t
+
+    passed-mirrors : Mirrors moved next-state.running.values
+    unfolding moved next-state
+    passed-mirrors = laws.mirrors node.instr.op node.number s.ip behind (scene_of t) is.liftable is.operation other bits-are both.fits mirrored
+
+    goes-to : (to : ℕ) → step s ≡ moved → (step s).ip ≡ to → Contains node.succ.items to → BothStand image layout graph (step s) next-state to (at ∷ before)
+    unfolding moved next-state behind
+    goes-to to stepped ip contained =
+        let rest = laws.keeps node.instr.op s.ip behind is.liftable other in
+        record {
+          holds = record {
+            memory = ap (λ u. u.memory) stepped ∙ rest.memory ∙ both.holds.memory;
+            code = ap code_segment stepped ∙ ap (λ l. slice_index l 1) rest.segs ∙ both.holds.code;
+          };
+          ip_is = ip;
+          running = ap (λ u. u.end) stepped ∙ rest.end ∙ both.running;
+          trail = trail-on to contained;
+          graph_is = both.graph_is;
+          going = both.going;
+          mirrors = subst (λ u. Mirrors u next-state.running.values) (sym stepped) passed-mirrors;
+          fits = laws.fits node.instr.op node.number (scene_of t) is.liftable is.operation other bits-are both.fits;
+          input = both.input ∙ sym (ap (λ u. u.input) stepped ∙ rest.input);
+          out = both.out ∙ sym (ap (λ u. u.out) stepped ∙ rest.out);
+          bytes = subst (All (λ byte. byte < 256)) (sym (ap (λ u. u.input) stepped ∙ rest.input)) both.bytes;
+          ah = λ n e.
+              ah-behind node.instr node.number (scene_of t) (known_ah image layout before) other both.ah n
+              (sym (ap (λ found. ah_behind found (known_ah image layout before)) is.stands) ∙ e);
+        }
+
+    passed-runs : (graphs : List Graph) (fill : ℕ) (rest : List Stmt) → block_step graphs fill (node_stmts (Some node) ++ rest) t ≡ block_step graphs fill rest next-state
+    unfolding next-state
+    passed-runs graphs fill rest = laws.runs node.instr.op node.number graphs fill rest t is.liftable is.operation other both.going
+
+    -- the instruction is passed
+    pub passed : (graphs : List Graph) (fill : ℕ) → IsPassed image layout graph graphs fill node s t at before
+    unfolding moved next-state behind
+    passed graphs fill =
+        let stepped = step-is image layout graph s t at before node.instr placed both is.stands in
+        let ah = known_ah image layout before in
+        let succ = successors-are image layout nodes at node before is both.trail ∙ ap (λ n. op_successors node.instr.op n ah []) (sym same-offset) in
+        let ip = ap (λ u. u.ip) stepped in
+        elim (op_test node.instr.op) as (λ o. op_test node.instr.op ≡ o → IsPassed image layout graph graphs fill node s t at before) [
+          | None ↦ λ none.
+              let one = succ ∙ laws.single node.instr.op s.ip behind ah is.liftable other none in
+              let to : ℕ = (op_step node.instr.op s.ip behind).ip in
+              let contained : Contains node.succ.items to = subst (λ l. Contains l to) (sym one) (first-of-one to) in
+              record {
+                to = to;
+                next = next-state;
+                goes = contained;
+                single = λ _. one;
+                tested = λ test e. absurd (no-some (sym none ∙ e));
+                stand = goes-to to stepped ip contained;
+                block = refl;
+                runs = passed-runs graphs fill;
+              }
+          | Some test ↦ λ some.
+              let x = laws.tested node.instr.op node.number s.ip behind ah (scene_of t) test is.liftable is.operation other bits-are both.fits mirrored some in
+              let same : executed (op_stmts node.instr.op node.number) (scene_of t) ≡ scene_of next-state = executed_values (op_stmts node.instr.op node.number) (scene_of t) in
+              let to : ℕ = (op_step node.instr.op s.ip behind).ip in
+              let goes : to ≡ (if value_in next-state test == 1 then x.0 else behind.ip) = x.2 ∙ ap (λ scene. if value_of scene test == 1 then x.0 else behind.ip) same in
+              let two = succ ∙ x.1 in
+              let contained : Contains node.succ.items to = subst (λ l. Contains l to) (sym two) (chosen-of-two (value_in next-state test == 1) x.0 behind.ip to goes) in
+              record {
+                to = to;
+                next = next-state;
+                goes = contained;
+                single = λ none. absurd (no-some (sym none ∙ some));
+                tested = λ other_test e. (x.0, behind.ip, two, goes ∙ ap (λ test'. if value_in next-state test' == 1 then x.0 else behind.ip) (some-same (sym some ∙ e)));
+                stand = goes-to to stepped ip contained;
+                block = refl;
+                runs = passed-runs graphs fill;
+              }
+        ] refl

@@ -1,7 +1,7 @@
 -- The blocks of a procedure's instructions: which instructions begin one, and which stand in it. An instruction joins the
 -- block of the one before it where nothing else leads to it. This stands between the procedure and the code; the public
 -- contract tells what the blocks are by paths.
-use Rattle.std.specs.Prelude.{◌≡◌, ℕ, zero, suc, ◌+◌, ◌==◌, nat_lt, Bool, true, false, not, ◌&&◌, if◌then◌else◌, List, [], ◌∷◌, ◌++◌, map, filter, flat_map, Option, Some, None}
+use Rattle.std.specs.Prelude.{◌≡◌, ℕ, suc, ◌==◌, nat_lt, Bool, true, false, not, ◌&&◌, if◌then◌else◌, List, [], ◌∷◌, map, filter, flat_map, Option, Some, None}
 use Rattle.dcc_prog.specs.declared.procedure.Node.{Node}
 use Rattle.dcc_ir.specs.Tree.{Stmt, Exit, Stop, Block}
 use Rattle.dcc_lift.specs.Statements.{op_stmts, op_test, exit_to}

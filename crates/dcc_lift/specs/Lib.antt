@@ -8,3 +8,4 @@ pub mod Sound
 pub mod Translation
 pub mod Lifted
 pub mod Demand
+pub mod Lifting

@@ -1,5 +1,5 @@
 -- The operations that are lifted: those on registers, halves and constants, jumps, and INT 21h.
-use Rattle.std.specs.Prelude.{Bool, true, false, ◌&&◌, ◌||◌, not}
+use Rattle.std.specs.Prelude.{Bool, true, false, ◌&&◌, not}
 use Rattle.dcc_prog.specs.declared.instr.Unary.{Unary}
 use Rattle.dcc_prog.specs.declared.instr.Unary.TheVariants.{Div, Idiv}
 use Rattle.dcc_prog.specs.declared.instr.Plain.{Plain}

@@ -1,11 +1,10 @@
 -- What the lifted program is to the executable.
-use Rattle.std.specs.Prelude.{◌≡◌, ◌≢◌, ◌≤◌, ◌<◌, ◌⊎◌, ℕ, ◌==◌, Bool, true, false, ◌&&◌, ◌||◌, List, [], ◌∷◌, All, flat_map, Option, Some, option_map}
+use Rattle.std.specs.Prelude.{◌≡◌, ◌≢◌, ◌≤◌, ◌<◌, ℕ, ◌==◌, Bool, ◌&&◌, ◌||◌, List, [], ◌∷◌, All, Option, Some, option_map}
 use Rattle.std.specs.List.{list_any}
 use Rattle.dcc_run.specs.End.{Stuck}
 use Rattle.dcc_run.specs.System.{end_after}
 use Rattle.dcc_run.specs.Visits.{VisitsKept}
 use Rattle.dcc_prog.specs.declared.image.Image.{Image}
-use Rattle.dcc_prog.specs.declared.procedure.Node.{Node}
 use Rattle.dcc_prog.specs.declared.procedure.Proc.{Proc}
 use Rattle.dcc_prog.specs.declared.procedure.Layout.{Layout}
 use Rattle.dcc_prog.specs.Machine.{State as Machine, start_state}

@@ -5,7 +5,6 @@ use Rattle.dcc_num.specs.declared.Width.TheVariants.{Byte as byte_width, Word as
 use Rattle.dcc_num.specs.declared.Reg.{Reg}
 use Rattle.dcc_num.specs.declared.Reg.TheVariants.{Ax, Cx, Dx}
 use Rattle.dcc_num.specs.declared.Half.TheVariants.{Low, High}
-use Rattle.dcc_num.specs.declared.FlagName.{FlagName}
 use Rattle.dcc_num.specs.declared.FlagName.TheVariants.{Cf, Zf, Sf, Of}
 use Rattle.dcc_num.specs.Numbers.{bits_of}
 use Rattle.dcc_prog.specs.declared.instr.Alu.{Alu}
@@ -22,13 +21,13 @@ use Rattle.dcc_prog.specs.declared.instr.Op.{Op}
 use Rattle.dcc_prog.specs.declared.instr.Op.TheVariants.{Alu as AluOp, Unary as UnaryOp, Shift as ShiftOp, Mov, Xchg, Plain as PlainOp, Branch, Loop, LoopE, LoopNe, Jcxz, Int21}
 use Rattle.dcc_prog.specs.Machine.{operand_width}
 use Rattle.dcc_ir.specs.declared.syntax.Loc.{Loc}
-use Rattle.dcc_ir.specs.declared.syntax.Loc.TheVariants.{Half, Flag, Temp}
+use Rattle.dcc_ir.specs.declared.syntax.Loc.TheVariants.{Half, Flag}
 use Rattle.dcc_ir.specs.declared.syntax.UnOp.TheVariants.{Not as NotOp}
 use Rattle.dcc_ir.specs.declared.syntax.BinOp.{BinOp}
 use Rattle.dcc_ir.specs.declared.syntax.BinOp.TheVariants.{Sub as SubOp, And as AndOp, Or as OrOp, Xor as XorOp, Shl as ShlOp, Shr as ShrOp, Sar as SarOp, Eq as EqOp}
 use Rattle.dcc_ir.specs.Tree.{Expr, Const, Get, Unary as UnaryExpr, Binary, Widen, Part, Stmt, Set, Dos, Exit, Goto, If, Stop}
 use Rattle.dcc_lift.specs.Temporaries.{left_place, right_place, result_place, product_place}
-use Rattle.dcc_lift.specs.Expressions.{word_of, operand_expr, left, right, result, product, at_width, number, bit, flag, negated, is_zero, sign, below_sign, lowest, sum, sum_and_carry, carry_out, carry_out_of_both, sum_overflow, difference, difference_and_borrow, borrow_out, borrow_out_of_both, difference_overflow, difference_overflow_of_both, cl_at, count, unless_zero, if_one, shifted, nearly_shifted, rotated_left, rotated_right, turned_left, turned_right, accumulator, multiplied, needs_upper_half, condition, goes_round}
+use Rattle.dcc_lift.specs.Expressions.{word_of, operand_expr, left, right, result, product, at_width, number, bit, flag, negated, is_zero, sign, below_sign, lowest, sum, sum_and_carry, carry_out, carry_out_of_both, sum_overflow, difference, difference_and_borrow, borrow_out, borrow_out_of_both, difference_overflow, difference_overflow_of_both, count, unless_zero, if_one, shifted, nearly_shifted, rotated_left, rotated_right, turned_left, turned_right, accumulator, multiplied, needs_upper_half, condition, goes_round}
 
 -- Pieces.
 

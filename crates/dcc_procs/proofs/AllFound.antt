@@ -1,15 +1,14 @@
 -- From what is seen and collected to what is found.
-use Rattle.std.proofs.Common.{◌≡◌, ◌≢◌, ℕ, ◌≤◌, ◌<◌, List, [], ◌∷◌, ◌++◌, length, get_or, All, AllPairs, Option, Some, None, refl, sym, ap, ◌∙◌, subst, arith}
+use Rattle.std.proofs.Common.{◌≡◌, ℕ, ◌<◌, List, [], ◌∷◌, get_or, All, AllPairs, Some, sym, ap, ◌∙◌, subst, arith}
 use Rattle.dcc_prog.specs.declared.image.Image.{Image}
 use Rattle.dcc_prog.specs.declared.procedure.Layout.{Layout}
 use Rattle.dcc_prog.specs.declared.procedure.Node.{Node}
 use Rattle.dcc_prog.specs.declared.procedure.Proc.{Proc}
 use Rattle.dcc_prog.specs.declared.refusal.LimitName.{LimitName}
 use Rattle.dcc_prog.specs.Trail.{IsNode, IsEntry}
-use Rattle.dcc_prog.specs.Limit.{HasMany, IsNodeOf, IsAbove, procedures, instructions, total, entries}
+use Rattle.dcc_prog.specs.Limit.{IsNodeOf, IsAbove, procedures, instructions, total, entries}
 use Rattle.dcc_procs.specs.declared.seen.Seen.{Seen}
-use Rattle.dcc_procs.specs.Search.{seen_at}
-use Rattle.dcc_procs.specs.Found.{IsNodeFound, IsListed, IsFound, AreFound}
+use Rattle.dcc_prog.specs.Found.{IsNodeFound, IsListed, AreFound}
 use Rattle.dcc_procs.specs.Nodes.{AreAllSeen, AreSeenNodes}
 use Rattle.dcc_procs.proofs.FoundLaws.{node-seen, only-entry, no-construct, no-table, all-built, node-found}
 use Rattle.dcc_procs.proofs.Counting.{few, no-two}

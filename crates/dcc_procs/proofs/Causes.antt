@@ -1,5 +1,5 @@
 -- Why an instruction is refused, in terms of constructs and trails.
-use Rattle.std.proofs.Common.{◌≡◌, ◌≢◌, ◌⊎◌, inl, inr, ℕ, ◌+◌, Bool, true, false, ◌==◌, ◌||◌, List, [], ◌∷◌, drop, Option, Some, None, Result, Ok, Err, IfErr, if◌then◌else◌, refl, sym, ap, ◌∙◌, subst, arith, eq-eqb, eqb-true}
+use Rattle.std.proofs.Common.{◌≤◌, arith, ◌≡◌, ◌≢◌, inl, inr, ℕ, Bool, true, false, ◌==◌, ◌||◌, List, ◌∷◌, drop, Option, Some, None, Result, Ok, Err, IfErr, if◌then◌else◌, refl, sym, ap, ◌∙◌, subst, eq-eqb, eqb-true}
 use Rattle.dcc_prog.specs.declared.image.Image.{Image}
 use Rattle.dcc_prog.specs.declared.procedure.Layout.{Layout}
 use Rattle.dcc_prog.specs.declared.instr.Instr.{Instr}
@@ -7,14 +7,12 @@ use Rattle.dcc_prog.specs.declared.instr.Op.TheVariants.{Int21}
 use Rattle.dcc_prog.specs.declared.refusal.Refusal.{Refusal}
 use Rattle.dcc_prog.specs.declared.refusal.Refusal.TheVariants.{Construct, Limit, NotYet, Memory}
 use Rattle.dcc_prog.specs.Table.{instruction_at}
-use Rattle.dcc_prog.specs.Trail.{code_within, StandsAt, known_ah, IsTrail, IsNode, IsEntry, start}
-use Rattle.dcc_prog.specs.Construct.{is_system, is_dos_number, HasAh, HasNoNumber, not_known, other_number, two_numbers, IsAtNode, unknown, foreign, indirect_jump, indirect_call, dos_number, IsOfTrails}
-use Rattle.dcc_procs.proofs.IndirectLaws.{jump-in_image, jump-in_code, call-in_image, call-in_code}
-use Rattle.dcc_procs.specs.Indirect.{HasIndirect, IsIndirectJump, IsIndirectCall}
+use Rattle.dcc_prog.specs.Trail.{code_within, StandsAt, known_ah, IsTrail, IsNode, start}
+use Rattle.dcc_prog.specs.Construct.{HasIndirect, is_system, HasAh, HasNoNumber, not_known, other_number, two_numbers, IsAtNode, unknown, foreign, indirect_jump, indirect_call, dos_number, IsOfTrails}
 use Rattle.dcc_procs.specs.declared.seen.Seen.{Seen}
 use Rattle.dcc_procs.specs.declared.seen.Seen.TheVariants.{Never, Same, Differing}
-use Rattle.dcc_procs.specs.Built.{is_unbuilt, IsUnbuiltAt, IsNotYet}
-use Rattle.dcc_procs.specs.Built as built
+use Rattle.dcc_prog.specs.Built.{is_unbuilt, IsUnbuiltAt, IsNotYet}
+use Rattle.dcc_prog.specs.Built as built
 use Rattle.dcc_procs.specs.Refusal.{IsRefusal}
 use Rattle.dcc_procs.specs.Search.{is_known_number, indirect_kind, IsKind, IsUnbuiltHere, IsNumberCause, IsCause}
 use Rattle.dcc_procs.specs.Search as kept
@@ -98,9 +96,9 @@ module _ (image : Image) (layout : Layout) (at : ℕ) where
   or-true false b e = let clash = e in cc
 
   construct-kind : (seen : Seen) (kind : ℕ) → seen ≢ Never → IsWitnessed image layout at seen → IsKind (code_within image layout) at seen kind → IsAtNode image layout layout.start_ip at kind
-  construct-kind seen _ is w (kept.unknown none jump call) = unknown (record { none = none; no_jump = λ h. jump (jump-in_code image layout at h); no_call = λ h. call (call-in_code image layout at h) })
-  construct-kind seen _ is w (kept.jump h) = indirect_jump (jump-in_image image layout at h)
-  construct-kind seen _ is w (kept.call h) = indirect_call (call-in_image image layout at h)
+  construct-kind seen _ is w (kept.unknown none jump call) = unknown (record { none = none; no_jump = jump; no_call = call })
+  construct-kind seen _ is w (kept.jump h) = indirect_jump h
+  construct-kind seen _ is w (kept.call h) = indirect_call h
   construct-kind seen _ is w (kept.system {instr} found system) =
       foreign (record { op = instr.op; stands = stands-op instr found; foreign = or-true (is_system instr.op) _ system })
   construct-kind seen _ is w (kept.number {instr} found dos other) = dos_number (no_number-seen seen (stands-int instr found dos) is other w)
@@ -110,11 +108,19 @@ module _ (image : Image) (layout : Layout) (at : ℕ) where
   unbuilt-here seen w (kept.string {instr} found dos nine) =
       built.string (has-ah (Some 0x09) (stands-int instr found dos) (subst (IsWitnessed image layout at) nine w))
 
+-- the kinds are the first five
+kind-small : (code : List ℕ) (at : ℕ) (seen : Seen) (kind : ℕ) → IsKind code at seen kind → kind ≤ 5
+kind-small code at seen _ (kept.unknown none jump call) = omega arith
+kind-small code at seen _ (kept.jump h) = omega arith
+kind-small code at seen _ (kept.call h) = omega arith
+kind-small code at seen _ (kept.system found system) = omega arith
+kind-small code at seen _ (kept.number found dos other) = omega arith
+
 -- a refusal of an instruction to which trails come is a refusal of the program
 pub refusal-cause : (image : Image) (layout : Layout) (at : ℕ) (seen : Seen) (refusal : Refusal) → seen ≢ Never → IsWitnessed image layout at seen → IsCause (code_within image layout) at seen refusal → IsRefusal image layout refusal
 refusal-cause image layout at seen (Construct kind place) is w cause =
-    subst (IsOfTrails kind image layout) (sym cause.0)
-    (record { entry = layout.start_ip; is_entry = start; node = node-witnessed image layout at seen is w; stands = construct-kind image layout at seen kind is w cause.1 })
+    let there : IsOfTrails kind image layout at = record { entry = layout.start_ip; is_entry = start; node = node-witnessed image layout at seen is w; stands = construct-kind image layout at seen kind is w cause.1 } in
+    (subst (IsOfTrails kind image layout) (sym cause.0) there, kind-small (code_within image layout) at seen kind cause.1)
 refusal-cause image layout at seen (NotYet place) is w cause =
     subst (IsNotYet image layout) (sym cause.0)
     (record { node = node-witnessed image layout at seen is w; unbuilt = unbuilt-here image layout at seen w cause.1 })

@@ -1,7 +1,7 @@
 -- The nodes that are collected so far.
-use Rattle.std.proofs.Common.{◌≡◌, ◌≢◌, ◌⊎◌, inl, inr, ℕ, zero, suc, ◌+◌, ◌≤◌, ◌<◌, Bool, true, false, ◌==◌, nat_eq, if◌then◌else◌, List, [], ◌∷◌, ◌++◌, length, get_or, map, slice_get, All, AllPairs, Option, Some, None, refl, sym, ap, ◌∙◌, subst, arith, length-append, eqb-true}
+use Rattle.std.proofs.Common.{◌≡◌, ◌≢◌, inl, inr, ℕ, zero, suc, ◌+◌, ◌≤◌, ◌<◌, true, false, ◌==◌, nat_eq, if◌then◌else◌, List, [], ◌∷◌, ◌++◌, length, get_or, map, slice_get, All, AllPairs, Some, refl, sym, ap, ◌∙◌, subst, arith, length-append, eqb-true}
 use Rattle.std.proofs.lemmas.List.{length-map, get_or-map, get_or_past}
-use Rattle.std.proofs.lemmas.List.Elements.{All-head, All-nil, All-push, All-map, All-get_or}
+use Rattle.std.proofs.lemmas.List.Elements.{All-head, All-push, All-map}
 use Rattle.std.proofs.lemmas.List.Quantifiers.{all_pairs_push}
 use Rattle.std.proofs.lemmas.Bool.{cases_lt, eqb-false, ne_eqb}
 use Rattle.indexmap.specs.IndexMap.{insert_entry}
@@ -13,12 +13,12 @@ use Rattle.dcc_prog.specs.declared.refusal.Refusal.{Refusal}
 use Rattle.dcc_prog.specs.declared.refusal.Refusal.TheVariants.{Limit, Memory}
 use Rattle.dcc_prog.specs.Trail.{code_within, IsNode, start}
 use Rattle.dcc_procs.specs.Refusal.{IsRefusal}
-use Rattle.dcc_prog.specs.Limit.{HasMany, IsAbove, instructions}
+use Rattle.dcc_prog.specs.Limit.{IsAbove, instructions}
 use Rattle.dcc_procs.specs.declared.seen.Seen.{Seen}
 use Rattle.dcc_procs.specs.declared.seen.Seen.TheVariants.{Never}
 use Rattle.dcc_procs.specs.Search.{seen_at}
-use Rattle.dcc_procs.specs.Found.{IsListed}
-use Rattle.dcc_procs.specs.Nodes.{HasInstruction, IsSeenNode, AreAllSeen, AreSeenNodes, IsFull}
+use Rattle.dcc_prog.specs.Found.{IsListed}
+use Rattle.dcc_procs.specs.Nodes.{HasInstruction, AreAllSeen, AreSeenNodes, IsFull}
 
 -- the nodes below an offset that are seen, in ascending order
 pub record Collected (code : List ℕ) (seen : List Seen) (place : ℕ) (nodes : List (ℕ × Node)) : Type 0 where

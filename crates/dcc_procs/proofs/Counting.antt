@@ -1,11 +1,11 @@
 -- There are no more different nodes than are listed.
-use Rattle.std.proofs.Common.{◌≡◌, ◌≢◌, ◌⊎◌, inl, inr, ℕ, zero, suc, ◌+◌, ◌≤◌, ◌<◌, List, [], ◌∷◌, length, get_or, slice_get, All, AllPairs, Option, Some, None, refl, sym, ap, ◌∙◌, subst, arith}
+use Rattle.std.proofs.Common.{◌≡◌, ◌≢◌, ◌⊎◌, inl, inr, ℕ, ◌≤◌, ◌<◌, List, [], ◌∷◌, length, get_or, slice_get, All, AllPairs, Some, sym, ap, ◌∙◌, arith}
 use Rattle.std.proofs.lemmas.Bool.{cases_lt}
 use Rattle.std.proofs.lemmas.Option.{slice_get_within}
 use Rattle.indexmap.proofs.IndexTableLemmas.Probe.{pigeonhole}
 use Rattle.dcc_prog.specs.declared.procedure.Node.{Node}
 use Rattle.dcc_prog.specs.Limit.{HasMany}
-use Rattle.dcc_procs.specs.Found.{IsListed}
+use Rattle.dcc_prog.specs.Found.{IsListed}
 
 module _ {A : Type 0} (P : A → Type 0) (offset : A → ℕ) (nodes : List (ℕ × Node)) (one : (x y : A) → P x → P y → offset x ≡ offset y → x ≡ y) (listed : (x : A) → P x → IsListed nodes (offset x)) (values : List A) (d : A) (hold : All P values) (distinct : AllPairs (λ x y. x ≢ y) values) where
   there : (i : ℕ) → i < length values → IsListed nodes (offset (get_or values i d))

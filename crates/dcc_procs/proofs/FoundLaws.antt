@@ -1,37 +1,28 @@
 -- What is found: no construct stands anywhere, and no count is too great.
-use Rattle.std.proofs.Common.{◌≡◌, ◌≢◌, ◌⊎◌, inl, inr, ℕ, zero, suc, ◌+◌, ◌≤◌, ◌<◌, Bool, true, false, not, ◌||◌, ◌&&◌, ◌==◌, List, [], ◌∷◌, length, get_or, slice_get, All, AllPairs, Option, Some, None, refl, sym, ap, ◌∙◌, subst, arith}
-use Rattle.std.proofs.lemmas.List.Elements.{All-get_or}
-use Rattle.std.proofs.lemmas.Bool.{cases_lt}
-use Rattle.std.proofs.lemmas.Option.{slice_get_within}
-use Rattle.indexmap.proofs.IndexTableLemmas.Probe.{pigeonhole}
-use Rattle.dcc_num.specs.declared.Reg.{Reg}
+use Rattle.std.proofs.Common.{◌≡◌, ◌≢◌, ℕ, Bool, true, false, not, ◌||◌, ◌&&◌, ◌==◌, List, ◌∷◌, Option, Some, None, refl, sym, ap, ◌∙◌, subst}
 use Rattle.dcc_num.specs.declared.Reg.TheVariants.{Ax, Cx, Dx, Bx, Sp, Bp, Si, Di}
 use Rattle.dcc_prog.specs.declared.image.Image.{Image}
 use Rattle.dcc_prog.specs.declared.procedure.Layout.{Layout}
 use Rattle.dcc_prog.specs.declared.procedure.Node.{Node}
-use Rattle.dcc_prog.specs.declared.procedure.Proc.{Proc}
-use Rattle.dcc_prog.specs.declared.refusal.LimitName.{LimitName}
 use Rattle.dcc_prog.specs.declared.instr.Unary.{Unary}
 use Rattle.dcc_prog.specs.declared.instr.Unary.TheVariants.{Div, Idiv}
 use Rattle.dcc_prog.specs.declared.instr.Operand.{Operand}
 use Rattle.dcc_prog.specs.declared.instr.Operand.TheVariants.{Word, Byte, Seg, Mem, Const}
 use Rattle.dcc_prog.specs.declared.instr.Op.{Op}
-use Rattle.dcc_prog.specs.declared.instr.Op.TheVariants.{Alu, Unary as UnaryOp, Shift, Mov, Xchg, Lea, Push, Pop, Plain, Jump, Branch, Loop, LoopE, LoopNe, Jcxz, Table, Call, Ret, Int21}
+use Rattle.dcc_prog.specs.declared.instr.Op.TheVariants.{Alu, Unary as UnaryOp, Shift, Mov, Xchg, Lea, Push, Pop, Table, Call, Ret, Int21}
 use Rattle.dcc_prog.specs.declared.instr.Instr.{Instr}
-use Rattle.dcc_prog.specs.Trail.{code_within, instruction_in, next_of, known_ah, op_successors, successors, StandsAt, IsTrail, IsNode, IsEntry, start, called}
+use Rattle.dcc_prog.specs.Trail.{code_within, known_ah, StandsAt, IsTrail, IsNode, IsEntry, start, called}
 use Rattle.dcc_prog.specs.FrameForm.{is_sp_or_bp, is_by_bp, names_sp_or_bp, uses_bp_address, is_sp_change, is_frame_form}
-use Rattle.dcc_prog.specs.Prepared.{is_division, IsUnprepared}
-use Rattle.dcc_procs.proofs.IndirectLaws.{jump-in_code, call-in_code}
+use Rattle.dcc_prog.specs.Prepared.{is_division}
 use Rattle.dcc_prog.specs.Construct.{is_system, is_dos_number, HasNumber, HasAh, HasNoNumber, not_known, other_number, two_numbers, IsFormless, IsAtNode, unknown, foreign, indirect_jump, formless, indirect_call, dos_number, entry_return, division, returns, calls, IsOfTrails}
 use Rattle.dcc_prog.specs.Construct as construct
-use Rattle.dcc_prog.specs.Limit.{HasMany, IsNodeOf, IsAbove, procedures, instructions, total, entries}
 use Rattle.dcc_procs.specs.declared.seen.Seen.{Seen}
 use Rattle.dcc_procs.specs.declared.seen.Seen.TheVariants.{Never, Same, Differing}
-use Rattle.dcc_procs.specs.Built.{is_memory_or_stack, is_unbuilt_unary, is_unbuilt, IsUnbuiltAt, IsNotYet}
-use Rattle.dcc_procs.specs.Built as built
-use Rattle.dcc_procs.specs.Search.{seen_at, ah_of, number_of, is_built_number, tells_number, IsAccepted}
-use Rattle.dcc_procs.specs.Found.{IsNodeFound, IsListed, IsFound, AreFound}
-use Rattle.dcc_procs.specs.Nodes.{Tells, HasInstruction, AreAllSeen, AreSeenNodes}
+use Rattle.dcc_prog.specs.Built.{is_memory_or_stack, is_unbuilt_unary, is_unbuilt, IsUnbuiltAt, IsNotYet}
+use Rattle.dcc_prog.specs.Built as built
+use Rattle.dcc_procs.specs.Search.{seen_at, number_of, is_built_number, tells_number, IsAccepted}
+use Rattle.dcc_prog.specs.Found.{IsNodeFound}
+use Rattle.dcc_procs.specs.Nodes.{Tells, HasInstruction, AreAllSeen}
 use Rattle.dcc_procs.proofs.Going.{number-told, followed-same, trail-successors}
 
 -- What is built uses neither SP nor BP.
@@ -208,9 +199,9 @@ module _ (image : Image) (layout : Layout) (seen : List Seen) (all : AreAllSeen 
       let t = taken at h.op node h.stands in
       let clash = sym h.foreign ∙ or-both _ _ t.user (ap not (free-form image layout layout.start_ip at h.op t.built)) in
       cc
-  no-construct-at at _ node (indirect_jump h) = (all.accepted at (node-seen at node)).1.no_jump (jump-in_code image layout at h)
+  no-construct-at at _ node (indirect_jump h) = (all.accepted at (node-seen at node)).1.no_jump h
   no-construct-at at _ node (formless h) = no-formless layout.start_ip at refl h
-  no-construct-at at _ node (indirect_call h) = (all.accepted at (node-seen at node)).1.no_call (call-in_code image layout at h)
+  no-construct-at at _ node (indirect_call h) = (all.accepted at (node-seen at node)).1.no_call h
   no-construct-at at _ node (dos_number h) = no-missing at h
   no-construct-at at _ node (entry_return (returns {count} same stands)) = not-unbuilt at (Ret count) node stands refl
   no-construct-at at _ node (entry_return (calls stands)) = not-unbuilt at (Call layout.start_ip) node stands refl

@@ -1,14 +1,14 @@
 -- Where an instruction that is accepted goes on: the trails that come to it do so as it was followed.
-use Rattle.std.proofs.Common.{◌≡◌, ◌≢◌, ◌⊎◌, inl, inr, ℕ, Bool, true, false, ◌==◌, List, [], ◌∷◌, Contains, Option, Some, None, refl, sym, ap, ◌∙◌, subst, arith}
+use Rattle.std.proofs.Common.{◌≡◌, ℕ, true, false, List, [], ◌∷◌, Contains, Option, Some, refl, sym, ap, ◌∙◌, subst}
 use Rattle.dcc_prog.specs.declared.image.Image.{Image}
 use Rattle.dcc_prog.specs.declared.procedure.Layout.{Layout}
 use Rattle.dcc_prog.specs.declared.instr.Op.{Op}
-use Rattle.dcc_prog.specs.declared.instr.Op.TheVariants.{Alu, Unary, Shift, Mov, Xchg, Lea, Push, Pop, Plain, Jump, Branch, Loop, LoopE, LoopNe, Jcxz, Table, Call, Ret, Int21}
+use Rattle.dcc_prog.specs.declared.instr.Op.TheVariants.{Table, Int21}
 use Rattle.dcc_prog.specs.declared.instr.Instr.{Instr}
-use Rattle.dcc_prog.specs.Trail.{code_within, next_of, known_ah, ah_behind, targets_of, op_successors, instr_successors, successors, IsTrail}
+use Rattle.dcc_prog.specs.Trail.{code_within, next_of, known_ah, ah_behind, targets_of, op_successors, instr_successors, successors}
 use Rattle.dcc_procs.specs.declared.seen.Seen.{Seen}
 use Rattle.dcc_procs.specs.declared.seen.Seen.TheVariants.{Never, Same, Differing}
-use Rattle.dcc_procs.specs.Built.{is_unbuilt}
+use Rattle.dcc_prog.specs.Built.{is_unbuilt}
 use Rattle.dcc_procs.specs.Search.{ah_of, tells_number, IsAccepted}
 use Rattle.dcc_procs.specs.Nodes.{Tells}
 use Rattle.dcc_procs.proofs.Causes.{HasTrail}

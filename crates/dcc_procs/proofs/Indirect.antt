@@ -1,15 +1,14 @@
 -- No instruction of the table is an indirect jump or call.
-use Rattle.std.proofs.Common.{◌≡◌, ◌⊎◌, inl, inr, ℕ, ◌+◌, ◌≤◌, ◌<◌, Bool, true, false, List, [], ◌∷◌, length, drop, get_or, Option, Some, None, Result, Ok, Err, IfOk, OnOk, refl, sym, ap, ◌∙◌, subst, arith, length-drop, get_or-drop}
+use Rattle.std.proofs.Common.{◌≡◌, inl, inr, ℕ, ◌+◌, ◌≤◌, ◌<◌, true, false, List, [], ◌∷◌, length, drop, get_or, Some, None, Result, Ok, Err, IfOk, OnOk, refl, sym, ap, ◌∙◌, subst, arith, length-drop, get_or-drop}
 use Rattle.std.specs.Prelude.{find}
 use Rattle.dcc_prog.specs.declared.instr.Instr.{Instr}
 use Rattle.dcc_prog.specs.Bytes.{byte_at}
 use Rattle.dcc_prog.specs.Operands.{reg_field}
-use Rattle.dcc_prog.specs.Table.{Row, BytePattern, table, fits, fits_byte, between, this_byte, any_operand, instruction_at}
+use Rattle.dcc_prog.specs.Table.{Row, BytePattern, table, fits, this_byte, any_operand, instruction_at}
 use Rattle.dcc_prog.specs.declared.refusal.Refusal.{Refusal}
-use Rattle.dcc_prog.specs.Construct.{is_system}
-use Rattle.dcc_procs.specs.Indirect.{HasIndirect, IsIndirectJump, IsIndirectCall}
+use Rattle.dcc_prog.specs.Construct.{HasIndirect, IsIndirectJump, IsIndirectCall, is_system}
 use Rattle.dcc_procs.specs.declared.seen.Seen.{Seen}
-use Rattle.dcc_procs.specs.Built.{is_unbuilt}
+use Rattle.dcc_prog.specs.Built.{is_unbuilt}
 use Rattle.dcc_procs.specs.Search.{tells_number, IsAccepted}
 use Rattle.dcc_prog.proofs.TableLaws.{and_left, and_both, find-fits, find-within, rows_within, instruction-row}
 use Rattle.dcc_decode.proofs.Forms.{fits-this, fits-any_operand}

@@ -2,7 +2,6 @@ pub mod Causes
 pub mod Seeing
 pub mod Going
 pub mod Searching
-pub mod IndirectLaws
 pub mod Indirect
 pub mod Start
 pub mod Collected

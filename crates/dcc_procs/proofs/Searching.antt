@@ -1,5 +1,5 @@
 -- The search: what was followed so far, and that it goes on.
-use Rattle.std.proofs.Common.{◌≡◌, ◌≢◌, ◌⊎◌, inl, inr, ℕ, ◌+◌, ◌*◌, ◌≤◌, ◌<◌, Bool, true, false, ◌==◌, List, [], ◌∷◌, ◌++◌, length, get_or, replicate, All, Contains, sum_by, slice_set, Option, Some, None, refl, sym, ap, ◌∙◌, subst, arith, length-append, eqb-true, eq-eqb}
+use Rattle.std.proofs.Common.{◌≡◌, ◌≢◌, ◌⊎◌, inl, inr, ℕ, ◌+◌, ◌*◌, ◌≤◌, ◌<◌, true, false, ◌==◌, List, [], ◌∷◌, ◌++◌, length, Contains, sum_by, slice_set, Option, Some, None, refl, sym, ◌∙◌, subst, arith, length-append, eqb-true, eq-eqb}
 use Rattle.std.proofs.lemmas.Grind.{get_or-set_at}
 use Rattle.std.proofs.lemmas.List.{get_or-set_other, length-set}
 use Rattle.std.proofs.lemmas.List.Sums.{sum_by-set}
@@ -9,10 +9,10 @@ use Rattle.dcc_prog.specs.declared.procedure.Layout.{Layout}
 use Rattle.dcc_prog.specs.declared.instr.Instr.{Instr}
 use Rattle.dcc_prog.specs.Trail.{code_within, next_of, ah_behind, op_successors}
 use Rattle.dcc_procs.specs.declared.seen.Seen.{Seen}
-use Rattle.dcc_procs.specs.declared.seen.Seen.TheVariants.{Never, Same, Differing}
+use Rattle.dcc_procs.specs.declared.seen.Seen.TheVariants.{Never}
 use Rattle.dcc_procs.specs.Search.{seen_behind, grown, ah_of, seen_at, Work, with_grown, arrived, arrived_at_all, IsAccepted, IsFollowed}
 use Rattle.dcc_procs.specs.Nodes.{Tells}
-use Rattle.dcc_procs.proofs.Causes.{HasTrail, IsWitnessed}
+use Rattle.dcc_procs.proofs.Causes.{IsWitnessed}
 use Rattle.dcc_procs.proofs.Seeing.{rank, IsGrown, grown-some, grown-none, behind-tells, behind-witnessed}
 use Rattle.dcc_procs.proofs.Going.{followed-same, trail-onward}
 

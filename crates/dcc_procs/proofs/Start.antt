@@ -1,19 +1,18 @@
 -- The search from its start to its end.
-use Rattle.std.proofs.Common.{◌≡◌, ◌≢◌, ◌⊎◌, inl, inr, ℕ, ◌+◌, ◌≤◌, ◌<◌, List, [], ◌∷◌, ◌++◌, length, get_or, replicate, Contains, Option, Some, None, refl, sym, ap, ◌∙◌, subst, arith}
+use Rattle.std.proofs.Common.{◌≡◌, ◌≢◌, inl, inr, ℕ, ◌<◌, List, [], ◌∷◌, ◌++◌, replicate, Contains, Option, None, refl, sym, ◌∙◌, subst, arith}
 use Rattle.std.proofs.lemmas.List.{get_or-replicate, length-replicate, get_or_past}
 use Rattle.std.proofs.lemmas.Bool.{cases_lt}
 use Rattle.std.proofs.lemmas.List.Elements.{Contains-push}
 use Rattle.dcc_prog.specs.declared.image.Image.{Image}
 use Rattle.dcc_prog.specs.declared.procedure.Layout.{Layout}
-use Rattle.dcc_prog.specs.declared.instr.Instr.{Instr}
-use Rattle.dcc_prog.specs.Trail.{code_within, next_of, known_ah, ah_behind, op_successors, successors, IsTrail, IsNode}
+use Rattle.dcc_prog.specs.Trail.{known_ah, IsTrail}
 use Rattle.dcc_procs.specs.declared.seen.Seen.{Seen}
-use Rattle.dcc_procs.specs.declared.seen.Seen.TheVariants.{Never, Same, Differing}
-use Rattle.dcc_procs.specs.Search.{seen_at, Work, arrived, IsAccepted}
+use Rattle.dcc_procs.specs.declared.seen.Seen.TheVariants.{Never, Same}
+use Rattle.dcc_procs.specs.Search.{seen_at, arrived}
 use Rattle.dcc_procs.specs.Nodes.{Tells, AreAllSeen}
 use Rattle.dcc_procs.proofs.Causes.{IsWitnessed, node-witnessed}
 use Rattle.dcc_procs.proofs.Going.{trail-successors, trail-ah}
-use Rattle.dcc_procs.proofs.Searching.{IsClosed, Searched, Extends, arrives}
+use Rattle.dcc_procs.proofs.Searching.{IsClosed, Searched, arrives}
 
 -- nothing is seen yet
 never-at : (n i : ℕ) → seen_at (replicate n Never) i ≡ Never

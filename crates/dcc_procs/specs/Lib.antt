@@ -1,7 +1,4 @@
-pub mod Built
 pub mod Refusal
-pub mod Found
 pub mod Search
 pub mod Nodes
 pub mod Laws
-pub mod Indirect

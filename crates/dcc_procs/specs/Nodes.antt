@@ -13,7 +13,7 @@ use Rattle.dcc_prog.specs.Trail.{code_within, next_of, known_ah, op_successors, 
 use Rattle.dcc_procs.specs.declared.seen.Seen.{Seen}
 use Rattle.dcc_procs.specs.declared.seen.Seen.TheVariants.{Never, Same, Differing}
 use Rattle.dcc_procs.specs.Search.{seen_at, ah_of, number_of, IsAccepted}
-use Rattle.dcc_procs.specs.Found.{IsListed}
+use Rattle.dcc_prog.specs.Found.{IsListed}
 
 -- this may be known of AH by a trail to an offset that is so seen
 abbrev pub Tells : Seen → Option ℕ → Type 0

@@ -11,13 +11,12 @@ use Rattle.dcc_prog.specs.declared.refusal.Refusal.TheVariants.{Construct, Limit
 use Rattle.dcc_prog.specs.Table.{instruction_at}
 use Rattle.dcc_prog.specs.Writes.{writes_half}
 use Rattle.dcc_prog.specs.Trail.{next_of, constant_to_ah, op_successors}
-use Rattle.dcc_prog.specs.Construct.{is_system, is_dos_number}
-use Rattle.dcc_procs.specs.Indirect.{HasIndirect, IsIndirectJump, IsIndirectCall}
+use Rattle.dcc_prog.specs.Construct.{IsIndirectJump, IsIndirectCall, is_system, is_dos_number}
 use Rattle.dcc_procs.specs.declared.seen.Seen.{Seen}
 use Rattle.dcc_procs.specs.declared.seen.Seen.TheVariants.{Never, Same, Differing}
 use Rattle.dcc_procs.specs.declared.search.Search.{Search}
 use Rattle.dcc_procs.specs.declared.onward.Onward.{Onward}
-use Rattle.dcc_procs.specs.Built.{is_unbuilt}
+use Rattle.dcc_prog.specs.Built.{is_unbuilt}
 
 -- What is known of AH, by all trails together.
 

@@ -4,7 +4,7 @@ ghost use Rattle.std.specs.Prelude.{◌≡◌, ℕ, true, drop, None, IfOk, IfEr
 ghost use Rattle.dcc_procs.specs.declared.seen.Seen.{Seen};
 ghost use Rattle.dcc_prog.specs.Table.{instruction_at};
 ghost use Rattle.dcc_prog.specs.WellFormed.{IsOperation};
-ghost use Rattle.dcc_procs.specs.Indirect.{HasIndirect};
+ghost use Rattle.dcc_prog.specs.Construct.{HasIndirect};
 ghost use Rattle.dcc_procs.specs.Search.{tells_number, IsAccepted, indirect_kind, IsKind, IsNumberCause, IsCause};
 
 use crate::form::{is_system, is_unbuilt};

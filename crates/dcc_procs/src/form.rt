@@ -6,7 +6,7 @@ ghost use Rattle.dcc_prog.specs.WellFormed.{IsOperation};
 ghost use Rattle.dcc_prog.specs.Writes.{is_half_of, writes_half};
 ghost use Rattle.dcc_prog.specs.Trail.{constant_to_ah};
 ghost use Rattle.dcc_prog.specs.Construct.{is_segment, is_system};
-ghost use Rattle.dcc_procs.specs.Built.{is_memory_or_stack, is_unbuilt};
+ghost use Rattle.dcc_prog.specs.Built.{is_memory_or_stack, is_unbuilt};
 
 use dcc_num::{Half, Reg};
 use dcc_prog::{Alu, Op, Operand, Plain, Unary};

@@ -9,5 +9,7 @@ mod onward;
 mod procedures;
 mod search;
 mod seen;
+#[cfg(test)]
+mod tests;
 
 pub use procedures::find;

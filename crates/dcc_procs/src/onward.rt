@@ -2,7 +2,7 @@
 
 ghost use Rattle.std.specs.Prelude.{◌≡◌, ◌<◌, [], false, All, IfOk};
 ghost use Rattle.dcc_prog.specs.Trail.{next_of, op_successors};
-ghost use Rattle.dcc_procs.specs.Built.{is_unbuilt};
+ghost use Rattle.dcc_prog.specs.Built.{is_unbuilt};
 ghost use Rattle.dcc_procs.specs.Search.{offsets_of};
 
 use dcc_prog::{Instr, Op};

@@ -4,7 +4,7 @@ ghost use Rattle.std.specs.Prelude.{◌≡◌, IfOk, IfErr};
 ghost use Rattle.dcc_prog.specs.MzImage.{IsLoaded};
 ghost use Rattle.dcc_prog.specs.Layout.{HasLayout};
 ghost use Rattle.dcc_procs.specs.Refusal.{IsRefusal};
-ghost use Rattle.dcc_procs.specs.Found.{AreFound};
+ghost use Rattle.dcc_prog.specs.Found.{AreFound};
 
 use crate::collect::collect;
 use crate::search::search_from_start;

@@ -9,3 +9,4 @@ pub mod PreludeSteps
 pub mod LayoutLaws
 pub mod TrailLaws
 pub mod ConstructLaws
+pub mod MachineEnds

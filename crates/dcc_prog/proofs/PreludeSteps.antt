@@ -48,7 +48,7 @@ form-step (PlainOp Cld) at other s t h = refl
 form-step _ at other s t h = cc
 
 -- it leaves CS
-form-code : (op : Op) (at : ℕ) (s : State) → is_prelude_form op ≡ true → code_segment (op_step op at s) ≡ code_segment s
+pub form-code : (op : Op) (at : ℕ) (s : State) → is_prelude_form op ≡ true → code_segment (op_step op at s) ≡ code_segment s
 form-code (Mov (Word r) (Const width c)) at s h = refl
 form-code (Mov (Byte r half) (Const width c)) at s h = refl
 form-code (Mov (Word r) (Word q)) at s h = refl
@@ -104,12 +104,18 @@ executed-data code at (i ∷ rest) s r idle =
     let parts = or_parts (writes_ds i.op) (list_any (λ (k : Instr). writes_ds k.op) rest) idle in
     executed-data code (at + i.len) rest (op_step i.op 0 s) r.1 parts.1 ∙ form-data i.op 0 s r.0.form parts.0
 
+-- a run leaves CS
+pub executed-code : (code : List ℕ) (at : ℕ) (run : List Instr) (s : State) → IsRun code at run → code_segment (executed s run) ≡ code_segment s
+executed-code code at [] s r = refl
+executed-code code at (i ∷ rest) s r =
+    executed-code code (at + i.len) rest (op_step i.op 0 s) r.1 ∙ form-code i.op 0 s r.0.form
+
 -- the machine at an offset of the code, as at the start but for its registers and flags
 abbrev pub at_offset : Image → List ℕ → State → ℕ → State
 at_offset image input r at = with_registers_of r (record (start_state image input) { ip = at % 65536 })
 
 -- one step
-step-at : (image : Image) (input : List ℕ) (r : State) (at : ℕ) (instr : Instr) → IsPlaced image → code_segment r ≡ image.cs → IsFormAt (code_of image) at instr → step (at_offset image input r at) ≡ at_offset image input (op_step instr.op 0 r) (at + instr.len)
+pub step-at : (image : Image) (input : List ℕ) (r : State) (at : ℕ) (instr : Instr) → IsPlaced image → code_segment r ≡ image.cs → IsFormAt (code_of image) at instr → step (at_offset image input r at) ≡ at_offset image input (op_step instr.op 0 r) (at + instr.len)
 step-at image input r at instr placed cs is =
     let s = at_offset image input r at in
     let inside = form-inside (code_of image) at instr is in

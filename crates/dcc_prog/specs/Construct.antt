@@ -25,18 +25,18 @@ pub record LacksLayout (image : Image) (at : ℕ) : Type 0 where
 -- Kinds 3 and 4: indirect jumps and calls.
 
 -- the bytes FFh and a ModRM byte with that reg field stand at the offset in the code
-pub record HasIndirect (image : Image) (layout : Layout) (at reg : ℕ) : Type 0 where
-  pub inside : at + 2 ≤ length (code_within image layout)
-  pub opcode : byte_at (code_within image layout) at ≡ 0xFF
-  pub reg_is : reg_field (byte_at (code_within image layout) (at + 1)) ≡ reg
+pub record HasIndirect (code : List ℕ) (at reg : ℕ) : Type 0 where
+  pub inside : at + 2 ≤ length code
+  pub opcode : byte_at code at ≡ 0xFF
+  pub reg_is : reg_field (byte_at code (at + 1)) ≡ reg
 
 -- FF /4 or FF /5
-abbrev pub IsIndirectJump : Image → Layout → ℕ → Type 0
-IsIndirectJump image layout at = HasIndirect image layout at 4 ⊎ HasIndirect image layout at 5
+abbrev pub IsIndirectJump : List ℕ → ℕ → Type 0
+IsIndirectJump code at = HasIndirect code at 4 ⊎ HasIndirect code at 5
 
 -- FF /2 or FF /3
-abbrev pub IsIndirectCall : Image → Layout → ℕ → Type 0
-IsIndirectCall image layout at = HasIndirect image layout at 2 ⊎ HasIndirect image layout at 3
+abbrev pub IsIndirectCall : List ℕ → ℕ → Type 0
+IsIndirectCall code at = HasIndirect code at 2 ⊎ HasIndirect code at 3
 
 -- a jump through a table ends a trail, whose last instructions tell N, or don't
 pub record HasNumber (image : Image) (layout : Layout) (entry at : ℕ) (number : Option ℕ) : Type 0 where
@@ -76,8 +76,8 @@ is_system op = false
 -- no instruction of the table lies in the code there, and no indirect jump or call stands there
 pub record IsUnknown (image : Image) (layout : Layout) (at : ℕ) : Type 0 where
   pub none : instruction_in image layout at ≡ None
-  pub no_jump : ¬ IsIndirectJump image layout at
-  pub no_call : ¬ IsIndirectCall image layout at
+  pub no_jump : ¬ IsIndirectJump (code_within image layout) at
+  pub no_call : ¬ IsIndirectCall (code_within image layout) at
 
 -- an instruction of the prelude's kind stands there, or one that uses SP or BP in no form that is allowed at any height
 pub record IsForeign (image : Image) (layout : Layout) (entry at : ℕ) : Type 0 where
@@ -116,9 +116,9 @@ pub data ReturnsFromEntry (image : Image) (layout : Layout) (entry at : ℕ) : T
 pub data IsAtNode (image : Image) (layout : Layout) (entry at : ℕ) : ℕ → Type 0 where
   unknown : IsUnknown image layout at → IsAtNode image layout entry at 2
   foreign : IsForeign image layout entry at → IsAtNode image layout entry at 2
-  indirect_jump : IsIndirectJump image layout at → IsAtNode image layout entry at 3
+  indirect_jump : IsIndirectJump (code_within image layout) at → IsAtNode image layout entry at 3
   formless : IsFormless image layout entry at → IsAtNode image layout entry at 3
-  indirect_call : IsIndirectCall image layout at → IsAtNode image layout entry at 4
+  indirect_call : IsIndirectCall (code_within image layout) at → IsAtNode image layout entry at 4
   dos_number : HasNoNumber image layout entry at → IsAtNode image layout entry at 5
   entry_return : ReturnsFromEntry image layout entry at → IsAtNode image layout entry at 11
   division : IsUnprepared image layout entry at → IsAtNode image layout entry at 12

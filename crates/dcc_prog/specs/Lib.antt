@@ -17,3 +17,5 @@ pub mod Prepared
 pub mod Construct
 pub mod Limit
 pub mod Wanted
+pub mod Built
+pub mod Found

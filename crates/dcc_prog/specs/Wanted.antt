@@ -17,7 +17,7 @@ use Rattle.dcc_prog.specs.declared.instr.Alu.TheVariants.{Adc, Sbb, And, Or, Xor
 use Rattle.dcc_prog.specs.declared.instr.Shift.{Shift}
 use Rattle.dcc_prog.specs.declared.instr.Shift.TheVariants.{Rcl, Rcr, Sar}
 use Rattle.dcc_prog.specs.declared.instr.Unary.{Unary}
-use Rattle.dcc_prog.specs.declared.instr.Unary.TheVariants.{Inc, Dec, Neg, Not, Mul, Imul, Div, Idiv}
+use Rattle.dcc_prog.specs.declared.instr.Unary.TheVariants.{Mul, Imul, Div, Idiv}
 use Rattle.dcc_prog.specs.declared.instr.Cond.{Cond}
 use Rattle.dcc_prog.specs.declared.instr.Cond.TheVariants.{O, No, B, Ae, Z, Nz, Be, A, S, Ns, L, Ge, Le, G}
 use Rattle.dcc_prog.specs.declared.instr.Plain.{Plain}
@@ -29,6 +29,7 @@ use Rattle.dcc_prog.specs.declared.instr.Op.{Op}
 use Rattle.dcc_prog.specs.declared.instr.Op.TheVariants.{Alu as AluOp, Unary as UnaryOp, Shift as ShiftOp, Mov, Xchg, Lea, Plain as PlainOp, Branch, Loop, LoopE, LoopNe, Jcxz, Table, Int21}
 use Rattle.dcc_prog.specs.Machine.{operand_width}
 use Rattle.dcc_prog.specs.Trail.{StandsAt, IsNode, IsEdge}
+use Rattle.dcc_prog.specs.Prepared.{is_division}
 use Rattle.dcc_prog.specs.Construct.{HasAh}
 use Rattle.dcc_prog.specs.Writes.{is_same_register, is_same_half, is_half_of, writes_operand, is_in_pair, is_carry_or_overflow, unary_writes_flag, shift_writes_flag, writes_half, writes_flag}
 
@@ -216,29 +217,34 @@ abbrev pub is_in_memory : Operand → Bool
 is_in_memory (Mem width ea) = true
 is_in_memory operand = false
 
+abbrev pub is_dl : Location → Bool
+is_dl (half_of r half) = is_same_register r Dx && is_same_half half Low
+is_dl location = false
+
 -- what a DOS call of that number takes: 02h DL, 09h DX, 4Ch AL
 abbrev pub dos_uses : Option ℕ → Location → Bool
 dos_uses None location = false
 dos_uses (Some number) location =
-    if number == 0x02 then is_half location Dx && elim location [ half_of r half ↦ is_same_half half Low | flag_of flag ↦ false ]
+    if number == 0x02 then is_dl location
     else if number == 0x09 then is_half location Dx
     else if number == 0x4C then is_al location
     else false
 
 -- a division uses what it divides
-abbrev pub is_division : Unary → Bool
-is_division Div = true
-is_division Idiv = true
-is_division operation = false
-
 abbrev pub is_dividend : Width → Location → Bool
 is_dividend byte_width location = is_half location Ax
 is_dividend word_width location = is_half location Ax || is_half location Dx
 
+-- it stores its result into its operand; a product goes to AX and DX
+abbrev pub stores_back : Unary → Bool
+stores_back Mul = false
+stores_back Imul = false
+stores_back operation = true
+
 abbrev pub unary_uses : Unary → Operand → Location → Bool
 unary_uses operation a location =
     if is_division operation then is_dividend (operand_width a) location || is_read location a
-    else is_in_memory a && is_read location a
+    else (is_in_memory a && stores_back operation) && is_read location a
 
 -- what an operation uses for a jump, a store, a division or a DOS call, whose number is given
 abbrev pub uses : Op → Option ℕ → Location → Bool

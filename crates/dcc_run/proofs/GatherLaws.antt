@@ -1,11 +1,11 @@
 -- Where one step of a run stands for some of another, it visits what is kept of the other's visits.
-use Rattle.std.proofs.Common.{◌≡◌, ℕ, zero, suc, ◌+◌, ◌-◌, ◌≤◌, ◌<◌, ◌⊎◌, inl, inr, Bool, true, false, cond, List, [], ◌∷◌, ◌++◌, Option, Some, None, refl, sym, ap, ap₂, ◌∙◌, subst, true≢false, arith}
+use Rattle.std.proofs.Common.{◌≡◌, ℕ, zero, suc, ◌+◌, ◌-◌, ◌≤◌, inl, inr, Bool, true, false, cond, List, [], ◌∷◌, ◌++◌, Option, refl, sym, ap, ap₂, ◌∙◌, subst, true≢false, arith}
 use Rattle.std.proofs.lemmas.Bool.{cases_lt}
 use Rattle.std.proofs.lemmas.List.{append-nil}
 use Rattle.dcc_run.specs.End.{is_over}
-use Rattle.dcc_run.specs.System.{System, after, IsLawful, end_after}
+use Rattle.dcc_run.specs.System.{System, after, IsLawful}
 use Rattle.dcc_run.specs.Visits.{visit_at, visit_of, visits, visits_of, EndsAlike, VisitsKept}
-use Rattle.dcc_run.specs.Gathers.{AreOverAlike, GoOn, still_related, both_over, IsGathered, Gathers}
+use Rattle.dcc_run.specs.Gathers.{AreOverAlike, still_related, both_over, IsGathered, Gathers}
 use Rattle.dcc_run.proofs.RunLaws.{after-add, after-over}
 use Rattle.dcc_run.proofs.VisitLaws.{visits-add, visits_of-append}
 

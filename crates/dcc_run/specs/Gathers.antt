@@ -1,5 +1,5 @@
 -- One step of a run stands for one or more steps of another.
-use Rattle.std.specs.Prelude.{◌≡◌, ℕ, suc, ◌≤◌, Bool, true, false, List, [], Option}
+use Rattle.std.specs.Prelude.{◌≡◌, ℕ, suc, ◌≤◌, Bool, true, false, [], Option}
 use Rattle.dcc_run.specs.End.{is_over}
 use Rattle.dcc_run.specs.System.{System, after}
 use Rattle.dcc_run.specs.Visits.{visit_of, visits, visits_of}

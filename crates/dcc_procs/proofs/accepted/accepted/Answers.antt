@@ -1,12 +1,6 @@
-use Rattle.std.proofs.Common.{◌≡◌, ◌<◌, ℕ, Bool, true, false, List, get_or, drop, Some, refl, sym, ap, ◌∙◌, subst, arith}
-use Rattle.std.specs.Prelude.{IfErr, Result, Ok, Err}
-use Rattle.dcc_prog.specs.declared.instr.Instr.{Instr}
+use Rattle.std.proofs.Common.{◌≡◌, ◌<◌, ℕ, get_or, refl, sym, ◌∙◌, arith}
 use Rattle.dcc_prog.specs.declared.instr.Op.TheVariants.{Int21}
-use Rattle.dcc_prog.specs.declared.refusal.Refusal.{Refusal}
-use Rattle.dcc_prog.specs.declared.refusal.Refusal.TheVariants.{Construct, Limit, NotYet, Memory}
-use Rattle.dcc_prog.specs.Table.{instruction_at}
-use Rattle.dcc_procs.specs.declared.seen.Seen.{Seen}
-use Rattle.dcc_procs.specs.Search.{system, operation, IsNumberCause, IsCause}
+use Rattle.dcc_procs.specs.Search.{system, operation}
 use Rattle.dcc_procs.proofs.Causes.{if-number}
 use Rattle.dcc_procs.proofs.Indirect.{no-jump, no-call, accepted-number}
 use Rattle.dcc_procs.proofs.accepted.accepted.Goals as goal

@@ -1,4 +1,4 @@
-use Rattle.std.proofs.Common.{◌≡◌, rules}
+use Rattle.std.proofs.Common.{rules}
 use Rattle.dcc_decode.proofs.Decoding.{end_rules}
 use Rattle.dcc_procs.proofs.accepted.instruction_at.Goals as goal
 

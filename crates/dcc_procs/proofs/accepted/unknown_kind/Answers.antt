@@ -1,7 +1,5 @@
-use Rattle.std.proofs.Common.{◌≡◌, ℕ, List, Option, Some, None, refl, sym, ap, ◌∙◌, subst}
-use Rattle.std.specs.Prelude.{IfSome}
-use Rattle.dcc_prog.specs.Table.{instruction_at}
-use Rattle.dcc_procs.specs.Search.{indirect_kind, IsKind}
+use Rattle.std.proofs.Common.{sym, subst}
+use Rattle.dcc_procs.specs.Search.{IsKind}
 use Rattle.dcc_procs.proofs.Causes.{kind-indirect, kind-none}
 use Rattle.dcc_procs.proofs.accepted.unknown_kind.Goals as goal
 

@@ -1,4 +1,4 @@
-use Rattle.std.proofs.Common.{◌≡◌, ◌≢◌, ◌<◌, ◌≤◌, ◌+◌, ℕ, List, [], ◌∷◌, ◌++◌, length, Some, None, refl, sym, ap, ◌∙◌, subst, arith, rules}
+use Rattle.std.proofs.Common.{◌≡◌, ◌≢◌, ◌<◌, ◌+◌, [], length, sym, ◌∙◌, subst, arith, rules}
 use Rattle.dcc_prog.specs.Trail.{code_within}
 use Rattle.dcc_procs.specs.Refusal.{IsRefusal}
 use Rattle.dcc_procs.specs.Search.{seen_at}

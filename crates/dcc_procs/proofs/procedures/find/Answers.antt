@@ -1,5 +1,5 @@
-use Rattle.std.proofs.Common.{◌≡◌, [], ◌∷◌, ◌++◌, refl, sym, ap, ◌∙◌, subst}
-use Rattle.dcc_procs.specs.Nodes.{AreAllSeen, AreSeenNodes}
+use Rattle.std.proofs.Common.{[], ◌∷◌, ◌++◌, refl, ap, ◌∙◌, subst}
+use Rattle.dcc_procs.specs.Nodes.{AreSeenNodes}
 use Rattle.dcc_procs.proofs.AllFound.{all-found}
 use Rattle.dcc_procs.proofs.procedures.find.Goals as goal
 

@@ -1,5 +1,4 @@
-use Rattle.std.proofs.Common.{◌≡◌, ◌≤◌, ◌-◌, ◌*◌, min, length, ap, sym, ◌∙◌, arith, length-take}
-use Rattle.dcc_prog.specs.Code.{code_of}
+use Rattle.std.proofs.Common.{length, ap, ◌∙◌, arith, length-take}
 use Rattle.dcc_prog.proofs.FetchLaws.{image-placed, length-code_of}
 use Rattle.dcc_procs.proofs.search.code_of.Goals as goal
 

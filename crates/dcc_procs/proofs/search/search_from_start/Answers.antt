@@ -1,4 +1,4 @@
-use Rattle.std.proofs.Common.{◌≡◌, ◌<◌, ℕ, ◌-◌, List, [], ◌∷◌, ◌++◌, take, replicate, Some, None, refl, sym, ap, ◌∙◌, subst, arith, rules}
+use Rattle.std.proofs.Common.{◌≡◌, ◌<◌, ℕ, ◌-◌, List, [], ◌∷◌, ◌++◌, take, replicate, None, sym, ap, ◌∙◌, subst, arith, rules}
 use Rattle.dcc_prog.proofs.MzImageLaws.{code_len-loaded}
 use Rattle.dcc_prog.specs.Trail.{code_within}
 use Rattle.dcc_procs.specs.declared.seen.Seen.{Seen}

@@ -9,7 +9,7 @@ use Rattle.dcc_prog.specs.declared.instr.Op.TheVariants.{Int21}
 use Rattle.dcc_prog.specs.Trail.{instruction_in, known_ah, successors, IsTrail, IsNode, IsEntry}
 use Rattle.dcc_prog.specs.Construct.{IsOfTrails}
 use Rattle.dcc_prog.specs.Limit.{IsAbove}
-use Rattle.dcc_procs.specs.Built.{IsNotYet}
+use Rattle.dcc_prog.specs.Built.{IsNotYet}
 
 -- the offset is a node, with its instruction, with the successors of every trail that ends there, and, if it is INT 21h, with
 -- the number that every trail tells of AH

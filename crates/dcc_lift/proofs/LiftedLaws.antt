@@ -1,0 +1,73 @@
+-- The lifted program is to the executable what the contract says.
+use Rattle.std.proofs.Common.{◌≡◌, true, List, sym, ap, ◌∙◌, subst}
+use Rattle.std.specs.List.{list_all}
+use Rattle.dcc_run.specs.End.{is_over}
+use Rattle.dcc_prog.specs.declared.image.Image.{Image}
+use Rattle.dcc_prog.specs.declared.procedure.Layout.{Layout}
+use Rattle.dcc_prog.specs.declared.procedure.Proc.{Proc}
+use Rattle.dcc_prog.specs.MzImage.{IsLoaded}
+use Rattle.dcc_prog.specs.Layout.{HasLayout}
+use Rattle.dcc_prog.specs.Found.{AreFound}
+use Rattle.dcc_ir.specs.Tree.{Program}
+use Rattle.dcc_ir.specs.WellFormed.{is_stmt}
+use Rattle.dcc_lift.specs.Statements.{op_stmts}
+use Rattle.dcc_lift.specs.Translation.{IsTranslation}
+use Rattle.dcc_lift.specs.Lifting.{IsLiftableProcedure}
+use Rattle.dcc_lift.specs.Lifted.{RunsAsMachine, IsNeverStuck, IsLifted}
+use Rattle.dcc_lift.proofs.MirrorLaws.{values_fit}
+use Rattle.dcc_lift.proofs.OperationMirrors.{OthersMirror, op_mirrors, op_keeps, op_single, op_tested}
+use Rattle.dcc_lift.proofs.ShiftMirrors.{shift_op_mirrors}
+use Rattle.dcc_lift.proofs.ProductMirrors.{mul_op_mirrors, imul_op_mirrors, cbw_op_mirrors, cwd_op_mirrors}
+use Rattle.dcc_lift.proofs.StatementLaws.{op-well_formed, op-step}
+use Rattle.dcc_lift.proofs.ProgramLaws.{translation-well_formed, translation-shallow}
+use Rattle.dcc_lift.proofs.TranslationLaws.{translation_framed}
+use Rattle.dcc_lift.proofs.ContractionLaws.{translation_has_blocks}
+use Rattle.dcc_lift.proofs.FoundSound.{found-sound, found-liftable}
+use Rattle.dcc_lift.proofs.Standing.{AreLifted}
+use Rattle.dcc_prog.proofs.MachineEnds.{machine-not_stuck}
+use Rattle.dcc_lift.proofs.RunsLaws.{runs-alike}
+
+-- shifts, products and sign extensions
+others : OthersMirror
+others = record {
+  shift = λ s scene at number operation a by_cl fits bits m well l. shift_op_mirrors s scene at number operation a by_cl fits bits m well l;
+  mul = mul_op_mirrors;
+  imul = imul_op_mirrors;
+  cbw = λ s scene at number fits bits m. cbw_op_mirrors s scene at number fits m;
+  cwd = λ s scene at number fits bits m. cwd_op_mirrors s scene at number fits m;
+}
+
+-- all operations that are lifted do what their statements do
+pub operations-lifted : AreLifted
+operations-lifted = record {
+  mirrors = op_mirrors others;
+  fits = λ op number scene l well other bits fits. values_fit (op_stmts op number) scene (subst (λ b. list_all (is_stmt b) (op_stmts op number) ≡ true) (sym bits) (op-well_formed op number l well)) fits;
+  keeps = op_keeps;
+  single = op_single;
+  tested = λ op number at s ah scene test l well other bits fits m e. op_tested op number at s ah scene test m e;
+  runs = λ op number graphs fill rest t l well other going. op-step graphs fill op number rest t l well other going;
+}
+
+module _ (image : Image) (layout : Layout) (procs : List Proc) (loaded : IsLoaded image) (has : HasLayout image layout) (are : AreFound image layout procs) (p : Program) (translation : IsTranslation image layout are.start p) where
+  pub runs-as_machine : RunsAsMachine image p
+  runs-as_machine fill input small bytes = runs-alike operations-lifted image layout procs loaded has are p translation fill input bytes
+
+  liftable : IsLiftableProcedure image layout are.start
+  liftable = found-liftable image layout procs loaded has are
+
+  never-stuck : IsNeverStuck p
+  never-stuck fill input n entry small bytes e =
+      let same = (runs-as_machine fill input small bytes).back n in
+      let alike = same.2 (ap is_over e) in
+      machine-not_stuck image input same.0 entry (sym alike.end ∙ e)
+
+  -- what the contract says
+  pub translation-lifted : IsLifted image layout are.start p
+  translation-lifted = record {
+    framed = translation_framed image layout are.start p translation;
+    well_formed = translation-well_formed image layout are.start p liftable translation;
+    shallow = translation-shallow image layout are.start p liftable translation;
+    runs = runs-as_machine;
+    never_stuck = never-stuck;
+    blocks = translation_has_blocks image layout are.start p translation are.entry (found-sound image layout procs loaded has are);
+  }

@@ -1,0 +1,72 @@
+-- Where the instructions of a prelude stand: in ascending order from its first one, and where no instruction of the procedure
+-- stands.
+use Rattle.std.proofs.Common.{◌≡◌, ℕ, zero, suc, ◌+◌, ◌<◌, ◌≤◌, List, [], ◌∷◌, length, take, Some, slice_get, refl, subst, arith}
+use Rattle.dcc_prog.specs.declared.instr.Instr.{Instr}
+use Rattle.dcc_prog.specs.Layout.{IsFormAt, IsRun, end_of}
+use Rattle.dcc_prog.proofs.PreludeLaws.{form-inside}
+
+-- the offset of an instruction of a run, by its place, where the run begins at an offset; behind the last one, the run's end
+abbrev pub offset_in : ℕ → List Instr → ℕ → ℕ
+offset_in zero run at = at
+offset_in (suc k) [] at = at
+offset_in (suc k) (instr ∷ rest) at = offset_in k rest (at + instr.len)
+
+-- it is the end of the run's front
+pub offset-taken : (k : ℕ) (run : List Instr) (at : ℕ) → offset_in k run at ≡ end_of at (take k run)
+offset-taken zero run at = refl
+offset-taken (suc k) [] at = refl
+offset-taken (suc k) (instr ∷ rest) at = offset-taken k rest (at + instr.len)
+
+pub offset-end : (run : List Instr) (at : ℕ) → offset_in (length run) run at ≡ end_of at run
+offset-end [] at = refl
+offset-end (instr ∷ rest) at = offset-end rest (at + instr.len)
+
+-- the front of a run is one
+pub run-taken : (code : List ℕ) (k : ℕ) (run : List Instr) (at : ℕ) → IsRun code at run → IsRun code at (take k run)
+run-taken code zero run at r = tt
+run-taken code (suc k) [] at r = tt
+run-taken code (suc k) (instr ∷ rest) at r = (r.0, run-taken code k rest (at + instr.len) r.1)
+
+-- each instruction of a run stands at its offset
+pub form-at : (code : List ℕ) (k : ℕ) (run : List Instr) (at : ℕ) (instr : Instr) → IsRun code at run → slice_get run k ≡ Some instr → IsFormAt code (offset_in k run at) instr
+form-at code k [] at instr r e = absurd (cc)
+form-at code zero (first ∷ rest) at instr r e = let same : first ≡ instr = cc in subst (IsFormAt code at) same r.0
+form-at code (suc k) (first ∷ rest) at instr r e = form-at code k rest (at + first.len) instr r.1 e
+
+-- Order.
+
+pub offset-above : (code : List ℕ) (k : ℕ) (run : List Instr) (at : ℕ) → IsRun code at run → at ≤ offset_in k run at
+offset-above code zero run at r = omega arith
+offset-above code (suc k) [] at r = omega arith
+offset-above code (suc k) (instr ∷ rest) at r =
+    let further = offset-above code k rest (at + instr.len) r.1 in
+    omega (arith, further)
+
+-- the offsets ascend
+pub offset-ascends : (code : List ℕ) (j k : ℕ) (run : List Instr) (at : ℕ) → IsRun code at run → j < k → k ≤ length run → offset_in j run at < offset_in k run at
+offset-ascends code j zero run at r less inside = absurd (omega arith)
+offset-ascends code j (suc k) [] at r less inside = absurd (omega arith)
+offset-ascends code zero (suc k) (instr ∷ rest) at r less inside =
+    let some = (form-inside code at instr r.0).0 in
+    let further = offset-above code k rest (at + instr.len) r.1 in
+    omega (arith, some, further)
+offset-ascends code (suc j) (suc k) (instr ∷ rest) at r less inside =
+    offset-ascends code j k rest (at + instr.len) r.1 (omega arith) (omega arith)
+
+pub run-above : (code : List ℕ) (run : List Instr) (at : ℕ) → IsRun code at run → at ≤ end_of at run
+run-above code run at r =
+    let above = offset-above code (length run) run at r in
+    omega (arith, above, offset-end run at)
+
+-- they lie before the run's end
+pub offset-before_end : (code : List ℕ) (k : ℕ) (run : List Instr) (at : ℕ) → IsRun code at run → k < length run → offset_in k run at < end_of at run
+offset-before_end code k run at r inside =
+    let up = offset-ascends code k (length run) run at r inside (omega arith) in
+    omega (arith, up, offset-end run at)
+
+-- the first one alone is where the run begins
+pub offset-first : (code : List ℕ) (k : ℕ) (run : List Instr) (at : ℕ) → IsRun code at run → k < length run → offset_in k run at ≡ at → k ≡ 0
+offset-first code zero run at r inside same = refl
+offset-first code (suc k) run at r inside same =
+    let up = offset-ascends code 0 (suc k) run at r (omega arith) (omega arith) in
+    absurd (omega (arith, up, same))
