@@ -35,6 +35,7 @@ pub mod WantedOperations
 pub mod WantedDos
 pub mod WantedLaws
 pub mod WantedChains
+pub mod WantedFound
 pub mod DosStanding
 pub mod RunLaws
 pub mod StartLaws
