@@ -26,6 +26,16 @@ pub mod PreludeOffsets
 pub mod PreludeWords
 pub mod FoundSound
 pub mod Standing
+pub mod WantedStatements
+pub mod WantedMakes
+pub mod WantedUnary
+pub mod WantedShifts
+pub mod WantedMoves
+pub mod WantedOperations
+pub mod WantedDos
+pub mod WantedLaws
+pub mod WantedChains
+pub mod WantedFound
 pub mod DosStanding
 pub mod RunLaws
 pub mod StartLaws
