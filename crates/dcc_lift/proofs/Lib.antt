@@ -21,6 +21,7 @@ pub mod ContractionLaws
 pub mod TableLaws
 pub mod StatementLaws
 pub mod ProgramLaws
+pub mod FormLaws
 pub mod CodeBounds
 pub mod PreludeOffsets
 pub mod PreludeWords

@@ -15,6 +15,8 @@ use Rattle.dcc_ir.specs.Measure.{depth_of}
 use Rattle.dcc_ir.specs.WellFormed.{IsProgram}
 use Rattle.dcc_ir.specs.Run.{State as Inner, Place, inner_system, first_state, block_mark}
 use Rattle.dcc_ir.specs.Flow.{Flow, flow_of, flow_at, IsContraction, HaveOneEdge}
+use Rattle.dcc_lift.specs.Temporaries.{temporary_bits}
+use Rattle.dcc_lift.specs.Form.{HasForm}
 use Rattle.dcc_lift.specs.Translation.{data_image}
 
 -- Runs.
@@ -74,14 +76,17 @@ pub record HasBlocks (image : Image) (start : Proc) (p : Program) : Type 0 where
 abbrev pub IsShallow : ℕ → Graph → Type 0
 IsShallow depth graph = All (λ e. depth_of e ≤ depth) (graph_exprs graph)
 
--- what the program is made of: the first graph is that of the entry procedure, without params and without bytes of the
--- frame; the memory holds the image's data segment, and the stack is the layout's
+-- what the program is made of: the one graph is that of the entry procedure, without params, without bytes of the frame and
+-- with cells for pushes alone, and it has these temporaries; the memory holds the image's data segment, and the stack is the
+-- layout's
 pub record IsFramed (image : Image) (layout : Layout) (p : Program) : Type 0 where
   pub graph : Graph
   pub one : p.graphs ≡ graph ∷ []
   pub entry : graph.entry ≡ layout.start_ip
   pub params : graph.params ≡ []
   pub local : graph.local ≡ 0
+  pub pushed : graph.pushed ≡ 0
+  pub bits : graph.bits ≡ temporary_bits
   pub image_is : p.image ≡ data_image image layout
   pub lo : p.lo ≡ layout.lo
   pub hi : p.hi ≡ layout.hi
@@ -89,6 +94,7 @@ pub record IsFramed (image : Image) (layout : Layout) (p : Program) : Type 0 whe
 pub record IsLifted (image : Image) (layout : Layout) (start : Proc) (p : Program) : Type 0 where
   pub framed : IsFramed image layout p
   pub well_formed : IsProgram p
+  pub form : All HasForm p.graphs
   pub shallow : All (IsShallow 7) p.graphs
   pub runs : RunsAsMachine image p
   pub never_stuck : IsNeverStuck p
