@@ -23,7 +23,7 @@ use Rattle.dcc_lift.proofs.ProgramLaws.{translation-well_formed, translation-sha
 use Rattle.dcc_lift.proofs.FormLaws.{translation-form}
 use Rattle.dcc_lift.proofs.TranslationLaws.{translation_framed}
 use Rattle.dcc_lift.proofs.ContractionLaws.{translation_has_blocks}
-use Rattle.dcc_lift.proofs.FoundSound.{found-sound, found-liftable}
+use Rattle.dcc_lift.proofs.FoundSound.{found-liftable}
 use Rattle.dcc_lift.proofs.Standing.{AreLifted}
 use Rattle.dcc_prog.proofs.MachineEnds.{machine-not_stuck}
 use Rattle.dcc_lift.proofs.RunsLaws.{runs-alike}
@@ -71,5 +71,5 @@ module _ (image : Image) (layout : Layout) (procs : List Proc) (loaded : IsLoade
     shallow = translation-shallow image layout are.start p liftable translation;
     runs = runs-as_machine;
     never_stuck = never-stuck;
-    blocks = translation_has_blocks image layout are.start p translation are.entry (found-sound image layout procs loaded has are);
+    blocks = translation_has_blocks image layout are.start p translation are.entry liftable;
   }

@@ -1,13 +1,16 @@
 -- What the lifted program is to the executable.
-use Rattle.std.specs.Prelude.{◌≡◌, ◌≢◌, ◌≤◌, ◌<◌, ℕ, ◌==◌, Bool, ◌&&◌, ◌||◌, List, [], ◌∷◌, All, Option, Some, option_map}
+use Rattle.std.specs.Prelude.{◌≡◌, ◌≢◌, ◌≤◌, ◌<◌, ℕ, ◌==◌, Bool, true, ◌&&◌, ◌||◌, List, [], ◌∷◌, All, Option, Some, option_map}
 use Rattle.std.specs.List.{list_any}
 use Rattle.dcc_run.specs.End.{Stuck}
 use Rattle.dcc_run.specs.System.{end_after}
 use Rattle.dcc_run.specs.Visits.{VisitsKept}
 use Rattle.dcc_prog.specs.declared.image.Image.{Image}
+use Rattle.dcc_prog.specs.declared.procedure.Node.{Node}
 use Rattle.dcc_prog.specs.declared.procedure.Proc.{Proc}
 use Rattle.dcc_prog.specs.declared.procedure.Layout.{Layout}
+use Rattle.dcc_prog.specs.declared.instr.Op.TheVariants.{Call}
 use Rattle.dcc_prog.specs.Machine.{State as Machine, start_state}
+use Rattle.dcc_prog.specs.Trail.{next_of}
 use Rattle.dcc_prog.specs.Step.{machine_system}
 use Rattle.dcc_ir.specs.Tree.{Graph, Program}
 use Rattle.dcc_ir.specs.Use.{graph_exprs}
@@ -64,11 +67,18 @@ behind_prelude at flow = record {
   goes = λ a b. ((at == a) && (flow.start == b)) || flow.goes a b;
 }
 
+-- the instruction, a call, begins a block, and that behind it begins another
+pub record IsBlockOfCall (flow : Flow) (found : ℕ × Node) : Type 0 where
+  pub begins : flow.has found.0 ≡ true
+  pub behind : flow.has (next_of found.0 found.1.instr) ≡ true
+
 -- Every closed path of instructions holds a block. Each instruction that begins no block has one edge in, and the edges
--- of the graph are those of the instructions, with each such one taken into the one before it.
+-- of the graph are those of the instructions, with each such one taken into the one before it. A call stands alone in its
+-- block.
 pub record HasBlocks (image : Image) (start : Proc) (p : Program) : Type 0 where
   pub contraction : IsContraction (behind_prelude image.ip (procedure_flow start)) (flow_at p start.entry)
   pub one_edge : HaveOneEdge (behind_prelude image.ip (procedure_flow start)) (flow_at p start.entry)
+  pub calls : All (λ (found : ℕ × Node). (target : ℕ) → found.1.instr.op ≡ Call target → IsBlockOfCall (flow_at p start.entry) found) start.nodes.entries
 
 -- The whole.
 
