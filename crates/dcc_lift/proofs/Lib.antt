@@ -26,6 +26,7 @@ pub mod CodeBounds
 pub mod PreludeOffsets
 pub mod PreludeWords
 pub mod FoundSound
+pub mod TrailFlow
 pub mod Standing
 pub mod DosStanding
 pub mod RunLaws

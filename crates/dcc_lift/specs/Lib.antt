@@ -10,3 +10,4 @@ pub mod Translation
 pub mod Lifted
 pub mod Demand
 pub mod Lifting
+pub mod Laws
