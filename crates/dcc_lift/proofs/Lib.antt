@@ -22,6 +22,9 @@ pub mod TableLaws
 pub mod StatementLaws
 pub mod ProgramLaws
 pub mod FormLaws
+pub mod Totals
+pub mod Members
+pub mod FlagCounts
 pub mod CodeBounds
 pub mod PreludeOffsets
 pub mod PreludeWords

@@ -19,7 +19,7 @@ use Rattle.dcc_ir.specs.WellFormed.{IsProgram}
 use Rattle.dcc_ir.specs.Run.{State as Inner, Place, inner_system, first_state, block_mark}
 use Rattle.dcc_ir.specs.Flow.{Flow, flow_of, flow_at, IsContraction, HaveOneEdge}
 use Rattle.dcc_lift.specs.Temporaries.{temporary_bits}
-use Rattle.dcc_lift.specs.Form.{HasForm}
+use Rattle.dcc_lift.specs.Form.{HasForm, HasFewFlagStmts}
 use Rattle.dcc_lift.specs.Translation.{data_image}
 
 -- Runs.
@@ -105,6 +105,7 @@ pub record IsLifted (image : Image) (layout : Layout) (start : Proc) (p : Progra
   pub framed : IsFramed image layout p
   pub well_formed : IsProgram p
   pub form : All HasForm p.graphs
+  pub flags : All (HasFewFlagStmts start) p.graphs
   pub shallow : All (IsShallow 7) p.graphs
   pub runs : RunsAsMachine image p
   pub never_stuck : IsNeverStuck p
