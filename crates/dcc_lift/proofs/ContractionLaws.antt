@@ -1,18 +1,23 @@
 -- The blocks of a translation are those of the procedure's instructions: the one flow graph contracts to the other.
-use Rattle.std.proofs.Common.{◌≡◌, ◌<◌, ℕ, true, false, ◌&&◌, ◌||◌, ◌==◌, ◌⊎◌, inl, inr, List, [], ◌∷◌, refl, sym, ap, ◌∙◌, subst, eqb-true, lt_trans, arith}
+use Rattle.std.proofs.Common.{◌≡◌, ◌<◌, ℕ, true, false, ◌&&◌, ◌||◌, ◌==◌, ◌⊎◌, inl, inr, List, [], ◌∷◌, refl, sym, ap, ◌∙◌, subst, true≢false, eqb-true, lt_trans, arith}
 use Rattle.std.specs.List.{list_any}
+use Rattle.std.proofs.lemmas.List.Elements.{All-weaker}
 use Rattle.dcc_prog.specs.declared.image.Image.{Image}
 use Rattle.dcc_prog.specs.declared.procedure.Layout.{Layout}
+use Rattle.dcc_prog.specs.declared.procedure.Node.{Node}
 use Rattle.dcc_prog.specs.declared.procedure.Proc.{Proc}
+use Rattle.dcc_prog.specs.declared.instr.Op.TheVariants.{Call}
 use Rattle.dcc_ir.specs.Tree.{Goto, Block, Graph, Program}
-use Rattle.dcc_ir.specs.Flow.{Flow, first_address, flow_of, IsPath, Any, Reached, Leads, IsContraction, HaveOneEdge}
+use Rattle.dcc_ir.specs.Flow.{Flow, first_address, flow_of, flow_at, IsPath, Any, Reached, Leads, IsContraction, HaveOneEdge}
 use Rattle.dcc_ir.proofs.PathLaws.{decided, clash, or_left, or_right, path_of_none, path_last, reached_has}
 use Rattle.dcc_ir.proofs.GraphLaws.{flow_of-flow}
 use Rattle.dcc_ir.proofs.EdgeLaws.{behind_one_from_edges}
 use Rattle.dcc_lift.specs.Blocks.{Nodes, node_in, successors_in, joins, IsChain, leaders, block_place, last_of, AreBlocksAt}
 use Rattle.dcc_lift.specs.Sound.{AreSound}
 use Rattle.dcc_lift.specs.Translation.{prelude_block, IsTranslation}
-use Rattle.dcc_lift.specs.Lifted.{procedure_flow, behind_prelude, HasBlocks}
+use Rattle.dcc_lift.specs.Liftable.{is_liftable}
+use Rattle.dcc_lift.specs.Lifting.{IsLiftableNode, IsLiftableProcedure}
+use Rattle.dcc_lift.specs.Lifted.{procedure_flow, behind_prelude, IsBlockOfCall, HasBlocks}
 use Rattle.dcc_lift.proofs.ListTests.{and_left, and_right, and_both, or_here, or_there, or_cases, same_number}
 use Rattle.dcc_lift.proofs.NodeLaws.{is_node, goes_on, goes_from, goes_on_is, nodes_differ, entry_is_node, prelude_no_node, successor_is_node}
 use Rattle.dcc_lift.proofs.ChainLaws.{is_leader, has_successor, sole, IsJoined, joined, joined_from, onward_tells, edge_to_joined, leader_node, leader_begins, no_leader_joins, joins_no_leader, entry_is_leader}
@@ -220,8 +225,13 @@ module _ (nodes : Nodes) (entry prelude : ℕ) (sound : AreSound nodes entry pre
 -- The translation.
 
 module _ (image : Image) (layout : Layout) (start : Proc) (p : Program) (translation : IsTranslation image layout start p) (entry_is : start.entry ≡ layout.start_ip) where
-  pub translation_has_blocks : AreSound start.nodes.entries layout.start_ip image.ip → HasBlocks image start p
-  translation_has_blocks sound =
+  -- no call is lifted
+  no_call : (found : ℕ × Node) → IsLiftableNode found → (target : ℕ) → found.1.instr.op ≡ Call target → IsBlockOfCall (flow_at p start.entry) found
+  no_call found is target e = absurd (true≢false (sym is.lifted ∙ ap is_liftable e))
+
+  pub translation_has_blocks : IsLiftableProcedure image layout start → HasBlocks image start p
+  translation_has_blocks given =
+      let sound = given.sound in
       let first = prelude_block image layout start.nodes.entries in
       let graph = the_graph image layout start p translation in
       let flow = translation_flow image layout start p translation entry_is in
@@ -234,4 +244,5 @@ module _ (image : Image) (layout : Layout) (start : Proc) (p : Program) (transla
             (subst (λ n. IsContraction (behind_prelude image.ip (nodes_flow start.nodes.entries n)) (flow_of graph)) (sym entry_is) contracts);
         one_edge = subst (λ q. HaveOneEdge (behind_prelude image.ip (procedure_flow start)) q) (sym flow)
             (subst (λ n. HaveOneEdge (behind_prelude image.ip (nodes_flow start.nodes.entries n)) (flow_of graph)) (sym entry_is) one);
+        calls = All-weaker IsLiftableNode (λ (found : ℕ × Node). (target : ℕ) → found.1.instr.op ≡ Call target → IsBlockOfCall (flow_at p start.entry) found) no_call start.nodes.entries given.nodes;
       }

@@ -21,10 +21,15 @@ pub mod ContractionLaws
 pub mod TableLaws
 pub mod StatementLaws
 pub mod ProgramLaws
+pub mod FormLaws
+pub mod Totals
+pub mod Members
+pub mod FlagCounts
 pub mod CodeBounds
 pub mod PreludeOffsets
 pub mod PreludeWords
 pub mod FoundSound
+pub mod TrailFlow
 pub mod Standing
 pub mod WantedStatements
 pub mod WantedMakes

@@ -20,9 +20,11 @@ use Rattle.dcc_lift.proofs.ShiftMirrors.{shift_op_mirrors}
 use Rattle.dcc_lift.proofs.ProductMirrors.{mul_op_mirrors, imul_op_mirrors, cbw_op_mirrors, cwd_op_mirrors}
 use Rattle.dcc_lift.proofs.StatementLaws.{op-well_formed, op-step}
 use Rattle.dcc_lift.proofs.ProgramLaws.{translation-well_formed, translation-shallow}
+use Rattle.dcc_lift.proofs.FormLaws.{translation-form}
+use Rattle.dcc_lift.proofs.FlagCounts.{translation-few}
 use Rattle.dcc_lift.proofs.TranslationLaws.{translation_framed}
 use Rattle.dcc_lift.proofs.ContractionLaws.{translation_has_blocks}
-use Rattle.dcc_lift.proofs.FoundSound.{found-sound, found-liftable}
+use Rattle.dcc_lift.proofs.FoundSound.{found-liftable}
 use Rattle.dcc_lift.proofs.Standing.{AreLifted}
 use Rattle.dcc_prog.proofs.MachineEnds.{machine-not_stuck}
 use Rattle.dcc_lift.proofs.RunsLaws.{runs-alike}
@@ -66,8 +68,10 @@ module _ (image : Image) (layout : Layout) (procs : List Proc) (loaded : IsLoade
   translation-lifted = record {
     framed = translation_framed image layout are.start p translation;
     well_formed = translation-well_formed image layout are.start p liftable translation;
+    form = translation-form image layout are.start p liftable translation;
+    flags = translation-few image layout are.start p liftable translation;
     shallow = translation-shallow image layout are.start p liftable translation;
     runs = runs-as_machine;
     never_stuck = never-stuck;
-    blocks = translation_has_blocks image layout are.start p translation are.entry (found-sound image layout procs loaded has are);
+    blocks = translation_has_blocks image layout are.start p translation are.entry liftable;
   }

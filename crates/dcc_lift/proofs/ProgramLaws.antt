@@ -495,7 +495,7 @@ graph-well image layout start blocks given are =
     }
 
 -- of a list of one
-one_all : {X : Type 0} (P : X → Type 0) (x : X) → P x → All P (x ∷ [])
+pub one_all : {X : Type 0} (P : X → Type 0) (x : X) → P x → All P (x ∷ [])
 one_all P x h = All-cons P x [] h (All-nil P)
 
 program-well :

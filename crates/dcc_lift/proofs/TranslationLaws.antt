@@ -38,6 +38,8 @@ module _ (image : Image) (layout : Layout) (start : Proc) (p : Program) (transla
     entry = refl;
     params = refl;
     local = refl;
+    pushed = refl;
+    bits = refl;
     image_is = ap (λ (q : Program). q.image) translation.program_is;
     lo = ap (λ (q : Program). q.lo) translation.program_is;
     hi = ap (λ (q : Program). q.hi) translation.program_is;

@@ -7,7 +7,7 @@ use Rattle.dcc_ir.specs.declared.syntax.Loc.{Loc}
 use Rattle.dcc_ir.specs.declared.syntax.Loc.TheVariants.{Half, Flag}
 use Rattle.dcc_ir.specs.Tree.{Block, Graph}
 use Rattle.dcc_ir.specs.Demand.{IsWantedIn}
-use Rattle.dcc_lift.specs.Mirrors.{is_general}
+use Rattle.dcc_lift.specs.Form.{is_general}
 
 -- the location of the program that stands for one of the procedure
 abbrev pub place_of : Location → Loc

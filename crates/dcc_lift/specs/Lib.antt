@@ -1,6 +1,7 @@
 pub mod Temporaries
 pub mod Expressions
 pub mod Statements
+pub mod Form
 pub mod Mirrors
 pub mod Liftable
 pub mod Blocks
@@ -9,3 +10,4 @@ pub mod Translation
 pub mod Lifted
 pub mod Demand
 pub mod Lifting
+pub mod Laws

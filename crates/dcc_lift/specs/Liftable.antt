@@ -9,7 +9,7 @@ use Rattle.dcc_prog.specs.declared.instr.Operand.TheVariants.{Word, Byte, Const}
 use Rattle.dcc_prog.specs.declared.instr.Op.{Op}
 use Rattle.dcc_prog.specs.declared.instr.Op.TheVariants.{Alu as AluOp, Unary as UnaryOp, Shift as ShiftOp, Mov, Xchg, Plain as PlainOp, Jump, Branch, Loop, LoopE, LoopNe, Jcxz, Int21}
 use Rattle.dcc_prog.specs.Layout.{is_control}
-use Rattle.dcc_lift.specs.Mirrors.{is_general}
+use Rattle.dcc_lift.specs.Form.{is_general}
 
 -- a register whose halves are locations, or one of the halves
 abbrev pub is_register : Operand → Bool

@@ -1,13 +1,16 @@
 -- What the lifted program is to the executable.
-use Rattle.std.specs.Prelude.{◌≡◌, ◌≢◌, ◌≤◌, ◌<◌, ℕ, ◌==◌, Bool, ◌&&◌, ◌||◌, List, [], ◌∷◌, All, Option, Some, option_map}
+use Rattle.std.specs.Prelude.{◌≡◌, ◌≢◌, ◌≤◌, ◌<◌, ℕ, ◌==◌, Bool, true, ◌&&◌, ◌||◌, List, [], ◌∷◌, All, Option, Some, option_map}
 use Rattle.std.specs.List.{list_any}
 use Rattle.dcc_run.specs.End.{Stuck}
 use Rattle.dcc_run.specs.System.{end_after}
 use Rattle.dcc_run.specs.Visits.{VisitsKept}
 use Rattle.dcc_prog.specs.declared.image.Image.{Image}
+use Rattle.dcc_prog.specs.declared.procedure.Node.{Node}
 use Rattle.dcc_prog.specs.declared.procedure.Proc.{Proc}
 use Rattle.dcc_prog.specs.declared.procedure.Layout.{Layout}
+use Rattle.dcc_prog.specs.declared.instr.Op.TheVariants.{Call}
 use Rattle.dcc_prog.specs.Machine.{State as Machine, start_state}
+use Rattle.dcc_prog.specs.Trail.{next_of}
 use Rattle.dcc_prog.specs.Step.{machine_system}
 use Rattle.dcc_ir.specs.Tree.{Graph, Program}
 use Rattle.dcc_ir.specs.Use.{graph_exprs}
@@ -15,6 +18,8 @@ use Rattle.dcc_ir.specs.Measure.{depth_of}
 use Rattle.dcc_ir.specs.WellFormed.{IsProgram}
 use Rattle.dcc_ir.specs.Run.{State as Inner, Place, inner_system, first_state, block_mark}
 use Rattle.dcc_ir.specs.Flow.{Flow, flow_of, flow_at, IsContraction, HaveOneEdge}
+use Rattle.dcc_lift.specs.Temporaries.{temporary_bits}
+use Rattle.dcc_lift.specs.Form.{HasForm, HasFewFlagStmts}
 use Rattle.dcc_lift.specs.Translation.{data_image}
 
 -- Runs.
@@ -62,11 +67,18 @@ behind_prelude at flow = record {
   goes = λ a b. ((at == a) && (flow.start == b)) || flow.goes a b;
 }
 
+-- the instruction, a call, begins a block, and that behind it begins another
+pub record IsBlockOfCall (flow : Flow) (found : ℕ × Node) : Type 0 where
+  pub begins : flow.has found.0 ≡ true
+  pub behind : flow.has (next_of found.0 found.1.instr) ≡ true
+
 -- Every closed path of instructions holds a block. Each instruction that begins no block has one edge in, and the edges
--- of the graph are those of the instructions, with each such one taken into the one before it.
+-- of the graph are those of the instructions, with each such one taken into the one before it. A call stands alone in its
+-- block.
 pub record HasBlocks (image : Image) (start : Proc) (p : Program) : Type 0 where
   pub contraction : IsContraction (behind_prelude image.ip (procedure_flow start)) (flow_at p start.entry)
   pub one_edge : HaveOneEdge (behind_prelude image.ip (procedure_flow start)) (flow_at p start.entry)
+  pub calls : All (λ (found : ℕ × Node). (target : ℕ) → found.1.instr.op ≡ Call target → IsBlockOfCall (flow_at p start.entry) found) start.nodes.entries
 
 -- The whole.
 
@@ -74,14 +86,17 @@ pub record HasBlocks (image : Image) (start : Proc) (p : Program) : Type 0 where
 abbrev pub IsShallow : ℕ → Graph → Type 0
 IsShallow depth graph = All (λ e. depth_of e ≤ depth) (graph_exprs graph)
 
--- what the program is made of: the first graph is that of the entry procedure, without params and without bytes of the
--- frame; the memory holds the image's data segment, and the stack is the layout's
+-- what the program is made of: the one graph is that of the entry procedure, without params, without bytes of the frame and
+-- with cells for pushes alone, and it has these temporaries; the memory holds the image's data segment, and the stack is the
+-- layout's
 pub record IsFramed (image : Image) (layout : Layout) (p : Program) : Type 0 where
   pub graph : Graph
   pub one : p.graphs ≡ graph ∷ []
   pub entry : graph.entry ≡ layout.start_ip
   pub params : graph.params ≡ []
   pub local : graph.local ≡ 0
+  pub pushed : graph.pushed ≡ 0
+  pub bits : graph.bits ≡ temporary_bits
   pub image_is : p.image ≡ data_image image layout
   pub lo : p.lo ≡ layout.lo
   pub hi : p.hi ≡ layout.hi
@@ -89,6 +104,8 @@ pub record IsFramed (image : Image) (layout : Layout) (p : Program) : Type 0 whe
 pub record IsLifted (image : Image) (layout : Layout) (start : Proc) (p : Program) : Type 0 where
   pub framed : IsFramed image layout p
   pub well_formed : IsProgram p
+  pub form : All HasForm p.graphs
+  pub flags : All (HasFewFlagStmts start) p.graphs
   pub shallow : All (IsShallow 7) p.graphs
   pub runs : RunsAsMachine image p
   pub never_stuck : IsNeverStuck p

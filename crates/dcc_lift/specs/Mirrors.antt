@@ -1,9 +1,8 @@
 -- How the values of locations stand for the machine's registers and flags. This stands between the runs; the public contract
 -- tells visits, outputs and ends.
-use Rattle.std.specs.Prelude.{◌≡◌, ◌+◌, ◌*◌, Bool, true, false, List, [], ◌∷◌, length}
+use Rattle.std.specs.Prelude.{◌≡◌, ◌+◌, ◌*◌, true, List, [], ◌∷◌, length}
 use Rattle.std.specs.Int.{from_bool}
 use Rattle.dcc_num.specs.declared.Reg.{Reg}
-use Rattle.dcc_num.specs.declared.Reg.TheVariants.{Sp, Bp}
 use Rattle.dcc_num.specs.declared.Half.TheVariants.{Low, High}
 use Rattle.dcc_num.specs.declared.FlagName.TheVariants.{Cf, Zf, Sf, Of}
 use Rattle.dcc_prog.specs.Machine.{State, word_in}
@@ -11,12 +10,7 @@ use Rattle.dcc_ir.specs.declared.syntax.Loc.TheVariants.{Half, Flag}
 use Rattle.dcc_ir.specs.Location.{Values, with_value}
 use Rattle.dcc_ir.specs.Tree.{Stmt, Set}
 use Rattle.dcc_ir.specs.Value.{Scene, value_of}
-
--- a word register whose halves are locations: all but SP and BP
-abbrev pub is_general : Reg → Bool
-is_general Sp = false
-is_general Bp = false
-is_general r = true
+pub use Rattle.dcc_lift.specs.Form.{is_general}
 
 -- the halves hold the bytes of the registers, and the flags the flags
 pub record Mirrors (s : State) (values : Values) : Type 0 where

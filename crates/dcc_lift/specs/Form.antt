@@ -1,0 +1,113 @@
+-- The form of the lifted program: its locations are halves of word registers, flags and temporaries, and it neither reads nor
+-- writes memory. Each statement sets a location or is a DOS call, and each block goes on, parts by a test, or stops. Few of
+-- the statements are on flags.
+use Rattle.std.specs.Prelude.{◌≡◌, ◌≤◌, ℕ, Bool, true, false, ◌&&◌, ◌||◌, not, List, [], ◌∷◌, flat_map, option_to_list, sum_by, count_by}
+use Rattle.std.specs.List.{list_any, list_all}
+use Rattle.dcc_num.specs.declared.Reg.{Reg}
+use Rattle.dcc_num.specs.declared.Reg.TheVariants.{Sp, Bp}
+use Rattle.dcc_num.specs.declared.FlagName.TheVariants.{Cf, Zf, Sf, Of}
+use Rattle.dcc_prog.specs.declared.procedure.Node.{Node}
+use Rattle.dcc_prog.specs.declared.procedure.Proc.{Proc}
+use Rattle.dcc_prog.specs.declared.instr.Op.{Op}
+use Rattle.dcc_prog.specs.declared.instr.Op.TheVariants.{Alu as AluOp, Shift as ShiftOp}
+use Rattle.dcc_prog.specs.Writes.{writes_flag}
+use Rattle.dcc_prog.specs.Wanted.{takes_carry, is_turn}
+use Rattle.dcc_ir.specs.declared.syntax.Loc.{Loc}
+use Rattle.dcc_ir.specs.declared.syntax.Loc.TheVariants.{Half, Flag, Cell}
+use Rattle.dcc_ir.specs.Tree.{Expr, Get, Load, Address, Stmt, Set, Fetch, Div, Dos, Exit, Goto, If, Stop, Block, Graph}
+use Rattle.dcc_ir.specs.Use.{parts_of, writes_of}
+use Rattle.dcc_ir.specs.Measure.{is_truth}
+
+-- a word register whose halves are locations: all but SP and BP
+abbrev pub is_general : Reg → Bool
+is_general Sp = false
+is_general Bp = false
+is_general r = true
+
+-- a half of such a register, a flag or a temporary
+abbrev pub is_lifted_location : Loc → Bool
+is_lifted_location (Half r half) = is_general r
+is_lifted_location (Cell number half) = false
+is_lifted_location location = true
+
+-- a part of an expression: it may read such a location, but no memory, and it takes no address
+abbrev pub is_lifted_part : Expr → Bool
+is_lifted_part (Get location) = is_lifted_location location
+is_lifted_part (Load width address) = false
+is_lifted_part (Address distance) = false
+is_lifted_part e = true
+
+abbrev pub is_lifted_expr : Expr → Bool
+is_lifted_expr e = list_all is_lifted_part (parts_of e)
+
+-- it sets a location, or it is a DOS call
+abbrev pub is_lifted_stmt : Stmt → Bool
+is_lifted_stmt (Set location e) = is_lifted_location location && is_lifted_expr e
+is_lifted_stmt (Dos number place argument) =
+    list_all is_lifted_location (option_to_list place) && list_all is_lifted_expr (option_to_list argument)
+is_lifted_stmt stmt = false
+
+-- it goes to a block, to one of two by a test, or nowhere
+abbrev pub is_lifted_exit : Exit → Bool
+is_lifted_exit (Goto place) = true
+is_lifted_exit (If test one other) = is_lifted_expr test
+is_lifted_exit Stop = true
+is_lifted_exit exit = false
+
+abbrev pub is_lifted_block : Block → Bool
+is_lifted_block block = list_all is_lifted_stmt block.stmts && is_lifted_exit block.exit
+
+-- all blocks of a graph
+pub record HasForm (graph : Graph) : Type 0 where
+  pub blocks : list_all is_lifted_block graph.blocks ≡ true
+
+-- Statements on flags.
+
+-- a part that reads a flag
+abbrev pub is_flag_read : Expr → Bool
+is_flag_read (Get (Flag flag)) = true
+is_flag_read e = false
+
+-- the expression reads a flag or holds a truth node
+abbrev pub is_on_flags : Expr → Bool
+is_on_flags e = list_any (λ part. is_flag_read part || is_truth part) (parts_of e)
+
+-- so does the one that the statement sets, loads by or divides
+abbrev pub is_flag_stmt : Stmt → Bool
+is_flag_stmt (Set location e) = is_on_flags e
+is_flag_stmt (Fetch location width address) = is_on_flags address
+is_flag_stmt (Div location e) = is_on_flags e
+is_flag_stmt stmt = false
+
+abbrev pub is_flag_location : Loc → Bool
+is_flag_location (Flag flag) = true
+is_flag_location location = false
+
+abbrev pub sets_flag : Stmt → Bool
+sets_flag stmt = list_any is_flag_location (writes_of stmt)
+
+-- a statement on flags that sets one, and one that sets none
+abbrev pub is_flag_setter : Stmt → Bool
+is_flag_setter stmt = sets_flag stmt && is_flag_stmt stmt
+
+abbrev pub is_other_flag_stmt : Stmt → Bool
+is_other_flag_stmt stmt = not (sets_flag stmt) && is_flag_stmt stmt
+
+-- how many flags the operation may write
+abbrev pub flags_written : Op → ℕ
+flags_written op = count_by (writes_flag op) (Cf ∷ Zf ∷ Sf ∷ Of ∷ [])
+
+-- ADC, SBB, RCL and RCR: CF goes into their result
+abbrev pub has_carry_in : Op → Bool
+has_carry_in (AluOp operation a b) = takes_carry operation
+has_carry_in (ShiftOp operation a by_cl) = is_turn operation
+has_carry_in op = false
+
+abbrev pub graph_stmts : Graph → List Stmt
+graph_stmts graph = flat_map (λ block. block.stmts) graph.blocks
+
+-- Statements on flags that set one are no more than the flags that the procedure's operations may write, added up over its
+-- instructions; the others are no more than its ADCs, SBBs, RCLs and RCRs.
+pub record HasFewFlagStmts (proc : Proc) (graph : Graph) : Type 0 where
+  pub setters : count_by is_flag_setter (graph_stmts graph) ≤ sum_by (λ (found : ℕ × Node). flags_written found.1.instr.op) proc.nodes.entries
+  pub others : count_by is_other_flag_stmt (graph_stmts graph) ≤ count_by (λ (found : ℕ × Node). has_carry_in found.1.instr.op) proc.nodes.entries

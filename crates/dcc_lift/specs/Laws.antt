@@ -1,0 +1,21 @@
+-- Laws of what the contract speaks of.
+use Rattle.std.specs.Prelude.{◌≡◌, ℕ, true, ◌↔◌, List}
+use Rattle.dcc_prog.specs.declared.image.Image.{Image}
+use Rattle.dcc_prog.specs.declared.procedure.Layout.{Layout}
+use Rattle.dcc_prog.specs.declared.procedure.Proc.{Proc}
+use Rattle.dcc_prog.specs.Trail.{IsNode, IsEdge}
+use Rattle.dcc_prog.specs.Found.{AreFound}
+use Rattle.dcc_ir.specs.Flow.{Flow}
+use Rattle.dcc_lift.specs.Lifted.{procedure_flow}
+
+-- a flow graph has the nodes and the edges of the trails from an entry
+pub record IsFlowOfTrails (image : Image) (layout : Layout) (entry : ℕ) (flow : Flow) : Type 0 where
+  pub start : flow.start ≡ entry
+  pub nodes : (a : ℕ) → (flow.has a ≡ true) ↔ IsNode image layout entry a
+  pub edges : (a b : ℕ) → (flow.goes a b ≡ true) ↔ IsEdge image layout entry a b
+
+-- the flow graph of the procedure that is found is that of the trails from the entry behind the prelude
+abbrev pub FlowIsOfTrails : Type 0
+FlowIsOfTrails =
+    (image : Image) (layout : Layout) (procs : List Proc) → (are : AreFound image layout procs)
+    → IsFlowOfTrails image layout layout.start_ip (procedure_flow are.start)
