@@ -1,5 +1,5 @@
 -- The lifted program is to the executable what the contract says.
-use Rattle.std.proofs.Common.{◌≡◌, true, List, sym, ap, ◌∙◌, subst}
+use Rattle.std.proofs.Common.{All, ◌≡◌, true, List, [], sym, ap, ◌∙◌, subst}
 use Rattle.std.specs.List.{list_all}
 use Rattle.dcc_run.specs.End.{is_over}
 use Rattle.dcc_prog.specs.declared.image.Image.{Image}
@@ -13,7 +13,7 @@ use Rattle.dcc_ir.specs.WellFormed.{is_stmt}
 use Rattle.dcc_lift.specs.Statements.{op_stmts}
 use Rattle.dcc_lift.specs.Translation.{IsTranslation}
 use Rattle.dcc_lift.specs.Lifting.{IsLiftableProcedure}
-use Rattle.dcc_lift.specs.Lifted.{RunsAsMachine, IsNeverStuck, IsLifted}
+use Rattle.dcc_lift.specs.Lifted.{RunsAsMachine, IsNeverStuck, IsLifted, IsLiftOf}
 use Rattle.dcc_lift.proofs.MirrorLaws.{values_fit}
 use Rattle.dcc_lift.proofs.OperationMirrors.{OthersMirror, op_mirrors, op_keeps, op_single, op_tested}
 use Rattle.dcc_lift.proofs.ShiftMirrors.{shift_op_mirrors}
@@ -27,6 +27,9 @@ use Rattle.dcc_lift.proofs.ContractionLaws.{translation_has_blocks}
 use Rattle.dcc_lift.proofs.FoundSound.{found-liftable}
 use Rattle.dcc_lift.proofs.Standing.{AreLifted}
 use Rattle.dcc_prog.proofs.MachineEnds.{machine-not_stuck}
+use Rattle.dcc_lift.specs.Demand.{WantsTheSame}
+use Rattle.dcc_lift.proofs.WantedFound.{found_wants}
+use Rattle.std.proofs.lemmas.List.Elements.{All-cons, All-nil}
 use Rattle.dcc_lift.proofs.RunsLaws.{runs-alike}
 
 -- shifts, products and sign extensions
@@ -74,4 +77,11 @@ module _ (image : Image) (layout : Layout) (procs : List Proc) (loaded : IsLoade
     runs = runs-as_machine;
     never_stuck = never-stuck;
     blocks = translation_has_blocks image layout are.start p translation are.entry liftable;
+    wanted =
+        let framed = translation_framed image layout are.start p translation in
+        subst (All (WantsTheSame image layout)) (sym framed.one) (All-cons (WantsTheSame image layout) framed.graph [] (found_wants image layout procs loaded has are p translation framed.graph framed.one) (All-nil (WantsTheSame image layout)));
   }
+
+  -- the same of the one procedure
+  pub translation-lift_of : IsLiftOf image layout procs p
+  translation-lift_of = record { start = are.start; one = are.one; lifted = translation-lifted }

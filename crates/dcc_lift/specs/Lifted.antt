@@ -19,6 +19,7 @@ use Rattle.dcc_ir.specs.WellFormed.{IsProgram}
 use Rattle.dcc_ir.specs.Run.{State as Inner, Place, inner_system, first_state, block_mark}
 use Rattle.dcc_ir.specs.Flow.{Flow, flow_of, flow_at, IsContraction, HaveOneEdge}
 use Rattle.dcc_lift.specs.Temporaries.{temporary_bits}
+use Rattle.dcc_lift.specs.Demand.{WantsTheSame}
 use Rattle.dcc_lift.specs.Form.{HasForm, HasFewFlagStmts}
 use Rattle.dcc_lift.specs.Translation.{data_image}
 
@@ -110,3 +111,10 @@ pub record IsLifted (image : Image) (layout : Layout) (start : Proc) (p : Progra
   pub runs : RunsAsMachine image p
   pub never_stuck : IsNeverStuck p
   pub blocks : HasBlocks image start p
+  pub wanted : All (WantsTheSame image layout) p.graphs
+
+-- the same of the one procedure that is found
+pub record IsLiftOf (image : Image) (layout : Layout) (procs : List Proc) (p : Program) : Type 0 where
+  pub start : Proc
+  pub one : procs ≡ start ∷ []
+  pub lifted : IsLifted image layout start p
