@@ -46,3 +46,7 @@ pub mod RunLaws
 pub mod StartLaws
 pub mod RunsLaws
 pub mod LiftedLaws
+pub mod IncomingLaws
+pub mod LeaderLaws
+pub mod BegunLaws
+pub mod StartingLaws

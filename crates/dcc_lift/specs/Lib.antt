@@ -11,3 +11,7 @@ pub mod Lifted
 pub mod Demand
 pub mod Lifting
 pub mod Laws
+pub mod Incoming
+pub mod Writing
+pub mod Known
+pub mod Graphs

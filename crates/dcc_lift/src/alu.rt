@@ -1,0 +1,182 @@
+//! Operations on two operands, and those on one that work as them.
+
+ghost use Rattle.std.specs.Prelude.{◌≡◌, ◌++◌, OnOk};
+ghost use Rattle.dcc_lift.specs.Statements as spec;
+ghost use Rattle.dcc_lift.specs.Writing.{written};
+
+use crate::expression::{bit, bits};
+use crate::operand::operand_width;
+use crate::writer::Writer;
+use dcc_ir::{BinOp, UnOp};
+use dcc_num::Width;
+use dcc_prog::{Alu, Operand, Unary};
+use std::alloc::AllocError;
+
+impl Writer {
+    // The flags of a sum, but for CF.
+    fn sum_flags(&mut self, w: Width) -> Result<(), AllocError>
+        ensures { OnOk result (written self.new ≡ written self.old ++ spec.sum_flags w) }
+    {
+        let maker = self.maker(w);
+        let negative = maker.sign(maker.result())?;
+        let zero = maker.is_zero(maker.result())?;
+        self.take_flags(maker.sum_overflow()?, negative, zero)
+    }
+
+    // The flags of a difference, but for CF.
+    fn difference_flags(&mut self, w: Width) -> Result<(), AllocError>
+        ensures { OnOk result (written self.new ≡ written self.old ++ spec.difference_flags w) }
+    {
+        let maker = self.maker(w);
+        let negative = maker.sign(maker.result())?;
+        let zero = maker.combined(BinOp::Eq)?;
+        self.take_flags(maker.difference_overflow()?, negative, zero)
+    }
+
+    // A sum.
+    fn add(&mut self, w: Width) -> Result<(), AllocError>
+        ensures { OnOk result (written self.new ≡ written self.old ++ spec.alu_working Alu.Add w) }
+    {
+        let maker = self.maker(w);
+        self.take_result(w, maker.sum()?)?;
+        self.sum_flags(w)?;
+        self.take_carry(maker.carry_out()?)
+    }
+
+    // A sum with the carry.
+    fn add_with_carry(&mut self, w: Width) -> Result<(), AllocError>
+        ensures { OnOk result (written self.new ≡ written self.old ++ spec.alu_working Alu.Adc w) }
+    {
+        let maker = self.maker(w);
+        self.take_result(w, maker.sum_and_carry()?)?;
+        self.sum_flags(w)?;
+        self.take_carry(maker.carry_out_of_both()?)
+    }
+
+    // A difference.
+    fn subtract(&mut self, w: Width) -> Result<(), AllocError>
+        ensures { OnOk result (written self.new ≡ written self.old ++ spec.subtracting w) }
+    {
+        let maker = self.maker(w);
+        self.take_result(w, maker.difference()?)?;
+        self.difference_flags(w)?;
+        self.take_carry(maker.borrow_out()?)
+    }
+
+    // A difference with the borrow.
+    fn subtract_with_borrow(&mut self, w: Width) -> Result<(), AllocError>
+        ensures { OnOk result (written self.new ≡ written self.old ++ spec.alu_working Alu.Sbb w) }
+    {
+        let maker = self.maker(w);
+        self.take_result(w, maker.difference_and_borrow()?)?;
+        let negative = maker.sign(maker.result())?;
+        let zero = maker.is_zero(maker.result())?;
+        self.take_flags(maker.difference_overflow_of_both()?, negative, zero)?;
+        self.take_carry(maker.borrow_out_of_both()?)
+    }
+
+    // An operation on single bits.
+    fn combine(&mut self, w: Width, operator: BinOp) -> Result<(), AllocError>
+        ensures { OnOk result (written self.new ≡ written self.old ++ spec.combining w operator) }
+    {
+        let maker = self.maker(w);
+        self.take_result(w, maker.combined(operator)?)?;
+        let negative = maker.sign(maker.result())?;
+        let zero = maker.is_zero(maker.result())?;
+        self.take_flags(bit(false), negative, zero)?;
+        self.take_carry(bit(false))
+    }
+
+    // What an operation does to the result and the flags.
+    fn alu_working(&mut self, operation: Alu, w: Width) -> Result<(), AllocError>
+        ensures { OnOk result (written self.new ≡ written self.old ++ spec.alu_working operation w) }
+    {
+        match operation {
+            Alu::Add => self.add(w),
+            Alu::Adc => self.add_with_carry(w),
+            Alu::Sub | Alu::Cmp => self.subtract(w),
+            Alu::Sbb => self.subtract_with_borrow(w),
+            Alu::And | Alu::Test => self.combine(w, BinOp::And),
+            Alu::Or => self.combine(w, BinOp::Or),
+            Alu::Xor => self.combine(w, BinOp::Xor),
+        }
+    }
+
+    // The operand takes the result, except of CMP and TEST.
+    fn alu_storing(&mut self, operation: Alu, a: Operand) -> Result<(), AllocError>
+        ensures { OnOk result (written self.new ≡ written self.old ++ spec.alu_storing operation a) }
+    {
+        match operation {
+            Alu::Cmp | Alu::Test => Ok(()),
+            _ => self.store(a),
+        }
+    }
+
+    /// An operation on two operands.
+    pub fn alu(&mut self, operation: Alu, a: Operand, b: Operand) -> Result<(), AllocError>
+        ensures { OnOk result (written self.new ≡ written self.old ++ spec.alu_stmts operation a b) }
+    {
+        let w = operand_width(a);
+        let maker = self.maker(w);
+        self.take_operands(w, maker.operand(a)?, maker.operand(b)?)?;
+        self.alu_working(operation, w)?;
+        self.alu_storing(operation, a)
+    }
+
+    // INC.
+    fn increment(&mut self, w: Width, a: Operand) -> Result<(), AllocError>
+        ensures { OnOk result (written self.new ≡ written self.old ++ spec.unary_stmts Unary.Inc w a) }
+    {
+        let maker = self.maker(w);
+        self.take_operands(w, maker.operand(a)?, maker.number(1))?;
+        self.take_result(w, maker.sum()?)?;
+        self.sum_flags(w)?;
+        self.store(a)
+    }
+
+    // DEC.
+    fn decrement(&mut self, w: Width, a: Operand) -> Result<(), AllocError>
+        ensures { OnOk result (written self.new ≡ written self.old ++ spec.unary_stmts Unary.Dec w a) }
+    {
+        let maker = self.maker(w);
+        self.take_operands(w, maker.operand(a)?, maker.number(1))?;
+        self.take_result(w, maker.difference()?)?;
+        self.difference_flags(w)?;
+        self.store(a)
+    }
+
+    // NEG.
+    fn negate(&mut self, w: Width, a: Operand) -> Result<(), AllocError>
+        ensures { OnOk result (written self.new ≡ written self.old ++ spec.unary_stmts Unary.Neg w a) }
+    {
+        let maker = self.maker(w);
+        self.take_operands(w, maker.number(0), maker.operand(a)?)?;
+        self.subtract(w)?;
+        self.store(a)
+    }
+
+    // NOT.
+    fn complement(&mut self, w: Width, a: Operand) -> Result<(), AllocError>
+        ensures { OnOk result (written self.new ≡ written self.old ++ spec.unary_stmts Unary.Not w a) }
+    {
+        let maker = self.maker(w);
+        let complement = maker.unary(UnOp::Not, bits(w), maker.operand(a)?)?;
+        self.take_result(w, complement)?;
+        self.store(a)
+    }
+
+    /// An operation on one operand of that width. Divisions are refused before.
+    pub fn unary(&mut self, operation: Unary, w: Width, a: Operand) -> Result<(), AllocError>
+        ensures { OnOk result (written self.new ≡ written self.old ++ spec.unary_stmts operation w a) }
+    {
+        match operation {
+            Unary::Inc => self.increment(w, a),
+            Unary::Dec => self.decrement(w, a),
+            Unary::Neg => self.negate(w, a),
+            Unary::Not => self.complement(w, a),
+            Unary::Mul => self.multiply(w, false, a),
+            Unary::Imul => self.multiply(w, true, a),
+            Unary::Div | Unary::Idiv => Ok(()),
+        }
+    }
+}

@@ -1,0 +1,76 @@
+//! Products.
+
+ghost use Rattle.std.specs.Prelude.{◌≡◌, ◌++◌, true, OnOk, IfOk};
+ghost use Rattle.dcc_ir.specs.Views.{expr_of};
+ghost use Rattle.dcc_lift.specs.Expressions as expressions;
+ghost use Rattle.dcc_lift.specs.Statements as spec;
+ghost use Rattle.dcc_lift.specs.Writing.{written};
+
+use crate::expression::{Maker, bit, bits, product_place};
+use crate::writer::Writer;
+use dcc_ir::{BinOp, Expr};
+use dcc_num::{Reg, Width};
+use dcc_prog::Operand;
+use std::alloc::AllocError;
+
+impl Maker {
+    // The product of the operands, of twice the width.
+    fn multiplied(self, signed: bool) -> Result<Expr, AllocError>
+        ensures { IfOk result (λ e. expr_of e ≡ expressions.multiplied self.w signed) }
+    {
+        let double = 2 * bits(self.w);
+        let left = self.widen(signed, double, self.left())?;
+        let right = self.widen(signed, double, self.right())?;
+        self.binary(BinOp::Mul, double, left, right)
+    }
+
+    // The product is not that of the numbers in its lower half, by their signs.
+    fn needs_signed_upper_half(self) -> Result<Expr, AllocError>
+        ensures { IfOk result (λ e. expr_of e ≡ expressions.needs_upper_half self.w true) }
+    {
+        let double = 2 * bits(self.w);
+        let low = self.part(bits(self.w), 0, self.product())?;
+        let extended = self.widen(true, double, low)?;
+        let same = self.binary(BinOp::Eq, double, extended, self.product())?;
+        self.negated(same)
+    }
+
+    // The product needs its upper half.
+    fn needs_upper_half(self, signed: bool) -> Result<Expr, AllocError>
+        ensures { IfOk result (λ e. expr_of e ≡ expressions.needs_upper_half self.w signed) }
+    {
+        if signed {
+            return self.needs_signed_upper_half();
+        }
+        let high = self.part(bits(self.w), bits(self.w), self.product())?;
+        self.at_width(BinOp::LtU, self.number(0), high)
+    }
+}
+
+impl Writer {
+    // AX, or DX and AX, take the product.
+    fn store_product(&mut self, w: Width) -> Result<(), AllocError>
+        ensures { OnOk result (written self.new ≡ written self.old ++ spec.product_storing w) }
+    {
+        let product = product_place(w);
+        match w {
+            Width::Byte => self.take_word(Reg::Ax, 0, product),
+            Width::Word => {
+                self.take_word(Reg::Ax, 0, product)?;
+                self.take_word(Reg::Dx, 16, product)
+            }
+        }
+    }
+
+    /// MUL, or IMUL where the numbers are signed.
+    pub fn multiply(&mut self, w: Width, signed: bool, a: Operand) -> Result<(), AllocError>
+        ensures { OnOk result (written self.new ≡ written self.old ++ spec.multiplying w signed a) }
+    {
+        let maker = self.maker(w);
+        self.take_operands(w, maker.accumulator()?, maker.operand(a)?)?;
+        self.set(product_place(w), maker.multiplied(signed)?)?;
+        self.take_flags(maker.needs_upper_half(signed)?, bit(false), bit(false))?;
+        self.take_carry(maker.needs_upper_half(signed)?)?;
+        self.store_product(w)
+    }
+}

@@ -1,0 +1,281 @@
+//! Shifts and rotates. The right operand is the count.
+
+ghost use Rattle.std.specs.Prelude.{◌≡◌, ◌++◌, false, OnOk, IfOk};
+ghost use Rattle.dcc_prog.specs.Machine as machine;
+ghost use Rattle.dcc_ir.specs.Views.{expr_of};
+ghost use Rattle.dcc_ir.specs.Tree as tree;
+ghost use Rattle.dcc_lift.specs.Expressions as expressions;
+ghost use Rattle.dcc_lift.specs.Statements as spec;
+ghost use Rattle.dcc_lift.specs.Writing.{written};
+
+use crate::expression::{Maker, bit, bits, flag, half};
+use crate::operand::operand_width;
+use crate::writer::Writer;
+use dcc_ir::{BinOp, Expr, Loc};
+use dcc_num::{FlagName, Half, Reg, Width};
+use dcc_prog::{Operand, Shift};
+use std::alloc::AllocError;
+
+impl Maker {
+    // CL as a number of the width.
+    fn cl(self) -> Result<Expr, AllocError>
+        ensures { IfOk result (λ e. expr_of e ≡ expressions.cl_at self.w) }
+    {
+        let cl = half(Reg::Cx, Half::Low);
+        match self.w {
+            Width::Byte => Ok(cl),
+            Width::Word => self.widen(false, 16, cl),
+        }
+    }
+
+    // The count: CL or 1.
+    fn count(self, by_cl: bool) -> Result<Expr, AllocError>
+        ensures { IfOk result (λ e. expr_of e ≡ expressions.count self.w by_cl) }
+    {
+        if by_cl { self.cl() } else { Ok(self.number(1)) }
+    }
+
+    // A flag, which stays where the count is in CL and 0.
+    fn unless_zero(self, by_cl: bool, f: FlagName, e: Expr) -> Result<Expr, AllocError>
+        ensures { IfOk result (λ set. expr_of set ≡ expressions.unless_zero self.w by_cl f (expr_of e)) }
+    {
+        if by_cl {
+            let stays = self.is_zero(self.right())?;
+            self.choose(stays, flag(f), e)
+        } else {
+            Ok(e)
+        }
+    }
+
+    // A bit for a count of 1; for others it is 0.
+    fn if_one(self, by_cl: bool, e: Expr) -> Result<Expr, AllocError>
+        ensures { IfOk result (λ bit. expr_of bit ≡ expressions.if_one self.w by_cl (expr_of e)) }
+    {
+        if by_cl {
+            let one = self.at_width(BinOp::Eq, self.right(), self.number(1))?;
+            self.binary(BinOp::And, 1, one, e)
+        } else {
+            Ok(e)
+        }
+    }
+
+    // The operand but for the last place of the shift.
+    fn nearly_shifted(self, operator: BinOp) -> Result<Expr, AllocError>
+        ensures { IfOk result (λ e. expr_of e ≡ expressions.nearly_shifted operator self.w) }
+    {
+        let places = self.at_width(BinOp::Sub, self.right(), self.number(1))?;
+        self.at_width(operator, self.left(), places)
+    }
+
+    // How many places a rotate moves the bits.
+    fn turn(self) -> Result<Expr, AllocError>
+        ensures { IfOk result (λ e. expr_of e ≡ expressions.turn self.w) }
+    {
+        let last = self.number(u32::from(bits(self.w)) - 1);
+        self.at_width(BinOp::And, self.right(), last)
+    }
+
+    // What is missing to a whole turn.
+    fn rest_of_turn(self) -> Result<Expr, AllocError>
+        ensures { IfOk result (λ e. expr_of e ≡ expressions.rest_of_turn self.w) }
+    {
+        let whole = self.number(u32::from(bits(self.w)));
+        self.at_width(BinOp::Sub, whole, self.turn()?)
+    }
+
+    // The operand rotated to the left.
+    fn rotated_left(self) -> Result<Expr, AllocError>
+        ensures { IfOk result (λ e. expr_of e ≡ expressions.rotated_left self.w) }
+    {
+        let high = self.at_width(BinOp::Shl, self.left(), self.turn()?)?;
+        let low = self.at_width(BinOp::Shr, self.left(), self.rest_of_turn()?)?;
+        self.at_width(BinOp::Or, high, low)
+    }
+
+    // The operand rotated to the right.
+    fn rotated_right(self) -> Result<Expr, AllocError>
+        ensures { IfOk result (λ e. expr_of e ≡ expressions.rotated_right self.w) }
+    {
+        let low = self.at_width(BinOp::Shr, self.left(), self.turn()?)?;
+        let high = self.at_width(BinOp::Shl, self.left(), self.rest_of_turn()?)?;
+        self.at_width(BinOp::Or, low, high)
+    }
+
+    // The operand rotated to the left by one place, through CF.
+    fn turned_left(self) -> Result<Expr, AllocError>
+        ensures { IfOk result (λ e. expr_of e ≡ expressions.turned_left self.w) }
+    {
+        let high = self.at_width(BinOp::Shl, self.left(), self.number(1))?;
+        self.at_width(BinOp::Or, high, self.carry()?)
+    }
+
+    // The operand rotated to the right by one place, through CF.
+    fn turned_right(self) -> Result<Expr, AllocError>
+        ensures { IfOk result (λ e. expr_of e ≡ expressions.turned_right self.w) }
+    {
+        let last = self.number(u32::from(bits(self.w)) - 1);
+        let low = self.at_width(BinOp::Shr, self.left(), self.number(1))?;
+        let high = self.at_width(BinOp::Shl, self.carry()?, last)?;
+        self.at_width(BinOp::Or, low, high)
+    }
+
+    // One bit differs from the sign of the result.
+    fn differs_from_sign(self, e: Expr) -> Result<Expr, AllocError>
+        ensures { IfOk result (λ bit. expr_of bit
+            ≡ tree.Binary BinOp.Xor 1 (expr_of e) (expressions.sign self.w (expressions.result self.w))) }
+    {
+        self.binary(BinOp::Xor, 1, e, self.sign(self.result())?)
+    }
+
+    // The two highest bits of the result differ.
+    fn top_bits_differ(self) -> Result<Expr, AllocError>
+        ensures { IfOk result (λ bit. expr_of bit
+            ≡ tree.Binary BinOp.Xor 1 (expressions.sign self.w (expressions.result self.w)) (expressions.below_sign self.w (expressions.result self.w))) }
+    {
+        let sign = self.sign(self.result())?;
+        self.binary(BinOp::Xor, 1, sign, self.below_sign(self.result())?)
+    }
+}
+
+impl Writer {
+    // The flags of a shift.
+    fn shift_flags(
+        &mut self,
+        w: Width,
+        by_cl: bool,
+        overflow: Expr,
+        carry: Expr,
+    ) -> Result<(), AllocError>
+        ensures { OnOk result (written self.new
+            ≡ written self.old ++ spec.shift_flags w by_cl (expr_of overflow) (expr_of carry)) }
+    {
+        let maker = self.maker(w);
+        let overflow = maker.unless_zero(by_cl, FlagName::Of, overflow)?;
+        let negative = maker.unless_zero(by_cl, FlagName::Sf, maker.sign(maker.result())?)?;
+        let zero = maker.unless_zero(by_cl, FlagName::Zf, maker.is_zero(maker.result())?)?;
+        self.take_flags(overflow, negative, zero)?;
+        self.take_carry(maker.unless_zero(by_cl, FlagName::Cf, carry)?)
+    }
+
+    // Those of a rotate.
+    fn rotate_flags(
+        &mut self,
+        w: Width,
+        by_cl: bool,
+        overflow: Expr,
+        carry: Expr,
+    ) -> Result<(), AllocError>
+        ensures { OnOk result (written self.new
+            ≡ written self.old ++ spec.rotate_flags w by_cl (expr_of overflow) (expr_of carry)) }
+    {
+        let maker = self.maker(w);
+        let overflow = maker.unless_zero(by_cl, FlagName::Of, overflow)?;
+        self.set(Loc::Flag(FlagName::Of), overflow)?;
+        self.take_carry(maker.unless_zero(by_cl, FlagName::Cf, carry)?)
+    }
+
+    // SHL.
+    fn shift_left(&mut self, w: Width, by_cl: bool) -> Result<(), AllocError>
+        ensures { OnOk result (written self.new ≡ written self.old ++ spec.shift_working Shift.Shl w by_cl) }
+    {
+        let maker = self.maker(w);
+        self.take_result(w, maker.combined(BinOp::Shl)?)?;
+        let out = maker.sign(maker.nearly_shifted(BinOp::Shl)?)?;
+        let overflow = maker.if_one(by_cl, maker.differs_from_sign(out)?)?;
+        let carry = maker.sign(maker.nearly_shifted(BinOp::Shl)?)?;
+        self.shift_flags(w, by_cl, overflow, carry)
+    }
+
+    // SHR.
+    fn shift_right(&mut self, w: Width, by_cl: bool) -> Result<(), AllocError>
+        ensures { OnOk result (written self.new ≡ written self.old ++ spec.shift_working Shift.Shr w by_cl) }
+    {
+        let maker = self.maker(w);
+        self.take_result(w, maker.combined(BinOp::Shr)?)?;
+        let overflow = maker.if_one(by_cl, maker.sign(maker.left())?)?;
+        let carry = maker.lowest(maker.nearly_shifted(BinOp::Shr)?)?;
+        self.shift_flags(w, by_cl, overflow, carry)
+    }
+
+    // SAR.
+    fn shift_right_signed(&mut self, w: Width, by_cl: bool) -> Result<(), AllocError>
+        ensures { OnOk result (written self.new ≡ written self.old ++ spec.shift_working Shift.Sar w by_cl) }
+    {
+        let maker = self.maker(w);
+        self.take_result(w, maker.combined(BinOp::Sar)?)?;
+        let carry = maker.lowest(maker.nearly_shifted(BinOp::Sar)?)?;
+        self.shift_flags(w, by_cl, bit(false), carry)
+    }
+
+    // ROL.
+    fn rotate_left(&mut self, w: Width, by_cl: bool) -> Result<(), AllocError>
+        ensures { OnOk result (written self.new ≡ written self.old ++ spec.shift_working Shift.Rol w by_cl) }
+    {
+        let maker = self.maker(w);
+        self.take_result(w, maker.rotated_left()?)?;
+        let differ = maker.differs_from_sign(maker.lowest(maker.result())?)?;
+        let overflow = maker.if_one(by_cl, differ)?;
+        let carry = maker.lowest(maker.result())?;
+        self.rotate_flags(w, by_cl, overflow, carry)
+    }
+
+    // ROR.
+    fn rotate_right(&mut self, w: Width, by_cl: bool) -> Result<(), AllocError>
+        ensures { OnOk result (written self.new ≡ written self.old ++ spec.shift_working Shift.Ror w by_cl) }
+    {
+        let maker = self.maker(w);
+        self.take_result(w, maker.rotated_right()?)?;
+        let overflow = maker.if_one(by_cl, maker.top_bits_differ()?)?;
+        let carry = maker.sign(maker.result())?;
+        self.rotate_flags(w, by_cl, overflow, carry)
+    }
+
+    // RCL, by one place alone.
+    fn turn_left(&mut self, w: Width) -> Result<(), AllocError>
+        ensures { OnOk result (written self.new ≡ written self.old ++ spec.shift_working Shift.Rcl w false) }
+    {
+        let maker = self.maker(w);
+        self.take_result(w, maker.turned_left()?)?;
+        let overflow = maker.differs_from_sign(maker.sign(maker.left())?)?;
+        let carry = maker.sign(maker.left())?;
+        self.rotate_flags(w, false, overflow, carry)
+    }
+
+    // RCR, by one place alone.
+    fn turn_right(&mut self, w: Width) -> Result<(), AllocError>
+        ensures { OnOk result (written self.new ≡ written self.old ++ spec.shift_working Shift.Rcr w false) }
+    {
+        let maker = self.maker(w);
+        self.take_result(w, maker.turned_right()?)?;
+        let overflow = maker.top_bits_differ()?;
+        let carry = maker.lowest(maker.left())?;
+        self.rotate_flags(w, false, overflow, carry)
+    }
+
+    // What a shift or rotate does to the result and the flags.
+    fn shift_working(&mut self, operation: Shift, w: Width, by_cl: bool) -> Result<(), AllocError>
+        ensures { OnOk result (written self.new ≡ written self.old ++ spec.shift_working operation w by_cl) }
+    {
+        match operation {
+            Shift::Shl => self.shift_left(w, by_cl),
+            Shift::Shr => self.shift_right(w, by_cl),
+            Shift::Sar => self.shift_right_signed(w, by_cl),
+            Shift::Rol => self.rotate_left(w, by_cl),
+            Shift::Ror => self.rotate_right(w, by_cl),
+            Shift::Rcl => self.turn_left(w),
+            Shift::Rcr => self.turn_right(w),
+        }
+    }
+
+    /// A shift or rotate.
+    pub fn shift(&mut self, operation: Shift, a: Operand, by_cl: bool) -> Result<(), AllocError>
+        ensures { OnOk result (written self.new
+            ≡ written self.old ++ spec.shift_stmts operation (machine.operand_width a) a by_cl) }
+    {
+        let w = operand_width(a);
+        let maker = self.maker(w);
+        self.take_operands(w, maker.operand(a)?, maker.count(by_cl)?)?;
+        self.shift_working(operation, w, by_cl)?;
+        self.store(a)
+    }
+}
