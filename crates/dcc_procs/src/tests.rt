@@ -624,7 +624,7 @@ fn the_window_of_a_table_tells_its_words(rt: HostRuntime) -> Result<(), Fail> {
             (&[10, 16, 14, 8, 5], &[12], true),
         ],
     )?;
-    // the test goes on to the jump where the register is too great
+    // the bounds test is turned
     check_told(
         &rt,
         rt.alloc(),
