@@ -8,3 +8,4 @@ pub mod Collected
 pub mod FoundLaws
 pub mod Counting
 pub mod AllFound
+pub mod Trails

@@ -6,6 +6,7 @@ mod collect;
 mod form;
 pub mod laws;
 mod onward;
+pub mod plain;
 mod procedures;
 mod search;
 mod seen;

@@ -1,8 +1,7 @@
 //! Where an instruction goes on.
 
-ghost use Rattle.std.specs.Prelude.{◌≡◌, ◌<◌, [], false, All, IfOk};
+ghost use Rattle.std.specs.Prelude.{◌≡◌, ◌<◌, [], All, IfOk};
 ghost use Rattle.dcc_prog.specs.Trail.{next_of, op_successors};
-ghost use Rattle.dcc_prog.specs.Built.{is_unbuilt};
 ghost use Rattle.dcc_procs.specs.Search.{offsets_of};
 
 use dcc_prog::{Instr, Op};
@@ -11,6 +10,13 @@ use std::alloc::{AllocError, Global};
 
 /// The number in AH with which INT 21h ends the run.
 pub const EXIT: u8 = 0x4C;
+
+/// The offset behind an instruction, which wraps.
+pub fn next_of(at: u16, instr: Instr) -> u16
+    ensures { result ≡ next_of at instr }
+{
+    at.wrapping_add(u16::from(instr.len))
+}
 
 /// The offsets at which a run may go on.
 #[derive(Clone, Copy)]
@@ -22,13 +28,13 @@ pub struct Onward {
 }
 
 impl Onward {
-    /// The offsets at which the instruction at an offset may go on, by what is known of AH.
+    /// The offsets at which the instruction at an offset may go on, by what is known of AH; those of a
+    /// table are not among them.
     pub fn new(at: u16, instr: Instr, ah: Option<u8>) -> Onward
-        requires { is_unbuilt instr.op ≡ false }
         ensures offsets { offsets_of result ≡ op_successors instr.op (next_of at instr) ah [] }
         ensures fits { All (λ to. to < 65536) (offsets_of result) }
     {
-        let next = Some(at.wrapping_add(u16::from(instr.len)));
+        let next = Some(next_of(at, instr));
         match instr.op {
             Op::Jump(target) => Onward {
                 target: Some(target),
@@ -43,6 +49,10 @@ impl Onward {
                 next,
             },
             Op::Int21 if matches!(ah, Some(EXIT)) => Onward {
+                target: None,
+                next: None,
+            },
+            Op::Table(..) | Op::Ret(_) => Onward {
                 target: None,
                 next: None,
             },

@@ -1,6 +1,7 @@
 //! Procedures of small programs. The values come from a reference analysis apart from this one.
 
 use crate::find;
+use crate::plain::{is_trail, known_ah, successors};
 use dcc_layout::layout;
 use dcc_mz::load;
 use dcc_prog::{LimitName, Proc, Refusal};
@@ -501,6 +502,166 @@ fn layout_nodes_and_constructs_agree(rt: HostRuntime) -> Result<(), Fail> {
             nodes: &[],
             constructs: &[(2, 11), (3, 7), (5, 12)],
         },
+    )?;
+    Ok(())
+}
+
+/// A trail to each node, the newest offset first, by going from the entry on through the successors
+/// that were found.
+fn trails_to_nodes(alloc: Global, proc: &Proc) -> Result<Vec<Vec<u16>>, AllocError> {
+    let mut trails = Vec::new(alloc);
+    trails.push(vec![in alloc; proc.entry]?)?;
+    for place in 0..proc.nodes.len() {
+        let Some(trail) = trails.get(place) else {
+            break;
+        };
+        let trail: Vec<u16> = trail.clone()?;
+        let Some(node) = trail.first().and_then(|at| proc.nodes.get(at)) else {
+            break;
+        };
+        for to in node.succ.as_slice() {
+            if !trails.iter().any(|other| other.first() == Some(to)) {
+                let mut further = vec![in alloc; *to]?;
+                further.extend_from_slice(&trail)?;
+                trails.push(further)?;
+            }
+        }
+    }
+    Ok(trails)
+}
+
+/// What is found of each node is what the plain program tells of a trail to it.
+fn check_plainly(rt: &impl Abort, alloc: Global, code: &[u8]) -> Result<(), Fail> {
+    let image = load(alloc, &file_of(rt, alloc, code)?)?;
+    let layout = layout(alloc, &image)?;
+    let procs = find(alloc, &image, &layout)?;
+    let proc = sole(rt, &procs);
+    let trails = trails_to_nodes(alloc, proc)?;
+    assert_eq!(rt; trails.len(), proc.nodes.len());
+    for trail in &trails {
+        let (at, before) = trail.split_first().ok_or("no trail")?;
+        let node = proc.nodes.get(at).ok_or("no node")?;
+        assert!(rt; is_trail(alloc, &image, &layout, proc.entry, trail)?);
+        let plain = successors(alloc, &image, &layout, trail)?;
+        assert_eq!(rt; plain.as_slice(), node.succ.as_slice());
+        if node.number.is_some() {
+            assert_eq!(rt; known_ah(&image, &layout, before), node.number);
+        }
+    }
+    Ok(())
+}
+
+#[test]
+fn the_plain_program_agrees_with_what_is_found(rt: HostRuntime) -> Result<(), Fail> {
+    for code in [
+        // a loop with a way out
+        [
+            0xB9, 0x03, 0x00, 0xB4, 0x08, 0xCD, 0x21, 0xE3, 0x02, 0xE2, 0xF8, 0xB4, 0x4C, 0xCD,
+            0x21,
+        ]
+        .as_slice(),
+        // back to a DOS call
+        &[
+            0xB4, 0x02, 0xCD, 0x21, 0x3C, 0x05, 0x75, 0xFA, 0xB4, 0x4C, 0xCD, 0x21,
+        ],
+        // two arms that join
+        &[
+            0x3B, 0xC3, 0x7C, 0x04, 0xB4, 0x02, 0xEB, 0x02, 0xB4, 0x02, 0xCD, 0x21, 0xB4, 0x4C,
+            0xCD, 0x21,
+        ],
+    ] {
+        check_plainly(&rt, rt.alloc(), code)?;
+    }
+    Ok(())
+}
+
+/// Offsets with the newest first, their successors, and whether they are a trail.
+type Told<'a> = (&'a [u16], &'a [u16], bool);
+
+/// The plain program tells this of a program's offsets.
+fn check_told(rt: &impl Abort, alloc: Global, code: &[u8], rows: &[Told]) -> Result<(), Fail> {
+    let image = load(alloc, &file_of(rt, alloc, code)?)?;
+    let layout = layout(alloc, &image)?;
+    for (offsets, succ, trail) in rows {
+        let plain = successors(alloc, &image, &layout, offsets)?;
+        assert_eq!(rt; plain.as_slice(), *succ);
+        let is = is_trail(alloc, &image, &layout, START, offsets)?;
+        assert_eq!(rt; is, *trail);
+    }
+    Ok(())
+}
+
+#[test]
+fn the_window_of_a_table_tells_its_words(rt: HostRuntime) -> Result<(), Fail> {
+    // `cmp bx,1`, `ja` past the jump, `shl bx,1`, the jump; two words
+    check_told(
+        &rt,
+        rt.alloc(),
+        &[
+            0x83, 0xFB, 0x01, 0x77, 0x07, 0xD1, 0xE3, 0x2E, 0xFF, 0xA7, 0x15, 0x00, 0xB4, 0x4C,
+            0xCD, 0x21, 0x11, 0x00, 0x13, 0x00,
+        ],
+        &[
+            (&[8, 5], &[17, 10], true),
+            (&[12, 10, 8, 5], &[17, 19], true),
+            (&[19, 12, 10, 8, 5], &[21], true),
+            (&[19, 17, 12, 10, 8, 5], &[], true),
+            // the window is one instruction short
+            (&[12, 10, 8], &[], false),
+            (&[12, 8, 5], &[], false),
+        ],
+    )?;
+    // `cmp si,0`, `jbe` to `shl si,1`, the jump; one word
+    check_told(
+        &rt,
+        rt.alloc(),
+        &[
+            0x83, 0xFE, 0x00, 0x76, 0x04, 0xB4, 0x4C, 0xCD, 0x21, 0xD1, 0xE6, 0x2E, 0xFF, 0xA4,
+            0x15, 0x00, 0x0A, 0x00,
+        ],
+        &[
+            (&[16, 14, 8, 5], &[10], true),
+            (&[10, 16, 14, 8, 5], &[12], true),
+        ],
+    )?;
+    // the bounds test is turned
+    check_told(
+        &rt,
+        rt.alloc(),
+        &[
+            0x83, 0xFB, 0x01, 0x77, 0x04, 0xB4, 0x4C, 0xCD, 0x21, 0xD1, 0xE3, 0x2E, 0xFF, 0xA7,
+            0x15, 0x00, 0x0A, 0x00,
+        ],
+        &[(&[16, 14, 8, 5], &[], true)],
+    )?;
+    Ok(())
+}
+
+#[test]
+fn calls_returns_and_lists_that_are_no_trails(rt: HostRuntime) -> Result<(), Fail> {
+    // a call, two moves to AH, the end, a return
+    check_told(
+        &rt,
+        rt.alloc(),
+        &[
+            0xE8, 0x06, 0x00, 0xB4, 0x02, 0xB4, 0x4C, 0xCD, 0x21, 0xC3, 0x0F,
+        ],
+        &[
+            (&[5], &[8], true),
+            (&[8, 5], &[10], true),
+            // the number that was moved last
+            (&[12, 10, 8, 5], &[], true),
+            (&[12, 8, 10, 5], &[14], false),
+            // the return, as the first instruction of the called procedure
+            (&[14], &[], false),
+            // no instruction
+            (&[15], &[], false),
+            (&[], &[], false),
+            // offsets without the entry, in the other order, and with one left out
+            (&[10, 8], &[12], false),
+            (&[5, 8], &[8], false),
+            (&[10, 5], &[12], false),
+        ],
     )?;
     Ok(())
 }
