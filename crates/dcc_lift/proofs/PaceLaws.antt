@@ -1,5 +1,5 @@
 -- Where one step of a run stands for at most so many steps of another, the other is there within a stated number of steps.
-use Rattle.std.proofs.Common.{◌≡◌, ℕ, zero, suc, ◌+◌, ◌*◌, ◌<◌, ◌≤◌, Bool, true, Option, refl, sym, ap, ◌∙◌, subst, arith}
+use Rattle.std.proofs.Common.{◌≡◌, ℕ, zero, suc, ◌+◌, ◌*◌, ◌<◌, ◌≤◌, Bool, true, Option, sym, ap, ◌∙◌, subst, arith}
 use Rattle.dcc_run.specs.End.{is_over}
 use Rattle.dcc_run.specs.System.{System, after, IsLawful}
 use Rattle.dcc_run.specs.Follows.{Follows, Stands}

@@ -260,16 +260,16 @@ module _ (laws : AreLifted) (image : Image) (layout : Layout) (start : Proc) (p 
         let low : b.at < 65536 = leader_below nodes entry image.ip sound b.at b.leader in
         let fits = chain_fits nodes entry image.ip sound block.rest b.at block.chain low in (
           record {
-          further = length block.rest;
-          visit =
-              ap₂ (λ e begins. if is_over e then [] else visit_at (inner_system p fill) t (option_map (λ (place : Place). place.at) (if begins then Some (record { entry = t.running.graph.entry; at = t.running.block.at }) else None))) b.both.going b.begins
-              ∙ ap₂ (λ at out. record { place = at; out = out } ∷ []) (block.at_is ∙ sym b.both.ip_is) b.both.out
-              ∙ sym (ap (λ e. visits_of kept (if is_over e then [] else visit_at machine_system s (Some s.ip))) b.both.running
-              ∙ ap (λ k. cond k (record { place = s.ip; out = s.out } ∷ []) []) (ap kept b.both.ip_is ∙ here));
-          quiet = x.quiet;
-          running = x.running;
-          goes_on = subst (λ v. GoOn machine_system (inner_system p fill) related (after machine_step (suc (length block.rest)) s) v) (sym step_is) x.goes_on_to;
-        },
+            further = length block.rest;
+            visit =
+                ap₂ (λ e begins. if is_over e then [] else visit_at (inner_system p fill) t (option_map (λ (place : Place). place.at) (if begins then Some (record { entry = t.running.graph.entry; at = t.running.block.at }) else None))) b.both.going b.begins
+                ∙ ap₂ (λ at out. record { place = at; out = out } ∷ []) (block.at_is ∙ sym b.both.ip_is) b.both.out
+                ∙ sym (ap (λ e. visits_of kept (if is_over e then [] else visit_at machine_system s (Some s.ip))) b.both.running
+                ∙ ap (λ k. cond k (record { place = s.ip; out = s.out } ∷ []) []) (ap kept b.both.ip_is ∙ here));
+            quiet = x.quiet;
+            running = x.running;
+            goes_on = subst (λ v. GoOn machine_system (inner_system p fill) related (after machine_step (suc (length block.rest)) s) v) (sym step_is) x.goes_on_to;
+          },
           omega (arith, fits),
         )
       where
