@@ -12,7 +12,7 @@ use Rattle.dcc_c.specs.Typing.{Declared, declared_as, type_of_name, type_of_addr
 use Rattle.dcc_c.specs.Grammar.{is_among}
 use Rattle.dcc_c.specs.Rules.{converts, is_word_base}
 use Rattle.dcc_c.specs.Dos.{Signature}
-use Rattle.dcc_c.specs.Kinds.{Kind, of_name, of_type, Offence, offence, only_if}
+use Rattle.dcc_c.specs.Kinds.{Kind, of_name, of_type, of_depth, Offence, offence, only_if}
 use Rattle.dcc_c.specs.Partial.{WordAt, NumberAt, PartialExpr, Missing, NumberHere, NameHere, UnaryHere, BinaryOf, ConditionalOf, CastHere, place_of, is_missing, is_name_here, PartialCall, PartialStmt, AssignOf, CallOf, IfOf, WhileOf, DoWhileOf, ForeverOf, SwitchOf, BreakOf, ContinueOf, GotoOf, LabelOf, EmptyOf, ReturnOf, PartialLines, no_rows, row, PartialArms, no_cases, cases}
 use Rattle.dcc_c.specs.Known.{Known, known_as}
 
@@ -273,25 +273,28 @@ default_offences known (cases numbers (Some at) body arms) =
     only_if known (offence of_name at) ++ default_offences true arms
 
 abbrev mutual
-  -- all statements, at every depth
-  pub lines_offences : Scene → PartialLines → List Offence
-  lines_offences scene no_rows = []
-  lines_offences scene (row stmt at line rows) =
-      own_offences scene at stmt ++ (inner_offences scene stmt ++ lines_offences scene rows)
+  -- all statements, at every depth, with so many blocks around them
+  pub lines_offences : Scene → ℕ → PartialLines → List Offence
+  lines_offences scene blocks no_rows = []
+  lines_offences scene blocks (row stmt at line rows) =
+      only_if (nat_lt 200 blocks) (offence of_depth at)
+      ++ (own_offences scene at stmt ++ (inner_offences scene (suc blocks) stmt ++ lines_offences scene blocks rows))
 
-  -- the statements inside a statement, and its arms
-  pub inner_offences : Scene → PartialStmt → List Offence
-  inner_offences scene (IfOf e done body otherwise) = lines_offences scene body ++ lines_offences scene otherwise
-  inner_offences scene (WhileOf e done body) = lines_offences scene body
-  inner_offences scene (DoWhileOf body e done) = lines_offences scene body
-  inner_offences scene (ForeverOf body) = lines_offences scene body
-  inner_offences scene (SwitchOf e done arms) =
-      case_offences [] (case_numbers arms) ++ (default_offences false arms ++ arms_inner scene arms)
-  inner_offences scene stmt = []
+  -- the statements inside a statement, which have so many blocks around them, and its arms
+  pub inner_offences : Scene → ℕ → PartialStmt → List Offence
+  inner_offences scene blocks (IfOf e done body otherwise) =
+      lines_offences scene blocks body ++ lines_offences scene blocks otherwise
+  inner_offences scene blocks (WhileOf e done body) = lines_offences scene blocks body
+  inner_offences scene blocks (DoWhileOf body e done) = lines_offences scene blocks body
+  inner_offences scene blocks (ForeverOf body) = lines_offences scene blocks body
+  inner_offences scene blocks (SwitchOf e done arms) =
+      case_offences [] (case_numbers arms) ++ (default_offences false arms ++ arms_inner scene blocks arms)
+  inner_offences scene blocks stmt = []
 
-  pub arms_inner : Scene → PartialArms → List Offence
-  arms_inner scene no_cases = []
-  arms_inner scene (cases numbers default body arms) = lines_offences scene body ++ arms_inner scene arms
+  pub arms_inner : Scene → ℕ → PartialArms → List Offence
+  arms_inner scene blocks no_cases = []
+  arms_inner scene blocks (cases numbers default body arms) =
+      lines_offences scene blocks body ++ arms_inner scene blocks arms
 
 -- Labels.
 
@@ -321,4 +324,4 @@ repeated known (n ∷ names) = only_if (is_among known n.word) (offence of_name 
 
 -- the statements of a function: each label stands once, and the rest
 abbrev pub body_offences : Scene → PartialLines → List Offence
-body_offences scene body = repeated [] (label_list body) ++ lines_offences scene body
+body_offences scene body = repeated [] (label_list body) ++ lines_offences scene 0 body

@@ -206,9 +206,19 @@ begins_stmt token =
 abbrev pub begins_label : Reader → Bool
 begins_label r = is_some (name_of (next_token r)) && is_the_mark (codes ":") (second_token r)
 
--- Reading stops at a statement with more than 200 blocks around it.
-abbrev pub stop_if_nested : Around → Reader → Reader
-stop_if_nested around r = if nat_lt 200 around.blocks then stop_at of_depth r.at r else r
+-- more than 200 blocks stand around a statement
+abbrev pub is_nested : Around → Bool
+is_nested around = nat_lt 200 around.blocks
+
+-- Such a statement, which begins at a place, is the last that is read.
+abbrev pub stop_if_nested : Around → ℕ → Reader → Reader
+stop_if_nested around at r = if is_nested around then stop_at of_depth at r else r
+
+-- a statement that holds blocks begins with the token
+abbrev pub is_block_word : Option Token → Bool
+is_block_word token =
+    ((is_the_word (codes "if") token || is_the_word (codes "while") token)
+    || (is_the_word (codes "do") token || is_the_word (codes "for") token)) || is_the_word (codes "switch") token
 
 -- Statements one after the other, and whether the last of them is a `break` that no label stands before.
 pub record Block : Type 0 where
@@ -307,27 +317,31 @@ abbrev mutual
   pub read_lines : ℕ → Around → Bool → Bool → Reader → Got Block
   read_lines zero around labelled leaves r = got (block_of no_rows leaves) r
   read_lines (suc calls) around labelled leaves r =
-      if begins_stmt (next_token r) then read_line calls around labelled (stop_if_nested around r)
+      if begins_stmt (next_token r) then read_line calls around labelled r
       else got (block_of no_rows leaves) (if labelled then fail r else r)
 
-  -- a depth line, a label or a statement, and those behind it
+  -- A depth line, a label or a statement, and those behind it. Inside more than 200 blocks no depth line and no statement
+  -- with blocks is read.
   pub read_line : ℕ → Around → Bool → Reader → Got Block
   read_line zero around labelled r = got (block_of no_rows false) r
   read_line (suc calls) around labelled r =
-      if is_stopped r then got (block_of no_rows false) r
-      else if sees_head depth_line r then (
-      if labelled then got (block_of no_rows false) (fail r) else read_lines calls around false false (read_depth r)
+      if sees_head depth_line r then (
+      if labelled then got (block_of no_rows false) (fail r)
+      else if is_nested around then got (block_of no_rows false) (stop_at of_depth r.at r)
+      else read_lines calls around false false (read_depth r)
       )
       else if begins_label r then (
       let name = take_name r in
       elim name.value [
-        | Some word ↦ before_others (LabelOf word) r.at (line_of r.left) (read_lines calls around true false (skip name.behind))
+        | Some word ↦ before_others (LabelOf word) r.at (line_of r.left)
+            (read_lines calls around true false (stop_if_nested around r.at (skip name.behind)))
         | None ↦ got (block_of no_rows false) name.behind
       ])
+      else if is_nested around && is_block_word (next_token r) then got (block_of no_rows false) (stop_at of_depth r.at r)
       else (
       let stmt = read_stmt calls around r in
       before_others stmt.value r.at (line_of r.left)
-      (read_lines calls around false (is_break stmt.value && not labelled) stmt.behind)
+      (read_lines calls around false (is_break stmt.value && not labelled) (stop_if_nested around r.at stmt.behind))
       )
 
   -- the arms of a `switch`, of which there must be one
