@@ -27,3 +27,4 @@ pub mod Known
 pub mod Offences
 pub mod TextOffences
 pub mod Refusals
+pub mod Stripped
