@@ -1,12 +1,12 @@
 -- What is known in a whole text, also where a part of it is not read: functions, by their heads, and labels.
-use Rattle.std.specs.Prelude.{ℕ, zero, suc, ◌==◌, Bool, true, false, ◌&&◌, ◌||◌, not, if◌then◌else◌, List, [], ◌∷◌, ◌++◌, map, drop, codes, Option, Some, None, is_some, option_and_then}
+use Rattle.std.specs.Prelude.{Bool, ◌||◌, if◌then◌else◌, List, [], ◌∷◌, ◌++◌, map, codes, Option, Some, None, is_some}
 use Rattle.dcc_c.specs.declared.syntax.CType.{CType}
 use Rattle.dcc_c.specs.Token.{Token, same_bytes}
 use Rattle.dcc_c.specs.Tree.{Word}
 use Rattle.dcc_c.specs.Dos.{Signature, all_dos, dos_name, dos_signature}
 use Rattle.dcc_c.specs.Pieces.{Piece}
 use Rattle.dcc_c.specs.Partial.{WordAt, PartialVariable, PartialFunction}
-use Rattle.dcc_c.specs.Reading.{Reader, Got, first_token, is_the_mark, is_the_word, name_of, begins_type}
+use Rattle.dcc_c.specs.Reading.{first_token, is_the_mark, is_the_word, name_of, begins_type}
 use Rattle.dcc_c.specs.ReadingText.{reader_of, enough_calls, read_begun, read_head}
 
 -- a function that the whole text knows, with the types of its result and its parameters where its head could be read

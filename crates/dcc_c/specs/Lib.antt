@@ -27,3 +27,5 @@ pub mod Known
 pub mod Offences
 pub mod TextOffences
 pub mod Refusals
+pub mod Stripped
+pub mod Complete

@@ -1,9 +1,9 @@
 -- From bytes to pieces, for every text: its tokens, and the bytes that are no token.
-use Rattle.std.specs.Prelude.{◌≡◌, ◌≤◌, ℕ, suc, zero, ◌+◌, ◌*◌, ◌-◌, nat_le, Bool, true, false, ◌&&◌, ◌||◌, not, ◌==◌, if◌then◌else◌, List, [], ◌∷◌, ◌++◌, length, map, drop, codes, Option, Some, None, option_map}
-use Rattle.std.specs.List.{list_all, list_any, take_while}
+use Rattle.std.specs.Prelude.{ℕ, suc, zero, ◌+◌, ◌*◌, ◌-◌, nat_le, Bool, true, false, ◌&&◌, not, ◌==◌, if◌then◌else◌, List, [], ◌∷◌, ◌++◌, length, drop, codes, Option, Some, None, option_map}
+use Rattle.std.specs.List.{take_while}
 use Rattle.std.specs.Fmt.{decimal}
 use Rattle.dcc_c.specs.Token.{Token, WordToken, Decimal, Hex, Mark, Pragma, Suffix, plain_number, unsigned_suffix, long_suffix, unsigned_long_suffix, Head, version_line, stack_line, place_line, depth_line, head_bytes, is_digit, is_word, is_word_byte, is_mark, hex_value, hex_from, same_bytes}
-use Rattle.dcc_c.specs.Lexing.{Placed, placed, is_blank}
+use Rattle.dcc_c.specs.Lexing.{is_blank}
 use Rattle.dcc_c.specs.Tree.{Word}
 use Rattle.dcc_c.specs.Grammar.{is_among}
 
@@ -183,7 +183,7 @@ abbrev pub cut_token : Spot → ℕ → ℕ → List ℕ → Cut
 cut_token spot line b bytes =
     if is_word_byte b
     then cut (piece line (allowed_at spot (token_of_word (take_while is_word_byte (b ∷ bytes)))) ∷ []) in_line line
-      (behind_while is_word_byte (b ∷ bytes))
+    (behind_while is_word_byte (b ∷ bytes))
     else cut_mark spot line b bytes
 
 -- a space or a tab: in the line of a pragma something stands behind it, else it offends itself
@@ -212,7 +212,7 @@ first_cut spot line b bytes =
     if b == 10 then cut [] line_start (suc line) bytes
     else if has_number spot b bytes
     then cut (piece line (token_of_word (take_while is_word_byte bytes)) ∷ []) in_pragma line
-      (behind_while is_word_byte bytes)
+    (behind_while is_word_byte bytes)
     else if is_blank b then cut_blank spot line bytes
     else cut_token spot line b bytes
 

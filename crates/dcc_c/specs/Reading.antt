@@ -3,7 +3,7 @@
 -- been read. Expressions stand here.
 --
 -- `calls` is how deep reading may nest; a text has a number of pieces with which it suffices.
-use Rattle.std.specs.Prelude.{ℕ, zero, suc, ◌+◌, nat_le, nat_lt, ◌==◌, Bool, true, false, ◌&&◌, ◌||◌, not, if◌then◌else◌, List, [], ◌∷◌, drop, codes, Option, Some, None, is_some, is_none}
+use Rattle.std.specs.Prelude.{ℕ, zero, suc, ◌+◌, nat_le, nat_lt, Bool, true, false, ◌||◌, if◌then◌else◌, List, [], ◌∷◌, drop, codes, Option, Some, None, is_some}
 use Rattle.dcc_c.specs.declared.syntax.Base.{Base}
 use Rattle.dcc_c.specs.declared.syntax.Base.TheVariants.{Schar, Uchar, Int, Uint, Long, Ulong}
 use Rattle.dcc_c.specs.declared.syntax.CType.{CType}
@@ -11,7 +11,7 @@ use Rattle.dcc_c.specs.declared.syntax.CUn.{CUn}
 use Rattle.dcc_c.specs.declared.syntax.CUn.TheVariants.{Minus, Complement, Not, Deref, AddressOf}
 use Rattle.dcc_c.specs.declared.syntax.CBin.{CBin}
 use Rattle.dcc_c.specs.declared.syntax.CBin.TheVariants.{OrOr, AndAnd, Or, Xor, And, Eq, Ne, Lt, Le, Gt, Ge, Shl, Shr, Add, Sub, Mul, Div, Rem}
-use Rattle.dcc_c.specs.Token.{Token, WordToken, Decimal, Hex, Mark, Pragma, plain_number, decimal_type, hex_type, same_bytes}
+use Rattle.dcc_c.specs.Token.{Token, WordToken, Decimal, Hex, Mark, plain_number, decimal_type, hex_type, same_bytes}
 use Rattle.dcc_c.specs.Tree.{Word}
 use Rattle.dcc_c.specs.Grammar.{is_name, unary_mark, binary_mark, strength}
 use Rattle.dcc_c.specs.Kinds.{Kind, of_token, of_grammar, of_depth, Offence, offence}
@@ -306,7 +306,7 @@ abbrev mutual
   read_more (suc calls) inside weakest left = elim (binary_of (next_token left.behind)) [
     | Some operator ↦ if nat_le weakest (strength operator)
         then read_more calls inside weakest
-          (joined inside operator left.value (read_binary calls (in_operator inside) (suc (strength operator)) (skip left.behind)))
+        (joined inside operator left.value (read_binary calls (in_operator inside) (suc (strength operator)) (skip left.behind)))
         else left
     | None ↦ left
   ]

@@ -1,15 +1,13 @@
 -- Reading statements and declarations, for every text.
-use Rattle.std.specs.Prelude.{ℕ, zero, suc, ◌+◌, nat_le, nat_lt, ◌==◌, Bool, true, false, ◌&&◌, ◌||◌, not, if◌then◌else◌, List, [], ◌∷◌, ◌++◌, codes, Option, Some, None, is_some, option_map}
-use Rattle.dcc_c.specs.declared.syntax.CType.{CType}
+use Rattle.std.specs.Prelude.{ℕ, zero, suc, nat_le, nat_lt, ◌==◌, Bool, true, false, ◌&&◌, ◌||◌, not, if◌then◌else◌, List, [], ◌∷◌, ◌++◌, codes, Option, Some, None, is_some}
 use Rattle.dcc_c.specs.declared.syntax.CUn.TheVariants.{Deref}
 use Rattle.dcc_c.specs.declared.syntax.Class.{Class}
 use Rattle.dcc_c.specs.declared.syntax.Class.TheVariants.{Plain, Auto, Register}
 use Rattle.dcc_c.specs.Token.{Token, Decimal, Hex, Pragma, Suffix, plain_number, unsigned_suffix, Head, version_line, stack_line, place_line, depth_line}
-use Rattle.dcc_c.specs.Tree.{Word}
-use Rattle.dcc_c.specs.Grammar.{Around, outermost, in_block, in_loop, in_switch}
+use Rattle.dcc_c.specs.Grammar.{Around, in_block, in_loop, in_switch}
 use Rattle.dcc_c.specs.Kinds.{of_depth}
-use Rattle.dcc_c.specs.Partial.{WordAt, NumberAt, PartialExpr, Missing, NameHere, UnaryHere, is_missing, PartialCall, PartialStmt, AssignOf, CallOf, IfOf, WhileOf, DoWhileOf, ForeverOf, SwitchOf, BreakOf, ContinueOf, GotoOf, LabelOf, EmptyOf, ReturnOf, PartialLines, no_rows, row, PartialArms, no_cases, cases, PartialVariable}
-use Rattle.dcc_c.specs.Reading.{Reader, Got, got, is_stopped, next_token, second_token, line_of, skip, stop_at, fail, is_the_mark, is_the_word, name_of, sees_mark, sees_word, take_mark, take_word, take_name, plain_of, take_plain, take_type, begins_type, Inside, in_operator, name_here, read_unary, read_expr}
+use Rattle.dcc_c.specs.Partial.{WordAt, NumberAt, PartialExpr, UnaryHere, PartialStmt, AssignOf, CallOf, IfOf, WhileOf, DoWhileOf, ForeverOf, SwitchOf, BreakOf, ContinueOf, GotoOf, LabelOf, EmptyOf, ReturnOf, PartialLines, no_rows, row, PartialArms, no_cases, cases, PartialVariable}
+use Rattle.dcc_c.specs.Reading.{Reader, Got, got, is_stopped, next_token, second_token, line_of, skip, stop_at, fail, is_the_mark, is_the_word, name_of, sees_mark, sees_word, take_mark, take_word, take_name, take_plain, take_type, begins_type, Inside, in_operator, name_here, read_unary, read_expr}
 
 -- Whole expressions.
 
@@ -284,7 +282,7 @@ abbrev mutual
       )
       else if sees_word (codes "for") r then (
       let body = read_block calls (in_loop around)
-        (take_mark (codes ")") (take_mark (codes ";") (take_mark (codes ";") (take_mark (codes "(") (skip r))))) in
+      (take_mark (codes ")") (take_mark (codes ";") (take_mark (codes ";") (take_mark (codes "(") (skip r))))) in
       got (ForeverOf body.value) body.behind
       )
       else if sees_word (codes "switch") r then (

@@ -1,17 +1,15 @@
 -- What offends in declarations and in a whole text, as far as it has been read.
-use Rattle.std.specs.Prelude.{ℕ, suc, ◌+◌, ◌-◌, nat_le, nat_lt, ◌==◌, Bool, true, false, ◌&&◌, ◌||◌, not, if◌then◌else◌, List, [], ◌∷◌, ◌++◌, length, map, drop, codes, Option, Some, None, is_some}
+use Rattle.std.specs.Prelude.{ℕ, ◌+◌, nat_le, nat_lt, ◌==◌, Bool, true, ◌&&◌, ◌||◌, not, if◌then◌else◌, List, [], ◌∷◌, ◌++◌, map, drop, codes, Option, Some, None, is_some}
 use Rattle.std.specs.List.{list_all}
-use Rattle.dcc_c.specs.declared.syntax.CType.{CType}
 use Rattle.dcc_c.specs.Token.{same_bytes}
 use Rattle.dcc_c.specs.Tree.{Word}
 use Rattle.dcc_c.specs.Typing.{Declared}
 use Rattle.dcc_c.specs.Placement.{is_auto, is_register}
 use Rattle.dcc_c.specs.Dos.{dos_names}
-use Rattle.dcc_c.specs.Grammar.{is_among}
-use Rattle.dcc_c.specs.Kinds.{of_name, of_type, of_place, Offence, offence, only_if}
+use Rattle.dcc_c.specs.Kinds.{of_name, of_place, Offence, offence, only_if}
 use Rattle.dcc_c.specs.Pieces.{Piece}
 use Rattle.dcc_c.specs.Partial.{WordAt, NumberAt, PartialVariable, PartialFunction, PartialText}
-use Rattle.dcc_c.specs.Reading.{Reader, Got, is_stopped}
+use Rattle.dcc_c.specs.Reading.{Reader, is_stopped}
 use Rattle.dcc_c.specs.ReadingText.{size_in_bytes, reading_of}
 use Rattle.dcc_c.specs.Known.{Known, known_dos, known_functions, heads_in, labels_before_head}
 use Rattle.dcc_c.specs.Offences.{Scene, repeated, label_list, body_offences}
