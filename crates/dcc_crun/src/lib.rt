@@ -1,0 +1,8 @@
+//! The run of a text, step by step. A stub: it finds no memory.
+#![tactic(auto)]
+
+pub mod ending;
+pub mod run;
+
+pub use ending::CStepped;
+pub use run::CRun;

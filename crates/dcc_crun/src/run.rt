@@ -1,0 +1,58 @@
+//! The run of a text. A stub: it finds no memory.
+
+ghost use Rattle.std.specs.Prelude.{◌≡◌, ◌≤◌, List, ℕ, IfOk};
+ghost use Rattle.dcc_io.specs.Count.{Rose};
+ghost use Rattle.dcc_c.specs.Run.{first_state};
+ghost use Rattle.dcc_c.specs.Text.{StandsFor};
+ghost use Rattle.dcc_c.specs.Views.{tree_of};
+ghost use Rattle.dcc_crun.specs.Stepped.{Runs, StandsAt, scene};
+
+use crate::ending::CStepped;
+use dcc_c::Unit;
+use dcc_io::{Sink, Source};
+use std::alloc::{AllocError, Global};
+
+/// A run of a text.
+#[derive(Drop)]
+pub struct CRun {
+    /// What variables hold before they have a value.
+    pub(crate) fill: u16,
+}
+
+impl CRun {
+    /// The run of a text from its first function on. Variables and the stack hold the fill before they have a value.
+    pub fn new(alloc: Global, unit: &Unit, fill: u16) -> Result<CRun, AllocError>
+        ensures { IfOk result (λ run. (text : List ℕ) (stands : StandsFor text (tree_of unit.now)) (input : List ℕ)
+            → StandsAt (tree_of unit.now) run (first_state (tree_of unit.now) stands.allowed.start fill input)) }
+    {
+        let _ = alloc;
+        let _ = unit.funcs.len();
+        let _ = fill;
+        Err(AllocError)
+    }
+
+    /// Makes steps until one answers something else than Running, at most so many. After a fault the steps before the
+    /// one that failed stay made.
+    pub fn run<I: Source, O: Sink>(
+        &mut self,
+        alloc: Global,
+        input: &mut I,
+        out: &mut O,
+        most: u64,
+    ) -> CStepped
+        ensures run { Runs most result
+            (scene self.old (I.left input.old) (O.taken out.old))
+            (scene self.new (I.left input.new) (O.taken out.new)) }
+
+        // The counts never fall, and a fault comes only where its count rose.
+        ensures input_faults { I.faults input.old ≤ I.faults input.new }
+        ensures output_faults { O.faults out.old ≤ O.faults out.new }
+        ensures read_failed { result ≡ CStepped.InFault → Rose (I.faults input.old) (I.faults input.new) }
+        ensures write_failed { result ≡ CStepped.OutFault → Rose (O.faults out.old) (O.faults out.new) }
+    {
+        let _ = alloc;
+        let _ = self.fill;
+        let _ = most;
+        CStepped::Running
+    }
+}
