@@ -5,10 +5,16 @@ use Rattle.dcc_run.specs.Prefix.{IsPrefix}
 use Rattle.dcc_run.specs.System.{after}
 use Rattle.dcc_io.specs.Told.{append_told, prepend_told, AppendsProperPrefix}
 use Rattle.dcc_c.specs.Run.{State, step}
+use Rattle.dcc_c.specs.Text.{StandsFor}
 use Rattle.dcc_c.specs.Tree.{Tree}
 use Rattle.dcc_crun.specs.declared.run.CRun.{CRun}
 use Rattle.dcc_crun.specs.declared.ending.CStepped.{CStepped}
 use Rattle.dcc_crun.specs.declared.ending.CStepped.TheVariants.{Running, Exit, Divide, Stuck, InFault, OutFault, Memory}
+
+-- some text stands for the tree
+pub record HasText (tree : Tree) : Type 0 where
+  pub text : List ℕ
+  pub stands : StandsFor text tree
 
 -- The run stands for the state of the text, but for its console. A stub: no run stands for any.
 abbrev pub StandsAt : Tree → CRun → State → Type 0

@@ -5,7 +5,7 @@ ghost use Rattle.dcc_io.specs.Count.{Rose};
 ghost use Rattle.dcc_c.specs.Run.{first_state};
 ghost use Rattle.dcc_c.specs.Text.{StandsFor};
 ghost use Rattle.dcc_c.specs.Views.{tree_of};
-ghost use Rattle.dcc_crun.specs.Stepped.{Runs, StandsAt, scene};
+ghost use Rattle.dcc_crun.specs.Stepped.{HasText, Runs, StandsAt, scene};
 
 use crate::ending::CStepped;
 use dcc_c::Unit;
@@ -22,6 +22,7 @@ pub struct CRun {
 impl CRun {
     /// The run of a text from its first function on. Variables and the stack hold the fill before they have a value.
     pub fn new(alloc: Global, unit: &Unit, fill: u16) -> Result<CRun, AllocError>
+        requires { HasText (tree_of unit.now) }
         ensures { IfOk result (λ run. (text : List ℕ) (stands : StandsFor text (tree_of unit.now)) (input : List ℕ)
             → StandsAt (tree_of unit.now) run (first_state (tree_of unit.now) stands.allowed.start fill input)) }
     {
