@@ -1,21 +1,27 @@
--- The program's answers: the status, the line on the error stream, what is due on the output, and which answers are
--- allowed for a job.
-use Rattle.std.specs.Prelude.{◌≡◌, ◌⊎◌, ℕ, ◌+◌, ◌/◌, ◌%◌, nat_lt, if◌then◌else◌, List, [], ◌∷◌, ◌++◌, codes, Option, Some, None, string_bytes}
+-- The program's answers: the status, the line on the error stream, and which answers are allowed for a job.
+use Rattle.std.specs.Prelude.{◌≡◌, ◌≤◌, ℕ, ◌+◌, ◌/◌, ◌%◌, nat_lt, if◌then◌else◌, List, [], ◌∷◌, ◌++◌, length, codes, Option, Some, None}
 use Rattle.std.specs.Fmt.{decimal}
-use Rattle.dcc_mz.specs.Fault.{number_of, place_of, IsRefusal}
+use Rattle.dcc_mz.specs.Fault.{number_of, place_of, IsRefusal as IsFormatRefusal}
+use Rattle.dcc_mz.specs.declared.fault.MzFault.{MzFault}
 use Rattle.dcc_io.specs.Told.{WhenTold}
 use Rattle.dcc_prog.specs.declared.image.Image.{Image}
+use Rattle.dcc_prog.specs.declared.refusal.LimitName.{LimitName}
+use Rattle.dcc_prog.specs.declared.refusal.LimitName.TheVariants.{Procedures, Instructions, Total, Cells, Entries, Arguments}
+use Rattle.dcc_prog.specs.declared.refusal.Refusal.{Refusal}
+use Rattle.dcc_prog.specs.declared.refusal.Refusal.TheVariants.{Construct as ConstructRefused, Limit as LimitRefused, NotYet as NotYetRefused, Memory as MemoryRefused}
 use Rattle.dcc_prog.specs.MzImage.{IsImageOf}
-use Rattle.dcc_prog.specs.Code.{code_of}
+use Rattle.dcc_c.specs.Text.{StandsFor}
+use Rattle.dcc_c.specs.Tree.{Tree}
 use Rattle.dcc_c.specs.Written.{written_form}
-use Rattle.dcc_top.specs.declared.form.Form.{Form}
+use Rattle.dcc_parse.specs.declared.offence.ParseKind.{ParseKind}
+use Rattle.dcc_parse.specs.declared.offence.ParseKind.TheVariants.{Length, Version, Token, Grammar, Name, Type_, Place, Depth}
+use Rattle.dcc_parse.specs.Fault.{IsRefusal as IsTextRefusal}
+use Rattle.dcc_pipe.specs.Agreement.{Agrees}
+use Rattle.dcc_pipe.specs.Decompilation.{IsTextOf, IsAccepted, IsRefusal as IsProgramRefusal}
 use Rattle.dcc_top.specs.declared.reply.Reply.{Reply}
-use Rattle.dcc_top.specs.declared.reply.Reply.TheVariants.{Done, Exited, Usage, NoFile, FileFault, InputFault, Memory, Format, NotYet, Unfinished, Divided, Outside}
-use Rattle.dcc_top.specs.Line.{Ends, StopsAt}
-use Rattle.dcc_top.specs.LineText.{tree_of}
-use Rattle.dcc_top.specs.Agreement.{Agrees}
-use Rattle.dcc_top.specs.Execution.{Finishes, PutsOut}
-use Rattle.dcc_top.specs.Words.{Job, Decompile, Execute}
+use Rattle.dcc_top.specs.declared.reply.Reply.TheVariants.{Done, Exited, Usage, NoFile, FileFault, InputFault, Memory, Format, Construct, Limit, NotYet, TextFault, Unfinished, Divided, Outside, Stuck}
+use Rattle.dcc_top.specs.Execution.{machine_of, text_of, Finishes, FinishesOrStops, PutsOut}
+use Rattle.dcc_top.specs.Words.{Job, Decompile, Execute, ExecuteText, greatest_text}
 
 -- a hexadecimal digit, in upper case
 abbrev pub hex_digit : ℕ → ℕ
@@ -26,9 +32,29 @@ abbrev pub hex_offset : ℕ → List ℕ
 hex_offset at =
     hex_digit (at / 4096) ∷ hex_digit (at / 256 % 16) ∷ hex_digit (at / 16 % 16) ∷ hex_digit (at % 16) ∷ []
 
+-- the name of a count, as it is told
+abbrev pub limit_word : LimitName → List ℕ
+limit_word Procedures = codes "procedures"
+limit_word Instructions = codes "instructions"
+limit_word Total = codes "total"
+limit_word Cells = codes "cells"
+limit_word Entries = codes "entries"
+limit_word Arguments = codes "arguments"
+
+-- the kind of what offends in a text, as it is told
+abbrev pub kind_word : ParseKind → List ℕ
+kind_word Length = codes "length"
+kind_word Version = codes "version"
+kind_word Token = codes "token"
+kind_word Grammar = codes "grammar"
+kind_word Name = codes "name"
+kind_word Type_ = codes "type"
+kind_word Place = codes "place"
+kind_word Depth = codes "depth"
+
 -- the exit status
 abbrev pub status_of : Reply → ℕ
-status_of (Done text) = 0
+status_of Done = 0
 status_of (Exited code) = 0
 status_of Usage = 2
 status_of NoFile = 3
@@ -36,14 +62,18 @@ status_of FileFault = 4
 status_of InputFault = 5
 status_of Memory = 7
 status_of (Format fault) = 8
+status_of (Construct kind at) = 9
+status_of (Limit what count) = 10
+status_of (TextFault line kind) = 11
 status_of (NotYet at) = 12
 status_of (Unfinished steps) = 20
 status_of Divided = 21
 status_of (Outside at) = 22
+status_of (Stuck line) = 24
 
 -- the line on the error stream; none where a text is done
 abbrev pub line_of : Reply → List ℕ
-line_of (Done text) = []
+line_of Done = []
 line_of (Exited code) = codes "exit " ++ (decimal code ++ codes "\n")
 line_of Usage = codes "dcc: usage\n"
 line_of NoFile = codes "dcc: no file\n"
@@ -52,53 +82,30 @@ line_of InputFault = codes "dcc: input fault\n"
 line_of Memory = codes "dcc: memory\n"
 line_of (Format fault) =
     codes "dcc: format " ++ (decimal (number_of fault) ++ (codes " at " ++ (decimal (place_of fault) ++ codes "\n")))
+line_of (Construct kind at) =
+    codes "dcc: construct " ++ (decimal kind ++ (codes " at " ++ (hex_offset at ++ codes "\n")))
+line_of (Limit what count) =
+    codes "dcc: limit " ++ (limit_word what ++ (codes " " ++ (decimal count ++ codes "\n")))
+line_of (TextFault line kind) =
+    codes "dcc: text " ++ (kind_word kind ++ (codes " at line " ++ (decimal line ++ codes "\n")))
 line_of (NotYet at) = codes "dcc: not yet at " ++ (hex_offset at ++ codes "\n")
 line_of (Unfinished steps) = codes "running after " ++ (decimal steps ++ codes " steps\n")
 line_of Divided = codes "divide\n"
 line_of (Outside at) = codes "outside at " ++ (hex_offset at ++ codes "\n")
+line_of (Stuck line) = codes "stuck at line " ++ (decimal line ++ codes "\n")
 
--- the text that is due on the output; a run has written its output itself
-abbrev pub text_in : Reply → List ℕ
-text_in (Done text) = string_bytes text
-text_in _ = []
+-- the answer where a program is refused
+abbrev pub refusal_reply : Refusal → Reply
+refusal_reply (ConstructRefused kind at) = Construct kind at
+refusal_reply (LimitRefused what count) = Limit what count
+refusal_reply (NotYetRefused at) = NotYet at
+refusal_reply MemoryRefused = Memory
+
+-- Files.
 
 -- what the shelf tells of its files
 abbrev pub Files : Type 0
 Files = Option (List ℕ → Option (List ℕ))
-
--- the text is the one for the file's straight line, and agrees with the file
-pub record Decompiles (file text : List ℕ) : Type 0 where
-  pub image : Image
-  pub is_image : IsImageOf file image
-  pub forms : List Form
-  pub ends : Ends (code_of image) image.ip forms
-  pub written_is : text ≡ written_form (tree_of forms)
-  pub agrees : Agrees file text
-
--- the file's straight line comes to an instruction that is not built yet, at this offset
-pub record StopsInFile (file : List ℕ) (at : ℕ) : Type 0 where
-  pub image : Image
-  pub is_image : IsImageOf file image
-  pub stops : StopsAt (code_of image) image.ip at
-
--- the file's straight line ends by the call that leaves
-pub record EndsInFile (file : List ℕ) : Type 0 where
-  pub image : Image
-  pub is_image : IsImageOf file image
-  pub forms : List Form
-  pub ends : Ends (code_of image) image.ip forms
-
--- the answer is one for a run of the file's image
-pub record RunsFile (file : List ℕ) (steps : ℕ) (before left : Option (List ℕ)) (reply : Reply) (output : List ℕ) : Type 0 where
-  pub image : Image
-  pub is_image : IsImageOf file image
-  pub finishes : Finishes image steps before left reply output
-
--- the run of the file's image puts this out
-pub record FilePutsOut (file : List ℕ) (steps : ℕ) (before : Option (List ℕ)) (output : List ℕ) : Type 0 where
-  pub image : Image
-  pub is_image : IsImageOf file image
-  pub puts : PutsOut image steps before output
 
 -- the shelf has these bytes under the name, where it tells its files
 abbrev pub ShelfHas : Files → List ℕ → List ℕ → Type 0
@@ -114,47 +121,133 @@ pub record OfFile (told : Files) (name : List ℕ) (P : List ℕ → Type 0) : T
   pub has : ShelfHas told name file
   pub holds : P file
 
+-- The answer says why no file of the name could be had.
+pub data HasNoFile (told : Files) (name : List ℕ) : Reply → Type 0 where
+  no_file : ShelfLacks told name → HasNoFile told name NoFile
+  file_fault : HasNoFile told name FileFault
+  no_memory : HasNoFile told name Memory
+
 -- the answer says which check the file fails first, or that memory ran out
-abbrev pub FailsCheck : List ℕ → Reply → Type 0
-FailsCheck file Memory = Unit {0}
-FailsCheck file (Format fault) = IsRefusal file fault
-FailsCheck file _ = ⊥
+pub data FailsCheck (file : List ℕ) : Reply → Type 0 where
+  fails : {fault : MzFault} → IsFormatRefusal file fault → FailsCheck file (Format fault)
+  no_memory_to_load : FailsCheck file Memory
 
--- the answer says why there is no image of the file of this name: it could not be had, or it fails a check
-abbrev pub HasNoImage : Files → List ℕ → Reply → Type 0
-HasNoImage told name NoFile = ShelfLacks told name
-HasNoImage told name FileFault = Unit {0}
-HasNoImage told name Memory = Unit {0}
-HasNoImage told name (Format fault) = OfFile told name (λ file. IsRefusal file fault)
-HasNoImage told name _ = ⊥
+-- The answer says why there is no image of the file of this name: it could not be had, or it fails a check.
+pub data HasNoImage (told : Files) (name : List ℕ) : Reply → Type 0 where
+  no_executable : {reply : Reply} → HasNoFile told name reply → HasNoImage told name reply
+  misshapen : {fault : MzFault} → OfFile told name (λ file. IsFormatRefusal file fault) → HasNoImage told name (Format fault)
 
--- the answer is allowed for an image whose text is asked for: the text of its line, or where the line stops
-abbrev pub AllowsForImage : Image → Reply → Type 0
-AllowsForImage image (Done text) =
-    (forms : List Form) × Ends (code_of image) image.ip forms × (string_bytes text ≡ written_form (tree_of forms))
-AllowsForImage image (NotYet at) = StopsAt (code_of image) image.ip at
-AllowsForImage image Memory = Unit {0}
-AllowsForImage image _ = ⊥
+-- The answer says why there is no unit of the file of this name: it could not be had, or it is refused as a text.
+pub data HasNoUnit (told : Files) (name : List ℕ) : Reply → Type 0 where
+  no_text : {reply : Reply} → HasNoFile told name reply → HasNoUnit told name reply
+  offends : {line : ℕ} {kind : ParseKind} → OfFile told name (λ text. IsTextRefusal text line kind) → HasNoUnit told name (TextFault line kind)
 
--- the answer is allowed for the file of this name whose text is asked for
-abbrev pub AllowsText : Files → List ℕ → Reply → Type 0
-AllowsText told name (Done text) = OfFile told name (λ file. Decompiles file (string_bytes text))
-AllowsText told name (NotYet at) = OfFile told name (λ file. StopsInFile file at)
-AllowsText told name reply = HasNoImage told name reply
+-- the answer says what offends in the text, or that memory ran out
+pub data FailsToRead (text : List ℕ) : Reply → Type 0 where
+  fails_to_read : {line : ℕ} {kind : ParseKind} → IsTextRefusal text line kind → FailsToRead text (TextFault line kind)
+  no_memory_to_read : FailsToRead text Memory
 
--- the answer is allowed for the file of this name that is to be run, from the input that was left before to that which is left
-abbrev pub AllowsRun : Files → List ℕ → ℕ → Option (List ℕ) → Option (List ℕ) → Reply → List ℕ → Type 0
-AllowsRun told name steps before left reply output =
-    OfFile told name (λ file. RunsFile file steps before left reply output) ⊎ (HasNoImage told name reply × ((output ≡ []) × (left ≡ before)))
+-- The text of an executable.
 
--- The answer is allowed for the job, which itself has written this output by then: a run does, and no other job.
-abbrev pub Allows : Files → Option Job → Option (List ℕ) → Option (List ℕ) → Reply → List ℕ → Type 0
-Allows told None before left reply output = (reply ≡ Usage) × ((output ≡ []) × (left ≡ before))
-Allows told (Some (Decompile name)) before left reply output = AllowsText told name reply × ((output ≡ []) × (left ≡ before))
-Allows told (Some (Execute name steps)) before left reply output = AllowsRun told name steps before left reply output
+-- the image is accepted, and these bytes are the written form of a tree that is its text
+pub record IsTextOfImage (image : Image) (text : List ℕ) : Type 0 where
+  pub accepted : IsAccepted image
+  pub tree : Tree
+  pub is_text : IsTextOf image tree
+  pub written_is : text ≡ written_form tree
 
--- These bytes are due on the output, where the job comes to its end: the text of the file, or what its run puts out.
-abbrev pub IsDue : Files → Option Job → Option (List ℕ) → List ℕ → Type 0
-IsDue told None before due = ⊥
-IsDue told (Some (Decompile name)) before due = OfFile told name (λ file. Decompiles file due)
-IsDue told (Some (Execute name steps)) before due = OfFile told name (λ file. FilePutsOut file steps before due)
+-- the answer is allowed for an image whose text is asked for, behind these bytes
+pub data AllowsImage (image : Image) : Reply → List ℕ → Type 0 where
+  image_decompiled : {text : List ℕ} → IsTextOfImage image text → AllowsImage image Done text
+  image_refused : (refusal : Refusal) → IsProgramRefusal image refusal → AllowsImage image (refusal_reply refusal) []
+
+-- the file's image is accepted, and the text is in its written form and agrees with the file
+pub record Decompiles (file text : List ℕ) : Type 0 where
+  pub image : Image
+  pub is_image : IsImageOf file image
+  pub accepted : IsAccepted image
+  pub agrees : Agrees file text
+  pub written_is : text ≡ written_form agrees.tree
+
+-- the file's image is refused so
+pub record IsRefusedAs (refusal : Refusal) (file : List ℕ) : Type 0 where
+  pub image : Image
+  pub is_image : IsImageOf file image
+  pub refused : IsProgramRefusal image refusal
+
+-- the file's image is accepted
+pub record IsAcceptedFile (file : List ℕ) : Type 0 where
+  pub image : Image
+  pub is_image : IsImageOf file image
+  pub accepted : IsAccepted image
+
+-- The answer is allowed for the file of this name whose text is asked for, behind these bytes.
+pub data AllowsText (told : Files) (name : List ℕ) : Reply → List ℕ → Type 0 where
+  decompiled : {text : List ℕ} → OfFile told name (λ file. Decompiles file text) → AllowsText told name Done text
+  refused : (refusal : Refusal) → OfFile told name (IsRefusedAs refusal) → AllowsText told name (refusal_reply refusal) []
+  no_image : {reply : Reply} → HasNoImage told name reply → AllowsText told name reply []
+
+-- Runs.
+
+-- the answer is one for a run of the file's image
+pub record RunsFile (file : List ℕ) (steps : ℕ) (before left : Option (List ℕ)) (reply : Reply) (output : List ℕ) : Type 0 where
+  pub image : Image
+  pub is_image : IsImageOf file image
+  pub finishes : Finishes (machine_of image) steps before left reply output
+
+-- the run of the file's image puts this out
+pub record FilePutsOut (file : List ℕ) (steps : ℕ) (before : Option (List ℕ)) (output : List ℕ) : Type 0 where
+  pub image : Image
+  pub is_image : IsImageOf file image
+  pub puts : PutsOut (machine_of image) steps before output
+
+-- the text stands for this tree alone, and is not too long
+pub record IsReadAs (text : List ℕ) (tree : Tree) : Type 0 where
+  pub stands : StandsFor text tree
+  pub alone : (other : Tree) → StandsFor text other → other ≡ tree
+  pub length : length text ≤ greatest_text
+
+-- from the start of a text for this tree, the answer is one for its run
+abbrev pub RunsUnit : Tree → ℕ → ℕ → Option (List ℕ) → Option (List ℕ) → Reply → List ℕ → Type 0
+RunsUnit tree steps fill before left reply output =
+    (text : List ℕ) (stands : StandsFor text tree) → FinishesOrStops (text_of tree stands.allowed.start fill) steps before left reply output
+
+-- from the start of a text for this tree, its run puts this out
+abbrev pub UnitPutsOut : Tree → ℕ → ℕ → Option (List ℕ) → List ℕ → Type 0
+UnitPutsOut tree steps fill before output =
+    (text : List ℕ) (stands : StandsFor text tree) → PutsOut (text_of tree stands.allowed.start fill) steps before output
+
+-- the answer is one for a run of the text
+pub record RunsText (text : List ℕ) (steps fill : ℕ) (before left : Option (List ℕ)) (reply : Reply) (output : List ℕ) : Type 0 where
+  pub tree : Tree
+  pub is_read : IsReadAs text tree
+  pub runs : RunsUnit tree steps fill before left reply output
+
+-- the run of the text puts this out
+pub record TextPutsOut (text : List ℕ) (steps fill : ℕ) (before : Option (List ℕ)) (output : List ℕ) : Type 0 where
+  pub tree : Tree
+  pub is_read : IsReadAs text tree
+  pub puts : UnitPutsOut tree steps fill before output
+
+-- the answer is one for the run that the job asks for, on the file with these bytes
+abbrev pub Runs : Job → List ℕ → Option (List ℕ) → Option (List ℕ) → Reply → List ℕ → Type 0
+Runs (Decompile name) file before left reply output = ⊥
+Runs (Execute name steps) file before left reply output = RunsFile file steps before left reply output
+Runs (ExecuteText name steps fill) file before left reply output = RunsText file steps fill before left reply output
+
+-- All jobs.
+
+-- The answer is allowed for the job, which itself has written this output by then.
+pub data Allows (told : Files) (before left : Option (List ℕ)) : Option Job → Reply → List ℕ → Type 0 where
+  no_job : left ≡ before → Allows told before left None Usage []
+  for_text : {name : List ℕ} {reply : Reply} {output : List ℕ} → AllowsText told name reply output → left ≡ before → Allows told before left (Some (Decompile name)) reply output
+  ran_file : {name : List ℕ} {steps : ℕ} {reply : Reply} {output : List ℕ} → OfFile told name (λ file. RunsFile file steps before left reply output) → Allows told before left (Some (Execute name steps)) reply output
+  ran_no_file : {name : List ℕ} {steps : ℕ} {reply : Reply} → HasNoImage told name reply → left ≡ before → Allows told before left (Some (Execute name steps)) reply []
+  ran_text : {name : List ℕ} {steps fill : ℕ} {reply : Reply} {output : List ℕ} → OfFile told name (λ text. RunsText text steps fill before left reply output) → Allows told before left (Some (ExecuteText name steps fill)) reply output
+  ran_no_text : {name : List ℕ} {steps fill : ℕ} {reply : Reply} → HasNoUnit told name reply → left ≡ before → Allows told before left (Some (ExecuteText name steps fill)) reply []
+
+-- These bytes are due on the output, where the job comes to its end: the text of the file, or what a run puts out.
+pub data IsDue (told : Files) (before : Option (List ℕ)) : Option Job → List ℕ → Type 0 where
+  due_text : {name due : List ℕ} → OfFile told name (λ file. Decompiles file due) → IsDue told before (Some (Decompile name)) due
+  due_output : {name due : List ℕ} {steps : ℕ} → OfFile told name (λ file. FilePutsOut file steps before due) → IsDue told before (Some (Execute name steps)) due
+  due_text_output : {name due : List ℕ} {steps fill : ℕ} → OfFile told name (λ text. TextPutsOut text steps fill before due) → IsDue told before (Some (ExecuteText name steps fill)) due

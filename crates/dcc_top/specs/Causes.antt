@@ -1,15 +1,27 @@
 -- When each status comes, and what it says.
-use Rattle.std.specs.Prelude.{◌≡◌, ◌⊎◌, ℕ, List, [], ◌∷◌, ◌++◌, Option, Some, None}
+use Rattle.std.specs.Prelude.{◌≡◌, ◌≢◌, ◌⊎◌, ◌<◌, ◌≤◌, ℕ, List, [], ◌∷◌, ◌++◌, length, Option, Some, None}
 use Rattle.dcc_io.specs.Count.{Rose}
 use Rattle.dcc_io.specs.Told.{append_told, AppendsProperPrefix}
 use Rattle.dcc_mz.specs.declared.fault.MzFault.{MzFault}
-use Rattle.dcc_mz.specs.Fault.{IsRefusal}
+use Rattle.dcc_mz.specs.Fault.{IsRefusal as IsFormatRefusal}
 use Rattle.dcc_run.specs.End.{End, Running, Exit, Divide, Outside, Stuck}
 use Rattle.dcc_run.specs.Prefix.{IsPrefix}
+use Rattle.dcc_run.specs.System.{end_after}
+use Rattle.dcc_prog.specs.declared.image.Image.{Image}
+use Rattle.dcc_prog.specs.declared.refusal.Refusal.{Refusal}
+use Rattle.dcc_prog.specs.declared.refusal.Refusal.TheVariants.{Memory as MemoryRefused}
+use Rattle.dcc_prog.specs.Machine.{start_state}
+use Rattle.dcc_prog.specs.MzImage.{IsImageOf}
+use Rattle.dcc_prog.specs.Step.{machine_system}
+use Rattle.dcc_c.specs.Run.{text_system, first_state}
+use Rattle.dcc_c.specs.Text.{StandsFor}
+use Rattle.dcc_c.specs.Tree.{Tree}
+use Rattle.dcc_parse.specs.declared.offence.ParseKind.{ParseKind}
+use Rattle.dcc_parse.specs.Fault.{IsRefusal as IsTextRefusal}
 use Rattle.dcc_top.specs.declared.reply.Reply.{Reply}
-use Rattle.dcc_top.specs.declared.reply.Reply.TheVariants.{NoFile, FileFault, InputFault, Memory, Format, NotYet}
-use Rattle.dcc_top.specs.Words.{Job, Decompile, Execute, file_of, requests_of}
-use Rattle.dcc_top.specs.Answer.{Files, Allows, IsDue, Decompiles, StopsInFile, RunsFile, ShelfHas, ShelfLacks, status_of, line_of, text_in}
+use Rattle.dcc_top.specs.declared.reply.Reply.TheVariants.{Done, NoFile, FileFault, InputFault, Memory, Format, TextFault}
+use Rattle.dcc_top.specs.Words.{Job, Decompile, Execute, ExecuteText, name_of, file_of, requests_of, greatest_text}
+use Rattle.dcc_top.specs.Answer.{Files, Allows, IsDue, Decompiles, IsRefusedAs, Runs, ShelfHas, ShelfLacks, status_of, line_of, refusal_reply}
 use Rattle.dcc_top.specs.Delivery.{Streams, TellsLine, BreaksOff}
 
 -- the answer's cause in this call, where it is a fault of what lies outside: the shelf found no file, or failed, or a
@@ -23,21 +35,9 @@ pub record IsCaused (absent unreadable read_failed : Type 0) (reply : Reply) : T
 -- was told, behind all that is due; or its line found no memory, and that was told in its place; or a write of what is due
 -- failed, and a part of it is there. The answer has its cause in this call.
 pub data IsAnswered (told : Files) (job : Option Job) (before left : Option (List ℕ)) (caused : Reply → Type 0) (status : ℕ) (out_failed err_failed : Type 0) (s : Streams) : Type 0 where
-  answered : (reply : Reply) (output : List ℕ) → Allows told job before left reply output → caused reply → s.out_after ≡ append_told s.out_before (output ++ text_in reply) → TellsLine (line_of reply) (status_of reply) status err_failed s → IsAnswered told job before left caused status out_failed err_failed s
-  found_no_memory : (reply : Reply) (output : List ℕ) → Allows told job before left reply output → s.out_after ≡ append_told s.out_before output → TellsLine (line_of Memory) (status_of Memory) status err_failed s → IsAnswered told job before left caused status out_failed err_failed s
-  broke_off : (due : List ℕ) → IsDue told job before due → BreaksOff due status out_failed s → IsAnswered told job before left caused status out_failed err_failed s
-
--- the job has its answer, behind the output that it has written itself by then
-pub record HasReply (told : Files) (job : Option Job) (before left out_before out_after : Option (List ℕ)) (reply : Reply) : Type 0 where
-  pub output : List ℕ
-  pub wrote : out_after ≡ append_told out_before output
-  pub allowed : Allows told job before left reply output
-
--- a write of what is due failed while the job ran
-pub record IsCutShort (told : Files) (job : Option Job) (before out_before out_after : Option (List ℕ)) : Type 0 where
-  pub due : List ℕ
-  pub is_due : IsDue told job before due
-  pub part : AppendsProperPrefix out_before out_after due
+  answered : (reply : Reply) (output : List ℕ) → Allows told before left job reply output → caused reply → s.out_after ≡ append_told s.out_before output → TellsLine (line_of reply) (status_of reply) status err_failed s.err_before s.err_after → IsAnswered told job before left caused status out_failed err_failed s
+  found_no_memory : (reply : Reply) (output : List ℕ) → Allows told before left job reply output → reply ≢ Done → s.out_after ≡ append_told s.out_before output → TellsLine (line_of Memory) (status_of Memory) status err_failed s.err_before s.err_after → IsAnswered told job before left caused status out_failed err_failed s
+  broke_off : (due : List ℕ) → IsDue told before job due → BreaksOff due status out_failed s → IsAnswered told job before left caused status out_failed err_failed s
 
 -- The text that was appended to the output is that of the file of this name: it stands for a tree, and agrees with the file.
 pub record HasText (told : Files) (name : List ℕ) (s : Streams) : Type 0 where
@@ -48,15 +48,14 @@ pub record HasText (told : Files) (name : List ℕ) (s : Streams) : Type 0 where
   pub decompiles : Decompiles file text
 
 -- The file of the words was run: its output was appended, the line tells how it finished, and the input has lost what it took.
-pub record HasRunFile (told : Files) (job : Option Job) (before left : Option (List ℕ)) (status : ℕ) (s : Streams) : Type 0 where
-  pub name : List ℕ
-  pub steps : ℕ
+pub record HasRunFile (told : Files) (words_job : Option Job) (before left : Option (List ℕ)) (status : ℕ) (s : Streams) : Type 0 where
+  pub job : Job
   pub file : List ℕ
   pub reply : Reply
   pub output : List ℕ
-  pub named : job ≡ Some (Execute name steps)
-  pub has : ShelfHas told name file
-  pub ran : RunsFile file steps before left reply output
+  pub named : words_job ≡ Some job
+  pub has : ShelfHas told (name_of job) file
+  pub ran : Runs job file before left reply output
   pub status_is : status ≡ status_of reply
   pub appended : s.out_after ≡ append_told s.out_before output
   pub line : s.err_after ≡ append_told s.err_before (line_of reply)
@@ -81,18 +80,33 @@ pub record HasFormatFault (told : Files) (job : Option Job) (s : Streams) : Type
   pub fault : MzFault
   pub named : file_of job ≡ Some name
   pub has : ShelfHas told name file
-  pub first : IsRefusal file fault
+  pub first : IsFormatRefusal file fault
   pub line : s.err_after ≡ append_told s.err_before (line_of (Format fault))
 
--- the line of the file that the words name comes to an instruction that is not built yet, at the offset that is told
-pub record HasStop (told : Files) (job : Option Job) (s : Streams) : Type 0 where
+-- The program that the words name is refused, and the line tells why: a construct stands at the offset, the count passes
+-- its number, or an instruction that is reached at the offset is of a form that is not built.
+pub record HasRefusal (told : Files) (job : Option Job) (status : ℕ) (s : Streams) : Type 0 where
   pub name : List ℕ
   pub file : List ℕ
-  pub at : ℕ
+  pub refusal : Refusal
   pub named : job ≡ Some (Decompile name)
   pub has : ShelfHas told name file
-  pub stops : StopsInFile file at
-  pub line : s.err_after ≡ append_told s.err_before (line_of (NotYet at))
+  pub refused : IsRefusedAs refusal file
+  pub status_is : status ≡ status_of (refusal_reply refusal)
+  pub line : s.err_after ≡ append_told s.err_before (line_of (refusal_reply refusal))
+
+-- the text that the words name is refused, and the line tells what offends in it first, with its line
+pub record HasTextFault (told : Files) (words_job : Option Job) (s : Streams) : Type 0 where
+  pub name : List ℕ
+  pub steps : ℕ
+  pub fill : ℕ
+  pub text : List ℕ
+  pub line : ℕ
+  pub kind : ParseKind
+  pub named : words_job ≡ Some (ExecuteText name steps fill)
+  pub has : ShelfHas told name text
+  pub refused : IsTextRefusal text line kind
+  pub line_is : s.err_after ≡ append_told s.err_before (line_of (TextFault line kind))
 
 -- the shelf tells that it has this file under the name of the words
 pub record Names (told : Files) (job : Option Job) (file : List ℕ) : Type 0 where
@@ -109,6 +123,21 @@ pub record IsMissing (told : Files) (job : Option Job) : Type 0 where
   pub named : file_of job ≡ Some name
   pub tells : told ≡ Some files
   pub lacks : files name ≡ None
+
+-- no tree stands for the text, or it is too long
+abbrev pub IsNoText : List ℕ → Type 0
+IsNoText text = ((tree : Tree) → ¬ StandsFor text tree) ⊎ (greatest_text < length text)
+
+-- the program of the file is refused, for another reason than want of memory
+pub record IsRefused (file : List ℕ) : Type 0 where
+  pub refusal : Refusal
+  pub cause : refusal ≢ MemoryRefused
+  pub refused : IsRefusedAs refusal file
+
+-- the run that the job asks for on the file and the input ends so, after the steps that are asked for
+pub data EndsSo (file input : List ℕ) : Job → End → Type 0 where
+  file_ends : {name : List ℕ} {steps : ℕ} {image : Image} → IsImageOf file image → EndsSo file input (Execute name steps) (end_after machine_system steps (start_state image input))
+  text_ends : {name : List ℕ} {steps fill : ℕ} {tree : Tree} → (stands : StandsFor file tree) → length file ≤ greatest_text → EndsSo file input (ExecuteText name steps fill) (end_after (text_system tree) steps (first_state tree stands.allowed.start fill input))
 
 -- the status is one of these
 abbrev pub IsOneOf : ℕ → List ℕ → Type 0
@@ -131,26 +160,26 @@ AsksPrefix job before after = (asked : List (List ℕ × ℕ)) × IsPrefix asked
 abbrev pub AsksAll : Option Job → List (List ℕ × ℕ) → List (List ℕ × ℕ) → Type 0
 AsksAll job before after = after ≡ before ++ requests_of job
 
--- what is written where memory ran out: the output of the job itself, as far as it came, and the line that says so
+-- what is written where memory ran out: the output of the job, as far as it came and never a whole text, and the line that
+-- says so
 pub record IsOutOfMemory (told : Files) (job : Option Job) (before left : Option (List ℕ)) (s : Streams) : Type 0 where
   pub reply : Reply
   pub output : List ℕ
-  pub allowed : Allows told job before left reply output
+  pub allowed : Allows told before left job reply output
+  pub not_done : reply ≢ Done
   pub out : s.out_after ≡ append_told s.out_before output
   pub line : s.err_after ≡ append_told s.err_before (line_of Memory)
 
--- A write to the error stream failed: a part of what is due on the output is there, or all of it, and a part of the line
--- of an answer that is allowed; want of memory may be told in the place of any.
+-- A write to the error stream failed: all that is due on the output is there, and a part of the line of an answer that is
+-- allowed; want of memory may be told in the place of any.
 pub record IsCutInLine (told : Files) (job : Option Job) (before left : Option (List ℕ)) (caused : Reply → Type 0) (s : Streams) : Type 0 where
   pub reply : Reply
   pub output : List ℕ
-  pub allowed : Allows told job before left reply output
-  pub front : List ℕ
-  pub is_front : IsPrefix front (output ++ text_in reply)
-  pub out : s.out_after ≡ append_told s.out_before front
+  pub allowed : Allows told before left job reply output
+  pub out : s.out_after ≡ append_told s.out_before output
   pub err : (AppendsProperPrefix s.err_before s.err_after (line_of reply) × caused reply) ⊎ AppendsProperPrefix s.err_before s.err_after (line_of Memory)
 
 -- What is written where a write failed: a part of what is due, and nothing on the error stream; or a part of the line.
 abbrev pub IsCutOff : Files → Option Job → Option (List ℕ) → Option (List ℕ) → (Reply → Type 0) → ℕ → Type 0 → Type 0 → Streams → Type 0
 IsCutOff told job before left caused status out_failed err_failed s =
-    ((due : List ℕ) × IsDue told job before due × BreaksOff due status out_failed s) ⊎ (IsCutInLine told job before left caused s × err_failed)
+    ((due : List ℕ) × IsDue told before job due × BreaksOff due status out_failed s) ⊎ (IsCutInLine told job before left caused s × err_failed)

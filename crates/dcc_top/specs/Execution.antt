@@ -1,57 +1,99 @@
--- The run of an executable: what it puts out and takes, and how it ends.
-use Rattle.std.specs.Prelude.{◌≡◌, ℕ, ◌<◌, List, [], ◌∷◌, Option, Some}
-use Rattle.dcc_io.specs.Told.{WhenTold, append_told, AppendsProperPrefix}
-use Rattle.dcc_run.specs.End.{End, Running as running, Exit as exited, Divide as divided, Outside as outside}
-use Rattle.dcc_run.specs.System.{after, out_after, end_after}
+-- Runs: what they put out and take, and how they end.
+use Rattle.std.specs.Prelude.{◌≡◌, ◌⊎◌, ℕ, ◌+◌, ◌<◌, List, [], ◌∷◌, Option, Some}
+use Rattle.dcc_io.specs.Told.{WhenTold}
+use Rattle.dcc_run.specs.End.{End, Running as running, Exit as exited, Divide as divided, Outside as outside, Stuck as stuck}
+use Rattle.dcc_run.specs.Prefix.{IsPrefix}
+use Rattle.dcc_run.specs.System.{System, after, out_after, end_after}
 use Rattle.dcc_prog.specs.declared.image.Image.{Image}
-use Rattle.dcc_prog.specs.Machine.{State, start_state}
-use Rattle.dcc_prog.specs.Step.{step, machine_system}
+use Rattle.dcc_prog.specs.Machine.{State as MachineState, start_state}
+use Rattle.dcc_prog.specs.Step.{machine_system}
+use Rattle.dcc_c.specs.Tree.{Tree, Function}
+use Rattle.dcc_c.specs.Run.{State as TextState, text_system, first_state}
 use Rattle.dcc_top.specs.declared.reply.Reply.{Reply}
-use Rattle.dcc_top.specs.declared.reply.Reply.TheVariants.{Exited, InputFault, Memory, Unfinished, Divided, Outside}
+use Rattle.dcc_top.specs.declared.reply.Reply.TheVariants.{Exited, InputFault, Memory, Unfinished, Divided, Outside, Stuck}
 
--- the image's run on the input puts out these bytes in so many steps, leaves this input, and has ended so
-pub record HasRun (image : Image) (steps : ℕ) (left : Option (List ℕ)) (output : List ℕ) (end : End) (input : List ℕ) : Type 0 where
-  pub output_is : output ≡ out_after machine_system steps (start_state image input)
-  pub left_is : left ≡ Some (after step steps (start_state image input)).input
-  pub end_is : end_after machine_system steps (start_state image input) ≡ end
+-- What is run: a system, the state in which it starts on an input, the input that a state has left, and a state with
+-- another input.
+pub record Subject (S : Type 0) : Type 0 where
+  pub system : System S
+  pub start : List ℕ → S
+  pub left : S → List ℕ
+  pub with_left : List ℕ → S → S
+
+-- the machine, from the start of an image
+abbrev pub machine_of : Image → Subject MachineState
+machine_of image = record {
+  system = machine_system;
+  start = start_state image;
+  left = λ s. s.input;
+  with_left = λ input s. record s { input = input };
+}
+
+-- a text, from its function `start`
+abbrev pub text_of : Tree → Function → ℕ → Subject TextState
+text_of tree start fill = record {
+  system = text_system tree;
+  start = first_state tree start fill;
+  left = λ s. s.input;
+  with_left = λ input s. record s { input = input };
+}
+
+-- the state after so many steps on the input
+abbrev pub state_after : {S : Type 0} → Subject S → ℕ → List ℕ → S
+state_after subject steps input = after subject.system.step steps (subject.start input)
+
+-- the output of so many steps on the input
+abbrev pub output_after : {S : Type 0} → Subject S → ℕ → List ℕ → List ℕ
+output_after subject steps input = out_after subject.system steps (subject.start input)
+
+-- the run on the input puts out these bytes in so many steps, leaves this input, and has ended so
+pub record HasRun {S : Type 0} (subject : Subject S) (steps : ℕ) (left : Option (List ℕ)) (output : List ℕ) (end : End) (input : List ℕ) : Type 0 where
+  pub output_is : output ≡ output_after subject steps input
+  pub left_is : left ≡ Some (subject.left (state_after subject steps input))
+  pub end_is : end_after subject.system steps (subject.start input) ≡ end
 
 -- the next step takes an input byte
-abbrev pub TakesInput : State → Type 0
-TakesInput s = (byte : ℕ) (rest : List ℕ) → (step (record s { input = byte ∷ rest })).input ≡ rest
+abbrev pub TakesInput : {S : Type 0} → Subject S → S → Type 0
+TakesInput subject s =
+    (byte : ℕ) (rest : List ℕ) → subject.left (subject.system.step (subject.with_left (byte ∷ rest) s)) ≡ rest
 
 -- the run stopped before a step that takes an input byte: these bytes were put out and this input is left
-pub record StopsAtRead (image : Image) (steps : ℕ) (left : Option (List ℕ)) (output : List ℕ) (input : List ℕ) : Type 0 where
+pub record StopsAtRead {S : Type 0} (subject : Subject S) (steps : ℕ) (left : Option (List ℕ)) (output : List ℕ) (input : List ℕ) : Type 0 where
   pub made : ℕ
   pub short : made < steps
-  pub output_is : output ≡ out_after machine_system made (start_state image input)
-  pub left_is : left ≡ Some (after step made (start_state image input)).input
-  pub takes : TakesInput (after step made (start_state image input))
+  pub output_is : output ≡ output_after subject made input
+  pub left_is : left ≡ Some (subject.left (state_after subject made input))
+  pub takes : TakesInput subject (state_after subject made input)
 
--- What an answer says of the run of an image for so many steps: from the input that was left before, where that is told,
--- these bytes were put out, and this input is left.
-abbrev pub Finishes : Image → ℕ → Option (List ℕ) → Option (List ℕ) → Reply → List ℕ → Type 0
-Finishes image steps before left (Exited code) output = WhenTold before (HasRun image steps left output (exited code))
-Finishes image steps before left InputFault output = WhenTold before (StopsAtRead image steps left output)
-Finishes image steps before left Memory output = (output ≡ []) × (left ≡ before)
-Finishes image steps before left (Unfinished made) output =
-    (made ≡ steps) × WhenTold before (HasRun image steps left output running)
-Finishes image steps before left Divided output = WhenTold before (HasRun image steps left output divided)
-Finishes image steps before left (Outside at) output = WhenTold before (HasRun image steps left output (outside at))
-Finishes image steps before left _ output = ⊥
+-- The run stopped in a step: what the steps before put out is there, and a part of what the step puts out, and the input
+-- is as it was before the step or is behind it.
+pub record StopsInStep {S : Type 0} (subject : Subject S) (steps : ℕ) (left : Option (List ℕ)) (output : List ℕ) (input : List ℕ) : Type 0 where
+  pub made : ℕ
+  pub short : made < steps
+  pub before : IsPrefix (output_after subject made input) output
+  pub behind : IsPrefix output (output_after subject (made + 1) input)
+  pub left_is : (left ≡ Some (subject.left (state_after subject made input))) ⊎ (left ≡ Some (subject.left (state_after subject (made + 1) input)))
+
+-- the answer where a run of so many steps has ended so, or goes on
+abbrev pub end_reply : ℕ → End → Reply
+end_reply steps running = Unfinished steps
+end_reply steps (exited code) = Exited code
+end_reply steps divided = Divided
+end_reply steps (outside at) = Outside at
+end_reply steps (stuck line) = Stuck line
+
+-- What an answer says of a run of so many steps: from the input that was left before, where that is told, these bytes were
+-- put out, and this input is left. Where no memory was found for the run, nothing was.
+pub data Finishes {S : Type 0} (subject : Subject S) (steps : ℕ) (before left : Option (List ℕ)) : Reply → List ℕ → Type 0 where
+  ended : {output : List ℕ} (end : End) → WhenTold before (HasRun subject steps left output end) → Finishes subject steps before left (end_reply steps end) output
+  stopped_at_read : {output : List ℕ} → WhenTold before (StopsAtRead subject steps left output) → Finishes subject steps before left InputFault output
+  not_begun : left ≡ before → Finishes subject steps before left Memory []
+
+-- the same for a run whose steps take memory
+pub data FinishesOrStops {S : Type 0} (subject : Subject S) (steps : ℕ) (before left : Option (List ℕ)) : Reply → List ℕ → Type 0 where
+  finishes : {reply : Reply} {output : List ℕ} → Finishes subject steps before left reply output → FinishesOrStops subject steps before left reply output
+  stopped_in_step : {output : List ℕ} → WhenTold before (StopsInStep subject steps left output) → FinishesOrStops subject steps before left Memory output
 
 -- the output that a run of so many steps puts out from the input, where that is told
-abbrev pub PutsOut : Image → ℕ → Option (List ℕ) → List ℕ → Type 0
-PutsOut image steps before output =
-    WhenTold before (λ input. output ≡ out_after machine_system steps (start_state image input))
-
--- An image was run, and these bytes were appended to the output.
-pub record Ran (image : Image) (steps : ℕ) (before left out_before out_after : Option (List ℕ)) (reply : Reply) : Type 0 where
-  pub output : List ℕ
-  pub wrote : out_after ≡ append_told out_before output
-  pub finishes : Finishes image steps before left reply output
-
--- a write failed in the run: a part of what it puts out is there, and not all of it
-pub record BrokeOff (image : Image) (steps : ℕ) (before out_before out_after : Option (List ℕ)) : Type 0 where
-  pub output : List ℕ
-  pub puts : PutsOut image steps before output
-  pub part : AppendsProperPrefix out_before out_after output
+abbrev pub PutsOut : {S : Type 0} → Subject S → ℕ → Option (List ℕ) → List ℕ → Type 0
+PutsOut subject steps before output = WhenTold before (λ input. output ≡ output_after subject steps input)

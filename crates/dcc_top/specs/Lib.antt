@@ -1,9 +1,6 @@
-pub mod Line
-pub mod LineText
-pub mod Agreement
 pub mod Words
 pub mod WordsRead
+pub mod Execution
 pub mod Answer
 pub mod Delivery
 pub mod Causes
-pub mod Execution

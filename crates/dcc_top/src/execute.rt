@@ -1,10 +1,11 @@
 //! Running an executable.
 
-ghost use Rattle.std.specs.Prelude.{◌≡◌, ◌≤◌, IfOk, IsErr, OnErr};
+ghost use Rattle.std.specs.Prelude.{◌≡◌, ◌≤◌, IfOk, OnErr};
 ghost use Rattle.dcc_io.specs.Count.{Rose};
 ghost use Rattle.dcc_prog.specs.MzImage.{IsLoaded};
 ghost use Rattle.dcc_top.specs.declared.reply.Reply.TheVariants.{InputFault};
-ghost use Rattle.dcc_top.specs.Execution.{Ran, BrokeOff};
+ghost use Rattle.dcc_top.specs.Delivery.{Answers, CutsShort};
+ghost use Rattle.dcc_top.specs.Execution.{machine_of, Finishes, PutsOut};
 
 use crate::reply::Reply;
 use dcc_io::{Failed, Sink, Source};
@@ -22,9 +23,10 @@ pub fn execute<I: Source, O: Sink>(
     out: &mut O,
 ) -> Result<Reply, Failed>
     requires { IsLoaded image.now }
-    ensures ran { IfOk result (Ran image.now steps (I.left input.old) (I.left input.new)
+    ensures ran { IfOk result (Answers
+        (Finishes (machine_of image.now) steps (I.left input.old) (I.left input.new))
         (O.taken out.old) (O.taken out.new)) }
-    ensures broke_off { OnErr result (BrokeOff image.now steps (I.left input.old)
+    ensures broke_off { OnErr result (CutsShort (PutsOut (machine_of image.now) steps (I.left input.old))
         (O.taken out.old) (O.taken out.new)) }
 
     // The counts never fall, and a fault comes only where its count rose.

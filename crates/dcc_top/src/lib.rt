@@ -1,13 +1,11 @@
 //! The top call: words, files and answers.
 #![tactic(auto)]
 
-mod build;
+pub mod decompile_job;
 pub mod deliver;
 pub mod execute;
 pub mod fetch;
-pub mod form;
-pub mod line;
 pub mod reply;
-pub mod text;
+pub mod text_job;
 pub mod top;
 pub mod words;

@@ -3,58 +3,23 @@
 ghost use Rattle.std.specs.Prelude.{◌≡◌, ◌≢◌, ◌⊎◌, ◌≤◌, ◌∷◌, [], ℕ, List, Some, None, IfOk, OnErr, MatchResult};
 ghost use Rattle.dcc_io.specs.Count.{Rose};
 ghost use Rattle.dcc_io.specs.Told.{AppendsProperPrefix};
-ghost use Rattle.dcc_run.specs.System.{end_after};
-ghost use Rattle.dcc_prog.specs.declared.image.Image.{Image};
-ghost use Rattle.dcc_prog.specs.Machine.{start_state};
-ghost use Rattle.dcc_prog.specs.MzImage.{IsImageOf, IsLoaded, FormatFault, IsFirstFault};
-ghost use Rattle.dcc_prog.specs.Step.{machine_system};
+ghost use Rattle.dcc_run.specs.End.{End};
+ghost use Rattle.dcc_prog.specs.MzImage.{FormatFault, IsFirstFault};
 ghost use Rattle.dcc_top.specs.declared.reply.Reply.TheVariants.{NoFile, FileFault, InputFault, Memory};
-ghost use Rattle.dcc_top.specs.Words.{Decompile, Execute, IsExecution, job_in};
-ghost use Rattle.dcc_top.specs.Answer.{AllowsForImage, AllowsText, StopsInFile, EndsInFile, line_of};
-ghost use Rattle.dcc_top.specs.Delivery.{streams};
-ghost use Rattle.dcc_top.specs.Causes.{IsAnswered, IsCaused, HasReply, IsCutShort, HasText, HasRunFile, IsAbsent, IsUnreadable, HasFormatFault, HasStop, Names, IsMissing, IsOneOf, end_status, AsksPrefix, AsksAll, IsOutOfMemory, IsCutOff};
+ghost use Rattle.dcc_top.specs.Words.{Job, Decompile, Execute, ExecuteText, IsExecution, LoadsImage, job_in};
+ghost use Rattle.dcc_top.specs.Answer.{Allows, IsAcceptedFile, IsDue, line_of};
+ghost use Rattle.dcc_top.specs.Delivery.{Answers, CutsShort, streams};
+ghost use Rattle.dcc_top.specs.Causes.{IsAnswered, IsCaused, HasText, HasRunFile, IsAbsent, IsUnreadable, HasFormatFault, HasRefusal, HasTextFault, Names, IsMissing, IsNoText, IsRefused, EndsSo, IsOneOf, end_status, AsksPrefix, AsksAll, IsOutOfMemory, IsCutOff};
 
+use crate::decompile_job::text_reply;
 use crate::deliver::{WRITE_FAULT, answer};
 use crate::execute::execute;
 use crate::fetch::fetch_image;
-use crate::line::straight_line;
 use crate::reply::Reply;
-use crate::text::line_text;
+use crate::text_job::{execute_unit, fetch_unit};
 use crate::words::{Job, job_of};
 use dcc_io::{Failed, Shelf, Sink, Source};
-use dcc_prog::{Image, Refusal};
 use std::alloc::Global;
-
-// The text of an image, or why there is none.
-fn text_of(alloc: Global, image: &Image) -> Reply
-    requires { IsLoaded image.now }
-    ensures { AllowsForImage image.now result }
-{
-    match straight_line(alloc, image.code(), image.ip) {
-        Ok(forms) => match line_text(alloc, &forms) {
-            Ok(text) => Reply::Done(text),
-            Err(_) => Reply::Memory,
-        },
-        Err(Refusal::NotYet { at }) => Reply::NotYet(at),
-        Err(_) => Reply::Memory,
-    }
-}
-
-// The answer of `c` for the file of this name.
-fn text_reply<H: Shelf>(alloc: Global, name: &str, shelf: &mut H) -> Reply
-    ensures allowed { AllowsText (H.files shelf.old) name.now result }
-    ensures asked { (result ≡ Memory) ⊎ AsksAll (Some (Decompile name.now))
-        (H.asked shelf.old) (H.asked shelf.new) }
-    ensures asked_prefix { AsksPrefix (Some (Decompile name.now))
-        (H.asked shelf.old) (H.asked shelf.new) }
-    ensures absent { result ≡ NoFile → Rose (H.absences shelf.old) (H.absences shelf.new) }
-    ensures failed { result ≡ FileFault → Rose (H.faults shelf.old) (H.faults shelf.new) }
-{
-    match fetch_image(alloc, name, shelf) {
-        Ok(image) => text_of(alloc, &image),
-        Err(reply) => reply,
-    }
-}
 
 // The answer of `run` for the file of this name. The error is a failed write of what the program puts out.
 fn run_reply<H: Shelf, I: Source, O: Sink>(
@@ -66,15 +31,14 @@ fn run_reply<H: Shelf, I: Source, O: Sink>(
     out: &mut O,
 ) -> Result<Reply, Failed>
     ensures allowed { IfOk result (
-        HasReply (H.files shelf.old) (Some (Execute name.now steps))
-        (I.left input.old) (I.left input.new) (O.taken out.old) (O.taken out.new)) }
+        Answers (Allows (H.files shelf.old) (I.left input.old) (I.left input.new) (Some (Execute name.now steps)))
+        (O.taken out.old) (O.taken out.new)) }
     ensures broke_off { OnErr result (
-        IsCutShort (H.files shelf.old) (Some (Execute name.now steps))
-        (I.left input.old) (O.taken out.old) (O.taken out.new)) }
+        CutsShort (IsDue (H.files shelf.old) (I.left input.old) (Some (Execute name.now steps)))
+        (O.taken out.old) (O.taken out.new)) }
     ensures asked { MatchResult result (λ reply. (reply ≡ Memory) ⊎
-        AsksAll (Some (Execute name.now steps))
-        (H.asked shelf.old) (H.asked shelf.new)) (λ _.
-        AsksAll (Some (Execute name.now steps)) (H.asked shelf.old) (H.asked shelf.new)) }
+        AsksAll (Some (Execute name.now steps)) (H.asked shelf.old) (H.asked shelf.new))
+        (λ _. AsksAll (Some (Execute name.now steps)) (H.asked shelf.old) (H.asked shelf.new)) }
     ensures asked_prefix { AsksPrefix (Some (Execute name.now steps))
         (H.asked shelf.old) (H.asked shelf.new) }
     ensures absent { IfOk result (λ reply. reply ≡ NoFile → Rose
@@ -92,7 +56,43 @@ fn run_reply<H: Shelf, I: Source, O: Sink>(
     }
 }
 
-// The answer for the words. The error is a failed write of what a program puts out that is run.
+// The answer of `runc` for the text of this name. The error is a failed write of what the text puts out.
+fn runc_reply<H: Shelf, I: Source, O: Sink>(
+    alloc: Global,
+    name: &str,
+    steps: u64,
+    fill: u16,
+    shelf: &mut H,
+    input: &mut I,
+    out: &mut O,
+) -> Result<Reply, Failed>
+    ensures allowed { IfOk result (
+        Answers (Allows (H.files shelf.old) (I.left input.old) (I.left input.new) (Some (ExecuteText name.now steps fill)))
+        (O.taken out.old) (O.taken out.new)) }
+    ensures broke_off { OnErr result (
+        CutsShort (IsDue (H.files shelf.old) (I.left input.old) (Some (ExecuteText name.now steps fill)))
+        (O.taken out.old) (O.taken out.new)) }
+    ensures asked { MatchResult result (λ reply. (reply ≡ Memory) ⊎
+        AsksAll (Some (ExecuteText name.now steps fill)) (H.asked shelf.old) (H.asked shelf.new))
+        (λ _. AsksAll (Some (ExecuteText name.now steps fill)) (H.asked shelf.old) (H.asked shelf.new)) }
+    ensures asked_prefix { AsksPrefix (Some (ExecuteText name.now steps fill))
+        (H.asked shelf.old) (H.asked shelf.new) }
+    ensures absent { IfOk result (λ reply. reply ≡ NoFile → Rose
+        (H.absences shelf.old) (H.absences shelf.new)) }
+    ensures failed { IfOk result (λ reply. reply ≡ FileFault → Rose (H.faults shelf.old) (H.faults
+        shelf.new)) }
+    ensures read_failed { IfOk result (λ reply. reply ≡ InputFault → Rose (I.faults input.old)
+        (I.faults input.new)) }
+    ensures output_faults { O.faults out.old ≤ O.faults out.new }
+    ensures write_failed { OnErr result (Rose (O.faults out.old) (O.faults out.new)) }
+{
+    match fetch_unit(alloc, name, shelf) {
+        Ok(unit) => execute_unit(alloc, &unit, steps, fill, input, out),
+        Err(reply) => Ok(reply),
+    }
+}
+
+// The answer for the words. The error is a failed write of a text or of what is put out by what is run.
 fn reply_for<H: Shelf, I: Source, O: Sink>(
     alloc: Global,
     words: &Vec<String>,
@@ -101,11 +101,11 @@ fn reply_for<H: Shelf, I: Source, O: Sink>(
     out: &mut O,
 ) -> Result<Reply, Failed>
     ensures allowed { IfOk result (
-        HasReply (H.files shelf.old) (job_in words.now.items)
-        (I.left input.old) (I.left input.new) (O.taken out.old) (O.taken out.new)) }
+        Answers (Allows (H.files shelf.old) (I.left input.old) (I.left input.new) (job_in words.now.items))
+        (O.taken out.old) (O.taken out.new)) }
     ensures broke_off { OnErr result (
-        IsCutShort (H.files shelf.old) (job_in words.now.items)
-        (I.left input.old) (O.taken out.old) (O.taken out.new)) }
+        CutsShort (IsDue (H.files shelf.old) (I.left input.old) (job_in words.now.items))
+        (O.taken out.old) (O.taken out.new)) }
     ensures asked { MatchResult result (λ reply. (reply ≡ Memory) ⊎
         AsksAll (job_in words.now.items) (H.asked shelf.old) (H.asked shelf.new))
         (λ _. AsksAll (job_in words.now.items) (H.asked shelf.old) (H.asked shelf.new)) }
@@ -123,21 +123,26 @@ fn reply_for<H: Shelf, I: Source, O: Sink>(
 {
     match job_of(words) {
         None => Ok(Reply::Usage),
-        Some(Job::Decompile(name)) => Ok(text_reply(alloc, name, shelf)),
+        Some(Job::Decompile(name)) => text_reply(alloc, name, shelf, out),
         Some(Job::Execute { file, steps }) => run_reply(alloc, file, steps, shelf, input, out),
+        Some(Job::ExecuteText { file, steps, fill }) => {
+            runc_reply(alloc, file, steps, fill, shelf, input, out)
+        }
     }
 }
 
 /// Does what the words after the program's name say, and answers the exit status.
 ///
-/// `c FILE` writes the text of the executable FILE to `out`. `run FILE` runs it, on the input and to
-/// the output, for at most the steps of `--steps N`. No other words are a command.
+/// `c FILE` writes the text of the executable FILE to `out`. `run FILE` runs it, on the input and to the output, for at
+/// most the steps of `--steps N`. `runc FILE` runs the text FILE so, with the fill of `--fill N`. No other words are a
+/// command.
 ///
-/// Statuses: 0 where the text is written or the run has ended by its exit; 2 usage, 3 no file, 4 the
-/// file could not be read, 5 the input could not, 6 a write failed, 7 memory ran out, 8 the file is no
-/// executable, 12 an instruction is not built yet, 20 the run goes on after the steps that were asked
-/// for, 21 it ended by a divide fault, 22 it came to what is no instruction. A status other than 0 and
-/// 6 has its line on `err`, and the exit of a run too.
+/// Statuses: 0 where the text is written or the run has ended by its exit; 2 usage, 3 no file, 4 the file could not be
+/// read, 5 the input could not, 6 a write failed, 7 memory ran out, 8 the file is no executable, 9 a construct stands in
+/// the program for which no text is written, 10 a count of the program is too great, 11 the file is no text, 12 an
+/// instruction that the program reaches is not built yet, 20 the run goes on after the steps that were asked for, 21 it
+/// ended by a divide fault, 22 it came to what is no instruction, 24 the text has no step there. A status other than 0
+/// and 6 has its line on `err`, and the exit of a run too.
 pub fn dcc<H: Shelf, I: Source, O: Sink, E: Sink>(
     alloc: Global,
     words: &Vec<String>,
@@ -160,22 +165,20 @@ pub fn dcc<H: Shelf, I: Source, O: Sink, E: Sink>(
         → HasText (H.files shelf.old) name
         (streams (O.taken out.old) (O.taken out.new) (E.taken err.old) (E.taken err.new)) }
 
-    // What `run` puts out and takes, and how the run has ended, are those of the file.
+    // What `run` and `runc` put out and take, and how the run has ended, are those of the file.
     ensures exited { IsExecution (job_in words.now.items) → result ≡ 0
         → HasRunFile (H.files shelf.old) (job_in words.now.items)
         (I.left input.old) (I.left input.new) result
         (streams (O.taken out.old) (O.taken out.new) (E.taken err.old) (E.taken err.new)) }
-    ensures ran { IsOneOf result (5 ∷ (20 ∷ (21 ∷ (22 ∷ []))))
+    ensures ran { IsOneOf result (5 ∷ (20 ∷ (21 ∷ (22 ∷ (24 ∷ [])))))
         → HasRunFile (H.files shelf.old) (job_in words.now.items)
         (I.left input.old) (I.left input.new) result
         (streams (O.taken out.old) (O.taken out.new) (E.taken err.old) (E.taken err.new)) }
-    ensures ran_always { (name : List ℕ) (steps : ℕ) (file : List ℕ) (image : Image)
-        (bytes : List ℕ)
-        → job_in words.now.items ≡ Some (Execute name steps)
+    ensures ran_always { (job : Job) (file bytes : List ℕ) (end : End)
+        → job_in words.now.items ≡ Some job
         → Names (H.files shelf.old) (job_in words.now.items) file
-        → IsImageOf file image → I.left input.old ≡ Some bytes
-        → IsOneOf result (end_status (end_after machine_system steps (start_state image bytes))
-        ∷ (4 ∷ (5 ∷ (6 ∷ (7 ∷ []))))) }
+        → I.left input.old ≡ Some bytes → EndsSo file bytes job end
+        → IsOneOf result (end_status end ∷ (4 ∷ (5 ∷ (6 ∷ (7 ∷ []))))) }
     ensures read_failed { result ≡ 5 → Rose (I.faults input.old) (I.faults input.new) }
 
     // The words are no command.
@@ -193,23 +196,32 @@ pub fn dcc<H: Shelf, I: Source, O: Sink, E: Sink>(
     // The file has no image.
     ensures format { result ≡ 8 → HasFormatFault (H.files shelf.old) (job_in words.now.items)
         (streams (O.taken out.old) (O.taken out.new) (E.taken err.old) (E.taken err.new)) }
-    ensures format_always { (file : List ℕ) (fault : FormatFault)
+    ensures format_always { (file : List ℕ) (fault : FormatFault) → LoadsImage (job_in words.now.items)
         → Names (H.files shelf.old) (job_in words.now.items) file → IsFirstFault file fault
         → IsOneOf result (8 ∷ (4 ∷ (6 ∷ (7 ∷ [])))) }
 
-    // The straight line from the entry comes to an instruction that is not built yet.
-    ensures not_yet { result ≡ 12 → HasStop (H.files shelf.old) (job_in words.now.items)
+    // The program is refused: for a construct, for a count, or for an instruction that is not built yet.
+    ensures refused { IsOneOf result (9 ∷ (10 ∷ (12 ∷ [])))
+        → HasRefusal (H.files shelf.old) (job_in words.now.items) result
         (streams (O.taken out.old) (O.taken out.new) (E.taken err.old) (E.taken err.new)) }
-    ensures not_yet_always { (name file : List ℕ) (at : ℕ)
+    ensures refused_always { (name file : List ℕ)
         → job_in words.now.items ≡ Some (Decompile name)
-        → Names (H.files shelf.old) (job_in words.now.items) file → StopsInFile file at
-        → IsOneOf result (12 ∷ (4 ∷ (6 ∷ (7 ∷ [])))) }
+        → Names (H.files shelf.old) (job_in words.now.items) file → IsRefused file
+        → IsOneOf result (9 ∷ (10 ∷ (12 ∷ (4 ∷ (6 ∷ (7 ∷ [])))))) }
 
-    // The straight line ends by the call that leaves.
+    // Nothing in the program is refused.
     ensures text_always { (name file : List ℕ)
         → job_in words.now.items ≡ Some (Decompile name)
-        → Names (H.files shelf.old) (job_in words.now.items) file → EndsInFile file
+        → Names (H.files shelf.old) (job_in words.now.items) file → IsAcceptedFile file
         → IsOneOf result (0 ∷ (4 ∷ (6 ∷ (7 ∷ [])))) }
+
+    // The text is refused: no tree stands for it, or it is too long.
+    ensures text_fault { result ≡ 11 → HasTextFault (H.files shelf.old) (job_in words.now.items)
+        (streams (O.taken out.old) (O.taken out.new) (E.taken err.old) (E.taken err.new)) }
+    ensures text_fault_always { (name file : List ℕ) (steps fill : ℕ)
+        → job_in words.now.items ≡ Some (ExecuteText name steps fill)
+        → Names (H.files shelf.old) (job_in words.now.items) file → IsNoText file
+        → IsOneOf result (11 ∷ (4 ∷ (6 ∷ (7 ∷ [])))) }
 
     // A write failed.
     ensures write_failed { result ≡ 6
@@ -217,7 +229,7 @@ pub fn dcc<H: Shelf, I: Source, O: Sink, E: Sink>(
 
     // What is written: nothing at a refusal; where memory ran out, what a run had put out by then;
     // where a write failed, a part of an answer.
-    ensures nothing { IsOneOf result (2 ∷ (3 ∷ (4 ∷ (8 ∷ (12 ∷ [])))))
+    ensures nothing { IsOneOf result (2 ∷ (3 ∷ (4 ∷ (8 ∷ (9 ∷ (10 ∷ (11 ∷ (12 ∷ []))))))))
         → O.taken out.new ≡ O.taken out.old }
     ensures out_of_memory { result ≡ 7 → IsOutOfMemory (H.files shelf.old) (job_in words.now.items)
         (I.left input.old) (I.left input.new)
@@ -243,7 +255,7 @@ pub fn dcc<H: Shelf, I: Source, O: Sink, E: Sink>(
     ensures input { (IsExecution (job_in words.now.items) → ⊥) → input.new ≡ input.old }
 {
     match reply_for(alloc, words, shelf, input, out) {
-        Ok(reply) => answer(alloc, &reply, out, err),
+        Ok(reply) => answer(alloc, &reply, err),
         Err(Failed) => WRITE_FAULT,
     }
 }
