@@ -68,17 +68,15 @@ pub record IsRefusedWrite (before now : Scene) : Type 0 where
   pub took : before.left ≡ prepend_told given now.left
   pub part : AppendsProperPrefix before.taken now.taken written
 
--- Memory ran out: the run has not changed, the input gave what the step takes or nothing, and the output took a part of
--- what the step writes.
+-- Memory ran out: the run has not changed, the output took a part of what the step writes, and the input is as before
+-- or has lost what the step takes.
 pub record IsStarved (before now : Scene) : Type 0 where
-  pub given : List ℕ
-  pub written : List ℕ
-  pub would : Would before given written
   pub unchanged : now.run ≡ before.run
-  pub took : (before.left ≡ prepend_told given now.left) ⊎ (before.left ≡ now.left)
   pub front : List ℕ
-  pub is_front : IsPrefix front written
   pub wrote : now.taken ≡ append_told before.taken front
+  pub part : (tree : Tree) (s : State) → StandsAt tree before.run s → before.left ≡ Some s.input → IsPrefix (s.out ++ front) (step tree s).out
+  pub took : (tree : Tree) (s : State) → StandsAt tree before.run s → before.left ≡ Some s.input
+      → (now.left ≡ before.left) ⊎ (now.left ≡ Some (step tree s).input)
 
 -- fewer steps than these were made, and the next one was refused
 pub record StopsShort (most : ℕ) (IsRefused : Scene → Scene → Type 0) (before now : Scene) : Type 0 where

@@ -1,5 +1,5 @@
 -- The program's answers: the status, the line on the error stream, and which answers are allowed for a job.
-use Rattle.std.specs.Prelude.{◌≡◌, ◌≤◌, ℕ, ◌+◌, ◌/◌, ◌%◌, nat_lt, if◌then◌else◌, List, [], ◌∷◌, ◌++◌, length, codes, Option, Some, None}
+use Rattle.std.specs.Prelude.{◌≡◌, ◌≢◌, ◌≤◌, ℕ, ◌+◌, ◌/◌, ◌%◌, nat_lt, if◌then◌else◌, List, [], ◌∷◌, ◌++◌, length, codes, Option, Some, None}
 use Rattle.std.specs.Fmt.{decimal}
 use Rattle.dcc_mz.specs.Fault.{number_of, place_of, IsRefusal as IsFormatRefusal}
 use Rattle.dcc_mz.specs.declared.fault.MzFault.{MzFault}
@@ -175,11 +175,17 @@ pub record IsRefusedAs (refusal : Refusal) (file : List ℕ) : Type 0 where
   pub is_image : IsImageOf file image
   pub refused : IsProgramRefusal image refusal
 
--- the file's image is accepted
-pub record IsAcceptedFile (file : List ℕ) : Type 0 where
+-- The file has an image, and each of its images is as the fact says; they differ only in where their bytes are kept.
+pub record OfImages (file : List ℕ) (P : Image → Type 0) : Type 0 where
   pub image : Image
   pub is_image : IsImageOf file image
-  pub accepted : IsAccepted image
+  pub each : (other : Image) → IsImageOf file other → P other
+
+-- the image is refused, for another reason than want of memory
+pub record IsRefusedImage (image : Image) : Type 0 where
+  pub refusal : Refusal
+  pub cause : refusal ≢ MemoryRefused
+  pub refused : IsProgramRefusal image refusal
 
 -- The answer is allowed for the file of this name whose text is asked for, behind these bytes.
 pub data AllowsText (told : Files) (name : List ℕ) : Reply → List ℕ → Type 0 where

@@ -9,7 +9,6 @@ use Rattle.dcc_run.specs.Prefix.{IsPrefix}
 use Rattle.dcc_run.specs.System.{end_after}
 use Rattle.dcc_prog.specs.declared.image.Image.{Image}
 use Rattle.dcc_prog.specs.declared.refusal.Refusal.{Refusal}
-use Rattle.dcc_prog.specs.declared.refusal.Refusal.TheVariants.{Memory as MemoryRefused}
 use Rattle.dcc_prog.specs.Machine.{start_state}
 use Rattle.dcc_prog.specs.MzImage.{IsImageOf}
 use Rattle.dcc_prog.specs.Step.{machine_system}
@@ -127,12 +126,6 @@ pub record IsMissing (told : Files) (job : Option Job) : Type 0 where
 -- no tree stands for the text, or it is too long
 abbrev pub IsNoText : List ℕ → Type 0
 IsNoText text = ((tree : Tree) → ¬ StandsFor text tree) ⊎ (greatest_text < length text)
-
--- the program of the file is refused, for another reason than want of memory
-pub record IsRefused (file : List ℕ) : Type 0 where
-  pub refusal : Refusal
-  pub cause : refusal ≢ MemoryRefused
-  pub refused : IsRefusedAs refusal file
 
 -- the run that the job asks for on the file and the input ends so, after the steps that are asked for
 pub data EndsSo (file input : List ℕ) : Job → End → Type 0 where

@@ -5,11 +5,12 @@ ghost use Rattle.dcc_io.specs.Count.{Rose};
 ghost use Rattle.dcc_io.specs.Told.{AppendsProperPrefix};
 ghost use Rattle.dcc_run.specs.End.{End};
 ghost use Rattle.dcc_prog.specs.MzImage.{FormatFault, IsFirstFault};
+ghost use Rattle.dcc_pipe.specs.Decompilation.{IsAccepted};
 ghost use Rattle.dcc_top.specs.declared.reply.Reply.TheVariants.{NoFile, FileFault, InputFault, Memory};
-ghost use Rattle.dcc_top.specs.Words.{Job, Decompile, Execute, ExecuteText, IsExecution, LoadsImage, job_in};
-ghost use Rattle.dcc_top.specs.Answer.{Allows, IsAcceptedFile, IsDue, line_of};
+ghost use Rattle.dcc_top.specs.Words.{Job as AskedJob, Decompile, Execute, ExecuteText, IsExecution, LoadsImage, job_in};
+ghost use Rattle.dcc_top.specs.Answer.{Allows, IsDue, IsRefusedImage, OfImages, line_of};
 ghost use Rattle.dcc_top.specs.Delivery.{Answers, CutsShort, streams};
-ghost use Rattle.dcc_top.specs.Causes.{IsAnswered, IsCaused, HasText, HasRunFile, IsAbsent, IsUnreadable, HasFormatFault, HasRefusal, HasTextFault, Names, IsMissing, IsNoText, IsRefused, EndsSo, IsOneOf, end_status, AsksPrefix, AsksAll, IsOutOfMemory, IsCutOff};
+ghost use Rattle.dcc_top.specs.Causes.{IsAnswered, IsCaused, HasText, HasRunFile, IsAbsent, IsUnreadable, HasFormatFault, HasRefusal, HasTextFault, Names, IsMissing, IsNoText, EndsSo, IsOneOf, end_status, AsksPrefix, AsksAll, IsOutOfMemory, IsCutOff};
 
 use crate::decompile_job::text_reply;
 use crate::deliver::{WRITE_FAULT, answer};
@@ -174,7 +175,7 @@ pub fn dcc<H: Shelf, I: Source, O: Sink, E: Sink>(
         → HasRunFile (H.files shelf.old) (job_in words.now.items)
         (I.left input.old) (I.left input.new) result
         (streams (O.taken out.old) (O.taken out.new) (E.taken err.old) (E.taken err.new)) }
-    ensures ran_always { (job : Job) (file bytes : List ℕ) (end : End)
+    ensures ran_always { (job : AskedJob) (file bytes : List ℕ) (end : End)
         → job_in words.now.items ≡ Some job
         → Names (H.files shelf.old) (job_in words.now.items) file
         → I.left input.old ≡ Some bytes → EndsSo file bytes job end
@@ -206,13 +207,13 @@ pub fn dcc<H: Shelf, I: Source, O: Sink, E: Sink>(
         (streams (O.taken out.old) (O.taken out.new) (E.taken err.old) (E.taken err.new)) }
     ensures refused_always { (name file : List ℕ)
         → job_in words.now.items ≡ Some (Decompile name)
-        → Names (H.files shelf.old) (job_in words.now.items) file → IsRefused file
+        → Names (H.files shelf.old) (job_in words.now.items) file → OfImages file IsRefusedImage
         → IsOneOf result (9 ∷ (10 ∷ (12 ∷ (4 ∷ (6 ∷ (7 ∷ [])))))) }
 
     // Nothing in the program is refused.
     ensures text_always { (name file : List ℕ)
         → job_in words.now.items ≡ Some (Decompile name)
-        → Names (H.files shelf.old) (job_in words.now.items) file → IsAcceptedFile file
+        → Names (H.files shelf.old) (job_in words.now.items) file → OfImages file IsAccepted
         → IsOneOf result (0 ∷ (4 ∷ (6 ∷ (7 ∷ [])))) }
 
     // The text is refused: no tree stands for it, or it is too long.
