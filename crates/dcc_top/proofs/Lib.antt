@@ -4,3 +4,5 @@ pub mod ExecuteLaws
 pub mod TextRunLaws
 pub mod AnswerLaws
 pub mod DeliveredLaws
+pub mod NamedLaws
+pub mod CauseLaws

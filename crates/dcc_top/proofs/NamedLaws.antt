@@ -1,0 +1,237 @@
+-- What is known of the file that the words name, where the shelf tells it.
+use Rattle.std.proofs.Common.{◌≡◌, ℕ, ◌⊎◌, inl, inr, List, [], ◌∷◌, Option, Some, None, refl, sym, ap, ◌∙◌, subst, arith}
+use Rattle.dcc_mz.specs.declared.fault.MzFault.{MzFault}
+use Rattle.dcc_mz.specs.declared.fault.MzFault.TheVariants.{Short, NotMz, Pages, HeaderPastImage, Reloc, EntryOutside, TooLarge, Memory as NoMemory}
+use Rattle.dcc_mz.specs.Fault.{IsRefusal}
+use Rattle.dcc_run.specs.End.{End}
+use Rattle.dcc_run.specs.System.{end_after}
+use Rattle.dcc_prog.specs.declared.image.Image.{Image}
+use Rattle.dcc_prog.specs.declared.refusal.Refusal.{Refusal}
+use Rattle.dcc_prog.specs.declared.refusal.Refusal.TheVariants.{Construct as ConstructRefused, Limit as LimitRefused, NotYet as NotYetRefused, Memory as MemoryRefused}
+use Rattle.dcc_prog.specs.MzImage.{IsImageOf, FormatFault, IsFirstFault, too_large, short, not_mz, bad_pages, header_past_image, bad_relocation, entry_outside}
+use Rattle.dcc_prog.specs.Step.{machine_system}
+use Rattle.dcc_prog.proofs.MzImageLaws.{not_both}
+use Rattle.dcc_pipe.specs.Decompilation.{IsAccepted, IsRefusal as IsProgramRefusal}
+use Rattle.dcc_top.specs.declared.reply.Reply.{Reply}
+use Rattle.dcc_top.specs.Words.{Job, Decompile, Execute, ExecuteText, name_of, file_of, LoadsImage}
+use Rattle.dcc_top.specs.Execution.{Subject, machine_of, text_of, Finishes, ended, stopped_at_read, not_begun, FinishesOrStops, finishes, stopped_in_step}
+use Rattle.dcc_top.specs.Answer.{Files, OfFile, HasNoFile, no_file, file_fault, no_memory, HasNoImage, no_executable, misshapen, HasNoUnit, no_text, offends, AllowsText, decompiled, refused, no_image, Decompiles, IsRefusedAs, OfImages, IsRefusedImage, IsReadAs, RunsFile, RunsText, RunsUnit, Allows, no_job, for_text, ran_file, ran_no_file, ran_text, ran_no_text, ShelfLacks, status_of, refusal_reply}
+use Rattle.dcc_top.specs.Causes.{Names, IsNoText, EndsSo, file_ends, text_ends, IsOneOf, end_status}
+use Rattle.dcc_top.proofs.AnswerLaws.{same-start}
+use Rattle.dcc_top.proofs.StatusLaws.{end-status}
+
+-- the name in the words is the one that is known
+pub name-of : (name other : List ℕ) → Some name ≡ Some other → name ≡ other
+name-of name other same = cc
+
+pub file-name : {told : Files} {job : Option Job} {file : List ℕ} (name : List ℕ) → file_of job ≡ Some name → (n : Names told job file) → name ≡ n.name
+file-name name named n = name-of name n.name (sym named ∙ n.named)
+
+refusal-not_image : (file : List ℕ) (image : Image) (fault : MzFault) → IsImageOf file image → IsRefusal file fault → ⊥
+refusal-not_image file image (Short n) is r = not_both file image (short n) is r
+refusal-not_image file image NotMz is r = not_both file image not_mz is r
+refusal-not_image file image Pages is r = not_both file image bad_pages is r
+refusal-not_image file image HeaderPastImage is r = not_both file image header_past_image is r
+refusal-not_image file image (Reloc i) is r = not_both file image (bad_relocation i) is r
+refusal-not_image file image EntryOutside is r = not_both file image entry_outside is r
+refusal-not_image file image TooLarge is r = not_both file image too_large is r
+refusal-not_image file image NoMemory is r = r
+
+-- an accepted image is refused for want of memory alone
+accepted-not_refused : (image : Image) (refusal : Refusal) → IsAccepted image → IsProgramRefusal image refusal → refusal ≡ MemoryRefused
+accepted-not_refused image (ConstructRefused kind at) a r = absurd (a.no_construct kind at r)
+accepted-not_refused image (LimitRefused what count) a r = absurd (a.no_limit what count r)
+accepted-not_refused image (NotYetRefused at) a r = absurd (a.built at r)
+accepted-not_refused image MemoryRefused a r = refl
+
+-- the statuses of a refusal, before those of faults
+refused-one : (refusal : Refusal) → IsOneOf (status_of (refusal_reply refusal)) (9 ∷ (10 ∷ (12 ∷ (4 ∷ (6 ∷ (7 ∷ []))))))
+refused-one (ConstructRefused kind at) = inl refl
+refused-one (LimitRefused what count) = inr (inl refl)
+refused-one (NotYetRefused at) = inr (inr (inl refl))
+refused-one MemoryRefused = inr (inr (inr (inr (inr (inl refl)))))
+
+-- the status of a run on an input that is told
+run-ended : {S : Type 0} (subject : Subject S) (steps : ℕ) (before left : Option (List ℕ)) (reply : Reply) (output bytes : List ℕ) → before ≡ Some bytes → Finishes subject steps before left reply output → IsOneOf (status_of reply) (end_status (end_after subject.system steps (subject.start bytes)) ∷ (4 ∷ (5 ∷ (6 ∷ (7 ∷ [])))))
+run-ended subject steps before left _ output bytes told (ended end h) =
+    inl (end-status steps end ∙ ap end_status (sym (h bytes told).end_is))
+run-ended subject steps before left _ output bytes told (stopped_at_read h) = inr (inr (inl refl))
+run-ended subject steps before left _ _ bytes told (not_begun same) = inr (inr (inr (inr (inl refl))))
+
+text-run-ended : {S : Type 0} (subject : Subject S) (steps : ℕ) (before left : Option (List ℕ)) (reply : Reply) (output bytes : List ℕ) → before ≡ Some bytes → FinishesOrStops subject steps before left reply output → IsOneOf (status_of reply) (end_status (end_after subject.system steps (subject.start bytes)) ∷ (4 ∷ (5 ∷ (6 ∷ (7 ∷ [])))))
+text-run-ended subject steps before left reply output bytes told (finishes h) =
+    run-ended subject steps before left reply output bytes told h
+text-run-ended subject steps before left _ output bytes told (stopped_in_step h) = inr (inr (inr (inr (inl refl))))
+
+-- What is known of the file of a name that the shelf tells.
+
+module _ (told : Files) (name : List ℕ) (files : List ℕ → Option (List ℕ)) (tells : told ≡ Some files) where
+  -- what is said of some file of the name holds of the one that the shelf has
+  held : (file : List ℕ) (P : List ℕ → Type 0) → files name ≡ Some file → OfFile told name P → P file
+  held file P has f =
+      let both : Some f.file ≡ Some file = sym (f.has files tells) ∙ has in
+      let same : f.file ≡ file = cc in
+      subst P same f.holds
+
+  -- there is no file of which something could be said
+  not-held : (P : List ℕ → Type 0) → files name ≡ None → OfFile told name P → ⊥
+  not-held P lacks f = let both : Some f.file ≡ None = sym (f.has files tells) ∙ lacks in cc
+
+  not-lacking : (file : List ℕ) → files name ≡ Some file → ShelfLacks told name → ⊥
+  not-lacking file has lacks = let both : Some file ≡ None = sym has ∙ lacks files tells in cc
+
+  -- a file that the shelf has could not be had for the shelf's fault or want of memory alone
+  faulty : (file : List ℕ) → files name ≡ Some file → (reply : Reply) → HasNoFile told name reply → (status_of reply ≡ 4) ⊎ (status_of reply ≡ 7)
+  faulty file has _ (no_file lacks) = absurd (not-lacking file has lacks)
+  faulty file has _ file_fault = inl refl
+  faulty file has _ no_memory = inr refl
+
+  -- and a file that the shelf lacks is absent, or the same
+  missing : files name ≡ None → (reply : Reply) → HasNoFile told name reply → IsOneOf (status_of reply) (3 ∷ (4 ∷ (6 ∷ (7 ∷ []))))
+  missing lacks _ (no_file h) = inl refl
+  missing lacks _ file_fault = inr (inl refl)
+  missing lacks _ no_memory = inr (inr (inr (inl refl)))
+
+  -- a fault among these statuses
+  faulty-one : (first : ℕ) (status : ℕ) → (status ≡ 4) ⊎ (status ≡ 7) → IsOneOf status (first ∷ (4 ∷ (6 ∷ (7 ∷ []))))
+  faulty-one first status (inl four) = inr (inl four)
+  faulty-one first status (inr seven) = inr (inr (inr (inl seven)))
+
+  -- a file that has an image is refused for the shelf's fault or want of memory alone
+  no_image-faulty : (file : List ℕ) → files name ≡ Some file → (image : Image) → IsImageOf file image → (reply : Reply) → HasNoImage told name reply → (status_of reply ≡ 4) ⊎ (status_of reply ≡ 7)
+  no_image-faulty file has image is reply (no_executable h) = faulty file has reply h
+  no_image-faulty file has image is _ (misshapen {fault = fault} f) =
+      absurd (refusal-not_image file image fault is (held file (λ x. IsRefusal x fault) has f))
+
+  -- a file that is not refused as a text neither
+  no_unit-faulty : (file : List ℕ) → files name ≡ Some file → (reply : Reply) → HasNoUnit told name reply → IsOneOf (status_of reply) (11 ∷ (4 ∷ (6 ∷ (7 ∷ []))))
+  no_unit-faulty file has reply (no_text h) = faulty-one 11 (status_of reply) (faulty file has reply h)
+  no_unit-faulty file has _ (offends f) = inl refl
+
+  misshapen-one : (file : List ℕ) → files name ≡ Some file → (reply : Reply) → HasNoImage told name reply → IsOneOf (status_of reply) (8 ∷ (4 ∷ (6 ∷ (7 ∷ []))))
+  misshapen-one file has reply (no_executable h) = faulty-one 8 (status_of reply) (faulty file has reply h)
+  misshapen-one file has _ (misshapen f) = inl refl
+
+  missing-image : files name ≡ None → (reply : Reply) → HasNoImage told name reply → IsOneOf (status_of reply) (3 ∷ (4 ∷ (6 ∷ (7 ∷ []))))
+  missing-image lacks reply (no_executable h) = missing lacks reply h
+  missing-image lacks _ (misshapen {fault = fault} f) = absurd (not-held (λ x. IsRefusal x fault) lacks f)
+
+  -- the file has no image
+
+  text-misshapen : (file : List ℕ) (fault : FormatFault) → files name ≡ Some file → IsFirstFault file fault → (reply : Reply) (output : List ℕ) → AllowsText told name reply output → IsOneOf (status_of reply) (8 ∷ (4 ∷ (6 ∷ (7 ∷ []))))
+  text-misshapen file fault has first _ output (decompiled f) =
+      let d = held file (λ x. Decompiles x output) has f in absurd (not_both file d.image fault d.is_image first)
+  text-misshapen file fault has first _ _ (refused refusal f) =
+      let d = held file (IsRefusedAs refusal) has f in absurd (not_both file d.image fault d.is_image first)
+  text-misshapen file fault has first reply _ (no_image h) = misshapen-one file has reply h
+
+  text-missing : files name ≡ None → (reply : Reply) (output : List ℕ) → AllowsText told name reply output → IsOneOf (status_of reply) (3 ∷ (4 ∷ (6 ∷ (7 ∷ []))))
+  text-missing lacks _ output (decompiled f) = absurd (not-held (λ x. Decompiles x output) lacks f)
+  text-missing lacks _ _ (refused refusal f) = absurd (not-held (IsRefusedAs refusal) lacks f)
+  text-missing lacks reply _ (no_image h) = missing-image lacks reply h
+
+  -- the program is accepted, or it is refused
+
+  pub accepted-one : (file : List ℕ) → files name ≡ Some file → OfImages file IsAccepted → (reply : Reply) (output : List ℕ) → AllowsText told name reply output → IsOneOf (status_of reply) (0 ∷ (4 ∷ (6 ∷ (7 ∷ []))))
+  accepted-one file has a _ output (decompiled f) = inl refl
+  accepted-one file has a _ _ (refused refusal f) =
+      let d = held file (IsRefusedAs refusal) has f in
+      inr (inr (inr (inl (ap (λ r. status_of (refusal_reply r)) (accepted-not_refused d.image refusal (a.each d.image d.is_image) d.refused)))))
+  accepted-one file has a reply _ (no_image h) =
+      faulty-one 0 (status_of reply) (no_image-faulty file has a.image a.is_image reply h)
+
+  pub refused-always : (file : List ℕ) → files name ≡ Some file → OfImages file IsRefusedImage → (reply : Reply) (output : List ℕ) → AllowsText told name reply output → IsOneOf (status_of reply) (9 ∷ (10 ∷ (12 ∷ (4 ∷ (6 ∷ (7 ∷ []))))))
+  refused-always file has a _ output (decompiled f) =
+      let d = held file (λ x. Decompiles x output) has f in
+      let r = a.each d.image d.is_image in
+      absurd (r.cause (accepted-not_refused d.image r.refusal d.accepted r.refused))
+  refused-always file has a _ _ (refused refusal f) = refused-one refusal
+  refused-always file has a reply _ (no_image h) =
+      inr (inr (faulty-one 12 (status_of reply) (no_image-faulty file has a.image a.is_image reply h)))
+
+  -- runs
+
+  pub file-ended : (file : List ℕ) (image : Image) (steps : ℕ) (bytes : List ℕ) (before left : Option (List ℕ)) → files name ≡ Some file → IsImageOf file image → before ≡ Some bytes → (reply : Reply) (output : List ℕ) → OfFile told name (λ x. RunsFile x steps before left reply output) → IsOneOf (status_of reply) (end_status (end_after machine_system steps ((machine_of image).start bytes)) ∷ (4 ∷ (5 ∷ (6 ∷ (7 ∷ [])))))
+  file-ended file image steps bytes before left has is told_left reply output f =
+      let r = held file (λ x. RunsFile x steps before left reply output) has f in
+      subst (λ s. IsOneOf (status_of reply) (end_status (end_after machine_system steps s) ∷ (4 ∷ (5 ∷ (6 ∷ (7 ∷ [])))))) (same-start file r.image image bytes r.is_image is) (run-ended (machine_of r.image) steps before left reply output bytes told_left r.finishes)
+
+  -- a fault among the statuses of a run
+  faulty-run : (first : ℕ) (status : ℕ) → (status ≡ 4) ⊎ (status ≡ 7) → IsOneOf status (first ∷ (4 ∷ (5 ∷ (6 ∷ (7 ∷ [])))))
+  faulty-run first status (inl four) = inr (inl four)
+  faulty-run first status (inr seven) = inr (inr (inr (inr (inl seven))))
+
+-- What is allowed for a job, where the shelf tells the file of its name.
+
+module _ (told : Files) (before left : Option (List ℕ)) (files : List ℕ → Option (List ℕ)) (tells : told ≡ Some files) where
+  pub job-misshapen : (job : Job) (file : List ℕ) (fault : FormatFault) → files (name_of job) ≡ Some file → LoadsImage (Some job) → IsFirstFault file fault → (reply : Reply) (output : List ℕ) → Allows told before left (Some job) reply output → IsOneOf (status_of reply) (8 ∷ (4 ∷ (6 ∷ (7 ∷ []))))
+  job-misshapen _ file fault has loads first reply output (for_text {name = name} h same) =
+      text-misshapen told name files tells file fault has first reply output h
+  job-misshapen _ file fault has loads first reply output (ran_file {name = name} {steps = steps} f) =
+      let r = held told name files tells file (λ x. RunsFile x steps before left reply output) has f in
+      absurd (not_both file r.image fault r.is_image first)
+  job-misshapen _ file fault has loads first reply _ (ran_no_file {name = name} h same) =
+      misshapen-one told name files tells file has reply h
+  job-misshapen _ file fault has loads first reply output (ran_text f) = absurd loads
+  job-misshapen _ file fault has loads first reply _ (ran_no_text h same) = absurd loads
+
+  pub job-missing : (job : Job) → files (name_of job) ≡ None → (reply : Reply) (output : List ℕ) → Allows told before left (Some job) reply output → IsOneOf (status_of reply) (3 ∷ (4 ∷ (6 ∷ (7 ∷ []))))
+  job-missing _ lacks reply output (for_text {name = name} h same) =
+      text-missing told name files tells lacks reply output h
+  job-missing _ lacks reply output (ran_file {name = name} {steps = steps} f) =
+      absurd (not-held told name files tells (λ x. RunsFile x steps before left reply output) lacks f)
+  job-missing _ lacks reply _ (ran_no_file {name = name} h same) = missing-image told name files tells lacks reply h
+  job-missing _ lacks reply output (ran_text {name = name} {steps = steps} {fill = fill} f) =
+      absurd (not-held told name files tells (λ x. RunsText x steps fill before left reply output) lacks f)
+  job-missing _ lacks reply _ (ran_no_text {name = name} (no_text h) same) =
+      missing told name files tells lacks reply h
+  job-missing _ lacks _ _ (ran_no_text {name = name} (offends f) same) =
+      absurd (not-held told name files tells _ lacks f)
+
+  -- the text is refused
+  pub text-refused : (name : List ℕ) (steps fill : ℕ) (file : List ℕ) → files name ≡ Some file → IsNoText file → (reply : Reply) (output : List ℕ) → Allows told before left (Some (ExecuteText name steps fill)) reply output → IsOneOf (status_of reply) (11 ∷ (4 ∷ (6 ∷ (7 ∷ []))))
+  text-refused name steps fill file has none reply output (ran_text f) =
+      let r = held told name files tells file (λ x. RunsText x steps fill before left reply output) has f in
+      elim none [
+        | inl no_tree ↦ absurd (no_tree r.tree r.is_read.stands)
+        | inr long ↦ absurd (omega (arith, long, r.is_read.length))
+      ]
+  text-refused name steps fill file has none reply _ (ran_no_text h same) =
+      no_unit-faulty told name files tells file has reply h
+
+  -- what the run of a text ends with
+  text-ended : (name : List ℕ) (steps fill : ℕ) (file bytes : List ℕ) (end : End) → files name ≡ Some file → before ≡ Some bytes → EndsSo file bytes (ExecuteText name steps fill) end → (reply : Reply) (output : List ℕ) → OfFile told name (λ x. RunsText x steps fill before left reply output) → IsOneOf (status_of reply) (end_status end ∷ (4 ∷ (5 ∷ (6 ∷ (7 ∷ [])))))
+  text-ended name steps fill file bytes _ has told_left (text_ends {tree = tree} stands within) reply output f =
+      let r = held told name files tells file (λ x. RunsText x steps fill before left reply output) has f in
+      let runs = subst (λ t. RunsUnit t steps fill before left reply output) (sym (r.is_read.alone tree stands)) r.runs in
+      text-run-ended (text_of tree stands.allowed.start fill) steps before left reply output bytes told_left (runs file stands)
+
+  no_unit-ended : (name : List ℕ) (steps fill : ℕ) (file bytes : List ℕ) (end : End) → files name ≡ Some file → EndsSo file bytes (ExecuteText name steps fill) end → (reply : Reply) → HasNoUnit told name reply → IsOneOf (status_of reply) (end_status end ∷ (4 ∷ (5 ∷ (6 ∷ (7 ∷ [])))))
+  no_unit-ended name steps fill file bytes end has e reply (no_text h) =
+      faulty-run told name files tells (end_status end) (status_of reply) (faulty told name files tells file has reply h)
+  no_unit-ended name steps fill file bytes _ has (text_ends {tree = tree} stands within) _ (offends f) =
+      absurd ((held told name files tells file _ has f).no_tree within tree stands)
+
+  run-of_file : (name : List ℕ) (steps : ℕ) (file bytes : List ℕ) (end : End) → files name ≡ Some file → before ≡ Some bytes → EndsSo file bytes (Execute name steps) end → (reply : Reply) (output : List ℕ) → OfFile told name (λ x. RunsFile x steps before left reply output) → IsOneOf (status_of reply) (end_status end ∷ (4 ∷ (5 ∷ (6 ∷ (7 ∷ [])))))
+  run-of_file name steps file bytes _ has told_left (file_ends {image = image} is) reply output f =
+      file-ended told name files tells file image steps bytes before left has is told_left reply output f
+
+  no_image-ended : (name : List ℕ) (steps : ℕ) (file bytes : List ℕ) (end : End) → files name ≡ Some file → EndsSo file bytes (Execute name steps) end → (reply : Reply) → HasNoImage told name reply → IsOneOf (status_of reply) (end_status end ∷ (4 ∷ (5 ∷ (6 ∷ (7 ∷ [])))))
+  no_image-ended name steps file bytes end has (file_ends {image = image} is) reply h =
+      faulty-run told name files tells (end_status end) (status_of reply) (no_image-faulty told name files tells file has image is reply h)
+
+  no-text_end : (name : List ℕ) (file bytes : List ℕ) (end : End) → EndsSo file bytes (Decompile name) end → ⊥
+  no-text_end name file bytes end e = elim e [ ]
+
+  -- the run that a job asks for ends as the definition says
+  pub job-ended : (job : Job) (file bytes : List ℕ) (end : End) → files (name_of job) ≡ Some file → before ≡ Some bytes → EndsSo file bytes job end → (reply : Reply) (output : List ℕ) → Allows told before left (Some job) reply output → IsOneOf (status_of reply) (end_status end ∷ (4 ∷ (5 ∷ (6 ∷ (7 ∷ [])))))
+  job-ended _ file bytes end has told_left e reply output (for_text {name = name} h same) =
+      absurd (no-text_end name file bytes end e)
+  job-ended _ file bytes end has told_left e reply output (ran_file {name = name} {steps = steps} f) =
+      run-of_file name steps file bytes end has told_left e reply output f
+  job-ended _ file bytes end has told_left e reply _ (ran_no_file {name = name} {steps = steps} h same) =
+      no_image-ended name steps file bytes end has e reply h
+  job-ended _ file bytes end has told_left e reply output (ran_text {name = name} {steps = steps} {fill = fill} f) =
+      text-ended name steps fill file bytes end has told_left e reply output f
+  job-ended _ file bytes end has told_left e reply _ (ran_no_text {name = name} {steps = steps} {fill = fill} h same) =
+      no_unit-ended name steps fill file bytes end has e reply h
