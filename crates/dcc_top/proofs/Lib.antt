@@ -6,3 +6,5 @@ pub mod AnswerLaws
 pub mod DeliveredLaws
 pub mod NamedLaws
 pub mod CauseLaws
+pub mod WordsLaws
+pub mod WordsAsked

@@ -1,0 +1,227 @@
+-- The two ways to say which words ask for which job: as a relation and as a function.
+use Rattle.std.proofs.Common.{◌≡◌, ◌⊎◌, ℕ, ◌<◌, Bool, true, false, List, [], ◌∷◌, ◌++◌, length, Option, Some, None, refl, sym, ap, ◌∙◌, subst, get_or, inl, inr, arith}
+use Rattle.std.specs.Prelude.{is_some, if◌then◌else◌, codes, nat_lt}
+use Rattle.std.specs.List.{position_or_len, before_first, after_first}
+use Rattle.std.specs.Option.{option_map, option_and_then}
+use Rattle.std.specs.Str.{bytes_eq}
+use Rattle.std.proofs.lemmas.Bool.{eqb-true, ltb-true, lt-ltb}
+use Rattle.std.proofs.lemmas.List.Sums.{split_at_first, passes_at_first}
+use Rattle.std.proofs.lemmas.Slice.Eq.{bytes_eq-Decides}
+use Rattle.dcc_top.specs.Words.{Job, Decompile, Execute, ExecuteText, Parts, only_positional, with_word, with_value, set_value, value_in, is_positional, option_word, command_word, HasParts, no_word, positional_word, option_in_two, option_in_one, end_of_options, AskFor, decompile, execute, execute_text, steps_of, fill_of, text_job, Kind, Positional, End, Names, Gives, Unknown, option_of, command_of, named, given, is_equals, option_kind, kind_of, parts_after, parts_of, job_for, job_of}
+use Rattle.dcc_top.specs.declared.words.Command.{Command}
+use Rattle.dcc_top.specs.declared.words.Command.TheVariants.{C, Run, RunC}
+use Rattle.dcc_top.specs.declared.words.OptionName.{OptionName}
+use Rattle.dcc_top.specs.declared.words.OptionName.TheVariants.{Steps, Fill}
+use Rattle.dcc_top.proofs.WordsLaws.{by_kind, parts-at_kind}
+
+-- From the relation to the function.
+
+-- an option that didn't stand yet
+add-value : (name : OptionName) (value : List ℕ) (parts : Parts) → value_in name parts ≡ None → with_value name value (Some parts) ≡ Some (set_value name value parts)
+add-value Steps value parts none = ap (λ s. if is_some s then None else Some (set_value Steps value parts)) none
+add-value Fill value parts none = ap (λ s. if is_some s then None else Some (set_value Fill value parts)) none
+
+-- an option's name is its kind
+kind-name : (name : OptionName) → Names name ≡ kind_of (option_word name)
+kind-name Steps = refl
+kind-name Fill = refl
+
+kind-given : (name : OptionName) (value : List ℕ) → Gives name value ≡ kind_of (option_word name ++ (61 ∷ value))
+kind-given Steps value =
+    let test : nat_lt 7 (length (codes "--steps" ++ (61 ∷ value))) ≡ true = lt-ltb 7 (length (codes "--steps" ++ (61 ∷ value))) (omega arith) in
+    ap (λ b. if b then Gives Steps value else named (option_of (codes "--steps" ++ (61 ∷ value)))) (sym test)
+kind-given Fill value =
+    let test : nat_lt 6 (length (codes "--fill" ++ (61 ∷ value))) ≡ true = lt-ltb 6 (length (codes "--fill" ++ (61 ∷ value))) (omega arith) in
+    ap (λ b. if b then Gives Fill value else named (option_of (codes "--fill" ++ (61 ∷ value)))) (sym test)
+
+kind-positional : (word : List ℕ) → is_positional word ≡ true → Positional ≡ kind_of word
+kind-positional word h = ap (λ b. if b then Positional else (if bytes_eq word (codes "--") then End else option_kind word)) (sym h)
+
+pub parts-is : (words : List (List ℕ)) (parts : Parts) → HasParts words parts → parts_of words ≡ Some parts
+unfolding by_kind
+parts-is _ _ no_word = refl
+parts-is _ _ (positional_word {word} {words} {parts} h rest) =
+    parts-at_kind word words Positional (kind-positional word h) ∙ ap (λ o. option_map (with_word word) o) (parts-is words parts rest)
+parts-is _ _ (option_in_two name value words parts none rest) =
+    parts-at_kind (option_word name) (value ∷ words) (Names name) (kind-name name)
+    ∙ ap (λ o. with_value name value o) (parts-is words parts rest) ∙ add-value name value parts none
+parts-is _ _ (option_in_one name value words parts none rest) =
+    parts-at_kind (option_word name ++ (61 ∷ value)) words (Gives name value) (kind-given name value)
+    ∙ ap (λ o. with_value name value o) (parts-is words parts rest) ∙ add-value name value parts none
+parts-is _ _ (end_of_options {words}) = parts-at_kind (codes "--") words End refl
+
+pub asked-is : (words : List (List ℕ)) (job : Job) → AskFor words job → job_of words ≡ Some job
+unfolding job_of
+asked-is _ _ (decompile {words} {file} parts) = ap (λ o. option_and_then (λ p. job_for C p.positional p.steps p.fill) o) (parts-is words _ parts)
+asked-is _ _ (execute {words} {file} {value} {steps} parts is) =
+    ap (λ o. option_and_then (λ p. job_for Run p.positional p.steps p.fill) o) (parts-is words _ parts) ∙ ap (λ o. option_map (λ n. Execute file n) o) is
+asked-is _ _ (execute_text {words} {file} {value} {other} {steps} {fill} parts is also) =
+    ap (λ o. option_and_then (λ p. job_for RunC p.positional p.steps p.fill) o) (parts-is words _ parts)
+    ∙ ap (λ o. option_and_then (λ n. option_map (ExecuteText file n) (fill_of other)) o) is
+    ∙ ap (λ o. option_map (ExecuteText file steps) o) also
+
+-- From the function to the relation.
+
+word-same : (a b : List ℕ) → bytes_eq a b ≡ true → a ≡ b
+word-same a b h = (bytes_eq-Decides a b).0 h
+
+option-chosen : (a b : Bool) (name : OptionName) → (if a then Some Steps else (if b then Some Fill else None)) ≡ Some name → ((a ≡ true) × (Steps ≡ name)) ⊎ ((b ≡ true) × (Fill ≡ name))
+option-chosen true b name h = inl (refl, cc)
+option-chosen false true name h = inr (refl, cc)
+option-chosen false false name h = absurd (let f : ⊥ = cc in f)
+
+option-from : (word : List ℕ) (name : OptionName) → option_of word ≡ Some name → word ≡ option_word name
+option-from word name h = elim (option-chosen (bytes_eq word (codes "--steps")) (bytes_eq word (codes "--fill")) name h) [
+  | inl a ↦ word-same word (codes "--steps") a.0 ∙ ap option_word a.1
+  | inr b ↦ word-same word (codes "--fill") b.0 ∙ ap option_word b.1
+]
+
+command-chosen : (a b d : Bool) (c : Command) → (if a then Some C else (if b then Some Run else (if d then Some RunC else None))) ≡ Some c → ((a ≡ true) × (C ≡ c)) ⊎ (((b ≡ true) × (Run ≡ c)) ⊎ ((d ≡ true) × (RunC ≡ c)))
+command-chosen true b d c h = inl (refl, cc)
+command-chosen false true d c h = inr (inl (refl, cc))
+command-chosen false false true c h = inr (inr (refl, cc))
+command-chosen false false false c h = absurd (let f : ⊥ = cc in f)
+
+command-from : (word : List ℕ) (c : Command) → command_of word ≡ Some c → word ≡ command_word c
+command-from word c h = elim (command-chosen (bytes_eq word (codes "c")) (bytes_eq word (codes "run")) (bytes_eq word (codes "runc")) c h) [
+  | inl a ↦ word-same word (codes "c") a.0 ∙ ap command_word a.1
+  | inr (inl b) ↦ word-same word (codes "run") b.0 ∙ ap command_word b.1
+  | inr (inr d) ↦ word-same word (codes "runc") d.0 ∙ ap command_word d.1
+]
+
+-- what a word of the kind is
+Told : List ℕ → Kind → Type 0
+Told word Positional = is_positional word ≡ true
+Told word End = word ≡ codes "--"
+Told word (Names name) = word ≡ option_word name
+Told word (Gives name value) = word ≡ option_word name ++ (61 ∷ value)
+Told word Unknown = Unit {0}
+
+named-told : (word : List ℕ) (name : Option OptionName) → option_of word ≡ name → Told word (named name)
+unfolding Told
+named-told word None h = tt
+named-told word (Some name) h = option-from word name h
+
+given-told : (word : List ℕ) (name : Option OptionName) → option_of (before_first is_equals word) ≡ name → position_or_len is_equals word < length word → Told word (given name (after_first is_equals word))
+unfolding Told
+given-told word None h small = tt
+given-told word (Some name) h small =
+    let equals : get_or word (position_or_len is_equals word) 0 ≡ 61 = eqb-true (get_or word (position_or_len is_equals word) 0) 61 (passes_at_first is_equals word 0 small) in
+    split_at_first is_equals word 0 small
+    ∙ ap (λ l. l ++ (get_or word (position_or_len is_equals word) 0 ∷ after_first is_equals word)) (option-from (before_first is_equals word) name h)
+    ∙ ap (λ c. option_word name ++ (c ∷ after_first is_equals word)) equals
+
+option-told : (word : List ℕ) (b : Bool) → nat_lt (position_or_len is_equals word) (length word) ≡ b →
+    Told word (if b then given (option_of (before_first is_equals word)) (after_first is_equals word) else named (option_of word))
+option-told word true h = given-told word (option_of (before_first is_equals word)) refl (ltb-true (position_or_len is_equals word) (length word) h)
+option-told word false h = named-told word (option_of word) refl
+
+kind-chosen : (word : List ℕ) (p e : Bool) → is_positional word ≡ p → bytes_eq word (codes "--") ≡ e → Told word (if p then Positional else (if e then End else option_kind word))
+unfolding Told
+kind-chosen word true e hp he = hp
+kind-chosen word false true hp he = word-same word (codes "--") he
+kind-chosen word false false hp he = option-told word (nat_lt (position_or_len is_equals word) (length word)) refl
+
+kind-told : (word : List ℕ) → Told word (kind_of word)
+kind-told word = kind-chosen word (is_positional word) (bytes_eq word (codes "--")) refl refl
+
+from-positional : (word : List ℕ) (words : List (List ℕ)) (parts : Parts) (others : Option Parts) → ((p : Parts) → others ≡ Some p → HasParts words p) → is_positional word ≡ true →
+    option_map (with_word word) others ≡ Some parts → HasParts (word ∷ words) parts
+from-positional word words parts None have p h = absurd (let f : ⊥ = cc in f)
+from-positional word words parts (Some others) have p h =
+    let same : with_word word others ≡ parts = cc in
+    subst (λ q. HasParts (word ∷ words) q) same (positional_word p (have others refl))
+
+fresh : (standing : Option (List ℕ)) (x y : Parts) → (if is_some standing then None else Some x) ≡ Some y → (standing ≡ None) × (x ≡ y)
+fresh None x y h = (refl, cc)
+fresh (Some value) x y h = absurd (let f : ⊥ = cc in f)
+
+from-value : (name : OptionName) (value : List ℕ) (words all : List (List ℕ)) (parts : Parts) → ((p : Parts) → value_in name p ≡ None → HasParts words p → HasParts all (set_value name value p)) →
+    (others : Option Parts) → ((p : Parts) → others ≡ Some p → HasParts words p) → with_value name value others ≡ Some parts → HasParts all parts
+from-value name value words all parts more None have h = absurd (let f : ⊥ = cc in f)
+from-value name value words all parts more (Some others) have h =
+    let new = fresh (value_in name others) (set_value name value others) parts h in
+    subst (λ q. HasParts all q) new.1 (more others new.0 (have others refl))
+
+-- the words that are left have these parts, or have them with the option before them that waits for its value
+Claim : Option OptionName → List (List ℕ) → Parts → Type 0
+Claim None words parts = HasParts words parts
+Claim (Some name) words parts = HasParts (option_word name ∷ words) parts
+
+kind-from : (word : List ℕ) (words : List (List ℕ)) (parts : Parts) → ((waiting : Option OptionName) (p : Parts) → parts_after waiting words ≡ Some p → Claim waiting words p) →
+    (kind : Kind) → Told word kind → by_kind word words kind ≡ Some parts → HasParts (word ∷ words) parts
+unfolding Told Claim by_kind
+kind-from word words parts have Positional told h = from-positional word words parts (parts_of words) (λ p e. have None p e) told h
+kind-from word words parts have End told h =
+    let same : only_positional words ≡ parts = cc in
+    subst (λ q. HasParts (word ∷ words) q) same (subst (λ w. HasParts (w ∷ words) (only_positional words)) (sym told) end_of_options)
+kind-from word words parts have (Names name) told h = subst (λ w. HasParts (w ∷ words) parts) (sym told) (have (Some name) parts h)
+kind-from word words parts have (Gives name value) told h =
+    subst (λ w. HasParts (w ∷ words) parts) (sym told)
+    (from-value name value words ((option_word name ++ (61 ∷ value)) ∷ words) parts (λ p none r. option_in_one name value words p none r) (parts_of words) (λ p e. have None p e) h)
+kind-from word words parts have Unknown told h = absurd (let f : ⊥ = cc in f)
+
+words-from : (words : List (List ℕ)) (waiting : Option OptionName) (parts : Parts) → parts_after waiting words ≡ Some parts → Claim waiting words parts
+unfolding Claim
+words-from [] None parts h =
+    let same : only_positional [] ≡ parts = cc in
+    subst (λ q. HasParts [] q) same no_word
+words-from [] (Some name) parts h = absurd (let f : ⊥ = cc in f)
+words-from (word ∷ words) None parts h =
+    kind-from word words parts (λ w p e. words-from words w p e) (kind_of word) (kind-told word) (sym (parts-at_kind word words (kind_of word) refl) ∙ h)
+words-from (value ∷ words) (Some name) parts h =
+    from-value name value words (option_word name ∷ (value ∷ words)) parts (λ p none r. option_in_two name value words p none r) (parts_of words) (λ p e. words-from words None p e) h
+
+pub parts-from : (words : List (List ℕ)) (parts : Parts) → parts_of words ≡ Some parts → HasParts words parts
+unfolding Claim
+parts-from words parts h = words-from words None parts h
+
+steps-asked : (words : List (List ℕ)) (job : Job) (file : List ℕ) (value : Option (List ℕ)) (steps : Option ℕ) → steps_of value ≡ steps → HasParts words (record { positional = file ∷ []; steps = value; fill = None }) →
+    option_map (λ n. Execute file n) steps ≡ Some job → AskFor (command_word Run ∷ words) job
+steps-asked words job file value None is has h = absurd (let f : ⊥ = cc in f)
+steps-asked words job file value (Some n) is has h =
+    let same : Execute file n ≡ job = cc in
+    subst (λ j. AskFor (command_word Run ∷ words) j) same (execute has is)
+
+text-asked : (words : List (List ℕ)) (job : Job) (file : List ℕ) (value other : Option (List ℕ)) (steps fill : Option ℕ) → steps_of value ≡ steps → fill_of other ≡ fill →
+    HasParts words (record { positional = file ∷ []; steps = value; fill = other }) →
+    option_and_then (λ n. option_map (ExecuteText file n) fill) steps ≡ Some job → AskFor (command_word RunC ∷ words) job
+text-asked words job file value other None fill is also has h = absurd (let f : ⊥ = cc in f)
+text-asked words job file value other (Some n) None is also has h = absurd (let f : ⊥ = cc in f)
+text-asked words job file value other (Some n) (Some w) is also has h =
+    let same : ExecuteText file n w ≡ job = cc in
+    subst (λ j. AskFor (command_word RunC ∷ words) j) same (execute_text has is also)
+
+job-asked : (words : List (List ℕ)) (job : Job) (c : Command) (positional : List (List ℕ)) (steps fill : Option (List ℕ)) → HasParts words (record { positional = positional; steps = steps; fill = fill }) →
+    job_for c positional steps fill ≡ Some job → AskFor (command_word c ∷ words) job
+job-asked words job C (file ∷ []) None None has h =
+    let same : Decompile file ≡ job = cc in
+    subst (λ j. AskFor (command_word C ∷ words) j) same (decompile has)
+job-asked words job C (file ∷ []) None (Some other) has h = absurd (let f : ⊥ = cc in f)
+job-asked words job C (file ∷ []) (Some value) fill has h = absurd (let f : ⊥ = cc in f)
+job-asked words job C [] steps fill has h = absurd (let f : ⊥ = cc in f)
+job-asked words job C (a ∷ (b ∷ ws)) steps fill has h = absurd (let f : ⊥ = cc in f)
+job-asked words job Run (file ∷ []) steps None has h = steps-asked words job file steps (steps_of steps) refl has h
+job-asked words job Run (file ∷ []) steps (Some other) has h = absurd (let f : ⊥ = cc in f)
+job-asked words job Run [] steps fill has h = absurd (let f : ⊥ = cc in f)
+job-asked words job Run (a ∷ (b ∷ ws)) steps fill has h = absurd (let f : ⊥ = cc in f)
+job-asked words job RunC (file ∷ []) steps fill has h =
+    text-asked words job file steps fill (steps_of steps) (fill_of fill) refl refl has h
+job-asked words job RunC [] steps fill has h = absurd (let f : ⊥ = cc in f)
+job-asked words job RunC (a ∷ (b ∷ ws)) steps fill has h = absurd (let f : ⊥ = cc in f)
+
+parts-asked : (words : List (List ℕ)) (job : Job) (c : Command) (parts : Option Parts) → ((p : Parts) → parts ≡ Some p → HasParts words p) →
+    option_and_then (λ p. job_for c p.positional p.steps p.fill) parts ≡ Some job → AskFor (command_word c ∷ words) job
+parts-asked words job c None have h = absurd (let f : ⊥ = cc in f)
+parts-asked words job c (Some parts) have h = job-asked words job c parts.positional parts.steps parts.fill (have parts refl) h
+
+command-asked : (word : List ℕ) (words : List (List ℕ)) (job : Job) (command : Option Command) → command_of word ≡ command →
+    option_and_then (λ c. option_and_then (λ p. job_for c p.positional p.steps p.fill) (parts_of words)) command ≡ Some job → AskFor (word ∷ words) job
+command-asked word words job None is h = absurd (let f : ⊥ = cc in f)
+command-asked word words job (Some c) is h =
+    subst (λ w. AskFor (w ∷ words) job) (sym (command-from word c is)) (parts-asked words job c (parts_of words) (λ p e. parts-from words p e) h)
+
+pub asked-from : (words : List (List ℕ)) (job : Job) → job_of words ≡ Some job → AskFor words job
+unfolding job_of
+asked-from [] job h = absurd (let f : ⊥ = cc in f)
+asked-from (word ∷ words) job h = command-asked word words job (command_of word) refl h
