@@ -1,12 +1,11 @@
 -- What the answers for an image say of its file.
-use Rattle.std.proofs.Common.{◌≡◌, ℕ, List, [], Option, Some, None, refl, sym, ap, ◌∙◌, subst}
+use Rattle.std.proofs.Common.{◌≡◌, ℕ, List, [], Option, Some, None, refl, sym, ◌∙◌, subst}
 use Rattle.std.specs.Prelude.{Result, Ok, Err, IfOk, OnErr}
 use Rattle.dcc_io.specs.declared.outside.Failed.{Failed}
 use Rattle.dcc_io.proofs.ToldLemmas.{append_told-nil}
 use Rattle.dcc_prog.specs.declared.image.Image.{Image}
 use Rattle.dcc_prog.specs.Machine.{start_state}
 use Rattle.dcc_prog.specs.MzImage.{IsImageOf}
-use Rattle.dcc_c.specs.Written.{written_form}
 use Rattle.dcc_top.specs.declared.reply.Reply.{Reply}
 use Rattle.dcc_top.specs.declared.reply.Reply.TheVariants.{Usage}
 use Rattle.dcc_top.specs.Words.{Job, Decompile, Execute, ExecuteText}
@@ -57,6 +56,10 @@ cut-of_image told name image out now (Err e) f c = record {
 -- an answer behind no output
 pub answers-nothing : (P : Reply → List ℕ → Type 0) (out : Option (List ℕ)) (reply : Reply) → P reply [] → Answers P out out reply
 answers-nothing P out reply p = record { output = []; wrote = sym (append_told-nil out); is_answer = p }
+
+-- and the same where the stream is as before
+pub answers-unchanged : (P : Reply → List ℕ → Type 0) (out now : Option (List ℕ)) (reply : Reply) → now ≡ out → P reply [] → Answers P out now reply
+answers-unchanged P out now reply same p = subst (λ t. Answers P out t reply) (sym same) (answers-nothing P out reply p)
 
 -- why there is no image of the file is an answer for its text
 pub text-of_no_image : (told : Files) (name : List ℕ) (out : Option (List ℕ)) (reply : Reply) → HasNoImage told name reply → Answers (AllowsText told name) out out reply

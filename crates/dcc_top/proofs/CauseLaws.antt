@@ -1,5 +1,5 @@
 -- When each status comes, and what it says: by cases on what the call came to.
-use Rattle.std.proofs.Common.{◌≡◌, ℕ, true, ◌⊎◌, inl, inr, List, [], ◌∷◌, Option, Some, None, refl, sym, ap, ◌∙◌, subst, arith}
+use Rattle.std.proofs.Common.{◌≡◌, ℕ, ◌⊎◌, inl, inr, List, [], ◌∷◌, Option, Some, None, refl, sym, ap, ◌∙◌, subst, arith}
 use Rattle.std.specs.Prelude.{◌≢◌}
 use Rattle.dcc_io.specs.Count.{Rose}
 use Rattle.dcc_io.specs.Told.{append_told}
@@ -18,12 +18,10 @@ use Rattle.dcc_top.specs.Words.{Job, Decompile, Execute, ExecuteText, name_of, f
 use Rattle.dcc_top.specs.Answer.{Files, OfFile, HasNoFile, no_file, file_fault, no_memory, HasNoImage, no_executable, misshapen, HasNoUnit, no_text, offends, AllowsText, decompiled, refused, no_image, Decompiles, IsRefusedAs, OfImages, IsRefusedImage, Runs, Allows, no_job, for_text, ran_file, ran_no_file, ran_text, ran_no_text, ShelfLacks, status_of, line_of, refusal_reply}
 use Rattle.dcc_top.specs.Delivery.{Streams}
 use Rattle.dcc_top.specs.Causes.{IsAnswered, answered, found_no_memory, broke_off, HasText, HasRunFile, IsAbsent, IsUnreadable, HasFormatFault, HasRefusal, HasTextFault, Names, IsMissing, IsNoText, EndsSo, IsOneOf, end_status, IsOutOfMemory, IsCutOff}
-use Rattle.dcc_top.proofs.StatusLaws.{are_apart, apart, status-not_six, reply-at_7, no_file-status, no_image-status, no_unit-status, refusal-status, run-status, text_run-status}
+use Rattle.dcc_top.proofs.StatusLaws.{apart, text_statuses, text-status, status-not_six, reply-at_7, no_file-status, no_image-status, no_unit-status, refusal-status, run_statuses, run-status, text_run-status}
 use Rattle.dcc_top.proofs.NamedLaws.{name-of, file-name, accepted-one, refused-always as always-refused, job-misshapen, job-missing, text-refused, job-ended}
 
--- the statuses of runs
-abbrev run_statuses : List ℕ
-run_statuses = 5 ∷ (7 ∷ (0 ∷ (20 ∷ (21 ∷ (22 ∷ (24 ∷ []))))))
+-- lists of statuses
 
 abbrev image_faults : List ℕ
 image_faults = 8 ∷ (3 ∷ (4 ∷ (7 ∷ [])))
@@ -75,20 +73,6 @@ module _ (told : Files) (job : Option Job) (before left : Option (List ℕ)) (ca
   one-of ns six seven each (found_no_memory reply output allowed not out (inr t)) = subst (λ n. IsOneOf n ns) (sym t.0) six
   one-of ns six seven each (broke_off due is_due broke) = subst (λ n. IsOneOf n ns) (sym broke.status_is) six
 
-  -- the statuses of the text of an executable
-  text-status : (name : List ℕ) (reply : Reply) (output : List ℕ) → AllowsText told name reply output → IsOneOf (status_of reply) (0 ∷ []) ⊎ (IsOneOf (status_of reply) refusals ⊎ IsOneOf (status_of reply) image_faults)
-  text-status name _ output (decompiled f) = inl (inl refl)
-  text-status name _ _ (refused refusal f) = inr (inl (refusal-status refusal))
-  text-status name reply _ (no_image h) = inr (inr (no_image-status told name reply h))
-
-  -- no status of the text of an executable is one of these
-  not-text : (ns : List ℕ) (name : List ℕ) (reply : Reply) (output : List ℕ) → are_apart ns (0 ∷ []) ≡ true → are_apart ns refusals ≡ true → are_apart ns image_faults ≡ true → IsOneOf (status_of reply) ns → AllowsText told name reply output → ⊥
-  not-text ns name reply output a b c is h = elim (text-status name reply output h) [
-    | inl zero ↦ apart (status_of reply) ns (0 ∷ []) a is zero
-    | inr (inl refusal) ↦ apart (status_of reply) ns refusals b is refusal
-    | inr (inr fault) ↦ apart (status_of reply) ns image_faults c is fault
-  ]
-
   -- the statuses of a run
   runs-status : (j : Job) (file : List ℕ) (reply : Reply) (output : List ℕ) → Runs j file before left reply output → IsOneOf (status_of reply) run_statuses
   runs-status (Decompile name) file reply output h = absurd h
@@ -101,7 +85,7 @@ module _ (told : Files) (job : Option Job) (before left : Option (List ℕ)) (ca
   usage-of : (j : Option Job) (reply : Reply) (output : List ℕ) → Allowed j reply output → IsOneOf (status_of reply) (2 ∷ []) → j ≡ None
   usage-of _ _ _ (no_job same) is = refl
   usage-of _ reply output (for_text {name = name} h same) is =
-      absurd (not-text (2 ∷ []) name reply output refl refl refl is h)
+      absurd (apart (status_of reply) (2 ∷ []) text_statuses refl is (text-status told name reply output h))
   usage-of _ reply output (ran_file {name = name} {steps = steps} f) is =
       absurd (apart (status_of reply) (2 ∷ []) run_statuses refl is (runs-status (Execute name steps) f.file reply output f.holds))
   usage-of _ reply _ (ran_no_file {name = name} h same) is =
@@ -168,7 +152,7 @@ module _ (told : Files) (job : Option Job) (before left : Option (List ℕ)) (ca
   ended-of : (j : Option Job) (reply : Reply) (output : List ℕ) → Allowed j reply output → IsOneOf (status_of reply) ended_statuses → HasRan j reply output
   ended-of _ _ _ (no_job same) is = absurd (apart 2 (2 ∷ []) ended_statuses refl (inl refl) is)
   ended-of _ reply output (for_text {name = name} h same) is =
-      absurd (not-text ended_statuses name reply output refl refl refl is h)
+      absurd (apart (status_of reply) ended_statuses text_statuses refl is (text-status told name reply output h))
   ended-of _ reply output (ran_file {name = name} {steps = steps} f) is =
       record { asked = Execute name steps; named = refl; ran = f }
   ended-of _ reply _ (ran_no_file {name = name} h same) is =
@@ -351,7 +335,7 @@ module _ (told : Files) (job : Option Job) (before left : Option (List ℕ)) (ca
   offended-of : (j : Option Job) (reply : Reply) (output : List ℕ) → Allowed j reply output → status_of reply ≡ 11 → IsOffended j reply
   offended-of _ _ _ (no_job same) is = absurd (omega (arith, is))
   offended-of _ reply output (for_text {name = name} h same) is =
-      absurd (not-text (11 ∷ []) name reply output refl refl refl (inl is) h)
+      absurd (apart (status_of reply) (11 ∷ []) text_statuses refl (inl is) (text-status told name reply output h))
   offended-of _ reply output (ran_file {name = name} {steps = steps} f) is =
       absurd (apart (status_of reply) (11 ∷ []) run_statuses refl (inl is) (runs-status (Execute name steps) f.file reply output f.holds))
   offended-of _ reply _ (ran_no_file {name = name} h same) is =

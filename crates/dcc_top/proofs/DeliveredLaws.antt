@@ -1,5 +1,5 @@
 -- From what was told behind the output of the job to what the call comes to.
-use Rattle.std.proofs.Common.{◌≡◌, ℕ, ◌⊎◌, inl, inr, List, Option, refl, sym, ap, ◌∙◌, subst, arith}
+use Rattle.std.proofs.Common.{◌≡◌, ℕ, ◌⊎◌, inl, inr, List, Option, sym, ap, ◌∙◌, subst, arith}
 use Rattle.std.specs.Prelude.{◌≢◌}
 use Rattle.dcc_io.specs.Told.{AppendsProperPrefix}
 use Rattle.dcc_top.specs.declared.reply.Reply.{Reply}

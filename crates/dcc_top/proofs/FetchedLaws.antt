@@ -2,14 +2,20 @@
 use Rattle.std.proofs.Common.{◌≡◌, ℕ, ◌<◌, ◌≤◌, List, [], ◌∷◌, ◌++◌, length, Some, None, refl, subst, arith, length-append}
 use Rattle.std.specs.Prelude.{take, Result, Ok, Err, IfOk, IfErr}
 use Rattle.dcc_io.specs.Told.{WhenTold}
-use Rattle.dcc_mz.specs.declared.fault.MzFault.TheVariants.{TooLarge}
-use Rattle.dcc_mz.specs.Fault.{IsRefusal}
+use Rattle.dcc_mz.specs.declared.fault.MzFault.{MzFault}
+use Rattle.dcc_mz.specs.declared.fault.MzFault.TheVariants.{TooLarge, Memory as NoMemory}
+use Rattle.dcc_mz.specs.Fault.{IsRefusal, IsRefusalOrMemory}
 use Rattle.dcc_c.specs.Refusals.{too_long}
 use Rattle.dcc_parse.specs.declared.offence.ParseKind.TheVariants.{Length}
 use Rattle.dcc_parse.specs.Fault.{IsRefusal as IsTextRefusal}
 use Rattle.dcc_top.specs.declared.reply.Reply.{Reply}
 use Rattle.dcc_top.specs.declared.reply.Reply.TheVariants.{Format, TextFault}
-use Rattle.dcc_top.specs.Answer.{Files, OfFile, FailsCheck, fails, no_memory_to_load, FailsToRead, fails_to_read, no_memory_to_read, no_memory, HasNoImage, no_executable, misshapen, HasNoUnit, no_text, offends}
+use Rattle.dcc_top.specs.Answer.{Files, OfFile, fault_reply, FailsCheck, fails, no_memory_to_load, FailsToRead, fails_to_read, no_memory_to_read, no_memory, HasNoImage, no_executable, misshapen, HasNoUnit, no_text, offends}
+
+-- a file that is not loaded fails a check, or memory ran out
+pub fails-of_fault : (file : List ℕ) (fault : MzFault) → IsRefusalOrMemory file fault → FailsCheck file (fault_reply fault)
+fails-of_fault file NoMemory h = no_memory_to_load
+fails-of_fault file _ h = fails h
 
 -- the shelf gave all of the file
 abbrev pub GaveWhole : Files → List ℕ → ℕ → List ℕ → Type 0

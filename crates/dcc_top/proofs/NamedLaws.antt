@@ -15,7 +15,7 @@ use Rattle.dcc_pipe.specs.Decompilation.{IsAccepted, IsRefusal as IsProgramRefus
 use Rattle.dcc_top.specs.declared.reply.Reply.{Reply}
 use Rattle.dcc_top.specs.Words.{Job, Decompile, Execute, ExecuteText, name_of, file_of, LoadsImage}
 use Rattle.dcc_top.specs.Execution.{Subject, machine_of, text_of, Finishes, ended, stopped_at_read, not_begun, FinishesOrStops, finishes, stopped_in_step}
-use Rattle.dcc_top.specs.Answer.{Files, OfFile, HasNoFile, no_file, file_fault, no_memory, HasNoImage, no_executable, misshapen, HasNoUnit, no_text, offends, AllowsText, decompiled, refused, no_image, Decompiles, IsRefusedAs, OfImages, IsRefusedImage, IsReadAs, RunsFile, RunsText, RunsUnit, Allows, no_job, for_text, ran_file, ran_no_file, ran_text, ran_no_text, ShelfLacks, status_of, refusal_reply}
+use Rattle.dcc_top.specs.Answer.{Files, OfFile, HasNoFile, no_file, file_fault, no_memory, HasNoImage, no_executable, misshapen, HasNoUnit, no_text, offends, AllowsText, decompiled, refused, no_image, Decompiles, IsRefusedAs, OfImages, IsRefusedImage, RunsFile, RunsText, RunsUnit, Allows, for_text, ran_file, ran_no_file, ran_text, ran_no_text, ShelfLacks, status_of, refusal_reply}
 use Rattle.dcc_top.specs.Causes.{Names, IsNoText, EndsSo, file_ends, text_ends, IsOneOf, end_status}
 use Rattle.dcc_top.proofs.AnswerLaws.{same-start}
 use Rattle.dcc_top.proofs.StatusLaws.{end-status}

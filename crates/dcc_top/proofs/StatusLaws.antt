@@ -2,16 +2,19 @@
 use Rattle.std.proofs.Common.{◌≡◌, ℕ, Bool, true, false, inl, inr, List, [], ◌∷◌, Option, refl, sym, ap, ◌∙◌, subst, arith}
 use Rattle.std.proofs.lemmas.Bool.{eq-eqb, or_right}
 use Rattle.std.specs.Prelude.{◌&&◌, ◌||◌, not, eqb}
+use Rattle.std.specs.Prelude.{Result, Ok, Err, IfOk}
+use Rattle.dcc_io.specs.declared.outside.Failed.{Failed}
+use Rattle.dcc_prog.specs.declared.image.Image.{Image}
 use Rattle.dcc_run.specs.End.{End, Running, Exit, Divide, Outside as outside, Stuck as stuck}
 use Rattle.dcc_prog.specs.declared.refusal.Refusal.{Refusal}
 use Rattle.dcc_prog.specs.declared.refusal.Refusal.TheVariants.{Construct as ConstructRefused, Limit as LimitRefused, NotYet as NotYetRefused, Memory as MemoryRefused}
 use Rattle.dcc_prog.proofs.TableLaws.{and_right}
 use Rattle.dcc_top.specs.declared.reply.Reply.{Reply}
-use Rattle.dcc_top.specs.declared.reply.Reply.TheVariants.{Done, Exited, Usage, NoFile, FileFault, InputFault, Memory, Format, Construct, Limit, NotYet, TextFault, Unfinished, Divided, Outside, Stuck}
+use Rattle.dcc_top.specs.declared.reply.Reply.TheVariants.{Done, NoFile, FileFault, InputFault, Memory}
 use Rattle.dcc_top.specs.Execution.{Subject, end_reply, Finishes, ended, stopped_at_read, not_begun, FinishesOrStops, finishes, stopped_in_step}
-use Rattle.dcc_top.specs.Words.{Job, Decompile, Execute, ExecuteText}
-use Rattle.dcc_top.specs.Answer.{Files, HasNoFile, no_file, file_fault, no_memory, HasNoImage, no_executable, misshapen, HasNoUnit, no_text, offends, status_of, refusal_reply}
+use Rattle.dcc_top.specs.Answer.{Files, HasNoFile, no_file, file_fault, no_memory, HasNoImage, no_executable, misshapen, HasNoUnit, no_text, offends, AllowsImage, image_decompiled, image_refused, AllowsText, decompiled, refused, no_image, status_of, refusal_reply}
 use Rattle.dcc_top.specs.Causes.{IsOneOf, end_status}
+use Rattle.dcc_top.specs.Delivery.{Answers}
 
 -- Lists of statuses.
 
@@ -69,10 +72,6 @@ no_file-status told name _ (no_file lacks) = inl refl
 no_file-status told name _ file_fault = inr (inl refl)
 no_file-status told name _ no_memory = inr (inr (inl refl))
 
--- a status is one of more
-pub more-of : (status m : ℕ) (ns : List ℕ) → IsOneOf status ns → IsOneOf status (m ∷ ns)
-more-of status m ns h = inr h
-
 pub no_image-status : (told : Files) (name : List ℕ) (reply : Reply) → HasNoImage told name reply → IsOneOf (status_of reply) (8 ∷ (3 ∷ (4 ∷ (7 ∷ []))))
 no_image-status told name reply (no_executable h) = inr (no_file-status told name reply h)
 no_image-status told name _ (misshapen f) = inl refl
@@ -87,6 +86,25 @@ refusal-status (ConstructRefused kind at) = inr (inl refl)
 refusal-status (LimitRefused what count) = inr (inr (inl refl))
 refusal-status (NotYetRefused at) = inr (inr (inr (inl refl)))
 refusal-status MemoryRefused = inl refl
+
+pub image-status : (image : Image) (reply : Reply) (output : List ℕ) → AllowsImage image reply output → IsOneOf (status_of reply) (0 ∷ (7 ∷ (9 ∷ (10 ∷ (12 ∷ [])))))
+image-status image _ output (image_decompiled t) = inl refl
+image-status image _ _ (image_refused refusal h) = inr (refusal-status refusal)
+
+-- the statuses of the text of an executable
+abbrev pub text_statuses : List ℕ
+text_statuses = 0 ∷ (9 ∷ (10 ∷ (12 ∷ (8 ∷ (3 ∷ (4 ∷ (7 ∷ [])))))))
+
+among-text : (refusal : Refusal) → IsOneOf (status_of (refusal_reply refusal)) text_statuses
+among-text (ConstructRefused kind at) = inr (inl refl)
+among-text (LimitRefused what count) = inr (inr (inl refl))
+among-text (NotYetRefused at) = inr (inr (inr (inl refl)))
+among-text MemoryRefused = inr (inr (inr (inr (inr (inr (inr (inl refl)))))))
+
+pub text-status : (told : Files) (name : List ℕ) (reply : Reply) (output : List ℕ) → AllowsText told name reply output → IsOneOf (status_of reply) text_statuses
+text-status told name _ output (decompiled f) = inl refl
+text-status told name _ _ (refused refusal f) = among-text refusal
+text-status told name reply _ (no_image h) = inr (inr (inr (inr (no_image-status told name reply h))))
 
 -- the status of a run that has ended
 pub end-status : (steps : ℕ) (end : End) → status_of (end_reply steps end) ≡ end_status end
@@ -104,13 +122,22 @@ end_status-one Divide = inr (inr (inl refl))
 end_status-one (outside at) = inr (inr (inr (inl refl)))
 end_status-one (stuck line) = inr (inr (inr (inr (inl refl))))
 
-pub run-status : {S : Type 0} (subject : Subject S) (steps : ℕ) (before left : Option (List ℕ)) (reply : Reply) (output : List ℕ) → Finishes subject steps before left reply output → IsOneOf (status_of reply) (5 ∷ (7 ∷ (0 ∷ (20 ∷ (21 ∷ (22 ∷ (24 ∷ [])))))))
+abbrev pub run_statuses : List ℕ
+run_statuses = 5 ∷ (7 ∷ (0 ∷ (20 ∷ (21 ∷ (22 ∷ (24 ∷ []))))))
+
+pub run-status : {S : Type 0} (subject : Subject S) (steps : ℕ) (before left : Option (List ℕ)) (reply : Reply) (output : List ℕ) → Finishes subject steps before left reply output → IsOneOf (status_of reply) run_statuses
 run-status subject steps before left _ output (ended end h) =
     inr (inr (subst (λ n. IsOneOf n (0 ∷ (20 ∷ (21 ∷ (22 ∷ (24 ∷ [])))))) (sym (end-status steps end)) (end_status-one end)))
 run-status subject steps before left _ output (stopped_at_read h) = inl refl
 run-status subject steps before left _ _ (not_begun same) = inr (inl refl)
 
-pub text_run-status : {S : Type 0} (subject : Subject S) (steps : ℕ) (before left : Option (List ℕ)) (reply : Reply) (output : List ℕ) → FinishesOrStops subject steps before left reply output → IsOneOf (status_of reply) (5 ∷ (7 ∷ (0 ∷ (20 ∷ (21 ∷ (22 ∷ (24 ∷ [])))))))
+pub text_run-status : {S : Type 0} (subject : Subject S) (steps : ℕ) (before left : Option (List ℕ)) (reply : Reply) (output : List ℕ) → FinishesOrStops subject steps before left reply output → IsOneOf (status_of reply) run_statuses
 text_run-status subject steps before left reply output (finishes h) =
     run-status subject steps before left reply output h
 text_run-status subject steps before left _ output (stopped_in_step h) = inr (inl refl)
+
+-- an answer that has none of these statuses is not given
+pub never : (P : Reply → List ℕ → Type 0) (ns : List ℕ) → ((reply : Reply) (output : List ℕ) → P reply output → IsOneOf (status_of reply) ns) → (other : Reply) → are_apart (status_of other ∷ []) ns ≡ true → (A : Type 0) (out now : Option (List ℕ)) (result : Result Reply Failed) → IfOk result (Answers P out now) → IfOk result (λ reply. reply ≡ other → A)
+never P ns each other far A out now (Ok reply) a = λ is.
+    absurd (apart (status_of reply) (status_of other ∷ []) ns far (inl (ap status_of is)) (each reply a.output a.is_answer))
+never P ns each other far A out now (Err e) a = a

@@ -1,13 +1,11 @@
 -- From what the run of a text says to how it finished.
 use Rattle.std.proofs.Common.{◌≡◌, ℕ, ◌+◌, ◌≤◌, inl, inr, List, [], ◌∷◌, ◌++◌, Option, Some, None, refl, sym, ap, ◌∙◌, subst, arith}
-use Rattle.std.proofs.lemmas.List.{append_assoc}
 use Rattle.std.specs.Prelude.{Result, Ok, Err, IfOk, OnErr}
 use Rattle.dcc_io.specs.declared.outside.Failed.{Failed}
-use Rattle.dcc_io.specs.Told.{WhenTold, append_told, AppendsProperPrefix}
+use Rattle.dcc_io.specs.Told.{append_told, AppendsProperPrefix}
 use Rattle.dcc_io.proofs.ToldLemmas.{AppendsProperPrefix-after, AppendsProperPrefix-longer, append_told-nil, append_told-append}
 use Rattle.dcc_run.specs.End.{End}
-use Rattle.dcc_run.specs.Prefix.{IsPrefix}
-use Rattle.dcc_run.specs.System.{after, out_after, end_after}
+use Rattle.dcc_run.specs.System.{after, out_after}
 use Rattle.dcc_run.proofs.RunLaws.{after-add, out_grows}
 use Rattle.dcc_c.specs.Run.{State, step, text_system, first_state}
 use Rattle.dcc_c.specs.Rules.{IsAllowed}
@@ -20,9 +18,9 @@ use Rattle.dcc_top.specs.declared.reply.Reply.{Reply}
 use Rattle.dcc_top.specs.declared.reply.Reply.TheVariants.{Memory, InputFault}
 use Rattle.dcc_top.specs.Answer.{Files, OfFile, Allows, ran_text, IsDue, due_text_output, IsReadAs, RunsUnit, UnitPutsOut}
 use Rattle.dcc_top.specs.Delivery.{Answers, CutsShort}
-use Rattle.dcc_top.specs.Execution.{text_of, HasRun, StopsAtRead, StopsInStep, end_reply, Finishes, ended, stopped_at_read, not_begun, FinishesOrStops, finishes, stopped_in_step, PutsOut}
+use Rattle.dcc_top.specs.Execution.{text_of, HasRun, StopsAtRead, StopsInStep, end_reply, ended, stopped_at_read, not_begun, finishes, stopped_in_step}
 use Rattle.dcc_top.specs.Words.{ExecuteText}
-use Rattle.dcc_top.proofs.ExecuteLaws.{IsLeft, is-left, ran-nothing}
+use Rattle.dcc_top.proofs.ExecuteLaws.{is-left}
 
 -- the run stands at the start of every text for the tree, on every input
 abbrev pub Begins : CRun → Tree → ℕ → Type 0

@@ -3,6 +3,7 @@ use Rattle.std.specs.Prelude.{◌≡◌, ◌≢◌, ◌≤◌, ℕ, ◌+◌, ◌
 use Rattle.std.specs.Fmt.{decimal}
 use Rattle.dcc_mz.specs.Fault.{number_of, place_of, IsRefusal as IsFormatRefusal}
 use Rattle.dcc_mz.specs.declared.fault.MzFault.{MzFault}
+use Rattle.dcc_mz.specs.declared.fault.MzFault.TheVariants.{Memory as NoMemory}
 use Rattle.dcc_io.specs.Told.{WhenTold}
 use Rattle.dcc_prog.specs.declared.image.Image.{Image}
 use Rattle.dcc_prog.specs.declared.refusal.LimitName.{LimitName}
@@ -93,6 +94,11 @@ line_of (Unfinished steps) = codes "running after " ++ (decimal steps ++ codes "
 line_of Divided = codes "divide\n"
 line_of (Outside at) = codes "outside at " ++ (hex_offset at ++ codes "\n")
 line_of (Stuck line) = codes "stuck at line " ++ (decimal line ++ codes "\n")
+
+-- the answer where a file is not loaded
+abbrev pub fault_reply : MzFault → Reply
+fault_reply NoMemory = Memory
+fault_reply fault = Format fault
 
 -- the answer where a program is refused
 abbrev pub refusal_reply : Refusal → Reply

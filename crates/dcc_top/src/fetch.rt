@@ -24,8 +24,7 @@ fn image_of(alloc: Global, bytes: &Vec<u8>) -> Result<Image, Reply>
 {
     match load(alloc, bytes) {
         Ok(image) => Ok(image),
-        Err(MzFault::Memory) => Err(Reply::Memory),
-        Err(fault) => Err(Reply::Format(fault)),
+        Err(fault) => Err(Reply::of_fault(fault)),
     }
 }
 

@@ -5,7 +5,6 @@ pub mod decompile_job;
 pub mod deliver;
 pub mod execute;
 pub mod fetch;
-pub mod probe;
 pub mod reply;
 pub mod text_job;
 pub mod top;

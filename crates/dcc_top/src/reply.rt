@@ -1,7 +1,7 @@
 //! What the program answers: a status, and a line on the error stream.
 
 ghost use Rattle.std.specs.Prelude.{◌≡◌, ◌<◌, ◌++◌, IfOk, OnOk, IsOk, codes, string_bytes};
-ghost use Rattle.dcc_top.specs.Answer.{status_of, line_of, limit_word, kind_word, hex_digit, hex_offset, refusal_reply};
+ghost use Rattle.dcc_top.specs.Answer.{status_of, line_of, limit_word, kind_word, hex_digit, hex_offset, fault_reply, refusal_reply};
 
 use dcc_mz::MzFault;
 use dcc_parse::ParseKind;
@@ -46,6 +46,16 @@ pub enum Reply {
 }
 
 impl Reply {
+    /// The answer where a file is not loaded.
+    pub fn of_fault(fault: MzFault) -> Reply
+        ensures { result ≡ fault_reply fault }
+    {
+        match fault {
+            MzFault::Memory => Reply::Memory,
+            _ => Reply::Format(fault),
+        }
+    }
+
     /// The answer where a program is refused.
     pub fn of_refusal(refusal: Refusal) -> Reply
         ensures { result ≡ refusal_reply refusal }

@@ -79,10 +79,10 @@ pub fn execute_unit<I: Source, O: Sink>(
         → Rose (I.faults input.old) (I.faults input.new)) }
     ensures write_failed { OnErr result (Rose (O.faults out.old) (O.faults out.new)) }
 {
-    let Ok(mut run) = CRun::new(alloc, unit, fill) else {
+    let Ok(mut running) = CRun::new(alloc, unit, fill) else {
         return Ok(Reply::Memory);
     };
-    match run.run(alloc, input, out, steps) {
+    match running.run(alloc, input, out, steps) {
         CStepped::Running => Ok(Reply::Unfinished(steps)),
         CStepped::Exit(code) => Ok(Reply::Exited(code)),
         CStepped::Divide => Ok(Reply::Divided),

@@ -17,7 +17,10 @@ pub enum Job<'a> {
     /// Write the text of the executable of this name.
     Decompile(&'a str),
     /// Run the executable of this name for at most so many steps.
-    Execute { file: &'a str, steps: u64 },
+    Execute {
+        file: &'a str,
+        steps: u64,
+    },
     /// Run the text of this name for at most so many steps, with this fill.
     ExecuteText {
         file: &'a str,

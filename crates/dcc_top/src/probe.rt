@@ -1,8 +1,0 @@
-//! Scratch.
-
-ghost use Rattle.std.specs.Prelude.{◌≡◌, true};
-
-/// Scratch.
-pub fn probe()
-    ensures { true ≡ true }
-{}
