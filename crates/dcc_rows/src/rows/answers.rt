@@ -1,27 +1,9 @@
 //! The status and the line of each answer.
 
-use super::files::{Answer, Faults, NO_FAULTS, PRINTS_A, answered, program, text};
+use super::files::{Answer, Faults, NO_FAULTS, PRINTS_A, answered, program};
 use std::alloc::{AllocError, Global};
 use std::process::Abort;
 use std::test::Fail;
-
-#[test]
-fn a_program_that_prints_has_this_text(rt: HostRuntime) -> Result<(), Fail> {
-    let alloc = rt.alloc();
-    let statements = [
-        "v3 = (v3 & 65280U) | 65U;",
-        "v1 = (v1 & 255U) | 512U;",
-        "dos_putc(v3);",
-        "v1 = 19459U;",
-        "dos_exit(v1);",
-    ];
-    let text = text(alloc, 1, &statements)?;
-    let done = answered(alloc, &["c", "ROW1.EXE"], &PRINTS_A, NO_FAULTS)?;
-    assert_eq!(rt; done.status, 0);
-    assert_eq!(rt; done.out.as_slice(), text.as_bytes());
-    assert_eq!(rt; done.err.as_slice(), b"".as_slice());
-    Ok(())
-}
 
 // The call must answer this status and write this line, and nothing on its output.
 fn check_refused(rt: &impl Abort, given: &Answer, status: u8, line: &str) {
@@ -33,7 +15,7 @@ fn check_refused(rt: &impl Abort, given: &Answer, status: u8, line: &str) {
 // Words, the number of the fetch that fails, the status and the line.
 type WordsRow = (&'static [&'static str], u64, u8, &'static str);
 
-static WORDS: [WordsRow; 11] = [
+static WORDS: [WordsRow; 14] = [
     (&[], 0, 2, "dcc: usage\n"),
     (&["c"], 0, 2, "dcc: usage\n"),
     (&["help"], 0, 2, "dcc: usage\n"),
@@ -50,6 +32,9 @@ static WORDS: [WordsRow; 11] = [
     (&["run", "ROW2.EXE"], 0, 3, "dcc: no file\n"),
     (&["c", "ROW1.EXE"], 1, 4, "dcc: file fault\n"),
     (&["run", "ROW1.EXE"], 1, 4, "dcc: file fault\n"),
+    (&["runc"], 0, 2, "dcc: usage\n"),
+    (&["runc", "ROW2.C"], 0, 3, "dcc: no file\n"),
+    (&["runc", "ROW1.EXE"], 1, 4, "dcc: file fault\n"),
 ];
 
 fn words() -> &'static [WordsRow] {
@@ -115,60 +100,102 @@ fn files_without_an_image_are_refused(rt: HostRuntime) -> Result<(), Fail> {
     Ok(())
 }
 
-// The code behind the instructions that set DS, and the line.
-type StopRow = (&'static [u8], &'static str);
+// The code behind the instructions that set DS, the status and the line.
+type RefusalRow = (&'static [u8], u8, &'static str);
 
-static STOPS: [StopRow; 9] = [
-    // A jump.
-    (b"\xEB\xFE", "dcc: not yet at 0005\n"),
-    // MOV of a constant to AX and to AL in the encodings with a ModR/M byte.
-    (b"\xC7\xC0\x03\x4C\xCD\x21", "dcc: not yet at 0005\n"),
-    (b"\xB4\x4C\xC6\xC0\x03\xCD\x21", "dcc: not yet at 0007\n"),
-    // MOV to SP, of a constant and of AX, and to SI of BP.
+static REFUSALS: [RefusalRow; 21] = [
+    // No instruction of the profile.
+    (b"\xCD\x20", 9, "dcc: construct 2 at 0005\n"),
+    // CLI behind the prelude.
     (
-        b"\xBC\x00\x01\xB8\x00\x4C\xCD\x21",
-        "dcc: not yet at 0005\n",
+        b"\xB8\x00\x4C\x90\x43\xFA\xCD\x21",
+        9,
+        "dcc: construct 2 at 000A\n",
     ),
-    (b"\xB8\x00\x01\x8B\xE0", "dcc: not yet at 0008\n"),
-    (b"\xB9\x00\x01\x89\xEE", "dcc: not yet at 0008\n"),
-    // ADD of bytes.
-    (b"\xB4\x4C\x04\x01\xCD\x21", "dcc: not yet at 0007\n"),
-    // INT 21h where AH is not known, though it is 4Ch.
-    (
-        b"\xB8\x00\x4C\x05\x01\x00\xCD\x21",
-        "dcc: not yet at 000B\n",
-    ),
-    // No instruction: the line comes to the end of the code.
+    // The code ends before the program does.
     (
         b"\xB8\x00\x4C\xB9\x00\x00\xBA\x00\x00\x8B\xC8",
-        "dcc: not yet at 0010\n",
+        9,
+        "dcc: construct 2 at 0010\n",
     ),
+    // An indirect jump, near and far, and an indirect call.
+    (b"\xFF\x27", 9, "dcc: construct 3 at 0005\n"),
+    (b"\xFF\x2F", 9, "dcc: construct 3 at 0005\n"),
+    (b"\xFF\x17", 9, "dcc: construct 4 at 0005\n"),
+    // INT 21h where AH is not known, though it is 4Ch; with a number that no call has; and with two numbers.
+    (
+        b"\xB8\x00\x4C\x05\x01\x00\xCD\x21",
+        9,
+        "dcc: construct 5 at 000B\n",
+    ),
+    (b"\xB4\x30\xCD\x21", 9, "dcc: construct 5 at 0007\n"),
+    (
+        b"\xB4\x02\x74\x02\xB4\x08\xCD\x21\xB4\x4C\xCD\x21",
+        9,
+        "dcc: construct 5 at 000B\n",
+    ),
+    // Memory, SP and BP.
+    (b"\xA1\x00\x00", 12, "dcc: not yet at 0005\n"),
+    (
+        b"\xBD\x05\x00\xB8\x00\x4C\xCD\x21",
+        12,
+        "dcc: not yet at 0005\n",
+    ),
+    (b"\xB8\x00\x4C\x55\xCD\x21", 12, "dcc: not yet at 0008\n"),
+    (b"\xB9\x00\x01\x89\xEE", 12, "dcc: not yet at 0008\n"),
+    (b"\x8D\x07", 12, "dcc: not yet at 0005\n"),
+    (b"\xD7", 12, "dcc: not yet at 0005\n"),
+    // Pushes and pops, calls and returns.
+    (b"\x50\xE8\x05\x00", 12, "dcc: not yet at 0005\n"),
+    (b"\x58", 12, "dcc: not yet at 0005\n"),
+    (b"\xE8\x00\x00", 12, "dcc: not yet at 0005\n"),
+    (b"\xC3", 12, "dcc: not yet at 0005\n"),
+    // A division.
+    (b"\xB8\x01\x00\x99\xF7\xF9", 12, "dcc: not yet at 0009\n"),
+    // A written string.
+    (b"\xB4\x09\xCD\x21", 12, "dcc: not yet at 0007\n"),
 ];
 
-fn stops() -> &'static [StopRow] {
-    &STOPS
+fn refusals() -> &'static [RefusalRow] {
+    &REFUSALS
 }
 
-// The program with this code behind the instructions that set DS is refused with the line, and with status 12.
-fn check_stop(rt: &impl Abort, alloc: Global, code: &[u8], line: &str) -> Result<(), AllocError> {
-    let file = program(rt, alloc, code)?;
-    let given = answered(alloc, &["c", "ROW1.EXE"], &file, NO_FAULTS)?;
-    check_refused(rt, &given, 12, line);
+#[test]
+fn programs_are_refused(rt: HostRuntime) -> Result<(), Fail> {
+    let alloc = rt.alloc();
+    for (code, status, line) in refusals() {
+        let file = program(&rt, alloc, code)?;
+        let given = answered(alloc, &["c", "ROW1.EXE"], &file, NO_FAULTS)?;
+        check_refused(&rt, &given, *status, line);
+    }
     Ok(())
 }
 
 #[test]
-fn instructions_that_are_not_built_are_named(rt: HostRuntime) -> Result<(), Fail> {
+fn a_program_without_a_layout_is_refused(rt: HostRuntime) -> Result<(), Fail> {
     let alloc = rt.alloc();
-    for (code, line) in stops() {
-        check_stop(&rt, alloc, code, line)?;
-    }
-    // A whole segment of moves: the line comes to offset 65536, which is named as 0.
-    let mut segment = b"\xB9\x00\x00".to_vec(alloc)?;
-    for _ in 0..32_764 {
-        segment.extend_from_slice(b"\x8B\xC8")?;
-    }
-    check_stop(&rt, alloc, &segment, "dcc: not yet at 0000\n")?;
+    // An image of one paragraph without a relocation, which sets no DS: its header and its five bytes of code.
+    let file =
+        b"MZ\x25\x00\x01\x00\x00\x00\x02\x00\x00\x00\xFF\xFF\x01\x00\x00\x01\x00\x00\x00\x00\x00\x00\x1C\x00\x00\x00\x00\x00\x00\x00\xB8\x00\x4C\xCD\x21";
+    let given = answered(alloc, &["c", "ROW1.EXE"], file, NO_FAULTS)?;
+    check_refused(&rt, &given, 9, "dcc: construct 1 at 0000\n");
+    Ok(())
+}
+
+#[test]
+fn a_procedure_of_too_many_instructions_is_refused(rt: HostRuntime) -> Result<(), Fail> {
+    let alloc = rt.alloc();
+    // 4,095 increments of BX and a call that leaves, in two instructions; and one increment more.
+    let mut code = Vec::new(alloc);
+    code.resize(4094, 0x43)?;
+    code.extend_from_slice(b"\xB4\x4C\xCD\x21")?;
+    let file = program(&rt, alloc, &code)?;
+    let given = answered(alloc, &["c", "ROW1.EXE"], &file, NO_FAULTS)?;
+    assert_eq!(rt; given.status, 0);
+    code.insert(0, 0x43)?;
+    let file = program(&rt, alloc, &code)?;
+    let given = answered(alloc, &["c", "ROW1.EXE"], &file, NO_FAULTS)?;
+    check_refused(&rt, &given, 10, "dcc: limit instructions 4097\n");
     Ok(())
 }
 

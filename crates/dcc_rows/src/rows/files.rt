@@ -3,13 +3,9 @@
 ghost use Rattle.std.specs.Prelude.{◌≤◌};
 
 use dcc_io::{MemShelf, MemSink, MemSource};
-use dcc_mz::load;
-use dcc_prog::LOAD_SEGMENT;
-use dcc_step::{Machine, Stepped};
 use dcc_top::top::dcc;
 use std::alloc::{AllocError, Global};
 use std::process::Abort;
-use std::test::Fail;
 
 /// A program of 48 bytes that prints A and exits with 3: a header of two paragraphs with one relocation,
 /// then 16 bytes of code.
@@ -59,41 +55,6 @@ pub(super) fn program(rt: &impl Abort, alloc: Global, code: &[u8]) -> Result<Vec
     file.extend_from_slice(code)?;
     file.resize(length as usize, 0)?;
     Ok(file)
-}
-
-// What stands before the statements of a program's instructions.
-const HEAD: &str = "#pragma dcc text 1
-#pragma dcc stack 0 0
-void start(void)
-{
-    unsigned int v1;
-    unsigned int v2;
-    unsigned int v3;
-    unsigned int v4;
-    unsigned int v5;
-    unsigned int v6;
-    v1 = 0U;
-    v2 = 0U;
-    v3 = 0U;
-    v4 = 0U;
-    v5 = 0U;
-    v6 = 0U;
-";
-
-/// The text with these statements, where the image has that many paragraphs: AX takes the segment behind it.
-pub(super) fn text(
-    alloc: Global,
-    paragraphs: u16,
-    statements: &[&str],
-) -> Result<String, AllocError> {
-    let mut text = String::from_str(alloc, HEAD)?;
-    let segment = u32::from(LOAD_SEGMENT) + u32::from(paragraphs);
-    write!(text, "    v1 = {segment}U;\n")?;
-    for statement in statements {
-        write!(text, "    {statement}\n")?;
-    }
-    text.push_str("}\n")?;
-    Ok(text)
 }
 
 /// The numbers, from 1 on, of a fetch, of a read and of writes that fail; 0 where none does.
@@ -163,19 +124,4 @@ pub(super) fn answered(
     faults: Faults,
 ) -> Result<Answer, AllocError> {
     answered_on(alloc, words, file, b"", faults)
-}
-
-/// How the first 100 steps of a file's program end on an empty input, and their output.
-pub(super) fn run_file(
-    rt: &impl Abort,
-    alloc: Global,
-    file: &Vec<u8>,
-) -> Result<(Stepped, Vec<u8>), Fail> {
-    let image = load(alloc, file)?;
-    assert!(rt; image.bytes.len() <= 65_536);
-    let mut machine = Machine::new(alloc, &image)?;
-    let mut input = MemSource::new(Vec::new(alloc), Vec::new(alloc), 1);
-    let mut out = MemSink::new(alloc, Vec::new(alloc), 8);
-    let ended = machine.run(&mut input, &mut out, 100);
-    Ok((ended, out.taken().clone()?))
 }
