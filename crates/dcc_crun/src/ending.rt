@@ -1,20 +1,33 @@
-//! How a step comes out.
+//! How a step comes out, and how a run has ended.
 
 /// How a step or a run came out.
 #[derive(Clone, Copy, PartialEq, Eq, Debug)]
 pub enum CStepped {
     /// The run goes on.
     Running,
-    /// It has ended with this exit code.
+    /// The text ended with this exit code.
     Exit(u8),
-    /// It has ended by a division that faults.
+    /// A division has no quotient.
     Divide,
-    /// There is no step in this line.
+    /// The statement or the closing brace in this line has no step.
     Stuck(u32),
-    /// A read of the input failed.
+    /// A read of the input failed; the step was not made.
     InFault,
-    /// A write of the output failed.
+    /// A write to the output failed; the step was not made.
     OutFault,
-    /// Memory ran out.
+    /// Memory was wanting; the step was not made.
     Memory,
+}
+
+/// How a run has ended, if it has.
+#[derive(Clone, Copy, PartialEq, Eq, Debug)]
+pub enum Ending {
+    /// The run goes on.
+    Running,
+    /// With this exit code.
+    Exit(u8),
+    /// By a division that has no quotient.
+    Divide,
+    /// In this line, at a statement or a closing brace that has no step.
+    Stuck(u32),
 }

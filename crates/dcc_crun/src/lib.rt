@@ -2,6 +2,7 @@
 #![tactic(auto)]
 
 pub mod ending;
+mod moment;
 pub mod run;
 
 pub use ending::CStepped;

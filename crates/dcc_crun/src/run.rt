@@ -1,13 +1,16 @@
 //! The run of a text. A stub: it finds no memory.
 
-ghost use Rattle.std.specs.Prelude.{◌≡◌, ◌≤◌, List, ℕ, IfOk};
+ghost use Rattle.std.specs.Prelude.{◌≡◌, ◌≤◌, ℕ, List, ◌∷◌, IfOk};
 ghost use Rattle.dcc_io.specs.Count.{Rose};
+ghost use Rattle.dcc_c.specs.Tree.{Function};
 ghost use Rattle.dcc_c.specs.Run.{first_state};
-ghost use Rattle.dcc_c.specs.Text.{StandsFor};
 ghost use Rattle.dcc_c.specs.Views.{tree_of};
-ghost use Rattle.dcc_crun.specs.Stepped.{HasText, Runs, StandsAt, scene};
+ghost use Rattle.dcc_crun.specs.Ending.{end_of};
+ghost use Rattle.dcc_crun.specs.Standing.{StandsAt};
+ghost use Rattle.dcc_crun.specs.Stepped.{scene, TellsEnd, Runs};
 
-use crate::ending::CStepped;
+use crate::ending::{CStepped, Ending};
+use crate::moment::Moment;
 use dcc_c::Unit;
 use dcc_io::{Sink, Source};
 use std::alloc::{AllocError, Global};
@@ -15,16 +18,16 @@ use std::alloc::{AllocError, Global};
 /// A run of a text.
 #[derive(Drop)]
 pub struct CRun {
-    /// What variables hold before they have a value.
-    pub(crate) fill: u16,
+    /// The state of the run.
+    moment: Moment,
 }
 
 impl CRun {
     /// The run of a text from its first function on. Variables and the stack hold the fill before they have a value.
     pub fn new(alloc: Global, unit: &Unit, fill: u16) -> Result<CRun, AllocError>
-        requires { HasText (tree_of unit.now) }
-        ensures { IfOk result (λ run. (text : List ℕ) (stands : StandsFor text (tree_of unit.now)) (input : List ℕ)
-            → StandsAt (tree_of unit.now) run (first_state (tree_of unit.now) stands.allowed.start fill input)) }
+        ensures { IfOk result (λ run. (start : Function) (others : List Function) (input : List ℕ) →
+            (tree_of unit.now).functions ≡ start ∷ others →
+            StandsAt (tree_of unit.now) run (first_state (tree_of unit.now) start fill input)) }
     {
         let _ = alloc;
         let _ = unit.funcs.len();
@@ -44,6 +47,7 @@ impl CRun {
         ensures run { Runs most result
             (scene self.old (I.left input.old) (O.taken out.old))
             (scene self.new (I.left input.new) (O.taken out.new)) }
+        ensures answer { TellsEnd result (end_of self.new.moment.end) }
 
         // The counts never fall, and a fault comes only where its count rose.
         ensures input_faults { I.faults input.old ≤ I.faults input.new }
@@ -52,8 +56,8 @@ impl CRun {
         ensures write_failed { result ≡ CStepped.OutFault → Rose (O.faults out.old) (O.faults out.new) }
     {
         let _ = alloc;
-        let _ = self.fill;
         let _ = most;
+        self.moment.end = Ending::Running;
         CStepped::Running
     }
 }

@@ -4,12 +4,9 @@ use Rattle.dcc_crun.proofs.run.CRun.run.Goals as goal
 
 pub returns-clause-run : goal.returns-clause-run
 returns-clause-run g c = record {
-  steps = record {
-    given = [];
-    written = [];
-    took = sym (prepend_told-nil _);
-    wrote = sym (append_told-nil _);
-    made = λ rest told tree s stands. absurd stands;
-  };
-  end_is = λ tree s stands. absurd stands;
+  given = [];
+  written = [];
+  took = sym (prepend_told-nil _);
+  wrote = sym (append_told-nil _);
+  made = λ tree s rest told stands. absurd stands.program;
 }
