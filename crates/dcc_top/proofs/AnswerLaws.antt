@@ -6,6 +6,7 @@ use Rattle.dcc_io.proofs.ToldLemmas.{append_told-nil}
 use Rattle.dcc_prog.specs.declared.image.Image.{Image}
 use Rattle.dcc_prog.specs.Machine.{start_state}
 use Rattle.dcc_prog.specs.MzImage.{IsImageOf}
+use Rattle.dcc_pipe.specs.Agreement.{IsTextOf}
 use Rattle.dcc_top.specs.declared.reply.Reply.{Reply}
 use Rattle.dcc_top.specs.declared.reply.Reply.TheVariants.{Usage}
 use Rattle.dcc_top.specs.Words.{Job, Decompile, Execute, ExecuteText}
@@ -26,10 +27,8 @@ same-start file a b input p q =
 decompiles-image : (file text : List ℕ) (image : Image) → IsImageOf file image → IsTextOfImage image text → Decompiles file text
 decompiles-image file text image is t =
     subst (λ x. Decompiles file x) (sym t.written_is) (record {
-      image = image;
-      is_image = is;
+      agrees = record { image = image; is_image = is; tree = t.tree; is_text = subst (λ x. IsTextOf image x t.tree) t.written_is t.is_text };
       accepted = t.accepted;
-      agrees = record { tree = t.tree; stands = t.is_text.stands; image = image; is_image = is; runs = t.is_text.runs };
       written_is = refl;
     })
 

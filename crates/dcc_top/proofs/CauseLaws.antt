@@ -9,13 +9,13 @@ use Rattle.dcc_mz.specs.Fault.{IsRefusal}
 use Rattle.dcc_run.specs.End.{End}
 use Rattle.dcc_prog.specs.declared.refusal.Refusal.{Refusal}
 use Rattle.dcc_prog.specs.MzImage.{FormatFault, IsFirstFault}
-use Rattle.dcc_pipe.specs.Decompilation.{IsAccepted}
+use Rattle.dcc_top.specs.Program.{IsAcceptedProgram, IsRefusedImage}
 use Rattle.dcc_parse.specs.declared.offence.ParseKind.{ParseKind}
 use Rattle.dcc_parse.specs.Fault.{IsRefusal as IsTextRefusal}
 use Rattle.dcc_top.specs.declared.reply.Reply.{Reply}
 use Rattle.dcc_top.specs.declared.reply.Reply.TheVariants.{Done, Format, TextFault}
 use Rattle.dcc_top.specs.Words.{Job, Decompile, Execute, ExecuteText, name_of, file_of, IsExecution, LoadsImage}
-use Rattle.dcc_top.specs.Answer.{Files, OfFile, HasNoFile, no_file, file_fault, no_memory, HasNoImage, no_executable, misshapen, HasNoUnit, no_text, offends, AllowsText, decompiled, refused, no_image, Decompiles, IsRefusedAs, OfImages, IsRefusedImage, Runs, Allows, no_job, for_text, ran_file, ran_no_file, ran_text, ran_no_text, ShelfLacks, status_of, line_of, refusal_reply}
+use Rattle.dcc_top.specs.Answer.{Files, OfFile, HasNoFile, no_file, file_fault, no_memory, HasNoImage, no_executable, misshapen, HasNoUnit, no_text, offends, AllowsText, decompiled, refused, no_image, Decompiles, IsRefusedAs, OfImages, Runs, Allows, no_job, for_text, ran_file, ran_no_file, ran_text, ran_no_text, ShelfLacks, status_of, line_of, refusal_reply}
 use Rattle.dcc_top.specs.Delivery.{Streams}
 use Rattle.dcc_top.specs.Causes.{IsAnswered, answered, found_no_memory, broke_off, HasText, HasRunFile, IsAbsent, IsUnreadable, HasFormatFault, HasRefusal, HasTextFault, Names, IsMissing, IsNoText, EndsSo, IsOneOf, end_status, IsOutOfMemory, IsCutOff}
 use Rattle.dcc_top.proofs.StatusLaws.{apart, text_statuses, text-status, status-not_six, reply-at_7, no_file-status, no_image-status, no_unit-status, refusal-status, run_statuses, run-status, text_run-status}
@@ -309,7 +309,7 @@ module _ (told : Files) (job : Option Job) (before left : Option (List ℕ)) (ca
   refused-always a name file named n each =
       one-of (9 ∷ (10 ∷ (12 ∷ (4 ∷ (6 ∷ (7 ∷ [])))))) (inr (inr (inr (inr (inl refl))))) (inr (inr (inr (inr (inr (inl refl)))))) (λ reply output h. always-refused told name n.files n.tells file (named-file (Decompile name) file named n) each reply output (for-text name reply output (subst (λ j. Allowed j reply output) named h))) a
 
-  pub text-always : Comes → (name file : List ℕ) → job ≡ Some (Decompile name) → Names told job file → OfImages file IsAccepted → IsOneOf status (0 ∷ (4 ∷ (6 ∷ (7 ∷ []))))
+  pub text-always : Comes → (name file : List ℕ) → job ≡ Some (Decompile name) → Names told job file → OfImages file IsAcceptedProgram → IsOneOf status (0 ∷ (4 ∷ (6 ∷ (7 ∷ []))))
   text-always a name file named n each =
       one-of (0 ∷ (4 ∷ (6 ∷ (7 ∷ [])))) (inr (inr (inl refl))) (inr (inr (inr (inl refl)))) (λ reply output h. accepted-one told name n.files n.tells file (named-file (Decompile name) file named n) each reply output (for-text name reply output (subst (λ j. Allowed j reply output) named h))) a
 

@@ -73,10 +73,12 @@ stops-at-read : (image : Image) (steps : ℕ) (input : List ℕ) (core : Core) (
 stops-at-read image steps input core taken now start s =
     let m = has-made image s.count input core taken s.stop start s.made in
     record {
-      made = s.count;
-      short = s.short;
-      output_is = sym (ap (λ u. u.out) m.state);
-      left_is = ap (λ u. u.left) s.refused.unchanged ∙ m.tells ∙ ap Some (sym (ap (λ u. u.input) m.state));
+      stops = record {
+        made = s.count;
+        short = s.short;
+        output_is = sym (ap (λ u. u.out) m.state);
+        left_is = ap (λ u. u.left) s.refused.unchanged ∙ m.tells ∙ ap Some (sym (ap (λ u. u.input) m.state));
+      };
       takes = λ byte rest. ap (λ u. (step (record u { input = byte ∷ rest })).input) m.state ∙ s.refused.takes byte rest s.made.written;
     }
 

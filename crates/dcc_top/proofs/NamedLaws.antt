@@ -11,11 +11,11 @@ use Rattle.dcc_prog.specs.declared.refusal.Refusal.TheVariants.{Construct as Con
 use Rattle.dcc_prog.specs.MzImage.{IsImageOf, FormatFault, IsFirstFault, too_large, short, not_mz, bad_pages, header_past_image, bad_relocation, entry_outside}
 use Rattle.dcc_prog.specs.Step.{machine_system}
 use Rattle.dcc_prog.proofs.MzImageLaws.{not_both}
-use Rattle.dcc_pipe.specs.Decompilation.{IsAccepted, IsRefusal as IsProgramRefusal}
 use Rattle.dcc_top.specs.declared.reply.Reply.{Reply}
 use Rattle.dcc_top.specs.Words.{Job, Decompile, Execute, ExecuteText, name_of, file_of, LoadsImage}
-use Rattle.dcc_top.specs.Execution.{Subject, machine_of, text_of, Finishes, ended, stopped_at_read, not_begun, FinishesOrStops, finishes, stopped_in_step}
-use Rattle.dcc_top.specs.Answer.{Files, OfFile, HasNoFile, no_file, file_fault, no_memory, HasNoImage, no_executable, misshapen, HasNoUnit, no_text, offends, AllowsText, decompiled, refused, no_image, Decompiles, IsRefusedAs, OfImages, IsRefusedImage, RunsFile, RunsText, RunsUnit, Allows, for_text, ran_file, ran_no_file, ran_text, ran_no_text, ShelfLacks, status_of, refusal_reply}
+use Rattle.dcc_top.specs.Program.{IsRefusedFor, IsAcceptedProgram, IsRefusedImage}
+use Rattle.dcc_top.specs.Execution.{Subject, machine_of, text_of, Finishes, ended, stopped_at_read, not_begun, FinishesOrStops, finishes, found_none}
+use Rattle.dcc_top.specs.Answer.{Files, OfFile, HasNoFile, no_file, file_fault, no_memory, HasNoImage, no_executable, misshapen, HasNoUnit, no_text, offends, AllowsText, decompiled, refused, no_image, Decompiles, IsRefusedAs, OfImages, RunsFile, RunsText, RunsUnit, Allows, for_text, ran_file, ran_no_file, ran_text, ran_no_text, ShelfLacks, status_of, refusal_reply}
 use Rattle.dcc_top.specs.Causes.{Names, IsNoText, EndsSo, file_ends, text_ends, IsOneOf, end_status}
 use Rattle.dcc_top.proofs.AnswerLaws.{same-start}
 use Rattle.dcc_top.proofs.StatusLaws.{end-status}
@@ -38,7 +38,7 @@ refusal-not_image file image TooLarge is r = not_both file image too_large is r
 refusal-not_image file image NoMemory is r = r
 
 -- an accepted image is refused for want of memory alone
-accepted-not_refused : (image : Image) (refusal : Refusal) → IsAccepted image → IsProgramRefusal image refusal → refusal ≡ MemoryRefused
+accepted-not_refused : (image : Image) (refusal : Refusal) → IsAcceptedProgram image → IsRefusedFor image refusal → refusal ≡ MemoryRefused
 accepted-not_refused image (ConstructRefused kind at) a r = absurd (a.no_construct kind at r)
 accepted-not_refused image (LimitRefused what count) a r = absurd (a.no_limit what count r)
 accepted-not_refused image (NotYetRefused at) a r = absurd (a.built at r)
@@ -61,7 +61,7 @@ run-ended subject steps before left _ _ bytes told (not_begun same) = inr (inr (
 text-run-ended : {S : Type 0} (subject : Subject S) (steps : ℕ) (before left : Option (List ℕ)) (reply : Reply) (output bytes : List ℕ) → before ≡ Some bytes → FinishesOrStops subject steps before left reply output → IsOneOf (status_of reply) (end_status (end_after subject.system steps (subject.start bytes)) ∷ (4 ∷ (5 ∷ (6 ∷ (7 ∷ [])))))
 text-run-ended subject steps before left reply output bytes told (finishes h) =
     run-ended subject steps before left reply output bytes told h
-text-run-ended subject steps before left _ output bytes told (stopped_in_step h) = inr (inr (inr (inr (inl refl))))
+text-run-ended subject steps before left _ output bytes told (found_none h) = inr (inr (inr (inr (inl refl))))
 
 -- What is known of the file of a name that the shelf tells.
 
@@ -120,7 +120,7 @@ module _ (told : Files) (name : List ℕ) (files : List ℕ → Option (List ℕ
 
   text-misshapen : (file : List ℕ) (fault : FormatFault) → files name ≡ Some file → IsFirstFault file fault → (reply : Reply) (output : List ℕ) → AllowsText told name reply output → IsOneOf (status_of reply) (8 ∷ (4 ∷ (6 ∷ (7 ∷ []))))
   text-misshapen file fault has first _ output (decompiled f) =
-      let d = held file (λ x. Decompiles x output) has f in absurd (not_both file d.image fault d.is_image first)
+      let d = held file (λ x. Decompiles x output) has f in absurd (not_both file d.agrees.image fault d.agrees.is_image first)
   text-misshapen file fault has first _ _ (refused refusal f) =
       let d = held file (IsRefusedAs refusal) has f in absurd (not_both file d.image fault d.is_image first)
   text-misshapen file fault has first reply _ (no_image h) = misshapen-one file has reply h
@@ -132,7 +132,7 @@ module _ (told : Files) (name : List ℕ) (files : List ℕ → Option (List ℕ
 
   -- the program is accepted, or it is refused
 
-  pub accepted-one : (file : List ℕ) → files name ≡ Some file → OfImages file IsAccepted → (reply : Reply) (output : List ℕ) → AllowsText told name reply output → IsOneOf (status_of reply) (0 ∷ (4 ∷ (6 ∷ (7 ∷ []))))
+  pub accepted-one : (file : List ℕ) → files name ≡ Some file → OfImages file IsAcceptedProgram → (reply : Reply) (output : List ℕ) → AllowsText told name reply output → IsOneOf (status_of reply) (0 ∷ (4 ∷ (6 ∷ (7 ∷ []))))
   accepted-one file has a _ output (decompiled f) = inl refl
   accepted-one file has a _ _ (refused refusal f) =
       let d = held file (IsRefusedAs refusal) has f in
@@ -143,8 +143,8 @@ module _ (told : Files) (name : List ℕ) (files : List ℕ → Option (List ℕ
   pub refused-always : (file : List ℕ) → files name ≡ Some file → OfImages file IsRefusedImage → (reply : Reply) (output : List ℕ) → AllowsText told name reply output → IsOneOf (status_of reply) (9 ∷ (10 ∷ (12 ∷ (4 ∷ (6 ∷ (7 ∷ []))))))
   refused-always file has a _ output (decompiled f) =
       let d = held file (λ x. Decompiles x output) has f in
-      let r = a.each d.image d.is_image in
-      absurd (r.cause (accepted-not_refused d.image r.refusal d.accepted r.refused))
+      let r = a.each d.agrees.image d.agrees.is_image in
+      absurd (r.cause (accepted-not_refused d.agrees.image r.refusal d.accepted r.refused))
   refused-always file has a _ _ (refused refusal f) = refused-one refusal
   refused-always file has a reply _ (no_image h) =
       inr (inr (faulty-one 12 (status_of reply) (no_image-faulty file has a.image a.is_image reply h)))

@@ -11,7 +11,7 @@ use Rattle.dcc_prog.specs.declared.refusal.Refusal.TheVariants.{Construct as Con
 use Rattle.dcc_prog.proofs.TableLaws.{and_right}
 use Rattle.dcc_top.specs.declared.reply.Reply.{Reply}
 use Rattle.dcc_top.specs.declared.reply.Reply.TheVariants.{Done, NoFile, FileFault, InputFault, Memory}
-use Rattle.dcc_top.specs.Execution.{Subject, end_reply, Finishes, ended, stopped_at_read, not_begun, FinishesOrStops, finishes, stopped_in_step}
+use Rattle.dcc_top.specs.Execution.{Subject, end_reply, Finishes, ended, stopped_at_read, not_begun, FinishesOrStops, finishes, found_none}
 use Rattle.dcc_top.specs.Answer.{Files, HasNoFile, no_file, file_fault, no_memory, HasNoImage, no_executable, misshapen, HasNoUnit, no_text, offends, AllowsImage, image_decompiled, image_refused, AllowsText, decompiled, refused, no_image, status_of, refusal_reply}
 use Rattle.dcc_top.specs.Causes.{IsOneOf, end_status}
 use Rattle.dcc_top.specs.Delivery.{Answers}
@@ -134,7 +134,7 @@ run-status subject steps before left _ _ (not_begun same) = inr (inl refl)
 pub text_run-status : {S : Type 0} (subject : Subject S) (steps : ℕ) (before left : Option (List ℕ)) (reply : Reply) (output : List ℕ) → FinishesOrStops subject steps before left reply output → IsOneOf (status_of reply) run_statuses
 text_run-status subject steps before left reply output (finishes h) =
     run-status subject steps before left reply output h
-text_run-status subject steps before left _ output (stopped_in_step h) = inr (inl refl)
+text_run-status subject steps before left _ output (found_none h) = inr (inl refl)
 
 -- an answer that has none of these statuses is not given
 pub never : (P : Reply → List ℕ → Type 0) (ns : List ℕ) → ((reply : Reply) (output : List ℕ) → P reply output → IsOneOf (status_of reply) ns) → (other : Reply) → are_apart (status_of other ∷ []) ns ≡ true → (A : Type 0) (out now : Option (List ℕ)) (result : Result Reply Failed) → IfOk result (Answers P out now) → IfOk result (λ reply. reply ≡ other → A)

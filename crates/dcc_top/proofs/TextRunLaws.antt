@@ -1,9 +1,9 @@
 -- From what the run of a text says to how it finished.
-use Rattle.std.proofs.Common.{◌≡◌, ℕ, ◌+◌, ◌≤◌, inl, inr, List, [], ◌∷◌, ◌++◌, Option, Some, None, refl, sym, ap, ◌∙◌, subst, arith}
+use Rattle.std.proofs.Common.{◌≡◌, ℕ, ◌+◌, ◌<◌, ◌≤◌, List, [], ◌∷◌, ◌++◌, Option, Some, None, refl, sym, ap, ◌∙◌, subst, arith}
 use Rattle.std.specs.Prelude.{Result, Ok, Err, IfOk, OnErr}
 use Rattle.dcc_io.specs.declared.outside.Failed.{Failed}
-use Rattle.dcc_io.specs.Told.{append_told, AppendsProperPrefix}
-use Rattle.dcc_io.proofs.ToldLemmas.{AppendsProperPrefix-after, AppendsProperPrefix-longer, append_told-nil, append_told-append}
+use Rattle.dcc_io.specs.Told.{AppendsProperPrefix}
+use Rattle.dcc_io.proofs.ToldLemmas.{AppendsProperPrefix-after, AppendsProperPrefix-longer, append_told-nil}
 use Rattle.dcc_run.specs.End.{End}
 use Rattle.dcc_run.specs.System.{after, out_after}
 use Rattle.dcc_run.proofs.RunLaws.{after-add, out_grows}
@@ -13,19 +13,43 @@ use Rattle.dcc_c.specs.Text.{StandsFor}
 use Rattle.dcc_c.specs.Tree.{Tree, Function}
 use Rattle.dcc_c.proofs.RunLaws.{text_lawful}
 use Rattle.dcc_crun.specs.declared.run.CRun.{CRun}
-use Rattle.dcc_crun.specs.Stepped.{StandsAt, Scene, scene, Reaches, MakesSteps, IsRefusedRead, IsRefusedWrite, IsStarved, StopsShort, Comes}
+use Rattle.dcc_crun.specs.declared.ending.CStepped.TheVariants.{InFault, OutFault, Memory as NoMemory}
+use Rattle.dcc_crun.specs.Ending.{end_of}
+use Rattle.dcc_crun.specs.Standing.{StandsAt}
+use Rattle.dcc_crun.specs.Stepped.{Scene, scene, Comes, MakesSteps, StopsShort}
 use Rattle.dcc_top.specs.declared.reply.Reply.{Reply}
 use Rattle.dcc_top.specs.declared.reply.Reply.TheVariants.{Memory, InputFault}
 use Rattle.dcc_top.specs.Answer.{Files, OfFile, Allows, ran_text, IsDue, due_text_output, IsReadAs, RunsUnit, UnitPutsOut}
 use Rattle.dcc_top.specs.Delivery.{Answers, CutsShort}
-use Rattle.dcc_top.specs.Execution.{text_of, HasRun, StopsAtRead, StopsInStep, end_reply, ended, stopped_at_read, not_begun, finishes, stopped_in_step}
+use Rattle.dcc_top.specs.Execution.{text_of, HasRun, Stops, StopsAtRead, end_reply, ended, stopped_at_read, not_begun, finishes, found_none}
 use Rattle.dcc_top.specs.Words.{ExecuteText}
 use Rattle.dcc_top.proofs.ExecuteLaws.{is-left}
 
--- the run stands at the start of every text for the tree, on every input
+-- the run stands at the start of the tree's first function, on every input
 abbrev pub Begins : CRun → Tree → ℕ → Type 0
 Begins run tree fill =
-    (text : List ℕ) (stands : StandsFor text tree) (input : List ℕ) → StandsAt tree run (first_state tree stands.allowed.start fill input)
+    (start : Function) (others : List Function) (input : List ℕ) → tree.functions ≡ start ∷ others → StandsAt tree run (first_state tree start fill input)
+
+-- and so at that of every text for the tree
+begins-at : (run : CRun) (tree : Tree) (fill : ℕ) → Begins run tree fill → (text : List ℕ) (stands : StandsFor text tree) (input : List ℕ) → StandsAt tree run (first_state tree stands.allowed.start fill input)
+begins-at run tree fill begins text stands input =
+    begins stands.allowed.start stands.allowed.others input stands.allowed.first
+
+-- a run stands for a state whatever its input
+stands-with_input : (tree : Tree) (run : CRun) (s : State) (input : List ℕ) → StandsAt tree run s → StandsAt tree run (record s { input = input })
+stands-with_input tree run s input a = record {
+  points = a.points;
+  program = a.program;
+  moment = record {
+    end = a.moment.end;
+    going = λ runs.
+        let g = a.moment.going runs in
+        record {
+          state = record { call = g.state.call; waiting = g.state.waiting; fill = g.state.fill; memory = g.state.memory; end = g.state.end };
+          rest = g.rest;
+        };
+  };
+}
 
 module _ (tree : Tree) (start : Function) (fill : ℕ) where
   abbrev begin : List ℕ → State
@@ -35,7 +59,7 @@ module _ (tree : Tree) (start : Function) (fill : ℕ) where
   record HasMade (count : ℕ) (input written : List ℕ) (now : Scene) : Type 0 where
     rest : List ℕ
     tells : now.left ≡ Some rest
-    reaches : Reaches tree now.run (after (step tree) count (begin input)) rest written
+    reaches : Comes tree now.run rest written (after (step tree) count (begin input))
 
   has-made : (count : ℕ) (input : List ℕ) (run : CRun) (taken : Option (List ℕ)) (now : Scene) → StandsAt tree run (begin input) → (m : MakesSteps count (scene run (Some input) taken) now) → HasMade count input m.written now
   has-made count input run taken now stands m =
@@ -43,62 +67,53 @@ module _ (tree : Tree) (start : Function) (fill : ℕ) where
       record {
         rest = l.rest;
         tells = l.tells;
-        reaches = m.made l.rest l.tells tree (begin input) stands l.all;
+        reaches = m.made tree (begin input) l.rest l.tells stands l.all;
       }
 
   -- a run that has ended, or goes on
-  has-run : (steps : ℕ) (input : List ℕ) (run : CRun) (taken : Option (List ℕ)) (now : Scene) (end : End) → StandsAt tree run (begin input) → (c : Comes steps end (scene run (Some input) taken) now) → HasRun (text_of tree start fill) steps now.left c.steps.written end input
-  has-run steps input run taken now end stands c =
-      let m = has-made steps input run taken now stands c.steps in
+  has-run : (steps : ℕ) (input : List ℕ) (run : CRun) (taken : Option (List ℕ)) (now : Scene) (end : End) → StandsAt tree run (begin input) → end_of now.run.moment.end ≡ end → (c : MakesSteps steps (scene run (Some input) taken) now) → HasRun (text_of tree start fill) steps now.left c.written end input
+  has-run steps input run taken now end stands is c =
+      let m = has-made steps input run taken now stands c in
       record {
-        output_is = sym m.reaches.out_is;
-        left_is = m.tells ∙ ap Some (sym m.reaches.input_is);
-        end_is = c.end_is tree (after (step tree) steps (begin input)) m.reaches.stands;
+        output_is = sym m.reaches.out;
+        left_is = m.tells ∙ ap Some (sym m.reaches.left);
+        end_is = sym m.reaches.stands.moment.end ∙ is;
+      }
+
+  -- the steps that were made before one that was not
+  abbrev stops : (steps : ℕ) (input : List ℕ) (run : CRun) (taken : Option (List ℕ)) (now : Scene) → StandsAt tree run (begin input) → (count : ℕ) → count < steps → (stop : Scene) (made : MakesSteps count (scene run (Some input) taken) stop) → now.left ≡ stop.left → Stops (text_of tree start fill) steps now.left made.written input
+  stops steps input run taken now stands count short stop made same =
+      let m = has-made count input run taken stop stands made in
+      record {
+        made = count;
+        short = short;
+        output_is = sym m.reaches.out;
+        left_is = same ∙ m.tells ∙ ap Some (sym m.reaches.left);
       }
 
   -- a read that failed behind the steps that were made
-  stops-at-read : (steps : ℕ) (input : List ℕ) (run : CRun) (taken : Option (List ℕ)) (now : Scene) → StandsAt tree run (begin input) → (s : StopsShort steps IsRefusedRead (scene run (Some input) taken) now) → StopsAtRead (text_of tree start fill) steps now.left s.made.written input
+  stops-at-read : (steps : ℕ) (input : List ℕ) (run : CRun) (taken : Option (List ℕ)) (now : Scene) → StandsAt tree run (begin input) → (s : StopsShort InFault steps (scene run (Some input) taken) now) → StopsAtRead (text_of tree start fill) steps now.left s.made.written input
   stops-at-read steps input run taken now stands s =
       let m = has-made s.count input run taken s.stop stands s.made in
+      let u = after (step tree) s.count (begin input) in
       record {
-        made = s.count;
-        short = s.short;
-        output_is = sym m.reaches.out_is;
-        left_is = ap (λ u. u.left) s.refused.unchanged ∙ m.tells ∙ ap Some (sym m.reaches.input_is);
-        takes = s.refused.takes tree (after (step tree) s.count (begin input)) m.reaches.stands;
+        stops = stops steps input run taken now stands s.count s.short s.stop s.made (ap (λ v. v.left) s.refused.unchanged);
+        takes = λ byte rest. s.refused.takes tree (record u { input = byte ∷ rest }) byte rest (stands-with_input tree s.stop.run u (byte ∷ rest) m.reaches.stands) refl;
       }
 
   -- one step more than these
   one-more : (count : ℕ) (input : List ℕ) → after (step tree) (count + 1) (begin input) ≡ step tree (after (step tree) count (begin input))
   one-more count input = after-add (step tree) count 1 (begin input)
 
-  -- a step that found no memory behind the steps that were made
-  stops-in-step : (steps : ℕ) (input : List ℕ) (run : CRun) (taken : Option (List ℕ)) (now : Scene) → StandsAt tree run (begin input) → (s : StopsShort steps IsStarved (scene run (Some input) taken) now) → StopsInStep (text_of tree start fill) steps now.left (s.made.written ++ s.refused.front) input
-  stops-in-step steps input run taken now stands s =
-      let m = has-made s.count input run taken s.stop stands s.made in
-      let here : s.stop.left ≡ Some (after (step tree) s.count (begin input)).input = m.tells ∙ ap Some (sym m.reaches.input_is) in
-      let more = one-more s.count input in
-      let p = s.refused.part tree (after (step tree) s.count (begin input)) m.reaches.stands here in
-      record {
-        made = s.count;
-        short = s.short;
-        before = record { rest = s.refused.front; joins = ap (λ l. l ++ s.refused.front) (sym m.reaches.out_is) };
-        behind = record { rest = p.rest; joins = ap (λ u. u.out) more ∙ p.joins ∙ ap (λ l. (l ++ s.refused.front) ++ p.rest) m.reaches.out_is };
-        left_is = elim (s.refused.took tree (after (step tree) s.count (begin input)) m.reaches.stands here) [
-          | inl same ↦ inl (same ∙ here)
-          | inr took ↦ inr (took ∙ ap (λ u. Some u.input) (sym more))
-        ];
-      }
-
   -- a write that failed behind the steps that were made: a part of the whole run's output is there
-  breaks-off : (steps : ℕ) (input : List ℕ) (run : CRun) (taken : Option (List ℕ)) (now : Scene) → StandsAt tree run (begin input) → StopsShort steps IsRefusedWrite (scene run (Some input) taken) now → AppendsProperPrefix taken now.taken (out_after (text_system tree) steps (begin input))
+  breaks-off : (steps : ℕ) (input : List ℕ) (run : CRun) (taken : Option (List ℕ)) (now : Scene) → StandsAt tree run (begin input) → StopsShort OutFault steps (scene run (Some input) taken) now → AppendsProperPrefix taken now.taken (out_after (text_system tree) steps (begin input))
   breaks-off steps input run taken now stands s =
       let m = has-made s.count input run taken s.stop stands s.made in
       let r = s.refused in
       let l = is-left m.rest r.given now.left (sym m.tells ∙ r.took) in
-      let w = r.would tree (after (step tree) s.count (begin input)) l.rest m.reaches.stands (m.reaches.input_is ∙ l.all) in
+      let w = r.writes tree (after (step tree) s.count (begin input)) l.rest m.reaches.stands (m.reaches.left ∙ l.all) in
       let one : (after (step tree) (s.count + 1) (begin input)).out ≡ s.made.written ++ r.written =
-      ap (λ u. u.out) (one-more s.count input) ∙ w.1 ∙ ap (λ l. l ++ r.written) m.reaches.out_is in
+      ap (λ u. u.out) (one-more s.count input) ∙ w ∙ ap (λ l. l ++ r.written) m.reaches.out in
       let le : s.count + 1 ≤ steps = omega (arith, s.short) in
       let grows = out_grows (text_system tree) (text_lawful tree) (s.count + 1) steps (begin input) le in
       let whole : out_after (text_system tree) steps (begin input) ≡ (s.made.written ++ r.written) ++ grows.rest =
@@ -107,28 +122,28 @@ module _ (tree : Tree) (start : Function) (fill : ℕ) where
       subst (λ l. AppendsProperPrefix taken now.taken l) (sym whole) (AppendsProperPrefix-longer taken now.taken (s.made.written ++ r.written) grows.rest part)
 
 -- a run that has ended, or goes on
-pub text-ended : (tree : Tree) (fill steps : ℕ) (run : CRun) (before taken : Option (List ℕ)) (now : Scene) (end : End) → Begins run tree fill → Comes steps end (scene run before taken) now → Answers (RunsUnit tree steps fill before now.left) taken now.taken (end_reply steps end)
-text-ended tree fill steps run before taken now end begins c = record {
-  output = c.steps.written;
-  wrote = c.steps.wrote;
+pub text-ended : (tree : Tree) (fill steps : ℕ) (run : CRun) (before taken : Option (List ℕ)) (now : Scene) (end : End) → Begins run tree fill → MakesSteps steps (scene run before taken) now → end_of now.run.moment.end ≡ end → Answers (RunsUnit tree steps fill before now.left) taken now.taken (end_reply steps end)
+text-ended tree fill steps run before taken now end begins c is = record {
+  output = c.written;
+  wrote = c.wrote;
   is_answer = λ text stands. finishes (ended end (λ input told.
-      subst (λ b. (n : Comes steps end (scene run b taken) now) → HasRun (text_of tree stands.allowed.start fill) steps now.left n.steps.written end input) (sym told) (λ n. has-run tree stands.allowed.start fill steps input run taken now end (begins text stands input) n) c));
+      subst (λ b. (n : MakesSteps steps (scene run b taken) now) → HasRun (text_of tree stands.allowed.start fill) steps now.left n.written end input) (sym told) (λ n. has-run tree stands.allowed.start fill steps input run taken now end (begins-at run tree fill begins text stands input) is n) c));
 }
 
-pub text-to_read : (tree : Tree) (fill steps : ℕ) (run : CRun) (before taken : Option (List ℕ)) (now : Scene) → Begins run tree fill → StopsShort steps IsRefusedRead (scene run before taken) now → Answers (RunsUnit tree steps fill before now.left) taken now.taken InputFault
+pub text-to_read : (tree : Tree) (fill steps : ℕ) (run : CRun) (before taken : Option (List ℕ)) (now : Scene) → Begins run tree fill → StopsShort InFault steps (scene run before taken) now → Answers (RunsUnit tree steps fill before now.left) taken now.taken InputFault
 text-to_read tree fill steps run before taken now begins s = record {
   output = s.made.written;
   wrote = ap (λ u. u.taken) s.refused.unchanged ∙ s.made.wrote;
   is_answer = λ text stands. finishes (stopped_at_read (λ input told.
-      subst (λ b. (n : StopsShort steps IsRefusedRead (scene run b taken) now) → StopsAtRead (text_of tree stands.allowed.start fill) steps now.left n.made.written input) (sym told) (λ n. stops-at-read tree stands.allowed.start fill steps input run taken now (begins text stands input) n) s));
+      subst (λ b. (n : StopsShort InFault steps (scene run b taken) now) → StopsAtRead (text_of tree stands.allowed.start fill) steps now.left n.made.written input) (sym told) (λ n. stops-at-read tree stands.allowed.start fill steps input run taken now (begins-at run tree fill begins text stands input) n) s));
 }
 
-pub text-starved : (tree : Tree) (fill steps : ℕ) (run : CRun) (before taken : Option (List ℕ)) (now : Scene) → Begins run tree fill → StopsShort steps IsStarved (scene run before taken) now → Answers (RunsUnit tree steps fill before now.left) taken now.taken Memory
-text-starved tree fill steps run before taken now begins s = record {
-  output = s.made.written ++ s.refused.front;
-  wrote = s.refused.wrote ∙ ap (λ t. append_told t s.refused.front) s.made.wrote ∙ append_told-append taken s.made.written s.refused.front;
-  is_answer = λ text stands. stopped_in_step (λ input told.
-      subst (λ b. (n : StopsShort steps IsStarved (scene run b taken) now) → StopsInStep (text_of tree stands.allowed.start fill) steps now.left (n.made.written ++ n.refused.front) input) (sym told) (λ n. stops-in-step tree stands.allowed.start fill steps input run taken now (begins text stands input) n) s);
+pub text-found_none : (tree : Tree) (fill steps : ℕ) (run : CRun) (before taken : Option (List ℕ)) (now : Scene) → Begins run tree fill → StopsShort NoMemory steps (scene run before taken) now → Answers (RunsUnit tree steps fill before now.left) taken now.taken Memory
+text-found_none tree fill steps run before taken now begins s = record {
+  output = s.made.written;
+  wrote = s.refused.same_taken ∙ s.made.wrote;
+  is_answer = λ text stands. found_none (λ input told.
+      subst (λ b. (n : StopsShort NoMemory steps (scene run b taken) now) → Stops (text_of tree stands.allowed.start fill) steps now.left n.made.written input) (sym told) (λ n. stops tree stands.allowed.start fill steps input run taken now (begins-at run tree fill begins text stands input) n.count n.short n.stop n.made n.refused.same_left) s);
 }
 
 pub text-nothing : (tree : Tree) (fill steps : ℕ) (before out : Option (List ℕ)) → Answers (RunsUnit tree steps fill before before) out out Memory
@@ -142,7 +157,7 @@ text-nothing tree fill steps before out = record {
 same-start : (tree : Tree) → (a b : IsAllowed tree) → a.start ≡ b.start
 same-start tree a b = let both : a.start ∷ a.others ≡ b.start ∷ b.others = sym a.first ∙ b.first in cc
 
-pub text-broke_off : (tree : Tree) (fill steps : ℕ) (run : CRun) (before taken : Option (List ℕ)) (now : Scene) → (text : List ℕ) → StandsFor text tree → Begins run tree fill → StopsShort steps IsRefusedWrite (scene run before taken) now → CutsShort (UnitPutsOut tree steps fill before) taken now.taken
+pub text-broke_off : (tree : Tree) (fill steps : ℕ) (run : CRun) (before taken : Option (List ℕ)) (now : Scene) → (text : List ℕ) → StandsFor text tree → Begins run tree fill → StopsShort OutFault steps (scene run before taken) now → CutsShort (UnitPutsOut tree steps fill before) taken now.taken
 text-broke_off tree fill steps run None taken now text stands begins s = record {
   due = s.made.written ++ s.refused.written;
   is_due = λ other also input told. cc;
@@ -153,7 +168,7 @@ text-broke_off tree fill steps run (Some input) taken now text stands begins s =
   is_due = λ other also content told.
       let same : input ≡ content = cc in
       ap (λ f. out_after (text_system tree) steps (first_state tree f fill input)) (same-start tree stands.allowed also.allowed) ∙ ap (λ i. out_after (text_system tree) steps (first_state tree also.allowed.start fill i)) same;
-  part = breaks-off tree stands.allowed.start fill steps input run taken now (begins text stands input) s;
+  part = breaks-off tree stands.allowed.start fill steps input run taken now (begins-at run tree fill begins text stands input) s;
 }
 
 -- what a run of the unit of a text answers is allowed for the job of running it

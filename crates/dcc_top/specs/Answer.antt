@@ -1,5 +1,5 @@
 -- The program's answers: the status, the line on the error stream, and which answers are allowed for a job.
-use Rattle.std.specs.Prelude.{◌≡◌, ◌≢◌, ◌≤◌, ℕ, ◌+◌, ◌/◌, ◌%◌, nat_lt, if◌then◌else◌, List, [], ◌∷◌, ◌++◌, length, codes, Option, Some, None}
+use Rattle.std.specs.Prelude.{◌≡◌, ◌≤◌, ℕ, ◌+◌, ◌/◌, ◌%◌, nat_lt, if◌then◌else◌, List, [], ◌∷◌, ◌++◌, length, codes, Option, Some, None}
 use Rattle.std.specs.Fmt.{decimal}
 use Rattle.dcc_mz.specs.Fault.{number_of, place_of, IsRefusal as IsFormatRefusal}
 use Rattle.dcc_mz.specs.declared.fault.MzFault.{MzFault}
@@ -17,10 +17,11 @@ use Rattle.dcc_c.specs.Written.{written_form}
 use Rattle.dcc_parse.specs.declared.offence.ParseKind.{ParseKind}
 use Rattle.dcc_parse.specs.declared.offence.ParseKind.TheVariants.{Length, Version, Token, Grammar, Name, Type_, Place, Depth}
 use Rattle.dcc_parse.specs.Fault.{IsRefusal as IsTextRefusal}
-use Rattle.dcc_pipe.specs.Agreement.{Agrees}
-use Rattle.dcc_pipe.specs.Decompilation.{IsTextOf, IsAccepted, IsRefusal as IsProgramRefusal}
+use Rattle.dcc_pipe.specs.Agreement.{IsTextOf}
 use Rattle.dcc_top.specs.declared.reply.Reply.{Reply}
 use Rattle.dcc_top.specs.declared.reply.Reply.TheVariants.{Done, Exited, Usage, NoFile, FileFault, InputFault, Memory, Format, Construct, Limit, NotYet, TextFault, Unfinished, Divided, Outside, Stuck}
+use Rattle.dcc_top.specs.Agreement.{Agrees}
+use Rattle.dcc_top.specs.Program.{IsRefusedFor, IsAcceptedProgram}
 use Rattle.dcc_top.specs.Execution.{machine_of, text_of, Finishes, FinishesOrStops, PutsOut}
 use Rattle.dcc_top.specs.Words.{Job, Decompile, Execute, ExecuteText, greatest_text}
 
@@ -157,41 +158,33 @@ pub data FailsToRead (text : List ℕ) : Reply → Type 0 where
 
 -- the image is accepted, and these bytes are the written form of a tree that is its text
 pub record IsTextOfImage (image : Image) (text : List ℕ) : Type 0 where
-  pub accepted : IsAccepted image
+  pub accepted : IsAcceptedProgram image
   pub tree : Tree
-  pub is_text : IsTextOf image tree
+  pub is_text : IsTextOf image text tree
   pub written_is : text ≡ written_form tree
 
 -- the answer is allowed for an image whose text is asked for, behind these bytes
 pub data AllowsImage (image : Image) : Reply → List ℕ → Type 0 where
   image_decompiled : {text : List ℕ} → IsTextOfImage image text → AllowsImage image Done text
-  image_refused : (refusal : Refusal) → IsProgramRefusal image refusal → AllowsImage image (refusal_reply refusal) []
+  image_refused : (refusal : Refusal) → IsRefusedFor image refusal → AllowsImage image (refusal_reply refusal) []
 
 -- the file's image is accepted, and the text is in its written form and agrees with the file
 pub record Decompiles (file text : List ℕ) : Type 0 where
-  pub image : Image
-  pub is_image : IsImageOf file image
-  pub accepted : IsAccepted image
   pub agrees : Agrees file text
+  pub accepted : IsAcceptedProgram agrees.image
   pub written_is : text ≡ written_form agrees.tree
 
 -- the file's image is refused so
 pub record IsRefusedAs (refusal : Refusal) (file : List ℕ) : Type 0 where
   pub image : Image
   pub is_image : IsImageOf file image
-  pub refused : IsProgramRefusal image refusal
+  pub refused : IsRefusedFor image refusal
 
 -- The file has an image, and each of its images is as the fact says; they differ only in where their bytes are kept.
 pub record OfImages (file : List ℕ) (P : Image → Type 0) : Type 0 where
   pub image : Image
   pub is_image : IsImageOf file image
   pub each : (other : Image) → IsImageOf file other → P other
-
--- the image is refused, for another reason than want of memory
-pub record IsRefusedImage (image : Image) : Type 0 where
-  pub refusal : Refusal
-  pub cause : refusal ≢ MemoryRefused
-  pub refused : IsProgramRefusal image refusal
 
 -- The answer is allowed for the file of this name whose text is asked for, behind these bytes.
 pub data AllowsText (told : Files) (name : List ℕ) : Reply → List ℕ → Type 0 where
@@ -218,6 +211,11 @@ pub record IsReadAs (text : List ℕ) (tree : Tree) : Type 0 where
   pub stands : StandsFor text tree
   pub alone : (other : Tree) → StandsFor text other → other ≡ tree
   pub length : length text ≤ greatest_text
+
+-- some text stands for the tree
+pub record HasSomeText (tree : Tree) : Type 0 where
+  pub text : List ℕ
+  pub stands : StandsFor text tree
 
 -- from the start of a text for this tree, the answer is one for its run
 abbrev pub RunsUnit : Tree → ℕ → ℕ → Option (List ℕ) → Option (List ℕ) → Reply → List ℕ → Type 0

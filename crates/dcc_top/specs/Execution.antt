@@ -1,8 +1,7 @@
 -- Runs: what they put out and take, and how they end.
-use Rattle.std.specs.Prelude.{◌≡◌, ◌⊎◌, ℕ, ◌+◌, ◌<◌, List, [], ◌∷◌, Option, Some}
+use Rattle.std.specs.Prelude.{◌≡◌, ℕ, ◌<◌, List, [], ◌∷◌, Option, Some}
 use Rattle.dcc_io.specs.Told.{WhenTold}
 use Rattle.dcc_run.specs.End.{End, Running as running, Exit as exited, Divide as divided, Outside as outside, Stuck as stuck}
-use Rattle.dcc_run.specs.Prefix.{IsPrefix}
 use Rattle.dcc_run.specs.System.{System, after, out_after, end_after}
 use Rattle.dcc_prog.specs.declared.image.Image.{Image}
 use Rattle.dcc_prog.specs.Machine.{State as MachineState, start_state}
@@ -57,22 +56,17 @@ abbrev pub TakesInput : {S : Type 0} → Subject S → S → Type 0
 TakesInput subject s =
     (byte : ℕ) (rest : List ℕ) → subject.left (subject.system.step (subject.with_left (byte ∷ rest) s)) ≡ rest
 
--- the run stopped before a step that takes an input byte: these bytes were put out and this input is left
-pub record StopsAtRead {S : Type 0} (subject : Subject S) (steps : ℕ) (left : Option (List ℕ)) (output : List ℕ) (input : List ℕ) : Type 0 where
+-- the run stopped before a step: what the steps before put out is there, and this input is left
+pub record Stops {S : Type 0} (subject : Subject S) (steps : ℕ) (left : Option (List ℕ)) (output : List ℕ) (input : List ℕ) : Type 0 where
   pub made : ℕ
   pub short : made < steps
   pub output_is : output ≡ output_after subject made input
   pub left_is : left ≡ Some (subject.left (state_after subject made input))
-  pub takes : TakesInput subject (state_after subject made input)
 
--- The run stopped in a step: what the steps before put out is there, and a part of what the step puts out, and the input
--- is as it was before the step or is behind it.
-pub record StopsInStep {S : Type 0} (subject : Subject S) (steps : ℕ) (left : Option (List ℕ)) (output : List ℕ) (input : List ℕ) : Type 0 where
-  pub made : ℕ
-  pub short : made < steps
-  pub before : IsPrefix (output_after subject made input) output
-  pub behind : IsPrefix output (output_after subject (made + 1) input)
-  pub left_is : (left ≡ Some (subject.left (state_after subject made input))) ⊎ (left ≡ Some (subject.left (state_after subject (made + 1) input)))
+-- the run stopped before a step that takes an input byte
+pub record StopsAtRead {S : Type 0} (subject : Subject S) (steps : ℕ) (left : Option (List ℕ)) (output : List ℕ) (input : List ℕ) : Type 0 where
+  pub stops : Stops subject steps left output input
+  pub takes : TakesInput subject (state_after subject stops.made input)
 
 -- the answer where a run of so many steps has ended so, or goes on
 abbrev pub end_reply : ℕ → End → Reply
@@ -89,10 +83,10 @@ pub data Finishes {S : Type 0} (subject : Subject S) (steps : ℕ) (before left 
   stopped_at_read : {output : List ℕ} → WhenTold before (StopsAtRead subject steps left output) → Finishes subject steps before left InputFault output
   not_begun : left ≡ before → Finishes subject steps before left Memory []
 
--- the same for a run whose steps take memory
+-- the same for a run whose steps take memory, of which there may be none for the next step
 pub data FinishesOrStops {S : Type 0} (subject : Subject S) (steps : ℕ) (before left : Option (List ℕ)) : Reply → List ℕ → Type 0 where
   finishes : {reply : Reply} {output : List ℕ} → Finishes subject steps before left reply output → FinishesOrStops subject steps before left reply output
-  stopped_in_step : {output : List ℕ} → WhenTold before (StopsInStep subject steps left output) → FinishesOrStops subject steps before left Memory output
+  found_none : {output : List ℕ} → WhenTold before (Stops subject steps left output) → FinishesOrStops subject steps before left Memory output
 
 -- the output that a run of so many steps puts out from the input, where that is told
 abbrev pub PutsOut : {S : Type 0} → Subject S → ℕ → Option (List ℕ) → List ℕ → Type 0

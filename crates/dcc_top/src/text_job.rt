@@ -2,10 +2,9 @@
 
 ghost use Rattle.std.specs.Prelude.{◌≡◌, ◌≢◌, ◌⊎◌, ◌≤◌, ◌++◌, ◌∷◌, [], IfOk, IfErr, IsErrOf, OnErr};
 ghost use Rattle.dcc_c.specs.Views.{tree_of};
-ghost use Rattle.dcc_crun.specs.Stepped.{HasText};
 ghost use Rattle.dcc_io.specs.Count.{Rose};
 ghost use Rattle.dcc_top.specs.declared.reply.Reply.TheVariants.{NoFile, FileFault, InputFault, Memory};
-ghost use Rattle.dcc_top.specs.Answer.{FailsToRead, HasNoUnit, IsReadAs, OfFile, RunsUnit, UnitPutsOut};
+ghost use Rattle.dcc_top.specs.Answer.{FailsToRead, HasSomeText, HasNoUnit, IsReadAs, OfFile, RunsUnit, UnitPutsOut};
 ghost use Rattle.dcc_top.specs.Delivery.{Answers, CutsShort};
 ghost use Rattle.dcc_top.specs.Words.{greatest_text};
 
@@ -66,7 +65,7 @@ pub fn execute_unit<I: Source, O: Sink>(
     input: &mut I,
     out: &mut O,
 ) -> Result<Reply, Failed>
-    requires { HasText (tree_of unit.now) }
+    requires { HasSomeText (tree_of unit.now) }
     ensures ran { IfOk result (Answers
         (RunsUnit (tree_of unit.now) steps fill (I.left input.old) (I.left input.new))
         (O.taken out.old) (O.taken out.new)) }

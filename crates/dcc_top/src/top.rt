@@ -5,10 +5,10 @@ ghost use Rattle.dcc_io.specs.Count.{Rose};
 ghost use Rattle.dcc_io.specs.Told.{AppendsProperPrefix};
 ghost use Rattle.dcc_run.specs.End.{End};
 ghost use Rattle.dcc_prog.specs.MzImage.{FormatFault, IsFirstFault};
-ghost use Rattle.dcc_pipe.specs.Decompilation.{IsAccepted};
 ghost use Rattle.dcc_top.specs.declared.reply.Reply.TheVariants.{NoFile, FileFault, InputFault, Memory};
 ghost use Rattle.dcc_top.specs.Words.{Job as AskedJob, Decompile, Execute, ExecuteText, IsExecution, LoadsImage, job_in};
-ghost use Rattle.dcc_top.specs.Answer.{Allows, IsDue, IsRefusedImage, OfImages, line_of};
+ghost use Rattle.dcc_top.specs.Answer.{Allows, IsDue, OfImages, line_of};
+ghost use Rattle.dcc_top.specs.Program.{IsAcceptedProgram, IsRefusedImage};
 ghost use Rattle.dcc_top.specs.Delivery.{Answers, CutsShort, streams};
 ghost use Rattle.dcc_top.specs.Causes.{IsAnswered, IsCaused, HasText, HasRunFile, IsAbsent, IsUnreadable, HasFormatFault, HasRefusal, HasTextFault, Names, IsMissing, IsNoText, EndsSo, IsOneOf, end_status, AsksPrefix, AsksAll, IsOutOfMemory, IsCutOff};
 
@@ -213,7 +213,7 @@ pub fn dcc<H: Shelf, I: Source, O: Sink, E: Sink>(
     // Nothing in the program is refused.
     ensures text_always { (name file : List ℕ)
         → job_in words.now.items ≡ Some (Decompile name)
-        → Names (H.files shelf.old) (job_in words.now.items) file → OfImages file IsAccepted
+        → Names (H.files shelf.old) (job_in words.now.items) file → OfImages file IsAcceptedProgram
         → IsOneOf result (0 ∷ (4 ∷ (6 ∷ (7 ∷ [])))) }
 
     // The text is refused: no tree stands for it, or it is too long.
