@@ -1,6 +1,7 @@
 -- Partial trees that have been read to their ends: nothing in them is missing.
 use Rattle.std.specs.Prelude.{ℕ, Bool, true, false, ◌&&◌, ◌==◌, not, if◌then◌else◌, List, [], ◌∷◌, length, Option, Some, None, is_some}
 use Rattle.std.specs.List.{list_all}
+use Rattle.dcc_c.specs.declared.syntax.CUn.TheVariants.{Deref}
 use Rattle.dcc_c.specs.Partial.{PartialExpr, Missing, NumberHere, NameHere, UnaryHere, BinaryOf, ConditionalOf, CastHere, PartialCall, PartialStmt, AssignOf, CallOf, IfOf, WhileOf, DoWhileOf, ForeverOf, SwitchOf, BreakOf, ContinueOf, GotoOf, LabelOf, EmptyOf, ReturnOf, PartialLines, no_rows, row, PartialArms, no_cases, cases, PartialVariable, PartialFunction, PartialText}
 
 -- an expression, in which no name stands before a parenthesis
@@ -13,7 +14,17 @@ is_complete_expr (BinaryOf operator a b) = is_complete_expr a && is_complete_exp
 is_complete_expr (ConditionalOf a b c) = is_complete_expr a && (is_complete_expr b && is_complete_expr c)
 is_complete_expr (CastHere at type a) = is_complete_expr a
 
--- an expression, where there is one
+-- a place: a name, or a star and its operand
+abbrev pub is_complete_place : PartialExpr → Bool
+is_complete_place (NameHere at word called) = not called
+is_complete_place (UnaryHere at Deref a) = is_complete_expr a
+is_complete_place e = false
+
+-- a place and an expression, where there is one
+abbrev pub is_complete_place_if : Option PartialExpr → Bool
+is_complete_place_if None = true
+is_complete_place_if (Some place) = is_complete_place place
+
 abbrev pub is_complete_if : Option PartialExpr → Bool
 is_complete_if None = true
 is_complete_if (Some e) = is_complete_expr e
@@ -25,9 +36,9 @@ is_complete_value (Some e) = is_complete_expr e
 abbrev mutual
   -- a statement
   pub is_complete_stmt : PartialStmt → Bool
-  is_complete_stmt (AssignOf place e done) = is_complete_expr place && (is_complete_value e && done)
+  is_complete_stmt (AssignOf place e done) = is_complete_place place && (is_complete_value e && done)
   is_complete_stmt (CallOf place call) =
-      is_complete_if place && (list_all is_complete_expr call.arguments && call.closed)
+      is_complete_place_if place && (list_all is_complete_expr call.arguments && call.closed)
   is_complete_stmt (IfOf e done body otherwise) =
       (is_complete_expr e && done) && (is_complete_lines body && is_complete_lines otherwise)
   is_complete_stmt (WhileOf e done body) = (is_complete_expr e && done) && is_complete_lines body

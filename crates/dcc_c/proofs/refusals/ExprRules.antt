@@ -36,10 +36,10 @@ some-of : {A : Type 0} (o : Option A) → is_none o ≡ false → (x : A) × (o 
 some-of None e = absurd cc
 some-of (Some x) e = (x, refl)
 
-true-false : true ≡ false → ⊥
+pub true-false : true ≡ false → ⊥
 true-false e = absurd cc
 
-no-some : {A : Type 0} {x : A} → None ≡ Some x → ⊥
+pub no-some : {A : Type 0} {x : A} → None ≡ Some x → ⊥
 no-some e = absurd cc
 
 typed : (names : List Declared) (e : PartialExpr) (type : CType) → told_type names e ≡ Some type → type_of names (plain_expr e) ≡ Some type → IsTyped names e
@@ -61,6 +61,14 @@ name-typed scene at word e = elim (declared_as scene.names word) as (λ d. decla
 pub and-both : (a b : Bool) → a && b ≡ true → (a ≡ true) × (b ≡ true)
 and-both true b e = (refl, e)
 and-both false b e = absurd cc
+
+pub or-left : (a b : Bool) → a || b ≡ false → a ≡ false
+or-left true b e = absurd cc
+or-left false b e = refl
+
+pub or-right : (a b : Bool) → a || b ≡ false → b ≡ false
+or-right true b e = absurd cc
+or-right false b e = e
 
 -- Unary operators.
 
@@ -205,3 +213,175 @@ expr-typed scene (ConditionalOf a b c) whole none =
 expr-typed scene (CastHere at type a) whole none =
     let t = expr-typed scene a whole none in
     typed scene.names (CastHere at type a) type refl (ap (option_map (λ from. type)) t.is)
+
+-- The other way: nothing offends in an expression that has a type.
+pub record IsClean (scene : Scene) (e : PartialExpr) (type : CType) : Type 0 where
+  pub none : expr_offences scene e ≡ []
+  pub told : told_type scene.names e ≡ Some type
+
+clean : (scene : Scene) (e : PartialExpr) (type : CType) → expr_offences scene e ≡ [] → told_type scene.names e ≡ Some type → IsClean scene e type
+clean scene e type none told = record { none = none; told = told }
+
+-- what an operation has a value for, and what its argument is then
+pub then-some : {A B : Type 0} (f : A → Option B) (o : Option A) (y : B) → option_and_then f o ≡ Some y → (x : A) × (o ≡ Some x) × (f x ≡ Some y)
+then-some f None y e = absurd cc
+then-some f (Some x) y e = (x, refl, e)
+
+pub both-empty : {A : Type 0} {xs ys : List A} → xs ≡ [] → ys ≡ [] → xs ++ ys ≡ []
+both-empty {ys = ys} e f = ap (λ l. l ++ ys) e ∙ f
+
+pub no-number : (scene : Scene) (a : PartialExpr) (type : CType) → told_type scene.names a ≡ Some type → type.pointer ≡ false → wants_number scene a ≡ []
+no-number scene a type told p = ap (λ q. only_if q (offence of_type (place_of a))) (ap is_pointer told ∙ p)
+
+name-clean : (scene : Scene) (at : ℕ) (word : Word) (called : Bool) (type : CType) → option_and_then type_of_name (declared_as scene.names word) ≡ Some type → IsClean scene (NameHere at word called) type
+name-clean scene at word called type e =
+    let found = then-some type_of_name (declared_as scene.names word) type e in
+    clean scene (NameHere at word called) type
+    (ap (λ o. elim o [ Some d ↦ only_if (is_none (type_of_name d)) (offence of_type at) | None ↦ no_variable scene at word called ]) found.1
+    ∙ ap (λ o. only_if (is_none o) (offence of_type at)) found.2) e
+
+number-clean : (scene : Scene) (at : ℕ) (operator : CUn) (a : PartialExpr) (type from : CType) → IsClean scene a from →
+    unary_type operator from ≡ Some type →
+    expr_offences scene (UnaryHere at operator a) ≡ expr_offences scene a ++ unary_offences scene operator a →
+    told_type scene.names (UnaryHere at operator a) ≡ option_and_then (unary_type operator) (told_type scene.names a) →
+    unary_offences scene operator a ≡ [] → IsClean scene (UnaryHere at operator a) type
+number-clean scene at operator a type from c is offences told own =
+    clean scene (UnaryHere at operator a) type (offences ∙ both-empty c.none own) (told ∙ ap (option_and_then (unary_type operator)) c.told ∙ is)
+
+-- a number's operator takes no pointer
+number-of : (operator : CUn) (from type : CType) → unary_type operator from ≡ Some type → (operator ≡ Deref → ⊥) → from.pointer ≡ false
+number-of operator from type e other = elim from.pointer as (λ p. from.pointer ≡ p → p ≡ false) [
+  | false ↦ λ _. refl
+  | true ↦ λ p. elim operator as (λ o. operator ≡ o → true ≡ false) [
+    | Deref ↦ λ is. absurd (other is)
+    | Minus ↦ λ is. absurd (no-some (sym (rw is (rw p refl)) ∙ e))
+    | Complement ↦ λ is. absurd (no-some (sym (rw is (rw p refl)) ∙ e))
+    | Not ↦ λ is. absurd (no-some (sym (rw is (rw p refl)) ∙ e))
+    | AddressOf ↦ λ is. absurd (no-some (sym (rw is (rw p refl)) ∙ e))
+  ] refl
+] refl
+
+pointed-clean : (scene : Scene) (a : PartialExpr) (from type : CType) → IsClean scene a from → unary_type Deref from ≡ Some type → wants_pointer scene a ≡ []
+pointed-clean scene a from type c e = ap (λ o. elim o [ Some type ↦ only_if (not type.pointer) (offence of_type (place_of a)) | None ↦ [] ]) c.told
+    ∙ elim from.pointer as (λ p. (if p then Some (plain from.base) else None) ≡ Some type → only_if (not p) (offence of_type (place_of a)) ≡ []) [
+      | true ↦ λ _. refl
+      | false ↦ λ bad. absurd (no-some bad)
+    ] e
+
+both-some : (operator : CBin) (o q : Option CType) (type : CType) → both_types operator o q ≡ Some type →
+    (a : CType) × (b : CType) × (o ≡ Some a) × (q ≡ Some b) × (binary_type operator a b ≡ Some type)
+both-some operator (Some a) (Some b) type e = (a, b, refl, refl, e)
+both-some operator (Some a) None type e = absurd cc
+both-some operator None q type e = absurd cc
+
+second-clean : (scene : Scene) (operator : CBin) (a b : PartialExpr) (s t type : CType) → told_type scene.names a ≡ Some s → told_type scene.names b ≡ Some t →
+    binary_type operator s t ≡ Some type → second_offends scene operator a b ≡ []
+second-clean scene operator a b s t type first second e =
+    ap (λ q. only_if q (offence of_type (place_of b)))
+    (ap (λ o. (is_some o && is_some (told_type scene.names b)) && is_none (both_types operator o (told_type scene.names b))) first
+    ∙ ap (λ o. (is_some (Some s) && is_some o) && is_none (both_types operator (Some s) o)) second
+    ∙ ap is_none e)
+
+pointer-none : (operator : CBin) (s t : CType) → is_comparison operator || is_sum operator ≡ false → s.pointer ≡ true → binary_type operator s t ≡ None
+pointer-none operator s t other p = elim t.pointer as (λ q. t.pointer ≡ q → binary_type operator s t ≡ None) [
+  | true ↦ λ q. rw p (rw q (rw (or-left (is_comparison operator) (is_sum operator) other) refl))
+  | false ↦ λ q. rw p (rw q (rw (or-right (is_comparison operator) (is_sum operator) other) refl))
+] refl
+
+-- an operator that neither compares nor adds takes numbers
+plain-numbers : (operator : CBin) (s t type : CType) → is_comparison operator || is_sum operator ≡ false → binary_type operator s t ≡ Some type →
+    (s.pointer ≡ false) × (t.pointer ≡ false)
+plain-numbers operator s t type other e = elim s.pointer as (λ p. s.pointer ≡ p → (p ≡ false) × (t.pointer ≡ false)) [
+  | true ↦ λ p. absurd (no-some (sym (pointer-none operator s t other p) ∙ e))
+  | false ↦ λ p. elim t.pointer as (λ q. t.pointer ≡ q → (false ≡ false) × (q ≡ false)) [
+    | true ↦ λ q. absurd (no-some (sym (rw p (rw q refl)) ∙ e))
+    | false ↦ λ q. (refl, refl)
+  ] refl
+] refl
+
+binary-clean : (scene : Scene) (operator : CBin) (a b : PartialExpr) (s t type : CType) → IsClean scene a s → IsClean scene b t →
+    binary_type operator s t ≡ Some type → IsClean scene (BinaryOf operator a b) type
+binary-clean scene operator a b s t type c d e =
+    let own : binary_offences scene operator a b ≡ [] = elim (is_comparison operator || is_sum operator) as (λ q. is_comparison operator || is_sum operator ≡ q →
+          (if q then second_offends scene operator a b else wants_number scene a ++ wants_number scene b) ≡ []) [
+            | true ↦ λ _. second-clean scene operator a b s t type c.told d.told e
+            | false ↦ λ other. let numbers = plain-numbers operator s t type other e in
+                both-empty (no-number scene a s c.told numbers.0) (no-number scene b t d.told numbers.1)
+          ] refl in
+    clean scene (BinaryOf operator a b) type (both-empty c.none (both-empty d.none own))
+    (ap (λ o. both_types operator o (told_type scene.names b)) c.told ∙ ap (both_types operator (Some s)) d.told ∙ e)
+
+arms-some : (o q : Option CType) (type : CType) → both_arms_type o q ≡ Some type → (a : CType) × (b : CType) × (o ≡ Some a) × (q ≡ Some b) × (arms_type a b ≡ Some type)
+arms-some (Some a) (Some b) type e = (a, b, refl, refl, e)
+arms-some (Some a) None type e = absurd cc
+arms-some None q type e = absurd cc
+
+tested-some : (o q : Option CType) (type : CType) → tested_type o q ≡ Some type → (a : CType) × (o ≡ Some a) × (a.pointer ≡ false) × (q ≡ Some type)
+tested-some None q type e = absurd cc
+tested-some (Some a) q type e = elim a.pointer as (λ p. a.pointer ≡ p → (if p then None else q) ≡ Some type → (x : CType) × (Some a ≡ Some x) × (x.pointer ≡ false) × (q ≡ Some type)) [
+  | true ↦ λ _ bad. absurd (no-some bad)
+  | false ↦ λ p is. (a, refl, p, is)
+] refl e
+
+conditional-clean : (scene : Scene) (a b c : PartialExpr) (r s t type : CType) → IsClean scene a r → r.pointer ≡ false → IsClean scene b s → IsClean scene c t →
+    arms_type s t ≡ Some type → IsClean scene (ConditionalOf a b c) type
+conditional-clean scene a b c r s t type x p y z e =
+    let arms : arms_offences scene b c ≡ [] = ap (λ q. only_if q (offence of_type (place_of c)))
+          (ap (λ o. (is_some o && is_some (told_type scene.names c)) && is_none (both_arms_type o (told_type scene.names c))) y.told
+          ∙ ap (λ o. (is_some (Some s) && is_some o) && is_none (both_arms_type (Some s) o)) z.told
+          ∙ ap is_none e) in
+    clean scene (ConditionalOf a b c) type
+    (both-empty x.none (both-empty y.none (both-empty z.none (both-empty (no-number scene a r x.told p) arms))))
+    (ap (λ o. both_arms_type o (told_type scene.names c)) y.told ∙ ap (both_arms_type (Some s)) z.told ∙ e)
+
+cast-some : (to : CType) (o : Option CType) (type : CType) → option_map (λ from. to) o ≡ Some type → (from : CType) × (o ≡ Some from) × (Some to ≡ Some type)
+cast-some to None type e = absurd cc
+cast-some to (Some from) type e = (from, refl, e)
+
+-- In a complete expression that has a type nothing offends, and the type is told.
+pub expr-clean : (scene : Scene) (e : PartialExpr) (type : CType) → is_complete_expr e ≡ true → type_of scene.names (plain_expr e) ≡ Some type → IsClean scene e type
+expr-clean scene Missing type whole e = absurd cc
+expr-clean scene (NumberHere at n base) type whole e = clean scene (NumberHere at n base) type refl e
+expr-clean scene (NameHere at word called) type whole e = name-clean scene at word called type e
+expr-clean scene (UnaryHere at AddressOf Missing) type whole e = absurd cc
+expr-clean scene (UnaryHere at AddressOf (NameHere place word called)) type whole e =
+    let found = then-some type_of_address (declared_as scene.names word) type e in
+    clean scene (UnaryHere at AddressOf (NameHere place word called)) type
+    (ap (λ o. elim o [ Some d ↦ only_if (is_none (type_of_address d)) (offence of_type place) | None ↦ value_offences scene place word called ++ only_if (is_some (told_type scene.names (NameHere place word called))) (offence of_type place) ]) found.1
+    ∙ ap (λ o. only_if (is_none o) (offence of_type place)) found.2) e
+expr-clean scene (UnaryHere at AddressOf (NumberHere place n base)) type whole e = absurd cc
+expr-clean scene (UnaryHere at AddressOf (UnaryHere place operator a)) type whole e = absurd cc
+expr-clean scene (UnaryHere at AddressOf (BinaryOf operator a b)) type whole e = absurd cc
+expr-clean scene (UnaryHere at AddressOf (ConditionalOf a b c)) type whole e = absurd cc
+expr-clean scene (UnaryHere at AddressOf (CastHere place to a)) type whole e = absurd cc
+expr-clean scene (UnaryHere at Minus a) type whole e =
+    let found = then-some (unary_type Minus) (type_of scene.names (plain_expr a)) type e in
+    let c = expr-clean scene a found.0 whole found.1 in
+    number-clean scene at Minus a type found.0 c found.2 refl refl (no-number scene a found.0 c.told (number-of Minus found.0 type found.2 (λ bad. absurd cc)))
+expr-clean scene (UnaryHere at Complement a) type whole e =
+    let found = then-some (unary_type Complement) (type_of scene.names (plain_expr a)) type e in
+    let c = expr-clean scene a found.0 whole found.1 in
+    number-clean scene at Complement a type found.0 c found.2 refl refl (no-number scene a found.0 c.told (number-of Complement found.0 type found.2 (λ bad. absurd cc)))
+expr-clean scene (UnaryHere at Not a) type whole e =
+    let found = then-some (unary_type Not) (type_of scene.names (plain_expr a)) type e in
+    let c = expr-clean scene a found.0 whole found.1 in
+    number-clean scene at Not a type found.0 c found.2 refl refl (no-number scene a found.0 c.told (number-of Not found.0 type found.2 (λ bad. absurd cc)))
+expr-clean scene (UnaryHere at Deref a) type whole e =
+    let found = then-some (unary_type Deref) (type_of scene.names (plain_expr a)) type e in
+    let c = expr-clean scene a found.0 whole found.1 in
+    number-clean scene at Deref a type found.0 c found.2 refl refl (pointed-clean scene a found.0 type c found.2)
+expr-clean scene (BinaryOf operator a b) type whole e =
+    let parts = and-both (is_complete_expr a) (is_complete_expr b) whole in
+    let found = both-some operator (type_of scene.names (plain_expr a)) (type_of scene.names (plain_expr b)) type e in
+    binary-clean scene operator a b found.0 found.1 type (expr-clean scene a found.0 parts.0 found.2) (expr-clean scene b found.1 parts.1 found.3) found.4
+expr-clean scene (ConditionalOf a b c) type whole e =
+    let parts = and-both (is_complete_expr a) (is_complete_expr b && is_complete_expr c) whole in
+    let others = and-both (is_complete_expr b) (is_complete_expr c) parts.1 in
+    let test = tested-some (type_of scene.names (plain_expr a)) (both_arms_type (type_of scene.names (plain_expr b)) (type_of scene.names (plain_expr c))) type e in
+    let arms = arms-some (type_of scene.names (plain_expr b)) (type_of scene.names (plain_expr c)) type test.3 in
+    conditional-clean scene a b c test.0 arms.0 arms.1 type (expr-clean scene a test.0 parts.0 test.1) test.2
+    (expr-clean scene b arms.0 others.0 arms.2) (expr-clean scene c arms.1 others.1 arms.3) arms.4
+expr-clean scene (CastHere at to a) type whole e =
+    let found = cast-some to (type_of scene.names (plain_expr a)) type e in
+    let c = expr-clean scene a found.0 whole found.1 in
+    clean scene (CastHere at to a) type c.none found.2
