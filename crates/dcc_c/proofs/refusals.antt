@@ -1,2 +1,3 @@
 pub mod ExprRules
 pub mod StmtRules
+pub mod CallRules
