@@ -74,7 +74,7 @@ abbrev pub test_tokens : ℕ → Word → Expr → List Placed → List Placed
 test_tokens at name e rest =
     word at name ∷ mark at (codes "(") ∷ expr_tokens at e (mark at (codes ")") ∷ mark at (codes "{") ∷ rest)
 
--- The end of an `if` behind its body: its brace in the line before `second`, and the else part with these tokens as its
+-- The end of an `if` behind its body: its brace in this line, and the else part with these tokens as its
 -- block, where it is not empty, or what follows.
 abbrev pub else_tokens : ℕ → Lines → List Placed → List Placed → List Placed
 else_tokens middle no_lines block rest = mark middle (codes "}") ∷ rest
