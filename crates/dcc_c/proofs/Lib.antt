@@ -1,4 +1,5 @@
 pub mod RunLaws
+pub mod Writable
 pub mod LexingLaws
 pub mod WrittenLaws
 pub mod NameLaws
