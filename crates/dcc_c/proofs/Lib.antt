@@ -1,5 +1,6 @@
 pub mod RunLaws
 pub mod Writable
+pub mod FormedExprs
 pub mod LexingLaws
 pub mod WrittenLaws
 pub mod NameLaws
