@@ -1,6 +1,7 @@
 pub mod RunLaws
 pub mod Writable
 pub mod FormedExprs
+pub mod FormedLines
 pub mod LexingLaws
 pub mod WrittenLaws
 pub mod NameLaws
