@@ -1,5 +1,5 @@
 -- The tokens of statements in the written form are read as the numbered statements.
-use Rattle.std.proofs.Common.{◌≡◌, ◌⊎◌, ℕ, zero, suc, ◌+◌, ◌-◌, ◌≤◌, Bool, true, false, ◌&&◌, ◌||◌, not, if◌then◌else◌, List, [], ◌∷◌, ◌++◌, map, length, Option, Some, None, refl, ap, sym, ◌∙◌, subst, arith, append-nil, inl, inr}
+use Rattle.std.proofs.Common.{◌≡◌, ◌⊎◌, ℕ, zero, suc, ◌+◌, ◌-◌, ◌≤◌, Bool, true, false, ◌&&◌, ◌||◌, not, if◌then◌else◌, List, [], ◌∷◌, ◌++◌, map, length, Option, Some, None, refl, ap, sym, ◌∙◌, subst, arith, append-nil, true≢false}
 use Rattle.std.specs.Prelude.{codes, nat_le, ◌==◌}
 use Rattle.std.specs.List.{list_all}
 use Rattle.std.proofs.lemmas.Bool.{and_parts, eqb-true, leb-true}
@@ -9,7 +9,7 @@ use Rattle.dcc_c.specs.Lexing.{Placed, placed}
 use Rattle.dcc_c.specs.Tree.{Word, Expr, Number, Name, Unary, Stmt, Assign, Call, If, While, DoWhile, Forever, Switch, Break, Continue, Goto, Label, Empty, Return, Lines, no_lines, line, Arms, no_arms, arm}
 use Rattle.dcc_c.specs.Parts.{stmts_in, inner_stmts, arm_stmts}
 use Rattle.dcc_c.specs.Grammar.{word, mark, is_name, none, one, Around, in_block, in_loop, in_switch, plain_decimal, AreCases, last_case, more_cases, has_arm, IsPlace, IsStmt, assign, call_alone, call_into, if_alone, if_else, while, do_while, for_ever, switch, break, continue, goto, empty, return_nothing, return_value, IsBlock, block, AreLines, no_more, depth_pragma, label, statement, AreArms, no_arm, case_arm, default_arm}
-use Rattle.dcc_c.specs.Written.{depth_behind, next_depth, written_depth, written_stmt, written_lines, written_arms}
+use Rattle.dcc_c.specs.Written.{depth_behind, next_depth, written_depth, written_stmt, written_lines, written_arms, written_default}
 use Rattle.dcc_c.specs.Numbered.{rows, numbered_stmt, numbered_lines, numbered_arms, numbered_default}
 use Rattle.dcc_c.proofs.Writable.{is_writable_expr, is_place, is_writable_place, is_place_if, is_value_if, is_label, are_cases, has_no_case, is_small, is_writable_stmt, are_writable_lines, are_writable_arms, is_writable_default}
 use Rattle.dcc_c.proofs.WrittenTokens.{expr_tokens, depth_tokens, cases_tokens, stmt_tokens, lines_tokens, arms_tokens, default_tokens}
@@ -152,6 +152,10 @@ line_formed : (stmt : Stmt) (was : ℕ) (lines : Lines) → FormedStmt stmt → 
 line_formed (Label name) was lines first later = label_line name was lines later
 line_formed stmt was lines first later = plain_line stmt was lines refl first later
 
+no_lines_formed : FormedLines no_lines
+no_lines_formed around true depth at rest good joins = absurd cc
+no_lines_formed around false depth at rest good joins = no_more
+
 -- Statements.
 
 assign_formed : (place e : Expr) → FormedStmt (Assign place e)
@@ -212,3 +216,98 @@ ever_formed body first around depth at rest good other own =
 return_formed : (e : Option Expr) → FormedStmt (Return e)
 return_formed None around depth at rest good other own = return_nothing
 return_formed (Some e) around depth at rest good other own = return_value (expr_formed e good at _)
+
+-- Arms.
+
+cases_formed : (n : ℕ) (cases : List ℕ) → list_all (λ m. nat_le m 65535) (n ∷ cases) ≡ true → (at : ℕ) (rest : List Placed) → AreCases (cases_tokens at (n ∷ cases) rest) (n ∷ cases) rest
+cases_formed n [] good at rest = last_case (plain_decimal (leb-true _ _ (and_parts (nat_le n 65535) true good).0))
+cases_formed n (m ∷ cases) good at rest =
+    let (first, others) = and_parts (nat_le n 65535) (list_all (λ m. nat_le m 65535) (m ∷ cases)) good in
+    more_cases (plain_decimal (leb-true _ _ first)) (cases_formed m cases others (at + 1) rest)
+
+some_cases : (cases : List ℕ) → are_cases cases ≡ true → (at : ℕ) (rest : List Placed) → AreCases (cases_tokens at cases rest) cases rest
+some_cases [] good at rest = absurd cc
+some_cases (n ∷ cases) good at rest = cases_formed n cases good at rest
+
+no_arms_formed : FormedArms no_arms
+no_arms_formed around depth at after others rest last good formed = formed
+
+arm_formed : (cases : List ℕ) (body : Lines) (arms : Arms) → FormedLines body → FormedArms arms → FormedArms (arm cases body arms)
+arm_formed cases body arms first later around depth at after others rest last good formed =
+    let (cases_good, parts) = and_parts (are_cases cases) (are_writable_lines around false body && are_writable_arms around arms) good in
+    let (body_good, arms_good) = and_parts (are_writable_lines around false body) (are_writable_arms around arms) parts in
+    let between = depth_behind depth (stmts_in body) in
+    let P : ℕ → Type 0 = λ d. AreArms 200 around d others no_arms last after rest in
+    let behind = later around between (at + length cases + rows (written_lines 1 depth body) + 1) after others rest last arms_good (subst P (depth_behind-append (stmts_in body) (arm_stmts arms) depth) formed) in
+    case_arm (some_cases cases cases_good at _) (first around false depth (at + length cases) _ body_good (λ f. absurd cc)) behind
+
+no_default_formed : FormedDefault no_arms
+no_default_formed around depth first second rest good = no_arm
+
+default_formed : (cases : List ℕ) (body : Lines) (arms : Arms) → FormedLines body → FormedDefault (arm cases body arms)
+default_formed [] body no_arms inner around depth first second rest good =
+    let body_good = (and_parts (are_writable_lines around false body) true good).0 in
+    let P : ℕ → Type 0 = λ after. AreArms 200 around depth (default_tokens depth first second (arm [] body no_arms) rest) no_arms (numbered_default depth second (arm [] body no_arms)) after rest in
+    subst P (ap (depth_behind depth) (sym (append-nil (stmts_in body)))) (default_arm (inner around false depth second _ body_good (λ f. absurd cc)) no_arm)
+default_formed [] body (arm cases more arms) inner around depth first second rest good =
+    absurd (true≢false (sym (and_parts (are_writable_lines around false body) false good).1))
+default_formed (n ∷ cases) body arms inner around depth first second rest good = absurd cc
+
+-- numbering keeps whether there is an arm
+has_arm_numbered : (depth at : ℕ) (arms : Arms) → has_arm (numbered_arms depth at arms) ≡ has_arm arms
+has_arm_numbered depth at no_arms = refl
+has_arm_numbered depth at (arm cases body arms) = refl
+
+has_default_numbered : (depth at : ℕ) (arms : Arms) → has_arm (numbered_default depth at arms) ≡ has_arm arms
+has_default_numbered depth at no_arms = refl
+has_default_numbered depth at (arm cases body arms) = refl
+
+switch_formed : (e : Expr) (arms last : Arms) → FormedArms arms → FormedDefault last → FormedStmt (Switch e arms last)
+switch_formed e arms last first second around depth at rest good other own =
+    let (tested, parts) = and_parts (is_writable_expr e) ((has_arm arms || has_arm last) && (are_writable_arms (in_switch around) arms && is_writable_default (in_switch around) last)) good in
+    let (some, both) = and_parts (has_arm arms || has_arm last) (are_writable_arms (in_switch around) arms && is_writable_default (in_switch around) last) parts in
+    let (arms_good, last_good) = and_parts (are_writable_arms (in_switch around) arms) (is_writable_default (in_switch around) last) both in
+    let behind = depth_behind depth (inner_stmts (Switch e arms no_arms)) in
+    let before_default = at + 1 + rows (written_arms 1 depth arms) in
+    let in_default = at + 2 + rows (written_arms 1 depth arms) in
+    let end = before_default + rows (written_default 1 behind last) in
+    let closing : List Placed = mark end (codes "}") ∷ rest in
+    let after = depth_behind behind (arm_stmts last) in
+    let here : behind ≡ depth_behind depth (arm_stmts arms) = ap (depth_behind depth) (append-nil (arm_stmts arms)) in
+    let default_is = second (in_switch around) behind before_default in_default closing last_good in
+    let P : ℕ → Type 0 = λ d. AreArms 200 (in_switch around) d (default_tokens behind before_default in_default last closing) no_arms (numbered_default behind in_default last) after closing in
+    let arms_are = first (in_switch around) depth (at + 1) after (default_tokens behind before_default in_default last closing) closing (numbered_default behind in_default last) arms_good (subst P here default_is) in
+    let either : (has_arm (numbered_arms depth (at + 1) arms) || has_arm (numbered_default behind in_default last)) ≡ true =
+        rw (has_arm_numbered depth (at + 1) arms, has_default_numbered behind in_default last) some in
+    let Q : ℕ → Type 0 = λ d. IsStmt 200 around depth (stmt_tokens depth at (Switch e arms last) rest) (numbered_stmt depth at (Switch e arms last)) d rest in
+    subst Q (ap (λ d. depth_behind d (arm_stmts last)) here ∙ sym (depth_behind-append (arm_stmts arms) (arm_stmts last) depth)) (switch (expr_formed e tested at _) arms_are either)
+
+mutual
+  -- the tokens of a statement are read as the numbered statement
+  pub stmt_formed : (stmt : Stmt) → FormedStmt stmt
+  stmt_formed (Assign place e) = assign_formed place e
+  stmt_formed (Call place function arguments own) = call_read place function arguments own
+  stmt_formed (If e body otherwise) = if_formed e body otherwise (lines_formed body) (lines_formed otherwise)
+  stmt_formed (While e body) = while_formed e body (lines_formed body)
+  stmt_formed (DoWhile body e) = do_formed body e (lines_formed body)
+  stmt_formed (Forever body) = ever_formed body (lines_formed body)
+  stmt_formed (Switch e arms last) = switch_formed e arms last (arms_formed arms) (last_formed last)
+  stmt_formed Break = λ around depth at rest good other own. break good
+  stmt_formed Continue = λ around depth at rest good other own. continue good
+  stmt_formed (Goto name) = λ around depth at rest good other own. goto name good
+  stmt_formed (Label name) = λ around depth at rest good other own. absurd cc
+  stmt_formed Empty = λ around depth at rest good other own. empty
+  stmt_formed (Return e) = return_formed e
+
+  -- the tokens of statements are read as the numbered statements
+  pub lines_formed : (lines : Lines) → FormedLines lines
+  lines_formed no_lines = no_lines_formed
+  lines_formed (line stmt was lines) = line_formed stmt was lines (stmt_formed stmt) (lines_formed lines)
+
+  arms_formed : (arms : Arms) → FormedArms arms
+  arms_formed no_arms = no_arms_formed
+  arms_formed (arm cases body arms) = arm_formed cases body arms (lines_formed body) (arms_formed arms)
+
+  last_formed : (arms : Arms) → FormedDefault arms
+  last_formed no_arms = no_default_formed
+  last_formed (arm cases body arms) = default_formed cases body arms (lines_formed body)
