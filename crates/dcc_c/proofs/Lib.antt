@@ -2,6 +2,7 @@ pub mod RunLaws
 pub mod Writable
 pub mod FormedExprs
 pub mod FormedLines
+pub mod FormedTree
 pub mod LexingLaws
 pub mod WrittenLaws
 pub mod NameLaws
