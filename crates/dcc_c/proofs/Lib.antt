@@ -3,6 +3,7 @@ pub mod Writable
 pub mod FormedExprs
 pub mod FormedLines
 pub mod FormedTree
+pub mod ShallowLaws
 pub mod LexingLaws
 pub mod WrittenLaws
 pub mod NameLaws
