@@ -4,6 +4,7 @@ pub mod FormedExprs
 pub mod FormedLines
 pub mod FormedTree
 pub mod ShallowLaws
+pub mod ShallowTree
 pub mod LexingLaws
 pub mod WrittenLaws
 pub mod NameLaws
