@@ -197,20 +197,89 @@ mutual
 
 -- Declarations.
 
+variable_within : (at : ℕ) (type : CType) (name : Word) → KeepsTo 200 (variable_tokens at type name)
+variable_within at type name k small others h = type_open type at k small _ (flat_open (WordToken name) refl k at small others h)
+
 variable_keeps : (at : ℕ) (type : CType) (name : Word) → Keeps (variable_tokens at type name)
-variable_keeps at type name others h = type_open type at 0 (omega arith) _ (word_keeps at name others h)
+variable_keeps at type name others h = variable_within at type name 0 (omega arith) others h
+
+class_within : (at : ℕ) (class : Class) → KeepsTo 200 (class_tokens at class)
+class_within at Plain k small others h = h
+class_within at Auto k small others h = flat_open (WordToken (codes "auto")) refl k at small others h
+class_within at Register k small others h = flat_open (WordToken (codes "register")) refl k at small others h
 
 size_keeps : (at : ℕ) (len : Option ℕ) → Keeps (size_tokens at len)
 size_keeps at None others h = h
 size_keeps at (Some len) others h =
     flat_keeps (Mark (codes "[")) refl at _ (number_keeps at len _ (flat_keeps (Mark (codes "]")) refl at others h))
 
-class_keeps : (at : ℕ) (class : Class) → Keeps (class_tokens at class)
-class_keeps at Plain others h = h
-class_keeps at Auto others h = word_keeps at _ others h
-class_keeps at Register others h = word_keeps at _ others h
-
 locals_keep : (locals : List Variable) (at : ℕ) → Keeps (locals_tokens at locals)
 locals_keep [] at others h = h
 locals_keep (v ∷ locals) at others h =
-    class_keeps at v.class _ (variable_keeps at v.type v.name _ (size_keeps at v.len _ (semicolon_keeps at _ (locals_keep locals (at + 1) others h))))
+    class_within at v.class 0 (omega arith) _ (variable_keeps at v.type v.name _ (size_keeps at v.len _ (semicolon_keeps at _ (locals_keep locals (at + 1) others h))))
+
+param_within : (at : ℕ) (v : Variable) → KeepsTo 200 (param_tokens at v)
+param_within at v k small others h = class_within at v.class k small _ (variable_within at v.type v.name k small others h)
+
+some_within : (params : List Variable) (at : ℕ) → KeepsTo 200 (some_params_tokens at params)
+some_within [] at k small others h = h
+some_within (v ∷ []) at k small others h = param_within at v k small others h
+some_within (v ∷ w ∷ params) at k small others h =
+    param_within at v k small _ (flat_open (Mark (codes ",")) refl k at small _ (some_within (w ∷ params) at k small others h))
+
+params_within : (params : List Variable) (at : ℕ) → KeepsTo 1 (params_tokens at params)
+params_within [] at k small others h = flat_open (WordToken (codes "void")) refl k at (omega arith) others h
+params_within (v ∷ params) at k small others h = some_within (v ∷ params) at k (omega arith) others h
+
+head_keeps : (at : ℕ) (type : Option CType) (name : Word) → Keeps (head_tokens at type name)
+head_keeps at None name others h = word_keeps at _ _ (word_keeps at _ others h)
+head_keeps at (Some type) name others h = variable_keeps at type name others h
+
+function_keeps : (at : ℕ) (f : Function) → are_shallow (stmts_in f.body) → Keeps (function_tokens at f)
+function_keeps at f shallow others h =
+    let body = lines_keep f.body 2 (at + 2 + length f.locals) shallow _ (closing_keeps _ others h) in
+    let inside = opening_keeps (at + 1) _ (locals_keep f.locals (at + 2) _ body) in
+    head_keeps at f.result f.name _ (enclosed_open 0 at (params_tokens at f.params) (omega arith) (params_within f.params at) 0 (omega arith) _ inside)
+
+functions_keep : {tree : Tree} {functions : List Function} → AreAllowed tree functions → (at : ℕ) → Within 0 (functions_tokens at functions)
+functions_keep no_more at = record { most = omega arith }
+functions_keep (one_more {f} {functions} first others) at =
+    function_keeps at f first.depth _ (functions_keep others ((numbered_function at f).last + 1))
+
+numbers_keep : (ns : List ℕ) (at : ℕ) → Keeps (numbers_tokens at ns)
+numbers_keep [] at others h = h
+numbers_keep (n ∷ []) at others h = number_keeps at n others h
+numbers_keep (n ∷ m ∷ ns) at others h = number_keeps at n _ (comma_keeps at _ (numbers_keep (m ∷ ns) at others h))
+
+initial_keeps : (at : ℕ) (len : Option ℕ) (init : List ℕ) → Keeps (initial_tokens at len init)
+initial_keeps at None [] others h = h
+initial_keeps at (Some len) [] others h = h
+initial_keeps at None (n ∷ ns) others h = equals_keeps at _ (numbers_keep (n ∷ ns) at others h)
+initial_keeps at (Some len) (n ∷ ns) others h =
+    equals_keeps at _ (opening_keeps at _ (numbers_keep (n ∷ ns) at _ (closing_keeps at others h)))
+
+global_keeps : (at : ℕ) (g : Global) → Keeps (global_tokens at g)
+global_keeps at g others h =
+    variable_keeps at g.type g.name _ (size_keeps at g.len _ (initial_keeps at g.len g.init _ (semicolon_keeps at others h)))
+
+place_keeps : (at : ℕ) (behind : Option ℕ) (address : ℕ) → Keeps (place_tokens at behind address)
+place_keeps at None address others h = place_pragma_keeps at address others h
+place_keeps at (Some behind) address others h = by_test (behind == address)
+  where
+    by_test : (same : Bool) → Within 0 (if same then others else placed at (Pragma place_line) ∷ placed at (Decimal address plain_number) ∷ others)
+    by_test true = h
+    by_test false = place_pragma_keeps at address others h
+
+globals_keep : (globals : List Global) (behind : Option ℕ) (at : ℕ) → Keeps (globals_tokens behind at globals)
+globals_keep [] behind at others h = h
+globals_keep (g ∷ globals) behind at others h =
+    let here = at + rows (written_place behind g.at) in
+    place_keeps at behind g.at _ (global_keeps here g _ (globals_keep globals (Some (behind_global g)) (here + 1) others h))
+
+-- at most 200 parentheses are open in the tokens of a writable tree
+pub tokens_shallow : (tree : Tree) → IsWritable tree → most_open 0 (tree_tokens tree) ≤ 200
+tokens_shallow tree writable =
+    let functions = functions_keep writable.allowed.functions (3 + rows (written_globals None tree.globals)) in
+    let globals = globals_keep tree.globals None 3 _ functions in
+    let stack = flat_keeps (Pragma stack_line) refl 2 _ (number_keeps 2 tree.lo _ (number_keeps 2 tree.hi _ globals)) in
+    (flat_keeps (Pragma version_line) refl 1 _ stack).most
