@@ -5,6 +5,7 @@ pub mod FormedLines
 pub mod FormedTree
 pub mod ShallowLaws
 pub mod ShallowTree
+pub mod NumberedLaws
 pub mod LexingLaws
 pub mod WrittenLaws
 pub mod NameLaws
