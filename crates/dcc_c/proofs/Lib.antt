@@ -6,6 +6,7 @@ pub mod FormedTree
 pub mod ShallowLaws
 pub mod ShallowTree
 pub mod NumberedLaws
+pub mod SmallTokens
 pub mod LexingLaws
 pub mod WrittenLaws
 pub mod NameLaws
