@@ -7,6 +7,7 @@ pub mod ShallowLaws
 pub mod ShallowTree
 pub mod NumberedLaws
 pub mod SmallTokens
+pub mod WritableExprs
 pub mod LexingLaws
 pub mod WrittenLaws
 pub mod NameLaws
