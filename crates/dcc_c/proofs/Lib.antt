@@ -8,6 +8,7 @@ pub mod ShallowTree
 pub mod NumberedLaws
 pub mod SmallTokens
 pub mod WritableExprs
+pub mod WritableLines
 pub mod LexingLaws
 pub mod WrittenLaws
 pub mod NameLaws

@@ -121,3 +121,87 @@ expr_well (conditional {a} {b} {c} test left right) small =
     let others = both_writable (takes_names b) (takes_names c) (is_writable_expr b) (is_writable_expr c) second.writable third.writable in
     record { writable = both_writable (takes_names a) (takes_names b && takes_names c) (is_writable_expr a) (is_writable_expr b && is_writable_expr c) first.writable others; behind = third.behind }
 expr_well (stronger inner) small = let well = expr_well inner small in record { writable = well.writable; behind = well.behind }
+
+pub is_place-place : {tokens rest : List Placed} {place : Expr} → IsPlace tokens place rest → is_place place ≡ true
+is_place-place (name_place bytes is) = refl
+is_place-place (deref_place inner) = refl
+
+pub place_well : {tokens rest : List Placed} {place : Expr} → IsPlace tokens place rest → AreSmall tokens → IsWell place rest
+place_well (name_place bytes is) small = record { writable = λ takes. is; behind = tail_small small }
+place_well (deref_place inner) small = let well = expr_well inner (tail_small small) in record { writable = well.writable; behind = well.behind }
+
+-- arguments whose tokens have small numbers are writable
+pub record AreWell (es : List Expr) (rest : List Placed) : Type 0 where
+  pub writable : list_all takes_names es ≡ true → list_all is_writable_expr es ≡ true
+  pub behind : AreSmall rest
+
+arguments_well : {tokens rest : List Placed} {es : List Expr} → AreArguments tokens es rest → AreSmall tokens → AreWell es rest
+arguments_well no_argument small = record { writable = λ takes. refl; behind = small }
+arguments_well (last_argument {e} is) small =
+    let well = expr_well is small in
+    record { writable = both_writable (takes_names e) true (is_writable_expr e) true well.writable (λ t. t); behind = well.behind }
+arguments_well (more_arguments {e} {f} {es} is others) small =
+    let well = expr_well is small in
+    let more = arguments_well others (tail_small well.behind) in
+    record { writable = both_writable (takes_names e) (list_all takes_names (f ∷ es)) (is_writable_expr e) (list_all is_writable_expr (f ∷ es)) well.writable more.writable; behind = more.behind }
+
+pub is_name-call : {tokens rest : List Placed} {function : Word} {arguments : List Expr} → IsCall tokens function arguments rest → is_name function ≡ true
+is_name-call (call function is arguments) = is
+
+pub call_well : {tokens rest : List Placed} {function : Word} {arguments : List Expr} → IsCall tokens function arguments rest → AreSmall tokens → AreWell arguments rest
+call_well (call function is arguments) small =
+    let well = arguments_well arguments (tail_small (tail_small small)) in record { writable = well.writable; behind = tail_small well.behind }
+
+-- Types.
+
+then_some : {A B : Type 0} (next : A → Option B) (o : Option A) → is_some (option_and_then next o) ≡ true → is_some o ≡ true
+then_some next None is = is
+then_some next (Some x) is = refl
+
+mapped_some : {A B : Type 0} (g : A → B) (o : Option A) → is_some (option_map g o) ≡ true → is_some o ≡ true
+mapped_some g None is = is
+mapped_some g (Some x) is = refl
+
+both_some : (operator : CBin) (a b : Option CType) → is_some (both_types operator a b) ≡ true → (is_some a ≡ true) × (is_some b ≡ true)
+both_some operator None None is = absurd cc
+both_some operator None (Some b) is = absurd cc
+both_some operator (Some a) None is = absurd cc
+both_some operator (Some a) (Some b) is = (refl, refl)
+
+arms_some : (a b : Option CType) → is_some (both_arms_type a b) ≡ true → (is_some a ≡ true) × (is_some b ≡ true)
+arms_some None None is = absurd cc
+arms_some None (Some b) is = absurd cc
+arms_some (Some a) None is = absurd cc
+arms_some (Some a) (Some b) is = (refl, refl)
+
+tested_some : (a type : Option CType) → is_some (tested_type a type) ≡ true → (is_some a ≡ true) × (is_some type ≡ true)
+tested_some None type is = absurd cc
+tested_some (Some a) type is = by_test a.pointer is
+  where
+    by_test : (pointer : Bool) → is_some (if pointer then None else type) ≡ true → (is_some (Some a) ≡ true) × (is_some type ≡ true)
+    by_test true no_type = absurd cc
+    by_test false some = (refl, some)
+
+-- in an expression with a type each `&` takes a name
+pub typed_takes : (names : List Declared) (e : Expr) → is_some (type_of names e) ≡ true → takes_names e ≡ true
+typed_takes names (Number n base) is = refl
+typed_takes names (Name word) is = refl
+typed_takes names (Unary AddressOf (Name word)) is = refl
+typed_takes names (Unary AddressOf _) is = absurd cc
+typed_takes names (Unary Minus a) is = typed_takes names a (then_some (unary_type Minus) (type_of names a) is)
+typed_takes names (Unary Complement a) is = typed_takes names a (then_some (unary_type Complement) (type_of names a) is)
+typed_takes names (Unary Not a) is = typed_takes names a (then_some (unary_type Not) (type_of names a) is)
+typed_takes names (Unary Deref a) is = typed_takes names a (then_some (unary_type Deref) (type_of names a) is)
+typed_takes names (Binary operator a b) is =
+    let (first, second) = both_some operator (type_of names a) (type_of names b) is in
+    and_from _ _ (typed_takes names a first) (typed_takes names b second)
+typed_takes names (Conditional a b c) is =
+    let (first, others) = tested_some (type_of names a) (both_arms_type (type_of names b) (type_of names c)) is in
+    let (second, third) = arms_some (type_of names b) (type_of names c) others in
+    and_from _ _ (typed_takes names a first) (and_from _ _ (typed_takes names b second) (typed_takes names c third))
+typed_takes names (Cast type a) is = typed_takes names a (mapped_some (λ from. type) (type_of names a) is)
+
+pub placed_takes : (names : List Declared) (place : Expr) → is_some (place_type names place) ≡ true → takes_names place ≡ true
+placed_takes names (Name word) is = refl
+placed_takes names (Unary Deref a) is = typed_takes names (Unary Deref a) is
+placed_takes names _ is = absurd cc
