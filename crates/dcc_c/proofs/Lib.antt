@@ -9,6 +9,7 @@ pub mod NumberedLaws
 pub mod SmallTokens
 pub mod WritableExprs
 pub mod WritableLines
+pub mod WritableTree
 pub mod LexingLaws
 pub mod WrittenLaws
 pub mod NameLaws
