@@ -7,3 +7,4 @@ pub mod PlainLaws
 mod Examples
 pub mod TypingLaws
 pub mod WrittenTokens
+pub mod WrittenReads
