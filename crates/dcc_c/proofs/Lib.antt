@@ -8,3 +8,4 @@ mod Examples
 pub mod TypingLaws
 pub mod WrittenTokens
 pub mod WrittenReads
+pub mod WrittenExprs

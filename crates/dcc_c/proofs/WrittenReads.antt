@@ -73,7 +73,7 @@ word_flat (b ∷ bytes) is =
     word_rows (b ∷ bytes) (and_from _ _ (or_left (is_letter b) (is_digit b) letter) all)
 
 -- the bytes are digits, and there is one
-abbrev begins_with_digit : List ℕ → Bool
+abbrev pub begins_with_digit : List ℕ → Bool
 begins_with_digit [] = false
 begins_with_digit (b ∷ bytes) = is_digit b
 
@@ -103,6 +103,10 @@ digit_bytes [] all = refl
 digit_bytes (b ∷ bytes) all =
     let (here, others) = and_parts (is_digit b) (list_all is_digit bytes) all in
     and_from _ _ (or_right (is_letter b) (is_digit b) here) (digit_bytes bytes others)
+
+pub decimal_begins : (n : ℕ) → n ≤ 4294967295 → begins_with_digit (decimal n) ≡ true
+decimal_begins n small =
+    (and_parts (list_all is_digit (decimal n)) (begins_with_digit (decimal n)) (decimal_digits n small)).1
 
 pub decimal_flat : (n : ℕ) → n ≤ 4294967295 → rows (decimal n) ≡ 0
 decimal_flat n small =

@@ -1,0 +1,189 @@
+-- The written form of an expression is read as its tokens.
+use Rattle.std.proofs.Common.{◌≡◌, ℕ, suc, ◌+◌, ◌≤◌, Bool, true, false, ◌&&◌, ◌||◌, not, ◌==◌, List, [], ◌∷◌, ◌++◌, map, refl, ap, sym, ◌∙◌, subst, append_assoc, arith, inl, inr}
+use Rattle.std.specs.Prelude.{codes, nat_le, length}
+use Rattle.std.specs.List.{list_all}
+use Rattle.std.specs.Fmt.{decimal}
+use Rattle.std.proofs.lemmas.Bool.{and_parts, and_from, or_left, or_right, eqb-true, leb-true, cases_Bool, both_ways}
+use Rattle.std.proofs.lemmas.List.{append-nil}
+use Rattle.dcc_c.specs.declared.syntax.Base.{Base}
+use Rattle.dcc_c.specs.declared.syntax.Base.TheVariants.{Schar, Uchar, Int, Uint, Long, Ulong}
+use Rattle.dcc_c.specs.declared.syntax.CType.{CType}
+use Rattle.dcc_c.specs.declared.syntax.CUn.{CUn}
+use Rattle.dcc_c.specs.declared.syntax.CUn.TheVariants.{Minus, Complement, Not, Deref, AddressOf}
+use Rattle.dcc_c.specs.declared.syntax.CBin.{CBin}
+use Rattle.dcc_c.specs.declared.syntax.CBin.TheVariants.{OrOr}
+use Rattle.dcc_c.specs.Token.{Token, WordToken, Decimal, Mark, suffix_bytes, is_word, is_word_byte, is_letter, is_digit, is_mark, ends_before, Suffix, plain_number}
+use Rattle.dcc_c.specs.Lexing.{Placed, placed}
+use Rattle.dcc_c.specs.Tree.{Word, Expr, Number, Name, Unary, Binary, Conditional, Cast}
+use Rattle.dcc_c.specs.Grammar.{word, mark, keywords, is_among, is_name, type_tokens, base_words, unary_mark, binary_mark}
+use Rattle.dcc_c.specs.Written.{suffix_for, suffix_gives, written_number, written_base, written_cast, written_expr, written_arguments, in_parentheses, is_compound, begins_with_minus, after_unary}
+use Rattle.dcc_c.proofs.LexingLaws.{spelling, is_spelled}
+use Rattle.dcc_c.proofs.WrittenLaws.{is_free}
+use Rattle.dcc_c.proofs.Writable.{is_small, may_take, is_writable_expr}
+use Rattle.dcc_c.proofs.WrittenTokens.{bracketed, is_negation, is_bracketed, expr_tokens, arguments_tokens}
+use Rattle.dcc_c.proofs.WrittenReads.{Ending, Inside, Behind, Fits, Reads, begins_with_digit, decimal_begins, nothing, space_then, token_then, reads_then}
+
+-- a name is a word
+pub word_of_name : (name : Word) → is_name name ≡ true → is_word name ≡ true
+word_of_name name is = (and_parts (is_word name) (not (is_among keywords name)) is).0
+
+-- What follows a token.
+
+word_ends : (word bytes : List ℕ) → is_free bytes ≡ true → ends_before (WordToken word) bytes ≡ true
+word_ends word [] free = refl
+word_ends word (b ∷ bytes) free = free
+
+number_ends : (n : ℕ) (suffix : Suffix) (bytes : List ℕ) → is_free bytes ≡ true → ends_before (Decimal n suffix) bytes ≡ true
+number_ends n suffix [] free = refl
+number_ends n suffix (b ∷ bytes) free = free
+
+opening_ends : (bytes : List ℕ) → ends_before (Mark (codes "(")) bytes ≡ true
+opening_ends [] = refl
+opening_ends (b ∷ bytes) = refl
+
+closing_ends : (bytes : List ℕ) → ends_before (Mark (codes ")")) bytes ≡ true
+closing_ends [] = refl
+closing_ends (b ∷ bytes) = refl
+
+-- a word before a part with which it does not go on
+pub word_then : {fresh : Bool} {at : ℕ} {ending : Ending} {b : List ℕ} {g : List Placed → List Placed} (name : Word) →
+    is_word name ≡ true → ((rest : List ℕ) → Fits ending rest → is_free (b ++ rest) ≡ true) →
+    Reads false at ending b g → Reads fresh at ending (name ++ b) (λ others. word at name ∷ g others)
+word_then {b} name is free r =
+    token_then (WordToken name) is (λ rest fits. word_ends name (b ++ rest) (free rest fits)) r
+
+-- a mark before a part
+pub mark_then : {fresh : Bool} {at : ℕ} {ending : Ending} {b : List ℕ} {g : List Placed → List Placed} (bytes : Word) →
+    is_mark bytes ≡ true → ((rest : List ℕ) → Fits ending rest → ends_before (Mark bytes) (b ++ rest) ≡ true) →
+    Reads false at ending b g → Reads fresh at ending (bytes ++ b) (λ others. mark at bytes ∷ g others)
+mark_then bytes is apart r = token_then (Mark bytes) is apart r
+
+-- an opening parenthesis before a part
+pub opening_then : {fresh : Bool} {at : ℕ} {ending : Ending} {b : List ℕ} {g : List Placed → List Placed} →
+    Reads false at ending b g → Reads fresh at ending (40 ∷ b) (λ others. mark at (codes "(") ∷ g others)
+opening_then {b} r = mark_then (codes "(") refl (λ rest fits. opening_ends (b ++ rest)) r
+
+-- a closing parenthesis before a part
+pub closing_then : {fresh : Bool} {at : ℕ} {ending : Ending} {b : List ℕ} {g : List Placed → List Placed} →
+    Reads false at ending b g → Reads fresh at ending (41 ∷ b) (λ others. mark at (codes ")") ∷ g others)
+closing_then {b} r = mark_then (codes ")") refl (λ rest fits. closing_ends (b ++ rest)) r
+
+-- a number before a part with which it does not go on
+pub number_then : {fresh : Bool} {at : ℕ} {ending : Ending} {b : List ℕ} {g : List Placed → List Placed} (n : ℕ) →
+    is_small n ≡ true → ((rest : List ℕ) → Fits ending rest → is_free (b ++ rest) ≡ true) →
+    Reads false at ending b g →
+    Reads fresh at ending (decimal n ++ b) (λ others. placed at (Decimal n plain_number) ∷ g others)
+number_then {fresh} {at} {ending} {b} {g} n small free r =
+    subst (λ bytes. Reads fresh at ending bytes (λ others. placed at (Decimal n plain_number) ∷ g others)) (ap (λ digits. digits ++ b) (append-nil (decimal n))) (token_then (Decimal n plain_number) small (λ rest fits. number_ends n plain_number (b ++ rest) (free rest fits)) r)
+
+-- a part in parentheses where it is to be
+bracketed_reads : {at : ℕ} (is : Bool) {bytes : List ℕ} {tokens : List Placed → List Placed} →
+    ((fresh : Bool) → Reads fresh at Inside bytes tokens) → (fresh : Bool) →
+    Reads fresh at Inside (in_parentheses is bytes) (bracketed at is tokens)
+bracketed_reads true r fresh = opening_then (reads_then (r false) (λ rest fits. refl) (closing_then nothing))
+bracketed_reads false r fresh = r fresh
+
+-- Operators.
+
+binary_ends : (operator : CBin) (bytes : List ℕ) → ends_before (Mark (binary_mark operator)) (32 ∷ bytes) ≡ true
+binary_ends OrOr bytes = refl
+binary_ends _ bytes = refl
+
+binary_is : (operator : CBin) → is_mark (binary_mark operator) ≡ true
+binary_is OrOr = refl
+binary_is _ = refl
+
+unary_is : (operator : CUn) → is_mark (unary_mark operator) ≡ true
+unary_is Minus = refl
+unary_is _ = refl
+
+-- a byte of words is none of the others
+other_byte : (c b : ℕ) → is_word_byte c ≡ false → is_word_byte b ≡ true → (b == c) ≡ false
+other_byte c b other is = elim (cases_Bool (b == c)) [
+  | inl same ↦ absurd (both_ways (is_word_byte c) other (subst (λ x. is_word_byte x ≡ true) (eqb-true b c same) is))
+  | inr not ↦ not
+]
+
+-- a unary operator ends before a byte of a word
+unary_before : (operator : CUn) (b : ℕ) (bytes : List ℕ) → is_word_byte b ≡ true → ends_before (Mark (unary_mark operator)) (b ∷ bytes) ≡ true
+unary_before Minus b bytes is = refl
+unary_before Complement b bytes is = refl
+unary_before Not b bytes is = rw (other_byte 61 b refl is) refl
+unary_before Deref b bytes is = refl
+unary_before AddressOf b bytes is = rw (other_byte 38 b refl is) refl
+
+-- the bytes begin with a byte of a word
+abbrev begins_with_word : List ℕ → Bool
+begins_with_word [] = false
+begins_with_word (b ∷ bytes) = is_word_byte b
+
+word_begins : (word : Word) → is_word word ≡ true → begins_with_word word ≡ true
+word_begins [] is = absurd cc
+word_begins (b ∷ bytes) is = or_left _ _ (and_parts (is_letter b) (list_all is_word_byte bytes && nat_le (length bytes) 30) is).0
+
+digit_begins : (bytes others : List ℕ) → begins_with_digit bytes ≡ true → begins_with_word (bytes ++ others) ≡ true
+digit_begins [] others is = absurd cc
+digit_begins (b ∷ bytes) others is = or_right _ _ is
+
+number_begins : (n : ℕ) (base : Base) → is_small n ≡ true → begins_with_word (written_number n base) ≡ true
+number_begins n base small = digit_begins (decimal n) _ (decimal_begins n (leb-true n 4294967295 small))
+
+unary_before_word : (operator : CUn) (bytes rest : List ℕ) → begins_with_word bytes ≡ true → ends_before (Mark (unary_mark operator)) (bytes ++ rest) ≡ true
+unary_before_word operator [] rest is = absurd cc
+unary_before_word operator (b ∷ bytes) rest is = unary_before operator b (bytes ++ rest) is
+
+no_minus : (bytes : List ℕ) → begins_with_word bytes ≡ true → begins_with_minus bytes ≡ false
+no_minus [] is = refl
+no_minus (b ∷ bytes) is = other_byte 45 b refl is
+
+-- the operand of a unary operator as it is written
+abbrev operand : CUn → Expr → Word
+operand operator a = in_parentheses (is_bracketed operator a) (written_expr a)
+
+-- a unary operator ends before its operand
+unary_ends : (operator : CUn) (a : Expr) → may_take operator a ≡ true → is_writable_expr a ≡ true → (rest : List ℕ) → ends_before (Mark (unary_mark operator)) (operand operator a ++ rest) ≡ true
+unary_ends Minus a takes good rest = any (operand Minus a ++ rest)
+  where
+    any : (bytes : List ℕ) → ends_before (Mark (codes "-")) bytes ≡ true
+    any [] = refl
+    any (b ∷ bytes) = refl
+unary_ends Complement a takes good rest = any (operand Complement a ++ rest)
+  where
+    any : (bytes : List ℕ) → ends_before (Mark (codes "~")) bytes ≡ true
+    any [] = refl
+    any (b ∷ bytes) = refl
+unary_ends Deref a takes good rest = any (operand Deref a ++ rest)
+  where
+    any : (bytes : List ℕ) → ends_before (Mark (codes "*")) bytes ≡ true
+    any [] = refl
+    any (b ∷ bytes) = refl
+unary_ends Not (Number n base) takes good rest = unary_before_word Not (written_number n base) rest (number_begins n base (and_parts (is_small n) _ good).0)
+unary_ends Not (Name name) takes good rest = unary_before_word Not name rest (word_begins name (word_of_name name good))
+unary_ends Not (Unary Minus a) takes good rest = refl
+unary_ends Not (Unary Complement a) takes good rest = refl
+unary_ends Not (Unary Not a) takes good rest = refl
+unary_ends Not (Unary Deref a) takes good rest = refl
+unary_ends Not (Unary AddressOf a) takes good rest = refl
+unary_ends Not (Binary operator a b) takes good rest = refl
+unary_ends Not (Conditional a b c) takes good rest = refl
+unary_ends Not (Cast type a) takes good rest = refl
+unary_ends AddressOf (Name name) takes good rest = unary_before_word AddressOf name rest (word_begins name (word_of_name name good))
+unary_ends AddressOf _ takes good rest = absurd cc
+
+-- the operand of a unary operator stands in parentheses where its tokens do
+operand_is : (operator : CUn) (a : Expr) → is_writable_expr a ≡ true → after_unary operator (in_parentheses (is_compound a) (written_expr a)) ≡ operand operator a
+operand_is Minus (Number n base) good =
+    rw (no_minus (written_number n base) (number_begins n base (and_parts (is_small n) _ good).0)) refl
+operand_is Minus (Name name) good = rw (no_minus name (word_begins name (word_of_name name good))) refl
+operand_is Minus (Unary Minus a) good = refl
+operand_is Minus (Unary Complement a) good = refl
+operand_is Minus (Unary Not a) good = refl
+operand_is Minus (Unary Deref a) good = refl
+operand_is Minus (Unary AddressOf a) good = refl
+operand_is Minus (Binary operator a b) good = refl
+operand_is Minus (Conditional a b c) good = refl
+operand_is Minus (Cast type a) good = refl
+operand_is Complement a good = refl
+operand_is Not a good = refl
+operand_is Deref a good = refl
+operand_is AddressOf a good = refl
