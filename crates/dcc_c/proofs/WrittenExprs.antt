@@ -16,11 +16,11 @@ use Rattle.dcc_c.specs.Token.{Token, WordToken, Decimal, Mark, suffix_bytes, is_
 use Rattle.dcc_c.specs.Lexing.{Placed, placed}
 use Rattle.dcc_c.specs.Tree.{Word, Expr, Number, Name, Unary, Binary, Conditional, Cast}
 use Rattle.dcc_c.specs.Grammar.{word, mark, keywords, is_among, is_name, type_tokens, base_words, unary_mark, binary_mark}
-use Rattle.dcc_c.specs.Written.{suffix_for, suffix_gives, written_number, written_base, written_cast, written_expr, written_arguments, in_parentheses, is_compound, begins_with_minus, after_unary}
+use Rattle.dcc_c.specs.Written.{suffix_for, suffix_gives, written_number, written_base, written_cast, written_variable, written_expr, written_arguments, in_parentheses, is_compound, begins_with_minus, after_unary}
 use Rattle.dcc_c.proofs.LexingLaws.{spelling, is_spelled}
 use Rattle.dcc_c.proofs.WrittenLaws.{is_free}
 use Rattle.dcc_c.proofs.Writable.{is_small, may_take, is_writable_expr}
-use Rattle.dcc_c.proofs.WrittenTokens.{bracketed, is_negation, is_bracketed, expr_tokens, arguments_tokens}
+use Rattle.dcc_c.proofs.WrittenTokens.{bracketed, is_negation, is_bracketed, expr_tokens, arguments_tokens, variable_tokens}
 use Rattle.dcc_c.proofs.WrittenReads.{Ending, Inside, Behind, Fits, Reads, begins_with_digit, decimal_begins, nothing, space_then, token_then, reads_then}
 
 -- a name is a word
@@ -187,3 +187,91 @@ operand_is Complement a good = refl
 operand_is Not a good = refl
 operand_is Deref a good = refl
 operand_is AddressOf a good = refl
+
+-- Types.
+
+pub word_reads : {fresh : Bool} {at : ℕ} (name : Word) → is_word name ≡ true → Reads fresh at Inside name (λ others. word at name ∷ others)
+word_reads {fresh} {at} name is =
+    subst (λ bytes. Reads fresh at Inside bytes (λ others. word at name ∷ others)) (append-nil name) (word_then name is (λ rest fits. fits) nothing)
+
+star_ends : (bytes : List ℕ) → ends_before (Mark (codes "*")) bytes ≡ true
+star_ends [] = refl
+star_ends (b ∷ bytes) = refl
+
+star_then : {at : ℕ} {ending : Ending} {b : List ℕ} {g : List Placed → List Placed} →
+    Reads false at ending b g → Reads false at ending (42 ∷ b) (λ others. mark at (codes "*") ∷ g others)
+star_then {b} r = mark_then (codes "*") refl (λ rest fits. star_ends (b ++ rest)) r
+
+-- the words of a number type before a part
+base_then : {fresh : Bool} {at : ℕ} {ending : Ending} {b : List ℕ} {g : List Placed → List Placed} (base : Base) →
+    ((rest : List ℕ) → Fits ending rest → is_free (b ++ rest) ≡ true) → Reads false at ending b g →
+    Reads fresh at ending (written_base base ++ b) (λ others. map (placed at) (map WordToken (base_words base)) ++ g others)
+base_then Schar free r = word_then (codes "signed") refl (λ rest fits. refl) (space_then (word_then (codes "char") refl free r))
+base_then Uchar free r =
+    word_then (codes "unsigned") refl (λ rest fits. refl) (space_then (word_then (codes "char") refl free r))
+base_then Int free r = word_then (codes "int") refl free r
+base_then Uint free r = word_then (codes "unsigned") refl (λ rest fits. refl) (space_then (word_then (codes "int") refl free r))
+base_then Long free r = word_then (codes "long") refl free r
+base_then Ulong free r =
+    word_then (codes "unsigned") refl (λ rest fits. refl) (space_then (word_then (codes "long") refl free r))
+
+-- a type in a cast before a closing parenthesis
+cast_then : {fresh : Bool} {at : ℕ} {ending : Ending} {b : List ℕ} {g : List Placed → List Placed} (base : Base) (pointer : Bool) →
+    Reads false at ending b g →
+    let type : CType = record { base = base; pointer = pointer } in
+    Reads fresh at ending (written_cast type ++ 41 ∷ b) (λ others. map (placed at) (type_tokens type) ++ mark at (codes ")") ∷ g others)
+cast_then Schar true r = base_then Schar (λ rest fits. refl) (space_then (star_then (closing_then r)))
+cast_then base true r = base_then base (λ rest fits. refl) (space_then (star_then (closing_then r)))
+cast_then Schar false r = base_then Schar (λ rest fits. refl) (closing_then r)
+cast_then base false r = base_then base (λ rest fits. refl) (closing_then r)
+
+variable_is : {fresh : Bool} {at : ℕ} (base : Base) (pointer : Bool) (name : Word) → is_word name ≡ true →
+    let type : CType = record { base = base; pointer = pointer } in
+    Reads fresh at Inside (written_variable type name) (variable_tokens at type name)
+variable_is Schar true name is = base_then Schar (λ rest fits. refl) (space_then (star_then (word_reads name is)))
+variable_is base true name is = base_then base (λ rest fits. refl) (space_then (star_then (word_reads name is)))
+variable_is Schar false name is = base_then Schar (λ rest fits. refl) (space_then (word_reads name is))
+variable_is base false name is = base_then base (λ rest fits. refl) (space_then (word_reads name is))
+
+-- a type and the name that has it are read
+pub variable_reads : {fresh : Bool} {at : ℕ} (type : CType) (name : Word) → is_name name ≡ true →
+    Reads fresh at Inside (written_variable type name) (variable_tokens at type name)
+variable_reads type name is = variable_is type.base type.pointer name (word_of_name name is)
+
+-- Expressions.
+
+number_reads : {fresh : Bool} {at : ℕ} (n : ℕ) (base : Base) → is_small n ≡ true →
+    Reads fresh at Inside (written_number n base) (λ others. placed at (Decimal n (suffix_for n base)) ∷ others)
+number_reads {fresh} {at} n base small =
+    subst (λ bytes. Reads fresh at Inside bytes (λ others. placed at (Decimal n (suffix_for n base)) ∷ others)) (append-nil (written_number n base)) (token_then (Decimal n (suffix_for n base)) small (λ rest fits. number_ends n (suffix_for n base) rest fits) nothing)
+
+-- an expression is read as its tokens
+pub expr_reads : (e : Expr) → is_writable_expr e ≡ true → (at : ℕ) (fresh : Bool) →
+    Reads fresh at Inside (written_expr e) (expr_tokens at e)
+expr_reads (Number n base) good at fresh = number_reads n base (and_parts (is_small n) _ good).0
+expr_reads (Name name) good at fresh = word_reads name (word_of_name name good)
+expr_reads (Unary operator a) good at fresh =
+    let (takes, inner) = and_parts (may_take operator a) (is_writable_expr a) good in
+    let inside = bracketed_reads (is_bracketed operator a) (expr_reads a inner at) false in
+    subst (λ bytes. Reads fresh at Inside (unary_mark operator ++ bytes) (expr_tokens at (Unary operator a))) (sym (operand_is operator a inner)) (mark_then (unary_mark operator) (unary_is operator) (λ rest fits. unary_ends operator a takes inner rest) inside)
+expr_reads (Binary operator a b) good at fresh =
+    let (left, right) = and_parts (is_writable_expr a) (is_writable_expr b) good in
+    let second = bracketed_reads (is_compound b) (expr_reads b right at) false in
+    reads_then (bracketed_reads (is_compound a) (expr_reads a left at) fresh) (λ rest fits. refl) (space_then (mark_then (binary_mark operator) (binary_is operator) (λ rest fits. binary_ends operator (in_parentheses (is_compound b) (written_expr b) ++ rest)) (space_then second)))
+expr_reads (Conditional a b c) good at fresh =
+    let (first, others) = and_parts (is_writable_expr a) (is_writable_expr b && is_writable_expr c) good in
+    let (second, third) = and_parts (is_writable_expr b) (is_writable_expr c) others in
+    let last = bracketed_reads (is_compound c) (expr_reads c third at) false in
+    let middle = bracketed_reads (is_compound b) (expr_reads b second at) false in
+    reads_then (bracketed_reads (is_compound a) (expr_reads a first at) fresh) (λ rest fits. refl) (space_then (mark_then (codes "?") refl (λ rest fits. refl) (space_then (reads_then middle (λ rest fits. refl) (space_then (mark_then (codes ":") refl (λ rest fits. refl) (space_then last)))))))
+expr_reads (Cast type a) good at fresh =
+    opening_then (cast_then type.base type.pointer (bracketed_reads (is_compound a) (expr_reads a good at) false))
+
+-- the arguments of a call are read as their tokens
+pub arguments_read : (es : List Expr) → list_all is_writable_expr es ≡ true → (at : ℕ) →
+    Reads false at Inside (written_arguments es) (arguments_tokens at es)
+arguments_read [] good at = nothing
+arguments_read (e ∷ []) good at = expr_reads e (and_parts (is_writable_expr e) _ good).0 at false
+arguments_read (e ∷ f ∷ es) good at =
+    let (first, others) = and_parts (is_writable_expr e) (list_all is_writable_expr (f ∷ es)) good in
+    reads_then (expr_reads e first at false) (λ rest fits. refl) (mark_then (codes ",") refl (λ rest fits. refl) (space_then (arguments_read (f ∷ es) others at)))
