@@ -9,3 +9,4 @@ pub mod TypingLaws
 pub mod WrittenTokens
 pub mod WrittenReads
 pub mod WrittenExprs
+pub mod WrittenRows
