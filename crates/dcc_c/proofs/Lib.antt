@@ -10,3 +10,4 @@ pub mod WrittenTokens
 pub mod WrittenReads
 pub mod WrittenExprs
 pub mod WrittenRows
+pub mod WrittenParts
