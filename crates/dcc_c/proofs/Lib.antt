@@ -11,3 +11,4 @@ pub mod WrittenReads
 pub mod WrittenExprs
 pub mod WrittenRows
 pub mod WrittenParts
+pub mod WrittenStmts
