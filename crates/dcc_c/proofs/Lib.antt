@@ -12,3 +12,4 @@ pub mod WrittenExprs
 pub mod WrittenRows
 pub mod WrittenParts
 pub mod WrittenStmts
+pub mod WrittenLexes

@@ -37,13 +37,10 @@ number_ends : (n : ℕ) (suffix : Suffix) (bytes : List ℕ) → is_free bytes �
 number_ends n suffix [] free = refl
 number_ends n suffix (b ∷ bytes) free = free
 
-opening_ends : (bytes : List ℕ) → ends_before (Mark (codes "(")) bytes ≡ true
-opening_ends [] = refl
-opening_ends (b ∷ bytes) = refl
-
-closing_ends : (bytes : List ℕ) → ends_before (Mark (codes ")")) bytes ≡ true
-closing_ends [] = refl
-closing_ends (b ∷ bytes) = refl
+-- a mark that no byte makes longer ends before any bytes
+lone_ends : (bytes : Word) → ((b : ℕ) → is_mark (bytes ++ b ∷ []) ≡ false) → (rest : List ℕ) → ends_before (Mark bytes) rest ≡ true
+lone_ends bytes lone [] = refl
+lone_ends bytes lone (b ∷ rest) = rw (lone b) refl
 
 -- a word before a part with which it does not go on
 pub word_then : {fresh : Bool} {at : ℕ} {ending : Ending} {b : List ℕ} {g : List Placed → List Placed} (name : Word) →
@@ -58,15 +55,21 @@ pub mark_then : {fresh : Bool} {at : ℕ} {ending : Ending} {b : List ℕ} {g : 
     Reads false at ending b g → Reads fresh at ending (bytes ++ b) (λ others. mark at bytes ∷ g others)
 mark_then bytes is apart r = token_then (Mark bytes) is apart r
 
+-- a mark that no byte makes longer before a part
+pub lone_then : {fresh : Bool} {at : ℕ} {ending : Ending} {b : List ℕ} {g : List Placed → List Placed} (bytes : Word) →
+    is_mark bytes ≡ true → ((c : ℕ) → is_mark (bytes ++ c ∷ []) ≡ false) →
+    Reads false at ending b g → Reads fresh at ending (bytes ++ b) (λ others. mark at bytes ∷ g others)
+lone_then {b} bytes is lone r = mark_then bytes is (λ rest fits. lone_ends bytes lone (b ++ rest)) r
+
 -- an opening parenthesis before a part
 pub opening_then : {fresh : Bool} {at : ℕ} {ending : Ending} {b : List ℕ} {g : List Placed → List Placed} →
     Reads false at ending b g → Reads fresh at ending (40 ∷ b) (λ others. mark at (codes "(") ∷ g others)
-opening_then {b} r = mark_then (codes "(") refl (λ rest fits. opening_ends (b ++ rest)) r
+opening_then r = lone_then (codes "(") refl (λ c. refl) r
 
 -- a closing parenthesis before a part
 pub closing_then : {fresh : Bool} {at : ℕ} {ending : Ending} {b : List ℕ} {g : List Placed → List Placed} →
     Reads false at ending b g → Reads fresh at ending (41 ∷ b) (λ others. mark at (codes ")") ∷ g others)
-closing_then {b} r = mark_then (codes ")") refl (λ rest fits. closing_ends (b ++ rest)) r
+closing_then r = lone_then (codes ")") refl (λ c. refl) r
 
 -- a number before a part with which it does not go on
 pub number_then : {fresh : Bool} {at : ℕ} {ending : Ending} {b : List ℕ} {g : List Placed → List Placed} (n : ℕ) →
@@ -142,21 +145,9 @@ operand operator a = in_parentheses (is_bracketed operator a) (written_expr a)
 
 -- a unary operator ends before its operand
 unary_ends : (operator : CUn) (a : Expr) → may_take operator a ≡ true → is_writable_expr a ≡ true → (rest : List ℕ) → ends_before (Mark (unary_mark operator)) (operand operator a ++ rest) ≡ true
-unary_ends Minus a takes good rest = any (operand Minus a ++ rest)
-  where
-    any : (bytes : List ℕ) → ends_before (Mark (codes "-")) bytes ≡ true
-    any [] = refl
-    any (b ∷ bytes) = refl
-unary_ends Complement a takes good rest = any (operand Complement a ++ rest)
-  where
-    any : (bytes : List ℕ) → ends_before (Mark (codes "~")) bytes ≡ true
-    any [] = refl
-    any (b ∷ bytes) = refl
-unary_ends Deref a takes good rest = any (operand Deref a ++ rest)
-  where
-    any : (bytes : List ℕ) → ends_before (Mark (codes "*")) bytes ≡ true
-    any [] = refl
-    any (b ∷ bytes) = refl
+unary_ends Minus a takes good rest = lone_ends (codes "-") (λ c. refl) (operand Minus a ++ rest)
+unary_ends Complement a takes good rest = lone_ends (codes "~") (λ c. refl) (operand Complement a ++ rest)
+unary_ends Deref a takes good rest = lone_ends (codes "*") (λ c. refl) (operand Deref a ++ rest)
 unary_ends Not (Number n base) takes good rest = unary_before_word Not (written_number n base) rest (number_begins n base (and_parts (is_small n) _ good).0)
 unary_ends Not (Name name) takes good rest = unary_before_word Not name rest (word_begins name (word_of_name name good))
 unary_ends Not (Unary Minus a) takes good rest = refl
@@ -194,13 +185,9 @@ pub word_reads : {fresh : Bool} {at : ℕ} (name : Word) → is_word name ≡ tr
 word_reads {fresh} {at} name is =
     subst (λ bytes. Reads fresh at Inside bytes (λ others. word at name ∷ others)) (append-nil name) (word_then name is (λ rest fits. fits) nothing)
 
-star_ends : (bytes : List ℕ) → ends_before (Mark (codes "*")) bytes ≡ true
-star_ends [] = refl
-star_ends (b ∷ bytes) = refl
-
 star_then : {at : ℕ} {ending : Ending} {b : List ℕ} {g : List Placed → List Placed} →
     Reads false at ending b g → Reads false at ending (42 ∷ b) (λ others. mark at (codes "*") ∷ g others)
-star_then {b} r = mark_then (codes "*") refl (λ rest fits. star_ends (b ++ rest)) r
+star_then r = lone_then (codes "*") refl (λ c. refl) r
 
 -- the words of a number type before a part
 base_then : {fresh : Bool} {at : ℕ} {ending : Ending} {b : List ℕ} {g : List Placed → List Placed} (base : Base) →
