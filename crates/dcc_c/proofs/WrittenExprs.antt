@@ -1,9 +1,9 @@
 -- The written form of an expression is read as its tokens.
-use Rattle.std.proofs.Common.{◌≡◌, ℕ, suc, ◌+◌, ◌≤◌, Bool, true, false, ◌&&◌, ◌||◌, not, ◌==◌, List, [], ◌∷◌, ◌++◌, map, refl, ap, sym, ◌∙◌, subst, append_assoc, arith, inl, inr}
+use Rattle.std.proofs.Common.{◌≡◌, ℕ, Bool, true, false, ◌&&◌, not, ◌==◌, List, [], ◌∷◌, ◌++◌, map, refl, ap, sym, subst, inl, inr}
 use Rattle.std.specs.Prelude.{codes, nat_le, length}
 use Rattle.std.specs.List.{list_all}
 use Rattle.std.specs.Fmt.{decimal}
-use Rattle.std.proofs.lemmas.Bool.{and_parts, and_from, or_left, or_right, eqb-true, leb-true, cases_Bool, both_ways}
+use Rattle.std.proofs.lemmas.Bool.{and_parts, or_left, or_right, eqb-true, leb-true, cases_Bool, both_ways}
 use Rattle.std.proofs.lemmas.List.{append-nil}
 use Rattle.dcc_c.specs.declared.syntax.Base.{Base}
 use Rattle.dcc_c.specs.declared.syntax.Base.TheVariants.{Schar, Uchar, Int, Uint, Long, Ulong}
@@ -12,16 +12,15 @@ use Rattle.dcc_c.specs.declared.syntax.CUn.{CUn}
 use Rattle.dcc_c.specs.declared.syntax.CUn.TheVariants.{Minus, Complement, Not, Deref, AddressOf}
 use Rattle.dcc_c.specs.declared.syntax.CBin.{CBin}
 use Rattle.dcc_c.specs.declared.syntax.CBin.TheVariants.{OrOr}
-use Rattle.dcc_c.specs.Token.{Token, WordToken, Decimal, Mark, suffix_bytes, is_word, is_word_byte, is_letter, is_digit, is_mark, ends_before, Suffix, plain_number}
+use Rattle.dcc_c.specs.Token.{WordToken, Decimal, Mark, is_word, is_word_byte, is_letter, is_mark, ends_before, Suffix, plain_number}
 use Rattle.dcc_c.specs.Lexing.{Placed, placed}
 use Rattle.dcc_c.specs.Tree.{Word, Expr, Number, Name, Unary, Binary, Conditional, Cast}
 use Rattle.dcc_c.specs.Grammar.{word, mark, keywords, is_among, is_name, type_tokens, base_words, unary_mark, binary_mark}
-use Rattle.dcc_c.specs.Written.{suffix_for, suffix_gives, written_number, written_base, written_cast, written_variable, written_expr, written_arguments, in_parentheses, is_compound, begins_with_minus, after_unary}
-use Rattle.dcc_c.proofs.LexingLaws.{spelling, is_spelled}
+use Rattle.dcc_c.specs.Written.{suffix_for, written_number, written_base, written_cast, written_variable, written_expr, written_arguments, in_parentheses, is_compound, begins_with_minus, after_unary}
 use Rattle.dcc_c.proofs.WrittenLaws.{is_free}
 use Rattle.dcc_c.proofs.Writable.{is_small, may_take, is_writable_expr}
-use Rattle.dcc_c.proofs.WrittenTokens.{bracketed, is_negation, is_bracketed, expr_tokens, arguments_tokens, variable_tokens}
-use Rattle.dcc_c.proofs.WrittenReads.{Ending, Inside, Behind, Fits, Reads, begins_with_digit, decimal_begins, nothing, space_then, token_then, reads_then}
+use Rattle.dcc_c.proofs.WrittenTokens.{bracketed, is_bracketed, expr_tokens, arguments_tokens, variable_tokens}
+use Rattle.dcc_c.proofs.WrittenReads.{Ending, Inside, Fits, Reads, begins_with_digit, decimal_begins, nothing, space_then, token_then, reads_then}
 
 -- a name is a word
 pub word_of_name : (name : Word) → is_name name ≡ true → is_word name ≡ true

@@ -1,6 +1,6 @@
 -- The written form of a tree is read as its tokens.
-use Rattle.std.proofs.Common.{◌≡◌, ℕ, suc, ◌+◌, ◌≤◌, Bool, true, false, ◌&&◌, ◌==◌, List, [], ◌∷◌, ◌++◌, length, None, Some, refl, ap, sym, ◌∙◌, subst, arith}
-use Rattle.std.specs.Prelude.{codes, nat_le, not, Option, is_some}
+use Rattle.std.proofs.Common.{◌≡◌, ℕ, suc, ◌+◌, ◌≤◌, Bool, true, false, ◌==◌, List, [], ◌∷◌, ◌++◌, length, None, Some, refl, subst, arith}
+use Rattle.std.specs.Prelude.{codes, not, Option, is_some}
 use Rattle.std.specs.List.{list_all, flat_map}
 use Rattle.std.specs.Fmt.{decimal}
 use Rattle.std.proofs.lemmas.Bool.{and_parts, and_from, le-leb}
@@ -9,17 +9,17 @@ use Rattle.dcc_c.specs.declared.syntax.CType.{CType}
 use Rattle.dcc_c.specs.declared.syntax.Class.{Class}
 use Rattle.dcc_c.specs.declared.syntax.Class.TheVariants.{Plain, Auto, Register}
 use Rattle.dcc_c.specs.Token.{Decimal, plain_number, place_line}
-use Rattle.dcc_c.specs.Lexing.{Placed, placed, Lexes, ends, feed}
+use Rattle.dcc_c.specs.Lexing.{Placed, placed, Lexes, ends}
 use Rattle.dcc_c.specs.Tree.{Word, Global, Variable, Function, Tree}
-use Rattle.dcc_c.specs.Grammar.{word, mark, is_name, outermost}
+use Rattle.dcc_c.specs.Grammar.{is_name, outermost}
 use Rattle.dcc_c.specs.Placement.{behind_global}
-use Rattle.dcc_c.specs.Written.{written_variable, written_size, written_class, written_local, written_param, written_params, written_head_params, written_head, written_function, written_functions, written_numbers, written_initial, written_global, written_place, written_globals, written_form, written_lines}
+use Rattle.dcc_c.specs.Written.{written_size, written_class, written_local, written_param, written_params, written_head_params, written_head, written_function, written_functions, written_numbers, written_initial, written_global, written_place, written_globals, written_form}
 use Rattle.dcc_c.specs.Numbered.{rows, numbered_function}
 use Rattle.dcc_c.proofs.LexingLaws.{header_lexes}
 use Rattle.dcc_c.proofs.WrittenLaws.{is_free}
 use Rattle.dcc_c.proofs.Writable.{is_small, is_small_if, is_writable_global, is_writable_param, is_local_class, is_writable_local, are_writable_lines, is_writable_function, IsWritable}
-use Rattle.dcc_c.proofs.WrittenTokens.{size_tokens, class_tokens, local_tokens, locals_tokens, param_tokens, some_params_tokens, params_tokens, head_tokens, function_tokens, functions_tokens, numbers_tokens, initial_tokens, global_tokens, place_tokens, globals_tokens, tree_tokens, variable_tokens}
-use Rattle.dcc_c.proofs.WrittenReads.{Ending, Inside, Behind, Reads, rows-append, nothing, space_then, reads_then, line_feed, no_line, lines_then, counted_as}
+use Rattle.dcc_c.proofs.WrittenTokens.{size_tokens, class_tokens, local_tokens, locals_tokens, param_tokens, some_params_tokens, params_tokens, head_tokens, function_tokens, functions_tokens, numbers_tokens, initial_tokens, global_tokens, place_tokens, globals_tokens, tree_tokens}
+use Rattle.dcc_c.proofs.WrittenReads.{Ending, Inside, Behind, Reads, nothing, space_then, reads_then, line_feed, no_line, lines_then, counted_as}
 use Rattle.dcc_c.proofs.WrittenExprs.{word_of_name, word_then, mark_then, lone_then, opening_then, closing_then, number_then, word_reads, variable_reads}
 use Rattle.dcc_c.proofs.WrittenParts.{at_start, indented_then, behind_rows, by_rows, semicolon_line, closing_line, pragma_reads, pragma_unless}
 use Rattle.dcc_c.proofs.WrittenStmts.{lines_read}

@@ -1,19 +1,19 @@
 -- Lines of the written form, and the parts of statements, are read as their tokens.
-use Rattle.std.proofs.Common.{◌≡◌, ℕ, zero, suc, ◌+◌, ◌*◌, min, Bool, true, false, ◌&&◌, ◌==◌, List, [], ◌∷◌, ◌++◌, length, map, None, Some, refl, ap, sym, ◌∙◌, subst, append_assoc, arith, ◌⊎◌, inl, inr}
-use Rattle.std.specs.Prelude.{codes, nat_le, replicate, Option, if◌then◌else◌}
+use Rattle.std.proofs.Common.{◌≡◌, ℕ, zero, suc, ◌+◌, ◌*◌, min, Bool, true, false, ◌==◌, List, [], ◌∷◌, ◌++◌, length, None, Some, refl, ap, ◌∙◌, subst, append_assoc, arith, ◌⊎◌, inl, inr}
+use Rattle.std.specs.Prelude.{codes, replicate, Option, if◌then◌else◌}
 use Rattle.std.specs.List.{list_all}
 use Rattle.std.specs.Fmt.{decimal}
-use Rattle.std.proofs.lemmas.Bool.{and_parts, and_from, leb-true, le-leb, cases_Bool, eqb-false}
+use Rattle.std.proofs.lemmas.Bool.{and_parts, and_from, leb-true, eqb-false}
 use Rattle.std.proofs.lemmas.List.{append-nil}
-use Rattle.dcc_c.specs.Token.{Decimal, Pragma, Head, plain_number, version_line, depth_line, place_line, head_bytes, is_word}
-use Rattle.dcc_c.specs.Lexing.{Placed, placed, Lexes, feed, pragma, are_pragma_numbers}
+use Rattle.dcc_c.specs.Token.{Decimal, Pragma, Head, plain_number, version_line, depth_line, head_bytes, is_word}
+use Rattle.dcc_c.specs.Lexing.{Placed, placed, pragma, are_pragma_numbers}
 use Rattle.dcc_c.specs.Tree.{Word, Expr}
 use Rattle.dcc_c.specs.Grammar.{word, mark, is_name}
-use Rattle.dcc_c.specs.Written.{written_expr, indented, written_depth, written_call, written_return, written_test, written_cases}
+use Rattle.dcc_c.specs.Written.{indented, written_depth, written_call, written_return, written_test, written_cases}
 use Rattle.dcc_c.specs.Numbered.{rows}
 use Rattle.dcc_c.proofs.Writable.{is_small, is_value_if, is_writable_expr}
 use Rattle.dcc_c.proofs.WrittenTokens.{depth_tokens, call_tokens, return_tokens, test_tokens, cases_tokens}
-use Rattle.dcc_c.proofs.WrittenReads.{Ending, Inside, Behind, Reads, at_beginning, space_then, reads_then, line_feed, no_line, lines_then, counted_as, rows-append, decimal_flat}
+use Rattle.dcc_c.proofs.WrittenReads.{Ending, Behind, Reads, at_beginning, space_then, reads_then, line_feed, no_line, lines_then, counted_as, rows-append, decimal_flat}
 use Rattle.dcc_c.proofs.WrittenExprs.{word_of_name, word_then, mark_then, opening_then, closing_then, number_then, expr_reads, arguments_read}
 
 -- a part that can be read inside a line can be read at its beginning

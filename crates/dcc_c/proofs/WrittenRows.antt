@@ -1,9 +1,8 @@
 -- How many lines a part of the written form has does not depend on how many braces are around it.
-use Rattle.std.proofs.Common.{◌≡◌, ℕ, zero, suc, ◌+◌, ◌*◌, min, List, [], ◌∷◌, ◌++◌, None, Some, refl, ap, sym, ◌∙◌, arith}
-use Rattle.std.specs.Prelude.{codes, replicate}
+use Rattle.std.proofs.Common.{◌≡◌, ℕ, zero, suc, ◌+◌, ◌*◌, min, List, [], ◌∷◌, ◌++◌, None, Some, refl, sym, ◌∙◌, arith}
+use Rattle.std.specs.Prelude.{replicate}
 use Rattle.dcc_c.specs.Tree.{Word, Stmt, Assign, Call, If, While, DoWhile, Forever, Switch, Break, Continue, Goto, Label, Empty, Return, Lines, no_lines, line, Arms, no_arms, arm}
-use Rattle.dcc_c.specs.Parts.{stmts_in, inner_stmts}
-use Rattle.dcc_c.specs.Written.{depth_behind, next_depth, written_depth, indented, written_else, written_cases, written_stmt, written_lines, written_arms, written_default}
+use Rattle.dcc_c.specs.Written.{next_depth, indented, written_else, written_cases, written_stmt, written_lines, written_arms, written_default}
 use Rattle.dcc_c.specs.Numbered.{rows}
 use Rattle.dcc_c.proofs.WrittenReads.{rows-append}
 

@@ -1,19 +1,19 @@
 -- The written form of statements is read as their tokens.
-use Rattle.std.proofs.Common.{◌≡◌, ℕ, suc, ◌+◌, ◌≤◌, Bool, true, false, ◌&&◌, ◌||◌, List, [], ◌∷◌, ◌++◌, length, None, Some, refl, ap, sym, ◌∙◌, subst, arith, ◌⊎◌, inl, inr}
-use Rattle.std.specs.Prelude.{codes, nat_le, not}
+use Rattle.std.proofs.Common.{◌≡◌, ℕ, ◌+◌, ◌≤◌, Bool, true, false, ◌&&◌, ◌||◌, List, [], ◌∷◌, ◌++◌, length, None, Some, refl, subst, arith, ◌⊎◌, inl, inr}
+use Rattle.std.specs.Prelude.{codes, nat_le}
 use Rattle.std.specs.List.{list_all}
 use Rattle.std.proofs.lemmas.Bool.{and_parts, and_from, leb-true, le-leb}
 use Rattle.dcc_c.specs.Tree.{Word, Expr, Stmt, Assign, Call, If, While, DoWhile, Forever, Switch, Break, Continue, Goto, Label, Empty, Return, Lines, no_lines, line, Arms, no_arms, arm}
 use Rattle.dcc_c.specs.Parts.{stmts_in, inner_stmts}
 use Rattle.dcc_c.specs.Lexing.{Placed}
 use Rattle.dcc_c.specs.Grammar.{word, mark, is_name, Around, in_block, in_loop, in_switch, has_arm}
-use Rattle.dcc_c.specs.Written.{depth_behind, next_depth, written_depth, indented, written_expr, written_stmt, written_lines, written_arms, written_default}
+use Rattle.dcc_c.specs.Written.{depth_behind, next_depth, written_expr, written_stmt, written_lines, written_arms, written_default}
 use Rattle.dcc_c.specs.Numbered.{rows}
-use Rattle.dcc_c.proofs.Writable.{is_small, is_place, is_writable_expr, is_writable_place, is_place_if, is_value_if, is_label, are_cases, has_no_case, is_writable_stmt, are_writable_lines, are_writable_arms, is_writable_default}
+use Rattle.dcc_c.proofs.Writable.{is_small, is_place, is_writable_expr, is_writable_place, is_place_if, is_label, are_cases, has_no_case, is_writable_stmt, are_writable_lines, are_writable_arms, is_writable_default}
 use Rattle.dcc_c.proofs.WrittenTokens.{expr_tokens, stmt_tokens, lines_tokens, arms_tokens, default_tokens}
-use Rattle.dcc_c.proofs.WrittenReads.{Ending, Inside, Behind, Reads, space_then, reads_then, line_feed, no_line, lines_then, counted_as}
+use Rattle.dcc_c.proofs.WrittenReads.{Behind, Reads, space_then, reads_then, no_line, lines_then, counted_as}
 use Rattle.dcc_c.proofs.WrittenExprs.{word_of_name, word_then, mark_then, opening_then, closing_then, expr_reads}
-use Rattle.dcc_c.proofs.WrittenRows.{SameRows, stmt_rows, lines_rows, arms_rows, default_rows}
+use Rattle.dcc_c.proofs.WrittenRows.{stmt_rows, lines_rows, arms_rows, default_rows}
 use Rattle.dcc_c.proofs.WrittenParts.{indented_then, behind_rows, semicolon_line, colon_line, brace_line, closing_line, word_line, call_reads, return_reads, test_reads, depth_reads, cases_read}
 
 -- the next call has the depth in force, or one that a text can hold
