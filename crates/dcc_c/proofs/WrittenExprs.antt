@@ -1,40 +1,25 @@
 -- The written form of an expression is read as its tokens.
-use Rattle.std.proofs.Common.{◌≡◌, ℕ, Bool, true, false, ◌&&◌, not, ◌==◌, List, [], ◌∷◌, ◌++◌, map, refl, ap, sym, subst, inl, inr}
+use Rattle.std.proofs.Common.{◌≡◌, ℕ, Bool, true, false, ◌&&◌, List, [], ◌∷◌, ◌++◌, map, refl, ap, sym, subst}
 use Rattle.std.specs.Prelude.{codes, nat_le, length}
 use Rattle.std.specs.List.{list_all}
 use Rattle.std.specs.Fmt.{decimal}
-use Rattle.std.proofs.lemmas.Bool.{and_parts, or_left, or_right, eqb-true, leb-true, cases_Bool, both_ways}
+use Rattle.std.proofs.lemmas.Bool.{and_parts, or_left, or_right, leb-true}
 use Rattle.std.proofs.lemmas.List.{append-nil}
 use Rattle.dcc_c.specs.declared.syntax.Base.{Base}
 use Rattle.dcc_c.specs.declared.syntax.Base.TheVariants.{Schar, Uchar, Int, Uint, Long, Ulong}
 use Rattle.dcc_c.specs.declared.syntax.CType.{CType}
 use Rattle.dcc_c.specs.declared.syntax.CUn.{CUn}
 use Rattle.dcc_c.specs.declared.syntax.CUn.TheVariants.{Minus, Complement, Not, Deref, AddressOf}
-use Rattle.dcc_c.specs.declared.syntax.CBin.{CBin}
-use Rattle.dcc_c.specs.declared.syntax.CBin.TheVariants.{OrOr}
-use Rattle.dcc_c.specs.Token.{WordToken, Decimal, Mark, is_word, is_word_byte, is_letter, is_mark, ends_before, Suffix, plain_number}
+use Rattle.dcc_c.specs.Token.{WordToken, Decimal, Mark, is_word, is_word_byte, is_letter, is_mark, ends_before, plain_number}
 use Rattle.dcc_c.specs.Lexing.{Placed, placed}
 use Rattle.dcc_c.specs.Tree.{Word, Expr, Number, Name, Unary, Binary, Conditional, Cast}
-use Rattle.dcc_c.specs.Grammar.{word, mark, keywords, is_among, is_name, type_tokens, base_words, unary_mark, binary_mark}
+use Rattle.dcc_c.specs.Grammar.{word, mark, is_name, type_tokens, base_words, unary_mark, binary_mark}
 use Rattle.dcc_c.specs.Written.{suffix_for, written_number, written_base, written_cast, written_variable, written_expr, written_arguments, in_parentheses, is_compound, begins_with_minus, after_unary}
-use Rattle.dcc_c.proofs.WrittenLaws.{is_free}
+use Rattle.dcc_c.proofs.WrittenLaws.{is_word-name, is_free, word_ends, number_ends, operator_ends, operator_is}
 use Rattle.dcc_c.proofs.Writable.{is_small, may_take, is_writable_expr}
 use Rattle.dcc_c.proofs.WrittenTokens.{bracketed, is_bracketed, expr_tokens, arguments_tokens, variable_tokens}
-use Rattle.dcc_c.proofs.WrittenReads.{Ending, Inside, Fits, Reads, begins_with_digit, decimal_begins, nothing, space_then, token_then, reads_then}
-
--- a name is a word
-pub word_of_name : (name : Word) → is_name name ≡ true → is_word name ≡ true
-word_of_name name is = (and_parts (is_word name) (not (is_among keywords name)) is).0
-
--- What follows a token.
-
-word_ends : (word bytes : List ℕ) → is_free bytes ≡ true → ends_before (WordToken word) bytes ≡ true
-word_ends word [] free = refl
-word_ends word (b ∷ bytes) free = free
-
-number_ends : (n : ℕ) (suffix : Suffix) (bytes : List ℕ) → is_free bytes ≡ true → ends_before (Decimal n suffix) bytes ≡ true
-number_ends n suffix [] free = refl
-number_ends n suffix (b ∷ bytes) free = free
+use Rattle.dcc_c.proofs.WrittenRows.{other_byte, begins_with_digit, decimal_begins}
+use Rattle.dcc_c.proofs.WrittenReads.{Ending, Inside, Fits, Reads, nothing, space_then, token_then, reads_then}
 
 -- a mark that no byte makes longer ends before any bytes
 lone_ends : (bytes : Word) → ((b : ℕ) → is_mark (bytes ++ b ∷ []) ≡ false) → (rest : List ℕ) → ends_before (Mark bytes) rest ≡ true
@@ -87,24 +72,9 @@ bracketed_reads false r fresh = r fresh
 
 -- Operators.
 
-binary_ends : (operator : CBin) (bytes : List ℕ) → ends_before (Mark (binary_mark operator)) (32 ∷ bytes) ≡ true
-binary_ends OrOr bytes = refl
-binary_ends _ bytes = refl
-
-binary_is : (operator : CBin) → is_mark (binary_mark operator) ≡ true
-binary_is OrOr = refl
-binary_is _ = refl
-
 unary_is : (operator : CUn) → is_mark (unary_mark operator) ≡ true
 unary_is Minus = refl
 unary_is _ = refl
-
--- a byte of words is none of the others
-other_byte : (c b : ℕ) → is_word_byte c ≡ false → is_word_byte b ≡ true → (b == c) ≡ false
-other_byte c b other is = elim (cases_Bool (b == c)) [
-  | inl same ↦ absurd (both_ways (is_word_byte c) other (subst (λ x. is_word_byte x ≡ true) (eqb-true b c same) is))
-  | inr not ↦ not
-]
 
 -- a unary operator ends before a byte of a word
 unary_before : (operator : CUn) (b : ℕ) (bytes : List ℕ) → is_word_byte b ≡ true → ends_before (Mark (unary_mark operator)) (b ∷ bytes) ≡ true
@@ -148,7 +118,7 @@ unary_ends Minus a takes good rest = lone_ends (codes "-") (λ c. refl) (operand
 unary_ends Complement a takes good rest = lone_ends (codes "~") (λ c. refl) (operand Complement a ++ rest)
 unary_ends Deref a takes good rest = lone_ends (codes "*") (λ c. refl) (operand Deref a ++ rest)
 unary_ends Not (Number n base) takes good rest = unary_before_word Not (written_number n base) rest (number_begins n base (and_parts (is_small n) _ good).0)
-unary_ends Not (Name name) takes good rest = unary_before_word Not name rest (word_begins name (word_of_name name good))
+unary_ends Not (Name name) takes good rest = unary_before_word Not name rest (word_begins name (is_word-name name good))
 unary_ends Not (Unary Minus a) takes good rest = refl
 unary_ends Not (Unary Complement a) takes good rest = refl
 unary_ends Not (Unary Not a) takes good rest = refl
@@ -157,14 +127,14 @@ unary_ends Not (Unary AddressOf a) takes good rest = refl
 unary_ends Not (Binary operator a b) takes good rest = refl
 unary_ends Not (Conditional a b c) takes good rest = refl
 unary_ends Not (Cast type a) takes good rest = refl
-unary_ends AddressOf (Name name) takes good rest = unary_before_word AddressOf name rest (word_begins name (word_of_name name good))
+unary_ends AddressOf (Name name) takes good rest = unary_before_word AddressOf name rest (word_begins name (is_word-name name good))
 unary_ends AddressOf _ takes good rest = absurd cc
 
 -- the operand of a unary operator stands in parentheses where its tokens do
 operand_is : (operator : CUn) (a : Expr) → is_writable_expr a ≡ true → after_unary operator (in_parentheses (is_compound a) (written_expr a)) ≡ operand operator a
 operand_is Minus (Number n base) good =
     rw (no_minus (written_number n base) (number_begins n base (and_parts (is_small n) _ good).0)) refl
-operand_is Minus (Name name) good = rw (no_minus name (word_begins name (word_of_name name good))) refl
+operand_is Minus (Name name) good = rw (no_minus name (word_begins name (is_word-name name good))) refl
 operand_is Minus (Unary Minus a) good = refl
 operand_is Minus (Unary Complement a) good = refl
 operand_is Minus (Unary Not a) good = refl
@@ -222,7 +192,7 @@ variable_is base false name is = base_then base (λ rest fits. refl) (space_then
 -- a type and the name that has it are read
 pub variable_reads : {fresh : Bool} {at : ℕ} (type : CType) (name : Word) → is_name name ≡ true →
     Reads fresh at Inside (written_variable type name) (variable_tokens at type name)
-variable_reads type name is = variable_is type.base type.pointer name (word_of_name name is)
+variable_reads type name is = variable_is type.base type.pointer name (is_word-name name is)
 
 -- Expressions.
 
@@ -235,7 +205,7 @@ number_reads {fresh} {at} n base small =
 pub expr_reads : (e : Expr) → is_writable_expr e ≡ true → (at : ℕ) (fresh : Bool) →
     Reads fresh at Inside (written_expr e) (expr_tokens at e)
 expr_reads (Number n base) good at fresh = number_reads n base (and_parts (is_small n) _ good).0
-expr_reads (Name name) good at fresh = word_reads name (word_of_name name good)
+expr_reads (Name name) good at fresh = word_reads name (is_word-name name good)
 expr_reads (Unary operator a) good at fresh =
     let (takes, inner) = and_parts (may_take operator a) (is_writable_expr a) good in
     let inside = bracketed_reads (is_bracketed operator a) (expr_reads a inner at) false in
@@ -243,7 +213,7 @@ expr_reads (Unary operator a) good at fresh =
 expr_reads (Binary operator a b) good at fresh =
     let (left, right) = and_parts (is_writable_expr a) (is_writable_expr b) good in
     let second = bracketed_reads (is_compound b) (expr_reads b right at) false in
-    reads_then (bracketed_reads (is_compound a) (expr_reads a left at) fresh) (λ rest fits. refl) (space_then (mark_then (binary_mark operator) (binary_is operator) (λ rest fits. binary_ends operator (in_parentheses (is_compound b) (written_expr b) ++ rest)) (space_then second)))
+    reads_then (bracketed_reads (is_compound a) (expr_reads a left at) fresh) (λ rest fits. refl) (space_then (mark_then (binary_mark operator) (operator_is operator) (λ rest fits. operator_ends operator (in_parentheses (is_compound b) (written_expr b) ++ rest)) (space_then second)))
 expr_reads (Conditional a b c) good at fresh =
     let (first, others) = and_parts (is_writable_expr a) (is_writable_expr b && is_writable_expr c) good in
     let (second, third) = and_parts (is_writable_expr b) (is_writable_expr c) others in

@@ -16,11 +16,11 @@ use Rattle.dcc_c.specs.Placement.{behind_global}
 use Rattle.dcc_c.specs.Written.{written_size, written_class, written_local, written_param, written_params, written_head_params, written_head, written_function, written_functions, written_numbers, written_initial, written_global, written_place, written_globals, written_form}
 use Rattle.dcc_c.specs.Numbered.{rows, numbered_function}
 use Rattle.dcc_c.proofs.LexingLaws.{header_lexes}
-use Rattle.dcc_c.proofs.WrittenLaws.{is_free}
+use Rattle.dcc_c.proofs.WrittenLaws.{is_word-name, is_free}
 use Rattle.dcc_c.proofs.Writable.{is_small, is_small_if, is_writable_global, is_writable_param, is_local_class, is_writable_local, are_writable_lines, is_writable_function, IsWritable}
 use Rattle.dcc_c.proofs.WrittenTokens.{size_tokens, class_tokens, local_tokens, locals_tokens, param_tokens, some_params_tokens, params_tokens, head_tokens, function_tokens, functions_tokens, numbers_tokens, initial_tokens, global_tokens, place_tokens, globals_tokens, tree_tokens}
 use Rattle.dcc_c.proofs.WrittenReads.{Ending, Inside, Behind, Reads, nothing, space_then, reads_then, line_feed, no_line, lines_then, counted_as}
-use Rattle.dcc_c.proofs.WrittenExprs.{word_of_name, word_then, mark_then, lone_then, opening_then, closing_then, number_then, word_reads, variable_reads}
+use Rattle.dcc_c.proofs.WrittenExprs.{word_then, mark_then, lone_then, opening_then, closing_then, number_then, word_reads, variable_reads}
 use Rattle.dcc_c.proofs.WrittenParts.{at_start, indented_then, behind_rows, by_rows, semicolon_line, closing_line, pragma_reads, pragma_unless}
 use Rattle.dcc_c.proofs.WrittenStmts.{lines_read}
 
@@ -129,7 +129,7 @@ params_read (v ∷ params) good = some_params_read (v ∷ params) good
 head_reads : {at : ℕ} (result : Option CType) (name : Word) → is_name name ≡ true →
     Reads true at Inside (written_head result name) (head_tokens at result name)
 head_reads None name is =
-    word_then (codes "void") refl (λ rest fits. refl) (space_then (word_reads name (word_of_name name is)))
+    word_then (codes "void") refl (λ rest fits. refl) (space_then (word_reads name (is_word-name name is)))
 head_reads (Some type) name is = variable_reads type name is
 
 -- the end of a line before others

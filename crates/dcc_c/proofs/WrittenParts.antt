@@ -11,10 +11,12 @@ use Rattle.dcc_c.specs.Tree.{Word, Expr}
 use Rattle.dcc_c.specs.Grammar.{word, mark, is_name}
 use Rattle.dcc_c.specs.Written.{indented, written_depth, written_call, written_return, written_test, written_cases}
 use Rattle.dcc_c.specs.Numbered.{rows}
+use Rattle.dcc_c.proofs.WrittenLaws.{is_word-name}
 use Rattle.dcc_c.proofs.Writable.{is_small, is_value_if, is_writable_expr}
 use Rattle.dcc_c.proofs.WrittenTokens.{depth_tokens, call_tokens, return_tokens, test_tokens, cases_tokens}
-use Rattle.dcc_c.proofs.WrittenReads.{Ending, Behind, Reads, at_beginning, space_then, reads_then, line_feed, no_line, lines_then, counted_as, rows-append, decimal_flat}
-use Rattle.dcc_c.proofs.WrittenExprs.{word_of_name, word_then, mark_then, opening_then, closing_then, number_then, expr_reads, arguments_read}
+use Rattle.dcc_c.proofs.WrittenRows.{rows-append, decimal_flat}
+use Rattle.dcc_c.proofs.WrittenReads.{Ending, Behind, Reads, at_beginning, space_then, reads_then, line_feed, no_line, lines_then, counted_as}
+use Rattle.dcc_c.proofs.WrittenExprs.{word_then, mark_then, opening_then, closing_then, number_then, expr_reads, arguments_read}
 
 -- a part that can be read inside a line can be read at its beginning
 pub at_start : {fresh : Bool} {at : ℕ} {ending : Ending} {b : List ℕ} {g : List Placed → List Placed} →
@@ -67,7 +69,7 @@ pub call_reads : {at : ℕ} (function : Word) (arguments : List Expr) → is_nam
     list_all is_writable_expr arguments ≡ true →
     Reads false at (Behind (at + 1)) (written_call function arguments) (call_tokens at function arguments)
 call_reads {at} function arguments is good =
-    word_then function (word_of_name function is) (λ rest fits. refl) (opening_then (reads_then (arguments_read arguments good at) (λ rest fits. refl) (closing_then semicolon_line)))
+    word_then function (is_word-name function is) (λ rest fits. refl) (opening_then (reads_then (arguments_read arguments good at) (λ rest fits. refl) (closing_then semicolon_line)))
 
 pub return_reads : {at : ℕ} (value : Option Expr) → is_value_if value ≡ true →
     Reads false at (Behind (at + 1)) (written_return value) (return_tokens at value)

@@ -1,15 +1,10 @@
 -- Parts of a text that are read as tokens, and how they join.
-use Rattle.std.proofs.Common.{◌≡◌, ℕ, ◌+◌, ◌≤◌, ◌<◌, ◌%◌, Bool, true, false, ◌&&◌, not, ◌==◌, List, [], ◌∷◌, ◌++◌, refl, ap, sym, ◌∙◌, subst, append_assoc, arith, inl, inr, length}
-use Rattle.std.specs.Prelude.{nat_le}
-use Rattle.std.specs.List.{list_all, list_any}
-use Rattle.std.specs.Fmt.{decimal}
-use Rattle.std.proofs.lemmas.Bool.{and_parts, and_from, or_left, or_right, or_cases, eqb-true, leb-true, le-leb, cases_Bool}
-use Rattle.std.proofs.lemmas.List.Folds.{list_all-append}
-use Rattle.std.proofs.lemmas.Fmt.{decimal_by_steps}
-use Rattle.dcc_c.specs.Token.{Token, WordToken, Decimal, Hex, Mark, Pragma, Suffix, plain_number, unsigned_suffix, long_suffix, unsigned_long_suffix, suffix_bytes, is_word, is_letter, is_digit, is_word_byte, marks, same_bytes, Spells, ends_before}
+use Rattle.std.proofs.Common.{◌≡◌, ℕ, ◌+◌, Bool, true, false, List, [], ◌∷◌, ◌++◌, refl, sym, ◌∙◌, subst, append_assoc, arith}
+use Rattle.dcc_c.specs.Token.{Token, ends_before}
 use Rattle.dcc_c.specs.Lexing.{Placed, placed, Lexes, ends, blank, feed, token}
 use Rattle.dcc_c.specs.Numbered.{rows}
-use Rattle.dcc_c.proofs.LexingLaws.{spelling, is_spelled}
+use Rattle.dcc_c.proofs.LexingLaws.{spelling, is_spelled, spelled}
+use Rattle.dcc_c.proofs.WrittenRows.{rows-append, spelling_flat}
 use Rattle.dcc_c.proofs.WrittenLaws.{is_free}
 
 -- how a part ends: inside its line, or with a line feed, behind which a line begins
@@ -38,112 +33,6 @@ pub record Reads (fresh : Bool) (at : ℕ) (ending : Ending) (bytes : List ℕ) 
       Lexes fresh at (bytes ++ rest) (tokens others)
   pub counted : Counts ending at (rows bytes)
 
--- Line feeds.
-
-pub rows-append : (a b : List ℕ) → rows (a ++ b) ≡ rows a + rows b
-rows-append [] b = omega arith
-rows-append (x ∷ a) b = elim (cases_Bool (x == 10)) [
-  | inl is ↦ rw (is, rows-append a b) (omega arith)
-  | inr not ↦ rw (not, rows-append a b) refl
-]
-
--- a byte of words is no line feed
-no_feed : (b : ℕ) → is_word_byte b ≡ true → (b == 10) ≡ false
-no_feed b is = elim (cases_Bool (b == 10)) [
-  | inl feeds ↦ absurd (impossible (subst (λ x. is_word_byte x ≡ true) (eqb-true b 10 feeds) is))
-  | inr not ↦ not
-]
-  where
-    impossible : is_word_byte 10 ≡ true → ⊥
-    impossible e = cc
-
--- bytes of words have no line feed
-pub word_rows : (bytes : List ℕ) → list_all is_word_byte bytes ≡ true → rows bytes ≡ 0
-word_rows [] all = refl
-word_rows (b ∷ bytes) all =
-    let (here, others) = and_parts (is_word_byte b) (list_all is_word_byte bytes) all in
-    rw (no_feed b here) (word_rows bytes others)
-
--- a word and a number have no line feed
-pub word_flat : (word : List ℕ) → is_word word ≡ true → rows word ≡ 0
-word_flat [] is = absurd cc
-word_flat (b ∷ bytes) is =
-    let (letter, others) = and_parts (is_letter b) (list_all is_word_byte bytes && nat_le (length bytes) 30) is in
-    let (all, short) = and_parts (list_all is_word_byte bytes) (nat_le (length bytes) 30) others in
-    word_rows (b ∷ bytes) (and_from _ _ (or_left (is_letter b) (is_digit b) letter) all)
-
--- the bytes are digits, and there is one
-abbrev pub begins_with_digit : List ℕ → Bool
-begins_with_digit [] = false
-begins_with_digit (b ∷ bytes) = is_digit b
-
-abbrev are_digits : List ℕ → Bool
-are_digits bytes = list_all is_digit bytes && begins_with_digit bytes
-
-digit_is : (n : ℕ) → n < 10 → is_digit (48 + n) ≡ true
-digit_is n small = and_from _ _ (le-leb 48 (48 + n) (omega arith)) (le-leb (48 + n) 57 (omega arith))
-
-begins_still : (bytes others : List ℕ) → begins_with_digit bytes ≡ true → begins_with_digit (bytes ++ others) ≡ true
-begins_still [] others begins = absurd cc
-begins_still (b ∷ bytes) others begins = begins
-
-decimal_digits : (n : ℕ) → n ≤ 4294967295 → are_digits (decimal n) ≡ true
-decimal_digits n small = decimal_by_steps (λ n ds. are_digits ds ≡ true) one more n (omega arith)
-  where
-    one : (n : ℕ) → n < 10 → are_digits ((48 + n) ∷ []) ≡ true
-    one n small = rw (digit_is n small) refl
-
-    more : (n : ℕ) (ds : List ℕ) → 10 ≤ n → are_digits ds ≡ true → are_digits (ds ++ (48 + n % 10) ∷ []) ≡ true
-    more n ds large are =
-        let (all, begins) = and_parts (list_all is_digit ds) (begins_with_digit ds) are in
-        and_from _ _ (list_all-append is_digit ds ((48 + n % 10) ∷ []) ∙ and_from _ _ all (rw (digit_is (n % 10) (omega arith)) refl)) (begins_still ds _ begins)
-
-digit_bytes : (bytes : List ℕ) → list_all is_digit bytes ≡ true → list_all is_word_byte bytes ≡ true
-digit_bytes [] all = refl
-digit_bytes (b ∷ bytes) all =
-    let (here, others) = and_parts (is_digit b) (list_all is_digit bytes) all in
-    and_from _ _ (or_right (is_letter b) (is_digit b) here) (digit_bytes bytes others)
-
-pub decimal_begins : (n : ℕ) → n ≤ 4294967295 → begins_with_digit (decimal n) ≡ true
-decimal_begins n small =
-    (and_parts (list_all is_digit (decimal n)) (begins_with_digit (decimal n)) (decimal_digits n small)).1
-
-pub decimal_flat : (n : ℕ) → n ≤ 4294967295 → rows (decimal n) ≡ 0
-decimal_flat n small =
-    word_rows (decimal n) (digit_bytes (decimal n) (and_parts (list_all is_digit (decimal n)) (begins_with_digit (decimal n)) (decimal_digits n small)).0)
-
-suffix_flat : (suffix : Suffix) → rows (suffix_bytes suffix) ≡ 0
-suffix_flat plain_number = refl
-suffix_flat unsigned_suffix = refl
-suffix_flat long_suffix = refl
-suffix_flat unsigned_long_suffix = refl
-
-pub same_bytes-true : (xs ys : List ℕ) → same_bytes xs ys ≡ true → xs ≡ ys
-same_bytes-true [] [] same = refl
-same_bytes-true [] (y ∷ ys) same = absurd cc
-same_bytes-true (x ∷ xs) [] same = absurd cc
-same_bytes-true (x ∷ xs) (y ∷ ys) same =
-    let (here, others) = and_parts (x == y) (same_bytes xs ys) same in
-    rw (eqb-true x y here, same_bytes-true xs ys others) refl
-
-among_flat : (bytes : List ℕ) (words : List (List ℕ)) → list_any (same_bytes bytes) words ≡ true →
-    list_all (λ word. rows word == 0) words ≡ true → rows bytes ≡ 0
-among_flat bytes [] is flat = absurd cc
-among_flat bytes (word ∷ words) is flat =
-    let (here, others) = and_parts (rows word == 0) (list_all (λ w. rows w == 0) words) flat in
-    elim (or_cases (same_bytes bytes word) (list_any (same_bytes bytes) words) is) [
-      | inl same ↦ ap rows (same_bytes-true bytes word same) ∙ eqb-true (rows word) 0 here
-      | inr later ↦ among_flat bytes words later others
-    ]
-
-spelling_flat : (read : Token) → is_spelled read ≡ true → rows (spelling read) ≡ 0
-spelling_flat (WordToken word) good = word_flat word good
-spelling_flat (Decimal n suffix) good =
-    rows-append (decimal n) (suffix_bytes suffix) ∙ rw (decimal_flat n (leb-true n 4294967295 good), suffix_flat suffix) refl
-spelling_flat (Mark mark) good = among_flat mark marks good refl
-spelling_flat (Hex n suffix) good = absurd cc
-spelling_flat (Pragma head) good = absurd cc
-
 -- Joining.
 
 -- what can be read inside a line can be read at its beginning
@@ -153,13 +42,6 @@ at_beginning ends = ends
 at_beginning (blank is then) = blank is then
 at_beginning (feed then) = feed then
 at_beginning (token read spelled rest is apart joined then) = token read spelled rest is apart joined then
-
-spelled : (read : Token) → is_spelled read ≡ true → Spells (spelling read) read
-spelled (WordToken word) good = (refl, good)
-spelled (Decimal n suffix) good = (refl, leb-true n 4294967295 good)
-spelled (Mark mark) good = (refl, good)
-spelled (Hex n suffix) good = absurd cc
-spelled (Pragma head) good = absurd cc
 
 -- the count does not change where bytes without a line feed stand before
 count_behind : (ending : Ending) (at : ℕ) (a b : List ℕ) → rows a ≡ 0 → Counts ending at (rows b) →

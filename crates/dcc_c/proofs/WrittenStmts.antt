@@ -9,10 +9,11 @@ use Rattle.dcc_c.specs.Lexing.{Placed}
 use Rattle.dcc_c.specs.Grammar.{word, mark, is_name, Around, in_block, in_loop, in_switch, has_arm}
 use Rattle.dcc_c.specs.Written.{depth_behind, next_depth, written_expr, written_stmt, written_lines, written_arms, written_default}
 use Rattle.dcc_c.specs.Numbered.{rows}
+use Rattle.dcc_c.proofs.WrittenLaws.{is_word-name}
 use Rattle.dcc_c.proofs.Writable.{is_small, is_place, is_writable_expr, is_writable_place, is_place_if, is_label, are_cases, has_no_case, is_writable_stmt, are_writable_lines, are_writable_arms, is_writable_default}
 use Rattle.dcc_c.proofs.WrittenTokens.{expr_tokens, stmt_tokens, lines_tokens, arms_tokens, default_tokens}
 use Rattle.dcc_c.proofs.WrittenReads.{Behind, Reads, space_then, reads_then, no_line, lines_then, counted_as}
-use Rattle.dcc_c.proofs.WrittenExprs.{word_of_name, word_then, mark_then, opening_then, closing_then, expr_reads}
+use Rattle.dcc_c.proofs.WrittenExprs.{word_then, mark_then, opening_then, closing_then, expr_reads}
 use Rattle.dcc_c.proofs.WrittenRows.{stmt_rows, lines_rows, arms_rows, default_rows}
 use Rattle.dcc_c.proofs.WrittenParts.{indented_then, behind_rows, semicolon_line, colon_line, brace_line, closing_line, word_line, call_reads, return_reads, test_reads, depth_reads, cases_read}
 
@@ -164,9 +165,9 @@ mutual
   stmt_reads Continue around good braces depth at =
       whole braces depth Continue refl (indented_then braces (word_line (codes "continue") refl))
   stmt_reads (Goto name) around good braces depth at =
-      whole braces depth (Goto name) refl (indented_then braces (word_then (codes "goto") refl (λ rest fits. refl) (space_then (word_line name (word_of_name name good)))))
+      whole braces depth (Goto name) refl (indented_then braces (word_then (codes "goto") refl (λ rest fits. refl) (space_then (word_line name (is_word-name name good)))))
   stmt_reads (Label name) around good braces depth at =
-      whole braces depth (Label name) refl (indented_then 0 (word_then name (word_of_name name good) (λ rest fits. refl) colon_line))
+      whole braces depth (Label name) refl (indented_then 0 (word_then name (is_word-name name good) (λ rest fits. refl) colon_line))
   stmt_reads Empty around good braces depth at =
       whole braces depth Empty refl (indented_then braces semicolon_line)
   stmt_reads (Return value) around good braces depth at =
