@@ -156,12 +156,12 @@ lower : (k : ℕ) {s : ℕ} {tokens rest : List Placed} {e : Expr} → IsExpr (a
 lower zero is = is
 lower (suc k) is = lower k (stronger is)
 
-to_zero : (k : ℕ) {tokens rest : List Placed} {e : Expr} → IsExpr k tokens e rest → IsExpr 0 tokens e rest
+pub to_zero : (k : ℕ) {tokens rest : List Placed} {e : Expr} → IsExpr k tokens e rest → IsExpr 0 tokens e rest
 to_zero zero is = is
 to_zero (suc k) is = to_zero k (stronger is)
 
 -- a unary part is an operand of each operator
-as_operand : (operator : CBin) {tokens rest : List Placed} {e : Expr} → IsExpr 11 tokens e rest → IsExpr (suc (strength operator)) tokens e rest
+pub as_operand : (operator : CBin) {tokens rest : List Placed} {e : Expr} → IsExpr 11 tokens e rest → IsExpr (suc (strength operator)) tokens e rest
 as_operand OrOr is = lower 9 is
 as_operand operator is = lower (10 - strength operator) is
 
