@@ -17,3 +17,9 @@ pub mod PlainLaws
 mod Examples
 pub mod TypingLaws
 pub mod WrittenTokens
+pub mod WrittenReads
+pub mod WrittenExprs
+pub mod WrittenRows
+pub mod WrittenParts
+pub mod WrittenStmts
+pub mod WrittenLexes
