@@ -23,3 +23,4 @@ pub mod WrittenRows
 pub mod WrittenParts
 pub mod WrittenStmts
 pub mod WrittenLexes
+pub mod PrintLaws
