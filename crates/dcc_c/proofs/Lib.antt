@@ -24,3 +24,4 @@ pub mod WrittenParts
 pub mod WrittenStmts
 pub mod WrittenLexes
 pub mod PrintLaws
+pub mod NumberedForm

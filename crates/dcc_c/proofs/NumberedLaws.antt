@@ -26,7 +26,7 @@ module _ {A : Type 0} (part : Stmt → A) (same : (depth at : ℕ) (stmt : Stmt)
     same_lines (line stmt was lines) depth at =
         ap₂ (λ s l. s ∷ l) (same _ _ stmt) (both_same _ _ (inner_stmts stmt) (stmts_in lines) (same_inner stmt _ _) (same_lines lines _ _))
 
-    same_inner : (stmt : Stmt) (depth at : ℕ) → map part (inner_stmts (numbered_stmt depth at stmt)) ≡ map part (inner_stmts stmt)
+    pub same_inner : (stmt : Stmt) (depth at : ℕ) → map part (inner_stmts (numbered_stmt depth at stmt)) ≡ map part (inner_stmts stmt)
     same_inner (If e body otherwise) depth at =
         both_same _ _ (stmts_in body) (stmts_in otherwise) (same_lines body _ _) (same_lines otherwise _ _)
     same_inner (While e body) depth at = same_lines body _ _
@@ -36,12 +36,12 @@ module _ {A : Type 0} (part : Stmt → A) (same : (depth at : ℕ) (stmt : Stmt)
         both_same _ _ (arm_stmts arms) (arm_stmts last) (same_arms arms _ _) (same_last last _ _)
     same_inner _ depth at = refl
 
-    same_arms : (arms : Arms) (depth at : ℕ) → map part (arm_stmts (numbered_arms depth at arms)) ≡ map part (arm_stmts arms)
+    pub same_arms : (arms : Arms) (depth at : ℕ) → map part (arm_stmts (numbered_arms depth at arms)) ≡ map part (arm_stmts arms)
     same_arms no_arms depth at = refl
     same_arms (arm cases body arms) depth at =
         both_same _ _ (stmts_in body) (arm_stmts arms) (same_lines body _ _) (same_arms arms _ _)
 
-    same_last : (arms : Arms) (depth at : ℕ) → map part (arm_stmts (numbered_default depth at arms)) ≡ map part (arm_stmts arms)
+    pub same_last : (arms : Arms) (depth at : ℕ) → map part (arm_stmts (numbered_default depth at arms)) ≡ map part (arm_stmts arms)
     same_last no_arms depth at = refl
     same_last (arm cases body arms) depth at =
         both_same _ _ (stmts_in body) (arm_stmts arms) (same_lines body _ _) refl
