@@ -1,22 +1,20 @@
 -- The tokens of expressions in the written form are read as the expressions.
-use Rattle.std.proofs.Common.{◌≡◌, ℕ, zero, suc, ◌+◌, ◌-◌, ◌≤◌, Bool, true, false, ◌&&◌, ◌||◌, not, if◌then◌else◌, List, [], ◌∷◌, ◌++◌, map, Option, Some, None, refl, ap, sym, ◌∙◌, subst, arith}
-use Rattle.std.specs.Prelude.{codes, nat_le}
+use Rattle.std.proofs.Common.{◌≡◌, ℕ, zero, suc, Bool, true, false, ◌&&◌, List, [], ◌∷◌, ◌++◌, map, refl, ap, sym, ◌∙◌, subst}
+use Rattle.std.specs.Prelude.{codes}
 use Rattle.std.specs.List.{list_all}
 use Rattle.std.proofs.lemmas.Bool.{and_parts, or_parts, eqb-true}
 use Rattle.dcc_c.specs.declared.syntax.Base.{Base}
 use Rattle.dcc_c.specs.declared.syntax.Base.TheVariants.{Schar, Uchar, Int, Uint, Long, Ulong}
-use Rattle.dcc_c.specs.declared.syntax.CType.{CType}
 use Rattle.dcc_c.specs.declared.syntax.CUn.{CUn}
 use Rattle.dcc_c.specs.declared.syntax.CUn.TheVariants.{Minus, Deref}
-use Rattle.dcc_c.specs.declared.syntax.CBin.{CBin}
 use Rattle.dcc_c.specs.declared.syntax.CBin.TheVariants.{OrOr}
 use Rattle.dcc_c.specs.Token.{Token, Decimal, decimal_type}
 use Rattle.dcc_c.specs.Lexing.{Placed, placed}
 use Rattle.dcc_c.specs.Types.{place_of, same_base}
 use Rattle.dcc_c.specs.Tree.{Word, Expr, Number, Name, Unary, Binary, Conditional, Cast}
-use Rattle.dcc_c.specs.Grammar.{mark, is_name, binary_mark, strength, type_tokens, Begins, none, one, IsExpr, decimal, number, name, parentheses, unary, cast, binary, conditional, stronger, IsPlace, name_place, deref_place, AreArguments, no_argument, last_argument, more_arguments, IsCall, call}
+use Rattle.dcc_c.specs.Grammar.{mark, is_name, strength, type_tokens, Begins, none, one, IsExpr, decimal, number, name, parentheses, unary, cast, binary, conditional, stronger, IsPlace, name_place, deref_place, AreArguments, no_argument, last_argument, more_arguments, IsCall, call}
 use Rattle.dcc_c.specs.Written.{suffix_for, suffix_gives, is_compound}
-use Rattle.dcc_c.proofs.Writable.{is_small, may_take, is_writable_expr, is_place, is_writable_place}
+use Rattle.dcc_c.proofs.Writable.{is_small, may_take, is_writable_expr, is_writable_place}
 use Rattle.dcc_c.proofs.WrittenTokens.{bracketed, is_negation, is_bracketed, expr_tokens, arguments_tokens, call_tokens}
 use Rattle.dcc_c.proofs.WrittenLaws.{to_zero, as_operand}
 

@@ -1,19 +1,19 @@
 -- The tokens of statements in the written form are read as the numbered statements.
-use Rattle.std.proofs.Common.{◌≡◌, ◌⊎◌, ℕ, zero, suc, ◌+◌, ◌-◌, ◌≤◌, Bool, true, false, ◌&&◌, ◌||◌, not, if◌then◌else◌, List, [], ◌∷◌, ◌++◌, map, length, Option, Some, None, refl, ap, sym, ◌∙◌, subst, arith, append-nil, true≢false}
+use Rattle.std.proofs.Common.{◌≡◌, ℕ, ◌+◌, ◌≤◌, Bool, true, false, ◌&&◌, ◌||◌, if◌then◌else◌, List, [], ◌∷◌, ◌++◌, length, Option, Some, None, refl, ap, sym, ◌∙◌, subst, arith, append-nil, true≢false}
 use Rattle.std.specs.Prelude.{codes, nat_le, ◌==◌}
 use Rattle.std.specs.List.{list_all}
 use Rattle.std.proofs.lemmas.Bool.{and_parts, eqb-true, leb-true}
 use Rattle.dcc_c.specs.declared.syntax.CUn.TheVariants.{Deref}
-use Rattle.dcc_c.specs.Token.{Token, WordToken, Mark, Decimal, Pragma, plain_number, depth_line}
+use Rattle.dcc_c.specs.Token.{Token, Decimal, Pragma, plain_number, depth_line}
 use Rattle.dcc_c.specs.Lexing.{Placed, placed}
-use Rattle.dcc_c.specs.Tree.{Word, Expr, Number, Name, Unary, Stmt, Assign, Call, If, While, DoWhile, Forever, Switch, Break, Continue, Goto, Label, Empty, Return, Lines, no_lines, line, Arms, no_arms, arm}
+use Rattle.dcc_c.specs.Tree.{Word, Expr, Name, Unary, Stmt, Assign, Call, If, While, DoWhile, Forever, Switch, Break, Continue, Goto, Label, Empty, Return, Lines, no_lines, line, Arms, no_arms, arm}
 use Rattle.dcc_c.specs.Parts.{stmts_in, inner_stmts, arm_stmts}
-use Rattle.dcc_c.specs.Grammar.{word, mark, is_name, none, one, Around, in_block, in_loop, in_switch, plain_decimal, AreCases, last_case, more_cases, has_arm, IsPlace, IsStmt, assign, call_alone, call_into, if_alone, if_else, while, do_while, for_ever, switch, break, continue, goto, empty, return_nothing, return_value, IsBlock, block, AreLines, no_more, depth_pragma, label, statement, AreArms, no_arm, case_arm, default_arm}
+use Rattle.dcc_c.specs.Grammar.{word, mark, is_name, none, one, Around, in_block, in_loop, in_switch, plain_decimal, AreCases, last_case, more_cases, has_arm, IsStmt, assign, call_alone, call_into, if_alone, if_else, while, do_while, for_ever, switch, break, continue, goto, empty, return_nothing, return_value, IsBlock, block, AreLines, no_more, depth_pragma, label, statement, AreArms, no_arm, case_arm, default_arm}
 use Rattle.dcc_c.specs.Written.{depth_behind, next_depth, written_depth, written_stmt, written_lines, written_arms, written_default}
 use Rattle.dcc_c.specs.Numbered.{rows, numbered_stmt, numbered_lines, numbered_arms, numbered_default}
-use Rattle.dcc_c.proofs.Writable.{is_writable_expr, is_place, is_writable_place, is_place_if, is_value_if, is_label, are_cases, has_no_case, is_small, is_writable_stmt, are_writable_lines, are_writable_arms, is_writable_default}
-use Rattle.dcc_c.proofs.WrittenTokens.{expr_tokens, depth_tokens, cases_tokens, stmt_tokens, lines_tokens, arms_tokens, default_tokens}
-use Rattle.dcc_c.proofs.FormedExprs.{expr_formed, place_formed, arguments_formed, call_formed}
+use Rattle.dcc_c.proofs.Writable.{is_writable_expr, is_writable_place, is_label, are_cases, is_small, is_writable_stmt, are_writable_lines, are_writable_arms, is_writable_default}
+use Rattle.dcc_c.proofs.WrittenTokens.{expr_tokens, cases_tokens, stmt_tokens, lines_tokens, arms_tokens, default_tokens}
+use Rattle.dcc_c.proofs.FormedExprs.{expr_formed, place_formed, call_formed}
 
 -- Depth.
 
@@ -130,7 +130,7 @@ plain_line stmt was lines other first later around labelled depth at rest good j
     let (here_good, later_good) = and_parts (is_writable_stmt around stmt) (are_writable_lines around (is_label stmt) lines) parts in
     let tokens : List Placed = lines_tokens between behind lines rest in
     let later_formed : AreLines 200 around false between tokens (numbered_lines between behind lines) (depth_behind between (stmts_in lines)) rest =
-        later around false between behind rest (subst (λ b. are_writable_lines around b lines ≡ true) other later_good) (λ f. absurd cc) in
+    later around false between behind rest (subst (λ b. are_writable_lines around b lines ≡ true) other later_good) (λ f. absurd cc) in
     let stmt_is = first around own here tokens here_good other (is_own depth stmt was lines other) in
     let formed = first_statement {labelled = labelled} (stmt_starts stmt around here_good own here tokens) (leb-true _ _ small) stmt_is later_formed in
     let Q : ℕ → Type 0 = λ after. AreLines 200 around labelled own (stmt_tokens own here stmt tokens) (line (numbered_stmt own here stmt) here (numbered_lines between behind lines)) after rest in
@@ -278,7 +278,7 @@ switch_formed e arms last first second around depth at rest good other own =
     let P : ℕ → Type 0 = λ d. AreArms 200 (in_switch around) d (default_tokens behind before_default in_default last closing) no_arms (numbered_default behind in_default last) after closing in
     let arms_are = first (in_switch around) depth (at + 1) after (default_tokens behind before_default in_default last closing) closing (numbered_default behind in_default last) arms_good (subst P here default_is) in
     let either : (has_arm (numbered_arms depth (at + 1) arms) || has_arm (numbered_default behind in_default last)) ≡ true =
-        rw (has_arm_numbered depth (at + 1) arms, has_default_numbered behind in_default last) some in
+    rw (has_arm_numbered depth (at + 1) arms, has_default_numbered behind in_default last) some in
     let Q : ℕ → Type 0 = λ d. IsStmt 200 around depth (stmt_tokens depth at (Switch e arms last) rest) (numbered_stmt depth at (Switch e arms last)) d rest in
     subst Q (ap (λ d. depth_behind d (arm_stmts last)) here ∙ sym (depth_behind-append (arm_stmts arms) (arm_stmts last) depth)) (switch (expr_formed e tested at _) arms_are either)
 

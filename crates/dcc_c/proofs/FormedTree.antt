@@ -1,5 +1,5 @@
 -- The tokens of a tree's written form are a text of the grammar that has the numbered tree.
-use Rattle.std.proofs.Common.{◌≡◌, ℕ, zero, suc, ◌+◌, ◌≤◌, Bool, true, false, ◌&&◌, not, if◌then◌else◌, List, [], ◌∷◌, ◌++◌, map, length, Option, Some, None, is_some, refl, ap, sym, ◌∙◌, subst, arith, true≢false}
+use Rattle.std.proofs.Common.{◌≡◌, ℕ, suc, ◌+◌, Bool, true, false, ◌&&◌, not, if◌then◌else◌, List, [], ◌∷◌, length, Option, Some, None, is_some, refl, sym, subst, arith}
 use Rattle.std.specs.Prelude.{codes, nat_le, ◌==◌}
 use Rattle.std.specs.List.{list_all}
 use Rattle.std.proofs.lemmas.Bool.{and_parts, eqb-true, leb-true}
@@ -11,10 +11,10 @@ use Rattle.dcc_c.specs.Lexing.{Placed, placed}
 use Rattle.dcc_c.specs.Tree.{Word, Global, Variable, Function, Tree}
 use Rattle.dcc_c.specs.Placement.{elements, behind_global}
 use Rattle.dcc_c.specs.Parts.{stmts_in}
-use Rattle.dcc_c.specs.Grammar.{word, mark, is_name, type_tokens, outermost, HasSize, no_size, size, AreNumbers, last_number, more_numbers, AreInitial, no_value, one_value, values, IsGlobal, AreGlobals, no_global, placed_at, one_global, HasClass, no_class, auto_class, register_class, IsParam, AreSomeParams, last_param, more_params, AreParams, no_param, some_params, IsLocalClass, plain_local, array_local, auto_local, IsLocal, AreLocals, no_local, one_local, HasResult, no_result, result, IsFunction, AreFunctions, last_function, more_functions, IsUnit}
-use Rattle.dcc_c.specs.Rules.{has_element, allows_global, IsAllowed}
+use Rattle.dcc_c.specs.Grammar.{word, mark, is_name, type_tokens, outermost, HasSize, no_size, size, AreNumbers, last_number, more_numbers, AreInitial, no_value, one_value, values, IsGlobal, AreGlobals, no_global, placed_at, one_global, HasClass, no_class, auto_class, register_class, IsParam, AreSomeParams, last_param, more_params, AreParams, no_param, some_params, IsLocalClass, plain_local, auto_local, IsLocal, AreLocals, no_local, one_local, HasResult, no_result, result, IsFunction, AreFunctions, last_function, more_functions, IsUnit}
+use Rattle.dcc_c.specs.Rules.{has_element, allows_global}
 use Rattle.dcc_c.specs.Written.{depth_behind, written_lines, written_place, written_globals}
-use Rattle.dcc_c.specs.Numbered.{rows, numbered_lines, numbered_function, numbered_functions, numbered}
+use Rattle.dcc_c.specs.Numbered.{rows, numbered_function, numbered_functions, numbered}
 use Rattle.dcc_c.proofs.Writable.{is_small, is_small_if, is_writable_global, is_writable_param, is_local_class, is_writable_local, is_writable_function, are_writable_lines, IsWritable}
 use Rattle.dcc_c.proofs.WrittenTokens.{variable_tokens, size_tokens, class_tokens, local_tokens, locals_tokens, param_tokens, some_params_tokens, params_tokens, head_tokens, function_tokens, functions_tokens, numbers_tokens, initial_tokens, global_tokens, place_tokens, globals_tokens, tree_tokens}
 use Rattle.dcc_c.proofs.FormedExprs.{begins_formed}

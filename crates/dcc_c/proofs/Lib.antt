@@ -25,3 +25,4 @@ pub mod WrittenStmts
 pub mod WrittenLexes
 pub mod PrintLaws
 pub mod NumberedForm
+pub mod NumberedTwice

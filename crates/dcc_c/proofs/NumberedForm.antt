@@ -1,16 +1,13 @@
 -- Numbering the lines of a tree changes neither its written form nor what numbering gives.
-use Rattle.std.proofs.Common.{◌≡◌, ℕ, zero, suc, ◌+◌, ◌≤◌, Bool, true, false, ◌&&◌, ◌||◌, not, if◌then◌else◌, List, [], ◌∷◌, ◌++◌, map, length, Option, Some, None, refl, ap, ap₂, sym, ◌∙◌, subst, arith, append-nil}
-use Rattle.std.specs.Prelude.{codes, nat_le, ◌==◌}
-use Rattle.std.specs.List.{list_all, flat_map}
+use Rattle.std.proofs.Common.{◌≡◌, ℕ, ◌+◌, Bool, true, false, List, [], ◌∷◌, ◌++◌, map, length, Option, Some, None, refl, ap, ap₂, sym, ◌∙◌, append-nil}
+use Rattle.std.specs.Prelude.{codes}
+use Rattle.std.specs.List.{flat_map}
 use Rattle.std.specs.Fmt.{decimal}
-use Rattle.std.proofs.lemmas.List.{map-append}
-use Rattle.dcc_c.specs.Tree.{Word, Expr, Stmt, Assign, Call, If, While, DoWhile, Forever, Switch, Break, Continue, Goto, Label, Empty, Return, Lines, no_lines, line, Arms, no_arms, arm, Function, Tree}
+use Rattle.dcc_c.specs.Tree.{Expr, Stmt, Call, If, While, DoWhile, Forever, Switch, Label, Lines, no_lines, line, Arms, no_arms, arm, Function, Tree}
 use Rattle.dcc_c.specs.Parts.{stmts_in, inner_stmts, arm_stmts}
-use Rattle.dcc_c.specs.Grammar.{Around, in_block, in_loop, in_switch, has_arm, outermost}
-use Rattle.dcc_c.specs.Written.{written_expr, indented, written_test, written_local, written_head, written_head_params, depth_behind, next_depth, written_depth, written_cases, written_stmt, written_else, written_lines, written_arms, written_default, written_function, written_functions, written_globals, written_form}
+use Rattle.dcc_c.specs.Written.{written_expr, indented, written_test, written_local, written_head, written_head_params, depth_behind, next_depth, written_depth, written_cases, written_stmt, written_lines, written_arms, written_default, written_function, written_functions, written_globals, written_form}
 use Rattle.dcc_c.specs.Numbered.{rows, numbered_stmt, numbered_lines, numbered_arms, numbered_default, numbered_function, numbered_functions, numbered}
-use Rattle.dcc_c.proofs.Writable.{is_label, is_writable_expr, are_cases, has_no_case, is_writable_stmt, are_writable_lines, are_writable_arms, is_writable_default, is_writable_function, IsWritable}
-use Rattle.dcc_c.proofs.NumberedLaws.{same_lines, same_inner, same_arms, same_last, numbered_allowed}
+use Rattle.dcc_c.proofs.NumberedLaws.{same_lines, same_inner, same_arms}
 
 -- Depth.
 
@@ -39,18 +36,18 @@ call_depth-same depth at _ = refl
 same_behind : (first second : List Stmt) → map call_depth first ≡ map call_depth second → (depth : ℕ) → depth_behind depth first ≡ depth_behind depth second
 same_behind first second same depth = behind_last first depth ∙ ap (last_depth depth) same ∙ sym (behind_last second depth)
 
-behind_lines : (lines : Lines) (depth at own : ℕ) → depth_behind own (stmts_in (numbered_lines depth at lines)) ≡ depth_behind own (stmts_in lines)
+pub behind_lines : (lines : Lines) (depth at own : ℕ) → depth_behind own (stmts_in (numbered_lines depth at lines)) ≡ depth_behind own (stmts_in lines)
 behind_lines lines depth at own = same_behind _ (stmts_in lines) (same_lines call_depth call_depth-same lines depth at) own
 
-behind_arms : (arms : Arms) (depth at own : ℕ) → depth_behind own (arm_stmts (numbered_arms depth at arms)) ≡ depth_behind own (arm_stmts arms)
+pub behind_arms : (arms : Arms) (depth at own : ℕ) → depth_behind own (arm_stmts (numbered_arms depth at arms)) ≡ depth_behind own (arm_stmts arms)
 behind_arms arms depth at own = same_behind _ (arm_stmts arms) (same_arms call_depth call_depth-same arms depth at) own
 
-behind_stmt : (stmt : Stmt) (depth at own : ℕ) → depth_behind own (numbered_stmt depth at stmt ∷ inner_stmts (numbered_stmt depth at stmt)) ≡ depth_behind own (stmt ∷ inner_stmts stmt)
+pub behind_stmt : (stmt : Stmt) (depth at own : ℕ) → depth_behind own (numbered_stmt depth at stmt ∷ inner_stmts (numbered_stmt depth at stmt)) ≡ depth_behind own (stmt ∷ inner_stmts stmt)
 behind_stmt stmt depth at own =
     same_behind (numbered_stmt depth at stmt ∷ inner_stmts (numbered_stmt depth at stmt)) (stmt ∷ inner_stmts stmt)
     (ap₂ (λ s l. s ∷ l) (call_depth-same depth at stmt) (same_inner call_depth call_depth-same stmt depth at)) own
 
-next_same : (lines : Lines) (depth at own : ℕ) → next_depth own (numbered_lines depth at lines) ≡ next_depth own lines
+pub next_same : (lines : Lines) (depth at own : ℕ) → next_depth own (numbered_lines depth at lines) ≡ next_depth own lines
 next_same no_lines depth at own = refl
 next_same (line (Label name) was lines) depth at own = next_same lines _ _ own
 next_same (line (Call place function arguments deep) was lines) depth at own = refl
@@ -96,7 +93,7 @@ switch_written : (e : Expr) (arms last : Arms) (depth at behind second braces ow
 switch_written e arms last depth at behind second braces own first later =
     let old = depth_behind own (inner_stmts (Switch e arms no_arms)) in
     let deep : depth_behind own (inner_stmts (Switch e (numbered_arms depth at arms) no_arms)) ≡ old =
-        ap (depth_behind own) (append-nil (arm_stmts (numbered_arms depth at arms))) ∙ behind_arms arms depth at own ∙ ap (depth_behind own) (sym (append-nil (arm_stmts arms)))
+    ap (depth_behind own) (append-nil (arm_stmts (numbered_arms depth at arms))) ∙ behind_arms arms depth at own ∙ ap (depth_behind own) (sym (append-nil (arm_stmts arms)))
     in
     ap₂ (λ a d. indented braces (written_test (codes "switch") e) ++ (a ++ (written_default (1 + braces) d (numbered_default behind second last) ++ indented braces (codes "}\n")))) first deep
     ∙ ap (λ l. indented braces (written_test (codes "switch") e) ++ (written_arms (1 + braces) own arms ++ (l ++ indented braces (codes "}\n")))) (later old)
@@ -124,7 +121,7 @@ arm_written cases body was arms others braces own first deep later =
     ∙ ap (λ l. written_cases braces cases ++ (written_lines braces own was ++ (indented braces (codes "break;\n") ++ l))) (later (depth_behind own (stmts_in was)))
 
 mutual
-  stmt_written : (stmt : Stmt) (depth at braces own : ℕ) → written_stmt braces own (numbered_stmt depth at stmt) ≡ written_stmt braces own stmt
+  pub stmt_written : (stmt : Stmt) (depth at braces own : ℕ) → written_stmt braces own (numbered_stmt depth at stmt) ≡ written_stmt braces own stmt
   stmt_written (If e body otherwise) depth at braces own =
       let first = lines_written body depth (at + 1) (1 + braces) own in
       let between = depth_behind depth (stmts_in body) in
@@ -144,7 +141,7 @@ mutual
       switch_written e arms last depth (at + 1) behind beyond braces own first (λ o. last_written last behind beyond (1 + braces) o)
   stmt_written _ depth at braces own = refl
 
-  lines_written : (lines : Lines) (depth at braces own : ℕ) → written_lines braces own (numbered_lines depth at lines) ≡ written_lines braces own lines
+  pub lines_written : (lines : Lines) (depth at braces own : ℕ) → written_lines braces own (numbered_lines depth at lines) ≡ written_lines braces own lines
   lines_written no_lines depth at braces own = refl
   lines_written (line stmt was lines) depth at braces own =
       let next = next_depth depth (line stmt was lines) in
@@ -152,7 +149,7 @@ mutual
       let behind = here + rows (written_stmt 1 next stmt) in
       line_written stmt was lines depth at braces own (λ b o. stmt_written stmt next here b o) (λ b o. lines_written lines (depth_behind next (stmt ∷ inner_stmts stmt)) behind b o)
 
-  arms_written : (arms : Arms) (depth at braces own : ℕ) → written_arms braces own (numbered_arms depth at arms) ≡ written_arms braces own arms
+  pub arms_written : (arms : Arms) (depth at braces own : ℕ) → written_arms braces own (numbered_arms depth at arms) ≡ written_arms braces own arms
   arms_written no_arms depth at braces own = refl
   arms_written (arm cases body arms) depth at braces own =
       let first = at + length cases in

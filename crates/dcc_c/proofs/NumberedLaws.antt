@@ -1,18 +1,17 @@
 -- Numbering the lines of a tree changes nothing but lines: an allowed tree stays one.
-use Rattle.std.proofs.Common.{◌≡◌, ℕ, zero, suc, ◌+◌, ◌-◌, ◌≤◌, Bool, true, false, ◌&&◌, if◌then◌else◌, List, [], ◌∷◌, ◌++◌, map, length, Option, Some, None, refl, ap, ap₂, sym, ◌∙◌, subst, arith}
-use Rattle.std.specs.Prelude.{codes, nat_le, ◌==◌, option_map}
+use Rattle.std.proofs.Common.{◌≡◌, ℕ, ◌+◌, Bool, true, false, ◌&&◌, if◌then◌else◌, List, [], ◌∷◌, ◌++◌, map, length, Option, Some, None, refl, ap, ap₂, sym, ◌∙◌}
+use Rattle.std.specs.Prelude.{option_map}
 use Rattle.std.specs.List.{list_all, list_any, flat_map}
-use Rattle.std.proofs.lemmas.Bool.{and_parts, leb-true}
 use Rattle.std.proofs.lemmas.List.{map-append}
-use Rattle.std.proofs.lemmas.List.Folds.{list_all-append, list_all-map}
+use Rattle.std.proofs.lemmas.List.Folds.{list_all-map}
 use Rattle.dcc_c.specs.Token.{same_bytes}
-use Rattle.dcc_c.specs.Tree.{Word, Expr, Stmt, Assign, Call, If, While, DoWhile, Forever, Switch, Break, Continue, Goto, Label, Empty, Return, Lines, no_lines, line, Arms, no_arms, arm, Global, Variable, Function, Tree}
-use Rattle.dcc_c.specs.Parts.{stmts_in, inner_stmts, arm_stmts, exprs_of, label_of, labels_in}
+use Rattle.dcc_c.specs.Tree.{Word, Stmt, Call, If, While, DoWhile, Forever, Switch, Goto, Label, Return, Lines, no_lines, line, Arms, no_arms, arm, Function, Tree}
+use Rattle.dcc_c.specs.Parts.{stmts_in, inner_stmts, arm_stmts, exprs_of, label_of}
 use Rattle.dcc_c.specs.Run.{function_in}
-use Rattle.dcc_c.specs.Written.{written_globals, written_lines}
+use Rattle.dcc_c.specs.Written.{written_globals}
 use Rattle.dcc_c.specs.Numbered.{rows, numbered_stmt, numbered_lines, numbered_arms, numbered_default, numbered_function, numbered_functions, numbered}
 use Rattle.dcc_c.specs.Dos.{dos_names, dos_of, dos_signature}
-use Rattle.dcc_c.specs.Rules.{all_differ, names_of, known_names, own_variables, goto_of, allows_labels, signature_of, signature_in, call_fits, cases_of, at_most_one, allows_stmt, declared_in, is_switch_value, shallow_stmt, IsAllowedFunction, AreAllowed, no_more, one_more, IsAllowed}
+use Rattle.dcc_c.specs.Rules.{all_differ, names_of, known_names, own_variables, goto_of, allows_labels, signature_of, signature_in, call_fits, cases_of, at_most_one, allows_stmt, declared_in, shallow_stmt, IsAllowedFunction, AreAllowed, no_more, one_more, IsAllowed}
 
 -- What is the same of a statement and the numbered one is the same of all statements in their lists.
 module _ {A : Type 0} (part : Stmt → A) (same : (depth at : ℕ) (stmt : Stmt) → part (numbered_stmt depth at stmt) ≡ part stmt) where
@@ -141,8 +140,8 @@ module _ (tree : Tree) where
   function_allowed f at allowed =
       let first = at + 2 + length f.locals in
       let types : list_all (allows_stmt (numbered tree) (numbered_function at f)) (stmts_in (numbered_lines 2 first f.body)) ≡ list_all (allows_stmt tree f) (stmts_in f.body) =
-          all_same (allows_stmt (numbered tree) (numbered_function at f)) (allows_same (numbered tree) (numbered_function at f)) f.body 2 first
-          ∙ all_alike _ _ (stmt_allowed f at) (stmts_in f.body)
+      all_same (allows_stmt (numbered tree) (numbered_function at f)) (allows_same (numbered tree) (numbered_function at f)) f.body 2 first
+      ∙ all_alike _ _ (stmt_allowed f at) (stmts_in f.body)
       in
       record {
         own_names = ap (λ names. all_differ (names_of (own_variables f) ++ names)) known_same ∙ allowed.own_names;

@@ -1,21 +1,19 @@
 -- The tokens of the written form of a shallow tree have at most 200 open parentheses.
-use Rattle.std.proofs.Common.{◌≡◌, ℕ, zero, suc, ◌+◌, ◌-◌, ◌≤◌, max, Bool, true, false, ◌&&◌, ◌||◌, not, if◌then◌else◌, List, [], ◌∷◌, ◌++◌, map, length, Option, Some, None, refl, ap, sym, ◌∙◌, subst, arith}
-use Rattle.std.specs.Prelude.{codes, nat_le, ◌==◌}
+use Rattle.std.proofs.Common.{◌≡◌, ℕ, suc, ◌+◌, ◌-◌, ◌≤◌, max, Bool, true, false, ◌&&◌, not, if◌then◌else◌, List, [], ◌∷◌, ◌++◌, map, refl, arith}
+use Rattle.std.specs.Prelude.{codes, nat_le}
 use Rattle.std.specs.List.{list_all}
 use Rattle.std.proofs.lemmas.Bool.{and_parts, leb-true}
-use Rattle.std.proofs.lemmas.List.Folds.{list_all-append}
 use Rattle.dcc_c.specs.declared.syntax.Base.{Base}
 use Rattle.dcc_c.specs.declared.syntax.Base.TheVariants.{Schar, Uchar, Int, Uint, Long, Ulong}
 use Rattle.dcc_c.specs.declared.syntax.CType.{CType}
 use Rattle.dcc_c.specs.declared.syntax.CUn.{CUn}
-use Rattle.dcc_c.specs.declared.syntax.CUn.TheVariants.{Minus, Complement, Not, Deref, AddressOf}
+use Rattle.dcc_c.specs.declared.syntax.CUn.TheVariants.{Minus}
 use Rattle.dcc_c.specs.declared.syntax.CBin.{CBin}
 use Rattle.dcc_c.specs.declared.syntax.CBin.TheVariants.{OrOr}
-use Rattle.dcc_c.specs.Token.{Token, WordToken, Decimal, Hex, Mark, Pragma, same_bytes}
+use Rattle.dcc_c.specs.Token.{Token, WordToken, Mark, same_bytes}
 use Rattle.dcc_c.specs.Lexing.{Placed, placed}
 use Rattle.dcc_c.specs.Tree.{Word, Expr, Number, Name, Unary, Binary, Conditional, Cast}
-use Rattle.dcc_c.specs.Parts.{expr_if, exprs_of}
-use Rattle.dcc_c.specs.Grammar.{word, mark, base_words, type_tokens, unary_mark, binary_mark}
+use Rattle.dcc_c.specs.Grammar.{mark, base_words, type_tokens, unary_mark, binary_mark}
 use Rattle.dcc_c.specs.Written.{is_compound}
 use Rattle.dcc_c.specs.Rules.{expr_depth, most_open}
 use Rattle.dcc_c.proofs.WrittenTokens.{bracketed, is_bracketed, expr_tokens, arguments_tokens, call_tokens}

@@ -1,23 +1,23 @@
 -- The written form of a tree with shallow statements has at most 200 open parentheses at each token.
-use Rattle.std.proofs.Common.{◌≡◌, ℕ, zero, suc, ◌+◌, ◌-◌, ◌≤◌, max, Bool, true, false, ◌&&◌, if◌then◌else◌, List, [], ◌∷◌, ◌++◌, map, length, Option, Some, None, refl, ap, sym, ◌∙◌, subst, arith}
-use Rattle.std.specs.Prelude.{codes, nat_le, ◌==◌}
+use Rattle.std.proofs.Common.{◌≡◌, ℕ, ◌+◌, ◌≤◌, Bool, true, false, ◌&&◌, if◌then◌else◌, List, [], ◌∷◌, ◌++◌, length, Option, Some, None, refl, sym, ◌∙◌, arith}
+use Rattle.std.specs.Prelude.{codes, ◌==◌}
 use Rattle.std.specs.List.{list_all}
-use Rattle.std.proofs.lemmas.Bool.{and_parts, leb-true}
+use Rattle.std.proofs.lemmas.Bool.{and_parts}
 use Rattle.std.proofs.lemmas.List.Folds.{list_all-append}
 use Rattle.dcc_c.specs.declared.syntax.CType.{CType}
 use Rattle.dcc_c.specs.declared.syntax.Class.{Class}
 use Rattle.dcc_c.specs.declared.syntax.Class.TheVariants.{Plain, Auto, Register}
-use Rattle.dcc_c.specs.Token.{Token, WordToken, Decimal, Mark, Pragma, plain_number, version_line, stack_line, depth_line, place_line}
-use Rattle.dcc_c.specs.Lexing.{Placed, placed}
+use Rattle.dcc_c.specs.Token.{WordToken, Decimal, Mark, Pragma, plain_number, version_line, stack_line, depth_line, place_line}
+use Rattle.dcc_c.specs.Lexing.{placed}
 use Rattle.dcc_c.specs.Tree.{Word, Expr, Stmt, Assign, Call, If, While, DoWhile, Forever, Switch, Break, Continue, Goto, Label, Empty, Return, Lines, no_lines, line, Arms, no_arms, arm, Global, Variable, Function, Tree}
 use Rattle.dcc_c.specs.Placement.{behind_global}
 use Rattle.dcc_c.specs.Parts.{stmts_in, inner_stmts, arm_stmts}
 use Rattle.dcc_c.specs.Grammar.{word, mark}
-use Rattle.dcc_c.specs.Written.{depth_behind, next_depth, written_depth, written_stmt, written_lines, written_arms, written_default, written_place, written_globals}
+use Rattle.dcc_c.specs.Written.{depth_behind, next_depth, written_lines, written_place, written_globals}
 use Rattle.dcc_c.specs.Numbered.{rows, numbered_function}
 use Rattle.dcc_c.specs.Rules.{shallow_stmt, most_open, AreAllowed, no_more, one_more}
 use Rattle.dcc_c.proofs.Writable.{IsWritable}
-use Rattle.dcc_c.proofs.WrittenTokens.{expr_tokens, arguments_tokens, call_tokens, depth_tokens, test_tokens, else_tokens, cases_tokens, stmt_tokens, lines_tokens, arms_tokens, default_tokens, variable_tokens, size_tokens, class_tokens, local_tokens, locals_tokens, param_tokens, some_params_tokens, params_tokens, head_tokens, function_tokens, functions_tokens, numbers_tokens, initial_tokens, global_tokens, place_tokens, globals_tokens, tree_tokens}
+use Rattle.dcc_c.proofs.WrittenTokens.{expr_tokens, depth_tokens, test_tokens, cases_tokens, stmt_tokens, lines_tokens, arms_tokens, default_tokens, variable_tokens, size_tokens, class_tokens, locals_tokens, param_tokens, some_params_tokens, params_tokens, head_tokens, function_tokens, functions_tokens, numbers_tokens, initial_tokens, global_tokens, place_tokens, globals_tokens, tree_tokens}
 use Rattle.dcc_c.proofs.ShallowLaws.{Within, KeepsTo, Keeps, flat_open, flat_keeps, enclosed_open, type_open, is_shallow, shallow_open, expr_keeps, call_keeps}
 
 -- no expression of the statements is too deep
@@ -130,7 +130,7 @@ do_keeps body e first depth at shallow others h =
 ever_keeps : (body : Lines) → ShallowLines body → ShallowStmt (Forever body)
 ever_keeps body first depth at shallow others h =
     let inner : KeepsTo 1 (λ rest. mark at (codes ";") ∷ mark at (codes ";") ∷ rest) =
-        λ k small rest within. flat_open (Mark (codes ";")) refl k at (omega arith) _ (flat_open (Mark (codes ";")) refl k at (omega arith) rest within) in
+    λ k small rest within. flat_open (Mark (codes ";")) refl k at (omega arith) _ (flat_open (Mark (codes ";")) refl k at (omega arith) rest within) in
     let block = opening_keeps at _ (first depth (at + 1) shallow _ (closing_keeps _ others h)) in
     word_keeps at _ _ (enclosed_open 0 at (λ rest. mark at (codes ";") ∷ mark at (codes ";") ∷ rest) (omega arith) inner 0 (omega arith) _ block)
 

@@ -1,23 +1,22 @@
 -- The expressions of a text are writable.
-use Rattle.std.proofs.Common.{◌≡◌, ◌⊎◌, inl, inr, ℕ, zero, suc, ◌+◌, ◌≤◌, Bool, true, false, ◌&&◌, ◌||◌, not, if◌then◌else◌, List, [], ◌∷◌, ◌++◌, map, length, Option, Some, None, is_some, refl, ap, sym, ◌∙◌, subst, arith}
-use Rattle.std.specs.Prelude.{codes, nat_le, ◌==◌, option_and_then, option_map}
+use Rattle.std.proofs.Common.{◌≡◌, inl, inr, ℕ, Bool, true, false, ◌&&◌, if◌then◌else◌, List, ◌∷◌, Option, Some, None, is_some, refl, ap, ◌∙◌}
+use Rattle.std.specs.Prelude.{nat_le, option_and_then, option_map}
 use Rattle.std.specs.List.{list_all}
-use Rattle.std.proofs.lemmas.Bool.{and_parts, and_from, leb-true, le-leb, cases_Bool}
+use Rattle.std.proofs.lemmas.Bool.{and_parts, and_from, cases_Bool}
 use Rattle.dcc_c.specs.declared.syntax.Base.{Base}
-use Rattle.dcc_c.specs.declared.syntax.Base.TheVariants.{Schar, Uchar, Int, Uint, Long, Ulong}
+use Rattle.dcc_c.specs.declared.syntax.Base.TheVariants.{Schar}
 use Rattle.dcc_c.specs.declared.syntax.CType.{CType}
-use Rattle.dcc_c.specs.declared.syntax.CUn.{CUn}
 use Rattle.dcc_c.specs.declared.syntax.CUn.TheVariants.{Minus, Complement, Not, Deref, AddressOf}
 use Rattle.dcc_c.specs.declared.syntax.CBin.{CBin}
-use Rattle.dcc_c.specs.Token.{Token, Decimal, Hex, Suffix, plain_number, unsigned_suffix, long_suffix, unsigned_long_suffix, decimal_type, hex_type}
-use Rattle.dcc_c.specs.Lexing.{Placed, placed}
+use Rattle.dcc_c.specs.Token.{Token, Suffix, plain_number, unsigned_suffix, long_suffix, unsigned_long_suffix, decimal_type, hex_type}
+use Rattle.dcc_c.specs.Lexing.{Placed}
 use Rattle.dcc_c.specs.Types.{same_base}
 use Rattle.dcc_c.specs.Tree.{Word, Expr, Number, Name, Unary, Binary, Conditional, Cast}
-use Rattle.dcc_c.specs.Grammar.{mark, is_name, Begins, none, one, IsNumber, decimal, hex, IsExpr, number, name, parentheses, unary, cast, binary, conditional, stronger, IsPlace, name_place, deref_place, AreArguments, no_argument, last_argument, more_arguments, IsCall, call}
-use Rattle.dcc_c.specs.Typing.{Declared, type_of_name, declared_as, type_of_address, unary_type, both_types, both_arms_type, tested_type, type_of, place_type}
+use Rattle.dcc_c.specs.Grammar.{is_name, Begins, none, one, IsNumber, decimal, hex, IsExpr, number, name, parentheses, unary, cast, binary, conditional, stronger, IsPlace, name_place, deref_place, AreArguments, no_argument, last_argument, more_arguments, IsCall, call}
+use Rattle.dcc_c.specs.Typing.{Declared, unary_type, both_types, both_arms_type, tested_type, type_of, place_type}
 use Rattle.dcc_c.specs.Written.{suffix_for, suffix_gives}
-use Rattle.dcc_c.proofs.Writable.{is_small, may_take, is_writable_expr, is_place, is_writable_place}
-use Rattle.dcc_c.proofs.SmallTokens.{has_small, AreSmall, small_token, tail_small, head_small}
+use Rattle.dcc_c.proofs.Writable.{may_take, is_writable_expr, is_place}
+use Rattle.dcc_c.proofs.SmallTokens.{has_small, AreSmall, tail_small, head_small}
 
 -- Numbers.
 

@@ -1,17 +1,17 @@
 -- The statements of a text are writable.
-use Rattle.std.proofs.Common.{◌≡◌, ◌⊎◌, inl, inr, ℕ, zero, suc, ◌+◌, ◌≤◌, Bool, true, false, ◌&&◌, ◌||◌, not, if◌then◌else◌, List, [], ◌∷◌, ◌++◌, map, length, Option, Some, None, is_some, refl, ap, sym, ◌∙◌, subst, arith}
-use Rattle.std.specs.Prelude.{codes, nat_le, ◌==◌}
+use Rattle.std.proofs.Common.{◌≡◌, ℕ, Bool, true, false, ◌&&◌, List, [], ◌∷◌, ◌++◌, Some, None, refl, ap, sym, ◌∙◌}
+use Rattle.std.specs.Prelude.{nat_le}
 use Rattle.std.specs.List.{list_all}
-use Rattle.std.proofs.lemmas.Bool.{and_parts, and_from, leb-true, le-leb, cases_Bool, not_from_false}
+use Rattle.std.proofs.lemmas.Bool.{and_parts, and_from, le-leb, not_from_false}
 use Rattle.std.proofs.lemmas.List.Folds.{list_all-append}
-use Rattle.dcc_c.specs.Token.{Token, Decimal, Hex}
-use Rattle.dcc_c.specs.Lexing.{Placed, placed}
-use Rattle.dcc_c.specs.Tree.{Word, Expr, Stmt, Assign, Call, If, While, DoWhile, Forever, Switch, Break, Continue, Goto, Label, Empty, Return, Lines, no_lines, line, Arms, no_arms, arm}
+use Rattle.dcc_c.specs.Token.{Token}
+use Rattle.dcc_c.specs.Lexing.{Placed}
+use Rattle.dcc_c.specs.Tree.{Word, Expr, Stmt, Assign, Call, Switch, Lines, Arms, no_arms, arm}
 use Rattle.dcc_c.specs.Parts.{stmts_in, inner_stmts, arm_stmts, exprs_of}
-use Rattle.dcc_c.specs.Grammar.{is_name, Around, in_block, in_loop, in_switch, IsCaseNumber, plain_decimal, unsigned_decimal, plain_hex, unsigned_hex, AreCases, last_case, more_cases, has_arm, IsStmt, assign, call_alone, call_into, if_alone, if_else, while, do_while, for_ever, switch, break, continue, goto, empty, return_nothing, return_value, IsBlock, block, AreLines, no_more, depth_pragma, label, statement, AreArms, no_arm, case_arm, default_arm}
+use Rattle.dcc_c.specs.Grammar.{is_name, Around, IsCaseNumber, plain_decimal, unsigned_decimal, plain_hex, unsigned_hex, AreCases, last_case, more_cases, has_arm, IsStmt, assign, call_alone, call_into, if_alone, if_else, while, do_while, for_ever, switch, break, continue, goto, empty, return_nothing, return_value, IsBlock, block, AreLines, no_more, depth_pragma, label, statement, AreArms, no_arm, case_arm, default_arm}
 use Rattle.dcc_c.specs.Rules.{at_most_one}
-use Rattle.dcc_c.proofs.Writable.{is_small, is_writable_expr, is_place, is_writable_place, is_place_if, is_value_if, is_label, are_cases, has_no_case, is_writable_stmt, are_writable_lines, are_writable_arms, is_writable_default}
-use Rattle.dcc_c.proofs.SmallTokens.{has_small, AreSmall, small_token, tail_small, head_small}
+use Rattle.dcc_c.proofs.Writable.{is_small, is_place, is_label, are_cases, is_writable_stmt, are_writable_lines, are_writable_arms, is_writable_default}
+use Rattle.dcc_c.proofs.SmallTokens.{AreSmall, tail_small, head_small}
 use Rattle.dcc_c.proofs.WritableExprs.{takes_names, IsWell, AreWell, begins_small, expr_well, is_place-place, place_well, is_name-call, call_well}
 
 -- there is one default arm at most

@@ -1,25 +1,24 @@
 -- A tree that a text stands for is writable.
-use Rattle.std.proofs.Common.{◌≡◌, ◌⊎◌, inl, inr, ℕ, zero, suc, ◌+◌, ◌*◌, ◌≤◌, Bool, true, false, ◌&&◌, ◌||◌, not, if◌then◌else◌, List, [], ◌∷◌, ◌++◌, map, length, Option, Some, None, is_some, refl, ap, sym, ◌∙◌, subst, arith}
-use Rattle.std.specs.Prelude.{codes, nat_le, ◌==◌}
+use Rattle.std.proofs.Common.{◌≡◌, ℕ, ◌+◌, ◌≤◌, Bool, true, false, ◌&&◌, not, List, [], ◌∷◌, ◌++◌, length, Option, Some, None, is_some, refl, ap, subst, arith}
+use Rattle.std.specs.Prelude.{nat_le}
 use Rattle.std.specs.List.{list_all}
 use Rattle.std.proofs.lemmas.Bool.{and_parts, and_from, leb-true, le-leb}
 use Rattle.dcc_c.specs.declared.syntax.CType.{CType}
 use Rattle.dcc_c.specs.declared.syntax.Class.{Class}
-use Rattle.dcc_c.specs.declared.syntax.Class.TheVariants.{Plain, Auto, Register}
-use Rattle.dcc_c.specs.Lexing.{Placed, placed}
-use Rattle.dcc_c.specs.Tree.{Word, Expr, Stmt, Assign, Call, If, While, DoWhile, Forever, Switch, Break, Continue, Goto, Label, Empty, Return, Lines, no_lines, line, Arms, no_arms, arm, Global, Variable, Function, Tree}
+use Rattle.dcc_c.specs.Lexing.{Placed}
+use Rattle.dcc_c.specs.Tree.{Expr, Stmt, Assign, Call, If, While, DoWhile, Switch, Return, Global, Variable, Function, Tree}
 use Rattle.dcc_c.specs.Placement.{elements, bytes_of, behind_global}
-use Rattle.dcc_c.specs.Parts.{stmts_in, expr_if, exprs_of}
-use Rattle.dcc_c.specs.Grammar.{is_name, outermost, HasSize, no_size, size, AreNumbers, last_number, more_numbers, AreInitial, no_value, one_value, values, IsGlobal, AreGlobals, no_global, placed_at, one_global, HasClass, no_class, auto_class, register_class, IsParam, AreSomeParams, last_param, more_params, AreParams, no_param, some_params, IsLocalClass, plain_local, array_local, auto_local, IsLocal, AreLocals, no_local, one_local, HasResult, no_result, result, IsFunction, AreFunctions, last_function, more_functions, IsUnit}
+use Rattle.dcc_c.specs.Parts.{stmts_in, expr_if}
+use Rattle.dcc_c.specs.Grammar.{HasSize, no_size, size, AreNumbers, last_number, more_numbers, AreInitial, no_value, one_value, values, IsGlobal, AreGlobals, no_global, placed_at, one_global, HasClass, no_class, auto_class, register_class, IsParam, AreSomeParams, last_param, more_params, AreParams, no_param, some_params, IsLocalClass, plain_local, array_local, auto_local, IsLocal, AreLocals, no_local, one_local, HasResult, no_result, result, IsFunction, AreFunctions, last_function, more_functions}
 use Rattle.dcc_c.specs.Types.{promoted_type}
 use Rattle.dcc_c.specs.Typing.{Declared, type_of, place_type}
 use Rattle.dcc_c.specs.Dos.{Signature}
-use Rattle.dcc_c.specs.Rules.{declared_in, converts, fits, is_number, is_word_base, is_switch_value, fit_all, place_takes, result_fits, signature_in, call_fits, cases_of, differ, at_most_one, allows_stmt, has_element, allows_global, IsAllowedFunction, AreAllowed, no_more, one_more, IsAllowed}
+use Rattle.dcc_c.specs.Rules.{declared_in, converts, fits, is_number, is_word_base, is_switch_value, fit_all, result_fits, signature_in, call_fits, cases_of, differ, at_most_one, allows_stmt, has_element, allows_global, IsAllowedFunction, AreAllowed, one_more}
 use Rattle.dcc_c.specs.Text.{StandsFor}
-use Rattle.dcc_c.proofs.Writable.{is_small, is_small_if, is_writable_global, is_writable_param, is_local_class, is_writable_local, is_writable_function, are_writable_lines, IsWritable}
+use Rattle.dcc_c.proofs.Writable.{is_small, is_small_if, is_writable_global, is_writable_param, is_local_class, is_writable_local, is_writable_function, IsWritable}
 use Rattle.dcc_c.proofs.SmallTokens.{AreSmall, tail_small, head_small, lexed_small}
 use Rattle.dcc_c.proofs.WritableExprs.{takes_names, begins_small, typed_takes, placed_takes}
-use Rattle.dcc_c.proofs.WritableLines.{one_default, is_sound, are_sound, lines_kept}
+use Rattle.dcc_c.proofs.WritableLines.{is_sound, are_sound, lines_kept}
 
 -- An allowed statement is sound.
 
