@@ -10,7 +10,7 @@ import sys
 import threading
 from collections import Counter
 
-import offences
+import reading
 import systematic
 import texts
 
@@ -25,7 +25,7 @@ def reference(text):
 
 
 def compare(name, text, counts, shown):
-    ours = offences.refusal(text)
+    ours = reading.refusal(text)
     theirs, also = reference(text)
     counts["texts"] += 1
     counts[theirs[1] if theirs else "accepted"] += 1

@@ -1,14 +1,14 @@
 -- Small expressions and texts, evaluated, run and written by their definitions.
-use Rattle.std.proofs.Common.{◌≡◌, ℕ, List, [], ◌∷◌, ◌++◌, Option, Some, None, refl}
+use Rattle.std.proofs.Common.{◌≡◌, ℕ, List, [], ◌∷◌, ◌++◌, Some, None, refl}
 use Rattle.std.specs.Prelude.{codes, replicate}
-use Rattle.dcc_run.specs.End.{End, Running, Exit, Divide, Stuck}
+use Rattle.dcc_run.specs.End.{Running, Exit, Stuck}
 use Rattle.dcc_run.specs.System.{after}
 use Rattle.dcc_c.specs.declared.syntax.Base.TheVariants.{Schar, Uchar, Int, Uint, Long, Ulong}
 use Rattle.dcc_c.specs.declared.syntax.CUn.TheVariants.{Minus, Deref, AddressOf}
 use Rattle.dcc_c.specs.declared.syntax.CBin.TheVariants.{OrOr, AndAnd, Lt, Shl, Shr, Add, Sub, Mul, Div, Rem}
-use Rattle.dcc_c.specs.declared.syntax.Class.TheVariants.{Plain, Auto}
+use Rattle.dcc_c.specs.declared.syntax.Class.TheVariants.{Plain}
 use Rattle.dcc_c.specs.Types.{plain, pointer_to}
-use Rattle.dcc_c.specs.Tree.{Word, Expr, Number, Name, Unary, Binary, Conditional, Cast, Stmt, Assign, Call, If, While, DoWhile, Forever, Switch, Break, Continue, Goto, Label, Return, Lines, no_lines, line, Arms, no_arms, arm, Variable, Function, Tree}
+use Rattle.dcc_c.specs.Tree.{Word, Expr, Number, Name, Unary, Binary, Conditional, Cast, Stmt, Assign, Call, If, While, DoWhile, Forever, Switch, Break, Continue, Goto, Label, Return, Lines, no_lines, line, no_arms, arm, Variable, Function, Tree}
 use Rattle.dcc_c.specs.Value.{Value, number, Outcome, Gives, Divides, value_of}
 use Rattle.dcc_c.specs.Run.{State, frame_of, ends_function, runs, step}
 use Rattle.dcc_c.specs.Written.{written_lines}

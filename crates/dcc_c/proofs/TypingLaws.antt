@@ -1,19 +1,18 @@
 -- An expression that has a type has a value of it, or a division in it faults.
 use Rattle.std.proofs.Common.{◌≡◌, ℕ, Bool, true, false, List, [], ◌∷◌, map, Option, Some, None, refl, sym, ap, ◌∙◌, subst}
-use Rattle.std.specs.Prelude.{◌==◌, not, if◌then◌else◌, option_map, option_and_then}
+use Rattle.std.specs.Prelude.{not, if◌then◌else◌, option_map, option_and_then}
 use Rattle.dcc_c.specs.declared.syntax.Base.{Base}
 use Rattle.dcc_c.specs.declared.syntax.Base.TheVariants.{Int, Uint}
 use Rattle.dcc_c.specs.declared.syntax.CType.{CType}
 use Rattle.dcc_c.specs.declared.syntax.CUn.{CUn}
 use Rattle.dcc_c.specs.declared.syntax.CUn.TheVariants.{Minus, Complement, Not, Deref, AddressOf}
 use Rattle.dcc_c.specs.declared.syntax.CBin.{CBin}
-use Rattle.dcc_c.specs.declared.syntax.CBin.TheVariants.{OrOr, AndAnd, Or, Xor, And, Eq, Ne, Lt, Le, Gt, Ge, Shl, Shr, Add, Sub, Mul, Div, Rem}
+use Rattle.dcc_c.specs.declared.syntax.CBin.TheVariants.{OrOr, AndAnd, Eq, Ne, Lt, Le, Gt, Ge, Add, Sub, Div, Rem}
 use Rattle.dcc_c.specs.Token.{same_bytes}
 use Rattle.dcc_c.specs.Types.{plain, pointer_to, common_type, same_type}
-use Rattle.dcc_c.specs.Arithmetic.{division_faults, quotient, remainder}
 use Rattle.dcc_c.specs.Tree.{Word, Expr, Number, Name, Unary, Binary, Conditional, Cast}
-use Rattle.dcc_c.specs.Typing.{Declared, declared_as, type_of_name, type_of_address, unary_type, binary_type, numbers_type, is_comparison, is_sum, both_types, arms_type, both_arms_type, tested_type, type_of}
-use Rattle.dcc_c.specs.Value.{Value, value, number, is_zero, converted, Outcome, Gives, Divides, Undefined, and_then, given, Storage, Unplaced, PlacedAt, Binding, is_placed, declared_by, variable_in, Scope, array_value, held, variable_value, address_value, pointed_value, unary_value, binary_value, numbers_value, compared, moved, both_values, truth_value, chosen, value_of}
+use Rattle.dcc_c.specs.Typing.{declared_as, type_of_name, type_of_address, unary_type, binary_type, numbers_type, is_comparison, is_sum, both_types, arms_type, both_arms_type, tested_type, type_of}
+use Rattle.dcc_c.specs.Value.{Value, value, number, is_zero, converted, Outcome, Gives, Divides, Undefined, and_then, given, Storage, Unplaced, PlacedAt, Binding, is_placed, declared_by, variable_in, Scope, array_value, held, variable_value, address_value, pointed_value, unary_value, numbers_value, compared, moved, both_values, truth_value, chosen, value_of}
 
 -- the evaluation gives a value of the type, or a division faults
 abbrev pub IsOf : CType → Outcome Value → Type 0

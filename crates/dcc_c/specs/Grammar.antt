@@ -300,11 +300,11 @@ mutual
   pub data AreLines (limit : ℕ) : Around → Bool → ℕ → List Placed → Lines → ℕ → List Placed → Type 0 where
     no_more : {around : Around} {depth : ℕ} {rest : List Placed} →
         AreLines limit around false depth rest no_lines depth rest
-    depth_pragma : {around : Around} {depth after at place n : ℕ} {tokens rest : List Placed}
+    depth_pragma : {around : Around} {depth after at n : ℕ} {tokens rest : List Placed}
         {lines : Lines} →
         around.blocks ≤ limit → AreLines limit around false n tokens lines after rest →
         AreLines limit around false depth
-        (placed at (Pragma depth_line) ∷ placed place (Decimal n plain_number) ∷ tokens) lines after rest
+        (placed at (Pragma depth_line) ∷ placed at (Decimal n plain_number) ∷ tokens) lines after rest
     label : {around : Around} {labelled : Bool} {depth after at colon : ℕ} {tokens rest : List Placed}
         {lines : Lines} (name : Word) →
         is_name name ≡ true → around.blocks ≤ limit →
@@ -380,9 +380,9 @@ pub record IsGlobal (tokens : List Placed) (g : Global) (rest : List Placed) : T
 -- ends; before the first such line none stands.
 pub data AreGlobals : Option ℕ → List Placed → List Global → List Placed → Type 0 where
   no_global : {place : Option ℕ} {rest : List Placed} → AreGlobals place rest [] rest
-  placed_at : {place : Option ℕ} {at number n : ℕ} {tokens rest : List Placed} {globals : List Global} →
+  placed_at : {place : Option ℕ} {at n : ℕ} {tokens rest : List Placed} {globals : List Global} →
       AreGlobals (Some n) tokens globals rest →
-      AreGlobals place (placed at (Pragma place_line) ∷ placed number (Decimal n plain_number) ∷ tokens)
+      AreGlobals place (placed at (Pragma place_line) ∷ placed at (Decimal n plain_number) ∷ tokens)
       globals rest
   one_global : {tokens others rest : List Placed} {g : Global} {globals : List Global} →
       IsGlobal tokens g others → AreGlobals (Some (behind_global g)) others globals rest →

@@ -17,3 +17,15 @@ pub mod Written
 pub mod Numbered
 pub mod Views
 pub mod Plain
+pub mod Kinds
+pub mod Pieces
+pub mod Partial
+pub mod Reading
+pub mod ReadingStatements
+pub mod ReadingText
+pub mod Known
+pub mod Offences
+pub mod TextOffences
+pub mod Refusals
+pub mod Stripped
+pub mod Complete
