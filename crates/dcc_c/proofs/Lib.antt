@@ -1,4 +1,15 @@
 pub mod RunLaws
+pub mod Writable
+pub mod FormedExprs
+pub mod FormedLines
+pub mod FormedTree
+pub mod ShallowLaws
+pub mod ShallowTree
+pub mod NumberedLaws
+pub mod SmallTokens
+pub mod WritableExprs
+pub mod WritableLines
+pub mod WritableTree
 pub mod LexingLaws
 pub mod WrittenLaws
 pub mod NameLaws
@@ -6,3 +17,13 @@ pub mod PlainLaws
 mod Examples
 pub mod TypingLaws
 pub mod refusals
+pub mod WrittenTokens
+pub mod WrittenReads
+pub mod WrittenExprs
+pub mod WrittenRows
+pub mod WrittenParts
+pub mod WrittenStmts
+pub mod WrittenLexes
+pub mod PrintLaws
+pub mod NumberedForm
+pub mod NumberedTwice

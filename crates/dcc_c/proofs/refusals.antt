@@ -1,3 +1,4 @@
 pub mod ExprRules
 pub mod StmtRules
 pub mod CallRules
+pub mod ListRules
