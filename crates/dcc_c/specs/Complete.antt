@@ -1,5 +1,5 @@
 -- Partial trees that have been read to their ends: nothing in them is missing.
-use Rattle.std.specs.Prelude.{ℕ, Bool, true, false, ◌&&◌, ◌==◌, not, if◌then◌else◌, List, [], ◌∷◌, length, Option, Some, None, is_some}
+use Rattle.std.specs.Prelude.{ℕ, suc, nat_le, Bool, true, false, ◌&&◌, ◌==◌, not, if◌then◌else◌, List, [], ◌∷◌, length, Option, Some, None, is_some}
 use Rattle.std.specs.List.{list_all}
 use Rattle.dcc_c.specs.declared.syntax.CUn.TheVariants.{Deref}
 use Rattle.dcc_c.specs.Partial.{PartialExpr, Missing, NumberHere, NameHere, UnaryHere, BinaryOf, ConditionalOf, CastHere, PartialCall, PartialStmt, AssignOf, CallOf, IfOf, WhileOf, DoWhileOf, ForeverOf, SwitchOf, BreakOf, ContinueOf, GotoOf, LabelOf, EmptyOf, ReturnOf, PartialLines, no_rows, row, PartialArms, no_cases, cases, PartialVariable, PartialFunction, PartialText}
@@ -60,6 +60,25 @@ abbrev mutual
   are_complete_arms (cases numbers default body arms) =
       (if is_some default then length numbers == 0 else true) && (is_complete_lines body && are_complete_arms arms)
 
+abbrev mutual
+  -- statements, which have so many blocks around them, with at most 200 around each
+  pub are_within : ℕ → PartialLines → Bool
+  are_within blocks no_rows = true
+  are_within blocks (row stmt at line rows) = nat_le blocks 200 && (is_within (suc blocks) stmt && are_within blocks rows)
+
+  -- the statements inside a statement
+  pub is_within : ℕ → PartialStmt → Bool
+  is_within blocks (IfOf e done body otherwise) = are_within blocks body && are_within blocks otherwise
+  is_within blocks (WhileOf e done body) = are_within blocks body
+  is_within blocks (DoWhileOf body e done) = are_within blocks body
+  is_within blocks (ForeverOf body) = are_within blocks body
+  is_within blocks (SwitchOf e done arms) = are_arms_within blocks arms
+  is_within blocks stmt = true
+
+  pub are_arms_within : ℕ → PartialArms → Bool
+  are_arms_within blocks no_cases = true
+  are_arms_within blocks (cases numbers default body arms) = are_within blocks body && are_arms_within blocks arms
+
 -- a variable
 abbrev pub is_complete_variable : PartialVariable → Bool
 is_complete_variable v = is_some v.name && (is_some v.type && v.done)
@@ -74,7 +93,7 @@ is_complete_function f =
     (is_some f.name && (is_some f.opened && f.headed))
     && ((agree f.has_result (is_some f.result) && agree f.without_params (length f.params == 0))
     && (list_all is_complete_variable f.params
-    && (list_all is_complete_variable f.locals && is_complete_lines f.body)))
+    && (list_all is_complete_variable f.locals && (is_complete_lines f.body && are_within 0 f.body))))
 
 -- a text, which has a function
 abbrev pub is_complete_text : PartialText → Bool

@@ -25,14 +25,14 @@ pub fitting-assignment : (scene : Scene) (place e : PartialExpr) → is_complete
     assigned_offences scene place (Some e) true ≡ []
 fitting-assignment scene place e placed whole fit = elim (place_type scene.names (plain_expr place)) as (λ o. place_type scene.names (plain_expr place) ≡ o →
     (elim o [ Some to ↦ fits scene.names to (plain_expr e) | None ↦ false ]) ≡ true → assigned_offences scene place (Some e) true ≡ []) [
-  | Some to ↦ λ is fit. let p = place-clean scene place to placed is in
-      let b = becomes-of scene e to whole fit in
-      both-empty p.none (done (is_name_here e) (both-empty b.none (ap (λ o. becomes scene e true o) p.told ∙ b.own)))
-  | None ↦ λ _ bad. absurd cc
-] refl fit where
-  done : (b : Bool) {xs : List Offence} → xs ≡ [] → (if b && not true then [] else xs) ≡ []
-  done true e = e
-  done false e = e
+      | Some to ↦ λ is fit. let p = place-clean scene place to placed is in
+          let b = becomes-of scene e to whole fit in
+          both-empty p.none (done (is_name_here e) (both-empty b.none (ap (λ o. becomes scene e true o) p.told ∙ b.own)))
+      | None ↦ λ _ bad. absurd cc
+    ] refl fit where
+      done : (b : Bool) {xs : List Offence} → xs ≡ [] → (if b && not true then [] else xs) ≡ []
+      done true e = e
+      done false e = e
 
 -- Arguments.
 
@@ -74,8 +74,8 @@ arguments-fit scene (type ∷ types) (e ∷ f ∷ es) whole same inner own =
     let first = none-both (expr_offences scene e) (arguments_inner scene (f ∷ es)) inner in
     let becomes-all = none-both (becomes scene e true (Some type)) (arguments_become scene true types (f ∷ es)) own in
     rw (fits-of scene e type parts.0 first.0 becomes-all.0) (arguments-fit scene types (f ∷ es) parts.1 (down same) first.1 becomes-all.1) where
-  down : {m n : ℕ} → suc m ≡ suc n → m ≡ n
-  down e = cc
+      down : {m n : ℕ} → suc m ≡ suc n → m ≡ n
+      down e = cc
 
 -- nothing offends in arguments that fit
 pub record Fitting (scene : Scene) (types : List CType) (es : List PartialExpr) : Type 0 where
@@ -113,7 +113,7 @@ result-fits scene at (Some place) function (Some from) whole none own =
     let p = place-placed scene place whole none in
     ap (λ o. elim o [ Some to ↦ converts from to | None ↦ false ]) p.1.is
     ∙ not-true (converts from p.0) (none-only (not (converts from p.0)) (offence of_type function.at)
-      (ap (λ o. conversion (Some from) o function.at) (sym p.1.told) ∙ own))
+    (ap (λ o. conversion (Some from) o function.at) (sym p.1.told) ∙ own))
 
 pub record Resulting (scene : Scene) (at : ℕ) (place : Option PartialExpr) (function : WordAt) (result : Option CType) : Type 0 where
   pub none : place_if scene place ≡ []
@@ -125,12 +125,12 @@ fitting-result scene at None function result whole fit = record { none = refl; o
 fitting-result scene at (Some place) function None whole fit = absurd cc
 fitting-result scene at (Some place) function (Some from) whole fit = elim (place_type scene.names (plain_expr place)) as (λ o. place_type scene.names (plain_expr place) ≡ o →
     (elim o [ Some to ↦ converts from to | None ↦ false ]) ≡ true → Resulting scene at (Some place) function (Some from)) [
-  | Some to ↦ λ is fit. let p = place-clean scene place to whole is in record {
-      none = p.none;
-      own = ap (λ o. conversion (Some from) o function.at) p.told ∙ ap (λ b. only_if (not b) (offence of_type function.at)) fit;
-    }
-  | None ↦ λ _ bad. absurd cc
-] refl fit
+      | Some to ↦ λ is fit. let p = place-clean scene place to whole is in record {
+        none = p.none;
+        own = ap (λ o. conversion (Some from) o function.at) p.told ∙ ap (λ b. only_if (not b) (offence of_type function.at)) fit;
+      }
+      | None ↦ λ _ bad. absurd cc
+    ] refl fit
 
 -- Calls.
 
@@ -187,7 +187,7 @@ fitting-call scene at place call signature placed whole closed known fit =
     let arguments = fitting-arguments scene signature.params call.arguments whole parts.1 in
     both-empty result.none (both-empty arguments.inner (callee-is scene at place call signature known
     ∙ both-empty result.own (both-empty (ap (λ b. only_if b (offence of_type at)) (counts-fit signature.params call whole arguments.same))
-      (ap (λ c. arguments_become scene c signature.params call.arguments) closed ∙ arguments.own))))
+    (ap (λ c. arguments_become scene c signature.params call.arguments) closed ∙ arguments.own))))
 
 -- a call that is allowed is of a known function
 pub allowed-known : (names : List Declared) (place : Option Expr) (es : List Expr) (o : Option Signature) → call_fits names place es o ≡ true → (signature : Signature) × (o ≡ Some signature)
@@ -208,7 +208,7 @@ return-fits scene at (Some e) whole result none =
           (ap (λ o. becomes scene e true o) (sym is) ∙ ap (λ (b : Bool). if b then becomes scene e true scene.result else only_if (not (is_missing e)) (offence of_type at)) (sym (result ∙ ap is_some is)) ∙ parts.1)
       | None ↦ λ is. absurd (true-false (ap not (sym (there e whole))
           ∙ none-only (not (is_missing e)) (offence of_type at)
-            (ap (λ (b : Bool). if b then becomes scene e true scene.result else only_if (not (is_missing e)) (offence of_type at)) (sym (result ∙ ap is_some is)) ∙ parts.1)))
+          (ap (λ (b : Bool). if b then becomes scene e true scene.result else only_if (not (is_missing e)) (offence of_type at)) (sym (result ∙ ap is_some is)) ∙ parts.1)))
     ] refl
 
 pub fitting-return : (scene : Scene) (at : ℕ) (e : Option PartialExpr) → is_complete_if e ≡ true → scene.has_result ≡ is_some scene.result →

@@ -153,11 +153,11 @@ binary-typed : (scene : Scene) (operator : CBin) (a b : PartialExpr) (s : IsType
     binary_offences scene operator a b ≡ [] → IsTyped scene.names (BinaryOf operator a b)
 binary-typed scene operator a b s t e = elim (is_comparison operator || is_sum operator) as (λ q. is_comparison operator || is_sum operator ≡ q →
     (if q then second_offends scene operator a b else wants_number scene a ++ wants_number scene b) ≡ [] → IsTyped scene.names (BinaryOf operator a b)) [
-  | true ↦ λ _ none. let fits = second-fits scene operator a b s t none in joined-typed scene operator a b s t fits.0 fits.1
-  | false ↦ λ other none. let both = none-both (wants_number scene a) (wants_number scene b) none in
-      let some = binary-some operator s.type t.type other (no-pointer scene a s both.0) (no-pointer scene b t both.1) in
-      joined-typed scene operator a b s t some.0 some.1
-] refl e
+      | true ↦ λ _ none. let fits = second-fits scene operator a b s t none in joined-typed scene operator a b s t fits.0 fits.1
+      | false ↦ λ other none. let both = none-both (wants_number scene a) (wants_number scene b) none in
+          let some = binary-some operator s.type t.type other (no-pointer scene a s both.0) (no-pointer scene b t both.1) in
+          joined-typed scene operator a b s t some.0 some.1
+    ] refl e
 
 -- Conditionals.
 
@@ -165,9 +165,9 @@ arms-typed : (scene : Scene) (a b c : PartialExpr) (r : IsTyped scene.names a) (
     wants_number scene a ≡ [] → arms_offences scene b c ≡ [] → IsTyped scene.names (ConditionalOf a b c)
 arms-typed scene a b c r s t number arms =
     let some = some-of (both_arms_type (Some s.type) (Some t.type))
-          (ap (λ o. (is_some o && is_some (Some t.type)) && is_none (both_arms_type o (Some t.type))) (sym s.told)
-          ∙ ap (λ o. (is_some (told_type scene.names b) && is_some o) && is_none (both_arms_type (told_type scene.names b) o)) (sym t.told)
-          ∙ none-only ((is_some (told_type scene.names b) && is_some (told_type scene.names c)) && is_none (both_arms_type (told_type scene.names b) (told_type scene.names c))) (offence of_type (place_of c)) arms) in
+    (ap (λ o. (is_some o && is_some (Some t.type)) && is_none (both_arms_type o (Some t.type))) (sym s.told)
+    ∙ ap (λ o. (is_some (told_type scene.names b) && is_some o) && is_none (both_arms_type (told_type scene.names b) o)) (sym t.told)
+    ∙ none-only ((is_some (told_type scene.names b) && is_some (told_type scene.names c)) && is_none (both_arms_type (told_type scene.names b) (told_type scene.names c))) (offence of_type (place_of c)) arms) in
     typed scene.names (ConditionalOf a b c) some.0
     (ap (λ o. both_arms_type o (told_type scene.names c)) s.told ∙ ap (both_arms_type (Some s.type)) t.told ∙ some.1)
     (ap (λ o. tested_type o (both_arms_type (type_of scene.names (plain_expr b)) (type_of scene.names (plain_expr c)))) r.is
@@ -303,11 +303,11 @@ binary-clean : (scene : Scene) (operator : CBin) (a b : PartialExpr) (s t type :
     binary_type operator s t ≡ Some type → IsClean scene (BinaryOf operator a b) type
 binary-clean scene operator a b s t type c d e =
     let own : binary_offences scene operator a b ≡ [] = elim (is_comparison operator || is_sum operator) as (λ q. is_comparison operator || is_sum operator ≡ q →
-          (if q then second_offends scene operator a b else wants_number scene a ++ wants_number scene b) ≡ []) [
-            | true ↦ λ _. second-clean scene operator a b s t type c.told d.told e
-            | false ↦ λ other. let numbers = plain-numbers operator s t type other e in
-                both-empty (no-number scene a s c.told numbers.0) (no-number scene b t d.told numbers.1)
-          ] refl in
+    (if q then second_offends scene operator a b else wants_number scene a ++ wants_number scene b) ≡ []) [
+      | true ↦ λ _. second-clean scene operator a b s t type c.told d.told e
+      | false ↦ λ other. let numbers = plain-numbers operator s t type other e in
+          both-empty (no-number scene a s c.told numbers.0) (no-number scene b t d.told numbers.1)
+    ] refl in
     clean scene (BinaryOf operator a b) type (both-empty c.none (both-empty d.none own))
     (ap (λ o. both_types operator o (told_type scene.names b)) c.told ∙ ap (both_types operator (Some s)) d.told ∙ e)
 
@@ -327,9 +327,9 @@ conditional-clean : (scene : Scene) (a b c : PartialExpr) (r s t type : CType) �
     arms_type s t ≡ Some type → IsClean scene (ConditionalOf a b c) type
 conditional-clean scene a b c r s t type x p y z e =
     let arms : arms_offences scene b c ≡ [] = ap (λ q. only_if q (offence of_type (place_of c)))
-          (ap (λ o. (is_some o && is_some (told_type scene.names c)) && is_none (both_arms_type o (told_type scene.names c))) y.told
-          ∙ ap (λ o. (is_some (Some s) && is_some o) && is_none (both_arms_type (Some s) o)) z.told
-          ∙ ap is_none e) in
+    (ap (λ o. (is_some o && is_some (told_type scene.names c)) && is_none (both_arms_type o (told_type scene.names c))) y.told
+    ∙ ap (λ o. (is_some (Some s) && is_some o) && is_none (both_arms_type (Some s) o)) z.told
+    ∙ ap is_none e) in
     clean scene (ConditionalOf a b c) type
     (both-empty x.none (both-empty y.none (both-empty z.none (both-empty (no-number scene a r x.told p) arms))))
     (ap (λ o. both_arms_type o (told_type scene.names c)) y.told ∙ ap (both_arms_type (Some s)) z.told ∙ e)

@@ -104,7 +104,7 @@ fits-of scene e to whole none own =
     let t = expr-typed scene e whole none in
     ap (λ o. elim o [ Some from ↦ converts from to | None ↦ false ]) t.is
     ∙ not-true (converts t.type to) (none-only (not (converts t.type to)) (offence of_type (place_of e))
-      (ap (λ o. conversion o (Some to) (place_of e)) (sym t.told) ∙ own))
+    (ap (λ o. conversion o (Some to) (place_of e)) (sym t.told) ∙ own))
 
 -- the other way
 pub record Becomes (scene : Scene) (e : PartialExpr) (to : CType) : Type 0 where
@@ -150,6 +150,6 @@ assignment-fits scene place e placed whole none =
     let value = none-both (expr_offences scene e) (becomes scene e true (told_place scene.names place)) (sym (done (is_name_here e) _) ∙ parts.1) in
     ap (λ o. elim o [ Some to ↦ fits scene.names to (plain_expr e) | None ↦ false ]) p.1.is
     ∙ fits-of scene e p.0 whole value.0 (ap (λ o. becomes scene e true o) (sym p.1.told) ∙ value.1) where
-  done : (b : Bool) (xs : List Offence) → (if b && not true then [] else xs) ≡ xs
-  done true xs = refl
-  done false xs = refl
+      done : (b : Bool) (xs : List Offence) → (if b && not true then [] else xs) ≡ xs
+      done true xs = refl
+      done false xs = refl
