@@ -2,3 +2,4 @@ pub mod ExprRules
 pub mod StmtRules
 pub mod CallRules
 pub mod ListRules
+pub mod BodyRules
