@@ -3,3 +3,5 @@ pub mod StmtRules
 pub mod CallRules
 pub mod ListRules
 pub mod BodyRules
+pub mod LabelRules
+pub mod WalkRules
