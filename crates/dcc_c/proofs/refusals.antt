@@ -5,3 +5,4 @@ pub mod ListRules
 pub mod BodyRules
 pub mod LabelRules
 pub mod WalkRules
+pub mod TimesRules

@@ -21,6 +21,7 @@ use Rattle.dcc_c.specs.Complete.{is_complete_expr, is_complete_place, is_complet
 use Rattle.dcc_c.proofs.refusals.ExprRules.{none-both, none-only, no-some, true-false, both-empty, and-both, IsTyped, expr-typed, IsClean, expr-clean}
 use Rattle.dcc_c.proofs.refusals.StmtRules.{number-of-test, test-of-number, assignment-fits, not-true}
 use Rattle.dcc_c.proofs.refusals.CallRules.{fitting-assignment, HasSignature, call-fits, fitting-call, allowed-known, return-fits, fitting-return}
+use Rattle.dcc_c.proofs.refusals.WalkRules.{OwnClean}
 use Rattle.dcc_c.proofs.refusals.ListRules.{not-true-false, cases-differ, differ-cases}
 
 -- What a scene knows is what a function of a tree knows.
@@ -156,6 +157,17 @@ module _ (tree : Tree) (f : Function) (scene : Scene) (is : IsScene tree f scene
   returned at (Some a) e = in-names (λ names. elim f.result [ Some to ↦ fits names to (plain_expr a) | None ↦ false ])
       (ap (λ o. elim o [ Some to ↦ fits scene.names to (plain_expr a) | None ↦ false ]) (sym is.result) ∙ e)
 
+  give : (at : ℕ) (e : Option PartialExpr) → allows_stmt tree f (Return (option_map plain_expr e)) ≡ true →
+      (elim e [ None ↦ not (is_some scene.result) | Some e ↦ (elim scene.result [ Some to ↦ fits scene.names to (plain_expr e) | None ↦ false ]) ]) ≡ true
+  give at None e = ap (λ o. not (is_some o)) is.result ∙ e
+  give at (Some a) e = ap (λ o. elim o [ Some to ↦ fits scene.names to (plain_expr a) | None ↦ false ]) is.result
+      ∙ of-names (λ names. elim f.result [ Some to ↦ fits names to (plain_expr a) | None ↦ false ]) e
+
+  test-clean : (e : PartialExpr) (done : Bool) → is_complete_expr e && done ≡ true → is_number (declared_in tree f) (plain_expr e) ≡ true → test_offences scene e done ≡ []
+  test-clean e done whole number =
+      let parts = and-both (is_complete_expr e) done whole in
+      ap (λ d. test_offences scene e d) parts.1 ∙ test-of-number scene e parts.0 (of-names (λ names. is_number names (plain_expr e)) number)
+
   -- the statement is allowed, where nothing offends in its own parts and in its cases
   pub stmt-allowed : (at blocks : ℕ) (stmt : PartialStmt) → is_complete_stmt stmt ≡ true → own_offences scene at stmt ≡ [] → inner_offences scene blocks stmt ≡ [] →
       allows_stmt tree f (plain_stmt stmt) ≡ true
@@ -192,3 +204,67 @@ module _ (tree : Tree) (f : Function) (scene : Scene) (is : IsScene tree f scene
   stmt-allowed at blocks (ReturnOf e done) whole none inner =
       let parts = and-both (is_complete_if e) done whole in
       returned at e (return-fits scene at e parts.0 is.has_result (ap (λ d. own_offences scene at (ReturnOf e d)) (sym parts.1) ∙ none))
+
+  -- Nothing offends in a statement that is allowed, and whose `goto` names a label.
+  pub stmt-clean : Knows tree scene → (at : ℕ) (stmt : PartialStmt) → is_complete_stmt stmt ≡ true →
+      allows_stmt tree f (plain_stmt stmt) && list_all (is_among scene.labels) (goto_of (plain_stmt stmt)) ≡ true → OwnClean scene at stmt
+  stmt-clean knows at (AssignOf place None done) whole fit = absurd (true-false (sym (and-both (is_complete_place place) false whole).1))
+  stmt-clean knows at (AssignOf place (Some e) done) whole fit =
+      let parts = and-both (is_complete_place place) (is_complete_expr e && done) whole in
+      let value = and-both (is_complete_expr e) done parts.1 in
+      let own = and-both (allows_stmt tree f (plain_stmt (AssignOf place (Some e) done))) true fit in
+      record {
+        own = ap (λ d. own_offences scene at (AssignOf place (Some e) d)) value.1
+            ∙ fitting-assignment scene place e parts.0 value.0 (of-names (λ names. allows_assignment names (plain_expr place) (plain_expr e)) own.0);
+        heads = refl;
+      }
+  stmt-clean knows at (CallOf place call) whole fit =
+      let parts = and-both (is_complete_place_if place) (list_all is_complete_expr call.arguments && call.closed) whole in
+      let others = and-both (list_all is_complete_expr call.arguments) call.closed parts.1 in
+      let own = and-both (allows_stmt tree f (plain_stmt (CallOf place call))) true fit in
+      let s = allowed-known (declared_in tree f) (option_map plain_expr place) (map plain_expr call.arguments) (signature_in tree call.function.word) own.0 in
+      record {
+        own = fitting-call scene at place call s.0 parts.0 others.0 others.1 (knows call.function.word s.0 s.1)
+            (of-names (λ names. call_allowed names place call (Some s.0)) (ap (λ o. call_allowed (declared_in tree f) place call o) (sym s.1) ∙ own.0));
+        heads = refl;
+      }
+  stmt-clean knows at (IfOf e done body otherwise) whole fit = record {
+    own = test-clean e done (and-both (is_complete_expr e && done) (is_complete_lines body && is_complete_lines otherwise) whole).0
+        (and-both (is_number (declared_in tree f) (plain_expr e)) true fit).0;
+    heads = refl;
+  }
+  stmt-clean knows at (WhileOf e done body) whole fit = record {
+    own = test-clean e done (and-both (is_complete_expr e && done) (is_complete_lines body) whole).0 (and-both (is_number (declared_in tree f) (plain_expr e)) true fit).0;
+    heads = refl;
+  }
+  stmt-clean knows at (DoWhileOf body e done) whole fit = record {
+    own = test-clean e done (and-both (is_complete_expr e && done) (is_complete_lines body) whole).0 (and-both (is_number (declared_in tree f) (plain_expr e)) true fit).0;
+    heads = refl;
+  }
+  stmt-clean knows at (ForeverOf body) whole fit = record { own = refl; heads = refl }
+  stmt-clean knows at (SwitchOf e done arms) whole fit =
+      let parts = and-both (is_complete_expr e && done) (are_complete_arms arms) whole in
+      let test = and-both (is_complete_expr e) done parts.0 in
+      let own = and-both (allows_stmt tree f (plain_stmt (SwitchOf e done arms))) true fit in
+      let value = and-both (is_switch_value (declared_in tree f) (plain_expr e)) (differ (cases_of (case_arms arms)) && at_most_one (default_arms arms)) own.0 in
+      let numbers = and-both (differ (cases_of (case_arms arms))) (at_most_one (default_arms arms)) value.1 in
+      record {
+        own = ap (λ d. switch_offences scene e d) test.1 ∙ allowed-switch scene e test.0 (of-names (λ names. is_switch_value names (plain_expr e)) value.0);
+        heads = both-empty (differ-cases (case_numbers arms) (ap differ (sym (cases-are arms parts.1)) ∙ numbers.0)) (default-one arms numbers.1);
+      }
+  stmt-clean knows at BreakOf whole fit = record { own = refl; heads = refl }
+  stmt-clean knows at ContinueOf whole fit = record { own = refl; heads = refl }
+  stmt-clean knows at (GotoOf None) whole fit = absurd cc
+  stmt-clean knows at (GotoOf (Some name)) whole fit = record {
+    own = ap (λ b. only_if (not b) (offence of_name name.at)) (and-both (is_among scene.labels name.word) true fit).0;
+    heads = refl;
+  }
+  stmt-clean knows at (LabelOf name) whole fit = record { own = refl; heads = refl }
+  stmt-clean knows at EmptyOf whole fit = record { own = refl; heads = refl }
+  stmt-clean knows at (ReturnOf e done) whole fit =
+      let parts = and-both (is_complete_if e) done whole in
+      let own = and-both (allows_stmt tree f (plain_stmt (ReturnOf e done))) true fit in
+      record {
+        own = ap (λ d. own_offences scene at (ReturnOf e d)) parts.1 ∙ fitting-return scene at e parts.0 is.has_result (give at e own.0);
+        heads = refl;
+      }
