@@ -6,3 +6,4 @@ pub mod BodyRules
 pub mod LabelRules
 pub mod WalkRules
 pub mod TimesRules
+pub mod KnownRules
