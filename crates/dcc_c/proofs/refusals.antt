@@ -7,3 +7,4 @@ pub mod LabelRules
 pub mod WalkRules
 pub mod TimesRules
 pub mod KnownRules
+pub mod GlobalRules
