@@ -8,3 +8,4 @@ pub mod WalkRules
 pub mod TimesRules
 pub mod KnownRules
 pub mod GlobalRules
+pub mod FunctionRules

@@ -2,6 +2,7 @@
 use native.Mathlib.Omega.{arith}
 use Rattle.std.proofs.Common.{◌≡◌, ℕ, zero, suc, ◌+◌, ◌*◌, ◌≤◌, ◌<◌, Bool, true, false, ◌&&◌, ◌||◌, ◌==◌, List, [], ◌∷◌, ◌++◌, length, map, drop, Option, Some, None, refl, sym, ap, ◌∙◌}
 use Rattle.std.proofs.lemmas.Bool.{ltb-false, le-ltb, leb-true, le-leb, eqb-true, lt-ltb, ltb-true}
+use Rattle.std.proofs.Math.Bool.{and-false}
 use Rattle.std.specs.Prelude.{not, nat_lt, nat_le, is_some, option_map, if◌then◌else◌}
 use Rattle.std.specs.List.{list_any, list_all}
 use Rattle.dcc_c.specs.declared.syntax.CType.{CType}
@@ -191,3 +192,38 @@ places-allowed lo hi earlier (v ∷ vs) whole none =
       apart = rw split.0 rest.apart;
       earlier_apart = rw own.1 split.1;
     }
+
+-- The other way.
+
+to-first : (v : PartialVariable) (earlier us : List PartialVariable) → Complete v → list_all is_complete_variable us ≡ true →
+    list_all (are_apart (plain_global v)) (map plain_global us) ≡ true → all_off earlier us ≡ true → all_off (v ∷ earlier) us ≡ true
+to-first v earlier [] c whole first rest = refl
+to-first v earlier (u ∷ us) c whole first rest =
+    let parts = and-both (is_complete_variable u) (list_all is_complete_variable us) whole in
+    let here = and-both (are_apart (plain_global v) (plain_global u)) (list_all (are_apart (plain_global v)) (map plain_global us)) first in
+    let own = and-both (list_all (stand_apart u) earlier) (all_off earlier us) rest in
+    rw (apart-is u v (complete-variable u parts.0) c ∙ apart-swap (plain_global u) (plain_global v) ∙ here.0) (rw own.0 (to-first v earlier us c parts.1 here.1 own.1))
+
+pub placed-clean : (lo hi : ℕ) (earlier vs : List PartialVariable) → list_all is_complete_variable vs ≡ true → ArePlaced lo hi earlier vs → globals_places lo hi earlier vs ≡ []
+placed-clean lo hi earlier [] whole are = refl
+placed-clean lo hi earlier (v ∷ vs) whole are =
+    let parts = and-both (is_complete_variable v) (list_all is_complete_variable vs) whole in
+    let c = complete-variable v parts.0 in
+    let allowed = and-both (allows_global (plain_global v)) (list_all allows_global (map plain_global vs)) are.allowed in
+    let off = and-both (is_off_stack lo hi (plain_global v)) (list_all (is_off_stack lo hi) (map plain_global vs)) are.off in
+    let apart = and-both (list_all (are_apart (plain_global v)) (map plain_global vs)) (all_apart (map plain_global vs)) are.apart in
+    let free = and-both (list_all (stand_apart v) earlier) (all_off earlier vs) are.earlier_apart in
+    let element = and-both (has_element (option_map (λ n. n.value) v.size)) _ allowed.0 in
+    let limits = and-both (nat_le (behind_global (plain_global v)) 65536) _ element.1 in
+    let taken : takes_bytes v ≡ true = rw c.done (lt-ltb 0 (size_in_bytes v) (bytes-there v c element.0)) in
+    let memory : nat_lt 65536 (end_of v) ≡ false = le-ltb 65536 (end_of v) (omega (arith, leb-true (behind_global (plain_global v)) 65536 limits.0, end-is v c)) in
+    let stack : (nat_le hi lo || (nat_le (end_of v) lo || nat_le hi v.address)) ≡ true = ap (λ n. nat_le hi lo || (nat_le n lo || nat_le hi v.address)) (end-is v c) ∙ off.0 in
+    let right : is_misplaced lo hi earlier v ≡ false =
+          ap (λ b. nat_lt 0 (size_in_bytes v) && (b || (not (nat_le hi lo || (nat_le (end_of v) lo || nat_le hi v.address)) || not (list_all (stand_apart v) earlier)))) memory
+          ∙ ap (λ b. nat_lt 0 (size_in_bytes v) && (not b || not (list_all (stand_apart v) earlier))) stack
+          ∙ ap (λ b. nat_lt 0 (size_in_bytes v) && not b) free.0 ∙ and-false (nat_lt 0 (size_in_bytes v)) in
+    let own : (if v.done && is_misplaced lo hi earlier v then misplaced_at v.name else []) ≡ [] =
+          ap (λ (b : Bool). if v.done && b then misplaced_at v.name else []) right ∙ ap (λ (b : Bool). if b then misplaced_at v.name else []) (and-false v.done) in
+    both-empty (there-size v.size element.0) (both-empty (fits-surplus v limits.1) (both-empty own
+    (ap (λ (b : Bool). globals_places lo hi (if b then v ∷ earlier else earlier) vs) taken
+    ∙ placed-clean lo hi (v ∷ earlier) vs parts.1 (record { allowed = allowed.1; off = off.1; apart = apart.1; earlier_apart = to-first v earlier vs c parts.1 apart.0 free.1 }))))
