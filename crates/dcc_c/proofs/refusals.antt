@@ -9,3 +9,4 @@ pub mod TimesRules
 pub mod KnownRules
 pub mod GlobalRules
 pub mod FunctionRules
+pub mod SceneRules

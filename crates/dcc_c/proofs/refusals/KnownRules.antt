@@ -50,10 +50,10 @@ name-words (v ∷ vs) whole =
 
 -- what variables are declared as
 module _ (is_placed : PartialVariable → Bool) where
-  abbrev declared_plain : PartialVariable → Declared
+  abbrev pub declared_plain : PartialVariable → Declared
   declared_plain v = record { name = plain_name v.name; type = plain_type v.type; is_array = is_some v.size; is_placed = is_placed v }
 
-  abbrev declared_if : PartialVariable → List Declared → Option WordAt → Option CType → List Declared
+  abbrev pub declared_if : PartialVariable → List Declared → Option WordAt → Option CType → List Declared
   declared_if v rest name type = elim name [
     | None ↦ rest
     | Some n ↦ elim type [ None ↦ rest | Some t ↦ record { name = n.word; type = t; is_array = is_some v.size; is_placed = is_placed v } ∷ rest ]
@@ -160,7 +160,7 @@ function-words (f ∷ fs) whole =
 -- Signatures.
 
 -- a function that is known has its signature in the tree, and the other way
-abbrev signature_if : Option Known → Option Signature
+abbrev pub signature_if : Option Known → Option Signature
 signature_if (Some k) = k.signature
 signature_if None = None
 
