@@ -10,3 +10,4 @@ pub mod KnownRules
 pub mod GlobalRules
 pub mod FunctionRules
 pub mod SceneRules
+pub mod AllowedRules

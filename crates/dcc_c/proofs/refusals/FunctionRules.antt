@@ -61,12 +61,12 @@ append-differ (x ∷ xs) ys e =
 
 -- Sizes of local arrays.
 
-sizes-there : (vs : List PartialVariable) → sizes_of vs ≡ [] → list_all (λ v. has_element v.len) (map plain_variable vs) ≡ true
+pub sizes-there : (vs : List PartialVariable) → sizes_of vs ≡ [] → list_all (λ v. has_element v.len) (map plain_variable vs) ≡ true
 sizes-there [] none = refl
 sizes-there (v ∷ vs) none =
     let both = none-both (size_offences v.size) (sizes_of vs) none in rw (size-there v.size both.0) (sizes-there vs both.1)
 
-there-sizes : (vs : List PartialVariable) → list_all (λ v. has_element v.len) (map plain_variable vs) ≡ true → sizes_of vs ≡ []
+pub there-sizes : (vs : List PartialVariable) → list_all (λ v. has_element v.len) (map plain_variable vs) ≡ true → sizes_of vs ≡ []
 there-sizes [] e = refl
 there-sizes (v ∷ vs) e =
     let parts = and-both (has_element (option_map (λ n. n.value) v.size)) (list_all (λ (u : Variable). has_element u.len) (map plain_variable vs)) e in
