@@ -11,3 +11,5 @@ pub mod GlobalRules
 pub mod FunctionRules
 pub mod SceneRules
 pub mod AllowedRules
+pub mod TextRules
+pub mod FirstRules

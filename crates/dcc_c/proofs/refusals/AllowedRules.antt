@@ -36,9 +36,9 @@ all-gotos labels [] e = refl
 all-gotos labels (stmt ∷ stmts) e =
     let parts = and-both (list_all (is_among labels) (goto_of stmt)) (list_all (goto_allowed labels) stmts) e in
     joined (is_among labels) (goto_of stmt) (flat_map goto_of stmts) parts.0 (all-gotos labels stmts parts.1) where
-  joined : {A : Type 0} (P : A → Bool) (xs ys : List A) → list_all P xs ≡ true → list_all P ys ≡ true → list_all P (xs ++ ys) ≡ true
-  joined P [] ys e g = g
-  joined P (x ∷ xs) ys e g = let parts = and-both (P x) (list_all P xs) e in rw parts.0 (joined P xs ys parts.1 g)
+      joined : {A : Type 0} (P : A → Bool) (xs ys : List A) → list_all P xs ≡ true → list_all P ys ≡ true → list_all P (xs ++ ys) ≡ true
+      joined P [] ys e g = g
+      joined P (x ∷ xs) ys e g = let parts = and-both (P x) (list_all P xs) e in rw parts.0 (joined P xs ys parts.1 g)
 
 gotos-all : (labels : List Word) (stmts : List Stmt) → list_all (is_among labels) (flat_map goto_of stmts) ≡ true → list_all (goto_allowed labels) stmts ≡ true
 unfolding goto_allowed
@@ -58,7 +58,7 @@ module _ (text : PartialText) (globals : list_all is_complete_variable text.glob
   names-map [] = refl
   names-map (f ∷ fs) = ap (λ l. plain_name f.name ∷ l) (names-map fs)
 
-  globals-map : (vs : List PartialVariable) → map (λ v. plain_name v.name) vs ≡ map (λ (g : Global). g.name) (map plain_global vs)
+  pub globals-map : (vs : List PartialVariable) → map (λ v. plain_name v.name) vs ≡ map (λ (g : Global). g.name) (map plain_global vs)
   globals-map [] = refl
   globals-map (v ∷ vs) = ap (λ l. plain_name v.name ∷ l) (globals-map vs)
 
@@ -122,7 +122,7 @@ module _ (text : PartialText) (globals : list_all is_complete_variable text.glob
               (ap (λ l. none_among l (names_of (own_variables (plain_function f)))) (sym words-are) ∙ ap (none_among (known_in text []).words) (sym own-words) ∙ own.0);
           labels = rw (differ-same (words_of (label_list f.body)) (labels_in (plain_lines f.body)) (lines-words f.body) labels.1)
               (all-same (is_among scene.labels) (is_among (labels_in (plain_lines f.body))) labels-are (flat_map goto_of (stmts_in (plain_lines f.body)))
-                (all-gotos scene.labels (stmts_in (plain_lines f.body)) (lines-all (goto_allowed scene.labels) scene goto-holds 0 f.body c.body three.1)));
+              (all-gotos scene.labels (stmts_in (plain_lines f.body)) (lines-all (goto_allowed scene.labels) scene goto-holds 0 f.body c.body three.1)));
           types = lines-all (allows_stmt (plain_text text) (plain_function f)) scene (stmt-allowed (plain_text text) (plain_function f) scene is) 0 f.body c.body three.1;
           arrays = sizes-there f.locals two.0;
           depth = shallow;
@@ -138,16 +138,16 @@ module _ (text : PartialText) (globals : list_all is_complete_variable text.glob
         let known = knows text globals functions f c [] allowed.own_names all in
         let labels = and-both (all_differ (labels_in (plain_lines f.body))) (list_all (is_among (labels_in (plain_lines f.body))) (flat_map goto_of (stmts_in (plain_lines f.body)))) allowed.labels in
         let gotos = gotos-all scene.labels (stmts_in (plain_lines f.body))
-              (all-same (is_among (labels_in (plain_lines f.body))) (is_among scene.labels) (λ word. sym (labels-are word)) (flat_map goto_of (stmts_in (plain_lines f.body))) labels.1) in
+        (all-same (is_among (labels_in (plain_lines f.body))) (is_among scene.labels) (λ word. sym (labels-are word)) (flat_map goto_of (stmts_in (plain_lines f.body))) labels.1) in
         both-empty
         (apart-repeated (known_in text []).words (name_list f.params ++ name_list f.locals)
-          (ap (none_among (known_in text []).words) own-words ∙ ap (λ l. none_among l (names_of (own_variables (plain_function f)))) words-are ∙ own.2)
-          (ap all_differ own-words ∙ own.0))
+        (ap (none_among (known_in text []).words) own-words ∙ ap (λ l. none_among l (names_of (own_variables (plain_function f)))) words-are ∙ own.2)
+        (ap all_differ own-words ∙ own.0))
         (both-empty (there-sizes f.locals allowed.arrays)
         (both-empty (apart-repeated [] (label_list f.body) (none-known (words_of (label_list f.body))) (differ-same (labels_in (plain_lines f.body)) (words_of (label_list f.body)) (λ word. sym (lines-words f.body word)) labels.0))
         (lines-clean (λ stmt. allows_stmt (plain_text text) (plain_function f) stmt && goto_allowed scene.labels stmt) scene
-          (stmt-clean (plain_text text) (plain_function f) scene is known) 0 f.body c.body c.within
-          (both-all (allows_stmt (plain_text text) (plain_function f)) (goto_allowed scene.labels) (stmts_in (plain_lines f.body)) allowed.types gotos)))) where
-      none-known : (words : List Word) → none_among [] words ≡ true
-      none-known [] = refl
-      none-known (word ∷ words) = none-known words
+        (stmt-clean (plain_text text) (plain_function f) scene is known) 0 f.body c.body c.within
+        (both-all (allows_stmt (plain_text text) (plain_function f)) (goto_allowed scene.labels) (stmts_in (plain_lines f.body)) allowed.types gotos)))) where
+          none-known : (words : List Word) → none_among [] words ≡ true
+          none-known [] = refl
+          none-known (word ∷ words) = none-known words

@@ -48,16 +48,16 @@ switch-allowed scene e whole none =
     let t = expr-typed scene e whole both.0 in
     ap (λ o. elim o [ Some type ↦ not type.pointer && is_word_base (promoted_type type.base) | None ↦ false ]) t.is
     ∙ not-true (is_switch_type t.type) (none-only (true && not (is_switch_type t.type)) (offence of_type (place_of e))
-      (ap (λ o. elim o [ Some type ↦ only_if (true && not (is_switch_type type)) (offence of_type (place_of e)) | None ↦ [] ]) (sym t.told) ∙ both.1))
+    (ap (λ o. elim o [ Some type ↦ only_if (true && not (is_switch_type type)) (offence of_type (place_of e)) | None ↦ [] ]) (sym t.told) ∙ both.1))
 
 allowed-switch : (scene : Scene) (e : PartialExpr) → is_complete_expr e ≡ true → is_switch_value scene.names (plain_expr e) ≡ true → switch_offences scene e true ≡ []
 allowed-switch scene e whole fit = elim (type_of scene.names (plain_expr e)) as (λ o. type_of scene.names (plain_expr e) ≡ o →
     (elim o [ Some type ↦ not type.pointer && is_word_base (promoted_type type.base) | None ↦ false ]) ≡ true → switch_offences scene e true ≡ []) [
-  | Some type ↦ λ is p. let c = expr-clean scene e type whole is in
-      both-empty c.none (ap (λ o. elim o [ Some type ↦ only_if (true && not (is_switch_type type)) (offence of_type (place_of e)) | None ↦ [] ]) c.told
-      ∙ ap (λ b. only_if (true && not b) (offence of_type (place_of e))) p)
-  | None ↦ λ _ bad. absurd cc
-] refl fit
+      | Some type ↦ λ is p. let c = expr-clean scene e type whole is in
+          both-empty c.none (ap (λ o. elim o [ Some type ↦ only_if (true && not (is_switch_type type)) (offence of_type (place_of e)) | None ↦ [] ]) c.told
+          ∙ ap (λ b. only_if (true && not b) (offence of_type (place_of e))) p)
+      | None ↦ λ _ bad. absurd cc
+    ] refl fit
 
 -- the numbers of the cases
 empty-of : {A : Type 0} (xs : List A) → length xs == 0 ≡ true → xs ≡ []
@@ -135,14 +135,14 @@ module _ (tree : Tree) (f : Function) (scene : Scene) (is : IsScene tree f scene
       let own = (none-both (arguments_inner scene call.arguments) (callee_offences scene at place call) first.1).1 in
       let word = call.function.word in
       elim (declared_as scene.names word) as (λ o. declared_as scene.names word ≡ o →
-          (signature : Signature) × HasSignature scene word signature × (signature_in tree word ≡ Some signature)) [
+      (signature : Signature) × HasSignature scene word signature × (signature_in tree word ≡ Some signature)) [
         | Some d ↦ λ e. absurd (bad-variable scene at place call d e own)
         | None ↦ λ e. elim (known_as scene.functions word) as (λ o. known_as scene.functions word ≡ o →
             (signature : Signature) × HasSignature scene word signature × (signature_in tree word ≡ Some signature)) [
-          | Some k ↦ λ found. let s = is.known word k e found in
-              (s.0, record { no_variable = e; known = k; found = found; is = s.1 }, s.2)
-          | None ↦ λ found. absurd (bad-unknown scene at place call e found own)
-        ] refl
+              | Some k ↦ λ found. let s = is.known word k e found in
+                  (s.0, record { no_variable = e; known = k; found = found; is = s.1 }, s.2)
+              | None ↦ λ found. absurd (bad-unknown scene at place call e found own)
+            ] refl
       ] refl
 
   tested : (at : ℕ) (e : PartialExpr) (done : Bool) → is_complete_expr e && done ≡ true → test_offences scene e done ≡ [] → is_number (declared_in tree f) (plain_expr e) ≡ true

@@ -52,12 +52,13 @@ append-differ (x ∷ xs) ys e =
     let rest = append-differ xs ys own.1 in
     let none : is_among xs x || is_among ys x ≡ false = sym (among-append xs ys x) ∙ not-true-false (is_among (xs ++ ys) x) own.0 in
     (rw (or-left' (is_among xs x) (is_among ys x) none) rest.0, rest.1, rw (or-right' (is_among xs x) (is_among ys x) none) rest.2) where
-  or-left' : (a b : Bool) → a || b ≡ false → a ≡ false
-  or-left' true b e = absurd cc
-  or-left' false b e = refl
-  or-right' : (a b : Bool) → a || b ≡ false → b ≡ false
-  or-right' true b e = absurd cc
-  or-right' false b e = e
+      or-left' : (a b : Bool) → a || b ≡ false → a ≡ false
+      or-left' true b e = absurd cc
+      or-left' false b e = refl
+
+      or-right' : (a b : Bool) → a || b ≡ false → b ≡ false
+      or-right' true b e = absurd cc
+      or-right' false b e = e
 
 -- Sizes of local arrays.
 

@@ -117,11 +117,11 @@ positive (suc m) n p q = omega (arith, q)
 pub bytes-there : (v : PartialVariable) → Complete v → has_element (option_map (λ n. n.value) v.size) ≡ true → 0 < size_in_bytes v
 bytes-there v c e =
     let is : size_in_bytes v ≡ bytes_of c.type (option_map (λ n. n.value) v.size) =
-          ap (λ (o : Option CType). elim o [ Some type ↦ bytes_of type (option_map (λ n. n.value) v.size) | None ↦ 0 ]) c.type_is in
+    ap (λ (o : Option CType). elim o [ Some type ↦ bytes_of type (option_map (λ n. n.value) v.size) | None ↦ 0 ]) c.type_is in
     omega (arith, is, some-bytes c.type v.size e) where
-  some-bytes : (type : CType) (size : Option NumberAt) → has_element (option_map (λ n. n.value) size) ≡ true → 0 < bytes_of type (option_map (λ n. n.value) size)
-  some-bytes type None e = positive (size_of type) 1 (size-positive type) (omega arith)
-  some-bytes type (Some n) e = positive (size_of type) n.value (size-positive type) (ltb-true 0 n.value e)
+      some-bytes : (type : CType) (size : Option NumberAt) → has_element (option_map (λ n. n.value) size) ≡ true → 0 < bytes_of type (option_map (λ n. n.value) size)
+      some-bytes type None e = positive (size_of type) 1 (size-positive type) (omega arith)
+      some-bytes type (Some n) e = positive (size_of type) n.value (size-positive type) (ltb-true 0 n.value e)
 
 -- Places.
 
@@ -137,24 +137,26 @@ own-placed lo hi earlier v c size init place =
     let element = size-there v.size size in
     let bytes = lt-ltb 0 (size_in_bytes v) (bytes-there v c element) in
     let wrong : is_misplaced lo hi earlier v ≡ false = elim (is_misplaced lo hi earlier v) as (λ b. is_misplaced lo hi earlier v ≡ b → b ≡ false) [
-          | true ↦ λ bad. let both : v.done && is_misplaced lo hi earlier v ≡ true = ap (λ d. d && is_misplaced lo hi earlier v) c.done ∙ bad in
-              absurd (not-there c.name (ap misplaced_at (sym c.name_is) ∙ ap (λ (b : Bool). if b then misplaced_at v.name else []) (sym both) ∙ place))
-          | false ↦ λ _. refl
-        ] refl in
+      | true ↦ λ bad. let both : v.done && is_misplaced lo hi earlier v ≡ true = ap (λ d. d && is_misplaced lo hi earlier v) c.done ∙ bad in
+          absurd (not-there c.name (ap misplaced_at (sym c.name_is) ∙ ap (λ (b : Bool). if b then misplaced_at v.name else []) (sym both) ∙ place))
+      | false ↦ λ _. refl
+    ] refl in
     let inside = sym (ap (λ b. b && (nat_lt 65536 (end_of v) || (not (nat_le hi lo || (nat_le (end_of v) lo || nat_le hi v.address)) || not (list_all (stand_apart v) earlier)))) bytes) ∙ wrong in
     let memory = or-left (nat_lt 65536 (end_of v)) _ inside in
     let others = or-right (nat_lt 65536 (end_of v)) _ inside in
     let stack = not-true _ (or-left (not (nat_le hi lo || (nat_le (end_of v) lo || nat_le hi v.address))) _ others) in
-    let free = not-true _ (or-right (not (nat_le hi lo || (nat_le (end_of v) lo || nat_le hi v.address))) (not (list_all (stand_apart v) earlier)) others) in
-    (record {
-      allowed = rw element (rw (le-leb (behind_global (plain_global v)) 65536 (omega (arith, ltb-false 65536 (end_of v) memory, end-is v c))) (surplus-fits v init));
-      off = ap (λ n. nat_le hi lo || (nat_le n lo || nat_le hi v.address)) (sym (end-is v c)) ∙ stack;
-    }, free) where
-  not-there : (name : WordAt) → misplaced_at (Some name) ≡ [] → ⊥
-  not-there name e = absurd cc
+    let free = not-true _ (or-right (not (nat_le hi lo || (nat_le (end_of v) lo || nat_le hi v.address))) (not (list_all (stand_apart v) earlier)) others) in (
+      record {
+        allowed = rw element (rw (le-leb (behind_global (plain_global v)) 65536 (omega (arith, ltb-false 65536 (end_of v) memory, end-is v c))) (surplus-fits v init));
+        off = ap (λ n. nat_le hi lo || (nat_le n lo || nat_le hi v.address)) (sym (end-is v c)) ∙ stack;
+      },
+      free,
+    ) where
+      not-there : (name : WordAt) → misplaced_at (Some name) ≡ [] → ⊥
+      not-there name e = absurd cc
 
 -- each later variable stands apart from one, and from the ones before it
-abbrev all_off : List PartialVariable → List PartialVariable → Bool
+abbrev pub all_off : List PartialVariable → List PartialVariable → Bool
 all_off earlier vs = list_all (λ v. list_all (stand_apart v) earlier) vs
 
 -- What is shown of variables: their own places, that they stand apart, and apart from earlier ones.
@@ -219,11 +221,11 @@ placed-clean lo hi earlier (v ∷ vs) whole are =
     let memory : nat_lt 65536 (end_of v) ≡ false = le-ltb 65536 (end_of v) (omega (arith, leb-true (behind_global (plain_global v)) 65536 limits.0, end-is v c)) in
     let stack : (nat_le hi lo || (nat_le (end_of v) lo || nat_le hi v.address)) ≡ true = ap (λ n. nat_le hi lo || (nat_le n lo || nat_le hi v.address)) (end-is v c) ∙ off.0 in
     let right : is_misplaced lo hi earlier v ≡ false =
-          ap (λ b. nat_lt 0 (size_in_bytes v) && (b || (not (nat_le hi lo || (nat_le (end_of v) lo || nat_le hi v.address)) || not (list_all (stand_apart v) earlier)))) memory
-          ∙ ap (λ b. nat_lt 0 (size_in_bytes v) && (not b || not (list_all (stand_apart v) earlier))) stack
-          ∙ ap (λ b. nat_lt 0 (size_in_bytes v) && not b) free.0 ∙ and-false (nat_lt 0 (size_in_bytes v)) in
+    ap (λ b. nat_lt 0 (size_in_bytes v) && (b || (not (nat_le hi lo || (nat_le (end_of v) lo || nat_le hi v.address)) || not (list_all (stand_apart v) earlier)))) memory
+    ∙ ap (λ b. nat_lt 0 (size_in_bytes v) && (not b || not (list_all (stand_apart v) earlier))) stack
+    ∙ ap (λ b. nat_lt 0 (size_in_bytes v) && not b) free.0 ∙ and-false (nat_lt 0 (size_in_bytes v)) in
     let own : (if v.done && is_misplaced lo hi earlier v then misplaced_at v.name else []) ≡ [] =
-          ap (λ (b : Bool). if v.done && b then misplaced_at v.name else []) right ∙ ap (λ (b : Bool). if b then misplaced_at v.name else []) (and-false v.done) in
+    ap (λ (b : Bool). if v.done && b then misplaced_at v.name else []) right ∙ ap (λ (b : Bool). if b then misplaced_at v.name else []) (and-false v.done) in
     both-empty (there-size v.size element.0) (both-empty (fits-surplus v limits.1) (both-empty own
     (ap (λ (b : Bool). globals_places lo hi (if b then v ∷ earlier else earlier) vs) taken
     ∙ placed-clean lo hi (v ∷ earlier) vs parts.1 (record { allowed = allowed.1; off = off.1; apart = apart.1; earlier_apart = to-first v earlier vs c parts.1 apart.0 free.1 }))))

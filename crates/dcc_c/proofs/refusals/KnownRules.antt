@@ -115,10 +115,17 @@ complete-function f whole =
     let name = some-there f.name two.0 in
     let opened = some-there f.opened three.0 in
     record {
-      name = name.0; opened = opened.0; name_is = name.1; opened_is = opened.1; headed = three.1;
+      name = name.0;
+      opened = opened.0;
+      name_is = name.1;
+      opened_is = opened.1;
+      headed = three.1;
       has_result = agree-same f.has_result (is_some f.result) five.0;
       without = agree-same f.without_params (length f.params == 0) five.1;
-      params = six.0; locals = seven.0; body = eight.0; within = eight.1;
+      params = six.0;
+      locals = seven.0;
+      body = eight.0;
+      within = eight.1;
     }
 
 -- the signature of a complete function
@@ -126,9 +133,9 @@ pub signature-is : (f : PartialFunction) → CompleteFunction f → signature_of
 signature-is f c =
     ap (λ (b : Bool). if b then Some (record { result = f.result; params = type_list f.params }) else None) c.headed
     ∙ ap (λ l. Some (record { result = f.result; params = l })) (types-are f.params c.params ∙ sym (map-map f.params)) where
-  map-map : (vs : List PartialVariable) → map (λ (v : Variable). v.type) (map plain_variable vs) ≡ map (λ (v : PartialVariable). plain_type v.type) vs
-  map-map [] = refl
-  map-map (v ∷ vs) = ap (λ l. plain_type v.type ∷ l) (map-map vs)
+      map-map : (vs : List PartialVariable) → map (λ (v : Variable). v.type) (map plain_variable vs) ≡ map (λ (v : PartialVariable). plain_type v.type) vs
+      map-map [] = refl
+      map-map (v ∷ vs) = ap (λ l. plain_type v.type ∷ l) (map-map vs)
 
 -- the function as it is known
 abbrev pub known_plain : PartialFunction → Known
@@ -170,9 +177,9 @@ same-function [] word = refl
 same-function (f ∷ fs) word = elim (same_bytes (plain_name f.name) word) as (λ b.
     signature_if (if b then Some (known_plain f) else known_as (map known_plain fs) word)
     ≡ option_map tree_signature (if b then Some (plain_function f) else function_in (map plain_function fs) word)) [
-  | true ↦ refl
-  | false ↦ same-function fs word
-]
+      | true ↦ refl
+      | false ↦ same-function fs word
+    ]
 
 same-dos : (dos : List Dos) (rest : List Known) (word : Word) →
     signature_if (known_as (map (λ d. known (dos_name d) (Some (dos_signature d))) dos ++ rest) word)
@@ -181,9 +188,9 @@ same-dos [] rest word = refl
 same-dos (d ∷ dos) rest word = elim (same_bytes (dos_name d) word) as (λ b.
     signature_if (if b then Some (known (dos_name d) (Some (dos_signature d))) else known_as (map (λ d. known (dos_name d) (Some (dos_signature d))) dos ++ rest) word)
     ≡ (elim (if b then Some d else dos_in dos word) [ Some d ↦ Some (dos_signature d) | None ↦ signature_if (known_as rest word) ])) [
-  | true ↦ refl
-  | false ↦ same-dos dos rest word
-]
+      | true ↦ refl
+      | false ↦ same-dos dos rest word
+    ]
 
 pub same-signature : (tree : Tree) (fs : List PartialFunction) (word : Word) → tree.functions ≡ map plain_function fs →
     signature_if (known_as (known_dos ++ map known_plain fs) word) ≡ signature_in tree word

@@ -60,14 +60,15 @@ inner_labels stmt = labels_of stmt
 
 mutual
   unfolding label-words inner_labels
+
   -- the labels of partial statements are those of the statements, in some order
   pub lines-words : (rows : PartialLines) → SameWords (words_of (label_list rows)) (labels_in (plain_lines rows))
   lines-words no_rows word = refl
   lines-words (row (LabelOf name) at line rows) word = elim (same_bytes name.word word) as (λ b. (if b then suc (times word (words_of (label_list rows))) else times word (words_of (label_list rows)))
       ≡ (if b then suc (times word (labels_in (plain_lines rows))) else times word (labels_in (plain_lines rows)))) [
-    | true ↦ ap suc (lines-words rows word)
-    | false ↦ lines-words rows word
-  ]
+        | true ↦ ap suc (lines-words rows word)
+        | false ↦ lines-words rows word
+      ]
   lines-words (row (IfOf e done body otherwise) at line rows) word = part-words (inner_stmts (plain_stmt (IfOf e done body otherwise))) (stmts_in (plain_lines rows)) (labels_of (IfOf e done body otherwise)) (label_list rows) (inner-words (IfOf e done body otherwise)) (lines-words rows) word
   lines-words (row (WhileOf e done body) at line rows) word = part-words (inner_stmts (plain_stmt (WhileOf e done body))) (stmts_in (plain_lines rows)) (labels_of (WhileOf e done body)) (label_list rows) (inner-words (WhileOf e done body)) (lines-words rows) word
   lines-words (row (DoWhileOf body e done) at line rows) word = part-words (inner_stmts (plain_stmt (DoWhileOf body e done))) (stmts_in (plain_lines rows)) (labels_of (DoWhileOf body e done)) (label_list rows) (inner-words (DoWhileOf body e done)) (lines-words rows) word

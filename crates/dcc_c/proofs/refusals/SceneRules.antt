@@ -126,9 +126,9 @@ module _ (text : PartialText) (globals : list_all is_complete_variable text.glob
       is_among (map (λ f. f.name) (map plain_function text.functions) ++ dos_names) word ≡ true
   among-known word signature e = elim (dos_of word) as (λ o. dos_of word ≡ o → (elim o [ Some d ↦ Some (dos_signature d) | None ↦ option_map tree_signature (function_in (map plain_function text.functions) word) ]) ≡ Some signature →
       is_among (map (λ (f : Function). f.name) (map plain_function text.functions) ++ dos_names) word ≡ true) [
-    | Some d ↦ λ is _. among-right (map (λ (f : Function). f.name) (map plain_function text.functions)) dos_names word (among-dos all_dos word d is)
-    | None ↦ λ _ later. among-left (map (λ (f : Function). f.name) (map plain_function text.functions)) dos_names word (among-function (map plain_function text.functions) word signature later)
-  ] refl e
+        | Some d ↦ λ is _. among-right (map (λ (f : Function). f.name) (map plain_function text.functions)) dos_names word (among-dos all_dos word d is)
+        | None ↦ λ _ later. among-left (map (λ (f : Function). f.name) (map plain_function text.functions)) dos_names word (among-function (map plain_function text.functions) word signature later)
+      ] refl e
 
   -- a word of the second list is none of the first
   apart-words : (ys xs : List Word) (word : Word) → none_among ys xs ≡ true → is_among ys word ≡ true → is_among xs word ≡ false
@@ -169,18 +169,18 @@ module _ (text : PartialText) (globals : list_all is_complete_variable text.glob
       let own_apart = append-differ (names_of (own_variables (plain_function f))) (known_names (plain_text text)) own in
       let no_global = apart-words (map (λ (f : Function). f.name) (map plain_function text.functions) ++ dos_names) (map (λ (g : Global). g.name) (map plain_global text.globals)) word globals_apart.2 functions_there in
       let no_own = apart-words (known_names (plain_text text)) (names_of (own_variables (plain_function f))) word own_apart.2
-            (among-right (map (λ (g : Global). g.name) (map plain_global text.globals)) (map (λ (f : Function). f.name) (map plain_function text.functions) ++ dos_names) word functions_there) in
+      (among-right (map (λ (g : Global). g.name) (map plain_global text.globals)) (map (λ (f : Function). f.name) (map plain_function text.functions) ++ dos_names) word functions_there) in
       let scene = is-scene f c labels in
       let found = signature-found (known_as (known_in text []).functions word) signature (signature-same word ∙ e) in
       record {
         no_variable = ap (λ l. declared_as l word) scene.names ∙ declared-none (declared_in (plain_text text) (plain_function f)) word
             (ap (λ l. is_among l word) (names-declared (map plain_variable f.params) (map plain_variable f.locals) (map plain_global text.globals)
-              ∙ ap (λ l. l ++ map (λ (g : Global). g.name) (map plain_global text.globals)) (sym (map-append (λ (v : Variable). v.name) (map plain_variable f.params) (map plain_variable f.locals))))
+            ∙ ap (λ l. l ++ map (λ (g : Global). g.name) (map plain_global text.globals)) (sym (map-append (λ (v : Variable). v.name) (map plain_variable f.params) (map plain_variable f.locals))))
             ∙ both-absent (names_of (own_variables (plain_function f))) (map (λ (g : Global). g.name) (map plain_global text.globals)) word no_own no_global);
         known = found.0;
         found = found.1;
         is = found.2;
       } where
-    signature-found : (o : Option Known) (signature : Signature) → signature_if o ≡ Some signature → (k : Known) × (o ≡ Some k) × (k.signature ≡ Some signature)
-    signature-found (Some k) signature e = (k, refl, e)
-    signature-found None signature e = absurd cc
+        signature-found : (o : Option Known) (signature : Signature) → signature_if o ≡ Some signature → (k : Known) × (o ≡ Some k) × (k.signature ≡ Some signature)
+        signature-found (Some k) signature e = (k, refl, e)
+        signature-found None signature e = absurd cc

@@ -54,7 +54,7 @@ differ-once (x ∷ xs) e word =
       | false ↦ λ _. differ-once xs parts.1 word
     ] refl
 
-bytes-same : (word : Word) → same_bytes word word ≡ true
+pub bytes-same : (word : Word) → same_bytes word word ≡ true
 bytes-same [] = refl
 bytes-same (x ∷ xs) = rw (eq-eqb x x refl) (bytes-same xs)
 
@@ -69,9 +69,9 @@ once-differ [] once = refl
 once-differ (x ∷ xs) once =
     let here : times x (x ∷ xs) ≡ suc (times x xs) = rw (bytes-same x) refl in
     let alone : is_among xs x ≡ false = elim (is_among xs x) as (λ b. is_among xs x ≡ b → b ≡ false) [
-          | true ↦ λ there. absurd (omega (arith, here, once x, present-times xs x there))
-          | false ↦ λ _. refl
-        ] refl in
+      | true ↦ λ there. absurd (omega (arith, here, once x, present-times xs x there))
+      | false ↦ λ _. refl
+    ] refl in
     rw alone (once-differ xs (λ word. omega (arith, fewer x xs word, once word)))
 
 -- lists with the same words differ alike

@@ -30,7 +30,7 @@ module _ (P : Stmt → Bool) (scene : Scene)
         let inner = none-both (inner_offences scene (suc blocks) stmt) (lines_offences scene blocks rows) own.1 in
         rw (own-holds at (suc blocks) stmt parts.0 own.0 inner.0)
         (all-append P (inner_stmts (plain_stmt stmt)) (stmts_in (plain_lines rows))
-          (inner-all (suc blocks) stmt parts.0 inner.0) (lines-all blocks rows parts.1 inner.1))
+        (inner-all (suc blocks) stmt parts.0 inner.0) (lines-all blocks rows parts.1 inner.1))
 
     inner-all : (blocks : ℕ) (stmt : PartialStmt) → is_complete_stmt stmt ≡ true → inner_offences scene blocks stmt ≡ [] →
         list_all P (inner_stmts (plain_stmt stmt)) ≡ true
