@@ -5,3 +5,4 @@ pub mod NameLaws
 pub mod PlainLaws
 mod Examples
 pub mod TypingLaws
+pub mod reading

@@ -1,0 +1,5 @@
+-- What is read of a text is what the grammar says.
+pub mod Passing
+pub mod Statements
+pub mod Enclosing
+pub mod Words
