@@ -3,3 +3,7 @@ pub mod Passing
 pub mod Statements
 pub mod Enclosing
 pub mod Words
+pub mod Stopping
+pub mod ExprParts
+pub mod ExprSound
+pub mod ExprRules
