@@ -7,3 +7,4 @@ pub mod Stopping
 pub mod ExprParts
 pub mod ExprSound
 pub mod ExprRules
+pub mod Derivations

@@ -53,6 +53,10 @@ pub record ReadsType (r : Reader) (g : Got (Option CType)) : Type 0 where
 abbrev pub on : List Placed → ℕ → ℕ → Reader
 on tokens at depth = record { left = pieces_with tokens; at = at; stop = None; depth = depth }
 
+-- so many calls are enough for a rule at these tokens
+abbrev pub IsEnoughFor : ℕ → ℕ → List Placed → Type 0
+IsEnoughFor calls rule tokens = 16 * length tokens + rule ≤ calls
+
 -- the first of some tokens
 abbrev pub first_of : List Placed → Option Token
 first_of tokens = first_token (pieces_with tokens)
@@ -88,11 +92,11 @@ SoundUnary = (calls : ℕ) (inside : Inside) (r : Reader) → IsEnough calls 1 r
 abbrev pub CompleteExpr : Type 0
 CompleteExpr =
     (tokens rest : List Placed) (e : Expr) → IsExpr 0 tokens e rest → EndsExpr rest →
-    (calls : ℕ) (inside : Inside) (at depth : ℕ) → IsEnough calls 3 (pieces_with tokens) → IsShallow inside tokens e →
+    (calls : ℕ) (inside : Inside) (at depth : ℕ) → IsEnoughFor calls 3 tokens → IsShallow inside tokens e →
     FindsExpr tokens e rest at depth (read_expr calls inside (on tokens at depth))
 
 abbrev pub CompleteUnary : Type 0
 CompleteUnary =
     (tokens rest : List Placed) (e : Expr) → IsExpr 11 tokens e rest →
-    (calls : ℕ) (inside : Inside) (at depth : ℕ) → IsEnough calls 1 (pieces_with tokens) → IsShallow inside tokens e →
+    (calls : ℕ) (inside : Inside) (at depth : ℕ) → IsEnoughFor calls 1 tokens → IsShallow inside tokens e →
     FindsExpr tokens e rest at depth (read_unary calls inside (on tokens at depth))
