@@ -8,3 +8,6 @@ pub mod ExprParts
 pub mod ExprSound
 pub mod ExprRules
 pub mod Derivations
+pub mod TypeComplete
+pub mod ExprComplete
+pub mod ExprFinds

@@ -1,15 +1,15 @@
 -- What a derivation of the grammar says of the tokens of an expression or a type.
-use Rattle.std.proofs.Common.{◌≡◌, ℕ, zero, suc, ◌+◌, ◌-◌, ◌<◌, ◌≤◌, List, [], ◌∷◌, ◌++◌, length, map, false, true, refl, sym, ap, ◌∙◌, arith, add-one, true≢false}
-use Rattle.std.specs.Prelude.{codes, Bool, ◌||◌, Option, Some, None, if◌then◌else◌, ⊤}
+use Rattle.std.proofs.Common.{◌≡◌, ℕ, suc, ◌+◌, ◌-◌, ◌<◌, ◌≤◌, List, [], ◌∷◌, ◌++◌, length, map, false, true, refl, sym, ap, ◌∙◌, arith, add-one, true≢false}
+use Rattle.std.specs.Prelude.{codes, Bool, Some, if◌then◌else◌, ⊤}
 use Rattle.dcc_c.specs.declared.syntax.Base.{Base}
 use Rattle.dcc_c.specs.declared.syntax.CType.{CType}
 use Rattle.dcc_c.specs.Token.{Token, WordToken, Mark, same_bytes}
 use Rattle.dcc_c.specs.Lexing.{Placed, placed}
 use Rattle.dcc_c.specs.Tree.{Word, Expr}
-use Rattle.dcc_c.specs.Grammar.{is_name, mark, type_tokens, base_words, unary_mark, binary_mark, strength, Begins, none, one, IsNumber, decimal, hex, IsExpr, number, name, parentheses, unary, cast, binary, conditional, stronger}
+use Rattle.dcc_c.specs.Grammar.{is_name, mark, type_tokens, base_words, unary_mark, binary_mark, Begins, none, one, IsNumber, decimal, hex, IsExpr, number, name, parentheses, unary, cast, binary, conditional, stronger}
 use Rattle.dcc_c.specs.Rules.{most_open}
-use Rattle.dcc_c.specs.Reading.{begins_type, is_the_word, is_the_mark}
-use Rattle.dcc_c.proofs.reading.Passing.{same_bytes-equal, if-cases}
+use Rattle.dcc_c.specs.Reading.{begins_type}
+use Rattle.dcc_c.proofs.reading.Passing.{same_bytes-equal}
 use Rattle.dcc_c.proofs.reading.Enclosing.{open_behind, enclosed-behind}
 use Rattle.dcc_c.proofs.reading.Statements.{first_of}
 use Rattle.dcc_c.proofs.reading.ExprParts.{strength_most, unary_flat, binary_flat}
@@ -67,14 +67,14 @@ pub flat_type : (type : CType) → AreFlat (type_tokens type)
 flat_type type = flat-append _ _ (flat_words (base_words type.base)) (flat_star type.pointer)
 
 -- tokens that keep to the limit, from one on which is no parenthesis
-flat_behind : (token : Token) (opened line : ℕ) (rest : List Placed) → open_behind token opened ≡ opened →
+pub flat_behind : (token : Token) (opened line : ℕ) (rest : List Placed) → open_behind token opened ≡ opened →
     most_open opened (placed line token ∷ rest) ≤ 200 → most_open opened rest ≤ 200
 flat_behind token opened line rest flat few = rw flat at (enclosed-behind token opened line rest few)
 
 pub opening_behind : (opened line : ℕ) (rest : List Placed) → most_open opened (mark line (codes "(") ∷ rest) ≤ 200 → most_open (suc opened) rest ≤ 200
 opening_behind opened line rest few = rw add-one at (enclosed-behind (Mark (codes "(")) opened line rest few)
 
-closing_behind : (opened line : ℕ) (rest : List Placed) → most_open (suc opened) (mark line (codes ")") ∷ rest) ≤ 200 → most_open opened rest ≤ 200
+pub closing_behind : (opened line : ℕ) (rest : List Placed) → most_open (suc opened) (mark line (codes ")") ∷ rest) ≤ 200 → most_open opened rest ≤ 200
 closing_behind opened line rest few =
     let same : suc opened - 1 ≡ opened = omega arith in
     rw same at (enclosed-behind (Mark (codes ")")) (suc opened) line rest few)

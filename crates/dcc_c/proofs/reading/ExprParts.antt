@@ -1,26 +1,24 @@
 -- Parts of expressions: depth, strength, pairs of parentheses, and leaves.
-use Rattle.std.proofs.Common.{◌≡◌, ℕ, zero, suc, ◌+◌, ◌*◌, ◌<◌, ◌≤◌, List, length, max, Option, Some, None, refl, sym, ap, ◌∙◌, subst, arith, add-one, ◌-◌, false}
-use Rattle.std.proofs.lemmas.Bool.{leb-true, leb-false, ltb-false}
-use Rattle.std.specs.Prelude.{codes, nat_le, nat_lt}
-use Rattle.dcc_c.specs.declared.syntax.CType.{CType}
+use Rattle.std.proofs.Common.{◌≡◌, ℕ, zero, suc, ◌+◌, ◌<◌, ◌≤◌, List, refl, ap, subst, arith, add-one, ◌-◌, false}
+use Rattle.std.proofs.lemmas.Bool.{leb-false}
+use Rattle.std.specs.Prelude.{codes, nat_le}
 use Rattle.dcc_c.specs.declared.syntax.CUn.{CUn}
 use Rattle.dcc_c.specs.declared.syntax.CUn.TheVariants.{Minus}
 use Rattle.dcc_c.specs.declared.syntax.CBin.{CBin}
 use Rattle.dcc_c.specs.declared.syntax.CBin.TheVariants.{OrOr}
-use Rattle.dcc_c.specs.Token.{Token, WordToken, Mark}
+use Rattle.dcc_c.specs.Token.{WordToken, Mark}
 use Rattle.dcc_c.specs.Lexing.{Placed}
-use Rattle.dcc_c.specs.Tree.{Expr, Binary, Conditional}
-use Rattle.dcc_c.specs.Grammar.{mark, type_tokens, unary_mark, binary_mark, strength, Begins, IsExpr, number, name, parentheses, unary, cast, binary, conditional, stronger}
-use Rattle.dcc_c.specs.Kinds.{of_depth}
+use Rattle.dcc_c.specs.Tree.{Expr}
+use Rattle.dcc_c.specs.Grammar.{unary_mark, binary_mark, strength, IsExpr, number, name, stronger}
 use Rattle.dcc_c.specs.Rules.{expr_depth, most_open}
 use Rattle.dcc_c.specs.Partial.{PartialExpr, Missing, NumberHere, NameHere, UnaryHere, BinaryOf, ConditionalOf, CastHere, depth_of}
-use Rattle.dcc_c.specs.Reading.{Reader, Got, got, next_token, skip, fail, stop_at, name_of, number_of, sees_mark, take_mark, take_type, begins_type, begins_expr, unary_of, binary_of, Inside, in_operator, in_parentheses, stop_if_deep, stop_if_enclosed, number_here, name_here, read_leaf, closed, joined, chosen, read_unary, read_parentheses, read_cast, read_binary, read_more, read_expr, read_rest}
+use Rattle.dcc_c.specs.Reading.{Reader, next_token, skip, name_of, number_of, Inside, read_leaf}
 use Rattle.dcc_c.specs.Stripped.{plain_expr}
-use Rattle.dcc_c.proofs.reading.Passing.{tokens_of, Took, then_passed, if-cases, stop_at-stops, fail-stops, skip-took, the_mark-is, sees_mark-took, take_mark-took}
+use Rattle.dcc_c.proofs.reading.Passing.{tokens_of, Took, fail-stops, skip-took}
 use Rattle.dcc_c.proofs.reading.Enclosing.{open_behind, open_before, enclosed-before}
-use Rattle.dcc_c.proofs.reading.Words.{SoundType, type-sound, took_enclosed, unary_of-is, binary_of-is, number_of-is, name_of-is}
-use Rattle.dcc_c.proofs.reading.Statements.{IsEnough, IsWeaker, ReadsExpr, IsSound, ReadsType, SoundUnary, SoundExpr}
-use Rattle.dcc_c.proofs.reading.Stopping.{GoesOn, choice-cases, keeps_stop, KeepsStop, inside_of, inside-keeps}
+use Rattle.dcc_c.proofs.reading.Words.{took_enclosed, number_of-is, name_of-is}
+use Rattle.dcc_c.proofs.reading.Statements.{IsSound}
+use Rattle.dcc_c.proofs.reading.Stopping.{choice-cases}
 
 pub depth_same : (e : PartialExpr) → expr_depth (plain_expr e) ≡ depth_of e
 depth_same Missing = refl

@@ -1,20 +1,20 @@
 -- What is read of an expression is one.
-use Rattle.std.proofs.Common.{◌≡◌, ℕ, zero, suc, ◌+◌, ◌*◌, ◌<◌, ◌≤◌, List, [], ◌∷◌, length, false, true, Option, Some, None, refl, ap, arith, le_of_suc-le-suc}
+use Rattle.std.proofs.Common.{◌≡◌, ℕ, zero, suc, ◌+◌, ◌≤◌, length, true, Option, Some, None, ap, arith, le_of_suc-le-suc}
 use Rattle.std.proofs.lemmas.Bool.{leb-true, leb-false, ltb-false}
 use Rattle.std.specs.Prelude.{codes, nat_le, nat_lt, ◌||◌}
 use Rattle.dcc_c.specs.declared.syntax.CType.{CType}
 use Rattle.dcc_c.specs.declared.syntax.CBin.{CBin}
-use Rattle.dcc_c.specs.Token.{Token, Mark}
-use Rattle.dcc_c.specs.Grammar.{binary_mark, strength}
+use Rattle.dcc_c.specs.Token.{Mark}
+use Rattle.dcc_c.specs.Grammar.{strength}
 use Rattle.dcc_c.specs.Kinds.{of_depth}
 use Rattle.dcc_c.specs.Partial.{PartialExpr, BinaryOf, ConditionalOf, depth_of}
-use Rattle.dcc_c.specs.Reading.{Reader, Got, got, next_token, skip, fail, stop_at, sees_mark, take_mark, take_type, begins_type, begins_expr, unary_of, binary_of, Inside, in_operator, in_parentheses, stop_if_deep, stop_if_enclosed, cast_of, unary_at, closed, joined, chosen, read_unary, read_parentheses, read_cast, read_binary, read_more, read_expr, read_rest}
+use Rattle.dcc_c.specs.Reading.{Reader, Got, got, next_token, skip, fail, stop_at, sees_mark, take_mark, take_type, begins_type, begins_expr, unary_of, binary_of, Inside, in_operator, in_parentheses, stop_if_deep, joined, chosen, read_unary, read_parentheses, read_cast, read_binary, read_more, read_expr, read_rest}
 use Rattle.dcc_c.proofs.reading.Passing.{Took, if-cases, stop_at-stops, fail-stops, skip-took, the_mark-is, sees_mark-took, take_mark-took}
 use Rattle.dcc_c.proofs.reading.Words.{SoundType, type-sound, unary_of-is, binary_of-is}
-use Rattle.dcc_c.proofs.reading.Statements.{IsEnough, IsWeaker, ReadsExpr, IsSound, ReadsType, SoundUnary, SoundExpr}
-use Rattle.dcc_c.proofs.reading.Stopping.{GoesOn, choice-cases, keeps_stop, KeepsStop, inside_of, inside-keeps, deep-keeps, deep_left}
+use Rattle.dcc_c.proofs.reading.Statements.{IsEnough, IsSound, SoundUnary, SoundExpr}
+use Rattle.dcc_c.proofs.reading.Stopping.{choice-cases, keeps_stop, KeepsStop, inside_of, inside-keeps, deep-keeps, deep_left}
 use Rattle.dcc_c.proofs.reading.ExprParts.{strength_most, leaf-sound}
-use Rattle.dcc_c.proofs.reading.ExprSound.{ReadsBinary, SoundBinary, SoundAt, nothing_ends, weaken_read, none-sound, operator-sound, closed-sound, cast_of-sound, joined-sound, chosen-sound}
+use Rattle.dcc_c.proofs.reading.ExprSound.{SoundBinary, SoundAt, weaken_read, none-sound, operator-sound, closed-sound, cast_of-sound, joined-sound, chosen-sound}
 
 -- two operands and their operator, where the whole is not too deep
 joined_deep : (inside : Inside) (strong : ℕ) (operator : CBin) (r : Reader) (left b : Got PartialExpr) → SoundBinary strong (suc strong) inside r left →

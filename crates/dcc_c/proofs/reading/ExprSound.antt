@@ -1,26 +1,19 @@
 -- What reading an expression makes of its parts is one.
-use Rattle.std.proofs.Common.{◌≡◌, ℕ, zero, suc, ◌+◌, ◌*◌, ◌-◌, ◌<◌, ◌≤◌, List, [], ◌∷◌, length, max, false, Option, Some, None, refl, sym, ap, ◌∙◌, subst, arith, add-one}
-use Rattle.std.proofs.lemmas.Bool.{leb-true, leb-false, ltb-false}
-use Rattle.std.specs.Prelude.{codes, nat_le, nat_lt, ◌||◌}
+use Rattle.std.proofs.Common.{◌≡◌, ℕ, zero, suc, ◌+◌, ◌*◌, ◌≤◌, List, [], ◌∷◌, length, Option, Some, None, refl, sym, ap, ◌∙◌, subst, arith}
+use Rattle.std.specs.Prelude.{codes}
 use Rattle.dcc_c.specs.declared.syntax.CType.{CType}
 use Rattle.dcc_c.specs.declared.syntax.CBin.{CBin}
-use Rattle.dcc_c.specs.Token.{Token, WordToken, Mark}
-use Rattle.dcc_c.specs.Lexing.{Placed}
+use Rattle.dcc_c.specs.Token.{Token, Mark}
 use Rattle.dcc_c.specs.declared.syntax.CUn.{CUn}
 use Rattle.dcc_c.specs.Pieces.{Piece}
-use Rattle.dcc_c.specs.Tree.{Expr, Binary, Conditional}
-use Rattle.dcc_c.specs.Grammar.{mark, type_tokens, unary_mark, binary_mark, strength, Begins, IsExpr, number, name, parentheses, unary, cast, binary, conditional, stronger}
-use Rattle.dcc_c.specs.Kinds.{of_depth}
-use Rattle.dcc_c.specs.Rules.{expr_depth, most_open}
-use Rattle.dcc_c.specs.Partial.{PartialExpr, Missing, BinaryOf, ConditionalOf, depth_of}
-use Rattle.dcc_c.specs.Reading.{Reader, Got, got, first_token, next_token, skip, fail, stop_at, sees_mark, take_mark, take_type, begins_type, begins_expr, unary_of, binary_of, Inside, in_operator, in_parentheses, stop_if_deep, stop_if_enclosed, cast_of, unary_at, read_leaf, closed, joined, chosen, read_unary, read_parentheses, read_cast, read_binary, read_more, read_expr, read_rest}
+use Rattle.dcc_c.specs.Grammar.{mark, type_tokens, unary_mark, binary_mark, strength, Begins, IsExpr, parentheses, unary, cast, binary, conditional}
+use Rattle.dcc_c.specs.Partial.{PartialExpr, BinaryOf, ConditionalOf, depth_of}
+use Rattle.dcc_c.specs.Reading.{Reader, Got, got, first_token, next_token, skip, take_mark, binary_of, Inside, in_operator, in_parentheses, cast_of, unary_at, closed, read_unary, read_parentheses, read_cast, read_binary, read_more, read_expr, read_rest}
 use Rattle.dcc_c.specs.Stripped.{plain_expr}
-use Rattle.dcc_c.proofs.reading.Passing.{tokens_of, Passed, Took, then_passed, if-cases, stop_at-stops, fail-stops, skip-took, sees_mark-took, take_mark-took}
-use Rattle.dcc_c.proofs.reading.Enclosing.{open_behind, open_before, enclosed-before}
-use Rattle.dcc_c.proofs.reading.Words.{SoundType, type-sound, took_enclosed, unary_of-is, binary_of-is}
-use Rattle.dcc_c.proofs.reading.Statements.{IsEnough, IsWeaker, ReadsExpr, IsSound, ReadsType, SoundUnary, SoundExpr}
-use Rattle.dcc_c.proofs.reading.Stopping.{GoesOn, choice-cases, keeps_stop, KeepsStop, inside_of, inside-keeps, deep-keeps}
-use Rattle.dcc_c.proofs.reading.ExprParts.{depth_same, strength_most, unary_flat, binary_flat, weaken, opening_enclosed, closing_enclosed, leaf-sound}
+use Rattle.dcc_c.proofs.reading.Passing.{tokens_of, Took, then_passed, skip-took, take_mark-took}
+use Rattle.dcc_c.proofs.reading.Words.{SoundType, took_enclosed}
+use Rattle.dcc_c.proofs.reading.Statements.{IsEnough, IsWeaker, ReadsExpr, IsSound, ReadsType}
+use Rattle.dcc_c.proofs.reading.ExprParts.{depth_same, unary_flat, binary_flat, weaken, opening_enclosed, closing_enclosed}
 
 -- What was read of operands and their operators, and no operator follows that belongs to them.
 pub record ReadsBinary (least limit : ℕ) (inside : Inside) (r : Reader) (g : Got PartialExpr) : Type 0 where

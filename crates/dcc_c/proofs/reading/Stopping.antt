@@ -1,12 +1,11 @@
 -- Reading that has stopped stays so: where it goes on behind an expression, it went on before.
-use Rattle.std.proofs.Common.{◌≡◌, ℕ, zero, suc, ◌+◌, Option, Some, None, refl}
+use Rattle.std.proofs.Common.{◌≡◌, ℕ, zero, suc, ◌+◌, Option, Some, None, Bool, true, false, refl, ap}
 use Rattle.std.specs.Prelude.{codes, if◌then◌else◌, nat_le, nat_lt, ◌||◌}
 use Rattle.dcc_c.specs.declared.syntax.CType.{CType}
-use Rattle.dcc_c.specs.declared.syntax.CBin.{CBin}
 use Rattle.dcc_c.specs.Grammar.{strength}
 use Rattle.dcc_c.specs.Kinds.{of_depth, offence}
 use Rattle.dcc_c.specs.Partial.{PartialExpr, depth_of}
-use Rattle.dcc_c.specs.Reading.{Reader, Got, got, is_stopped, next_token, skip, fail, stop_at, name_of, number_of, sees_mark, take_mark, take_type, begins_type, begins_expr, unary_of, binary_of, Inside, in_operator, in_parentheses, stop_if_deep, stop_if_enclosed, number_here, name_here, read_leaf, closed, joined, chosen, read_unary, read_parentheses, read_cast, read_binary, read_more, read_expr, read_rest}
+use Rattle.dcc_c.specs.Reading.{Reader, Got, is_stopped, next_token, skip, stop_at, name_of, number_of, sees_mark, take_mark, take_type, begins_type, begins_expr, unary_of, binary_of, Inside, in_operator, in_parentheses, stop_if_deep, stop_if_enclosed, read_leaf, closed, joined, chosen, read_unary, read_parentheses, read_cast, read_binary, read_more, read_expr, read_rest}
 use Rattle.dcc_c.proofs.reading.Passing.{if-cases, stop_at-stops, fail-stops, take_mark-took}
 use Rattle.dcc_c.proofs.reading.Words.{type-sound}
 
@@ -22,6 +21,19 @@ pub choice-cases : {A B : Type 0} (P : B → Type 0) (o : Option A) {f : A → B
     P (elim o [ Some a ↦ f a | None ↦ n ])
 choice-cases P (Some a) some none = some a refl
 choice-cases P None some none = none refl
+
+-- what is chosen, where it is known what there is
+pub choice-some : {A B : Type 0} (o : Option A) (a : A) (f : A → B) (n : B) → o ≡ Some a → (elim o [ Some x ↦ f x | None ↦ n ]) ≡ f a
+choice-some o a f n is = ap (λ x. elim x [ Some y ↦ f y | None ↦ n ]) is
+
+pub choice-none : {A B : Type 0} (o : Option A) (f : A → B) (n : B) → o ≡ None → (elim o [ Some x ↦ f x | None ↦ n ]) ≡ n
+choice-none o f n is = ap (λ x. elim x [ Some y ↦ f y | None ↦ n ]) is
+
+pub if-true : {A : Type 0} (b : Bool) (x y : A) → b ≡ true → (if b then x else y) ≡ x
+if-true b x y is = ap (λ t. if t then x else y) is
+
+pub if-false : {A : Type 0} (b : Bool) (x y : A) → b ≡ false → (if b then x else y) ≡ y
+if-false b x y is = ap (λ t. if t then x else y) is
 
 pub deep-keeps : (inside : Inside) (e : PartialExpr) (r : Reader) → GoesOn r (stop_if_deep inside e r)
 deep-keeps inside e r =
