@@ -6,7 +6,7 @@ use Rattle.dcc_c.specs.Lexing.{Placed, placed}
 use Rattle.dcc_c.specs.Kinds.{Kind, Offence, offence}
 use Rattle.dcc_c.specs.Pieces.{Piece, piece}
 use Rattle.dcc_c.specs.Tree.{Word}
-use Rattle.dcc_c.specs.Reading.{Reader, first_token, next_token, skip, stop_at, stop_kind, fail, is_the_mark, is_the_word, sees_mark, sees_word, take_mark, take_word}
+use Rattle.dcc_c.specs.Reading.{Reader, first_token, line_of, next_token, skip, stop_at, stop_kind, fail, is_the_mark, is_the_word, sees_mark, sees_word, take_mark, take_word}
 
 -- the tokens of some pieces, each in its line; a piece without a token is left out
 abbrev pub tokens_of : List Piece → List Placed
@@ -34,6 +34,7 @@ pub record Took (token : Token) (r behind : Reader) : Type 0 where
   pub passed : Passed r behind
   pub steady : behind.depth ≡ r.depth
   pub line : ℕ
+  pub line_is : line ≡ line_of r.left
   pub begins : tokens_of r.left ≡ placed line token ∷ tokens_of behind.left
   pub one_less : length r.left ≡ suc (length behind.left)
 
@@ -78,6 +79,7 @@ skip-took_at (p ∷ pieces) at None depth token is =
       passed = record { going = refl; whole = rw is; place = omega arith; fewer = omega arith };
       steady = refl;
       line = p.line;
+      line_is = refl;
       begins = rw is;
       one_less = refl;
     }
