@@ -11,3 +11,7 @@ pub mod Derivations
 pub mod TypeComplete
 pub mod ExprComplete
 pub mod ExprFinds
+pub mod StmtStopping
+pub mod Steps
+pub mod StmtParts
+pub mod SimpleSound

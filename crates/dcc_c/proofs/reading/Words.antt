@@ -187,6 +187,6 @@ name_of-is (Some (WordToken word)) name is =
     let found = name_if-is word name is in (ap (λ w. Some (WordToken w)) found.0, found.1)
 name_of-is _ name is = absurd cc
 
-plain_of-is : (token : Option Token) (n : ℕ) → plain_of token ≡ Some n → token ≡ Some (Decimal n plain_number)
+pub plain_of-is : (token : Option Token) (n : ℕ) → plain_of token ≡ Some n → token ≡ Some (Decimal n plain_number)
 plain_of-is (Some (Decimal m plain_number)) n is = ap (λ k. Some (Decimal k plain_number)) (let same : m ≡ n = cc in same)
 plain_of-is _ n is = absurd cc
