@@ -15,3 +15,8 @@ pub mod StmtStopping
 pub mod Steps
 pub mod StmtParts
 pub mod SimpleSound
+pub mod LineSound
+pub mod ArmSound
+pub mod StmtSound
+pub mod ArmRules
+pub mod StmtRules

@@ -40,6 +40,11 @@ closing_steps opened room took = record { passed = took.passed; enclosed = λ fe
 pub expr_steps : {least : ℕ} {inside : Inside} {r : Reader} {g : Got PartialExpr} → ReadsExpr least inside r g → Steps inside.opened inside.opened r g.behind
 expr_steps read = record { passed = read.passed; enclosed = read.enclosed }
 
+-- another depth of calls changes nothing
+pub with_depth : {opened after : ℕ} {r behind : Reader} (depth : ℕ) → Steps opened after r behind → Steps opened after r (record behind { depth = depth })
+with_depth depth steps =
+    record { passed = record { going = steps.passed.going; whole = steps.passed.whole; place = steps.passed.place; fewer = steps.passed.fewer }; enclosed = steps.enclosed }
+
 -- Names and numbers.
 
 -- a name was passed

@@ -28,7 +28,7 @@ plain-keeps r = choice-cases (KeepsIn r) (plain_of (next_token r)) (λ _ _ going
 pub number-keeps : (line : ℕ) (r : Reader) → GoesOn r (take_number_of_line line r).behind
 number-keeps line r = if-cases (KeepsIn r) (line_of r.left == line) (λ _. plain-keeps r) (λ _ going. absurd (fail-stops r going))
 
-set-keeps : (n : Option NumberAt) (r : Reader) → GoesOn r (set_depth n r)
+pub set-keeps : (n : Option NumberAt) (r : Reader) → GoesOn r (set_depth n r)
 set-keeps (Some n) r going = going
 set-keeps None r going = going
 
