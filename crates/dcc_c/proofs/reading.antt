@@ -20,3 +20,5 @@ pub mod ArmSound
 pub mod StmtSound
 pub mod ArmRules
 pub mod StmtRules
+pub mod DeclSound
+pub mod TextSound
