@@ -22,3 +22,4 @@ pub mod ArmRules
 pub mod StmtRules
 pub mod DeclSound
 pub mod TextSound
+pub mod UnitSound

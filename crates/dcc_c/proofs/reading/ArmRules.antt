@@ -1,31 +1,24 @@
 -- What is read of an arm is one.
-use Rattle.std.proofs.Common.{◌≡◌, ℕ, zero, suc, ◌+◌, ◌*◌, ◌≤◌, ◌<◌, length, List, [], ◌∷◌, ◌++◌, Bool, true, false, Option, Some, None, refl, sym, ap, ◌∙◌, subst, arith, inl, inr}
-use Rattle.std.specs.Prelude.{codes, not, nat_lt, ◌&&◌, ◌||◌, is_some}
+use Rattle.std.proofs.Common.{◌≡◌, ℕ, ◌≤◌, ◌<◌, length, List, ◌∷◌, ◌++◌, Bool, true, false, None, refl, sym, ◌∙◌, subst, arith, inl, inr}
+use Rattle.std.specs.Prelude.{codes, ◌||◌}
 use Rattle.std.specs.List.{list_all}
-use Rattle.std.proofs.lemmas.Bool.{and_parts, and_from, ltb-false, or_right, or_cases}
+use Rattle.std.proofs.lemmas.Bool.{and_parts, and_from, or_right, or_cases}
 use Rattle.std.proofs.lemmas.List.Folds.{list_all-append}
-use Rattle.dcc_c.specs.Token.{Token, WordToken, Mark, depth_line}
-use Rattle.dcc_c.specs.Lexing.{Placed, placed}
-use Rattle.dcc_c.specs.Tree.{Stmt, Lines, no_lines, line, Arms}
+use Rattle.dcc_c.specs.Lexing.{Placed}
+use Rattle.dcc_c.specs.Tree.{Lines, no_lines, Arms}
 use Rattle.dcc_c.specs.Parts.{stmts_in, inner_stmts, arm_stmts}
-use Rattle.dcc_c.specs.Grammar.{mark, word, Around, in_block, in_loop, in_switch, AreLines, no_more, depth_pragma, label, statement, AreArms, no_arm, case_arm, default_arm, has_arm}
-use Rattle.dcc_c.specs.Kinds.{of_depth}
+use Rattle.dcc_c.specs.Grammar.{mark, word, Around, AreLines, no_more, depth_pragma, label, statement, AreArms, case_arm, default_arm, has_arm}
 use Rattle.dcc_c.specs.Rules.{shallow_stmt}
-use Rattle.dcc_c.specs.Partial.{WordAt, NumberAt, PartialExpr, PartialStmt, BreakOf, ContinueOf, LabelOf, PartialLines, no_rows, row, PartialArms, no_cases, cases}
-use Rattle.dcc_c.specs.Reading.{Reader, Got, got, is_stopped, next_token, second_token, line_of, skip, stop_at, fail, is_the_mark, name_of, sees_mark, sees_word, take_mark, take_word, take_name}
-use Rattle.dcc_c.specs.ReadingStatements.{read_test, begins_stmt, begins_label, begins_arm, sees_head, read_depth, Block, block_of, before_others, end_arm, without_last, is_break, stop_if_nested, ArmHead, read_arm_head, read_cases, read_stmt, read_if, read_block, read_lines, read_line, read_arms, read_more_arms}
+use Rattle.dcc_c.specs.Partial.{PartialLines, no_rows, row, PartialArms, cases}
+use Rattle.dcc_c.specs.Reading.{Reader, Got, got, skip, sees_word, take_mark}
+use Rattle.dcc_c.specs.ReadingStatements.{begins_arm, Block, without_last, ArmHead, read_arm_head, read_cases}
 use Rattle.dcc_c.specs.Stripped.{plain_stmt, plain_lines, case_arms, default_arms}
-use Rattle.dcc_c.proofs.reading.Passing.{tokens_of, Took, if-cases, option-cases, stop_at-stops, fail-stops, skip-took, the_mark-is, sees_mark-took, sees_word-took, take_mark-took, take_word-took}
-use Rattle.dcc_c.proofs.reading.Words.{name_of-is}
+use Rattle.dcc_c.proofs.reading.Passing.{tokens_of, if-cases, sees_word-took, take_mark-took}
 use Rattle.dcc_c.proofs.reading.Statements.{IsEnough}
-use Rattle.dcc_c.proofs.reading.Stopping.{GoesOn, choice-cases}
-use Rattle.dcc_c.proofs.reading.StmtStopping.{KeepsStmts, keeps_stmts, test-keeps, mark-keeps, word-keeps, depth-keeps, arm_head-keeps}
-use Rattle.dcc_c.proofs.reading.Steps.{Steps, then_steps, no_steps, token_steps}
-use Rattle.dcc_c.proofs.reading.StmtParts.{ReadsTest, test-sound}
-use Rattle.dcc_c.proofs.reading.SimpleSound.{ReadsStmt, SoundStmt, IsShallowStmt, simple-sound, break-sound, continue-sound, goto-sound, return-sound, empty-sound}
-use Rattle.dcc_c.proofs.reading.LineSound.{IsShallowLines, is_row, Leaving, nothing, last_break, ReadsLines, SoundLines, no_lines-sound, begins_here, depth-sound, depth_then, label_then, stmt_then, shallow_line}
+use Rattle.dcc_c.proofs.reading.Steps.{Steps, then_steps, token_steps}
+use Rattle.dcc_c.proofs.reading.LineSound.{IsShallowLines, is_row, Leaving, nothing, last_break, ReadsLines, shallow_line}
 use Rattle.dcc_c.proofs.reading.ArmSound.{cases-sound}
-use Rattle.dcc_c.proofs.reading.StmtSound.{ReadsBlock, SoundBlock, IsShallowArms, ReadsArms, SoundArms, SoundStmts, none-sound, while-sound, if_alone-sound, if_else-sound, do_while-sound, for-sound, switch-sound, block-sound}
+use Rattle.dcc_c.proofs.reading.StmtSound.{IsShallowArms, ReadsArms}
 
 -- Arms.
 
@@ -48,30 +41,30 @@ pub head-sound : (around : Around) (calls : ℕ) (r : Reader) → begins_arm r �
 head-sound around calls r begins enough =
     if-cases (λ head. head.behind.stop ≡ None → ReadsHead around r head) (sees_word (codes "default") r)
     (λ sees going.
-        let took = sees_word-took (codes "default") r sees in
-        let colon = take_mark-took (codes ":") (skip r) going in
-        let behind = take_mark (codes ":") (skip r) in
-        let steady : behind.depth ≡ r.depth = colon.steady ∙ took.steady in
-        record {
-          steps = then_steps (token_steps 0 refl took) (token_steps 0 refl colon);
-          shorter = omega (arith, took.one_less, colon.one_less);
-          arm = λ body others between after leaves end tokens rest room lines arms.
-            rw (took.begins, colon.begins) (default_arm room (subst (λ d. AreLines 200 around false d (tokens_of behind.left) (plain_lines body) between (word leaves (codes "break") ∷ mark end (codes ";") ∷ tokens)) steady lines) arms);
-          shallow = λ body others first arms last. (arms, shallow_arm body (default_arms others) first last);
-          has = λ body others. or_right (has_arm (case_arms others)) true refl;
-        })
+    let took = sees_word-took (codes "default") r sees in
+    let colon = take_mark-took (codes ":") (skip r) going in
+    let behind = take_mark (codes ":") (skip r) in
+    let steady : behind.depth ≡ r.depth = colon.steady ∙ took.steady in
+    record {
+      steps = then_steps (token_steps 0 refl took) (token_steps 0 refl colon);
+      shorter = omega (arith, took.one_less, colon.one_less);
+      arm = λ body others between after leaves end tokens rest room lines arms.
+          rw (took.begins, colon.begins) (default_arm room (subst (λ d. AreLines 200 around false d (tokens_of behind.left) (plain_lines body) between (word leaves (codes "break") ∷ mark end (codes ";") ∷ tokens)) steady lines) arms);
+      shallow = λ body others first arms last. (arms, shallow_arm body (default_arms others) first last);
+      has = λ body others. or_right (has_arm (case_arms others)) true refl;
+    })
     (λ other going.
-        let found = read_cases calls r in
-        let sees : sees_word (codes "case") r ≡ true = elim (or_cases (sees_word (codes "case") r) (sees_word (codes "default") r) begins) [ inl is ↦ is | inr is ↦ absurd cc ] in
-        let read = cases-sound calls r sees enough going in
-        record {
-          steps = read.steps;
-          shorter = read.shorter;
-          arm = λ body others between after leaves end tokens rest room lines arms.
-            case_arm read.derived room (subst (λ d. AreLines 200 around false d (tokens_of found.behind.left) (plain_lines body) between (word leaves (codes "break") ∷ mark end (codes ";") ∷ tokens)) read.steady lines) arms;
-          shallow = λ body others first arms last. (shallow_arm body (case_arms others) first arms, last);
-          has = λ body others. refl;
-        })
+    let found = read_cases calls r in
+    let sees : sees_word (codes "case") r ≡ true = elim (or_cases (sees_word (codes "case") r) (sees_word (codes "default") r) begins) [ inl is ↦ is | inr is ↦ absurd cc ] in
+    let read = cases-sound calls r sees enough going in
+    record {
+      steps = read.steps;
+      shorter = read.shorter;
+      arm = λ body others between after leaves end tokens rest room lines arms.
+          case_arm read.derived room (subst (λ d. AreLines 200 around false d (tokens_of found.behind.left) (plain_lines body) between (word leaves (codes "break") ∷ mark end (codes ";") ∷ tokens)) read.steady lines) arms;
+      shallow = λ body others first arms last. (shallow_arm body (case_arms others) first arms, last);
+      has = λ body others. refl;
+    })
 
 -- there is room for a statement where one stands
 room_of : {around : Around} {labelled : Bool} {depth after : ℕ} {tokens rest : List Placed} {lines : Lines} → AreLines 200 around labelled depth tokens lines after rest →

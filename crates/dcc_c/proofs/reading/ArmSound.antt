@@ -1,15 +1,15 @@
 -- What is read of the head of an arm is one or more cases, or `default`.
-use Rattle.std.proofs.Common.{◌≡◌, ℕ, zero, suc, ◌≤◌, ◌<◌, length, List, [], ◌∷◌, ◌++◌, map, Bool, true, false, Option, Some, None, refl, sym, ap, ◌∙◌, subst, arith}
+use Rattle.std.proofs.Common.{◌≡◌, ℕ, zero, suc, ◌≤◌, ◌<◌, length, List, [], ◌∷◌, ◌++◌, true, Option, Some, None, refl, ◌∙◌, subst, arith}
 use Rattle.std.specs.Prelude.{codes, nat_le, ◌&&◌}
 use Rattle.std.proofs.lemmas.Bool.{and_parts, leb-true}
-use Rattle.dcc_c.specs.Token.{Token, WordToken, Decimal, Hex, Mark, Suffix, plain_number as plain_suffix, unsigned_suffix}
+use Rattle.dcc_c.specs.Token.{Token, Decimal, Hex, Suffix, plain_number as plain_suffix, unsigned_suffix}
 use Rattle.dcc_c.specs.Lexing.{Placed, placed}
 use Rattle.dcc_c.specs.Grammar.{mark, word, IsCaseNumber, plain_decimal, unsigned_decimal, plain_hex, unsigned_hex, AreCases, last_case, more_cases}
 use Rattle.dcc_c.specs.Partial.{NumberAt}
-use Rattle.dcc_c.specs.Reading.{Reader, Got, got, next_token, skip, fail, sees_word, take_mark}
+use Rattle.dcc_c.specs.Reading.{Reader, Got, got, next_token, skip, sees_word}
 use Rattle.dcc_c.specs.ReadingStatements.{case_if, case_number, read_case, read_cases, is_case_suffix}
 use Rattle.dcc_c.specs.Stripped.{plain_numbers}
-use Rattle.dcc_c.proofs.reading.Passing.{tokens_of, Took, if-cases, fail-stops, skip-took, sees_word-took, take_mark-took}
+use Rattle.dcc_c.proofs.reading.Passing.{tokens_of, if-cases, fail-stops, skip-took, sees_word-took, take_mark-took}
 use Rattle.dcc_c.proofs.reading.Enclosing.{open_behind}
 use Rattle.dcc_c.proofs.reading.Statements.{IsEnough}
 use Rattle.dcc_c.proofs.reading.Stopping.{choice-cases}
@@ -28,9 +28,9 @@ case_if-is : (token : Suffix → Token) (m : ℕ) (suffix : Suffix) (n : ℕ) �
 case_if-is token m suffix n plain unsigned =
     if-cases (λ o. o ≡ Some n → IsCaseNumber (token suffix) n) (nat_le m 65535 && is_case_suffix suffix)
     (λ good is.
-        let parts = and_parts (nat_le m 65535) (is_case_suffix suffix) good in
-        let same : m ≡ n = cc in
-        subst (IsCaseNumber (token suffix)) same (by_suffix suffix parts.1 (leb-true m 65535 parts.0)))
+    let parts = and_parts (nat_le m 65535) (is_case_suffix suffix) good in
+    let same : m ≡ n = cc in
+    subst (IsCaseNumber (token suffix)) same (by_suffix suffix parts.1 (leb-true m 65535 parts.0)))
     (λ _ is. absurd cc)
   where
     by_suffix : (s : Suffix) → is_case_suffix s ≡ true → m ≤ 65535 → IsCaseNumber (token s) m
@@ -64,22 +64,22 @@ case-sound r sees =
     let took = sees_word-took (codes "case") r sees in
     choice-cases (λ g. g.behind.stop ≡ None → ReadsCase r g) (case_number (next_token (skip r)))
     (λ n is going.
-        let seen = case_number-is (next_token (skip r)) n is in
-        let number = skip-took (skip r) seen.token seen.is in
-        let colon = take_mark-took (codes ":") (skip (skip r)) going in
-        record {
-          steps = then_steps (token_steps 0 refl took) (then_steps (token_steps 0 seen.flat number) (token_steps 0 refl colon));
-          steady = colon.steady ∙ (number.steady ∙ took.steady);
-          shorter = omega (arith, took.one_less, number.one_less, colon.one_less);
-          at = took.line;
-          place = number.line;
-          colon = colon.line;
-          n = n;
-          token = seen.token;
-          begins = rw (took.begins, number.begins, colon.begins);
-          number = seen.number;
-          is = λ others. refl;
-        })
+    let seen = case_number-is (next_token (skip r)) n is in
+    let number = skip-took (skip r) seen.token seen.is in
+    let colon = take_mark-took (codes ":") (skip (skip r)) going in
+    record {
+      steps = then_steps (token_steps 0 refl took) (then_steps (token_steps 0 seen.flat number) (token_steps 0 refl colon));
+      steady = colon.steady ∙ (number.steady ∙ took.steady);
+      shorter = omega (arith, took.one_less, number.one_less, colon.one_less);
+      at = took.line;
+      place = number.line;
+      colon = colon.line;
+      n = n;
+      token = seen.token;
+      begins = rw (took.begins, number.begins, colon.begins);
+      number = seen.number;
+      is = λ others. refl;
+    })
     (λ _ going. absurd (fail-stops (skip r) going))
 
 -- The reader passed cases, behind another one.
@@ -99,7 +99,7 @@ joined_cases r first others read more =
       steps = then_steps read.steps more.steps;
       steady = more.steady ∙ read.steady;
       derived = λ all at place colon n token same number.
-        rw same (more_cases {others = tokens_of r.left} {rest = tokens_of others.behind.left} {cases = plain_numbers (first.value ++ others.value)} number (rw (read.is others.value) (more.derived (tokens_of r.left) read.at read.place read.colon read.n read.token read.begins read.number)));
+          rw same (more_cases {others = tokens_of r.left} {rest = tokens_of others.behind.left} {cases = plain_numbers (first.value ++ others.value)} number (rw (read.is others.value) (more.derived (tokens_of r.left) read.at read.place read.colon read.n read.token read.begins read.number)));
     }
 
 more_cases-sound : (calls : ℕ) (r : Reader) → (read_cases calls r).behind.stop ≡ None → ReadsMoreCases r (read_cases calls r)
@@ -107,8 +107,8 @@ more_cases-sound zero r = λ going. no_more_cases r going
 more_cases-sound (suc calls) r =
     if-cases (λ g. g.behind.stop ≡ None → ReadsMoreCases r g) (sees_word (codes "case") r)
     (λ sees going.
-        let first = read_case r in
-        joined_cases r first (read_cases calls first.behind) (case-sound r sees (cases-keeps calls first.behind going)) (more_cases-sound calls first.behind going))
+    let first = read_case r in
+    joined_cases r first (read_cases calls first.behind) (case-sound r sees (cases-keeps calls first.behind going)) (more_cases-sound calls first.behind going))
     (λ _ going. no_more_cases r going)
 
 -- The reader passed one or more cases.
@@ -132,6 +132,6 @@ cases-sound zero r sees enough = let took = sees_word-took (codes "case") r sees
 cases-sound (suc calls) r sees enough =
     if-cases (λ g. g.behind.stop ≡ None → ReadsCases r g) (sees_word (codes "case") r)
     (λ _ going.
-        let first = read_case r in
-        all_cases r first (read_cases calls first.behind) (case-sound r sees (cases-keeps calls first.behind going)) (more_cases-sound calls first.behind going))
+    let first = read_case r in
+    all_cases r first (read_cases calls first.behind) (case-sound r sees (cases-keeps calls first.behind going)) (more_cases-sound calls first.behind going))
     (λ not. absurd cc)

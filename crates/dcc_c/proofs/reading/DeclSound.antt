@@ -1,14 +1,14 @@
 -- What is read of declarations is what the grammar says: sizes, initial values, local variables and parameters.
-use Rattle.std.proofs.Common.{◌≡◌, ℕ, zero, suc, ◌≤◌, ◌<◌, length, List, [], ◌∷◌, ◌++◌, map, Bool, true, false, Option, Some, None, refl, sym, ap, ◌∙◌, subst, arith}
+use Rattle.std.proofs.Common.{◌≡◌, ℕ, zero, suc, ◌<◌, length, List, [], ◌∷◌, ◌++◌, map, Bool, true, false, Option, Some, None, refl, sym, ap, ◌∙◌, subst, arith}
 use Rattle.std.specs.Prelude.{codes, option_map, if◌then◌else◌, not, ◌||◌}
 use Rattle.dcc_c.specs.declared.syntax.CType.{CType}
 use Rattle.dcc_c.specs.declared.syntax.Class.{Class}
-use Rattle.dcc_c.specs.declared.syntax.Class.TheVariants.{Plain, Auto, Register}
-use Rattle.dcc_c.specs.Token.{Token, WordToken, Decimal, Mark, plain_number as plain_suffix}
+use Rattle.dcc_c.specs.declared.syntax.Class.TheVariants.{Plain, Auto}
+use Rattle.dcc_c.specs.Token.{Decimal, Mark, plain_number as plain_suffix}
 use Rattle.dcc_c.specs.Lexing.{Placed, placed}
-use Rattle.dcc_c.specs.Tree.{Word, Variable}
+use Rattle.dcc_c.specs.Tree.{Variable}
 use Rattle.dcc_c.specs.Grammar.{mark, word, is_name, type_tokens, Begins, HasSize, no_size, size, AreNumbers, last_number, more_numbers, AreInitial, no_value, one_value, values, HasClass, no_class, auto_class, register_class, IsParam, AreSomeParams, last_param, more_params as more_of, AreParams, no_param, some_params, IsLocalClass, plain_local, array_local, auto_local, IsLocal, AreLocals, no_local, one_local}
-use Rattle.dcc_c.specs.Partial.{WordAt, NumberAt, PartialVariable}
+use Rattle.dcc_c.specs.Partial.{NumberAt, PartialVariable}
 use Rattle.dcc_c.specs.Reading.{Reader, Got, got, is_stopped, next_token, skip, sees_mark, sees_word, take_mark, take_name, take_plain, take_type, begins_type}
 use Rattle.dcc_c.specs.ReadingStatements.{read_size, list_of, more_values, read_values, read_init, class_with, read_local, read_locals, read_class, read_param, more_params, read_params}
 use Rattle.dcc_c.specs.Stripped.{plain_name, plain_type, plain_numbers, plain_variable}
@@ -16,8 +16,8 @@ use Rattle.dcc_c.proofs.reading.Passing.{tokens_of, Took, if-cases, sees_mark-to
 use Rattle.dcc_c.proofs.reading.Words.{type-sound}
 use Rattle.dcc_c.proofs.reading.Statements.{ReadsType}
 use Rattle.dcc_c.proofs.reading.Stopping.{GoesOn}
-use Rattle.dcc_c.proofs.reading.StmtStopping.{mark-keeps, name-keeps, plain-keeps}
-use Rattle.dcc_c.proofs.reading.Steps.{Steps, then_steps, no_steps, token_steps, TookName, name-sound, TookPlain, plain-sound}
+use Rattle.dcc_c.proofs.reading.StmtStopping.{plain-keeps}
+use Rattle.dcc_c.proofs.reading.Steps.{Steps, then_steps, no_steps, token_steps, name-sound, plain-sound}
 
 pub type_steps : {r : Reader} {g : Got (Option CType)} (opened : ℕ) → ReadsType r g → Steps opened opened r g.behind
 type_steps opened read = record { passed = read.passed; enclosed = read.enclosed opened }
@@ -36,15 +36,15 @@ pub size-sound : (r : Reader) → (read_size r).behind.stop ≡ None → ReadsSi
 size-sound r =
     if-cases (λ g. g.behind.stop ≡ None → ReadsSize r g) (sees_mark (codes "[") r)
     (λ sees going.
-        let begun = sees_mark-took (codes "[") r sees in
-        let n = take_plain (skip r) in
-        let close = take_mark-took (codes "]") n.behind going in
-        let read = plain-sound (skip r) close.passed.going in
-        sized r n.value read.number (take_mark (codes "]") n.behind) read.is (record {
-          steps = then_steps (token_steps 0 refl begun) (then_steps (token_steps 0 refl read.took) (token_steps 0 refl close));
-          steady = close.steady ∙ (read.took.steady ∙ begun.steady);
-          derived = rw (begun.begins, read.took.begins, close.begins) size;
-        }))
+    let begun = sees_mark-took (codes "[") r sees in
+    let n = take_plain (skip r) in
+    let close = take_mark-took (codes "]") n.behind going in
+    let read = plain-sound (skip r) close.passed.going in
+    sized r n.value read.number (take_mark (codes "]") n.behind) read.is (record {
+      steps = then_steps (token_steps 0 refl begun) (then_steps (token_steps 0 refl read.took) (token_steps 0 refl close));
+      steady = close.steady ∙ (read.took.steady ∙ begun.steady);
+      derived = rw (begun.begins, read.took.begins, close.begins) size;
+    }))
     (λ _ going. record { steps = no_steps r going; steady = refl; derived = no_size })
 
 -- Initial values.
@@ -71,20 +71,20 @@ more_values-sound zero r = λ going. no_more_values r going
 more_values-sound (suc calls) r =
     if-cases (λ g. g.behind.stop ≡ None → ReadsMoreValues r g) (sees_mark (codes ",") r)
     (λ sees going.
-        let comma = sees_mark-took (codes ",") r sees in
-        let first = take_plain (skip r) in
-        let others = more_values calls first.behind in
-        let read = plain-sound (skip r) (values-keep calls first.behind going) in
-        let more = more_values-sound calls first.behind going in
-        record {
-          steps = then_steps (token_steps 0 refl comma) (then_steps (token_steps 0 refl read.took) more.steps);
-          steady = more.steady ∙ (read.took.steady ∙ comma.steady);
-          derived = λ all at n is.
-            let tail : AreNumbers (tokens_of (skip r).left) (plain_numbers (list_of first.value ++ others.value)) (tokens_of others.behind.left) =
-            subst (λ ns. AreNumbers (tokens_of (skip r).left) ns (tokens_of others.behind.left)) (sym (listed first.value read.number others.value read.is)) (more.derived (tokens_of (skip r).left) read.took.line read.number.value read.took.begins)
-            in
-            rw (is, comma.begins) (more_numbers tail);
-        })
+    let comma = sees_mark-took (codes ",") r sees in
+    let first = take_plain (skip r) in
+    let others = more_values calls first.behind in
+    let read = plain-sound (skip r) (values-keep calls first.behind going) in
+    let more = more_values-sound calls first.behind going in
+    record {
+      steps = then_steps (token_steps 0 refl comma) (then_steps (token_steps 0 refl read.took) more.steps);
+      steady = more.steady ∙ (read.took.steady ∙ comma.steady);
+      derived = λ all at n is.
+          let tail : AreNumbers (tokens_of (skip r).left) (plain_numbers (list_of first.value ++ others.value)) (tokens_of others.behind.left) =
+          subst (λ ns. AreNumbers (tokens_of (skip r).left) ns (tokens_of others.behind.left)) (sym (listed first.value read.number others.value read.is)) (more.derived (tokens_of (skip r).left) read.took.line read.number.value read.took.begins)
+          in
+          rw (is, comma.begins) (more_numbers tail);
+    })
     (λ _ going. no_more_values r going)
 
 pub record ReadsInit (r : Reader) (g : Got (List NumberAt)) : Type 0 where
@@ -96,29 +96,29 @@ some_values : (calls : ℕ) (r : Reader) → Took (Mark (codes "=")) r (skip r) 
 some_values calls r equals =
     if-cases (λ g. g.behind.stop ≡ None → ReadsInit r g) (sees_mark (codes "{") (skip r))
     (λ sees going.
-        let brace = sees_mark-took (codes "{") (skip r) sees in
-        let first = take_plain (skip (skip r)) in
-        let others = more_values calls first.behind in
-        let close = take_mark-took (codes "}") others.behind going in
-        let read = plain-sound (skip (skip r)) (values-keep calls first.behind close.passed.going) in
-        let more = more_values-sound calls first.behind close.passed.going in
-        let numbers : AreNumbers (tokens_of (skip (skip r)).left) (plain_numbers (list_of first.value ++ others.value)) (mark close.line (codes "}") ∷ tokens_of (take_mark (codes "}") others.behind).left) =
-            subst (λ ns. AreNumbers (tokens_of (skip (skip r)).left) ns (mark close.line (codes "}") ∷ tokens_of (take_mark (codes "}") others.behind).left)) (sym (listed first.value read.number others.value read.is))
-            (subst (λ ts. AreNumbers (tokens_of (skip (skip r)).left) (read.number.value ∷ plain_numbers others.value) ts) close.begins (more.derived (tokens_of (skip (skip r)).left) read.took.line read.number.value read.took.begins))
-        in
-        record {
-          steps = then_steps (token_steps 0 refl equals) (then_steps (token_steps 0 refl brace) (then_steps (token_steps 0 refl read.took) (then_steps more.steps (token_steps 0 refl close))));
-          steady = close.steady ∙ (more.steady ∙ (read.took.steady ∙ (brace.steady ∙ equals.steady)));
-          derived = rw (equals.begins, brace.begins) (values numbers);
-        })
+    let brace = sees_mark-took (codes "{") (skip r) sees in
+    let first = take_plain (skip (skip r)) in
+    let others = more_values calls first.behind in
+    let close = take_mark-took (codes "}") others.behind going in
+    let read = plain-sound (skip (skip r)) (values-keep calls first.behind close.passed.going) in
+    let more = more_values-sound calls first.behind close.passed.going in
+    let numbers : AreNumbers (tokens_of (skip (skip r)).left) (plain_numbers (list_of first.value ++ others.value)) (mark close.line (codes "}") ∷ tokens_of (take_mark (codes "}") others.behind).left) =
+    subst (λ ns. AreNumbers (tokens_of (skip (skip r)).left) ns (mark close.line (codes "}") ∷ tokens_of (take_mark (codes "}") others.behind).left)) (sym (listed first.value read.number others.value read.is))
+    (subst (λ ts. AreNumbers (tokens_of (skip (skip r)).left) (read.number.value ∷ plain_numbers others.value) ts) close.begins (more.derived (tokens_of (skip (skip r)).left) read.took.line read.number.value read.took.begins))
+    in
+    record {
+      steps = then_steps (token_steps 0 refl equals) (then_steps (token_steps 0 refl brace) (then_steps (token_steps 0 refl read.took) (then_steps more.steps (token_steps 0 refl close))));
+      steady = close.steady ∙ (more.steady ∙ (read.took.steady ∙ (brace.steady ∙ equals.steady)));
+      derived = rw (equals.begins, brace.begins) (values numbers);
+    })
     (λ _ going.
-        let n = take_plain (skip r) in
-        let read = plain-sound (skip r) going in
-        record {
-          steps = then_steps (token_steps 0 refl equals) (token_steps 0 refl read.took);
-          steady = read.took.steady ∙ equals.steady;
-          derived = subst (λ v. AreInitial (tokens_of r.left) (plain_numbers (list_of v)) (tokens_of n.behind.left)) (sym read.is) (rw (equals.begins, read.took.begins) one_value);
-        })
+    let n = take_plain (skip r) in
+    let read = plain-sound (skip r) going in
+    record {
+      steps = then_steps (token_steps 0 refl equals) (token_steps 0 refl read.took);
+      steady = read.took.steady ∙ equals.steady;
+      derived = subst (λ v. AreInitial (tokens_of r.left) (plain_numbers (list_of v)) (tokens_of n.behind.left)) (sym read.is) (rw (equals.begins, read.took.begins) one_value);
+    })
 
 pub init-sound : (calls : ℕ) (r : Reader) → (read_init calls r).behind.stop ≡ None → ReadsInit r (read_init calls r)
 init-sound calls r =
@@ -211,9 +211,9 @@ locals-sound zero r = λ going. no_locals r going
 locals-sound (suc calls) r =
     if-cases (λ g. g.behind.stop ≡ None → ReadsLocals r g) (sees_word (codes "auto") r || begins_type (next_token r))
     (λ _ going.
-        let first = local-sound r (locals-keep calls (read_local r).behind going) in
-        let others = locals-sound calls (read_local r).behind going in
-        record { steps = then_steps first.steps others.steps; steady = others.steady ∙ first.steady; derived = one_local first.derived others.derived })
+    let first = local-sound r (locals-keep calls (read_local r).behind going) in
+    let others = locals-sound calls (read_local r).behind going in
+    record { steps = then_steps first.steps others.steps; steady = others.steady ∙ first.steady; derived = one_local first.derived others.derived })
     (λ _ going. no_locals r going)
 
 -- Parameters.
@@ -278,15 +278,15 @@ more_params-sound zero r = λ going. no_more_params r going
 more_params-sound (suc calls) r =
     if-cases (λ g. g.behind.stop ≡ None → ReadsMoreParams r g) (sees_mark (codes ",") r)
     (λ sees going.
-        let comma = sees_mark-took (codes ",") r sees in
-        let first = read_param (skip r) in
-        let read = param-sound (skip r) (params_more-keep calls first.behind going) in
-        let more = more_params-sound calls first.behind going in
-        record {
-          steps = then_steps (token_steps 1 refl comma) (then_steps read.steps more.steps);
-          steady = more.steady ∙ (read.steady ∙ comma.steady);
-          derived = λ all v is. more_of (subst (λ ts. IsParam all v ts) comma.begins is) (more.derived (tokens_of (skip r).left) (plain_variable first.value) read.derived);
-        })
+    let comma = sees_mark-took (codes ",") r sees in
+    let first = read_param (skip r) in
+    let read = param-sound (skip r) (params_more-keep calls first.behind going) in
+    let more = more_params-sound calls first.behind going in
+    record {
+      steps = then_steps (token_steps 1 refl comma) (then_steps read.steps more.steps);
+      steady = more.steady ∙ (read.steady ∙ comma.steady);
+      derived = λ all v is. more_of (subst (λ ts. IsParam all v ts) comma.begins is) (more.derived (tokens_of (skip r).left) (plain_variable first.value) read.derived);
+    })
     (λ _ going. no_more_params r going)
 
 pub record ReadsParams (r : Reader) (g : Got (List PartialVariable)) : Type 0 where
@@ -299,7 +299,7 @@ params-sound calls r =
     if-cases (λ g. g.behind.stop ≡ None → ReadsParams r g) (sees_word (codes "void") r)
     (λ sees _. let took = sees_word-took (codes "void") r sees in record { steps = token_steps 1 refl took; steady = took.steady; derived = rw took.begins no_param })
     (λ _ going.
-        let first = read_param r in
-        let read = param-sound r (params_more-keep calls first.behind going) in
-        let more = more_params-sound calls first.behind going in
-        record { steps = then_steps read.steps more.steps; steady = more.steady ∙ read.steady; derived = some_params (more.derived (tokens_of r.left) (plain_variable first.value) read.derived) })
+    let first = read_param r in
+    let read = param-sound r (params_more-keep calls first.behind going) in
+    let more = more_params-sound calls first.behind going in
+    record { steps = then_steps read.steps more.steps; steady = more.steady ∙ read.steady; derived = some_params (more.derived (tokens_of r.left) (plain_variable first.value) read.derived) })

@@ -1,8 +1,8 @@
 -- Statements one after the other: what is read of a depth line, a label, a statement and those behind it.
-use Rattle.std.proofs.Common.{◌≡◌, ℕ, zero, suc, ◌+◌, ◌≤◌, ◌<◌, length, List, [], ◌∷◌, ◌++◌, Bool, true, false, Option, Some, None, refl, sym, ap, ◌∙◌, subst, arith}
+use Rattle.std.proofs.Common.{◌≡◌, ℕ, ◌≤◌, ◌<◌, length, List, ◌∷◌, Bool, true, false, Option, Some, None, refl, sym, ap, ◌∙◌, subst, arith}
 use Rattle.std.specs.Prelude.{codes, not, ◌&&◌}
 use Rattle.std.specs.List.{list_all}
-use Rattle.std.proofs.lemmas.Bool.{and_parts, and_from, not-true}
+use Rattle.std.proofs.lemmas.Bool.{and_parts, and_from}
 use Rattle.std.proofs.lemmas.List.Folds.{list_all-append}
 use Rattle.dcc_c.specs.Token.{Token, WordToken, Decimal, Mark, Pragma, plain_number, depth_line}
 use Rattle.dcc_c.specs.Lexing.{Placed, placed}
@@ -16,7 +16,7 @@ use Rattle.dcc_c.specs.ReadingStatements.{sees_head, take_number_of_line, set_de
 use Rattle.dcc_c.specs.Stripped.{plain_stmt, plain_lines}
 use Rattle.dcc_c.proofs.reading.Passing.{tokens_of, Took}
 use Rattle.dcc_c.proofs.reading.StmtStopping.{set-keeps}
-use Rattle.dcc_c.proofs.reading.Steps.{Steps, then_steps, no_steps, token_steps, with_depth, TookPlain, number-sound, sees_head-took}
+use Rattle.dcc_c.proofs.reading.Steps.{Steps, then_steps, no_steps, token_steps, with_depth, number-sound, sees_head-took}
 use Rattle.dcc_c.proofs.reading.SimpleSound.{ReadsStmt, IsShallowStmt}
 
 -- no statement of the block, nor inside one, has an expression that is too deep
@@ -166,7 +166,7 @@ stmt_then around labelled leaves r between token stmt others room begins first r
         let found = break_tokens first.derived (ap plain_stmt (is_break-is stmt.value is)) in
         let lines : AreLines 200 around labelled r.depth (tokens_of r.left) no_lines r.depth (tokens_of r.left) = rw same no_more in
         let behind : AreLines 200 around labelled r.depth (tokens_of r.left) no_lines stmt.behind.depth (word found.0 (codes "break") ∷ mark found.1 (codes ";") ∷ tokens_of stmt.behind.left) =
-            subst (λ d. AreLines 200 around labelled r.depth (tokens_of r.left) no_lines d (word found.0 (codes "break") ∷ mark found.1 (codes ";") ∷ tokens_of stmt.behind.left)) (sym found.3) (subst (λ ts. AreLines 200 around labelled r.depth (tokens_of r.left) no_lines r.depth ts) found.2 lines) in
+        subst (λ d. AreLines 200 around labelled r.depth (tokens_of r.left) no_lines d (word found.0 (codes "break") ∷ mark found.1 (codes ";") ∷ tokens_of stmt.behind.left)) (sym found.3) (subst (λ ts. AreLines 200 around labelled r.depth (tokens_of r.left) no_lines r.depth ts) found.2 lines) in
         last_break found.0 found.1 refl (rw (without_one stmt.value r.at (line_of r.left) others.value.lines none) (subst (λ q. AreLines 200 around labelled r.depth (tokens_of r.left) no_lines q.depth (word found.0 (codes "break") ∷ mark found.1 (codes ";") ∷ tokens_of q.left)) (sym stays) behind))
 
     after : Leaving around false (is_break stmt.value && not labelled) stmt.behind others → Leaving around labelled leaves r (before_others stmt.value r.at (line_of r.left) others)

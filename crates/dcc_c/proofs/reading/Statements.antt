@@ -1,18 +1,21 @@
 -- What it means that reading and the grammar agree on expressions, in both directions.
-use Rattle.std.proofs.Common.{◌≡◌, ℕ, ◌+◌, ◌*◌, ◌<◌, ◌≤◌, false, List, length, Option, Some, None}
+use Rattle.std.proofs.Common.{◌≡◌, ℕ, ◌+◌, ◌*◌, ◌<◌, ◌≤◌, false, Bool, true, List, [], ◌∷◌, length, Option, Some, None}
 use Rattle.std.specs.Prelude.{codes}
 use Rattle.dcc_c.specs.declared.syntax.CType.{CType}
 use Rattle.dcc_c.specs.declared.syntax.CBin.{CBin}
-use Rattle.dcc_c.specs.Token.{Token}
-use Rattle.dcc_c.specs.Lexing.{Placed}
+use Rattle.std.specs.List.{list_all}
+use Rattle.dcc_c.specs.Token.{Token, Pragma, version_line}
+use Rattle.dcc_c.specs.Lexing.{Placed, placed}
 use Rattle.dcc_c.specs.Pieces.{Piece}
-use Rattle.dcc_c.specs.Tree.{Expr}
-use Rattle.dcc_c.specs.Grammar.{type_tokens, strength, Begins, IsExpr}
-use Rattle.dcc_c.specs.Rules.{expr_depth, most_open}
+use Rattle.dcc_c.specs.Tree.{Expr, Function, Tree}
+use Rattle.dcc_c.specs.Parts.{stmts_in}
+use Rattle.dcc_c.specs.Grammar.{type_tokens, strength, Begins, IsExpr, IsUnit}
+use Rattle.dcc_c.specs.Rules.{expr_depth, most_open, shallow_stmt}
 use Rattle.dcc_c.specs.Partial.{PartialExpr}
 use Rattle.dcc_c.specs.Reading.{Reader, Got, got, first_token, is_the_mark, binary_of, Inside, read_unary, read_expr}
-use Rattle.dcc_c.specs.Stripped.{plain_expr}
-use Rattle.dcc_c.proofs.reading.Passing.{tokens_of, pieces_with, Passed}
+use Rattle.dcc_c.specs.ReadingText.{reading_of}
+use Rattle.dcc_c.specs.Stripped.{plain_expr, plain_text}
+use Rattle.dcc_c.proofs.reading.Passing.{tokens_of, are_tokens, pieces_with, Passed}
 
 -- So many calls are enough for a rule at these pieces: sixteen for each piece, and what the rule itself takes. These are
 -- 1 for a unary part, 2 for operands and their operators, 3 for an expression and 4 for what stands behind a parenthesis.
@@ -100,3 +103,31 @@ CompleteUnary =
     (tokens rest : List Placed) (e : Expr) → IsExpr 11 tokens e rest →
     (calls : ℕ) (inside : Inside) (at depth : ℕ) → IsEnoughFor calls 1 tokens → IsShallow inside tokens e →
     FindsExpr tokens e rest at depth (read_unary calls inside (on tokens at depth))
+
+-- Whole texts.
+
+-- no expression of the function is too deep
+abbrev pub is_shallow : Function → Bool
+is_shallow f = list_all (shallow_stmt 200) (stmts_in f.body)
+
+-- the tokens of a text: the version line, which is the first, and those behind it
+abbrev pub with_version : List Placed → List Placed
+with_version tokens = placed 1 (Pragma version_line) ∷ tokens
+
+-- The grammar and the limits of depth say that the tokens behind the version line stand for the tree.
+pub record IsText (tokens : List Placed) (tree : Tree) : Type 0 where
+  pub formed : IsUnit 200 (with_version tokens) tree
+  pub enclosed : most_open 0 (with_version tokens) ≤ 200
+  pub shallow : list_all is_shallow tree.functions ≡ true
+
+-- What has been read of a text to its end is one, and its pieces are tokens.
+abbrev pub SoundText : Type 0
+SoundText =
+    (pieces : List Piece) → (reading_of pieces).behind.stop ≡ None →
+    (are_tokens pieces ≡ true) × IsText (tokens_of pieces) (plain_text (reading_of pieces).value) × ((reading_of pieces).behind.left ≡ [])
+
+-- A text of the grammar that the limits of depth allow is read to its end.
+abbrev pub CompleteText : Type 0
+CompleteText =
+    (tokens : List Placed) (tree : Tree) → IsText tokens tree →
+    ((reading_of (pieces_with tokens)).behind.stop ≡ None) × (plain_text (reading_of (pieces_with tokens)).value ≡ tree)

@@ -1,33 +1,24 @@
 -- What is read of statements is what the grammar says.
-use Rattle.std.proofs.Common.{◌≡◌, ℕ, zero, suc, ◌+◌, ◌*◌, ◌≤◌, ◌<◌, length, List, [], ◌∷◌, ◌++◌, Bool, true, false, Option, Some, None, refl, sym, ap, ◌∙◌, subst, arith, inl, inr}
-use Rattle.std.specs.Prelude.{codes, not, nat_lt, ◌&&◌, ◌||◌, is_some, if◌then◌else◌}
-use Rattle.std.specs.List.{list_all}
-use Rattle.std.proofs.lemmas.Bool.{and_parts, and_from, ltb-false, or_right, or_cases}
-use Rattle.std.proofs.lemmas.List.Folds.{list_all-append}
-use Rattle.dcc_c.specs.Token.{Token, WordToken, Mark, depth_line}
-use Rattle.dcc_c.specs.Lexing.{Placed, placed}
-use Rattle.dcc_c.specs.Tree.{Stmt, Lines, no_lines, line, Arms}
-use Rattle.dcc_c.specs.Parts.{stmts_in, inner_stmts, arm_stmts}
-use Rattle.dcc_c.specs.Grammar.{mark, word, Around, in_block, in_loop, in_switch, AreLines, no_more, depth_pragma, label, statement, AreArms, no_arm, case_arm, default_arm, has_arm}
+use Rattle.std.proofs.Common.{◌≡◌, ℕ, zero, suc, ◌≤◌, Bool, true, false, Option, Some, None, refl, ap, arith}
+use Rattle.std.specs.Prelude.{codes, not, nat_lt, ◌&&◌, is_some, if◌then◌else◌}
+use Rattle.std.proofs.lemmas.Bool.{and_parts, ltb-false}
+use Rattle.dcc_c.specs.Token.{Token, WordToken, depth_line}
+use Rattle.dcc_c.specs.Grammar.{word, Around, in_block, in_loop, in_switch, no_arm}
 use Rattle.dcc_c.specs.Kinds.{of_depth}
-use Rattle.dcc_c.specs.Rules.{shallow_stmt}
-use Rattle.dcc_c.specs.Partial.{WordAt, NumberAt, PartialExpr, PartialStmt, ForeverOf, BreakOf, ContinueOf, EmptyOf, LabelOf, PartialLines, no_rows, row, PartialArms, no_cases, cases}
+use Rattle.dcc_c.specs.Partial.{WordAt, PartialExpr, PartialStmt, ForeverOf, BreakOf, ContinueOf, EmptyOf, LabelOf, PartialLines, no_rows, cases}
 use Rattle.dcc_c.specs.Reading.{Reader, Got, got, is_stopped, next_token, second_token, line_of, skip, stop_at, fail, is_the_mark, name_of, sees_mark, sees_word, take_mark, take_word, take_name}
-use Rattle.dcc_c.specs.ReadingStatements.{read_test, do_while_of, switch_of, while_of, read_leave, read_goto, read_return, read_simple, begins_stmt, begins_label, begins_arm, sees_head, read_depth, Block, block_of, before_others, end_arm, without_last, is_break, stop_if_nested, ArmHead, read_arm_head, read_cases, read_stmt, read_if, read_block, read_lines, read_line, read_arms, read_more_arms}
-use Rattle.dcc_c.specs.Stripped.{plain_stmt, plain_lines, case_arms, default_arms}
-use Rattle.dcc_c.proofs.reading.Passing.{tokens_of, Took, if-cases, option-cases, stop_at-stops, fail-stops, skip-took, the_mark-is, sees_mark-took, sees_word-took, take_mark-took, take_word-took}
+use Rattle.dcc_c.specs.ReadingStatements.{read_test, do_while_of, switch_of, while_of, read_leave, read_goto, read_return, read_simple, begins_stmt, begins_label, begins_arm, sees_head, read_depth, block_of, before_others, without_last, is_break, read_arm_head, read_stmt, read_if, read_block, read_lines, read_line, read_arms, read_more_arms}
+use Rattle.dcc_c.proofs.reading.Passing.{Took, if-cases, stop_at-stops, fail-stops, skip-took, sees_mark-took, sees_word-took, take_mark-took, take_word-took}
 use Rattle.dcc_c.proofs.reading.Words.{name_of-is}
 use Rattle.dcc_c.proofs.reading.Statements.{IsEnough}
-use Rattle.dcc_c.proofs.reading.Stopping.{GoesOn, choice-cases}
-use Rattle.dcc_c.proofs.reading.StmtStopping.{KeepsStmts, keeps_stmts, test-keeps, mark-keeps, word-keeps, depth-keeps, arm_head-keeps}
-use Rattle.dcc_c.proofs.reading.Steps.{Steps, then_steps, no_steps, token_steps}
+use Rattle.dcc_c.proofs.reading.Stopping.{choice-cases}
+use Rattle.dcc_c.proofs.reading.StmtStopping.{KeepsStmts, keeps_stmts, test-keeps}
+use Rattle.dcc_c.proofs.reading.Steps.{no_steps}
 use Rattle.dcc_c.proofs.reading.StmtParts.{ReadsTest, test-sound}
-use Rattle.dcc_c.proofs.reading.SimpleSound.{ReadsStmt, SoundStmt, IsShallowStmt, simple-sound, break-sound, continue-sound, goto-sound, return-sound, empty-sound}
-use Rattle.dcc_c.proofs.reading.LineSound.{IsShallowLines, is_row, Leaving, nothing, last_break, ReadsLines, SoundLines, no_lines-sound, begins_here, depth-sound, depth_then, label_then, stmt_then, shallow_line}
-use Rattle.dcc_c.proofs.reading.ArmSound.{cases-sound}
-use Rattle.dcc_c.proofs.reading.StmtSound.{ReadsBlock, SoundBlock, IsShallowArms, ReadsArms, SoundArms, SoundStmts, none-sound, while-sound, if_alone-sound, if_else-sound, do_while-sound, for-sound, switch-sound, block-sound}
-
-use Rattle.dcc_c.proofs.reading.ArmRules.{ReadsHead, head-sound, arm_then}
+use Rattle.dcc_c.proofs.reading.SimpleSound.{SoundStmt, simple-sound, break-sound, continue-sound, goto-sound, return-sound, empty-sound}
+use Rattle.dcc_c.proofs.reading.LineSound.{SoundLines, no_lines-sound, begins_here, depth-sound, depth_then, label_then, stmt_then}
+use Rattle.dcc_c.proofs.reading.StmtSound.{ReadsBlock, SoundBlock, ReadsArms, SoundArms, SoundStmts, none-sound, while-sound, if_alone-sound, if_else-sound, do_while-sound, for-sound, switch-sound, block-sound}
+use Rattle.dcc_c.proofs.reading.ArmRules.{head-sound, arm_then}
 
 -- The kinds of statements, one after the other, as reading tries them.
 
@@ -149,9 +140,9 @@ module _ (calls : ℕ) (keep : KeepsStmts calls) (sound : SoundStmts calls) wher
   stmt-sound around r enough =
       if-cases (SoundStmt around r) (sees_word (codes "if") r) {x = read_if calls around (read_test calls (skip r))} {y = while_stmts calls around r}
       (λ sees.
-          let took = sees_word-took (codes "if") r sees in
-          let read = test-sound calls (skip r) (omega (arith, took.one_less)) in
-          sound.otherwise around r (skip r) (read_test calls (skip r)) took read (λ going. omega (arith, took.one_less, (read going).shorter)))
+      let took = sees_word-took (codes "if") r sees in
+      let read = test-sound calls (skip r) (omega (arith, took.one_less)) in
+      sound.otherwise around r (skip r) (read_test calls (skip r)) took read (λ going. omega (arith, took.one_less, (read going).shorter)))
       (λ _. tests-sound around r enough)
 
   if-sound : (around : Around) (start r : Reader) (test : Got PartialExpr) → Took (WordToken (codes "if")) start r →
@@ -160,18 +151,18 @@ module _ (calls : ℕ) (keep : KeepsStmts calls) (sound : SoundStmts calls) wher
   if-sound around start r test took read enough =
       let body = read_block calls (in_block around) test.behind in
       let first : body.behind.stop ≡ None → ReadsBlock (in_block around) test.behind body = λ going.
-          sound.block (in_block around) test.behind (let room = enough (keep.block (in_block around) test.behind going) in omega (arith, room)) going
+      sound.block (in_block around) test.behind (let room = enough (keep.block (in_block around) test.behind going) in omega (arith, room)) going
       in
       if-cases (SoundStmt around start) (sees_word (codes "else") body.behind)
       (λ sees going.
-          let between = sees_word-took (codes "else") body.behind sees in
-          let inner = first between.passed.going in
-          let room = enough inner.steps.passed.going in
-          if_else-sound around start r test body (read_block calls (in_block around) (skip body.behind)) took (read inner.steps.passed.going) inner between
-          (sound.block (in_block around) (skip body.behind) (omega (arith, room, inner.shorter, between.one_less)) going))
+      let between = sees_word-took (codes "else") body.behind sees in
+      let inner = first between.passed.going in
+      let room = enough inner.steps.passed.going in
+      if_else-sound around start r test body (read_block calls (in_block around) (skip body.behind)) took (read inner.steps.passed.going) inner between
+      (sound.block (in_block around) (skip body.behind) (omega (arith, room, inner.shorter, between.one_less)) going))
       (λ _ going.
-          let inner = first going in
-          if_alone-sound around start r test body took (read inner.steps.passed.going) inner)
+      let inner = first going in
+      if_alone-sound around start r test body took (read inner.steps.passed.going) inner)
 
   blocks-sound : (around : Around) (r : Reader) → IsEnough (suc calls) 1 r.left → SoundBlock around r (read_block (suc calls) around r)
   blocks-sound around r enough going =
@@ -200,11 +191,11 @@ module _ (calls : ℕ) (keep : KeepsStmts calls) (sound : SoundStmts calls) wher
       let second = (and_parts (is_some (name_of (next_token r))) (is_the_mark (codes ":") (second_token r)) begins).1 in
       choice-cases (λ (g : Got (Option WordAt)). SoundLines around labelled leaves r (elim g.value [ Some word ↦ before_others (LabelOf word) r.at (line_of r.left) (read_lines calls around true false (skip g.behind)) | None ↦ got (block_of no_rows false) g.behind ])) (name_of (next_token r))
       (λ name is going.
-          let seen = name_of-is (next_token r) name is in
-          let took = skip-took r (WordToken name) seen.0 in
-          let colon = sees_mark-took (codes ":") (skip r) second in
-          let others = read_lines calls around true false (skip (skip r)) in
-          label_then around labelled leaves r (skip r) (record { word = name; at = r.at }) others room seen.1 took colon (sound.lines around true false (skip (skip r)) (omega (arith, took.one_less, colon.one_less)) going))
+      let seen = name_of-is (next_token r) name is in
+      let took = skip-took r (WordToken name) seen.0 in
+      let colon = sees_mark-took (codes ":") (skip r) second in
+      let others = read_lines calls around true false (skip (skip r)) in
+      label_then around labelled leaves r (skip r) (record { word = name; at = r.at }) others room seen.1 took colon (sound.lines around true false (skip (skip r)) (omega (arith, took.one_less, colon.one_less)) going))
       (λ _ going. absurd (fail-stops r going))
 
   line-sound : (around : Around) (labelled leaves : Bool) (r : Reader) → around.blocks ≤ 200 → begins_stmt (next_token r) ≡ true → IsEnough (suc calls) 2 r.left →
@@ -214,12 +205,12 @@ module _ (calls : ℕ) (keep : KeepsStmts calls) (sound : SoundStmts calls) wher
       (λ _. if-cases (SoundLines around labelled leaves r) (sees_head depth_line r) (λ sees. depths labelled sees)
       (λ _. if-cases (SoundLines around labelled leaves r) (begins_label r) (λ label. labels-sound around labelled leaves r room label enough)
       (λ _ going.
-          let stmt = read_stmt calls around r in
-          let others = read_lines calls around false (is_break stmt.value && not labelled) stmt.behind in
-          let first = sound.stmt around r (omega arith) (keep.lines around false (is_break stmt.value && not labelled) stmt.behind going) in
-          let token = begins_token (next_token r) begins in
-          let took = skip-took r token.0 token.1 in
-          stmt_then around labelled leaves r (skip r) token.0 stmt others room (begins_here took) first (sound.lines around false (is_break stmt.value && not labelled) stmt.behind (omega (arith, first.shorter)) going))))
+      let stmt = read_stmt calls around r in
+      let others = read_lines calls around false (is_break stmt.value && not labelled) stmt.behind in
+      let first = sound.stmt around r (omega arith) (keep.lines around false (is_break stmt.value && not labelled) stmt.behind going) in
+      let token = begins_token (next_token r) begins in
+      let took = skip-took r token.0 token.1 in
+      stmt_then around labelled leaves r (skip r) token.0 stmt others room (begins_here took) first (sound.lines around false (is_break stmt.value && not labelled) stmt.behind (omega (arith, first.shorter)) going))))
     where
       going_on : (q : Reader) → q.stop ≡ None → is_stopped q ≡ true → ⊥
       going_on q none stopped = absurd (let same : is_stopped q ≡ false = ap is_some none in cc)
@@ -245,20 +236,20 @@ module _ (calls : ℕ) (keep : KeepsStmts calls) (sound : SoundStmts calls) wher
       let head = read_arm_head calls r in
       let lines = read_lines calls around false false head.behind in
       let result : Got PartialLines → Type 0 = λ body.
-          SoundArms around r (got (cases head.value.numbers head.value.default body.value (read_more_arms calls around body.behind).value) (read_more_arms calls around body.behind).behind)
+      SoundArms around r (got (cases head.value.numbers head.value.default body.value (read_more_arms calls around body.behind).value) (read_more_arms calls around body.behind).behind)
       in
       if-cases (SoundArms around r) (begins_arm r)
       (λ begins. if-cases result (is_stopped lines.behind) {x = got lines.value.lines lines.behind} {y = if lines.value.leaves then got (without_last lines.value.lines) lines.behind else got lines.value.lines (fail lines.behind)}
       (λ stopped going. absurd (going_on lines.behind (keep.more_arms around lines.behind going) stopped))
       (λ _. if-cases result lines.value.leaves {x = got (without_last lines.value.lines) lines.behind} {y = got lines.value.lines (fail lines.behind)}
       (λ leaves going.
-          let behind = keep.more_arms around lines.behind going in
-          let first = head-sound around calls r begins (omega arith) (keep.lines around false false head.behind behind) in
-          let body = sound.lines around false false head.behind (omega (arith, first.shorter)) behind in
-          arm_then around r head lines (read_more_arms calls around lines.behind) first body leaves (sound.more_arms around lines.behind (omega (arith, first.shorter, body.steps.passed.fewer)) going))
+      let behind = keep.more_arms around lines.behind going in
+      let first = head-sound around calls r begins (omega arith) (keep.lines around false false head.behind behind) in
+      let body = sound.lines around false false head.behind (omega (arith, first.shorter)) behind in
+      arm_then around r head lines (read_more_arms calls around lines.behind) first body leaves (sound.more_arms around lines.behind (omega (arith, first.shorter, body.steps.passed.fewer)) going))
       (λ _ going. absurd (fail-stops lines.behind (keep.more_arms around (fail lines.behind) going)))))
       (λ none going.
-          record { steps = no_steps r going; derived = no_arm; shallow = refl; shallow_last = refl; has = λ begins. absurd cc })
+      record { steps = no_steps r going; derived = no_arm; shallow = refl; shallow_last = refl; has = λ begins. absurd cc })
     where
       going_on : (q : Reader) → q.stop ≡ None → is_stopped q ≡ true → ⊥
       going_on q none stopped = absurd (let same : is_stopped q ≡ false = ap is_some none in cc)

@@ -1,30 +1,24 @@
 -- What reading statements with blocks makes of their parts is what the grammar says.
-use Rattle.std.proofs.Common.{◌≡◌, ℕ, zero, suc, ◌+◌, ◌*◌, ◌≤◌, ◌<◌, length, List, [], ◌∷◌, ◌++◌, map, Bool, true, false, Option, Some, None, refl, sym, ap, ◌∙◌, subst, arith}
-use Rattle.std.specs.Prelude.{codes, not, nat_lt, nat_le, ◌&&◌, ◌||◌, is_some}
+use Rattle.std.proofs.Common.{◌≡◌, ℕ, zero, ◌≤◌, ◌<◌, length, [], ◌∷◌, Bool, true, false, None, refl, sym, ap, ◌∙◌, subst, arith}
+use Rattle.std.specs.Prelude.{codes, ◌||◌}
 use Rattle.std.specs.List.{list_all}
-use Rattle.std.proofs.lemmas.Bool.{and_parts, and_from, ltb-false, le-leb}
+use Rattle.std.proofs.lemmas.Bool.{and_from, le-leb}
 use Rattle.std.proofs.lemmas.List.Folds.{list_all-append}
-use Rattle.dcc_c.specs.Token.{Token, WordToken, Mark, depth_line}
-use Rattle.dcc_c.specs.Lexing.{Placed, placed}
-use Rattle.dcc_c.specs.Tree.{Word, Expr, If, While, DoWhile, Forever, Switch, Lines, no_lines, Arms}
-use Rattle.dcc_c.specs.Parts.{stmts_in, inner_stmts, arm_stmts}
-use Rattle.dcc_c.specs.Grammar.{mark, word, is_name, IsExpr, Around, in_block, in_loop, in_switch, IsStmt, if_alone, if_else, while, do_while, for_ever, switch, IsBlock, block, AreLines, AreArms, no_arm, case_arm, default_arm, has_arm, Begins, none, one}
-use Rattle.dcc_c.specs.Kinds.{of_depth}
+use Rattle.dcc_c.specs.Token.{WordToken, Mark}
+use Rattle.dcc_c.specs.Tree.{Arms}
+use Rattle.dcc_c.specs.Parts.{stmts_in, arm_stmts}
+use Rattle.dcc_c.specs.Grammar.{mark, word, IsExpr, Around, in_block, in_loop, in_switch, if_alone, if_else, while, do_while, for_ever, switch, IsBlock, block, AreLines, AreArms, has_arm, Begins, none, one}
 use Rattle.dcc_c.specs.Rules.{expr_depth, shallow_stmt}
-use Rattle.dcc_c.specs.Partial.{WordAt, NumberAt, PartialExpr, PartialStmt, ForeverOf, BreakOf, ContinueOf, EmptyOf, LabelOf, PartialLines, no_rows, row, PartialArms, no_cases, cases}
-use Rattle.dcc_c.specs.Reading.{Reader, Got, got, is_stopped, next_token, second_token, line_of, skip, stop_at, fail, is_the_mark, name_of, sees_mark, sees_word, take_mark, take_word, take_name}
-use Rattle.dcc_c.specs.ReadingStatements.{read_test, begins_stmt, begins_label, begins_arm, sees_head, read_depth, Block, block_of, before_others, end_block, end_arm, without_last, is_break, stop_if_nested, ArmHead, read_arm_head, while_of, if_of, do_while_of, switch_of, read_stmt, read_if, read_block, read_lines, read_line, read_arms, read_more_arms}
-use Rattle.dcc_c.specs.Stripped.{plain_expr, plain_stmt, plain_lines, case_arms, default_arms, plain_numbers}
-use Rattle.dcc_c.proofs.reading.Passing.{tokens_of, Took, if-cases, option-cases, stop_at-stops, fail-stops, skip-took, the_mark-is, sees_mark-took, sees_word-took, take_mark-took, take_word-took}
-use Rattle.dcc_c.proofs.reading.Words.{name_of-is}
+use Rattle.dcc_c.specs.Partial.{PartialExpr, ForeverOf, PartialLines, no_rows, PartialArms}
+use Rattle.dcc_c.specs.Reading.{Reader, Got, got, next_token, skip, take_mark, take_word}
+use Rattle.dcc_c.specs.ReadingStatements.{begins_stmt, begins_arm, Block, end_block, while_of, if_of, do_while_of, switch_of, read_stmt, read_if, read_block, read_lines, read_line, read_arms, read_more_arms}
+use Rattle.dcc_c.specs.Stripped.{plain_expr, plain_lines, case_arms, default_arms}
+use Rattle.dcc_c.proofs.reading.Passing.{tokens_of, Took}
 use Rattle.dcc_c.proofs.reading.Statements.{IsEnough}
-use Rattle.dcc_c.proofs.reading.Stopping.{choice-cases}
-use Rattle.dcc_c.proofs.reading.StmtStopping.{KeepsStmts, keeps_stmts, test-keeps, mark-keeps, word-keeps, depth-keeps, arm_head-keeps, end_arm-keeps}
-use Rattle.dcc_c.proofs.reading.Steps.{Steps, then_steps, no_steps, token_steps, opening_steps, closing_steps}
-use Rattle.dcc_c.proofs.reading.StmtParts.{ReadsTest, test-sound}
-use Rattle.dcc_c.proofs.reading.SimpleSound.{ReadsStmt, SoundStmt, IsShallowStmt, simple-sound, break-sound, continue-sound, goto-sound, return-sound, empty-sound}
-use Rattle.dcc_c.proofs.reading.LineSound.{IsShallowLines, is_row, Leaving, nothing, last_break, ReadsLines, SoundLines, no_lines-sound, begins_here, depth-sound, depth_then, label_then, stmt_then}
-use Rattle.dcc_c.proofs.reading.ArmSound.{cases-sound}
+use Rattle.dcc_c.proofs.reading.Steps.{Steps, then_steps, token_steps, opening_steps, closing_steps}
+use Rattle.dcc_c.proofs.reading.StmtParts.{ReadsTest}
+use Rattle.dcc_c.proofs.reading.SimpleSound.{ReadsStmt, SoundStmt}
+use Rattle.dcc_c.proofs.reading.LineSound.{IsShallowLines, ReadsLines, SoundLines}
 
 -- The reader passed a block.
 pub record ReadsBlock (around : Around) (r : Reader) (g : Got PartialLines) : Type 0 where
@@ -126,9 +120,9 @@ do_while-sound around r body test took inner again read end =
     let here = take_word (codes "while") body.behind in
     let steady : (take_mark (codes ";") test.behind).depth ≡ body.behind.depth = end.steady ∙ (read.steady ∙ again.steady) in
     let lines : IsBlock 200 (in_loop around) r.depth (tokens_of (skip r).left) (plain_lines body.value) (take_mark (codes ";") test.behind).depth (word again.line (codes "while") ∷ mark read.opening (codes "(") ∷ read.tokens) =
-        subst (λ ts. IsBlock 200 (in_loop around) r.depth (tokens_of (skip r).left) (plain_lines body.value) (take_mark (codes ";") test.behind).depth ts) (again.begins ∙ ap (λ ts. word again.line (codes "while") ∷ ts) read.begins) (subst (λ d. IsBlock 200 (in_loop around) r.depth (tokens_of (skip r).left) (plain_lines body.value) d (tokens_of body.behind.left)) (sym steady) (block_from took.steady inner)) in
+    subst (λ ts. IsBlock 200 (in_loop around) r.depth (tokens_of (skip r).left) (plain_lines body.value) (take_mark (codes ";") test.behind).depth ts) (again.begins ∙ ap (λ ts. word again.line (codes "while") ∷ ts) read.begins) (subst (λ d. IsBlock 200 (in_loop around) r.depth (tokens_of (skip r).left) (plain_lines body.value) d (tokens_of body.behind.left)) (sym steady) (block_from took.steady inner)) in
     let condition : IsExpr 0 read.tokens (plain_expr test.value) (mark read.closing (codes ")") ∷ mark end.line (codes ";") ∷ tokens_of (take_mark (codes ";") test.behind).left) =
-        subst (λ ts. IsExpr 0 read.tokens (plain_expr test.value) (mark read.closing (codes ")") ∷ ts)) end.begins read.derived in
+    subst (λ ts. IsExpr 0 read.tokens (plain_expr test.value) (mark read.closing (codes ")") ∷ ts)) end.begins read.derived in
     record {
       steps = then_steps (token_steps 0 refl took) (then_steps inner.steps (then_steps (token_steps 0 refl again) (then_steps read.steps (token_steps 0 refl end))));
       shorter = omega (arith, took.one_less, inner.shorter, again.one_less, read.shorter, end.one_less);
@@ -142,7 +136,7 @@ pub for-sound : (around : Around) (r a b c d : Reader) (body : Got PartialLines)
 for-sound around r a b c d body took begun first second close inner =
     let steady : d.depth ≡ r.depth = close.steady ∙ (second.steady ∙ (first.steady ∙ (begun.steady ∙ took.steady))) in
     let words : Begins (tokens_of r.left) (WordToken (codes "for") ∷ Mark (codes "(") ∷ Mark (codes ";") ∷ Mark (codes ";") ∷ Mark (codes ")") ∷ []) (tokens_of d.left) =
-        rw (took.begins, begun.begins, first.begins, second.begins, close.begins) (one (one (one (one (one none))))) in
+    rw (took.begins, begun.begins, first.begins, second.begins, close.begins) (one (one (one (one (one none))))) in
     record {
       steps = then_steps (token_steps 0 refl took) (then_steps (opening_steps 0 begun) (then_steps (token_steps 1 refl first) (then_steps (token_steps 1 refl second) (then_steps (closing_steps 0 (omega arith) close) inner.steps))));
       shorter = omega (arith, took.one_less, begun.one_less, first.one_less, second.one_less, close.one_less, inner.shorter);
@@ -159,11 +153,11 @@ switch-sound around r test arms took read brace inner begins end =
     let behind = take_mark (codes "}") arms.behind in
     let steady : inside.depth ≡ r.depth = brace.steady ∙ (read.steady ∙ took.steady) in
     let condition : IsExpr 0 read.tokens (plain_expr test.value) (mark read.closing (codes ")") ∷ mark brace.line (codes "{") ∷ tokens_of inside.left) =
-        subst (λ ts. IsExpr 0 read.tokens (plain_expr test.value) (mark read.closing (codes ")") ∷ ts)) brace.begins read.derived in
+    subst (λ ts. IsExpr 0 read.tokens (plain_expr test.value) (mark read.closing (codes ")") ∷ ts)) brace.begins read.derived in
     let from : AreArms 200 (in_switch around) r.depth (tokens_of inside.left) (case_arms arms.value) (default_arms arms.value) arms.behind.depth (tokens_of arms.behind.left) =
-        subst (λ d. AreArms 200 (in_switch around) d (tokens_of inside.left) (case_arms arms.value) (default_arms arms.value) arms.behind.depth (tokens_of arms.behind.left)) steady inner.derived in
+    subst (λ d. AreArms 200 (in_switch around) d (tokens_of inside.left) (case_arms arms.value) (default_arms arms.value) arms.behind.depth (tokens_of arms.behind.left)) steady inner.derived in
     let to : AreArms 200 (in_switch around) r.depth (tokens_of inside.left) (case_arms arms.value) (default_arms arms.value) behind.depth (mark end.line (codes "}") ∷ tokens_of behind.left) =
-        subst (λ ts. AreArms 200 (in_switch around) r.depth (tokens_of inside.left) (case_arms arms.value) (default_arms arms.value) behind.depth ts) end.begins (subst (λ d. AreArms 200 (in_switch around) r.depth (tokens_of inside.left) (case_arms arms.value) (default_arms arms.value) d (tokens_of arms.behind.left)) (sym end.steady) from) in
+    subst (λ ts. AreArms 200 (in_switch around) r.depth (tokens_of inside.left) (case_arms arms.value) (default_arms arms.value) behind.depth ts) end.begins (subst (λ d. AreArms 200 (in_switch around) r.depth (tokens_of inside.left) (case_arms arms.value) (default_arms arms.value) d (tokens_of arms.behind.left)) (sym end.steady) from) in
     record {
       steps = then_steps (token_steps 0 refl took) (then_steps read.steps (then_steps (token_steps 0 refl brace) (then_steps inner.steps (token_steps 0 refl end))));
       shorter = omega (arith, took.one_less, read.shorter, brace.one_less, inner.steps.passed.fewer, end.one_less);
@@ -176,9 +170,9 @@ pub block-sound : (around : Around) (r inside : Reader) (lines : Got Block) → 
 block-sound around r inside lines begun read end =
     let behind = take_mark (codes "}") lines.behind in
     let to : AreLines 200 around false r.depth (tokens_of inside.left) (plain_lines lines.value.lines) behind.depth (mark end.line (codes "}") ∷ tokens_of behind.left) =
-        subst (λ d. AreLines 200 around false d (tokens_of inside.left) (plain_lines lines.value.lines) behind.depth (mark end.line (codes "}") ∷ tokens_of behind.left)) begun.steady
-        (subst (λ d. AreLines 200 around false inside.depth (tokens_of inside.left) (plain_lines lines.value.lines) d (mark end.line (codes "}") ∷ tokens_of behind.left)) (sym end.steady)
-        (subst (λ ts. AreLines 200 around false inside.depth (tokens_of inside.left) (plain_lines lines.value.lines) lines.behind.depth ts) end.begins read.derived)) in
+    subst (λ d. AreLines 200 around false d (tokens_of inside.left) (plain_lines lines.value.lines) behind.depth (mark end.line (codes "}") ∷ tokens_of behind.left)) begun.steady
+    (subst (λ d. AreLines 200 around false inside.depth (tokens_of inside.left) (plain_lines lines.value.lines) d (mark end.line (codes "}") ∷ tokens_of behind.left)) (sym end.steady)
+    (subst (λ ts. AreLines 200 around false inside.depth (tokens_of inside.left) (plain_lines lines.value.lines) lines.behind.depth ts) end.begins read.derived)) in
     record {
       steps = then_steps (token_steps 0 refl begun) (then_steps read.steps (token_steps 0 refl end));
       shorter = omega (arith, begun.one_less, read.steps.passed.fewer, end.one_less);

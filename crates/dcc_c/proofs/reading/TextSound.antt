@@ -1,35 +1,28 @@
--- What is read of a whole text is what the grammar says.
-use Rattle.std.proofs.Common.{◌≡◌, ℕ, zero, suc, ◌+◌, ◌*◌, ◌≤◌, ◌<◌, length, List, [], ◌∷◌, ◌++◌, map, Bool, true, false, Option, Some, None, refl, sym, ap, ◌∙◌, subst, arith, inl, inr}
-use Rattle.std.specs.Prelude.{codes, option_map, if◌then◌else◌, not, ◌||◌, ◌&&◌, ◌==◌, is_some}
+-- What is read of functions is what the grammar says.
+use Rattle.std.proofs.Common.{◌≡◌, ℕ, zero, suc, ◌≤◌, ◌<◌, length, List, [], ◌∷◌, map, Bool, true, false, Option, Some, None, refl, sym, ap, ◌∙◌, subst, arith, inl, inr}
+use Rattle.std.specs.Prelude.{codes, ◌||◌, ◌==◌, is_some}
 use Rattle.std.specs.List.{list_all}
-use Rattle.std.proofs.lemmas.Bool.{and_parts, and_from, or_cases, eqb-true}
+use Rattle.std.proofs.lemmas.Bool.{and_from, or_cases, eqb-true}
 use Rattle.dcc_c.specs.declared.syntax.CType.{CType}
-use Rattle.dcc_c.specs.Token.{Token, WordToken, Decimal, Mark, Pragma, plain_number as plain_suffix, version_line, stack_line, place_line}
-use Rattle.dcc_c.specs.Lexing.{Placed, placed}
-use Rattle.dcc_c.specs.Tree.{Word, Global, Variable, Function, Tree}
-use Rattle.dcc_c.specs.Parts.{stmts_in}
-use Rattle.dcc_c.specs.Placement.{behind_global}
+use Rattle.dcc_c.specs.Lexing.{Placed}
+use Rattle.dcc_c.specs.Tree.{Function}
 use Rattle.dcc_c.specs.Pieces.{Piece}
-use Rattle.dcc_c.specs.Grammar.{mark, word, is_name, type_tokens, Begins, HasResult, no_result, result, AreParams, IsFunction, AreFunctions, last_function, more_functions, IsGlobal, AreGlobals, no_global, placed_at, one_global, IsUnit, outermost, AreLines}
-use Rattle.dcc_c.specs.Rules.{most_open, shallow_stmt}
-use Rattle.dcc_c.specs.Partial.{WordAt, NumberAt, PartialVariable, PartialFunction, PartialText}
-use Rattle.dcc_c.specs.Reading.{Reader, Got, got, is_stopped, next_token, line_of, skip, sees_mark, sees_word, take_mark, take_name, take_type, begins_type}
-use Rattle.dcc_c.specs.ReadingStatements.{sees_head, take_head, take_number_of_line, read_lines, read_size, read_init, read_locals, read_params}
-use Rattle.dcc_c.specs.ReadingText.{Begun, begun_by, read_begun, read_head, with_first_depth, read_body, read_function, read_functions, with_functions, read_global, size_in_bytes, address_of, Declared, declared, before_declared, read_declared, read_text, reader_of, enough_calls, reading_of}
-use Rattle.dcc_c.specs.Stripped.{plain_name, plain_type, plain_number, plain_numbers, plain_variable, plain_lines, plain_global, plain_function, plain_text}
-use Rattle.dcc_c.proofs.reading.Passing.{tokens_of, are_tokens, Passed, Took, if-cases, sees_mark-took, sees_word-took, take_mark-took}
+use Rattle.dcc_c.specs.Grammar.{mark, word, is_name, type_tokens, Begins, HasResult, no_result, result, AreParams, IsFunction, AreFunctions, last_function, more_functions, outermost, AreLines}
+use Rattle.dcc_c.specs.Rules.{most_open}
+use Rattle.dcc_c.specs.Partial.{PartialFunction}
+use Rattle.dcc_c.specs.Reading.{Reader, Got, got, is_stopped, next_token, skip, sees_word, take_mark, take_name, take_type, begins_type}
+use Rattle.dcc_c.specs.ReadingStatements.{read_lines, read_locals, read_params}
+use Rattle.dcc_c.specs.ReadingText.{Begun, begun_by, read_begun, with_first_depth, read_function, read_functions}
+use Rattle.dcc_c.specs.Stripped.{plain_name, plain_type, plain_function}
+use Rattle.dcc_c.proofs.reading.Passing.{tokens_of, are_tokens, if-cases, sees_word-took, take_mark-took}
 use Rattle.dcc_c.proofs.reading.Words.{type-sound}
-use Rattle.dcc_c.proofs.reading.Statements.{IsEnough}
+use Rattle.dcc_c.proofs.reading.Statements.{IsEnough, is_shallow}
 use Rattle.dcc_c.proofs.reading.Stopping.{GoesOn}
 use Rattle.dcc_c.proofs.reading.StmtStopping.{keeps_stmts}
-use Rattle.dcc_c.proofs.reading.Steps.{Steps, then_steps, no_steps, token_steps, opening_steps, closing_steps, with_depth, TookName, name-sound, TookPlain, number-sound, head-sound, sees_head-took}
-use Rattle.dcc_c.proofs.reading.LineSound.{ReadsLines, IsShallowLines, begins_here}
+use Rattle.dcc_c.proofs.reading.Steps.{Steps, then_steps, token_steps, opening_steps, closing_steps, with_depth, TookName, name-sound}
+use Rattle.dcc_c.proofs.reading.LineSound.{begins_here}
 use Rattle.dcc_c.proofs.reading.StmtRules.{sound_stmts}
-use Rattle.dcc_c.proofs.reading.DeclSound.{type_steps, size-sound, init-sound, locals-sound, params-sound}
-
--- no expression of the function is too deep
-abbrev pub is_shallow : Function → Bool
-is_shallow f = list_all (shallow_stmt 200) (stmts_in f.body)
+use Rattle.dcc_c.proofs.reading.DeclSound.{type_steps, locals-sound, params-sound}
 
 -- Beginnings.
 
@@ -63,20 +56,20 @@ named r between at has_result found steps steady shorter read result_is typed =
       typed = λ has. let both = typed has in (subst (λ ts. Begins (tokens_of r.left) (type_tokens (plain_type found)) ts) tokens both.0, both.1);
     }
 
-begun-sound : (r : Reader) → (read_begun r).behind.stop ≡ None → ReadsBegun r (read_begun r)
+pub begun-sound : (r : Reader) → (read_begun r).behind.stop ≡ None → ReadsBegun r (read_begun r)
 begun-sound r =
     if-cases (λ g. g.behind.stop ≡ None → ReadsBegun r g) (sees_word (codes "void") r)
     (λ sees going.
-        let took = sees_word-took (codes "void") r sees in
-        named r (skip r) r.at false None (token_steps 0 refl took) took.steady (omega (arith, took.one_less)) (name-sound (skip r) going) (rw took.begins no_result) (λ has. absurd cc))
+    let took = sees_word-took (codes "void") r sees in
+    named r (skip r) r.at false None (token_steps 0 refl took) took.steady (omega (arith, took.one_less)) (name-sound (skip r) going) (rw took.begins no_result) (λ has. absurd cc))
     (λ _ going.
-        let type = take_type r in
-        let read = name-sound type.behind going in
-        let typed = type-sound r read.took.passed.going in
-        let same : plain_type type.value ≡ typed.type = ap plain_type typed.is in
-        named r type.behind r.at (begins_type (next_token r)) type.value (type_steps 0 typed) typed.steady typed.shorter read
-        (subst (λ t. HasResult (tokens_of r.left) t (tokens_of type.behind.left)) (sym typed.is) (result typed.type typed.derived))
-        (λ _. (subst (λ t. Begins (tokens_of r.left) (type_tokens t) (tokens_of type.behind.left)) (sym same) typed.derived, typed.is ∙ ap (λ t. Some t) (sym same))))
+    let type = take_type r in
+    let read = name-sound type.behind going in
+    let typed = type-sound r read.took.passed.going in
+    let same : plain_type type.value ≡ typed.type = ap plain_type typed.is in
+    named r type.behind r.at (begins_type (next_token r)) type.value (type_steps 0 typed) typed.steady typed.shorter read
+    (subst (λ t. HasResult (tokens_of r.left) t (tokens_of type.behind.left)) (sym typed.is) (result typed.type typed.derived))
+    (λ _. (subst (λ t. Begins (tokens_of r.left) (type_tokens t) (tokens_of type.behind.left)) (sym same) typed.derived, typed.is ∙ ap (λ t. Some t) (sym same))))
 
 -- Functions.
 
@@ -87,7 +80,7 @@ pub record ReadsFunction (r : Reader) (g : Got PartialFunction) : Type 0 where
   pub derived : IsFunction 200 (tokens_of r.left) (plain_function g.value) (tokens_of g.behind.left)
   pub shallow : is_shallow (plain_function g.value) ≡ true
 
-function-sound : (calls : ℕ) (r : Reader) (begun : Got Begun) → (begun.behind.stop ≡ None → ReadsBegun r begun) → IsEnough calls 0 r.left →
+pub function-sound : (calls : ℕ) (r : Reader) (begun : Got Begun) → (begun.behind.stop ≡ None → ReadsBegun r begun) → IsEnough calls 0 r.left →
     (read_function calls begun).behind.stop ≡ None → ReadsFunction r (read_function calls begun)
 function-sound calls r begun begins enough going =
     let inside = take_mark (codes "(") begun.behind in
@@ -126,7 +119,7 @@ function-sound calls r begun begins enough going =
         params_are = subst (λ ts. AreParams (tokens_of inside.left) f.params ts) (closed.begins ∙ ap (λ ts. mark closed.line (codes ")") ∷ ts) opened.begins) given.derived;
         locals_are = placed_locals.derived;
         body_is = subst (λ d. AreLines 200 outermost false d (tokens_of locals.behind.left) f.body body.behind.depth (mark f.last (codes "}") ∷ tokens_of (take_mark (codes "}") body.behind).left)) first_depth
-          (subst (λ ts. AreLines 200 outermost false locals.behind.depth (tokens_of locals.behind.left) f.body body.behind.depth ts) (begins_here last) lines.derived);
+            (subst (λ ts. AreLines 200 outermost false locals.behind.depth (tokens_of locals.behind.left) f.body body.behind.depth ts) (begins_here last) lines.derived);
       };
       shallow = lines.shallow;
     }
@@ -141,7 +134,7 @@ pub record ReadsRest (r : Reader) (g : Got (List PartialFunction)) : Type 0 wher
   pub shallow : list_all is_shallow (map plain_function g.value) ≡ true
   pub ends : g.behind.left ≡ []
 
-function-keeps : (calls : ℕ) (begun : Got Begun) → GoesOn begun.behind (read_function calls begun).behind
+pub function-keeps : (calls : ℕ) (begun : Got Begun) → GoesOn begun.behind (read_function calls begun).behind
 function-keeps calls begun going =
     let inside = take_mark (codes "(") begun.behind in
     let params = read_params calls inside in
@@ -155,7 +148,7 @@ function-keeps calls begun going =
     let closed = take_mark-took (codes ")") params.behind opened.passed.going in
     (take_mark-took (codes "(") begun.behind (params-sound calls inside closed.passed.going).steps.passed.going).passed.going
 
-functions-keep : (calls : ℕ) (r : Reader) → GoesOn r (read_functions calls r).behind
+pub functions-keep : (calls : ℕ) (r : Reader) → GoesOn r (read_functions calls r).behind
 functions-keep zero r = λ going. going
 functions-keep (suc calls) r =
     if-cases (λ (g : Got (List PartialFunction)). GoesOn r g.behind) (is_stopped r || (length r.left == 0)) (λ _ going. going)
@@ -185,21 +178,21 @@ joined_functions r first others read more =
       ends = more.ends;
     }
 
-rest-sound : (calls : ℕ) (r : Reader) → IsEnough calls 1 r.left → (read_functions calls r).behind.stop ≡ None → ReadsRest r (read_functions calls r)
+pub rest-sound : (calls : ℕ) (r : Reader) → IsEnough calls 1 r.left → (read_functions calls r).behind.stop ≡ None → ReadsRest r (read_functions calls r)
 rest-sound zero r enough = absurd (omega arith)
 rest-sound (suc calls) r enough =
     if-cases (λ g. g.behind.stop ≡ None → ReadsRest r g) (is_stopped r || (length r.left == 0))
     (λ ends going.
-        let none = ends_here r going ends in
-        record {
-          going = going;
-          whole = ap are_tokens none;
-          enclosed = rw none (omega arith);
-          derived = λ all f is. last_function (subst (λ (left : List Piece). IsFunction 200 all f (tokens_of left)) none is);
-          shallow = refl;
-          ends = none;
-        })
+    let none = ends_here r going ends in
+    record {
+      going = going;
+      whole = ap are_tokens none;
+      enclosed = rw none (omega arith);
+      derived = λ all f is. last_function (subst (λ (left : List Piece). IsFunction 200 all f (tokens_of left)) none is);
+      shallow = refl;
+      ends = none;
+    })
     (λ _ going.
-        let first = read_function calls (read_begun r) in
-        let read = function-sound calls r (read_begun r) (begun-sound r) (omega arith) (functions-keep calls first.behind going) in
-        joined_functions r first (read_functions calls first.behind) read (rest-sound calls first.behind (omega (arith, read.shorter)) going))
+    let first = read_function calls (read_begun r) in
+    let read = function-sound calls r (read_begun r) (begun-sound r) (omega arith) (functions-keep calls first.behind going) in
+    joined_functions r first (read_functions calls first.behind) read (rest-sound calls first.behind (omega (arith, read.shorter)) going))
