@@ -23,3 +23,4 @@ pub mod StmtRules
 pub mod DeclSound
 pub mod TextSound
 pub mod UnitSound
+pub mod Leads
