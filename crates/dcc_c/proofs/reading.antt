@@ -19,8 +19,11 @@ pub mod LineSound
 pub mod ArmSound
 pub mod StmtSound
 pub mod ArmRules
+pub mod StmtKinds
 pub mod StmtRules
 pub mod DeclSound
 pub mod TextSound
 pub mod UnitSound
 pub mod Leads
+pub mod PartsComplete
+pub mod SimpleComplete

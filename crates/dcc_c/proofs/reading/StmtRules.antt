@@ -18,49 +18,8 @@ use Rattle.dcc_c.proofs.reading.StmtParts.{ReadsTest, test-sound}
 use Rattle.dcc_c.proofs.reading.SimpleSound.{SoundStmt, simple-sound, break-sound, continue-sound, goto-sound, return-sound, empty-sound}
 use Rattle.dcc_c.proofs.reading.LineSound.{SoundLines, no_lines-sound, begins_here, depth-sound, depth_then, label_then, stmt_then}
 use Rattle.dcc_c.proofs.reading.StmtSound.{ReadsBlock, SoundBlock, ReadsArms, SoundArms, SoundStmts, none-sound, while-sound, if_alone-sound, if_else-sound, do_while-sound, for-sound, switch-sound, block-sound}
+use Rattle.dcc_c.proofs.reading.StmtKinds.{last_stmts, return_stmts, goto_stmts, leave_stmts, switch_stmt, switch_stmts, for_stmt, for_stmts, do_stmt, do_stmts, while_stmt, while_stmts}
 use Rattle.dcc_c.proofs.reading.ArmRules.{head-sound, arm_then}
-
--- The kinds of statements, one after the other, as reading tries them.
-
-abbrev last_stmts : ℕ → Reader → Got PartialStmt
-last_stmts calls r = if sees_word (codes "return") r then read_return calls r else if sees_mark (codes ";") r then got EmptyOf (skip r) else read_simple calls r
-
-abbrev return_stmts : ℕ → Reader → Got PartialStmt
-return_stmts calls r = if sees_word (codes "goto") r then read_goto r else last_stmts calls r
-
-abbrev goto_stmts : ℕ → Around → Reader → Got PartialStmt
-goto_stmts calls around r = if sees_word (codes "continue") r then read_leave around.continues ContinueOf r else return_stmts calls r
-
-abbrev leave_stmts : ℕ → Around → Reader → Got PartialStmt
-leave_stmts calls around r = if sees_word (codes "break") r then read_leave around.breaks BreakOf r else goto_stmts calls around r
-
-abbrev switch_stmt : ℕ → Around → Reader → Got PartialStmt
-switch_stmt calls around r =
-    switch_of (read_test calls (skip r)) (read_arms calls (in_switch around) (take_mark (codes "{") (read_test calls (skip r)).behind))
-
-abbrev switch_stmts : ℕ → Around → Reader → Got PartialStmt
-switch_stmts calls around r = if sees_word (codes "switch") r then switch_stmt calls around r else leave_stmts calls around r
-
-abbrev for_stmt : ℕ → Around → Reader → Got PartialStmt
-for_stmt calls around r =
-    let body = read_block calls (in_loop around) (take_mark (codes ")") (take_mark (codes ";") (take_mark (codes ";") (take_mark (codes "(") (skip r))))) in
-    got (ForeverOf body.value) body.behind
-
-abbrev for_stmts : ℕ → Around → Reader → Got PartialStmt
-for_stmts calls around r = if sees_word (codes "for") r then for_stmt calls around r else switch_stmts calls around r
-
-abbrev do_stmt : ℕ → Around → Reader → Got PartialStmt
-do_stmt calls around r =
-    do_while_of (read_block calls (in_loop around) (skip r)) (read_test calls (take_word (codes "while") (read_block calls (in_loop around) (skip r)).behind))
-
-abbrev do_stmts : ℕ → Around → Reader → Got PartialStmt
-do_stmts calls around r = if sees_word (codes "do") r then do_stmt calls around r else for_stmts calls around r
-
-abbrev while_stmt : ℕ → Around → Reader → Got PartialStmt
-while_stmt calls around r = while_of (read_test calls (skip r)) (read_block calls (in_loop around) (read_test calls (skip r)).behind)
-
-abbrev while_stmts : ℕ → Around → Reader → Got PartialStmt
-while_stmts calls around r = if sees_word (codes "while") r then while_stmt calls around r else do_stmts calls around r
 
 module _ (calls : ℕ) (keep : KeepsStmts calls) (sound : SoundStmts calls) where
   do-sound : (around : Around) (r : Reader) → sees_word (codes "do") r ≡ true → IsEnough (suc calls) 1 r.left →
