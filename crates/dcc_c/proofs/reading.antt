@@ -27,3 +27,5 @@ pub mod UnitSound
 pub mod Leads
 pub mod PartsComplete
 pub mod SimpleComplete
+pub mod LineComplete
+pub mod LineFinds
