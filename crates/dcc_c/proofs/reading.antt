@@ -29,3 +29,6 @@ pub mod PartsComplete
 pub mod SimpleComplete
 pub mod LineComplete
 pub mod LineFinds
+pub mod BlockFinds
+pub mod ArmFinds
+pub mod StmtFinds

@@ -62,7 +62,7 @@ cases_leads (last_case number) = then_leads (token_leads refl) (then_leads (toke
 cases_leads (more_cases number others) = then_leads (token_leads refl) (then_leads (token_leads (case_flat number)) (then_leads (token_leads refl) (cases_leads others)))
 
 -- the tokens of `for (;;)`
-for_leads : {tokens rest : List Placed} → Begins tokens (WordToken (codes "for") ∷ Mark (codes "(") ∷ Mark (codes ";") ∷ Mark (codes ";") ∷ Mark (codes ")") ∷ []) rest → Leads 1 0 0 tokens rest
+pub for_leads : {tokens rest : List Placed} → Begins tokens (WordToken (codes "for") ∷ Mark (codes "(") ∷ Mark (codes ";") ∷ Mark (codes ";") ∷ Mark (codes ")") ∷ []) rest → Leads 1 0 0 tokens rest
 for_leads (one (one (one (one (one none))))) =
     then_leads (token_leads refl) (then_leads opening_leads (then_leads (token_leads refl) (then_leads (token_leads refl) closing_leads)))
 

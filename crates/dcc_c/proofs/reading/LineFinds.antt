@@ -143,7 +143,7 @@ shallow_parts s at lines deep =
 
 pub statement-complete : (around : Around) (labelled : Bool) {depth between after number : ℕ} {token : Token} {tokens others rest : List Placed} {s : Stmt} {lines : Lines} → around.blocks ≤ 200 →
     IsStmt 200 around depth (placed number token ∷ tokens) s between others → StmtRead around depth (placed number token ∷ tokens) s between others →
-    is_the_word (codes "else") (first_of others) ≡ false → LinesRead around false between others lines after rest →
+    (is_the_word (codes "else") (first_of rest) ≡ false → is_the_word (codes "else") (first_of others) ≡ false) → LinesRead around false between others lines after rest →
     LinesRead around labelled depth (placed number token ∷ tokens) (line s number lines) after rest
 statement-complete around labelled room derived first no_else behind zero at leaves enough few deep ends = absurd (omega arith)
 statement-complete around labelled room derived first no_else behind (suc zero) at leaves enough few deep ends = absurd (omega arith)
@@ -151,7 +151,7 @@ statement-complete around labelled {depth} {between} {after} {number} {token} {t
     let r : Reader = on (placed number token ∷ tokens) at depth in
     let leads = stmt_leads derived in
     let parts = shallow_parts s number lines deep in
-    let p = first calls at (omega arith) few parts.0 no_else in
+    let p = first calls at (omega arith) few parts.0 (no_else ends) in
     let q = behind calls p.behind (is_break p.partial && not labelled) (omega (arith, leads.less)) (leads.enclosed few) parts.1 ends in
     record {
       partial = row p.partial at number q.partial;
