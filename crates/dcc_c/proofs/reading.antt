@@ -32,3 +32,5 @@ pub mod LineFinds
 pub mod BlockFinds
 pub mod ArmFinds
 pub mod StmtFinds
+pub mod DeclFinds
+pub mod TextFinds

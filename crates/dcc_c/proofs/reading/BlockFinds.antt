@@ -37,7 +37,7 @@ BlockRead around depth tokens lines after rest =
     (calls at : ℕ) → IsEnoughFor calls 1 tokens → most_open 0 tokens ≤ 200 → IsShallowLines lines → FindsBlock lines after rest (read_block calls around (on tokens at depth))
 
 -- reading stops before the closing brace
-brace_ends : (calls : ℕ) (around : Around) (leaves : Bool) (closing at depth : ℕ) (rest : List Placed) → IsEnoughFor calls 3 (mark closing (codes "}") ∷ rest) →
+pub brace_ends : (calls : ℕ) (around : Around) (leaves : Bool) (closing at depth : ℕ) (rest : List Placed) → IsEnoughFor calls 3 (mark closing (codes "}") ∷ rest) →
     read_lines calls around false leaves (on (mark closing (codes "}") ∷ rest) at depth) ≡ got (block_of no_rows leaves) (on (mark closing (codes "}") ∷ rest) at depth)
 brace_ends zero around leaves closing at depth rest enough = absurd (omega arith)
 brace_ends (suc calls) around leaves closing at depth rest enough = refl
