@@ -33,4 +33,5 @@ pub mod BlockFinds
 pub mod ArmFinds
 pub mod StmtFinds
 pub mod DeclFinds
+pub mod DeclLeads
 pub mod TextFinds

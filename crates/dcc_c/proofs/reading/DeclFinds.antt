@@ -270,17 +270,3 @@ params-complete no_param calls at depth enough = record { partials = []; behind 
 params-complete (some_params {tokens} some) calls at depth enough =
     let found = some_params-complete some refl calls at depth enough in
     record { partials = found.0.partials; behind = found.0.behind; same = found.0.same; is = if-false (is_the_word (codes "void") (first_of tokens)) _ _ found.1 ∙ found.0.is }
-
--- Lengths.
-
-some_params_length : {tokens rest : List Placed} {vs : List Variable} → AreSomeParams tokens vs rest → length rest ≤ length tokens
-some_params_length (last_param is) = omega (arith, param_length is)
-some_params_length (more_of is others) = omega (arith, param_length is, some_params_length others)
-
-pub params_length : {tokens rest : List Placed} {vs : List Variable} → AreParams tokens vs rest → length rest ≤ length tokens
-params_length no_param = omega arith
-params_length (some_params some) = some_params_length some
-
-pub locals_length : {tokens rest : List Placed} {vs : List Variable} → AreLocals tokens vs rest → length rest ≤ length tokens
-locals_length no_local = omega arith
-locals_length (one_local is others) = omega (arith, local_length is, locals_length others)

@@ -21,11 +21,12 @@ use Rattle.dcc_c.proofs.reading.Derivations.{begins-length, begins-enclosed, fla
 use Rattle.dcc_c.proofs.reading.Leads.{lines_leads}
 use Rattle.dcc_c.proofs.reading.TypeComplete.{type-complete}
 use Rattle.dcc_c.proofs.reading.PartsComplete.{take_name-is}
-use Rattle.dcc_c.proofs.reading.LineComplete.{lines_begin}
+use Rattle.dcc_c.proofs.reading.LineComplete.{lines_begin, stmt_no_word}
 use Rattle.dcc_c.proofs.reading.LineFinds.{rows_before, joined_none}
 use Rattle.dcc_c.proofs.reading.BlockFinds.{brace_ends}
 use Rattle.dcc_c.proofs.reading.StmtFinds.{lines_complete}
-use Rattle.dcc_c.proofs.reading.DeclFinds.{type_no_word, params-complete, locals-complete, params_length, locals_length}
+use Rattle.dcc_c.proofs.reading.DeclFinds.{type_no_word, params-complete, locals-complete}
+use Rattle.dcc_c.proofs.reading.DeclLeads.{result_leads, params_leads, locals_leads, before_body, function_leads}
 
 -- Beginnings.
 
@@ -69,3 +70,87 @@ result_length (result type words) = omega (arith, begins-length words)
 pub result_enclosed : {tokens rest : List Placed} {r : Option CType} → HasResult tokens r rest → most_open 0 tokens ≤ 200 → most_open 0 rest ≤ 200
 result_enclosed (no_result {at} {rest}) few = flat_behind (WordToken (codes "void")) 0 at rest refl few
 result_enclosed (result type words) few = begins-enclosed words (flat_type type) 0 few
+
+-- Functions.
+
+-- no statement begins with a type or with `auto`
+stmt_no_local : (token : Option Token) → begins_stmt token ≡ true → (is_the_word (codes "auto") token || begins_type token) ≡ false
+stmt_no_local token begins =
+    or_from _ _ (stmt_no_word (codes "auto") token begins refl) (or_from _ _ (or_from _ _ (stmt_no_word (codes "signed") token begins refl) (stmt_no_word (codes "unsigned") token begins refl)) (or_from _ _ (stmt_no_word (codes "int") token begins refl) (stmt_no_word (codes "long") token begins refl)))
+
+body_no_local : {depth after last : ℕ} {body rest : List Placed} {lines : Lines} → AreLines 200 outermost false depth body lines after (mark last (codes "}") ∷ rest) →
+    (is_the_word (codes "auto") (first_of body) || begins_type (first_of body)) ≡ false
+body_no_local {last} {body} {rest} derived = by (lines_begin derived)
+  where
+    by : (begins_stmt (first_of body) ≡ true) ⊎ (body ≡ mark last (codes "}") ∷ rest) → (is_the_word (codes "auto") (first_of body) || begins_type (first_of body)) ≡ false
+    by (inl begins) = stmt_no_local (first_of body) begins
+    by (inr same) = ap (λ ts. is_the_word (codes "auto") (first_of ts) || begins_type (first_of ts)) same
+
+-- the steps of reading a function behind its name
+abbrev params_step : Got Begun → Reader → Got (List PartialVariable) → Got PartialFunction
+params_step begun inside params =
+    let end = take_mark (codes ")") params.behind in
+    got (record {
+      at = begun.value.at;
+      has_result = begun.value.has_result;
+      result = begun.value.result;
+      name = begun.value.name;
+      opened = if is_stopped inside then None else Some inside.at;
+      without_params = sees_word (codes "void") inside;
+      params = params.value;
+      headed = not (is_stopped end);
+      locals = [];
+      body = no_rows;
+      last = 0;
+    }) end
+
+abbrev lines_step : PartialFunction → List PartialVariable → Got Block → Got PartialFunction
+lines_step head locals body =
+    got (record head { locals = locals; body = body.value.lines; last = line_of body.behind.left }) (take_mark (codes "}") body.behind)
+
+abbrev locals_step : ℕ → PartialFunction → Got (List PartialVariable) → Got PartialFunction
+locals_step calls head locals = lines_step head locals.value (read_lines calls outermost false false locals.behind)
+
+-- The function was read, with exactly the rest left.
+pub record FindsFunction (f : Function) (rest : List Placed) (g : Got PartialFunction) : Type 0 where
+  pub partial : PartialFunction
+  pub behind : ℕ
+  pub depth : ℕ
+  pub same : plain_function partial ≡ f
+  pub is : g ≡ got partial (on rest behind depth)
+
+-- what the function begins with was read
+pub function_begun : (f : Function) (tokens rest : List Placed) (is : IsFunction 200 tokens f rest) (at depth : ℕ) →
+    FindsBegun f.result f.name (mark is.open_at (codes "(") ∷ is.params) depth (read_begun (on tokens at depth))
+function_begun f tokens rest is at depth = begun-complete f.name is.result_is refl is.name_is at depth
+
+function_path : (f : Function) (params locals : List Variable) (body : Lines) → params ≡ f.params → locals ≡ f.locals → body ≡ f.body →
+    record { name = f.name; result = f.result; params = params; locals = locals; body = body; last = f.last } ≡ f
+function_path f params locals body one two three =
+    ap (λ (ps : List Variable). record { name = f.name; result = f.result; params = ps; locals = locals; body = body; last = f.last }) one
+    ∙ ap₂ (λ (ls : List Variable) (b : Lines). record { name = f.name; result = f.result; params = f.params; locals = ls; body = b; last = f.last }) two three
+
+pub function-complete : (f : Function) (tokens rest : List Placed) → IsFunction 200 tokens f rest → (calls at depth : ℕ) → IsEnoughFor calls 0 tokens → most_open 0 tokens ≤ 200 → is_shallow f ≡ true →
+    FindsFunction f rest (read_function calls (read_begun (on tokens at depth)))
+function-complete f tokens rest is calls at depth enough few deep =
+    let b = function_begun f tokens rest is at depth in
+    let before = before_body is in
+    let less : length is.params < length tokens = (let l = result_leads is.result_is in omega (arith, l.less)) in
+    let less_locals : length is.locals < length tokens = (let l = params_leads is.params_are in omega (arith, l.less, less)) in
+    let less_body : length is.body < length tokens = (let l = locals_leads is.locals_are in omega (arith, l.less, less_locals)) in
+    let p = params-complete is.params_are calls (suc b.behind) depth (omega (arith, less)) in
+    let head_at : Got PartialFunction = params_step (got (record { at = b.at; has_result = b.has_result; result = f.result; name = Some (record { word = f.name; at = b.name_at }) }) (on (mark is.open_at (codes "(") ∷ is.params) b.behind depth)) (on is.params (suc b.behind) depth) (got p.partials (on (mark is.close_at (codes ")") ∷ mark is.brace_at (codes "{") ∷ is.locals) p.behind depth)) in
+    let l = locals-complete is.locals_are (body_no_local is.body_is) calls (suc (suc p.behind)) 2 (omega (arith, less_locals)) in
+    let s = lines_complete is.body_is calls l.behind false (omega (arith, less_body)) (before.enclosed few) deep refl in
+    let closing = on (mark f.last (codes "}") ∷ rest) s.behind is.depth in
+    record {
+      partial = record head_at.value { locals = l.partials; body = s.partial; last = f.last };
+      behind = suc s.behind;
+      depth = is.depth;
+      same = function_path f (map plain_variable p.partials) (map plain_variable l.partials) (plain_lines s.partial) p.same l.same s.same;
+      is = ap (read_function calls) b.is
+        ∙ (ap (λ (ps : Got (List PartialVariable)). read_body calls (params_step (got (record { at = b.at; has_result = b.has_result; result = f.result; name = Some (record { word = f.name; at = b.name_at }) }) (on (mark is.open_at (codes "(") ∷ is.params) b.behind depth)) (on is.params (suc b.behind) depth) ps)) p.is
+        ∙ (ap (locals_step calls head_at.value) l.is
+        ∙ (ap (lines_step head_at.value l.partials) (s.is ∙ ap (rows_before s.partial) (brace_ends s.calls outermost s.leaves f.last s.behind is.depth rest s.enough))
+        ∙ ap (λ rows. lines_step head_at.value l.partials (got (block_of rows s.leaves) closing)) (joined_none s.partial))));
+    }
