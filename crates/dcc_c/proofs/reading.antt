@@ -35,3 +35,4 @@ pub mod StmtFinds
 pub mod DeclFinds
 pub mod DeclLeads
 pub mod TextFinds
+pub mod UnitFinds

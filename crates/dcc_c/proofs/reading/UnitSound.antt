@@ -134,7 +134,7 @@ place_then address r between value others took read line more =
     }
 
 -- what stands behind place lines, at an address or at none
-abbrev here_declared : ℕ → Option ℕ → Reader → Got Declared
+abbrev pub here_declared : ℕ → Option ℕ → Reader → Got Declared
 here_declared calls address r = elim address [
   | Some here ↦ if (read_begun r).value.has_result && not (sees_mark (codes "(") (read_begun r).behind)
       then before_declared (read_global calls here (read_begun r)).value (read_declared calls (Some (here + size_in_bytes (read_global calls here (read_begun r)).value)) (read_global calls here (read_begun r)).behind)
