@@ -36,3 +36,4 @@ pub mod DeclFinds
 pub mod DeclLeads
 pub mod TextFinds
 pub mod UnitFinds
+pub mod TextComplete

@@ -1,31 +1,31 @@
 -- Arms of the grammar are read, where their bodies are.
-use Rattle.std.proofs.Common.{◌≡◌, ℕ, zero, suc, ◌+◌, ◌*◌, ◌-◌, ◌≤◌, length, List, [], ◌∷◌, ◌++◌, map, true, false, Bool, Option, Some, None, refl, sym, ap, ◌∙◌, arith, subst}
-use Rattle.std.specs.Prelude.{codes, nat_le, not, ◌&&◌, ◌||◌, if◌then◌else◌}
+use Rattle.std.proofs.Common.{◌≡◌, ℕ, zero, suc, ◌-◌, ◌≤◌, List, [], ◌∷◌, ◌++◌, true, false, Some, None, refl, sym, ap, ◌∙◌, arith}
+use Rattle.std.specs.Prelude.{codes, nat_le, ◌&&◌, ◌||◌}
 use Rattle.std.specs.List.{list_all}
 use Rattle.std.proofs.lemmas.Bool.{and_parts, le-leb, or_left}
 use Rattle.std.proofs.lemmas.List.Folds.{list_all-append}
-use Rattle.dcc_c.specs.Token.{Token, WordToken, Decimal, Hex, Mark}
+use Rattle.dcc_c.specs.Token.{Token, WordToken, Mark}
 use Rattle.dcc_c.specs.Lexing.{Placed, placed}
-use Rattle.dcc_c.specs.Tree.{Word, Expr, Stmt, Switch, Lines, no_lines, Arms, no_arms, arm}
+use Rattle.dcc_c.specs.Tree.{Word, Expr, Stmt, Switch, Lines, Arms, no_arms, arm}
 use Rattle.dcc_c.specs.Parts.{stmts_in, arm_stmts}
-use Rattle.dcc_c.specs.Grammar.{mark, word, is_name, IsExpr, Around, in_block, in_loop, in_switch, IsCaseNumber, plain_decimal, unsigned_decimal, plain_hex, unsigned_hex, AreCases, last_case, more_cases, has_arm, IsPlace, name_place, deref_place, IsCall, call, IsStmt, assign, call_alone, call_into, if_alone, if_else, while, do_while, for_ever, switch, break, continue, goto, empty, return_nothing, return_value, IsBlock, block, AreLines, no_more, depth_pragma, label, statement, AreArms, no_arm, case_arm, default_arm}
-use Rattle.dcc_c.specs.Rules.{expr_depth, shallow_stmt, most_open}
-use Rattle.dcc_c.specs.Partial.{WordAt, NumberAt, PartialExpr, PartialStmt, SwitchOf, BreakOf, PartialLines, no_rows, row, PartialArms, no_cases, cases}
-use Rattle.dcc_c.specs.Reading.{Reader, Got, got, is_stopped, next_token, skip, is_the_word, is_the_mark, sees_word, take_mark}
-use Rattle.dcc_c.specs.ReadingStatements.{read_test, begins_stmt, begins_arm, case_number, read_case, read_cases, ArmHead, read_arm_head, switch_of, end_arm, without_last, Block, block_of, read_stmt, read_simple, read_lines, read_arms, read_more_arms}
-use Rattle.dcc_c.specs.Stripped.{plain_expr, plain_stmt, plain_lines, plain_numbers, case_arms, default_arms}
+use Rattle.dcc_c.specs.Grammar.{mark, word, IsExpr, Around, in_switch, IsCaseNumber, plain_decimal, unsigned_decimal, plain_hex, unsigned_hex, AreCases, last_case, more_cases, has_arm, IsPlace, name_place, deref_place, IsCall, call, AreLines, AreArms, no_arm, case_arm, default_arm}
+use Rattle.dcc_c.specs.Rules.{shallow_stmt, most_open}
+use Rattle.dcc_c.specs.Partial.{NumberAt, PartialExpr, SwitchOf, BreakOf, PartialLines, no_rows, row, PartialArms, no_cases, cases}
+use Rattle.dcc_c.specs.Reading.{Reader, Got, got, is_the_word, sees_word, take_mark}
+use Rattle.dcc_c.specs.ReadingStatements.{begins_stmt, begins_arm, case_number, read_case, read_cases, ArmHead, switch_of, end_arm, read_stmt, read_simple, read_lines, read_arms, read_more_arms}
+use Rattle.dcc_c.specs.Stripped.{plain_lines, plain_numbers, case_arms, default_arms}
 use Rattle.dcc_c.proofs.reading.Statements.{IsEnoughFor, on, first_of}
 use Rattle.dcc_c.proofs.reading.Stopping.{choice-some, if-true, if-false}
 use Rattle.dcc_c.proofs.reading.SimpleSound.{IsShallowStmt}
 use Rattle.dcc_c.proofs.reading.LineSound.{IsShallowLines}
 use Rattle.dcc_c.proofs.reading.StmtSound.{IsShallowArms}
 use Rattle.dcc_c.proofs.reading.Derivations.{flat_behind}
-use Rattle.dcc_c.proofs.reading.Leads.{Leads, then_leads, token_leads, test_leads, cases_leads, for_leads, block_leads, lines_leads, arms_leads}
+use Rattle.dcc_c.proofs.reading.Leads.{Leads, test_leads, cases_leads, lines_leads}
 use Rattle.dcc_c.proofs.reading.PartsComplete.{test-complete}
-use Rattle.dcc_c.proofs.reading.SimpleComplete.{FindsStmt, named_stmt, assign-complete, into-complete, alone-complete}
-use Rattle.dcc_c.proofs.reading.LineComplete.{stmt_begins, lines_begin, stmt_no_word, lines_no_word}
-use Rattle.dcc_c.proofs.reading.LineFinds.{joined_rows, rows_before, without_joined, FindsLines, StmtRead, LinesRead, no_more-complete, depth-complete, label-complete, statement-complete, break-complete}
-use Rattle.dcc_c.proofs.reading.BlockFinds.{deep_test, FindsBlock, BlockRead, block-complete, while-complete, if_alone-complete, if_else-complete, do_while-complete, for-complete, leave-complete, continue-complete, goto-complete, empty-complete, return_nothing-complete, return_value-complete}
+use Rattle.dcc_c.proofs.reading.SimpleComplete.{FindsStmt, named_stmt}
+use Rattle.dcc_c.proofs.reading.LineComplete.{lines_no_word}
+use Rattle.dcc_c.proofs.reading.LineFinds.{rows_before, without_joined, StmtRead, LinesRead, break-complete}
+use Rattle.dcc_c.proofs.reading.BlockFinds.{deep_test}
 
 -- Cases.
 
@@ -64,7 +64,7 @@ cases-complete (last_case {at = line} {place} {colon} {n} {token} {rest} number)
       behind = suc (suc (suc at));
       same = refl;
       is = ap (case_then calls) (one_case line place colon n token rest at depth number)
-        ∙ ap (λ (g : Got (List NumberAt)). got (record { value = n; at = suc at } ∷ g.value) g.behind) (no_more_cases calls (on rest (suc (suc (suc at))) depth) ends);
+          ∙ ap (λ (g : Got (List NumberAt)). got (record { value = n; at = suc at } ∷ g.value) g.behind) (no_more_cases calls (on rest (suc (suc (suc at))) depth) ends);
     }
 cases-complete (more_cases {at = line} {place} {colon} {n} {token} {others} number more) ends (suc calls) at depth enough =
     let found = cases-complete more ends calls (suc (suc (suc at))) depth (omega arith) in
@@ -73,7 +73,7 @@ cases-complete (more_cases {at = line} {place} {colon} {n} {token} {others} numb
       behind = found.behind;
       same = ap (λ ns. n ∷ ns) found.same;
       is = ap (case_then calls) (one_case line place colon n token others at depth number)
-        ∙ ap (λ (g : Got (List NumberAt)). got (record { value = n; at = suc at } ∷ g.value) g.behind) found.is;
+          ∙ ap (λ (g : Got (List NumberAt)). got (record { value = n; at = suc at } ∷ g.value) g.behind) found.is;
     }
 
 cases_begin : {all tokens : List Placed} {ns : List ℕ} → AreCases all ns tokens → (at depth : ℕ) →
@@ -141,7 +141,7 @@ body-complete around depth between leaves_at end tokens others body room breaks 
       behind = suc (suc found.behind);
       same = found.same;
       is = ap end_arm (found.is ∙ ap (rows_before found.partial) (ap (λ n. read_lines n around false found.leaves rest) more ∙ break-complete (found.calls - 3) around found.leaves leaves_at end found.behind between others room breaks ends))
-        ∙ ap (λ rows. got rows (on others (suc (suc found.behind)) between)) (without_joined found.partial BreakOf found.behind leaves_at);
+          ∙ ap (λ rows. got rows (on others (suc (suc found.behind)) between)) (without_joined found.partial BreakOf found.behind leaves_at);
     }
 
 deep_arm : (body : Lines) (arms : Arms) → list_all (shallow_stmt 200) (stmts_in body ++ arm_stmts arms) ≡ true → IsShallowLines body × IsShallowArms arms
@@ -169,7 +169,7 @@ case_arm-complete around depth between after leaves_at end all tokens others res
       same = ap (λ xs. arm xs (plain_lines b.partial) (case_arms o.partial)) c.same ∙ (ap (λ x. arm ns x (case_arms o.partial)) b.same ∙ ap (arm ns body) o.same);
       same_last = o.same_last;
       is = if-true (begins_arm (on all at depth)) _ _ (or_left _ _ begins.0) ∙ (ap (arm_of calls around) (if-false (sees_word (codes "default") (on all at depth)) _ _ begins.1 ∙ ap (λ (g : Got (List NumberAt)). got (record { numbers = g.value; default = None }) g.behind) c.is)
-        ∙ (ap (arm_behind calls around h) b.is ∙ ap (λ (g : Got PartialArms). got (cases c.numbers None b.partial g.value) g.behind) o.is));
+          ∙ (ap (arm_behind calls around h) b.is ∙ ap (λ (g : Got PartialArms). got (cases c.numbers None b.partial g.value) g.behind) o.is));
     }
 
 pub default_arm-complete : (around : Around) (depth between after line colon leaves_at end : ℕ) (tokens others rest : List Placed) (body : Lines) (arms last : Arms) → around.breaks ≡ true →
@@ -223,7 +223,7 @@ switch-complete around depth after at opening closing brace end tokens inside re
       behind = suc q.behind;
       same = ap (λ x. Switch x (case_arms q.partial) (default_arms q.partial)) p.same ∙ (ap (λ x. Switch e x (default_arms q.partial)) q.same ∙ ap (Switch e arms) q.same_last);
       is = ap (λ (t : Got PartialExpr). switch_of t (read_arms (suc calls) (in_switch around) (take_mark (codes "{") t.behind))) p.is
-        ∙ ap (switch_of (got p.partial (on (mark brace (codes "{") ∷ inside) p.behind depth))) (if-true (begins_arm (on inside (suc p.behind) depth)) _ _ (arms_begin derived has (suc p.behind) depth) ∙ q.is);
+          ∙ ap (switch_of (got p.partial (on (mark brace (codes "{") ∷ inside) p.behind depth))) (if-true (begins_arm (on inside (suc p.behind) depth)) _ _ (arms_begin derived has (suc p.behind) depth) ∙ q.is);
     }
 
 -- Assignments and calls.

@@ -1,29 +1,26 @@
 -- Statements with blocks that the grammar has are read, where their blocks are.
-use Rattle.std.proofs.Common.{◌≡◌, ℕ, zero, suc, ◌+◌, ◌*◌, ◌-◌, ◌≤◌, length, List, [], ◌∷◌, ◌++◌, true, false, Bool, Option, Some, None, refl, sym, ap, ◌∙◌, arith, subst}
-use Rattle.std.specs.Prelude.{codes, nat_le, not, ◌&&◌, ◌||◌, if◌then◌else◌}
+use Rattle.std.proofs.Common.{◌≡◌, ℕ, zero, suc, ◌≤◌, List, [], ◌∷◌, ◌++◌, true, false, Bool, Option, Some, None, refl, sym, ap, ◌∙◌, arith}
+use Rattle.std.specs.Prelude.{codes, nat_le, not, ◌&&◌, if◌then◌else◌}
 use Rattle.std.specs.List.{list_all}
 use Rattle.std.proofs.lemmas.Bool.{and_parts, leb-true}
 use Rattle.std.proofs.lemmas.List.Folds.{list_all-append}
-use Rattle.dcc_c.specs.Token.{Token, WordToken, Mark}
-use Rattle.dcc_c.specs.Lexing.{Placed, placed}
-use Rattle.dcc_c.specs.Tree.{Word, Expr, Stmt, If, While, DoWhile, Forever, Switch, Break, Continue, Goto, Empty, Return, Lines, no_lines, Arms}
-use Rattle.dcc_c.specs.Parts.{stmts_in, arm_stmts}
-use Rattle.dcc_c.specs.Grammar.{mark, word, is_name, IsExpr, Around, in_block, in_loop, in_switch, Begins, none, one, IsBlock, AreLines}
+use Rattle.dcc_c.specs.Token.{WordToken, Mark}
+use Rattle.dcc_c.specs.Lexing.{Placed}
+use Rattle.dcc_c.specs.Tree.{Word, Expr, Stmt, If, While, DoWhile, Forever, Break, Continue, Goto, Empty, Return, Lines, no_lines}
+use Rattle.dcc_c.specs.Parts.{stmts_in}
+use Rattle.dcc_c.specs.Grammar.{mark, word, is_name, IsExpr, Around, in_block, in_loop, Begins, none, one}
 use Rattle.dcc_c.specs.Rules.{expr_depth, shallow_stmt, most_open}
-use Rattle.dcc_c.specs.Partial.{WordAt, PartialExpr, PartialStmt, IfOf, WhileOf, DoWhileOf, ForeverOf, SwitchOf, BreakOf, ContinueOf, GotoOf, EmptyOf, ReturnOf, PartialLines, no_rows, PartialArms}
-use Rattle.dcc_c.specs.Reading.{Reader, Got, got, is_stopped, first_token, skip, is_the_word, is_the_mark, sees_word, sees_mark, take_mark, take_word, take_name}
-use Rattle.dcc_c.specs.ReadingStatements.{read_test, read_value, begins_arm, end_block, while_of, if_of, do_while_of, switch_of, read_leave, read_stmt, read_if, read_block, read_lines, read_arms, read_more_arms, Block, block_of}
-use Rattle.dcc_c.specs.Stripped.{plain_expr, plain_stmt, plain_lines, case_arms, default_arms}
+use Rattle.dcc_c.specs.Partial.{WordAt, PartialExpr, IfOf, WhileOf, DoWhileOf, ForeverOf, BreakOf, ContinueOf, GotoOf, EmptyOf, ReturnOf, PartialLines, no_rows}
+use Rattle.dcc_c.specs.Reading.{Got, got, is_stopped, skip, is_the_word, is_the_mark, sees_word, take_mark, take_word}
+use Rattle.dcc_c.specs.ReadingStatements.{read_test, end_block, while_of, if_of, do_while_of, read_leave, read_if, read_block, read_lines, block_of}
+use Rattle.dcc_c.specs.Stripped.{plain_expr, plain_lines}
 use Rattle.dcc_c.proofs.reading.Statements.{IsEnoughFor, on, first_of}
-use Rattle.dcc_c.proofs.reading.Stopping.{if-true, if-false}
-use Rattle.dcc_c.proofs.reading.SimpleSound.{IsShallowStmt}
+use Rattle.dcc_c.proofs.reading.Stopping.{if-false}
 use Rattle.dcc_c.proofs.reading.LineSound.{IsShallowLines}
-use Rattle.dcc_c.proofs.reading.StmtSound.{IsShallowArms}
-use Rattle.dcc_c.proofs.reading.Derivations.{flat_behind, opening_behind, closing_behind}
-use Rattle.dcc_c.proofs.reading.Leads.{Leads, then_leads, token_leads, test_leads, expr_leads}
-use Rattle.dcc_c.proofs.reading.PartsComplete.{expr_no_mark, no_semicolon, FindsTest, take_name-is, test-complete, value-complete}
-use Rattle.dcc_c.proofs.reading.SimpleComplete.{FindsStmt}
-use Rattle.dcc_c.proofs.reading.LineFinds.{joined_rows, rows_before, joined_none, FindsLines, StmtRead, LinesRead}
+use Rattle.dcc_c.proofs.reading.Derivations.{flat_behind}
+use Rattle.dcc_c.proofs.reading.Leads.{Leads, test_leads}
+use Rattle.dcc_c.proofs.reading.PartsComplete.{expr_no_mark, no_semicolon, take_name-is, test-complete, value-complete}
+use Rattle.dcc_c.proofs.reading.LineFinds.{rows_before, joined_none, StmtRead, LinesRead}
 
 -- The block was read, with exactly the rest left.
 pub record FindsBlock (lines : Lines) (after : ℕ) (rest : List Placed) (g : Got PartialLines) : Type 0 where
@@ -54,7 +51,7 @@ block-complete around depth after opening closing tokens rest lines read (suc ca
       behind = suc found.behind;
       same = found.same;
       is = ap end_block (found.is ∙ ap (rows_before found.partial) (brace_ends found.calls around found.leaves closing found.behind after rest found.enough))
-        ∙ ap (λ rows. end_block (got (block_of rows found.leaves) behind)) (joined_none found.partial);
+          ∙ ap (λ rows. end_block (got (block_of rows found.leaves) behind)) (joined_none found.partial);
     }
 
 -- Tests.
@@ -99,8 +96,8 @@ if_alone-complete around depth after at opening closing tokens block rest e body
       behind = q.behind;
       same = ap (λ x. If x (plain_lines q.partial) no_lines) p.same ∙ ap (λ b. If e b no_lines) q.same;
       is = ap (read_if (suc calls) around) p.is
-        ∙ (ap (λ (b : Got PartialLines). if sees_word (codes "else") b.behind then if_of test_read b.value (read_block calls (in_block around) (skip b.behind)) else if_of test_read b.value (got no_rows b.behind)) q.is
-        ∙ if-false (is_the_word (codes "else") (first_of rest)) _ _ ends);
+          ∙ (ap (λ (b : Got PartialLines). if sees_word (codes "else") b.behind then if_of test_read b.value (read_block calls (in_block around) (skip b.behind)) else if_of test_read b.value (got no_rows b.behind)) q.is
+          ∙ if-false (is_the_word (codes "else") (first_of rest)) _ _ ends);
     }
 
 pub if_else-complete : (around : Around) (depth between after at opening closing other : ℕ) (tokens block second rest : List Placed) (e : Expr) (body otherwise : Lines) →
@@ -124,8 +121,8 @@ if_else-complete around depth between after at opening closing other tokens bloc
       behind = o.behind;
       same = ap (λ x. If x (plain_lines q.partial) (plain_lines o.partial)) p.same ∙ (ap (λ b. If e b (plain_lines o.partial)) q.same ∙ ap (If e body) o.same);
       is = ap (read_if (suc calls) around) p.is
-        ∙ (ap (λ (b : Got PartialLines). if sees_word (codes "else") b.behind then if_of test_read b.value (read_block calls (in_block around) (skip b.behind)) else if_of test_read b.value (got no_rows b.behind)) q.is
-        ∙ ap (if_of test_read q.partial) o.is);
+          ∙ (ap (λ (b : Got PartialLines). if sees_word (codes "else") b.behind then if_of test_read b.value (read_block calls (in_block around) (skip b.behind)) else if_of test_read b.value (got no_rows b.behind)) q.is
+          ∙ ap (if_of test_read q.partial) o.is);
     }
 
 pub do_while-complete : (around : Around) (depth after at again opening closing end : ℕ) (block tokens rest : List Placed) (body : Lines) (e : Expr) →
@@ -203,5 +200,5 @@ return_value-complete around depth at end tokens rest e value (suc calls) place 
       behind = suc v.behind;
       same = ap (λ x. Return (Some x)) v.same;
       is = if-false (is_the_mark (codes ";") (first_of tokens)) _ _ (expr_no_mark (codes ";") refl no_semicolon value)
-        ∙ ap (λ (g : Got PartialExpr). got (ReturnOf (Some g.value) (not (is_stopped (take_mark (codes ";") g.behind)))) (take_mark (codes ";") g.behind)) v.is;
+          ∙ ap (λ (g : Got PartialExpr). got (ReturnOf (Some g.value) (not (is_stopped (take_mark (codes ";") g.behind)))) (take_mark (codes ";") g.behind)) v.is;
     }

@@ -1,23 +1,23 @@
 -- Declarations of the grammar are read: sizes, initial values, local variables and parameters.
-use Rattle.std.proofs.Common.{◌≡◌, ℕ, zero, suc, ◌+◌, ◌*◌, ◌≤◌, length, List, [], ◌∷◌, ◌++◌, map, true, false, Bool, Option, Some, None, refl, sym, ap, ap₂, ◌∙◌, arith, subst, true≢false, ◌<◌}
-use Rattle.std.specs.Prelude.{codes, not, ◌&&◌, ◌||◌, if◌then◌else◌, option_map}
-use Rattle.std.proofs.lemmas.Bool.{or_left, or_right, or_from}
+use Rattle.std.proofs.Common.{◌≡◌, ℕ, zero, suc, ◌≤◌, length, List, [], ◌∷◌, ◌++◌, map, true, false, Bool, Option, Some, None, refl, sym, ap, ap₂, ◌∙◌, arith, true≢false, ◌<◌}
+use Rattle.std.specs.Prelude.{codes, not, ◌||◌, if◌then◌else◌, option_map}
+use Rattle.std.proofs.lemmas.Bool.{or_right}
 use Rattle.dcc_c.specs.declared.syntax.CType.{CType}
 use Rattle.dcc_c.specs.declared.syntax.Class.{Class}
-use Rattle.dcc_c.specs.declared.syntax.Class.TheVariants.{Plain, Auto, Register}
-use Rattle.dcc_c.specs.Token.{Token, WordToken, Decimal, Mark}
-use Rattle.dcc_c.specs.Lexing.{Placed, placed}
+use Rattle.dcc_c.specs.declared.syntax.Class.TheVariants.{Plain, Auto}
+use Rattle.dcc_c.specs.Token.{Token, WordToken}
+use Rattle.dcc_c.specs.Lexing.{Placed}
 use Rattle.dcc_c.specs.Tree.{Word, Variable}
 use Rattle.dcc_c.specs.Grammar.{mark, word, is_name, type_tokens, Begins, HasSize, no_size, size, AreNumbers, last_number, more_numbers, AreInitial, no_value, one_value, values, HasClass, no_class, auto_class, register_class, IsParam, AreSomeParams, last_param, more_params as more_of, AreParams, no_param, some_params, IsLocalClass, plain_local, array_local, auto_local, IsLocal, AreLocals, no_local, one_local}
 use Rattle.dcc_c.specs.Partial.{WordAt, NumberAt, PartialVariable}
 use Rattle.dcc_c.specs.Reading.{Reader, Got, got, is_stopped, next_token, skip, is_the_mark, is_the_word, sees_mark, sees_word, take_mark, take_name, take_plain, take_type, begins_type}
-use Rattle.dcc_c.specs.ReadingStatements.{read_size, list_of, more_values, read_values, read_init, class_with, read_local, read_locals, read_class, read_param, more_params, read_params}
+use Rattle.dcc_c.specs.ReadingStatements.{read_size, list_of, more_values, read_init, class_with, read_local, read_locals, read_class, read_param, more_params, read_params}
 use Rattle.dcc_c.specs.Stripped.{plain_numbers, plain_variable}
 use Rattle.dcc_c.proofs.reading.Passing.{the_word-is}
 use Rattle.dcc_c.proofs.reading.Statements.{IsEnoughFor, on, first_of}
 use Rattle.dcc_c.proofs.reading.Stopping.{if-true, if-false}
 use Rattle.dcc_c.proofs.reading.Derivations.{begins-length}
-use Rattle.dcc_c.proofs.reading.TypeComplete.{FindsType, type-complete}
+use Rattle.dcc_c.proofs.reading.TypeComplete.{type-complete}
 use Rattle.dcc_c.proofs.reading.PartsComplete.{take_name-is}
 use Rattle.dcc_c.proofs.reading.DeclSound.{local_of}
 
@@ -192,7 +192,7 @@ locals-complete (one_local {tokens} {others = more_tokens} {v} {locals} is other
       behind = found.behind;
       same = ap (λ x. x ∷ map plain_variable found.partials) first.0.same ∙ ap (λ xs. v ∷ xs) found.same;
       is = if-true (sees_word (codes "auto") (on tokens at depth) || begins_type (first_of tokens)) _ _ first.1
-        ∙ (ap (local_then calls) first.0.is ∙ ap (λ (g : Got (List PartialVariable)). got (first.0.partial ∷ g.value) g.behind) found.is);
+          ∙ (ap (local_then calls) first.0.is ∙ ap (λ (g : Got (List PartialVariable)). got (first.0.partial ∷ g.value) g.behind) found.is);
     }
 
 -- Parameters.
@@ -246,23 +246,27 @@ no_more_params (suc calls) r ends = if-false (sees_mark (codes ",") r) _ _ ends
 some_params-complete : {tokens rest : List Placed} {vs : List Variable} → AreSomeParams tokens vs rest → is_the_mark (codes ",") (first_of rest) ≡ false → (calls at depth : ℕ) → IsEnoughFor calls 0 tokens →
     FindsVariables vs rest depth (param_then calls (read_param (on tokens at depth))) × (is_the_word (codes "void") (first_of tokens) ≡ false)
 some_params-complete (last_param {tokens} {rest} {v} is) ends calls at depth enough =
-    let first = param-complete v tokens rest is at depth in
-    (record {
-      partials = first.0.partial ∷ [];
-      behind = first.0.behind;
-      same = ap (λ x. x ∷ []) first.0.same;
-      is = ap (param_then calls) first.0.is ∙ ap (λ (g : Got (List PartialVariable)). got (first.0.partial ∷ g.value) g.behind) (no_more_params calls (on rest first.0.behind depth) ends);
-    }, first.1)
+    let first = param-complete v tokens rest is at depth in (
+      record {
+        partials = first.0.partial ∷ [];
+        behind = first.0.behind;
+        same = ap (λ x. x ∷ []) first.0.same;
+        is = ap (param_then calls) first.0.is ∙ ap (λ (g : Got (List PartialVariable)). got (first.0.partial ∷ g.value) g.behind) (no_more_params calls (on rest first.0.behind depth) ends);
+      },
+      first.1,
+    )
 some_params-complete (more_of is others) ends zero at depth enough = absurd (omega (arith, param_length is))
 some_params-complete (more_of {comma} {tokens} {others = more_tokens} {v} {params} is others) ends (suc calls) at depth enough =
     let first = param-complete v tokens (mark comma (codes ",") ∷ more_tokens) is at depth in
-    let found = some_params-complete others ends calls (suc first.0.behind) depth (omega (arith, param_length is)) in
-    (record {
-      partials = first.0.partial ∷ found.0.partials;
-      behind = found.0.behind;
-      same = ap (λ x. x ∷ map plain_variable found.0.partials) first.0.same ∙ ap (λ xs. v ∷ xs) found.0.same;
-      is = ap (param_then (suc calls)) first.0.is ∙ ap (λ (g : Got (List PartialVariable)). got (first.0.partial ∷ g.value) g.behind) found.0.is;
-    }, first.1)
+    let found = some_params-complete others ends calls (suc first.0.behind) depth (omega (arith, param_length is)) in (
+      record {
+        partials = first.0.partial ∷ found.0.partials;
+        behind = found.0.behind;
+        same = ap (λ x. x ∷ map plain_variable found.0.partials) first.0.same ∙ ap (λ xs. v ∷ xs) found.0.same;
+        is = ap (param_then (suc calls)) first.0.is ∙ ap (λ (g : Got (List PartialVariable)). got (first.0.partial ∷ g.value) g.behind) found.0.is;
+      },
+      first.1,
+    )
 
 pub params-complete : {closing : ℕ} {tokens rest : List Placed} {vs : List Variable} → AreParams tokens vs (mark closing (codes ")") ∷ rest) → (calls at depth : ℕ) → IsEnoughFor calls 0 tokens →
     FindsVariables vs (mark closing (codes ")") ∷ rest) depth (read_params calls (on tokens at depth))

@@ -1,9 +1,7 @@
 -- What a derivation says of the tokens of declarations: each leads to fewer, and its parentheses are in pairs.
-use Rattle.std.proofs.Common.{◌≡◌, ℕ, List, [], ◌∷◌, refl, arith, Option}
-use Rattle.std.specs.Prelude.{codes}
+use Rattle.std.proofs.Common.{ℕ, List, refl, arith, Option}
 use Rattle.dcc_c.specs.declared.syntax.CType.{CType}
 use Rattle.dcc_c.specs.declared.syntax.Class.{Class}
-use Rattle.dcc_c.specs.Token.{Token, Mark}
 use Rattle.dcc_c.specs.Lexing.{Placed}
 use Rattle.dcc_c.specs.Tree.{Global, Variable, Function}
 use Rattle.dcc_c.specs.Grammar.{type_tokens, Begins, HasSize, no_size, size, AreNumbers, last_number, more_numbers, AreInitial, no_value, one_value, values, HasClass, no_class, auto_class, register_class, IsParam, AreSomeParams, last_param, more_params, AreParams, no_param, some_params, IsLocal, AreLocals, no_local, one_local, HasResult, no_result, result, IsGlobal, IsFunction}

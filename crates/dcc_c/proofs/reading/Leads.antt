@@ -1,13 +1,13 @@
 -- What a derivation says of the tokens of statements: each leads to fewer, and its parentheses are in pairs.
-use Rattle.std.proofs.Common.{◌≡◌, ℕ, suc, ◌+◌, ◌≤◌, length, List, [], ◌∷◌, true, false, Bool, Option, Some, None, refl, sym, ap, ◌∙◌, arith, ◌⊎◌, inl, inr, true≢false}
-use Rattle.std.specs.Prelude.{codes, ◌||◌, ◌&&◌}
-use Rattle.dcc_c.specs.Token.{Token, WordToken, Decimal, Mark, Pragma, plain_number, depth_line}
+use Rattle.std.proofs.Common.{◌≡◌, ℕ, suc, ◌+◌, ◌≤◌, length, List, [], ◌∷◌, Bool, refl, arith}
+use Rattle.std.specs.Prelude.{codes}
+use Rattle.dcc_c.specs.Token.{Token, WordToken, Mark}
 use Rattle.dcc_c.specs.Lexing.{Placed, placed}
 use Rattle.dcc_c.specs.Tree.{Word, Expr, Stmt, Lines, Arms}
-use Rattle.dcc_c.specs.Grammar.{mark, word, is_name, IsExpr, IsPlace, name_place, deref_place, AreArguments, no_argument, last_argument, more_arguments, IsCall, call, Around, IsCaseNumber, plain_decimal, unsigned_decimal, plain_hex, unsigned_hex, AreCases, last_case, more_cases, IsStmt, assign, call_alone, call_into, if_alone, if_else, while, do_while, for_ever, switch, break, continue, goto, empty, return_nothing, return_value, IsBlock, block, AreLines, no_more, depth_pragma, label, statement, AreArms, no_arm, case_arm, default_arm, Begins, none, one}
+use Rattle.dcc_c.specs.Grammar.{mark, IsExpr, IsPlace, name_place, deref_place, AreArguments, no_argument, last_argument, more_arguments, IsCall, call, Around, IsCaseNumber, plain_decimal, unsigned_decimal, plain_hex, unsigned_hex, AreCases, last_case, more_cases, IsStmt, assign, call_alone, call_into, if_alone, if_else, while, do_while, for_ever, switch, break, continue, goto, empty, return_nothing, return_value, IsBlock, block, AreLines, no_more, depth_pragma, label, statement, AreArms, no_arm, case_arm, default_arm, Begins, none, one}
 use Rattle.dcc_c.specs.Rules.{most_open}
 use Rattle.dcc_c.proofs.reading.Enclosing.{open_behind}
-use Rattle.dcc_c.proofs.reading.Derivations.{shorter, begins-length, flat_behind, opening_behind, closing_behind, expr-enclosed}
+use Rattle.dcc_c.proofs.reading.Derivations.{shorter, flat_behind, opening_behind, closing_behind, expr-enclosed}
 
 -- The tokens lead to others, at least so many fewer, with so many parentheses open before and behind.
 pub record Leads (least opened after : ℕ) (tokens rest : List Placed) : Type 0 where

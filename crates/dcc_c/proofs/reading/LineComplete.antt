@@ -1,28 +1,16 @@
 -- First tokens of the grammar's statements.
-use Rattle.std.proofs.Common.{◌≡◌, ℕ, zero, suc, ◌+◌, ◌*◌, ◌≤◌, length, List, [], ◌∷◌, ◌++◌, true, false, Bool, Option, Some, None, refl, sym, ap, ◌∙◌, arith, subst, ◌⊎◌, inl, inr, true≢false, eq-eqb}
-use Rattle.std.specs.Prelude.{codes, nat_le, nat_lt, not, ◌&&◌, ◌||◌, ◌==◌, if◌then◌else◌, is_some}
-use Rattle.std.specs.List.{list_all}
-use Rattle.std.proofs.lemmas.Bool.{and_parts, and_right, and_from, or_left, or_right, le-ltb}
-use Rattle.std.proofs.lemmas.List.Folds.{list_all-append}
-use Rattle.dcc_c.specs.Token.{Token, WordToken, Decimal, Mark, Pragma, plain_number, depth_line}
-use Rattle.dcc_c.specs.Lexing.{Placed, placed}
-use Rattle.dcc_c.specs.Tree.{Word, Expr, Stmt, Label, Lines, no_lines, line}
-use Rattle.dcc_c.specs.Parts.{stmts_in, inner_stmts}
-use Rattle.dcc_c.specs.Grammar.{mark, word, is_name, IsPlace, name_place, deref_place, IsCall, call, Around, IsStmt, assign, call_alone, call_into, if_alone, if_else, while, do_while, for_ever, switch, break, continue, goto, empty, return_nothing, return_value, AreLines, no_more, depth_pragma, label, statement, one, none}
-use Rattle.dcc_c.specs.Rules.{shallow_stmt, most_open}
-use Rattle.dcc_c.specs.Partial.{WordAt, NumberAt, PartialStmt, BreakOf, LabelOf, PartialLines, no_rows, row}
-use Rattle.dcc_c.specs.Reading.{Reader, Got, got, is_stopped, next_token, second_token, line_of, skip, is_the_mark, is_the_word, name_if, name_of, take_name}
-use Rattle.dcc_c.specs.ReadingStatements.{begins_stmt, begins_label, is_the_head, sees_head, take_number_of_line, set_depth, read_depth, Block, block_of, is_break, before_others, without_last, stop_if_nested, read_leave, read_stmt, read_lines, read_line}
-use Rattle.dcc_c.specs.Stripped.{plain_stmt, plain_lines}
+use Rattle.std.proofs.Common.{◌≡◌, ℕ, List, true, false, Bool, Option, Some, None, refl, sym, ap, ◌∙◌, ◌⊎◌, inl, inr, true≢false}
+use Rattle.std.specs.Prelude.{is_some}
+use Rattle.std.proofs.lemmas.Bool.{and_right, or_left, or_right}
+use Rattle.dcc_c.specs.Token.{Token, WordToken, depth_line}
+use Rattle.dcc_c.specs.Lexing.{Placed}
+use Rattle.dcc_c.specs.Tree.{Word, Expr, Stmt, Lines}
+use Rattle.dcc_c.specs.Grammar.{is_name, IsPlace, name_place, deref_place, IsCall, call, Around, IsStmt, assign, call_alone, call_into, if_alone, if_else, while, do_while, for_ever, switch, break, continue, goto, empty, return_nothing, return_value, AreLines, no_more, depth_pragma, label, statement, one}
+use Rattle.dcc_c.specs.Reading.{is_the_word}
+use Rattle.dcc_c.specs.ReadingStatements.{begins_stmt, begins_label, is_the_head}
 use Rattle.dcc_c.proofs.reading.Passing.{the_word-is}
-use Rattle.dcc_c.proofs.reading.Statements.{IsEnoughFor, on, first_of}
-use Rattle.dcc_c.proofs.reading.Stopping.{if-true, if-false}
-use Rattle.dcc_c.proofs.reading.SimpleSound.{IsShallowStmt}
-use Rattle.dcc_c.proofs.reading.LineSound.{IsShallowLines}
-use Rattle.dcc_c.proofs.reading.Derivations.{flat_behind}
-use Rattle.dcc_c.proofs.reading.Leads.{Leads, stmt_leads}
-use Rattle.dcc_c.proofs.reading.PartsComplete.{take_name-is}
-use Rattle.dcc_c.proofs.reading.SimpleComplete.{FindsStmt}
+use Rattle.dcc_c.proofs.reading.Statements.{on, first_of}
+use Rattle.dcc_c.proofs.reading.Stopping.{if-true}
 
 -- First tokens of statements.
 

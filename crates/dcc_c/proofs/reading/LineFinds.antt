@@ -1,7 +1,6 @@
 -- Statements one after the other that the grammar has are read, where each of them is.
-use Rattle.std.proofs.Common.{◌≡◌, ℕ, zero, suc, ◌+◌, ◌*◌, ◌-◌, ◌≤◌, length, List, [], ◌∷◌, ◌++◌, true, false, Bool, Option, Some, None, refl, sym, ap, ◌∙◌, arith, subst, eq-eqb}
-use Rattle.std.specs.Prelude.{codes, nat_lt, not, ◌&&◌, ◌==◌, if◌then◌else◌, is_some}
-use Rattle.std.specs.List.{list_all}
+use Rattle.std.proofs.Common.{◌≡◌, ℕ, zero, suc, ◌≤◌, List, ◌∷◌, true, false, Bool, Option, Some, None, refl, sym, ap, ◌∙◌, arith, eq-eqb}
+use Rattle.std.specs.Prelude.{codes, nat_lt, not, ◌&&◌, ◌==◌, is_some}
 use Rattle.std.proofs.lemmas.Bool.{and_parts, and_from, le-ltb}
 use Rattle.std.proofs.lemmas.List.Folds.{list_all-append}
 use Rattle.dcc_c.specs.Token.{Token, WordToken, Decimal, Mark, Pragma, plain_number, depth_line}
@@ -11,15 +10,15 @@ use Rattle.dcc_c.specs.Parts.{stmts_in, inner_stmts}
 use Rattle.dcc_c.specs.Grammar.{mark, word, is_name, Around, IsStmt}
 use Rattle.dcc_c.specs.Rules.{shallow_stmt, most_open}
 use Rattle.dcc_c.specs.Partial.{WordAt, NumberAt, PartialStmt, BreakOf, LabelOf, PartialLines, no_rows, row}
-use Rattle.dcc_c.specs.Reading.{Reader, Got, got, next_token, skip, is_the_word, is_the_mark, name_if, take_name}
+use Rattle.dcc_c.specs.Reading.{Reader, Got, got, next_token, skip, is_the_word}
 use Rattle.dcc_c.specs.ReadingStatements.{begins_stmt, begins_label, sees_head, take_number_of_line, set_depth, read_depth, Block, block_of, is_break, before_others, without_last, stop_if_nested, read_leave, read_stmt, read_lines, read_line}
-use Rattle.dcc_c.specs.Stripped.{plain_stmt, plain_lines}
+use Rattle.dcc_c.specs.Stripped.{plain_lines}
 use Rattle.dcc_c.proofs.reading.Statements.{IsEnoughFor, on, first_of}
 use Rattle.dcc_c.proofs.reading.Stopping.{if-true, if-false}
 use Rattle.dcc_c.proofs.reading.SimpleSound.{IsShallowStmt}
 use Rattle.dcc_c.proofs.reading.LineSound.{IsShallowLines}
 use Rattle.dcc_c.proofs.reading.Derivations.{flat_behind}
-use Rattle.dcc_c.proofs.reading.Leads.{Leads, stmt_leads}
+use Rattle.dcc_c.proofs.reading.Leads.{stmt_leads}
 use Rattle.dcc_c.proofs.reading.PartsComplete.{take_name-is}
 use Rattle.dcc_c.proofs.reading.SimpleComplete.{FindsStmt}
 use Rattle.dcc_c.proofs.reading.LineComplete.{name_begins, stmt_begins, stmt_no_head, stmt_no_label}
@@ -130,9 +129,9 @@ label-complete around labelled depth after number colon tokens rest lines name g
       enough = found.enough;
       same = ap (line (Label name) number) found.same;
       is = line_begins (suc calls) around labelled leaves r room (name_begins name good)
-        ∙ (if-true (begins_label r) _ _ begins
-        ∙ (ap (label_rest calls around at number) (take_name-is number at depth name (mark colon (codes ":") ∷ tokens) good)
-        ∙ ap (before_others (LabelOf (record { word = name; at = at })) at number) found.is));
+          ∙ (if-true (begins_label r) _ _ begins
+          ∙ (ap (label_rest calls around at number) (take_name-is number at depth name (mark colon (codes ":") ∷ tokens) good)
+          ∙ ap (before_others (LabelOf (record { word = name; at = at })) at number) found.is));
     }
 
 -- A statement.
@@ -161,10 +160,10 @@ statement-complete around labelled {depth} {between} {after} {number} {token} {t
       enough = q.enough;
       same = ap (λ x. line x number (plain_lines q.partial)) p.same ∙ ap (line s number) q.same;
       is = line_begins (suc calls) around labelled leaves r room (stmt_begins derived)
-        ∙ (if-false (sees_head depth_line r) _ _ (stmt_no_head derived)
-        ∙ (if-false (begins_label r) _ _ (stmt_no_label derived at depth)
-        ∙ (ap (λ (g : Got PartialStmt). before_others g.value at number (read_lines calls around false (is_break g.value && not labelled) g.behind)) p.is
-        ∙ ap (before_others p.partial at number) q.is)));
+          ∙ (if-false (sees_head depth_line r) _ _ (stmt_no_head derived)
+          ∙ (if-false (begins_label r) _ _ (stmt_no_label derived at depth)
+          ∙ (ap (λ (g : Got PartialStmt). before_others g.value at number (read_lines calls around false (is_break g.value && not labelled) g.behind)) p.is
+          ∙ ap (before_others p.partial at number) q.is)));
     }
 
 -- The end of an arm.

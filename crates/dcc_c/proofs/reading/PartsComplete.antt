@@ -1,23 +1,21 @@
 -- Parts of statements that the grammar has are read: tests, places, arguments and values.
-use Rattle.std.proofs.Common.{◌≡◌, ℕ, zero, suc, ◌+◌, ◌*◌, ◌≤◌, length, List, [], ◌∷◌, map, true, false, Bool, Option, Some, None, refl, sym, ap, ◌∙◌, arith, subst}
-use Rattle.std.specs.Prelude.{codes, nat_le, ◌&&◌, if◌then◌else◌, is_some}
-use Rattle.std.specs.List.{list_all}
-use Rattle.std.proofs.lemmas.Bool.{leb-true, and_parts, and_right, and_left, and_from}
+use Rattle.std.proofs.Common.{◌≡◌, ℕ, zero, suc, ◌≤◌, List, [], ◌∷◌, map, true, false, Option, Some, None, refl, sym, ap, ◌∙◌, arith, subst}
+use Rattle.std.specs.Prelude.{codes, nat_le, is_some}
+use Rattle.std.proofs.lemmas.Bool.{leb-true, and_parts, and_right, and_left}
 use Rattle.dcc_c.specs.declared.syntax.CUn.{CUn}
 use Rattle.dcc_c.specs.declared.syntax.CUn.TheVariants.{Minus, Deref}
 use Rattle.dcc_c.specs.declared.syntax.CBin.{CBin}
 use Rattle.dcc_c.specs.declared.syntax.CBin.TheVariants.{OrOr}
 use Rattle.dcc_c.specs.Token.{Token, WordToken, Mark, same_bytes}
-use Rattle.dcc_c.specs.Lexing.{Placed, placed}
+use Rattle.dcc_c.specs.Lexing.{Placed}
 use Rattle.dcc_c.specs.Tree.{Word, Expr, Unary}
-use Rattle.dcc_c.specs.Grammar.{mark, word, is_name, unary_mark, binary_mark, IsNumber, decimal, hex, IsExpr, number, name, parentheses, unary, cast, binary, conditional, stronger, IsPlace, name_place, deref_place, AreArguments, no_argument, last_argument, more_arguments as more_of}
+use Rattle.dcc_c.specs.Grammar.{mark, word, is_name, unary_mark, binary_mark, decimal, hex, IsExpr, number, name, parentheses, unary, cast, binary, conditional, stronger, IsPlace, name_place, deref_place, AreArguments, no_argument, last_argument, more_arguments as more_of}
 use Rattle.dcc_c.specs.Rules.{expr_depth, most_open}
-use Rattle.dcc_c.specs.Partial.{WordAt, PartialExpr, NameHere, UnaryHere}
-use Rattle.dcc_c.specs.Reading.{Reader, Got, got, next_token, second_token, skip, is_the_mark, is_the_word, name_if, name_of, sees_mark, take_mark, take_name, Inside, in_operator, name_here, read_unary}
+use Rattle.dcc_c.specs.Partial.{PartialExpr, NameHere, UnaryHere}
+use Rattle.dcc_c.specs.Reading.{Reader, Got, got, is_the_mark, name_if, name_of, sees_mark, take_mark, take_name, Inside, in_operator}
 use Rattle.dcc_c.specs.ReadingStatements.{whole, read_value, read_enclosed, read_test, more_arguments, read_arguments, read_place, begins_call}
 use Rattle.dcc_c.specs.Stripped.{plain_expr}
-use Rattle.dcc_c.proofs.reading.Passing.{the_mark-is, the_word-is}
-use Rattle.dcc_c.proofs.reading.Statements.{IsEnoughFor, on, first_of, EndsExpr, IsShallow, FindsExpr}
+use Rattle.dcc_c.proofs.reading.Statements.{IsEnoughFor, on, first_of, EndsExpr, FindsExpr}
 use Rattle.dcc_c.proofs.reading.Stopping.{choice-some, if-true, if-false}
 use Rattle.dcc_c.proofs.reading.StmtParts.{are_shallow}
 use Rattle.dcc_c.proofs.reading.Derivations.{shorter, opening_behind, flat_behind, expr-enclosed}

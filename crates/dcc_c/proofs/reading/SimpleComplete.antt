@@ -1,25 +1,24 @@
 -- A statement of the grammar with no block in it is read.
-use Rattle.std.proofs.Common.{◌≡◌, ℕ, zero, suc, ◌+◌, ◌*◌, ◌≤◌, length, List, [], ◌∷◌, map, true, false, Bool, Option, Some, None, refl, sym, ap, ◌∙◌, arith, subst}
-use Rattle.std.specs.Prelude.{codes, nat_le, not, ◌&&◌, if◌then◌else◌, is_some, option_map}
-use Rattle.std.specs.List.{list_all}
+use Rattle.std.proofs.Common.{◌≡◌, ℕ, suc, ◌≤◌, List, ◌∷◌, true, false, Option, Some, None, refl, ap, ◌∙◌, arith}
+use Rattle.std.specs.Prelude.{codes, nat_le, not, is_some, option_map}
 use Rattle.std.proofs.lemmas.Bool.{leb-true, and_parts, and_right, and_from}
-use Rattle.dcc_c.specs.Token.{Token, WordToken, Mark}
-use Rattle.dcc_c.specs.Lexing.{Placed, placed}
-use Rattle.dcc_c.specs.Tree.{Word, Expr, Stmt, Assign, Call, Break, Continue, Goto, Empty, Return}
+use Rattle.dcc_c.specs.Token.{WordToken, Mark}
+use Rattle.dcc_c.specs.Lexing.{Placed}
+use Rattle.dcc_c.specs.Tree.{Word, Expr, Stmt, Assign, Call}
 use Rattle.dcc_c.specs.Grammar.{mark, word, is_name, IsExpr, IsPlace, name_place, deref_place, IsCall, call, Around}
 use Rattle.dcc_c.specs.Rules.{expr_depth, most_open}
-use Rattle.dcc_c.specs.Partial.{WordAt, PartialExpr, PartialStmt, AssignOf, CallOf, BreakOf, ContinueOf, GotoOf, EmptyOf, ReturnOf}
-use Rattle.dcc_c.specs.Reading.{Reader, Got, got, is_stopped, next_token, second_token, skip, is_the_mark, name_if, name_of, sees_mark, sees_word, take_mark, take_name}
-use Rattle.dcc_c.specs.ReadingStatements.{read_value, read_arguments, begins_call, call_of, read_call, read_place, assignment_of, read_assigned, read_simple, read_leave, read_goto, read_return, read_if, read_test, read_stmt}
+use Rattle.dcc_c.specs.Partial.{WordAt, PartialExpr, PartialStmt, AssignOf, CallOf, BreakOf, ContinueOf}
+use Rattle.dcc_c.specs.Reading.{Reader, Got, got, is_stopped, skip, is_the_mark, sees_word, take_mark}
+use Rattle.dcc_c.specs.ReadingStatements.{begins_call, read_call, read_place, read_assigned, read_simple, read_leave, read_goto, read_return, read_if, read_test, read_stmt}
 use Rattle.dcc_c.specs.Stripped.{plain_expr, plain_stmt}
 use Rattle.dcc_c.proofs.reading.Statements.{IsEnoughFor, on, first_of}
 use Rattle.dcc_c.proofs.reading.Stopping.{if-true, if-false}
 use Rattle.dcc_c.proofs.reading.StmtStopping.{call_named}
 use Rattle.dcc_c.proofs.reading.StmtParts.{are_shallow}
 use Rattle.dcc_c.proofs.reading.SimpleSound.{IsShallowStmt}
-use Rattle.dcc_c.proofs.reading.Derivations.{shorter, opening_behind, flat_behind, expr-enclosed, name_other}
-use Rattle.dcc_c.proofs.reading.Leads.{Leads, place_leads, call_leads}
-use Rattle.dcc_c.proofs.reading.PartsComplete.{expr_no_mark, no_semicolon, expr_no_call, FindsTest, take_name-is, place-complete, FindsArguments, arguments-complete, value-complete}
+use Rattle.dcc_c.proofs.reading.Derivations.{opening_behind, flat_behind, name_other}
+use Rattle.dcc_c.proofs.reading.Leads.{place_leads}
+use Rattle.dcc_c.proofs.reading.PartsComplete.{expr_no_call, take_name-is, place-complete, arguments-complete, value-complete}
 use Rattle.dcc_c.proofs.reading.StmtKinds.{semicolon_stmts, last_stmts, return_stmts, goto_stmts, leave_stmts, switch_stmt, switch_stmts, for_stmt, for_stmts, do_stmt, do_stmts, while_stmt, while_stmts}
 
 -- The statement was read, with exactly the rest left.
@@ -64,7 +63,7 @@ call-complete {end} {rest} (call {at = line} {opening} {closing} {tokens} {argum
       behind = suc (suc found.behind);
       same = ap (λ xs. Call (option_map plain_expr place) function xs depth) found.same;
       is = ap (λ (g : Got (Option WordAt)). call_named calls place g.value g.behind) (take_name-is line at depth function (mark opening (codes "(") ∷ tokens) good)
-        ∙ ap (λ arguments. call_rest calls depth place name arguments) found.is;
+          ∙ ap (λ arguments. call_rest calls depth place name arguments) found.is;
     }
 
 -- a call begins here
@@ -100,8 +99,8 @@ assign-complete {equals} {end} {tokens} {right} {rest} {place} {e} to value call
       behind = suc v.behind;
       same = ap (λ x. Assign x (plain_expr v.partial)) p.same ∙ ap (Assign place) v.same;
       is = assigned-is to calls at depth p.partial p.behind p.is
-        ∙ (if-false (begins_call (on right (suc p.behind) depth)) _ _ (expr_no_call value refl (suc p.behind) depth)
-        ∙ ap (λ (g : Got PartialExpr). got (AssignOf p.partial (Some g.value) (not (is_stopped (take_mark (codes ";") g.behind)))) (take_mark (codes ";") g.behind)) v.is);
+          ∙ (if-false (begins_call (on right (suc p.behind) depth)) _ _ (expr_no_call value refl (suc p.behind) depth)
+          ∙ ap (λ (g : Got PartialExpr). got (AssignOf p.partial (Some g.value) (not (is_stopped (take_mark (codes ";") g.behind)))) (take_mark (codes ";") g.behind)) v.is);
     }
 
 pub into-complete : {equals end : ℕ} {tokens right rest : List Placed} {place : Expr} {function : Word} {es : List Expr} → IsPlace tokens place (mark equals (codes "=") ∷ right) →

@@ -1,5 +1,5 @@
 -- The statements of the grammar are read.
-use Rattle.std.proofs.Common.{◌≡◌, ℕ, List, true, false, Bool, refl}
+use Rattle.std.proofs.Common.{◌≡◌, ℕ, List, true, Bool, refl}
 use Rattle.std.specs.Prelude.{codes, Some, None}
 use Rattle.dcc_c.specs.Lexing.{Placed}
 use Rattle.dcc_c.specs.Tree.{Stmt, Assign, Call, Lines, Arms}

@@ -3,7 +3,7 @@ use Rattle.std.specs.Prelude.{ℕ, codes, if◌then◌else◌}
 use Rattle.dcc_c.specs.Grammar.{Around, in_loop, in_switch}
 use Rattle.dcc_c.specs.Partial.{PartialStmt, ForeverOf, BreakOf, ContinueOf, EmptyOf}
 use Rattle.dcc_c.specs.Reading.{Reader, Got, got, skip, sees_mark, sees_word, take_mark, take_word}
-use Rattle.dcc_c.specs.ReadingStatements.{read_test, do_while_of, switch_of, while_of, read_leave, read_goto, read_return, read_simple, read_if, read_block, read_arms}
+use Rattle.dcc_c.specs.ReadingStatements.{read_test, do_while_of, switch_of, while_of, read_leave, read_goto, read_return, read_simple, read_block, read_arms}
 
 -- The kinds of statements, one after the other, as reading tries them.
 
@@ -49,4 +49,3 @@ while_stmt calls around r = while_of (read_test calls (skip r)) (read_block call
 
 abbrev pub while_stmts : ℕ → Around → Reader → Got PartialStmt
 while_stmts calls around r = if sees_word (codes "while") r then while_stmt calls around r else do_stmts calls around r
-

@@ -5,9 +5,9 @@ use Rattle.std.proofs.lemmas.Bool.{and_parts, ltb-false}
 use Rattle.dcc_c.specs.Token.{Token, WordToken, depth_line}
 use Rattle.dcc_c.specs.Grammar.{word, Around, in_block, in_loop, in_switch, no_arm}
 use Rattle.dcc_c.specs.Kinds.{of_depth}
-use Rattle.dcc_c.specs.Partial.{WordAt, PartialExpr, PartialStmt, ForeverOf, BreakOf, ContinueOf, EmptyOf, LabelOf, PartialLines, no_rows, cases}
+use Rattle.dcc_c.specs.Partial.{WordAt, PartialExpr, BreakOf, ContinueOf, EmptyOf, LabelOf, PartialLines, no_rows, cases}
 use Rattle.dcc_c.specs.Reading.{Reader, Got, got, is_stopped, next_token, second_token, line_of, skip, stop_at, fail, is_the_mark, name_of, sees_mark, sees_word, take_mark, take_word, take_name}
-use Rattle.dcc_c.specs.ReadingStatements.{read_test, do_while_of, switch_of, while_of, read_leave, read_goto, read_return, read_simple, begins_stmt, begins_label, begins_arm, sees_head, read_depth, block_of, before_others, without_last, is_break, read_arm_head, read_stmt, read_if, read_block, read_lines, read_line, read_arms, read_more_arms}
+use Rattle.dcc_c.specs.ReadingStatements.{read_test, read_leave, read_goto, read_return, read_simple, begins_stmt, begins_label, begins_arm, sees_head, read_depth, block_of, before_others, without_last, is_break, read_arm_head, read_stmt, read_if, read_block, read_lines, read_line, read_arms, read_more_arms}
 use Rattle.dcc_c.proofs.reading.Passing.{Took, if-cases, stop_at-stops, fail-stops, skip-took, sees_mark-took, sees_word-took, take_mark-took, take_word-took}
 use Rattle.dcc_c.proofs.reading.Words.{name_of-is}
 use Rattle.dcc_c.proofs.reading.Statements.{IsEnough}

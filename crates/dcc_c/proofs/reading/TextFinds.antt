@@ -1,24 +1,21 @@
 -- Functions of the grammar are read.
-use Rattle.std.proofs.Common.{◌≡◌, ℕ, zero, suc, ◌+◌, ◌*◌, ◌≤◌, ◌<◌, length, List, [], ◌∷◌, ◌++◌, map, true, false, Bool, Option, Some, None, refl, sym, ap, ap₂, ◌∙◌, arith, subst, inl, inr, ◌⊎◌}
-use Rattle.std.specs.Prelude.{codes, not, ◌&&◌, ◌||◌, ◌==◌, if◌then◌else◌}
-use Rattle.std.specs.List.{list_all}
-use Rattle.std.proofs.lemmas.Bool.{and_parts, or_from}
+use Rattle.std.proofs.Common.{◌≡◌, ℕ, suc, ◌≤◌, ◌<◌, length, List, [], ◌∷◌, map, true, false, Bool, Option, Some, None, refl, ap, ap₂, ◌∙◌, arith, subst, inl, inr, ◌⊎◌}
+use Rattle.std.specs.Prelude.{codes, not, ◌||◌, if◌then◌else◌}
+use Rattle.std.proofs.lemmas.Bool.{or_from}
 use Rattle.dcc_c.specs.declared.syntax.CType.{CType}
-use Rattle.dcc_c.specs.Token.{Token, WordToken, Mark}
-use Rattle.dcc_c.specs.Lexing.{Placed, placed}
+use Rattle.dcc_c.specs.Token.{Token, WordToken}
+use Rattle.dcc_c.specs.Lexing.{Placed}
 use Rattle.dcc_c.specs.Tree.{Word, Variable, Lines, Function}
-use Rattle.dcc_c.specs.Grammar.{mark, word, is_name, type_tokens, Begins, HasResult, no_result, result, IsFunction, AreFunctions, last_function, more_functions, outermost, AreLines}
+use Rattle.dcc_c.specs.Grammar.{mark, word, is_name, type_tokens, Begins, HasResult, no_result, result, IsFunction, outermost, AreLines}
 use Rattle.dcc_c.specs.Rules.{most_open}
-use Rattle.dcc_c.specs.Partial.{WordAt, PartialLines, no_rows, PartialVariable, PartialFunction}
-use Rattle.dcc_c.specs.Reading.{Reader, Got, got, is_stopped, line_of, is_the_word, sees_mark, sees_word, take_mark, take_name, take_type, begins_type, next_token}
-use Rattle.dcc_c.specs.ReadingStatements.{begins_stmt, Block, block_of, read_lines, read_locals, read_params}
-use Rattle.dcc_c.specs.ReadingText.{Begun, begun_by, read_begun, read_head, with_first_depth, read_body, read_function, read_functions, with_functions}
+use Rattle.dcc_c.specs.Partial.{no_rows, PartialVariable, PartialFunction}
+use Rattle.dcc_c.specs.Reading.{Reader, Got, got, is_stopped, line_of, is_the_word, sees_word, take_mark, take_name, begins_type}
+use Rattle.dcc_c.specs.ReadingStatements.{begins_stmt, Block, block_of, read_lines}
+use Rattle.dcc_c.specs.ReadingText.{Begun, begun_by, read_begun, read_body, read_function}
 use Rattle.dcc_c.specs.Stripped.{plain_variable, plain_lines, plain_function}
-use Rattle.dcc_c.proofs.reading.Passing.{the_word-is}
 use Rattle.dcc_c.proofs.reading.Statements.{IsEnoughFor, on, first_of, is_shallow}
-use Rattle.dcc_c.proofs.reading.Stopping.{if-true, if-false}
-use Rattle.dcc_c.proofs.reading.Derivations.{begins-length, begins-enclosed, flat_type, flat_behind, opening_behind, closing_behind}
-use Rattle.dcc_c.proofs.reading.Leads.{lines_leads}
+use Rattle.dcc_c.proofs.reading.Stopping.{if-false}
+use Rattle.dcc_c.proofs.reading.Derivations.{begins-length, begins-enclosed, flat_type, flat_behind}
 use Rattle.dcc_c.proofs.reading.TypeComplete.{type-complete}
 use Rattle.dcc_c.proofs.reading.PartsComplete.{take_name-is}
 use Rattle.dcc_c.proofs.reading.LineComplete.{lines_begin, stmt_no_word}
@@ -26,7 +23,7 @@ use Rattle.dcc_c.proofs.reading.LineFinds.{rows_before, joined_none}
 use Rattle.dcc_c.proofs.reading.BlockFinds.{brace_ends}
 use Rattle.dcc_c.proofs.reading.StmtFinds.{lines_complete}
 use Rattle.dcc_c.proofs.reading.DeclFinds.{type_no_word, params-complete, locals-complete}
-use Rattle.dcc_c.proofs.reading.DeclLeads.{result_leads, params_leads, locals_leads, before_body, function_leads}
+use Rattle.dcc_c.proofs.reading.DeclLeads.{result_leads, params_leads, locals_leads, before_body}
 
 -- Beginnings.
 
@@ -59,7 +56,7 @@ begun-complete {name_at} {tokens} {rest} name (result {rest = behind} type words
       name_at = t.behind;
       behind = suc t.behind;
       is = if-false (is_the_word (codes "void") (first_of tokens)) _ _ (type_no_word (codes "void") (first_of tokens) t.begins refl)
-        ∙ (ap (λ (g : Got (Option CType)). begun_by at (begins_type (first_of tokens)) g.value (take_name g.behind)) t.is ∙ ap (begun_by at (begins_type (first_of tokens)) (Some type)) (take_name-is name_at t.behind depth name rest good));
+          ∙ (ap (λ (g : Got (Option CType)). begun_by at (begins_type (first_of tokens)) g.value (take_name g.behind)) t.is ∙ ap (begun_by at (begins_type (first_of tokens)) (Some type)) (take_name-is name_at t.behind depth name rest good));
       typed = inr t.begins;
     }
 
@@ -149,8 +146,8 @@ function-complete f tokens rest is calls at depth enough few deep =
       depth = is.depth;
       same = function_path f (map plain_variable p.partials) (map plain_variable l.partials) (plain_lines s.partial) p.same l.same s.same;
       is = ap (read_function calls) b.is
-        ∙ (ap (λ (ps : Got (List PartialVariable)). read_body calls (params_step (got (record { at = b.at; has_result = b.has_result; result = f.result; name = Some (record { word = f.name; at = b.name_at }) }) (on (mark is.open_at (codes "(") ∷ is.params) b.behind depth)) (on is.params (suc b.behind) depth) ps)) p.is
-        ∙ (ap (locals_step calls head_at.value) l.is
-        ∙ (ap (lines_step head_at.value l.partials) (s.is ∙ ap (rows_before s.partial) (brace_ends s.calls outermost s.leaves f.last s.behind is.depth rest s.enough))
-        ∙ ap (λ rows. lines_step head_at.value l.partials (got (block_of rows s.leaves) closing)) (joined_none s.partial))));
+          ∙ (ap (λ (ps : Got (List PartialVariable)). read_body calls (params_step (got (record { at = b.at; has_result = b.has_result; result = f.result; name = Some (record { word = f.name; at = b.name_at }) }) (on (mark is.open_at (codes "(") ∷ is.params) b.behind depth)) (on is.params (suc b.behind) depth) ps)) p.is
+          ∙ (ap (locals_step calls head_at.value) l.is
+          ∙ (ap (lines_step head_at.value l.partials) (s.is ∙ ap (rows_before s.partial) (brace_ends s.calls outermost s.leaves f.last s.behind is.depth rest s.enough))
+          ∙ ap (λ rows. lines_step head_at.value l.partials (got (block_of rows s.leaves) closing)) (joined_none s.partial))));
     }

@@ -1,32 +1,30 @@
--- A whole text of the grammar is read, and stands for one tree.
-use Rattle.std.proofs.Common.{◌≡◌, ℕ, zero, suc, ◌+◌, ◌*◌, ◌≤◌, ◌<◌, length, drop, List, [], ◌∷◌, ◌++◌, map, true, false, Bool, Option, Some, None, refl, sym, ap, ap₂, ◌∙◌, arith, subst, inl, inr, ◌⊎◌, ne_eqb}
-use Rattle.std.specs.Prelude.{codes, not, ◌&&◌, ◌||◌, ◌==◌, if◌then◌else◌, option_map}
+-- Functions and global variables of the grammar are read, one after the other.
+use Rattle.std.proofs.Common.{◌≡◌, ℕ, zero, suc, ◌+◌, ◌≤◌, ◌<◌, length, List, [], ◌∷◌, map, true, false, Option, Some, refl, ap, ap₂, ◌∙◌, arith, subst, ne_eqb}
+use Rattle.std.specs.Prelude.{codes, not, ◌==◌}
 use Rattle.std.specs.List.{list_all}
-use Rattle.std.proofs.lemmas.Bool.{and_parts, and_right, and_from, or_from, not_from_false}
+use Rattle.std.proofs.lemmas.Bool.{and_parts}
 use Rattle.dcc_c.specs.declared.syntax.CType.{CType}
 use Rattle.dcc_c.specs.declared.syntax.Class.TheVariants.{Plain}
-use Rattle.dcc_c.specs.Token.{Token, WordToken, Decimal, Mark, Pragma, Head, plain_number as plain_suffix, version_line, stack_line, place_line}
-use Rattle.dcc_c.specs.Lexing.{Placed, placed}
-use Rattle.dcc_c.specs.Tree.{Word, Global, Function, Tree}
+use Rattle.dcc_c.specs.Token.{Token, WordToken, place_line}
+use Rattle.dcc_c.specs.Lexing.{Placed}
+use Rattle.dcc_c.specs.Tree.{Word, Global, Function}
 use Rattle.dcc_c.specs.Placement.{behind_global, bytes_of}
-use Rattle.dcc_c.specs.Grammar.{mark, word, type_tokens, Begins, HasResult, no_result, result, HasSize, no_size, size, AreInitial, no_value, one_value, values, IsFunction, AreFunctions, last_function, more_functions, IsGlobal, AreGlobals, no_global, placed_at, one_global, IsUnit}
+use Rattle.dcc_c.specs.Grammar.{mark, word, type_tokens, Begins, HasResult, no_result, result, HasSize, no_size, size, AreInitial, no_value, one_value, values, IsFunction, AreFunctions, last_function, more_functions, IsGlobal}
 use Rattle.dcc_c.specs.Rules.{most_open}
-use Rattle.dcc_c.specs.Partial.{WordAt, NumberAt, PartialVariable, PartialFunction, PartialText}
-use Rattle.dcc_c.specs.Reading.{Reader, Got, got, is_stopped, line_of, skip, is_the_mark, sees_mark, take_mark, begins_type}
-use Rattle.dcc_c.specs.ReadingStatements.{is_the_head, sees_head, take_head, take_number_of_line, read_size, read_init}
-use Rattle.dcc_c.specs.ReadingText.{Begun, read_begun, read_function, read_functions, with_functions, read_global, size_in_bytes, address_of, Declared, declared, before_declared, read_declared, read_text, reader_of, enough_calls, reading_of}
-use Rattle.dcc_c.specs.Stripped.{plain_numbers, plain_global, plain_function, plain_text}
+use Rattle.dcc_c.specs.Partial.{NumberAt, PartialVariable, PartialFunction}
+use Rattle.dcc_c.specs.Reading.{Got, got, is_stopped, is_the_mark, take_mark, begins_type}
+use Rattle.dcc_c.specs.ReadingStatements.{is_the_head, read_init}
+use Rattle.dcc_c.specs.ReadingText.{Begun, read_begun, read_functions, with_functions, read_global, size_in_bytes}
+use Rattle.dcc_c.specs.Stripped.{plain_global, plain_function}
 use Rattle.dcc_c.proofs.reading.Passing.{pieces_with}
-use Rattle.dcc_c.proofs.reading.Statements.{IsEnoughFor, on, first_of, is_shallow, with_version, IsText, CompleteText}
-use Rattle.dcc_c.proofs.reading.Stopping.{if-true, if-false}
-use Rattle.dcc_c.proofs.reading.Derivations.{begins-length, flat_behind}
+use Rattle.dcc_c.proofs.reading.Statements.{IsEnoughFor, on, first_of, is_shallow}
+use Rattle.dcc_c.proofs.reading.Stopping.{if-false}
+use Rattle.dcc_c.proofs.reading.Derivations.{begins-length}
 use Rattle.dcc_c.proofs.reading.Leads.{lines_leads}
 use Rattle.dcc_c.proofs.reading.TypeComplete.{type-complete}
-use Rattle.dcc_c.proofs.reading.LineFinds.{number_of_line-is}
 use Rattle.dcc_c.proofs.reading.DeclFinds.{size-complete, init-complete}
-use Rattle.dcc_c.proofs.reading.DeclLeads.{result_leads, params_leads, locals_leads, size_leads, initial_leads, global_leads, function_leads}
-use Rattle.dcc_c.proofs.reading.TextFinds.{FindsBegun, begun-complete, FindsFunction, function_begun, function-complete}
-use Rattle.dcc_c.proofs.reading.UnitSound.{here_declared}
+use Rattle.dcc_c.proofs.reading.DeclLeads.{result_leads, params_leads, locals_leads, size_leads, function_leads}
+use Rattle.dcc_c.proofs.reading.TextFinds.{FindsBegun, function-complete}
 
 -- Functions up to the end of the text.
 
@@ -39,12 +37,12 @@ function_shorter is =
     omega (arith, a.less, b.less, c.less, d.less)
 
 -- The functions were read to the end of the text.
-record FindsFunctions (fs : List Function) (g : Got (List PartialFunction)) : Type 0 where
-  partials : List PartialFunction
-  behind : ℕ
-  depth : ℕ
-  same : map plain_function partials ≡ fs
-  is : g ≡ got partials (on [] behind depth)
+pub record FindsFunctions (fs : List Function) (g : Got (List PartialFunction)) : Type 0 where
+  pub partials : List PartialFunction
+  pub behind : ℕ
+  pub depth : ℕ
+  pub same : map plain_function partials ≡ fs
+  pub is : g ≡ got partials (on [] behind depth)
 
 abbrev then_functions : ℕ → Got PartialFunction → Got (List PartialFunction)
 then_functions calls first = got (first.value ∷ (read_functions calls first.behind).value) (read_functions calls first.behind).behind
@@ -61,7 +59,7 @@ functions_some : {tokens : List Placed} {fs : List Function} → AreFunctions 20
 functions_some (last_function is) = omega (arith, function_shorter is)
 functions_some (more_functions is others) = omega (arith, function_shorter is)
 
-functions-complete : {tokens : List Placed} {fs : List Function} → AreFunctions 200 tokens fs → (calls at depth : ℕ) → IsEnoughFor calls 0 tokens → most_open 0 tokens ≤ 200 → list_all is_shallow fs ≡ true →
+pub functions-complete : {tokens : List Placed} {fs : List Function} → AreFunctions 200 tokens fs → (calls at depth : ℕ) → IsEnoughFor calls 0 tokens → most_open 0 tokens ≤ 200 → list_all is_shallow fs ≡ true →
     FindsFunctions fs (with_functions calls (read_begun (on tokens at depth)))
 functions-complete (last_function {tokens} {f} is) calls at depth enough few deep =
     let first = function-complete f tokens [] is calls at depth enough few (and_parts _ true deep).0 in
@@ -89,11 +87,11 @@ functions-complete (more_functions {tokens} {rest} {f} {functions} is others) (s
 -- Global variables.
 
 -- no place line begins with a type
-type_no_head : (token : Option Token) → begins_type token ≡ true → is_the_head place_line token ≡ false
+pub type_no_head : (token : Option Token) → begins_type token ≡ true → is_the_head place_line token ≡ false
 type_no_head (Some (WordToken bytes)) begins = refl
 type_no_head _ begins = absurd cc
 
-type_here : {tokens rest : List Placed} {name_at : ℕ} {name : Word} (type : CType) → Begins tokens (type_tokens type) (word name_at name ∷ rest) → begins_type (first_of tokens) ≡ true
+pub type_here : {tokens rest : List Placed} {name_at : ℕ} {name : Word} (type : CType) → Begins tokens (type_tokens type) (word name_at name ∷ rest) → begins_type (first_of tokens) ≡ true
 type_here {tokens} {rest} {name_at} {name} type words = (type-complete type tokens (word name_at name ∷ rest) 0 0 words refl).begins
 
 result_no_head : {tokens rest behind : List Placed} {name_at : ℕ} {name : Word} {r : Option CType} → HasResult tokens r behind → behind ≡ word name_at name ∷ rest → is_the_head place_line (first_of tokens) ≡ false
@@ -101,17 +99,17 @@ result_no_head no_result same = refl
 result_no_head {tokens} {rest} {name_at} {name} (result type words) same =
     type_no_head (first_of tokens) (type_here {rest = rest} {name_at = name_at} {name = name} type (subst (λ ts. Begins tokens (type_tokens type) ts) same words))
 
-functions_no_head : {tokens : List Placed} {fs : List Function} → AreFunctions 200 tokens fs → is_the_head place_line (first_of tokens) ≡ false
+pub functions_no_head : {tokens : List Placed} {fs : List Function} → AreFunctions 200 tokens fs → is_the_head place_line (first_of tokens) ≡ false
 functions_no_head (last_function is) = result_no_head is.result_is refl
 functions_no_head (more_functions is others) = result_no_head is.result_is refl
 
-initial_no_mark : {end : ℕ} {tokens rest behind : List Placed} {ns : List ℕ} → AreInitial tokens ns behind → behind ≡ mark end (codes ";") ∷ rest →
+pub initial_no_mark : {end : ℕ} {tokens rest behind : List Placed} {ns : List ℕ} → AreInitial tokens ns behind → behind ≡ mark end (codes ";") ∷ rest →
     (is_the_mark (codes "(") (first_of tokens) ≡ false) × (is_the_mark (codes "[") (first_of tokens) ≡ false)
 initial_no_mark no_value same = (ap (λ ts. is_the_mark (codes "(") (first_of ts)) same, ap (λ ts. is_the_mark (codes "[") (first_of ts)) same)
 initial_no_mark one_value same = (refl, refl)
 initial_no_mark (values numbers) same = (refl, refl)
 
-size_no_open : {tokens rest : List Placed} {len : Option ℕ} → HasSize tokens len rest → is_the_mark (codes "(") (first_of rest) ≡ false → is_the_mark (codes "(") (first_of tokens) ≡ false
+pub size_no_open : {tokens rest : List Placed} {len : Option ℕ} → HasSize tokens len rest → is_the_mark (codes "(") (first_of rest) ≡ false → is_the_mark (codes "(") (first_of tokens) ≡ false
 size_no_open no_size ends = ends
 size_no_open size ends = refl
 
@@ -124,14 +122,14 @@ init_step address begun found init =
 abbrev size_step : ℕ → ℕ → Got Begun → Got (Option NumberAt) → Got PartialVariable
 size_step calls address begun found = init_step address begun found.value (read_init calls found.behind)
 
-record FindsGlobal (g : Global) (rest : List Placed) (depth : ℕ) (v : Got PartialVariable) : Type 0 where
-  partial : PartialVariable
-  behind : ℕ
-  same : plain_global partial ≡ g
-  next : g.at + size_in_bytes partial ≡ behind_global g
-  is : v ≡ got partial (on rest behind depth)
+pub record FindsGlobal (g : Global) (rest : List Placed) (depth : ℕ) (v : Got PartialVariable) : Type 0 where
+  pub partial : PartialVariable
+  pub behind : ℕ
+  pub same : plain_global partial ≡ g
+  pub next : g.at + size_in_bytes partial ≡ behind_global g
+  pub is : v ≡ got partial (on rest behind depth)
 
-global-complete : (g : Global) (tokens rest : List Placed) (is : IsGlobal tokens g rest) (calls at depth : ℕ) → IsEnoughFor calls 0 tokens →
+pub global-complete : (g : Global) (tokens rest : List Placed) (is : IsGlobal tokens g rest) (calls at depth : ℕ) → IsEnoughFor calls 0 tokens →
     (b : FindsBegun (Some g.type) g.name is.behind_name depth (read_begun (on tokens at depth))) → FindsGlobal g rest depth (read_global calls g.at (got (record { at = b.at; has_result = b.has_result; result = Some g.type; name = Some (record { word = g.name; at = b.name_at }) }) (on is.behind_name b.behind depth)))
 global-complete g tokens rest is calls at depth enough b =
     let begun : Got Begun = got (record { at = b.at; has_result = b.has_result; result = Some g.type; name = Some (record { word = g.name; at = b.name_at }) }) (on is.behind_name b.behind depth) in
