@@ -37,3 +37,4 @@ pub mod DeclLeads
 pub mod TextFinds
 pub mod UnitFinds
 pub mod TextComplete
+pub mod TextLaws
