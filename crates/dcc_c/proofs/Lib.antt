@@ -27,3 +27,4 @@ pub mod WrittenLexes
 pub mod PrintLaws
 pub mod NumberedForm
 pub mod NumberedTwice
+pub mod reading
