@@ -234,24 +234,26 @@ no_arms_formed around depth at after others rest last good formed = formed
 
 arm_formed : (cases : List ℕ) (body : Lines) (arms : Arms) → FormedLines body → FormedArms arms → FormedArms (arm cases body arms)
 arm_formed cases body arms first later around depth at after others rest last good formed =
-    let (cases_good, parts) = and_parts (are_cases cases) (are_writable_lines around false body && are_writable_arms around arms) good in
+    let (few, own) = and_parts (nat_le around.blocks 200) (are_cases cases && (are_writable_lines around false body && are_writable_arms around arms)) good in
+    let (cases_good, parts) = and_parts (are_cases cases) (are_writable_lines around false body && are_writable_arms around arms) own in
     let (body_good, arms_good) = and_parts (are_writable_lines around false body) (are_writable_arms around arms) parts in
     let between = depth_behind depth (stmts_in body) in
     let P : ℕ → Type 0 = λ d. AreArms 200 around d others no_arms last after rest in
     let behind = later around between (at + length cases + rows (written_lines 1 depth body) + 1) after others rest last arms_good (subst P (depth_behind-append (stmts_in body) (arm_stmts arms) depth) formed) in
-    case_arm (some_cases cases cases_good at _) (first around false depth (at + length cases) _ body_good (λ f. absurd cc)) behind
+    case_arm (some_cases cases cases_good at _) (leb-true _ _ few) (first around false depth (at + length cases) _ body_good (λ f. absurd cc)) behind
 
 no_default_formed : FormedDefault no_arms
 no_default_formed around depth first second rest good = no_arm
 
 default_formed : (cases : List ℕ) (body : Lines) (arms : Arms) → FormedLines body → FormedDefault (arm cases body arms)
 default_formed [] body no_arms inner around depth first second rest good =
-    let body_good = (and_parts (are_writable_lines around false body) true good).0 in
+    let (few, own) = and_parts (nat_le around.blocks 200) (are_writable_lines around false body && true) good in
+    let body_good = (and_parts (are_writable_lines around false body) true own).0 in
     let P : ℕ → Type 0 = λ after. AreArms 200 around depth (default_tokens depth first second (arm [] body no_arms) rest) no_arms (numbered_default depth second (arm [] body no_arms)) after rest in
-    subst P (ap (depth_behind depth) (sym (append-nil (stmts_in body)))) (default_arm (inner around false depth second _ body_good (λ f. absurd cc)) no_arm)
+    subst P (ap (depth_behind depth) (sym (append-nil (stmts_in body)))) (default_arm (leb-true _ _ few) (inner around false depth second _ body_good (λ f. absurd cc)) no_arm)
 default_formed [] body (arm cases more arms) inner around depth first second rest good =
-    absurd (true≢false (sym (and_parts (are_writable_lines around false body) false good).1))
-default_formed (n ∷ cases) body arms inner around depth first second rest good = absurd cc
+    absurd (true≢false (sym (and_parts (are_writable_lines around false body) false (and_parts (nat_le around.blocks 200) (are_writable_lines around false body && false) good).1).1))
+default_formed (n ∷ cases) body arms inner around depth first second rest good = absurd (true≢false (sym (and_parts (nat_le around.blocks 200) false good).1))
 
 -- numbering keeps whether there is an arm
 has_arm_numbered : (depth at : ℕ) (arms : Arms) → has_arm (numbered_arms depth at arms) ≡ has_arm arms

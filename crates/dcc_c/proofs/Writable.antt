@@ -91,17 +91,19 @@ abbrev mutual
       nat_le around.blocks 200
       && (is_writable_stmt around stmt && are_writable_lines around (is_label stmt) lines)
 
-  -- arms with cases
+  -- arms with cases, whose `break` at most 200 blocks stand around
   pub are_writable_arms : Around → Arms → Bool
   are_writable_arms around no_arms = true
   are_writable_arms around (arm cases body arms) =
-      are_cases cases && (are_writable_lines around false body && are_writable_arms around arms)
+      nat_le around.blocks 200
+      && (are_cases cases && (are_writable_lines around false body && are_writable_arms around arms))
 
   -- the default arm, or none
   pub is_writable_default : Around → Arms → Bool
   is_writable_default around no_arms = true
   is_writable_default around (arm cases body arms) =
-      has_no_case cases && (are_writable_lines around false body && not (has_arm arms))
+      nat_le around.blocks 200
+      && (has_no_case cases && (are_writable_lines around false body && not (has_arm arms)))
 
 abbrev pub is_small_if : Option ℕ → Bool
 is_small_if None = true

@@ -242,7 +242,7 @@ mutual
 
   arms_kept : {around : Around} {depth after : ℕ} {tokens rest : List Placed} {arms last : Arms} → AreArms 200 around depth tokens arms last after rest → AreSmall tokens → is_small depth ≡ true → KeptArms around arms last after rest
   arms_kept no_arm small deep = record { writable = λ sound. record { arms_are = refl; last_is = refl }; depth = deep; behind = small }
-  arms_kept (case_arm {around} {cases} {body} {arms} {last} numbers inner others) small deep =
+  arms_kept (case_arm {around} {cases} {body} {arms} {last} numbers few inner others) small deep =
       let first = cases_kept numbers small in
       let kept = lines_kept inner first.behind deep in
       let later = arms_kept others (tail_small (tail_small kept.behind)) kept.depth in
@@ -250,11 +250,11 @@ mutual
         writable = λ sound.
             let (in_body, in_arms) = both_sound (stmts_in body) (arm_stmts arms) sound.in_arms in
             let good = later.writable (record { in_arms = in_arms; in_last = sound.in_last; one = sound.one }) in
-            record { arms_are = and_from _ _ first.some (and_from _ _ (kept.writable in_body) good.arms_are); last_is = good.last_is };
+            record { arms_are = and_from _ _ (le-leb _ 200 few) (and_from _ _ first.some (and_from _ _ (kept.writable in_body) good.arms_are)); last_is = good.last_is };
         depth = later.depth;
         behind = later.behind;
       }
-  arms_kept (default_arm {around} {body} {arms} {last} inner others) small deep =
+  arms_kept (default_arm {around} {body} {arms} {last} few inner others) small deep =
       let kept = lines_kept inner (tail_small (tail_small small)) deep in
       let later = arms_kept others (tail_small (tail_small kept.behind)) kept.depth in
       record {
@@ -262,7 +262,7 @@ mutual
             let (in_body, in_last) = both_sound (stmts_in body) (arm_stmts last) sound.in_last in
             let single = no_other body last sound.one in
             let good = later.writable (record { in_arms = sound.in_arms; in_last = in_last; one = one_if_none last single }) in
-            record { arms_are = good.arms_are; last_is = and_from _ _ (kept.writable in_body) (not_from_false (has_arm last) single) };
+            record { arms_are = good.arms_are; last_is = and_from _ _ (le-leb _ 200 few) (and_from _ _ (kept.writable in_body) (not_from_false (has_arm last) single)) };
         depth = later.depth;
         behind = later.behind;
       }

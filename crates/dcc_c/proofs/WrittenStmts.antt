@@ -185,7 +185,8 @@ mutual
   pub arms_read : (arms : Arms) (around : Around) → ArmsRead around arms
   arms_read no_arms around good braces depth at = behind_rows 0 refl no_line
   arms_read (arm cases body arms) around good braces depth at =
-      let (numbers, others) = and_parts (are_cases cases) _ good in
+      let (few, own) = and_parts (nat_le around.blocks 200) _ good in
+      let (numbers, others) = and_parts (are_cases cases) _ own in
       let (inner, rest) = and_parts (are_writable_lines around false body) (are_writable_arms around arms) others in
       let block = lines_read body around false inner braces depth (at + length cases) in
       let later = arms_read arms around rest braces (depth_behind depth (stmts_in body)) _ in
@@ -194,7 +195,8 @@ mutual
   pub default_reads : (last : Arms) (around : Around) → DefaultReads around last
   default_reads no_arms around good braces depth at second next = behind_rows 0 refl no_line
   default_reads (arm cases body arms) around good braces depth at second next =
-      let (numbers, others) = and_parts (has_no_case cases) _ good in
+      let (few, own) = and_parts (nat_le around.blocks 200) _ good in
+      let (numbers, others) = and_parts (has_no_case cases) _ own in
       let (inner, rest) = and_parts (are_writable_lines around false body) _ others in
       let head = counted_as second next (indented_then braces default_line) in
       let block = lines_read body around false inner braces depth second in
