@@ -1,0 +1,4 @@
+pub mod Variables
+pub mod GotoExpr
+pub mod GotoText
+pub mod Agreement
