@@ -41,7 +41,9 @@ constant_type width = if nat_le width 8 then Int else unsigned_type width
 
 -- the low bits of a value
 abbrev pub cut : ℕ → Expr → Expr
-cut width e = if width == 1 then Binary BitAnd e (small 1) else Cast (plain (unsigned_type width)) e
+cut width e =
+    let low = Cast (plain (unsigned_type width)) e in
+    if width == 1 then Binary BitAnd low (small 1) else low
 
 -- the same of what an operator gives, where the type in which it reckons is wider
 abbrev pub wrapped : ℕ → Expr → Expr

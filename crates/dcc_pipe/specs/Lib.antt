@@ -2,3 +2,4 @@ pub mod Variables
 pub mod GotoExpr
 pub mod GotoText
 pub mod Agreement
+pub mod Uncounted

@@ -1,11 +1,12 @@
 //! The expressions of a program as expressions of a text.
 
-ghost use Rattle.std.specs.Prelude.{◌≡◌, ◌+◌, ◌<◌, IfOk};
+ghost use Rattle.std.specs.Prelude.{◌≡◌, ◌+◌, IfOk};
 ghost use Rattle.dcc_ir.specs.Views.{expr_of as inner_of};
 ghost use Rattle.dcc_ir.specs.Value.{is_comparison, is_test};
 ghost use Rattle.dcc_c.specs.Types.{plain};
 ghost use Rattle.dcc_c.specs.Tree as tree;
 ghost use Rattle.dcc_c.specs.Views.{expr_of};
+ghost use Rattle.dcc_pipe.specs.Variables as variables;
 ghost use Rattle.dcc_pipe.specs.GotoExpr as spec;
 
 use crate::variables::{location_width, place_of, plain, signed_type, unsigned_type};
@@ -93,10 +94,11 @@ fn cast(alloc: Global, base: Base, e: CExpr) -> Result<CExpr, AllocError>
 fn cut(alloc: Global, width: u8, e: CExpr) -> Result<CExpr, AllocError>
     ensures { IfOk result (λ r. expr_of r ≡ spec.cut width (expr_of e)) }
 {
+    let low = cast(alloc, unsigned_type(width), e)?;
     if width == 1 {
-        binary(alloc, CBin::And, e, small(1))
+        binary(alloc, CBin::And, low, small(1))
     } else {
-        cast(alloc, unsigned_type(width), e)
+        Ok(low)
     }
 }
 
@@ -226,7 +228,7 @@ fn part(alloc: Global, width: u8, first: u8, e: CExpr) -> Result<CExpr, AllocErr
 
 /// The unsigned type of twice so many bits.
 fn double_type(width: u8) -> Base
-    ensures { result ≡ Rattle.dcc_pipe.specs.Variables.unsigned_type (width + width) }
+    ensures { result ≡ variables.unsigned_type (width + width) }
 {
     if width <= 4 {
         Base::Uchar

@@ -1,15 +1,18 @@
 //! The text of a program with labels and jumps.
 
-ghost use Rattle.std.specs.Prelude.{◌≡◌, ◌<◌, ◌++◌, ◌∷◌, [], ℕ, List, OnOk, IfOk, map, flat_map, option_map, option_to_list, string_bytes};
+ghost use Rattle.std.specs.Prelude.{◌≡◌, ◌<◌, ◌++◌, ◌∷◌, [], OnOk, IfOk, map, option_map, option_to_list, string_bytes};
 ghost use Rattle.dcc_ir.specs.Views as inner;
 ghost use Rattle.dcc_c.specs.Tree as tree;
 ghost use Rattle.dcc_c.specs.Views.{expr_of, stmt_of, lines_of, tree_of, function_of};
+ghost use Rattle.dcc_pipe.specs.GotoExpr.{text_expr};
 ghost use Rattle.dcc_pipe.specs.GotoText as spec;
+ghost use Rattle.dcc_pipe.specs.Uncounted.{uncounted_line};
 
 use crate::goto_expr::text_expr;
-use crate::variables::{FLAGS, place_of, variables};
+use crate::variables::{place_of, variables};
 use dcc_c::{Base, CBin, CExpr, CStmt, Func, Line, Unit};
 use dcc_ir::{Block, End, Expr, Graph, IrProgram, Loc, Stmt};
+use dcc_num::FlagName;
 use std::alloc::{AllocError, Global};
 
 /// The depth of calls, in bytes, that is in force where no pragma stands.
@@ -87,7 +90,7 @@ fn taken(alloc: Global, place: Option<Loc>) -> Result<Option<CExpr>, AllocError>
 /// The argument of a DOS call, where there is one.
 fn arguments(alloc: Global, argument: &Option<Expr>) -> Result<Vec<CExpr>, AllocError>
     ensures { IfOk result (λ es. map expr_of es.items
-        ≡ map Rattle.dcc_pipe.specs.GotoExpr.text_expr (option_to_list (option_map inner.expr_of argument.now))) }
+        ≡ map text_expr (option_to_list (option_map inner.expr_of argument.now))) }
 {
     let mut arguments = Vec::new(alloc);
     if let Some(e) = argument {
@@ -126,12 +129,9 @@ fn jump_inside(alloc: Global, blocks: &[Block], place: u32) -> Result<Vec<Line>,
     ensures { IfOk result (λ lines. lines_of lines.items
         ≡ spec.uncounted (spec.jump (map inner.block_of blocks.now) place ∷ [])) }
 {
-    let mut lines = Vec::new(alloc);
-    lines.push(Line {
-        stmt: jump(alloc, blocks, place)?,
-        line: 0,
-    })?;
-    Ok(lines)
+    let mut stmts = Vec::new(alloc);
+    stmts.push(jump(alloc, blocks, place)?)?;
+    uncounted(alloc, stmts)
 }
 
 /// The statement at the end of a block.
@@ -150,68 +150,76 @@ fn text_exit(alloc: Global, blocks: &[Block], end: &End) -> Result<CStmt, AllocE
     }
 }
 
-/// Appends a statement, in a line that is not counted yet.
-fn push_stmt(lines: &mut Vec<Line>, stmt: CStmt) -> Result<(), AllocError>
-    ensures { (before : List tree.Stmt) → lines_of lines.old.items ≡ spec.uncounted before
-        → OnOk result (lines_of lines.new.items ≡ spec.uncounted (before ++ stmt_of stmt ∷ [])) }
-{
-    lines.push(Line { stmt, line: 0 })?;
-    Ok(())
-}
-
 /// Appends a block: its label, its statements and its end.
 fn push_block(
     alloc: Global,
-    lines: &mut Vec<Line>,
+    stmts: &mut Vec<CStmt>,
     blocks: &[Block],
     block: &Block,
 ) -> Result<(), AllocError>
-    ensures { (before : List tree.Stmt) → lines_of lines.old.items ≡ spec.uncounted before
-        → OnOk result (lines_of lines.new.items
-        ≡ spec.uncounted (before ++ spec.text_block (map inner.block_of blocks.now) (inner.block_of block.now))) }
+    ensures { OnOk result (map stmt_of stmts.new.items
+        ≡ map stmt_of stmts.old.items ++ spec.text_block (map inner.block_of blocks.now) (inner.block_of block.now)) }
 {
-    push_stmt(lines, CStmt::Label(label_name(alloc, block.at)?))?;
+    stmts.push(CStmt::Label(label_name(alloc, block.at)?))?;
     for stmt in &block.stmts {
-        push_stmt(lines, text_stmt(alloc, stmt)?)?;
+        stmts.push(text_stmt(alloc, stmt)?)?;
     }
-    push_stmt(lines, text_exit(alloc, blocks, &block.end)?)
+    stmts.push(text_exit(alloc, blocks, &block.end)?)?;
+    Ok(())
 }
 
 /// Appends the blocks of a graph.
-fn push_graph(alloc: Global, lines: &mut Vec<Line>, graph: &Graph) -> Result<(), AllocError>
-    ensures { (before : List tree.Stmt) → lines_of lines.old.items ≡ spec.uncounted before
-        → OnOk result (lines_of lines.new.items
-        ≡ spec.uncounted (before ++ spec.text_graph (inner.graph_of graph.now))) }
+fn push_graph(alloc: Global, stmts: &mut Vec<CStmt>, graph: &Graph) -> Result<(), AllocError>
+    ensures { OnOk result (map stmt_of stmts.new.items
+        ≡ map stmt_of stmts.old.items ++ spec.text_graph (inner.graph_of graph.now)) }
 {
     for block in &graph.blocks {
-        push_block(alloc, lines, &graph.blocks, block)?;
+        push_block(alloc, stmts, &graph.blocks, block)?;
     }
     Ok(())
 }
 
-/// Appends a statement that leaves only the lowest bit of a flag's variable.
-fn push_flag_cut(alloc: Global, lines: &mut Vec<Line>, flag: Loc) -> Result<(), AllocError>
-    ensures { (before : List tree.Stmt) → lines_of lines.old.items ≡ spec.uncounted before
-        → OnOk result (lines_of lines.new.items ≡ spec.uncounted (before ++ spec.flag_cut flag ∷ [])) }
+/// The statement that leaves only the lowest bit of a flag's variable.
+fn flag_cut(alloc: Global, flag: FlagName) -> Result<CStmt, AllocError>
+    ensures { IfOk result (λ stmt. stmt_of stmt ≡ spec.flag_cut (Loc.Flag flag)) }
 {
-    let place = place_of(alloc, flag)?;
-    let a = Box::new(alloc, place_of(alloc, flag)?)?;
+    let place = place_of(alloc, Loc::Flag(flag))?;
+    let a = Box::new(alloc, place_of(alloc, Loc::Flag(flag))?)?;
     let b = Box::new(alloc, CExpr::Num(1, Base::Int))?;
-    push_stmt(lines, CStmt::Assign(place, CExpr::Bin(CBin::And, a, b)))
+    Ok(CStmt::Assign(place, CExpr::Bin(CBin::And, a, b)))
 }
 
 /// The statements of the text.
-fn body(alloc: Global, graphs: &[Graph]) -> Result<Vec<Line>, AllocError>
-    ensures { IfOk result (λ lines. lines_of lines.items ≡ spec.uncounted (spec.text_stmts (map inner.graph_of graphs.now))) }
+fn text_stmts(alloc: Global, graphs: &[Graph]) -> Result<Vec<CStmt>, AllocError>
+    ensures { IfOk result (λ stmts. map stmt_of stmts.items ≡ spec.text_stmts (map inner.graph_of graphs.now)) }
 {
-    let mut lines = Vec::new(alloc);
-    for flag in FLAGS {
-        push_flag_cut(alloc, &mut lines, flag)?;
-    }
+    let mut stmts = Vec::new(alloc);
+    stmts.push(flag_cut(alloc, FlagName::Cf)?)?;
+    stmts.push(flag_cut(alloc, FlagName::Zf)?)?;
+    stmts.push(flag_cut(alloc, FlagName::Sf)?)?;
+    stmts.push(flag_cut(alloc, FlagName::Of)?)?;
     for graph in graphs {
-        push_graph(alloc, &mut lines, graph)?;
+        push_graph(alloc, &mut stmts, graph)?;
     }
-    Ok(lines)
+    Ok(stmts)
+}
+
+/// Statements, each in a line that is not counted yet.
+fn lines(alloc: Global, stmts: Vec<CStmt>) -> Result<Vec<Line>, AllocError>
+    ensures { IfOk result (λ lines. lines.items ≡ map uncounted_line stmts.items) }
+{
+    stmts
+        .into_iter()
+        .map(|stmt| Line { stmt, line: 0 })
+        .collect(alloc)
+}
+
+/// The same, as the lines of a text.
+#[tactic(auto, using(crate::proofs::UncountedLaws::lines_uncounted))]
+fn uncounted(alloc: Global, stmts: Vec<CStmt>) -> Result<Vec<Line>, AllocError>
+    ensures { IfOk result (λ lines. lines_of lines.items ≡ spec.uncounted (map stmt_of stmts.items)) }
+{
+    lines(alloc, stmts)
 }
 
 /// The text of a lifted program, whose lines are not counted yet: a variable for each location, a label before each
@@ -225,7 +233,7 @@ pub(crate) fn goto_text(alloc: Global, p: &IrProgram) -> Result<Unit, AllocError
         result: None,
         params: Vec::new(alloc),
         locals: variables(alloc)?,
-        body: body(alloc, &p.graphs)?,
+        body: uncounted(alloc, text_stmts(alloc, &p.graphs)?)?,
         last: 0,
     })?;
     Ok(Unit {

@@ -1,11 +1,11 @@
 //! From an executable to its C text.
 #![tactic(auto)]
 
-mod decompile;
+mod decompilation;
 mod goto_expr;
 mod goto_text;
 #[cfg(test)]
 mod tests;
 mod variables;
 
-pub use decompile::decompile;
+pub use decompilation::decompile;

@@ -1,6 +1,6 @@
 //! The variables of a text: one for each half of a word register, each flag and each temporary.
 
-ghost use Rattle.std.specs.Prelude.{◌≡◌, IfOk, map, string_bytes};
+ghost use Rattle.std.specs.Prelude.{◌≡◌, ◌≤◌, IfOk, map, string_bytes};
 ghost use Rattle.dcc_ir.specs.Location.{half_number, flag_number, location_width};
 ghost use Rattle.dcc_lift.specs.Temporaries.{temporary_bits};
 ghost use Rattle.dcc_c.specs.Types.{plain};
@@ -12,14 +12,6 @@ use dcc_c::{Base, CExpr, CType, Class, Var};
 use dcc_ir::Loc;
 use dcc_num::{FlagName, Half, Reg};
 use std::alloc::{AllocError, Global};
-
-/// The flags.
-pub const FLAGS: [Loc; 4] = [
-    Loc::Flag(FlagName::Cf),
-    Loc::Flag(FlagName::Zf),
-    Loc::Flag(FlagName::Sf),
-    Loc::Flag(FlagName::Of),
-];
 
 /// The locations that have variables, in the variables' order.
 const LOCATIONS: [Loc; 23] = [
@@ -158,13 +150,20 @@ fn variable(alloc: Global, location: Loc) -> Result<Var, AllocError>
     })
 }
 
+/// The declarations of the variables of some locations.
+fn declared(alloc: Global, locations: &[Loc]) -> Result<Vec<Var>, AllocError>
+    ensures { IfOk result (λ vs. map variable_of vs.items ≡ map spec.variable locations.now) }
+{
+    let mut variables = Vec::new(alloc);
+    for location in locations {
+        variables.push(variable(alloc, *location)?)?;
+    }
+    Ok(variables)
+}
+
 /// The declarations of all variables.
 pub fn variables(alloc: Global) -> Result<Vec<Var>, AllocError>
     ensures { IfOk result (λ vs. map variable_of vs.items ≡ map spec.variable spec.locations) }
 {
-    let mut variables = Vec::new(alloc);
-    for location in LOCATIONS {
-        variables.push(variable(alloc, location)?)?;
-    }
-    Ok(variables)
+    declared(alloc, &LOCATIONS)
 }

@@ -1,0 +1,5 @@
+pub mod FollowLaws
+pub mod LeapLaws
+pub mod UncountedLaws
+pub mod Sizes
+pub mod Meanings
