@@ -79,7 +79,7 @@ complement-fits long n = omega arith
 
 module _ (scope : Scope) (size : Size) where
   -- a result that is wrapped in the type in which operators reckon, and then in the size
-  twice-means : (n : ℕ) (e : Expr) → IsNumber scope (reckons size) (n % 2 ^ bits_of (reckons size)) e → Means scope size (n % 2 ^ bits size) (wrapped (bits size) e)
+  pub twice-means : (n : ℕ) (e : Expr) → IsNumber scope (reckons size) (n % 2 ^ bits_of (reckons size)) e → Means scope size (n % 2 ^ bits size) (wrapped (bits size) e)
   twice-means n e is =
       subst (λ k. Means scope size k (wrapped (bits size) e)) (wrapped-twice size n) (wrapped-means scope size (n % 2 ^ bits_of (reckons size)) e is (wrapped-fits size n))
 
