@@ -22,10 +22,10 @@ use Rattle.dcc_pipe.proofs.Reckoning.{IsEager, Shifts, shifting-number}
 use Rattle.dcc_pipe.proofs.SumMeanings.{twice-means, plain-means}
 use Rattle.dcc_pipe.proofs.SignedMeanings.{reading_type, reading_bits, signed_reckons, signed_bits, reading-number, reading-converted, promoted-reading, Sign, positive, negative, sign-of}
 
-shl-shifts : Shifts Shl shifted_left
+pub shl-shifts : Shifts Shl shifted_left
 shl-shifts = record { eager = record { eager = λ s e g. refl }; typing = λ a b. refl; valuing = λ a b n m. refl }
 
-shr-shifts : Shifts Shr shifted_right
+pub shr-shifts : Shifts Shr shifted_right
 shr-shifts = record { eager = record { eager = λ s e g. refl }; typing = λ a b. refl; valuing = λ a b n m. refl }
 
 -- What is left where all bits are shifted out.
@@ -45,7 +45,7 @@ nothing_below a width count small far =
     sym (div-eq_of_lt (omega arith))
 
 -- a shift by a count that is no negative number
-left-by : (t b : Base) (n m : ℕ) → is_negative b m ≡ false → shifted_left t n b m ≡ n * 2 ^ m % 2 ^ bits_of t
+pub left-by : (t b : Base) (n m : ℕ) → is_negative b m ≡ false → shifted_left t n b m ≡ n * 2 ^ m % 2 ^ bits_of t
 left-by t b n m counted = ap (λ past. if past || nat_le (bits_of t) m then 0 else n * 2 ^ m % 2 ^ bits_of t) counted ∙ by (cases_lt m (bits_of t))
   where
     by : (m < bits_of t) ⊎ (bits_of t ≤ m) → (if nat_le (bits_of t) m then 0 else n * 2 ^ m % 2 ^ bits_of t) ≡ n * 2 ^ m % 2 ^ bits_of t
@@ -60,7 +60,7 @@ moved t b n m fits counted = ap (λ past. if past || nat_le (bits_of t) m then 0
     by (inl near) = ap (λ c. if c then 0 else n / 2 ^ m) (lt-leb (bits_of t) m near)
     by (inr far) = ap (λ c. if c then 0 else n / 2 ^ m) (le-leb (bits_of t) m far) ∙ nothing_below n (bits_of t) m fits far
 
-right-positive : (t b : Base) (n m : ℕ) → n < 2 ^ bits_of t → is_negative t n ≡ false → is_negative b m ≡ false → shifted_right t n b m ≡ n / 2 ^ m
+pub right-positive : (t b : Base) (n m : ℕ) → n < 2 ^ bits_of t → is_negative t n ≡ false → is_negative b m ≡ false → shifted_right t n b m ≡ n / 2 ^ m
 right-positive t b n m fits up counted =
     ap (λ down. if down then complement t (if is_past t b m then 0 else complement t n / 2 ^ m) else if is_past t b m then 0 else n / 2 ^ m) up
     ∙ moved t b n m fits counted
@@ -70,13 +70,13 @@ right-negative t b n m fits down counted =
     ap (λ down. if down then complement t (if is_past t b m then 0 else complement t n / 2 ^ m) else if is_past t b m then 0 else n / 2 ^ m) down
     ∙ ap (complement t) (moved t b (complement t n) m fits counted)
 
-reckons-fits : (size : Size) (n : ℕ) → n < 2 ^ bits size → n < 2 ^ bits_of (reckons size)
+pub reckons-fits : (size : Size) (n : ℕ) → n < 2 ^ bits size → n < 2 ^ bits_of (reckons size)
 reckons-fits bit n fits = omega (arith, fits)
 reckons-fits byte n fits = omega (arith, fits)
 reckons-fits word n fits = fits
 reckons-fits long n fits = fits
 
-reckons-holds : (size : Size) → holds size (reckons size) ≡ true
+pub reckons-holds : (size : Size) → holds size (reckons size) ≡ true
 reckons-holds bit = refl
 reckons-holds byte = refl
 reckons-holds word = refl
