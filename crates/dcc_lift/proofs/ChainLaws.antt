@@ -1,5 +1,5 @@
 -- Laws of the instructions that join the block of the one before them, and of the chains that they make.
-use Rattle.std.proofs.Common.{◌≡◌, ◌≢◌, ◌<◌, ℕ, Bool, true, false, not, ◌&&◌, ◌==◌, nat_lt, if◌then◌else◌, inl, inr, List, [], ◌∷◌, map, Some, None, All, AllPairs, refl, sym, ap, ◌∙◌, subst, true≢false, eqb-true, eq-eqb, ltb-true, lt-ltb, arith}
+use Rattle.std.proofs.Common.{◌≡◌, ◌≢◌, ◌<◌, ℕ, ◌+◌, length, Bool, true, false, not, ◌&&◌, ◌==◌, nat_lt, if◌then◌else◌, inl, inr, List, [], ◌∷◌, map, Some, None, All, AllPairs, refl, sym, ap, ◌∙◌, subst, true≢false, eqb-true, eq-eqb, ltb-true, lt-ltb, arith}
 use Rattle.std.specs.List.{list_any}
 use Rattle.std.proofs.lemmas.List.Elements.{All-nil, All-cons, All-weaker}
 use Rattle.std.proofs.lemmas.List.Kept.{AllPairs-cons}
@@ -8,7 +8,7 @@ use Rattle.dcc_ir.proofs.PathLaws.{decided, clash}
 use Rattle.dcc_lift.specs.Blocks.{Nodes, node_in, successors_in, edges_into, is_one, comes_from_below, joins, if_joins, onward, IsChain, leaders, last_of}
 use Rattle.dcc_lift.specs.Sound.{AreSound}
 use Rattle.dcc_lift.proofs.ListTests.{and_left, and_right, and_both, or_none, not_true, same_number, any_map, any_filter}
-use Rattle.dcc_lift.proofs.NodeLaws.{is_node, node_in_some, node_in_has, entry_is_node, prelude_no_node, successor_is_node, edges_are}
+use Rattle.dcc_lift.proofs.NodeLaws.{is_node, node_in_some, node_in_has, node_in_holds, entry_is_node, prelude_no_node, successor_is_node, edges_are}
 
 -- a block begins at the offset
 abbrev pub is_leader : Nodes → ℕ → ℕ → Bool
@@ -130,6 +130,11 @@ module _ (nodes : Nodes) (entry prelude : ℕ) (sound : AreSound nodes entry pre
   pub leader_node : (at : ℕ) → is_leader nodes entry at ≡ true → is_node nodes at ≡ true
   leader_node at e = and_left (is_node nodes at) (not (joins nodes entry at)) (sym (leader_is at) ∙ e)
 
+  pub leader_below : (at : ℕ) → is_leader nodes entry at ≡ true → at < 65536
+  leader_below at e =
+      let found = node_in_some nodes at (leader_node at e) in
+      node_in_holds (λ (found : ℕ × Node). found.0 < 65536) nodes at found.0 sound.below found.1
+
   pub leader_begins : (at : ℕ) → is_leader nodes entry at ≡ true → joins nodes entry at ≡ false
   leader_begins at e = not_true (joins nodes entry at) (and_right (is_node nodes at) (not (joins nodes entry at)) (sym (leader_is at) ∙ e))
 
@@ -176,6 +181,14 @@ module _ (nodes : Nodes) (entry prelude : ℕ) (sound : AreSound nodes entry pre
   pub chain_ascends : (rest : List ℕ) (at : ℕ) → IsChain nodes entry at rest → AllPairs (λ a b. a < b) (at ∷ rest)
   chain_ascends [] at chain = λ i j d less inside. absurd (omega arith)
   chain_ascends (next ∷ rest) at chain = AllPairs-cons (λ a b. a < b) at (next ∷ rest) (chain_above (next ∷ rest) at chain) (chain_ascends rest next chain.1)
+
+  -- a chain from an instruction on is no longer than the offsets above it
+  pub chain_fits : (rest : List ℕ) (at : ℕ) → IsChain nodes entry at rest → at < 65536 → at + length rest < 65536
+  chain_fits [] at chain low = omega (arith, low)
+  chain_fits (next ∷ rest) at chain low =
+      let on = onward_tells at next chain.0 in
+      let fits = chain_fits rest next chain.1 (node_in_holds (λ (found : ℕ × Node). found.0 < 65536) nodes next on.node.0 sound.below on.node.1) in
+      omega (arith, on.below, fits)
 
   -- a chain goes to its end
   pub chain_end : (rest : List ℕ) (at : ℕ) → IsChain nodes entry at rest → onward nodes entry (last_of at rest) ≡ None

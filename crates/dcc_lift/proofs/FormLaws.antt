@@ -259,17 +259,17 @@ xchg-form a b s t = refl
 
 dos-form : (number : Option ℕ) → are_lifted (dos_stmts number) ≡ true
 dos-form None = refl
-dos-form (Some n) = go (n == 0x02) (n == 0x4C) ((n == 0x01) || (n == 0x08))
+dos-form (Some n) = go (n == 0x02) (n == 0x4C) (n == 0x01 || n == 0x08) refl refl refl
   where
-    go : (a b c : Bool) → are_lifted (
+    go : (a b c : Bool) → n == 0x02 ≡ a → n == 0x4C ≡ b → (n == 0x01 || n == 0x08) ≡ c → are_lifted (
         if a then Dos n None (Some (Get (Half Dx Low))) ∷ []
         else if b then Dos n None (Some (Get (Half Ax Low))) ∷ []
         else if c then Dos n (Some (Half Ax Low)) None ∷ []
         else []) ≡ true
-    go true b c = refl
-    go false true c = refl
-    go false false true = refl
-    go false false false = refl
+    go true b c e f g = rw e refl
+    go false true c e f g = rw (e, f) refl
+    go false false true e f g = rw g refl
+    go false false false e f g = refl
 
 -- all operations
 pub op-form : (op : Op) (number : Option ℕ) → is_liftable op ≡ true → are_lifted (op_stmts op number) ≡ true

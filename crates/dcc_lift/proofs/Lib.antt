@@ -42,6 +42,7 @@ pub mod WantedLaws
 pub mod WantedChains
 pub mod WantedFound
 pub mod DosStanding
+pub mod PaceLaws
 pub mod RunLaws
 pub mod StartLaws
 pub mod RunsLaws

@@ -13,7 +13,7 @@ use Rattle.dcc_ir.specs.WellFormed.{is_stmt}
 use Rattle.dcc_lift.specs.Statements.{op_stmts}
 use Rattle.dcc_lift.specs.Translation.{IsTranslation}
 use Rattle.dcc_lift.specs.Lifting.{IsLiftableProcedure}
-use Rattle.dcc_lift.specs.Lifted.{RunsAsMachine, IsNeverStuck, IsLifted, IsLiftOf}
+use Rattle.dcc_lift.specs.Lifted.{RunsAsMachine, MachineFollows, IsNeverStuck, IsLifted, IsLiftOf}
 use Rattle.dcc_lift.proofs.MirrorLaws.{values_fit}
 use Rattle.dcc_lift.proofs.OperationMirrors.{OthersMirror, op_mirrors, op_keeps, op_single, op_tested}
 use Rattle.dcc_lift.proofs.ShiftMirrors.{shift_op_mirrors}
@@ -30,7 +30,7 @@ use Rattle.dcc_prog.proofs.MachineEnds.{machine-not_stuck}
 use Rattle.dcc_lift.specs.Demand.{WantsTheSame}
 use Rattle.dcc_lift.proofs.WantedFound.{found_wants}
 use Rattle.std.proofs.lemmas.List.Elements.{All-cons, All-nil}
-use Rattle.dcc_lift.proofs.RunsLaws.{runs-alike}
+use Rattle.dcc_lift.proofs.RunsLaws.{runs-alike, machine-follows}
 
 -- shifts, products and sign extensions
 others : OthersMirror
@@ -57,6 +57,9 @@ module _ (image : Image) (layout : Layout) (procs : List Proc) (loaded : IsLoade
   pub runs-as_machine : RunsAsMachine image p
   runs-as_machine fill input small bytes = runs-alike operations-lifted image layout procs loaded has are p translation fill input bytes
 
+  pub machine-paced : MachineFollows image p
+  machine-paced fill input small bytes = machine-follows operations-lifted image layout procs loaded has are p translation fill input bytes
+
   liftable : IsLiftableProcedure image layout are.start
   liftable = found-liftable image layout procs loaded has are
 
@@ -75,6 +78,7 @@ module _ (image : Image) (layout : Layout) (procs : List Proc) (loaded : IsLoade
     flags = translation-few image layout are.start p liftable translation;
     shallow = translation-shallow image layout are.start p liftable translation;
     runs = runs-as_machine;
+    pace = machine-paced;
     never_stuck = never-stuck;
     blocks = translation_has_blocks image layout are.start p translation are.entry liftable;
     wanted =

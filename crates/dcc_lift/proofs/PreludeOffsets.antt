@@ -53,6 +53,15 @@ offset-ascends code zero (suc k) (instr ∷ rest) at r less inside =
 offset-ascends code (suc j) (suc k) (instr ∷ rest) at r less inside =
     offset-ascends code j k rest (at + instr.len) r.1 (omega arith) (omega arith)
 
+-- each instruction takes a byte at least
+pub offset-far : (code : List ℕ) (k : ℕ) (run : List Instr) (at : ℕ) → IsRun code at run → k ≤ length run → at + k ≤ offset_in k run at
+offset-far code zero run at r inside = omega arith
+offset-far code (suc k) [] at r inside = absurd (omega (arith, inside))
+offset-far code (suc k) (instr ∷ rest) at r inside =
+    let some = (form-inside code at instr r.0).0 in
+    let more = offset-far code k rest (at + instr.len) r.1 (omega (arith, inside)) in
+    omega (arith, some, more)
+
 pub run-above : (code : List ℕ) (run : List Instr) (at : ℕ) → IsRun code at run → at ≤ end_of at run
 run-above code run at r =
     let above = offset-above code (length run) run at r in

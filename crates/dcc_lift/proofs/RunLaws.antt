@@ -1,11 +1,11 @@
 -- The run of the lifted program: one of its steps, a block, stands for the machine's steps through the block's instructions.
-use Rattle.std.proofs.Common.{◌≡◌, ◌≢◌, ℕ, zero, suc, ◌≤◌, Bool, true, false, cond, List, [], ◌∷◌, ◌++◌, Some, None, Contains, refl, sym, ap, ap₂, ◌∙◌, subst, ◌⊎◌, inl, inr, arith, eqb-true}
+use Rattle.std.proofs.Common.{◌≡◌, ◌≢◌, ℕ, zero, suc, ◌<◌, ◌≤◌, Bool, true, false, cond, List, [], ◌∷◌, ◌++◌, length, Some, None, Contains, refl, sym, ap, ap₂, ◌∙◌, subst, ◌⊎◌, inl, inr, arith, eqb-true}
 use Rattle.std.specs.Prelude.{if◌then◌else◌, ◌==◌, ◌||◌, flat_map, slice_get, option_map}
 use Rattle.std.specs.List.{list_any}
 use Rattle.dcc_run.specs.End.{Running, is_over}
 use Rattle.dcc_run.specs.System.{after}
 use Rattle.dcc_run.specs.Visits.{visit_at, visit_of, visits, visits_of}
-use Rattle.dcc_run.specs.Gathers.{GoOn, still_related, both_over, IsGathered}
+use Rattle.dcc_run.specs.Gathers.{GoOn, still_related, both_over}
 use Rattle.dcc_run.proofs.VisitLaws.{visits_of-append}
 use Rattle.dcc_prog.specs.declared.image.Image.{Image}
 use Rattle.dcc_prog.specs.declared.procedure.Layout.{Layout}
@@ -27,8 +27,9 @@ use Rattle.dcc_lift.specs.Translation.{IsTranslation}
 use Rattle.dcc_lift.specs.Lifted.{instruction_mark, offset_mark, has_block_at}
 use Rattle.dcc_lift.proofs.ListTests.{any_contained}
 use Rattle.dcc_lift.proofs.NodeLaws.{node_in_has, contained_node}
-use Rattle.dcc_lift.proofs.ChainLaws.{is_leader, has_successor, IsOnward, onward_tells, joins_no_leader, last_goes_to_leaders}
+use Rattle.dcc_lift.proofs.ChainLaws.{is_leader, has_successor, IsOnward, onward_tells, joins_no_leader, last_goes_to_leaders, leader_below, chain_fits}
 use Rattle.dcc_lift.proofs.BlockLaws.{IsExitOf, stops, goes, parts, exit_forms}
+use Rattle.dcc_lift.proofs.PaceLaws.{IsPaced}
 use Rattle.dcc_lift.proofs.TranslationLaws.{the_graph, block_at_leader, program_has_block}
 use Rattle.dcc_lift.proofs.Standing.{AreLifted, IsInstruction, BothStand, IsPassed, passed}
 use Rattle.dcc_lift.proofs.DosStanding.{IsDone, goes_on, ends, dos-done}
@@ -114,15 +115,14 @@ module _ (laws : AreLifted) (image : Image) (layout : Layout) (start : Proc) (p 
         rest_is = refl;
       })
 
-  -- the machine's steps through what is left of a block, and where both runs then are
-  record Through (related : Machine → Inner → Type 0) (s : Machine) (v : Inner) : Type 0 where
-    further : ℕ
+  -- the machine's steps through what is left of a block, one and so many further ones, and where both runs then are
+  record Through (related : Machine → Inner → Type 0) (further : ℕ) (s : Machine) (v : Inner) : Type 0 where
     quiet : visits_of kept (visits machine_system instruction_mark further (machine_step s)) ≡ []
     running : (j : ℕ) → j ≤ further → is_over (after machine_step j s).end ≡ false
     goes_on_to : GoOn machine_system (inner_system p fill) related (after machine_step (suc further) s) v
 
-  same-further : (related : Machine → Inner → Type 0) (s : Machine) (v w : Inner) → v ≡ w → Through related s w → Through related s v
-  same-further related s v w e x = subst (Through related s) (sym e) x
+  same-further : (related : Machine → Inner → Type 0) (further : ℕ) (s : Machine) (v w : Inner) → v ≡ w → Through related further s w → Through related further s v
+  same-further related further s v w e x = subst (Through related further s) (sym e) x
 
   not-over : (s : Machine) → s.end ≡ Running → is_over s.end ≡ false
   not-over s e = ap is_over e
@@ -163,7 +163,7 @@ module _ (laws : AreLifted) (image : Image) (layout : Layout) (start : Proc) (p 
         one-place true m n = refl
         one-place false m n = refl
 
-    last-through : IsChain nodes entry at [] → t.running.block.exit ≡ exit_at nodes entry at → Through related s (block_step p.graphs fill (stmts_at nodes at ++ []) t)
+    last-through : IsChain nodes entry at [] → t.running.block.exit ≡ exit_at nodes entry at → Through related 0 s (block_step p.graphs fill (stmts_at nodes at ++ []) t)
     last-through chain exit_is =
         let stmts : stmts_at nodes at ≡ node_stmts (Some node) = ap node_stmts is.found in
         elim (instruction-done s t at before both node is) [
@@ -175,15 +175,13 @@ module _ (laws : AreLifted) (image : Image) (layout : Layout) (start : Proc) (p 
               ∙ ap (λ b. exit_step b.exit x.next) x.block
               ∙ ap (λ ex. exit_step ex x.next) exit_is
               ∙ last-goes x (exit_at nodes entry at) (exit_forms nodes entry image.ip sound at node is.found) in
-              same-further related s _ _ run (record {
-                further = 0;
+              same-further related 0 s _ _ run (record {
                 quiet = refl;
                 running = λ j le. let e : j ≡ 0 = omega (arith, le) in ap (λ k. is_over (after machine_step k s).end) e ∙ not-over s both.running;
                 goes_on_to = still_related (at-block _ _ (arrived (machine_step s) x.next x.to (at ∷ before) x.stand leader));
               })
           | ends x ↦
               record {
-                further = 0;
                 quiet = refl;
                 running = λ j le. let e : j ≡ 0 = omega (arith, le) in ap (λ k. is_over (after machine_step k s).end) e ∙ not-over s both.running;
                 goes_on_to = both_over (record {
@@ -213,7 +211,7 @@ module _ (laws : AreLifted) (image : Image) (layout : Layout) (start : Proc) (p 
         ∙ ap (λ b. cond b (record { place = s.ip; out = s.out } ∷ []) []) (ap kept ip ∙ none)
 
     chain-through : (rest : List ℕ) (s : Machine) (t : Inner) (at : ℕ) (before : List ℕ) → BothStand image layout graph s t at before → IsChain nodes entry at rest → t.running.block.exit ≡ exit_at nodes entry (last_of at rest)
-        → Through related s (block_step p.graphs fill (flat_map (stmts_at nodes) (at ∷ rest)) t)
+        → Through related (length rest) s (block_step p.graphs fill (flat_map (stmts_at nodes) (at ∷ rest)) t)
     chain-through [] s t at before both chain exit_is =
         let x = instructions at (record { before = before; trail = both.trail }) in
         last-through related at-block s t at before both x.0 x.1 chain exit_is
@@ -232,11 +230,10 @@ module _ (laws : AreLifted) (image : Image) (layout : Layout) (start : Proc) (p 
               let later = chain-through rest (machine_step s) y.next next (at ∷ before) stand chain.1 (ap (λ b. b.exit) y.block ∙ exit_is) in
               let run : block_step p.graphs fill (flat_map (stmts_at nodes) (at ∷ next ∷ rest)) t ≡ block_step p.graphs fill (flat_map (stmts_at nodes) (next ∷ rest)) y.next =
               ap (λ l. block_step p.graphs fill (l ++ flat_map (stmts_at nodes) (next ∷ rest)) t) stmts ∙ y.runs (flat_map (stmts_at nodes) (next ∷ rest)) in
-              same-further related s _ _ run (record {
-                further = suc later.further;
-                quiet = visits_of-append kept (visit_of machine_system instruction_mark (machine_step s)) (visits machine_system instruction_mark later.further (machine_step (machine_step s)))
+              same-further related (suc (length rest)) s _ _ run (record {
+                quiet = visits_of-append kept (visit_of machine_system instruction_mark (machine_step s)) (visits machine_system instruction_mark (length rest) (machine_step (machine_step s)))
                     ∙ ap₂ (λ a b. a ++ b) (inner-quiet (machine_step s) at next onwards stand.running stand.ip_is) later.quiet;
-                running = within s later.further (not-over s both.running) later.running;
+                running = within s (length rest) (not-over s both.running) later.running;
                 goes_on_to = later.goes_on_to;
               })
         ]
@@ -251,26 +248,30 @@ module _ (laws : AreLifted) (image : Image) (layout : Layout) (start : Proc) (p 
         within s further first later zero le = first
         within s further first later (suc j) le = let less : j ≤ further = omega (arith, le) in later j less
 
-    -- a step of the program from a block stands for the machine's steps through it
-    pub block-gathered : (s : Machine) (t : Inner) → AtBlock s t → IsGathered kept machine_system instruction_mark (inner_system p fill) offset_mark related s t
-    block-gathered s t b =
+    -- a step of the program from a block stands for the machine's steps through it, one for each instruction
+    pub block-paced : (s : Machine) (t : Inner) → AtBlock s t → IsPaced 65536 kept machine_system instruction_mark (inner_system p fill) offset_mark related s t
+    block-paced s t b =
         let block = b.is_block in
         let x = chain-through block.rest s t b.at b.before b.both block.chain block.exit_is in
         let stmts : t.running.rest ≡ flat_map (stmts_at nodes) (b.at ∷ block.rest) = b.rest_is ∙ block.stmts_are in
         let step_is : inner_step p fill t ≡ block_step p.graphs fill (flat_map (stmts_at nodes) (b.at ∷ block.rest)) t =
         ap (λ e. if is_over e then t else block_step p.graphs fill t.running.rest t) b.both.going ∙ ap (λ l. block_step p.graphs fill l t) stmts in
         let here : kept b.at ≡ true = program_has_block image layout start p translation sound b.at ∙ ap (λ l. (image.ip == b.at) || l) b.leader ∙ or-true (image.ip == b.at) in
-        record {
-          further = x.further;
-          visit =
-              ap₂ (λ e begins. if is_over e then [] else visit_at (inner_system p fill) t (option_map (λ (place : Place). place.at) (if begins then Some (record { entry = t.running.graph.entry; at = t.running.block.at }) else None))) b.both.going b.begins
-              ∙ ap₂ (λ at out. record { place = at; out = out } ∷ []) (block.at_is ∙ sym b.both.ip_is) b.both.out
-              ∙ sym (ap (λ e. visits_of kept (if is_over e then [] else visit_at machine_system s (Some s.ip))) b.both.running
-              ∙ ap (λ k. cond k (record { place = s.ip; out = s.out } ∷ []) []) (ap kept b.both.ip_is ∙ here));
-          quiet = x.quiet;
-          running = x.running;
-          goes_on = subst (λ v. GoOn machine_system (inner_system p fill) related (after machine_step (suc x.further) s) v) (sym step_is) x.goes_on_to;
-        }
+        let low : b.at < 65536 = leader_below nodes entry image.ip sound b.at b.leader in
+        let fits = chain_fits nodes entry image.ip sound block.rest b.at block.chain low in (
+          record {
+            further = length block.rest;
+            visit =
+                ap₂ (λ e begins. if is_over e then [] else visit_at (inner_system p fill) t (option_map (λ (place : Place). place.at) (if begins then Some (record { entry = t.running.graph.entry; at = t.running.block.at }) else None))) b.both.going b.begins
+                ∙ ap₂ (λ at out. record { place = at; out = out } ∷ []) (block.at_is ∙ sym b.both.ip_is) b.both.out
+                ∙ sym (ap (λ e. visits_of kept (if is_over e then [] else visit_at machine_system s (Some s.ip))) b.both.running
+                ∙ ap (λ k. cond k (record { place = s.ip; out = s.out } ∷ []) []) (ap kept b.both.ip_is ∙ here));
+            quiet = x.quiet;
+            running = x.running;
+            goes_on = subst (λ v. GoOn machine_system (inner_system p fill) related (after machine_step (suc (length block.rest)) s) v) (sym step_is) x.goes_on_to;
+          },
+          omega (arith, fits),
+        )
       where
         or-true : (b : Bool) → (b || true) ≡ true
         or-true true = refl

@@ -1,12 +1,13 @@
 -- The runs of the lifted program and of the machine.
-use Rattle.std.proofs.Common.{◌≡◌, ℕ, zero, suc, ◌+◌, ◌-◌, ◌%◌, ◌<◌, ◌≤◌, Bool, true, false, cond, List, [], ◌∷◌, ◌++◌, length, take, All, refl, sym, ap, ap₂, ◌∙◌, subst, inl, inr, arith, true≢false, eqb-true}
+use Rattle.std.proofs.Common.{◌≡◌, ℕ, zero, suc, ◌+◌, ◌-◌, ◌*◌, ◌%◌, ◌<◌, ◌≤◌, Bool, true, false, cond, List, [], ◌∷◌, ◌++◌, length, take, All, refl, sym, ap, ap₂, ◌∙◌, subst, inl, inr, arith, true≢false, eqb-true}
 use Rattle.std.proofs.lemmas.List.{length-take-le}
 use Rattle.std.proofs.Math.Nat.{mod-eq_of_lt}
 use Rattle.std.specs.Prelude.{◌==◌, ◌||◌}
 use Rattle.dcc_run.specs.End.{is_over}
 use Rattle.dcc_run.specs.System.{after}
 use Rattle.dcc_run.specs.Visits.{visit_of, visits, visits_of, VisitsKept}
-use Rattle.dcc_run.specs.Gathers.{still_related, IsGathered, Gathers}
+use Rattle.dcc_run.specs.Follows.{Follows, Stands}
+use Rattle.dcc_run.specs.Gathers.{still_related, Gathers}
 use Rattle.dcc_run.proofs.RunLaws.{after-add}
 use Rattle.dcc_run.proofs.VisitLaws.{visits_of-append}
 use Rattle.dcc_run.proofs.GatherLaws.{visits_kept_gathered}
@@ -32,10 +33,11 @@ use Rattle.dcc_lift.proofs.ListTests.{same_number}
 use Rattle.dcc_lift.proofs.ChainLaws.{is_leader, leader_node, entry_is_leader}
 use Rattle.dcc_lift.proofs.TranslationLaws.{program_has_block}
 use Rattle.dcc_lift.proofs.CodeBounds.{loaded-placed}
-use Rattle.dcc_lift.proofs.PreludeOffsets.{offset_in, offset-taken, run-taken}
+use Rattle.dcc_lift.proofs.PreludeOffsets.{offset_in, offset-taken, offset-far, run-taken}
 use Rattle.dcc_lift.proofs.FoundSound.{start-below, prelude-some, prelude-below, prelude-first, prelude-unlisted, found-sound, node-instruction}
 use Rattle.dcc_lift.proofs.Standing.{AreLifted}
-use Rattle.dcc_lift.proofs.RunLaws.{AtBlock, arrived, block-gathered}
+use Rattle.dcc_lift.proofs.PaceLaws.{IsPaced, follows_paced}
+use Rattle.dcc_lift.proofs.RunLaws.{AtBlock, arrived, block-paced}
 use Rattle.dcc_lift.proofs.StartLaws.{begin, first-is, begin-step, set_up, behind_prelude, prelude-steps, begun-stand}
 
 module _ (laws : AreLifted) (image : Image) (layout : Layout) (procs : List Proc) (loaded : IsLoaded image) (has : HasLayout image layout) (are : AreFound image layout procs) (p : Program) (translation : IsTranslation image layout are.start p) (fill : ℕ) (input : List ℕ) (bytes : All (λ byte. byte < 256) input) where
@@ -101,8 +103,8 @@ module _ (laws : AreLifted) (image : Image) (layout : Layout) (procs : List Proc
       (ap (λ s. visits_of kept (visits machine_system instruction_mark m s)) (next-state k) ∙ quiet-on m (suc k) more later)
 
   -- the block of the prelude stands for the machine's steps through the prelude
-  start-gathered : IsGathered kept machine_system instruction_mark (inner_system p fill) offset_mark AreRelated (start_state image input) (begin image layout are.start p fill input loaded has translation bytes)
-  start-gathered =
+  start-paced : IsPaced 65536 kept machine_system instruction_mark (inner_system p fill) offset_mark AreRelated (start_state image input) (begin image layout are.start p fill input loaded has translation bytes)
+  start-paced =
       let some = prelude-some image layout loaded has in
       let further : ℕ = length has.prelude - 1 in
       let all : suc further ≡ length has.prelude = omega (arith, some) in
@@ -116,20 +118,32 @@ module _ (laws : AreLifted) (image : Image) (layout : Layout) (procs : List Proc
       (arrived laws image layout are.start p fill translation sound (loaded-placed image loaded) (node-instruction image layout procs loaded has are)
       (behind_prelude image layout are.start p fill input loaded has translation bytes) (set_up image layout are.start p fill input loaded has translation bytes) layout.start_ip [] both
       (entry_is_leader are.start.nodes.entries layout.start_ip image.ip sound)))) in
-      record {
-        further = further;
-        visit = sym (ap (λ b. cond b (record { place = image.ip; out = [] } ∷ []) []) here);
-        quiet = quiet-on further 1 one rest;
-        running = λ j le. let less : j ≤ length has.prelude = omega (arith, le, all) in running-there j less;
-        goes_on = still_related stand;
-      }
+      let below = prelude-below image layout loaded has further (omega (arith, all)) in
+      let far = offset-far (code_of image) further has.prelude image.ip has.is_prelude.run (omega (arith, all)) in (
+        record {
+          further = further;
+          visit = sym (ap (λ b. cond b (record { place = image.ip; out = [] } ∷ []) []) here);
+          quiet = quiet-on further 1 one rest;
+          running = λ j le. let less : j ≤ length has.prelude = omega (arith, le, all) in running-there j less;
+          goes_on = still_related stand;
+        },
+        omega (arith, below, far),
+      )
+
+  -- a step of the program stands for at most 65,536 of the machine
+  paced : (s : Machine) (t : Inner) → AreRelated s t → IsPaced 65536 kept machine_system instruction_mark (inner_system p fill) offset_mark AreRelated s t
+  paced s t (at_start e f) =
+      subst (λ x. IsPaced 65536 kept machine_system instruction_mark (inner_system p fill) offset_mark AreRelated x t) (sym e)
+      (subst (λ y. IsPaced 65536 kept machine_system instruction_mark (inner_system p fill) offset_mark AreRelated (start_state image input) y) (sym f) start-paced)
+  paced s t (at_block b) =
+      block-paced laws image layout are.start p fill translation sound (loaded-placed image loaded) (node-instruction image layout procs loaded has are) AreRelated (λ x y c. at_block c) s t b
 
   gathered : Gathers kept machine_system instruction_mark (inner_system p fill) offset_mark AreRelated
-  gathered s t (at_start e f) =
-      subst (λ x. IsGathered kept machine_system instruction_mark (inner_system p fill) offset_mark AreRelated x t) (sym e)
-      (subst (λ y. IsGathered kept machine_system instruction_mark (inner_system p fill) offset_mark AreRelated (start_state image input) y) (sym f) start-gathered)
-  gathered s t (at_block b) =
-      block-gathered laws image layout are.start p fill translation sound (loaded-placed image loaded) (node-instruction image layout procs loaded has are) AreRelated (λ x y c. at_block c) s t b
+  gathered s t r = (paced s t r).0
+
+  alike : (s : Machine) (t : Inner) → AreRelated s t → Stands (inner_system p fill) t 0 machine_system s 0
+  alike s t (at_start e f) = record { out = ap (λ x. x.out) e ∙ sym (ap (λ u. u.out) f); end = ap (λ x. x.end) e ∙ sym (ap (λ u. u.end) f) }
+  alike s t (at_block b) = record { out = sym b.both.out; end = b.both.running ∙ sym b.both.going }
 
   runs-on : (s : Machine) (t : Inner) → AreRelated s t → is_over t.end ≡ false
   runs-on s t (at_start e f) = ap (λ u. is_over u.end) f
@@ -141,3 +155,10 @@ module _ (laws : AreLifted) (image : Image) (layout : Layout) (procs : List Proc
       subst (λ t. VisitsKept kept machine_system instruction_mark (start_state image input) (inner_system p fill) offset_mark t) (sym (first-is image layout are.start p fill input loaded has translation bytes))
       (visits_kept_gathered kept machine_system instruction_mark (inner_system p fill) offset_mark AreRelated machine_lawful (inner_lawful p fill) gathered runs-on
       (start_state image input) (begin image layout are.start p fill input loaded has translation bytes) (at_start refl refl))
+
+  -- the machine is within so many steps where the program's run stands
+  pub machine-follows : Follows (λ m. Unit {0}) (inner_system p fill) (first_state p fill input) machine_system (start_state image input) (λ m. (m + 1) * 65536)
+  machine-follows =
+      subst (λ t. Follows (λ m. Unit {0}) (inner_system p fill) t machine_system (start_state image input) (λ m. (m + 1) * 65536)) (sym (first-is image layout are.start p fill input loaded has translation bytes))
+      (follows_paced 65536 kept machine_system instruction_mark (inner_system p fill) offset_mark AreRelated machine_lawful (inner_lawful p fill) alike paced
+      (start_state image input) (begin image layout are.start p fill input loaded has translation bytes) (λ m. (m + 1) * 65536) (at_start refl refl) (λ m. omega arith))

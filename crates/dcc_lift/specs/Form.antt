@@ -1,7 +1,8 @@
--- The form of the lifted program: its locations are halves of word registers, flags and temporaries, and it neither reads nor
--- writes memory. Each statement sets a location or is a DOS call, and each block goes on, parts by a test, or stops. Few of
--- the statements are on flags.
-use Rattle.std.specs.Prelude.{◌≡◌, ◌≤◌, ℕ, Bool, true, false, ◌&&◌, ◌||◌, not, List, [], ◌∷◌, flat_map, option_to_list, sum_by, count_by}
+-- The form of the lifted program: its locations are halves of word registers, flags and temporaries, it neither reads nor
+-- writes memory, and it neither divides nor writes strings. Each statement sets a location or is a DOS call that writes a
+-- byte, takes a key into a half, or ends the run. Each block goes on, parts by a test, or stops. Few of the statements are
+-- on flags.
+use Rattle.std.specs.Prelude.{◌≡◌, ◌≤◌, ℕ, ◌==◌, Bool, true, false, ◌&&◌, ◌||◌, not, List, [], ◌∷◌, Option, Some, None, flat_map, sum_by, count_by}
 use Rattle.std.specs.List.{list_any, list_all}
 use Rattle.dcc_num.specs.declared.Reg.{Reg}
 use Rattle.dcc_num.specs.declared.Reg.TheVariants.{Sp, Bp}
@@ -14,9 +15,10 @@ use Rattle.dcc_prog.specs.Writes.{writes_flag}
 use Rattle.dcc_prog.specs.Wanted.{takes_carry, is_turn}
 use Rattle.dcc_ir.specs.declared.syntax.Loc.{Loc}
 use Rattle.dcc_ir.specs.declared.syntax.Loc.TheVariants.{Half, Flag, Cell}
-use Rattle.dcc_ir.specs.Tree.{Expr, Get, Load, Address, Stmt, Set, Fetch, Div, Dos, Exit, Goto, If, Stop, Block, Graph}
+use Rattle.dcc_ir.specs.Tree.{Expr, Get, Load, Binary, Address, Stmt, Set, Fetch, Div, Dos, Exit, Goto, If, Stop, Block, Graph}
 use Rattle.dcc_ir.specs.Use.{parts_of, writes_of}
 use Rattle.dcc_ir.specs.Measure.{is_truth}
+use Rattle.dcc_ir.specs.WellFormed.{is_division}
 
 -- a word register whose halves are locations: all but SP and BP
 abbrev pub is_general : Reg → Bool
@@ -30,21 +32,32 @@ is_lifted_location (Half r half) = is_general r
 is_lifted_location (Cell number half) = false
 is_lifted_location location = true
 
--- a part of an expression: it may read such a location, but no memory, and it takes no address
+-- a half of such a register
+abbrev pub is_lifted_half : Loc → Bool
+is_lifted_half (Half r half) = is_general r
+is_lifted_half location = false
+
+-- a part of an expression: it may read such a location, but no memory, it takes no address, and it divides nothing
 abbrev pub is_lifted_part : Expr → Bool
 is_lifted_part (Get location) = is_lifted_location location
 is_lifted_part (Load width address) = false
+is_lifted_part (Binary operator width a b) = not (is_division operator)
 is_lifted_part (Address distance) = false
 is_lifted_part e = true
 
 abbrev pub is_lifted_expr : Expr → Bool
 is_lifted_expr e = list_all is_lifted_part (parts_of e)
 
--- it sets a location, or it is a DOS call
+-- a DOS call: 02h and 4Ch have an argument and set no place, 01h and 08h set a half and have no argument; there is no other
+abbrev pub is_lifted_dos : ℕ → Option Loc → Option Expr → Bool
+is_lifted_dos number None (Some argument) = (number == 0x02 || number == 0x4C) && is_lifted_expr argument
+is_lifted_dos number (Some place) None = (number == 0x01 || number == 0x08) && is_lifted_half place
+is_lifted_dos number place argument = false
+
+-- it sets a location, or it is such a DOS call
 abbrev pub is_lifted_stmt : Stmt → Bool
 is_lifted_stmt (Set location e) = is_lifted_location location && is_lifted_expr e
-is_lifted_stmt (Dos number place argument) =
-    list_all is_lifted_location (option_to_list place) && list_all is_lifted_expr (option_to_list argument)
+is_lifted_stmt (Dos number place argument) = is_lifted_dos number place argument
 is_lifted_stmt stmt = false
 
 -- it goes to a block, to one of two by a test, or nowhere

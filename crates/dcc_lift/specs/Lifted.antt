@@ -1,9 +1,10 @@
 -- What the lifted program is to the executable.
-use Rattle.std.specs.Prelude.{◌≡◌, ◌≢◌, ◌≤◌, ◌<◌, ℕ, ◌==◌, Bool, true, ◌&&◌, ◌||◌, List, [], ◌∷◌, All, Option, Some, option_map}
+use Rattle.std.specs.Prelude.{◌≡◌, ◌≢◌, ◌≤◌, ◌<◌, ℕ, ◌+◌, ◌*◌, ◌==◌, Bool, true, ◌&&◌, ◌||◌, List, [], ◌∷◌, All, Option, Some, option_map}
 use Rattle.std.specs.List.{list_any}
 use Rattle.dcc_run.specs.End.{Stuck}
 use Rattle.dcc_run.specs.System.{end_after}
 use Rattle.dcc_run.specs.Visits.{VisitsKept}
+use Rattle.dcc_run.specs.Follows.{Follows}
 use Rattle.dcc_prog.specs.declared.image.Image.{Image}
 use Rattle.dcc_prog.specs.declared.procedure.Node.{Node}
 use Rattle.dcc_prog.specs.declared.procedure.Proc.{Proc}
@@ -43,6 +44,13 @@ abbrev pub RunsAsMachine : Image → Program → Type 0
 RunsAsMachine image p =
     (fill : ℕ) (input : List ℕ) → fill < 65536 → All (λ byte. byte < 256) input
     → VisitsKept (has_block_at p) machine_system instruction_mark (start_state image input) (inner_system p fill) offset_mark (first_state p fill input)
+
+-- For every fill and input, the machine has put out what the program has after m of its steps within (m + 1) * 65536 steps,
+-- and has ended alike where the program has.
+abbrev pub MachineFollows : Image → Program → Type 0
+MachineFollows image p =
+    (fill : ℕ) (input : List ℕ) → fill < 65536 → All (λ byte. byte < 256) input
+    → Follows (λ m. Unit {0}) (inner_system p fill) (first_state p fill input) machine_system (start_state image input) (λ m. (m + 1) * 65536)
 
 -- no run of the program comes to a Switch that has no block for its value, to a Stop, or to a Ret of the first graph
 abbrev pub IsNeverStuck : Program → Type 0
@@ -109,6 +117,7 @@ pub record IsLifted (image : Image) (layout : Layout) (start : Proc) (p : Progra
   pub flags : All (HasFewFlagStmts start) p.graphs
   pub shallow : All (IsShallow 7) p.graphs
   pub runs : RunsAsMachine image p
+  pub pace : MachineFollows image p
   pub never_stuck : IsNeverStuck p
   pub blocks : HasBlocks image start p
   pub wanted : All (WantsTheSame image layout) p.graphs
