@@ -59,7 +59,7 @@ module _ (scope : Scope) where
   }
 
   -- the low bit of a byte
-  low-bit : (n : ℕ) (e : Expr) → IsNumber scope Uchar n e → n < 256 → IsNumber scope Int (n % 2) (Binary BitAnd e (small 1))
+  pub low-bit : (n : ℕ) (e : Expr) → IsNumber scope Uchar n e → n < 256 → IsNumber scope Int (n % 2) (Binary BitAnd e (small 1))
   low-bit n e is fits =
       let one : IsNumber scope Int 1 (small 1) = small-number 1 (omega arith) in record {
         typed = binary-typed BitAnd Uchar Int n 1 e (small 1) is one;
