@@ -52,7 +52,7 @@ location-size = at-place (λ location. (size : Size) × (location_width temporar
   left_byte = (byte, refl); right_byte = (byte, refl); result_byte = (byte, refl); left_word = (word, refl); right_word = (word, refl); result_word = (word, refl); product = (long, refl);
 })
 
-same-size : (s t : Size) → bits s ≡ bits t → s ≡ t
+pub same-size : (s t : Size) → bits s ≡ bits t → s ≡ t
 same-size bit bit e = refl
 same-size bit byte e = absurd (omega (arith, e))
 same-size bit word e = absurd (omega (arith, e))
