@@ -22,6 +22,18 @@ follows_trans premise first s second t third u near far a b = record {
   same = λ n held over. b.same (near n) tt (ap is_over (a.end n held over) ∙ over) ∙ a.same n held over;
 }
 
+-- what follows within a bound follows within each greater one
+pub follows_wider : {S T : Type 0} (premise : ℕ → Type 0) (first : System S) (s : S) (second : System T) (t : T) (near far : ℕ → ℕ) → IsLawful second → ((n : ℕ) → near n ≤ far n)
+    → Follows premise first s second t near → Follows premise first s second t far
+follows_wider premise first s second t near far law wider a = record {
+  out = λ n held. prefix_trans (a.out n held) (out_grows second law (near n) (far n) t (wider n));
+  end = λ n held over. ap second.end (stay n held over) ∙ a.end n held over;
+  same = λ n held over. ap second.out (stay n held over) ∙ a.same n held over;
+}
+  where
+    stay : (n : ℕ) → premise n → is_over (end_after first n s) ≡ true → after second.step (far n) t ≡ after second.step (near n) t
+    stay n held over = over_stays second law (near n) (far n) t (wider n) (ap is_over (a.end n held over) ∙ over)
+
 -- after k steps the first run has put out no more than the second after m, and has ended, where it has, as the second has
 pub record Reaches {S T : Type 0} (first : System S) (s : S) (k : ℕ) (second : System T) (t : T) (m : ℕ) : Type 0 where
   pub out : IsPrefix (out_after first k s) (out_after second m t)

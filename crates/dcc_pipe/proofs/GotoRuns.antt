@@ -19,6 +19,7 @@ use Rattle.dcc_ir.specs.Run as run
 use Rattle.dcc_ir.proofs.RunLaws.{inner_lawful}
 use Rattle.dcc_lift.specs.Temporaries.{temporary_bits}
 use Rattle.dcc_lift.specs.Form.{is_lifted_block}
+use Rattle.dcc_lift.specs.Lifted.{offset_mark}
 use Rattle.dcc_c.specs.declared.syntax.Base.TheVariants.{Int}
 use Rattle.dcc_c.specs.Types.{convert}
 use Rattle.dcc_c.specs.Tree.{Stmt, Lines, no_lines, line, Function, Tree}
@@ -31,7 +32,7 @@ use Rattle.dcc_c.proofs.RunLaws.{text_lawful}
 use Rattle.dcc_pipe.specs.Variables.{locations, variable, flags, unsigned_type}
 use Rattle.dcc_pipe.specs.GotoText.{label_name, text_stmt, text_block, text_graph, text_stmts, flag_cut, goto_start, goto_tree}
 use Rattle.dcc_pipe.proofs.FollowLaws.{Always}
-use Rattle.dcc_pipe.proofs.LeapLaws.{leap-follows, leap-leads}
+use Rattle.dcc_pipe.proofs.LeapLaws.{leap-follows, leap-leads, related-after}
 use Rattle.dcc_pipe.proofs.Places.{IsPlace, AtEach, at-place, bound, bindings_of}
 use Rattle.dcc_pipe.proofs.ExprMeanings.{AreHeld}
 use Rattle.dcc_pipe.proofs.TextSteps.{text, text_state, flag-step}
@@ -101,7 +102,7 @@ block-short all (b ∷ blocks) (suc place) block is =
 flag-flat : (flag : Loc) → IsFlat (flag_cut flag)
 flag-flat flag = flat (λ depth at. unchanged)
 
-flags-flat : AreFlat (map flag_cut flags)
+pub flags-flat : AreFlat (map flag_cut flags)
 flags-flat = more_flat (flag-flat (Flag Cf)) (more_flat (flag-flat (Flag Zf)) (more_flat (flag-flat (Flag Sf)) (more_flat (flag-flat (Flag Of)) none_flat)))
 
 flag-passes : (name : List ℕ) (flag : Loc) (counted : Stmt) → IsCounted (flag_cut flag) counted → (at : ℕ) (lines : Lines) (rest : c.Continuation) → c.from_label_inside name counted at lines rest ≡ None
@@ -339,3 +340,13 @@ module _ (image : List ℕ) (lo hi entry local pushed : ℕ) (params : List Para
         (at-alike image lo hi entry local pushed params blocks functions start frame fill statements goto-good goto-jumps)
         (at-leaps image lo hi entry local pushed params blocks functions start frame fill statements goto-good goto-jumps)
         (run.first_state goto_program fill input) (c.first_state goto_text start fill input) 4 first-quiet-text first-related
+
+    -- each step of the program begins a block
+    pub goto-marked : (m : ℕ) → is_over (end_after (run.inner_system goto_program fill) m (run.first_state goto_program fill input)) ≡ false
+        → (place : ℕ) × (offset_mark (after (run.step goto_program fill) m (run.first_state goto_program fill input)) ≡ Some place)
+    goto-marked m runs =
+        let x = related-after (run.inner_system goto_program fill) (text_system goto_text) related statements (inner_lawful goto_program fill) (text_lawful goto_text)
+        (at-alike image lo hi entry local pushed params blocks functions start frame fill statements goto-good goto-jumps)
+        (at-leaps image lo hi entry local pushed params blocks functions start frame fill statements goto-good goto-jumps)
+        m (run.first_state goto_program fill input) _ first-related runs in
+        (x.1.block.at, ap offset_mark x.1.inner_is)

@@ -48,6 +48,16 @@ module _ {S T : Type 0} (first : System S) (second : System T) (related : S → 
             )
       ]
 
+  -- where the first run is not over it is related to the second one somewhere
+  pub related-after : (n : ℕ) (s : S) (t : T) → related s t → is_over (end_after first n s) ≡ false → (u : T) × related (after first.step n s) u
+  related-after zero s t r runs = (t, r)
+  related-after (suc n) s t r runs =
+      let leap = leaps s t r in
+      elim leap.goes_on [
+        | still_related r' ↦ related-after n (first.step s) (after second.step (suc leap.further) t) r' runs
+        | both_over o ↦ absurd (true≢false (sym o.over ∙ ap (λ u. is_over (first.end u)) (sym (after-over first law n (first.step s) o.over)) ∙ runs))
+      ]
+
   -- what is shown behind a leap
   behind : (s : S) (t : T) → GoOn first second related s t → second.out t ≡ first.out s
   behind s t (still_related r) = (alike s t r).out

@@ -1,10 +1,9 @@
--- A file and a text agree.
+-- An image and a text agree.
 use Rattle.std.specs.Prelude.{◌≢◌, ℕ, ◌+◌, ◌*◌, ◌^◌, ◌<◌, List, length, All}
 use Rattle.dcc_run.specs.End.{Stuck}
 use Rattle.dcc_run.specs.System.{end_after}
 use Rattle.dcc_run.specs.Follows.{Follows}
 use Rattle.dcc_prog.specs.declared.image.Image.{Image}
-use Rattle.dcc_prog.specs.MzImage.{IsImageOf}
 use Rattle.dcc_prog.specs.Machine.{start_state}
 use Rattle.dcc_prog.specs.Step.{machine_system}
 use Rattle.dcc_c.specs.Tree.{Tree, Function}
@@ -25,10 +24,7 @@ pub record RunsAgree (image : Image) (tree : Tree) (start : Function) (tokens : 
   pub machine_follows : Follows (λ k. IsClean image input ((k + 1) * 65536)) (text_system tree) (first_state tree start fill input) machine_system (start_state image input) (λ k. (k + 1) * 65536)
   pub never_stuck : (k line : ℕ) → end_after (text_system tree) k (first_state tree start fill input) ≢ Stuck line
 
--- The text stands for a tree, and for every input and every fill its run agrees with that of the file.
-pub record Agrees (file text : List ℕ) : Type 0 where
-  pub tree : Tree
+-- The text stands for the tree, and for every input and every fill its run agrees with that of the image.
+pub record IsTextOf (image : Image) (text : List ℕ) (tree : Tree) : Type 0 where
   pub stands : StandsFor text tree
-  pub image : Image
-  pub is_image : IsImageOf file image
   pub runs : (input : List ℕ) (fill : ℕ) → All (λ b. b < 256) input → fill < 2 ^ 16 → RunsAgree image tree stands.allowed.start (length stands.tokens) input fill
