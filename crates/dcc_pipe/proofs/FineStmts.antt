@@ -38,13 +38,13 @@ abbrev pub names : List Declared
 names = map declared_by (bindings_of zeros)
 
 -- an expression that is writable, shallow and a number
-record IsFineExpr (e : Expr) : Type 0 where
-  writable : is_writable_expr e ≡ true
-  shallow : nat_le (expr_depth e) 200 ≡ true
-  base : Base
-  typed : type_of names e ≡ Some (plain base)
+pub record IsFineExpr (e : Expr) : Type 0 where
+  pub writable : is_writable_expr e ≡ true
+  pub shallow : nat_le (expr_depth e) 200 ≡ true
+  pub base : Base
+  pub typed : type_of names e ≡ Some (plain base)
 
-expr-fine : (e : inner.Expr) → is_expr temporary_bits e ≡ true → is_lifted_expr e ≡ true → depth_of e ≤ 7 → IsFineExpr (text_expr e)
+pub expr-fine : (e : inner.Expr) → is_expr temporary_bits e ≡ true → is_lifted_expr e ≡ true → depth_of e ≤ 7 → IsFineExpr (text_expr e)
 expr-fine e formed lifted low =
     let s = expr-spelled e formed lifted in
     let t = expr-typed e formed lifted in
@@ -104,10 +104,10 @@ module _ (tree : Tree) (f : Function) (names-are : declared_in tree f ≡ names)
       ∙ ap (λ t. elim t [ Some from ↦ converts from to | None ↦ false ]) x.typed
       ∙ converts-numbers x.base to number
 
-  label-fine : (name : Word) → is_name name ≡ true → IsFine (Label name)
+  pub label-fine : (name : Word) → is_name name ≡ true → IsFine (Label name)
   label-fine name is = record { writable = is; allowed = refl; shallow = refl; jumps = refl }
 
-  assign-fine : (location : Loc) (e : Expr) → IsPlace location → IsFineExpr e → IsFine (Assign (place_of location) e)
+  pub assign-fine : (location : Loc) (e : Expr) → IsPlace location → IsFineExpr e → IsFine (Assign (place_of location) e)
   assign-fine location e is x =
       let p = place-typed location is in record {
         writable = and_from (is_writable_place (place_of location)) (is_writable_expr e) (place-writable location is) x.writable;
@@ -120,7 +120,7 @@ module _ (tree : Tree) (f : Function) (names-are : declared_in tree f ≡ names)
       }
 
   -- a call with one argument, which takes a byte
-  give-fine : (name : Word) (e : Expr) → is_name name ≡ true → signature_in tree name ≡ Some (record { result = None; params = plain Uchar ∷ [] }) → IsFineExpr e → IsFine (Call None name (e ∷ []) 2)
+  pub give-fine : (name : Word) (e : Expr) → is_name name ≡ true → signature_in tree name ≡ Some (record { result = None; params = plain Uchar ∷ [] }) → IsFineExpr e → IsFine (Call None name (e ∷ []) 2)
   give-fine name e is known x = record {
     writable = and_from (is_name name) ((is_writable_expr e && true) && is_small 2) is (and_from (is_writable_expr e && true) (is_small 2) (and_from (is_writable_expr e) true x.writable refl) refl);
     allowed = and_from (allows_stmt tree f (Call None name (e ∷ []) 2)) true
@@ -130,7 +130,7 @@ module _ (tree : Tree) (f : Function) (names-are : declared_in tree f ≡ names)
   }
 
   -- a call that gives a byte
-  take-fine : (name : Word) (location : Loc) → is_name name ≡ true → signature_in tree name ≡ Some (record { result = Some (plain Uchar); params = [] }) → IsPlace location → IsFine (Call (Some (place_of location)) name [] 2)
+  pub take-fine : (name : Word) (location : Loc) → is_name name ≡ true → signature_in tree name ≡ Some (record { result = Some (plain Uchar); params = [] }) → IsPlace location → IsFine (Call (Some (place_of location)) name [] 2)
   take-fine name location is known there =
       let p = place-typed location there in record {
         writable = and_from (is_writable_place (place_of location)) (is_name name && (true && is_small 2)) (place-writable location there) (and_from (is_name name) (true && is_small 2) is refl);
@@ -144,10 +144,10 @@ module _ (tree : Tree) (f : Function) (names-are : declared_in tree f ≡ names)
         jumps = refl;
       }
 
-  goto-fine : (name : Word) → is_name name ≡ true → is_among labels name ≡ true → IsFine (Goto name)
+  pub goto-fine : (name : Word) → is_name name ≡ true → is_among labels name ≡ true → IsFine (Goto name)
   goto-fine name is there = record { writable = is; allowed = refl; shallow = refl; jumps = and_from (is_among labels name) true there refl }
 
-  if-fine : (e : Expr) (one other : Word) → IsFineExpr e → is_name one ≡ true → is_name other ≡ true → is_among labels one ≡ true → is_among labels other ≡ true
+  pub if-fine : (e : Expr) (one other : Word) → IsFineExpr e → is_name one ≡ true → is_name other ≡ true → is_among labels one ≡ true → is_among labels other ≡ true
       → IsFine (If e (uncounted (Goto one ∷ [])) (uncounted (Goto other ∷ [])))
   if-fine e one other x is also there too = record {
     writable = and_from (is_writable_expr e) ((is_name one && true) && (is_name other && true)) x.writable (and_from (is_name one && true) (is_name other && true) (and_from (is_name one) true is refl) (and_from (is_name other) true also refl));
@@ -157,5 +157,5 @@ module _ (tree : Tree) (f : Function) (names-are : declared_in tree f ≡ names)
     jumps = and_from (is_among labels one) (is_among labels other && true) there (and_from (is_among labels other) true too refl);
   }
 
-  empty-fine : IsFine Empty
+  pub empty-fine : IsFine Empty
   empty-fine = record { writable = refl; allowed = refl; shallow = refl; jumps = refl }
