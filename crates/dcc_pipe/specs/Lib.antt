@@ -3,3 +3,4 @@ pub mod GotoExpr
 pub mod GotoText
 pub mod Agreement
 pub mod Uncounted
+pub mod Answer
