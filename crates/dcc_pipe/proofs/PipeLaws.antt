@@ -13,13 +13,13 @@ use Rattle.dcc_ir.specs.Tree as inner
 use Rattle.dcc_ir.specs.Use.{graph_exprs}
 use Rattle.dcc_ir.specs.Measure.{depth_of}
 use Rattle.dcc_lift.specs.Lifted.{IsLifted, IsLiftOf, IsShallow}
-use Rattle.dcc_c.specs.Tree.{Tree}
+use Rattle.dcc_c.specs.declared.syntax.Unit.{Unit as TextUnit}
+use Rattle.dcc_c.specs.Views.{tree_of}
 use Rattle.dcc_c.specs.Written.{written_form}
 use Rattle.dcc_c.specs.Numbered.{numbered}
 use Rattle.dcc_c.specs.Text.{StandsFor}
 use Rattle.dcc_c.proofs.Writable.{IsWritable}
-use Rattle.dcc_c.proofs.PrintLaws.{numbered_stands}
-use Rattle.dcc_c.proofs.NumberedTwice.{numbered_twice}
+use Rattle.dcc_c.proofs.PrintLaws.{writable_stands}
 use Rattle.dcc_pipe.specs.GotoText.{goto_tree}
 use Rattle.dcc_pipe.specs.Agreement.{IsTextOf}
 use Rattle.dcc_pipe.proofs.FineBlocks.{shallow-of}
@@ -39,19 +39,18 @@ module _ (image : Image) (layout : Layout) (procs : List Proc) (p : inner.Progra
       goto-writable p g lifted.framed.one (lifted-goto image layout procs p loaded has are of) (shallow-of (graph_exprs g) low)
       (omega (arith, lifted.framed.lo, has.small.has_stack, has.small.hi_fits)) (omega (arith, lifted.framed.hi, has.small.hi_fits))
 
-  lifted-stands : StandsFor (written_form (numbered (goto_tree p))) (numbered (goto_tree p))
-  lifted-stands = numbered_stands (goto_tree p) lifted-writable
+  lifted-stands : StandsFor (written_form (goto_tree p)) (numbered (goto_tree p))
+  lifted-stands = writable_stands (goto_tree p) lifted-writable
 
   -- and it agrees with the image
-  pub lifted-text : IsTextOf image (written_form (numbered (goto_tree p))) (numbered (goto_tree p))
+  pub lifted-text : IsTextOf image (written_form (goto_tree p)) (numbered (goto_tree p))
   lifted-text = record {
     stands = lifted-stands;
-    runs = λ input fill bytes fits. text-agrees image layout procs p loaded has are of (written_form (numbered (goto_tree p))) lifted-stands input fill bytes fits;
+    runs = λ input fill bytes fits. text-agrees image layout procs p loaded has are of (written_form (goto_tree p)) lifted-stands input fill bytes fits;
   }
 
-  pub text-is : (tree : Tree) → tree ≡ numbered (goto_tree p) → IsTextOf image (written_form tree) tree
-  text-is tree is = subst (λ t. IsTextOf image (written_form t) t) (sym is) lifted-text
-
--- a tree whose lines are counted
-pub counted-is : (tree before : Tree) → tree ≡ numbered before → numbered tree ≡ tree
-counted-is tree before is = ap numbered is ∙ numbered_twice before ∙ sym is
+-- what is told of a unit whose tree is that text's
+pub text-is : (image : Image) (layout : Layout) (procs : List Proc) (p : inner.Program) → IsLoaded image → HasLayout image layout → AreFound image layout procs → IsLiftOf image layout procs p
+    → (result : Result TextUnit AllocError) → IfOk result (λ unit. tree_of unit ≡ goto_tree p) → IfOk result (λ unit. IsTextOf image (written_form (tree_of unit)) (numbered (tree_of unit)))
+text-is image layout procs p loaded has are of (Ok unit) is = subst (λ t. IsTextOf image (written_form t) (numbered t)) (sym is) (lifted-text image layout procs p loaded has are of)
+text-is image layout procs p loaded has are of (Err fault) is = tt
