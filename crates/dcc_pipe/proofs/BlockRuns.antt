@@ -1,23 +1,23 @@
 -- One step of a lifted program, a block, stands for the steps of its text through the block's lines.
-use Rattle.std.proofs.Common.{◌≡◌, ◌≢◌, ℕ, zero, suc, ◌+◌, ◌*◌, ◌^◌, ◌<◌, ◌≤◌, ◌⊎◌, inl, inr, Bool, true, false, ◌==◌, List, [], ◌∷◌, ◌++◌, length, map, Option, Some, None, refl, sym, ap, ap₂, ◌∙◌, subst, true≢false, arith, append_assoc}
+use Rattle.std.proofs.Common.{◌≡◌, ◌≢◌, ℕ, zero, suc, ◌+◌, ◌^◌, ◌<◌, ◌≤◌, inl, inr, Bool, true, false, ◌==◌, List, [], ◌∷◌, ◌++◌, length, map, Some, None, refl, sym, ap, ◌∙◌, subst, true≢false, arith, append_assoc}
 use Rattle.std.specs.Prelude.{◌&&◌, ◌||◌, nat_lt, if◌then◌else◌, codes, slice_get}
 use Rattle.std.specs.List.{list_all}
-use Rattle.std.proofs.lemmas.Bool.{and_parts, or_cases, cases_Bool, eqb-true, ltb-true}
+use Rattle.std.proofs.lemmas.Bool.{and_parts, or_cases, eqb-true, ltb-true}
 use Rattle.std.proofs.lemmas.List.{append-nil}
-use Rattle.dcc_run.specs.End.{End, Running, Exit as ExitWith, Stuck, is_over}
-use Rattle.dcc_run.specs.System.{System, after, end_after}
-use Rattle.dcc_run.specs.Gathers.{AreOverAlike, GoOn, still_related, both_over}
+use Rattle.dcc_run.specs.End.{Running, Stuck, is_over}
+use Rattle.dcc_run.specs.System.{after, end_after}
+use Rattle.dcc_run.specs.Gathers.{GoOn, still_related, both_over}
 use Rattle.dcc_ir.specs.declared.syntax.Loc.{Loc}
 use Rattle.dcc_ir.specs.declared.syntax.Loc.TheVariants.{Half, Flag, Cell, Temp}
 use Rattle.dcc_ir.specs.declared.syntax.Param.{Param}
 use Rattle.dcc_ir.specs.Location.{location_width, Values, with_value}
 use Rattle.dcc_ir.specs.Tree as inner
 use Rattle.dcc_ir.specs.Value.{value_of, width_of}
-use Rattle.dcc_ir.specs.WellFormed.{is_location, is_expr, is_expr_of, is_byte_place, is_dos, is_stmt, is_exit, is_block}
+use Rattle.dcc_ir.specs.WellFormed.{is_location, is_expr, is_expr_of, is_byte_place, is_stmt, is_exit, is_block}
 use Rattle.dcc_ir.specs.Run as run
 use Rattle.dcc_lift.specs.Temporaries.{temporary_bits}
-use Rattle.dcc_lift.specs.Form.{is_lifted_location, is_lifted_half, is_lifted_expr, is_lifted_dos, is_lifted_stmt, is_lifted_exit, is_lifted_block}
-use Rattle.dcc_c.specs.Tree.{Word, Stmt, Goto, Label, If, Lines, no_lines, line, Function}
+use Rattle.dcc_lift.specs.Form.{is_lifted_location, is_lifted_half, is_lifted_expr, is_lifted_stmt, is_lifted_exit, is_lifted_block}
+use Rattle.dcc_c.specs.Tree.{Stmt, Goto, Label, If, Lines, no_lines, line, Function}
 use Rattle.dcc_c.specs.Run as c
 use Rattle.dcc_c.specs.Run.{ends_function, text_system}
 use Rattle.dcc_pipe.specs.GotoExpr.{text_expr}
@@ -25,10 +25,10 @@ use Rattle.dcc_pipe.specs.GotoText.{label_name, label_at, text_stmt, text_exit, 
 use Rattle.dcc_pipe.proofs.Sizes.{bit, byte, bits}
 use Rattle.dcc_pipe.proofs.Meanings.{Means}
 use Rattle.dcc_pipe.proofs.Places.{IsPlace, scope_with}
-use Rattle.dcc_pipe.proofs.ExprMeanings.{AreHeld, scene_with, Stands, expr-stands, same-size}
+use Rattle.dcc_pipe.proofs.ExprMeanings.{AreHeld, scene_with, expr-stands, same-size}
 use Rattle.dcc_pipe.proofs.TextSteps.{text, text_state, key_of, left_of, echo_of, assign-step, putc-step, exit-step, label-step, goto-step, if-step, if-running, getche-step, getch-step}
 use Rattle.dcc_pipe.proofs.HeldLaws.{held-after, AreBytes, key-fits, left-bytes, at-within}
-use Rattle.dcc_pipe.proofs.Lined.{IsCounted, unchanged, branches, AreLined, no_more, one_more, Lands}
+use Rattle.dcc_pipe.proofs.Lined.{IsCounted, unchanged, branches, AreLined, one_more, Lands}
 use Rattle.dcc_pipe.proofs.LeapLaws.{IsLeap, AreAlike}
 
 -- Expressions of a size that is known.

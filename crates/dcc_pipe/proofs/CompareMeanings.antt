@@ -1,6 +1,6 @@
 -- Comparisons: they give one bit.
-use Rattle.std.proofs.Common.{◌≡◌, ℕ, suc, ◌+◌, ◌-◌, ◌*◌, ◌%◌, ◌^◌, ◌<◌, ◌≤◌, Bool, true, false, map, Some, refl, sym, ap, ap₂, ◌∙◌, subst, true≢false, arith, mod-eq_of_lt, ℤ, pos, negsuc}
-use Rattle.std.specs.Prelude.{if◌then◌else◌, not, ◌==◌, nat_le, nat_lt, int_lt, int_le}
+use Rattle.std.proofs.Common.{◌≡◌, ℕ, ◌+◌, ◌-◌, ◌^◌, ◌<◌, ◌≤◌, Bool, true, false, refl, sym, ap, ap₂, ◌∙◌, subst, true≢false, arith, ℤ, pos, negsuc}
+use Rattle.std.specs.Prelude.{not, ◌==◌, nat_le, nat_lt, int_lt, int_le}
 use Rattle.std.specs.Int.{from_bool}
 use Rattle.std.proofs.lemmas.Bool.Decides.{nat_tests}
 use Rattle.std.proofs.lemmas.Int.{ints}
@@ -12,15 +12,15 @@ use Rattle.dcc_c.specs.declared.syntax.Base.{Base}
 use Rattle.dcc_c.specs.declared.syntax.Base.TheVariants.{Schar, Uchar, Int, Uint, Long, Ulong}
 use Rattle.dcc_c.specs.declared.syntax.CBin.{CBin}
 use Rattle.dcc_c.specs.declared.syntax.CBin.TheVariants.{Eq, Lt, Le}
-use Rattle.dcc_c.specs.Types.{bits_of, common_type, convert, plain}
+use Rattle.dcc_c.specs.Types.{bits_of, common_type, convert}
 use Rattle.dcc_c.specs.Arithmetic.{is_less}
 use Rattle.dcc_c.specs.Tree.{Expr, Binary}
 use Rattle.dcc_c.specs.Value.{Scope}
 use Rattle.dcc_pipe.specs.GotoExpr.{small, signed_reading, unary_expr, binary_expr}
 use Rattle.dcc_pipe.proofs.Sizes.{Size, bit, byte, word, long, bits, holds, reckons, common-is, kept}
 use Rattle.dcc_pipe.proofs.Meanings.{IsNumber, Means, small-number}
-use Rattle.dcc_pipe.proofs.Reckoning.{IsEager, Compares, comparing-number}
-use Rattle.dcc_pipe.proofs.SignedMeanings.{reading_type, reading_bits, signed_reckons, signed_bits, reading-number, reading-converted, Sign, positive, negative, sign-of}
+use Rattle.dcc_pipe.proofs.Reckoning.{Compares, comparing-number}
+use Rattle.dcc_pipe.proofs.SignedMeanings.{reading_type, reading_bits, signed_reckons, signed_bits, reading-number, reading-converted, positive, negative, sign-of}
 
 eq-compares : Compares Eq (λ t k l. k == l)
 eq-compares = record { eager = record { eager = λ s e g. refl }; typing = λ a b. refl; valuing = λ a b n m. refl }

@@ -1,5 +1,5 @@
 -- What the text of an expression means: the value of the expression.
-use Rattle.std.proofs.Common.{◌≡◌, ℕ, ◌+◌, ◌-◌, ◌*◌, ◌/◌, ◌%◌, ◌^◌, ◌<◌, ◌≤◌, ◌⊎◌, inl, inr, Bool, true, false, ◌==◌, List, [], ◌∷◌, ◌++◌, map, Option, Some, None, refl, sym, ap, ap₂, ◌∙◌, subst, true≢false, arith, mod-eq_of_lt}
+use Rattle.std.proofs.Common.{◌≡◌, ℕ, ◌+◌, ◌*◌, ◌/◌, ◌%◌, ◌^◌, ◌<◌, ◌≤◌, ◌⊎◌, inl, inr, Bool, true, false, ◌==◌, List, ◌++◌, refl, sym, ap, ap₂, ◌∙◌, subst, true≢false, arith, mod-eq_of_lt}
 use Rattle.std.specs.Prelude.{◌&&◌, ◌||◌, not, nat_lt, nat_le, if◌then◌else◌, option_and_then}
 use Rattle.std.specs.List.{list_all}
 use Rattle.std.proofs.lemmas.Bool.{and_parts, or_cases, eqb-true, ltb-true, leb-true}
@@ -12,24 +12,23 @@ use Rattle.dcc_ir.specs.declared.syntax.BinOp.TheVariants.{Add, Sub, Mul, DivS, 
 use Rattle.dcc_ir.specs.Location.{location_width, Values}
 use Rattle.dcc_ir.specs.Tree.{Expr, Const, Get, Load, Unary, Binary, Widen, Part, Join, Choose, Address}
 use Rattle.dcc_ir.specs.Use.{parts_of}
-use Rattle.dcc_ir.specs.WellFormed.{is_width, is_location, is_division, divides_safely, is_expr}
-use Rattle.dcc_ir.specs.Value.{is_test, is_comparison, width_of, Scene, value_of, unary_value, binary_value, signed_at, pattern_at}
+use Rattle.dcc_ir.specs.WellFormed.{is_width, is_division, divides_safely, is_expr}
+use Rattle.dcc_ir.specs.Value.{is_comparison, width_of, Scene, value_of, binary_value, signed_at, pattern_at}
 use Rattle.dcc_lift.specs.Temporaries.{temporary_bits}
 use Rattle.dcc_lift.specs.Form.{is_lifted_location, is_lifted_part, is_lifted_expr}
-use Rattle.dcc_c.specs.declared.syntax.Base.TheVariants.{Uchar, Int, Uint, Ulong}
-use Rattle.dcc_c.specs.Types.{plain}
+use Rattle.dcc_c.specs.declared.syntax.Base.TheVariants.{Int, Uint, Ulong}
 use Rattle.dcc_c.specs.Tree as tree
 use Rattle.dcc_c.specs.Typing.{type_of_name}
 use Rattle.dcc_c.specs.Value.{number, Gives, and_then, given, variable_value}
-use Rattle.dcc_pipe.specs.Variables.{variable_name, unsigned_type}
-use Rattle.dcc_pipe.specs.GotoExpr.{bits_in, constant_type, unary_expr, binary_expr, widened, part_expr, joined, text_expr}
+use Rattle.dcc_pipe.specs.Variables.{unsigned_type}
+use Rattle.dcc_pipe.specs.GotoExpr.{bits_in, constant_type, binary_expr, widened, part_expr, joined, text_expr}
 use Rattle.dcc_pipe.proofs.Sizes.{Size, bit, byte, word, long, bits, holds, size-of}
-use Rattle.dcc_pipe.proofs.Meanings.{IsNumber, Means}
+use Rattle.dcc_pipe.proofs.Meanings.{Means}
 use Rattle.dcc_pipe.proofs.SumMeanings.{add-means, sub-means, mul-means, and-means, or-means, xor-means, neg-means, not-means}
 use Rattle.dcc_pipe.proofs.CompareMeanings.{eq-means, ltu-means, leu-means, lts-means, les-means, zero-means}
 use Rattle.dcc_pipe.proofs.ShiftMeanings.{shl-means, shr-means, sar-means}
 use Rattle.dcc_pipe.proofs.PartMeanings.{widened-means, part-means, joined-means, chosen-means}
-use Rattle.dcc_pipe.proofs.Places.{IsPlace, AtEach, at-place, scope_with, variable-found, variable-declared}
+use Rattle.dcc_pipe.proofs.Places.{IsPlace, at-place, scope_with, variable-found, variable-declared}
 
 -- what expressions read
 abbrev pub scene_with : Values → ℕ → List ℕ → Scene

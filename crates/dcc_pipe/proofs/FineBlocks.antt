@@ -1,8 +1,8 @@
 -- The blocks of a lifted program's text are writable and keep to the rules.
-use Rattle.std.proofs.Common.{◌≡◌, ℕ, zero, suc, ◌+◌, ◌/◌, ◌%◌, ◌<◌, ◌≤◌, inl, inr, Bool, true, false, ◌==◌, List, [], ◌∷◌, ◌++◌, map, Option, Some, None, refl, sym, ap, ap₂, ◌∙◌, subst, true≢false, arith, append_assoc}
-use Rattle.std.specs.Prelude.{◌&&◌, ◌||◌, not, nat_lt, nat_le, if◌then◌else◌, codes, slice_get, length, All}
-use Rattle.std.specs.List.{flat_map, list_all, list_any}
-use Rattle.std.proofs.lemmas.Bool.{and_parts, and_from, or_cases, eqb-true, ltb-true, le-leb, or_left, or_right}
+use Rattle.std.proofs.Common.{◌≡◌, ℕ, zero, suc, ◌/◌, ◌%◌, ◌<◌, ◌≤◌, inl, inr, Bool, true, false, ◌==◌, List, [], ◌∷◌, ◌++◌, map, Some, None, refl, sym, ap, ◌∙◌, subst, true≢false, arith, append_assoc}
+use Rattle.std.specs.Prelude.{◌&&◌, ◌||◌, nat_lt, codes, slice_get, length, All}
+use Rattle.std.specs.List.{flat_map, list_all}
+use Rattle.std.proofs.lemmas.Bool.{and_parts, and_from, or_cases, eqb-true, ltb-true, or_left, or_right}
 use Rattle.std.proofs.lemmas.Bool.Decides.{nat_tests}
 use Rattle.std.proofs.lemmas.List.Elements.{All-head, All-tail}
 use Rattle.dcc_ir.specs.declared.syntax.Loc.{Loc}
@@ -15,8 +15,8 @@ use Rattle.dcc_ir.specs.WellFormed.{is_location, is_expr, is_expr_of, is_byte_pl
 use Rattle.dcc_ir.specs.Value.{width_of}
 use Rattle.dcc_lift.specs.Temporaries.{temporary_bits}
 use Rattle.dcc_lift.specs.Form.{is_lifted_location, is_lifted_half, is_lifted_expr, is_lifted_stmt, is_lifted_exit, is_lifted_block}
-use Rattle.dcc_c.specs.Tree.{Word, Expr, Stmt, Label, Function, Tree}
-use Rattle.dcc_c.specs.Token.{same_bytes, is_word_byte, is_letter, is_digit, is_between}
+use Rattle.dcc_c.specs.Tree.{Word, Stmt, Function, Tree}
+use Rattle.dcc_c.specs.Token.{same_bytes, is_word_byte}
 use Rattle.dcc_c.specs.Grammar.{is_name, is_among}
 use Rattle.dcc_c.specs.Rules.{declared_in}
 use Rattle.dcc_c.proofs.Writable.{is_label}
@@ -25,7 +25,7 @@ use Rattle.dcc_pipe.specs.GotoText.{hex_digit, label_name, label_at, text_stmt, 
 use Rattle.dcc_pipe.proofs.Places.{IsPlace}
 use Rattle.dcc_pipe.proofs.HeldLaws.{at-within}
 use Rattle.dcc_pipe.proofs.LabelLaws.{same-itself}
-use Rattle.dcc_pipe.proofs.FineStmts.{names, IsFineExpr, expr-fine, IsFine, AreFine, fine_end, fine_next, label-fine, assign-fine, give-fine, take-fine, goto-fine, if-fine, empty-fine}
+use Rattle.dcc_pipe.proofs.FineStmts.{names, expr-fine, IsFine, AreFine, fine_end, fine_next, label-fine, assign-fine, give-fine, take-fine, goto-fine, if-fine, empty-fine}
 
 -- no expression is deeper than 7
 abbrev pub AreShallow : List inner.Expr → Type 0

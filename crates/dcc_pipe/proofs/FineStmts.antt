@@ -1,36 +1,30 @@
 -- The statements of a lifted program's text are writable and keep to the rules.
-use Rattle.std.proofs.Common.{◌≡◌, ℕ, zero, suc, ◌+◌, ◌*◌, ◌^◌, ◌<◌, ◌≤◌, inl, inr, Bool, true, false, ◌==◌, List, [], ◌∷◌, ◌++◌, map, Option, Some, None, refl, sym, ap, ap₂, ◌∙◌, subst, true≢false, arith}
-use Rattle.std.specs.Prelude.{◌&&◌, ◌||◌, not, nat_lt, nat_le, if◌then◌else◌, codes, slice_get, length, option_and_then, option_to_list}
+use Rattle.std.proofs.Common.{◌≡◌, ◌≤◌, Bool, true, false, List, [], ◌∷◌, ◌++◌, map, Some, None, refl, ap, ◌∙◌, arith}
+use Rattle.std.specs.Prelude.{◌&&◌, ◌||◌, not, nat_le, if◌then◌else◌, option_and_then}
 use Rattle.std.specs.List.{flat_map, list_all}
-use Rattle.std.proofs.lemmas.Bool.{and_parts, and_from, or_cases, eqb-true, ltb-true, le-leb}
+use Rattle.std.proofs.lemmas.Bool.{and_from, le-leb}
 use Rattle.std.proofs.lemmas.List.Folds.{list_all-append}
 use Rattle.std.proofs.lemmas.List.Concat.{flat_map-append}
 use Rattle.dcc_ir.specs.declared.syntax.Loc.{Loc}
-use Rattle.dcc_ir.specs.declared.syntax.Loc.TheVariants.{Half, Flag, Cell, Temp}
-use Rattle.dcc_ir.specs.Location.{location_width}
 use Rattle.dcc_ir.specs.Tree as inner
-use Rattle.dcc_ir.specs.Use.{parts_of, exprs_of, exit_exprs}
 use Rattle.dcc_ir.specs.Measure.{depth_of}
-use Rattle.dcc_ir.specs.WellFormed.{is_location, is_expr, is_expr_of, is_byte_place, is_stmt, is_exit}
-use Rattle.dcc_ir.specs.Value.{width_of}
+use Rattle.dcc_ir.specs.WellFormed.{is_expr}
 use Rattle.dcc_lift.specs.Temporaries.{temporary_bits}
-use Rattle.dcc_lift.specs.Form.{is_lifted_location, is_lifted_half, is_lifted_part, is_lifted_expr, is_lifted_stmt, is_lifted_exit}
+use Rattle.dcc_lift.specs.Form.{is_lifted_expr}
 use Rattle.dcc_c.specs.declared.syntax.Base.TheVariants.{Uchar}
 use Rattle.dcc_c.specs.declared.syntax.Base.{Base}
 use Rattle.dcc_c.specs.declared.syntax.CType.{CType}
 use Rattle.dcc_c.specs.Types.{plain, same_type}
-use Rattle.dcc_c.specs.Tree.{Word, Expr, Name, Stmt, Assign, Call, If, Goto, Label, Empty, Lines, no_lines, line, Function, Tree}
+use Rattle.dcc_c.specs.Tree.{Word, Expr, Stmt, Assign, Call, If, Goto, Label, Empty, Function, Tree}
 use Rattle.dcc_c.specs.Parts.{stmts_in, inner_stmts}
 use Rattle.dcc_c.specs.Grammar.{is_name, is_among, outermost}
 use Rattle.dcc_c.specs.Typing.{Declared, type_of, place_type, type_of_variable}
 use Rattle.dcc_c.specs.Rules.{signature_in, call_fits, place_takes, declared_in, goto_of, converts, fits, is_number, allows_stmt, shallow_stmt, expr_depth}
 use Rattle.dcc_c.specs.Value.{declared_by}
 use Rattle.dcc_c.proofs.Writable.{is_small, is_label, is_writable_expr, is_writable_place, is_writable_stmt, are_writable_lines}
-use Rattle.dcc_pipe.specs.Variables.{variable_name}
-use Rattle.dcc_pipe.specs.GotoExpr.{small, text_expr}
-use Rattle.dcc_pipe.specs.GotoText.{place_of, label_name, label_at, text_stmt, text_exit, text_block, uncounted, flag_cut}
+use Rattle.dcc_pipe.specs.GotoExpr.{text_expr}
+use Rattle.dcc_pipe.specs.GotoText.{place_of, uncounted}
 use Rattle.dcc_pipe.proofs.Places.{IsPlace, bindings_of, variable-declared}
-use Rattle.dcc_pipe.proofs.SpelledExprs.{IsSpelled, deeper}
 use Rattle.dcc_pipe.proofs.SpelledText.{zeros, name-is, expr-typed, expr-spelled}
 
 -- what the variables of the text are declared as

@@ -1,18 +1,18 @@
 -- The run of a lifted program and that of its text follow each other.
-use Rattle.std.proofs.Common.{◌≡◌, ◌≢◌, ℕ, zero, suc, ◌+◌, ◌*◌, ◌%◌, ◌^◌, ◌<◌, ◌≤◌, Bool, true, false, List, [], ◌∷◌, ◌++◌, length, map, Option, Some, None, refl, sym, ap, ap₂, ◌∙◌, subst, arith, append_assoc, mod-eq_of_lt, mod-lt}
-use Rattle.std.specs.Prelude.{nat_lt, nat_le, slice_get, All, codes, if◌then◌else◌}
+use Rattle.std.proofs.Common.{◌≡◌, ◌≢◌, ℕ, zero, suc, ◌+◌, ◌*◌, ◌%◌, ◌<◌, ◌≤◌, Bool, true, false, List, [], ◌∷◌, ◌++◌, length, map, Some, None, refl, sym, ap, ap₂, ◌∙◌, subst, arith, mod-lt}
+use Rattle.std.specs.Prelude.{nat_le, slice_get, All, if◌then◌else◌}
 use Rattle.std.specs.List.{flat_map, list_all}
 use Rattle.std.proofs.lemmas.Nat.{pow_pos}
-use Rattle.std.proofs.lemmas.List.{append-nil, length-append, length-map}
+use Rattle.std.proofs.lemmas.List.{length-append, length-map}
 use Rattle.std.proofs.lemmas.Bool.{and_parts}
-use Rattle.dcc_run.specs.End.{End, Running, Stuck, is_over}
-use Rattle.dcc_run.specs.System.{System, after, end_after}
+use Rattle.dcc_run.specs.End.{Running, Stuck, is_over}
+use Rattle.dcc_run.specs.System.{after, end_after}
 use Rattle.dcc_run.specs.Follows.{Follows}
 use Rattle.dcc_num.specs.declared.FlagName.TheVariants.{Cf, Zf, Sf, Of}
 use Rattle.dcc_ir.specs.declared.syntax.Loc.{Loc}
-use Rattle.dcc_ir.specs.declared.syntax.Loc.TheVariants.{Half, Flag, Cell, Temp}
+use Rattle.dcc_ir.specs.declared.syntax.Loc.TheVariants.{Flag}
 use Rattle.dcc_ir.specs.declared.syntax.Param.{Param}
-use Rattle.dcc_ir.specs.Location.{location_width, Values, with_value, fill_at, filled}
+use Rattle.dcc_ir.specs.Location.{location_width, Values, with_value, filled}
 use Rattle.dcc_ir.specs.Tree as inner
 use Rattle.dcc_ir.specs.WellFormed.{all_differ, is_block}
 use Rattle.dcc_ir.specs.Run as run
@@ -24,21 +24,19 @@ use Rattle.dcc_c.specs.declared.syntax.Base.TheVariants.{Int}
 use Rattle.dcc_c.specs.Types.{convert}
 use Rattle.dcc_c.specs.Tree.{Stmt, Lines, no_lines, line, Function, Tree}
 use Rattle.dcc_c.specs.Placement.{param_places, local_places}
-use Rattle.dcc_c.specs.Numbered.{numbered, numbered_function}
 use Rattle.dcc_c.specs.Run as c
 use Rattle.dcc_c.specs.Run.{ends_function, text_system}
-use Rattle.dcc_c.specs.Value.{Binding}
 use Rattle.dcc_c.proofs.RunLaws.{text_lawful}
 use Rattle.dcc_pipe.specs.Variables.{locations, variable, flags, unsigned_type}
-use Rattle.dcc_pipe.specs.GotoText.{label_name, text_stmt, text_block, text_graph, text_stmts, flag_cut, goto_start, goto_tree}
+use Rattle.dcc_pipe.specs.GotoText.{label_name, text_stmt, text_block, flag_cut}
 use Rattle.dcc_pipe.proofs.FollowLaws.{Always}
 use Rattle.dcc_pipe.proofs.LeapLaws.{leap-follows, leap-leads, related-after}
-use Rattle.dcc_pipe.proofs.Places.{IsPlace, AtEach, at-place, bound, bindings_of}
+use Rattle.dcc_pipe.proofs.Places.{IsPlace, bound, bindings_of}
 use Rattle.dcc_pipe.proofs.ExprMeanings.{AreHeld}
 use Rattle.dcc_pipe.proofs.TextSteps.{text, text_state, flag-step}
-use Rattle.dcc_pipe.proofs.HeldLaws.{AreBytes, bytes-of}
-use Rattle.dcc_pipe.proofs.Lined.{IsCounted, unchanged, AreLined, no_more, one_more, IsFlat, flat, AreFlat, none_flat, more_flat, flat-append, counted-lined, blocks-flat, Passes, passed, passes, behind, Lands, AreBelow, land}
-use Rattle.dcc_pipe.proofs.BlockRuns.{IsGood, graph, program, inner_state, IsUnstuck, IsAt, at-leaps, at-alike}
+use Rattle.dcc_pipe.proofs.HeldLaws.{bytes-of}
+use Rattle.dcc_pipe.proofs.Lined.{IsCounted, unchanged, AreLined, one_more, IsFlat, flat, AreFlat, none_flat, more_flat, flat-append, blocks-flat, Passes, passed, passes, behind, Lands, AreBelow, land}
+use Rattle.dcc_pipe.proofs.BlockRuns.{IsGood, IsAt, at-leaps, at-alike}
 
 -- The variables at the start.
 

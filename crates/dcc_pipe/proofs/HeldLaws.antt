@@ -1,13 +1,12 @@
 -- Locations hold numbers of their widths, and the input has bytes.
-use Rattle.std.proofs.Common.{◌≡◌, ℕ, zero, suc, ◌<◌, ◌^◌, inl, inr, Bool, true, false, ◌==◌, List, [], ◌∷◌, Option, Some, None, refl, sym, ap, ◌∙◌, subst, true≢false, arith}
-use Rattle.std.specs.Prelude.{◌&&◌, if◌then◌else◌, slice_get, length, All}
+use Rattle.std.proofs.Common.{◌≡◌, ℕ, zero, suc, ◌<◌, ◌^◌, inl, inr, true, List, [], ◌∷◌, Some, refl, sym, ap, subst, true≢false, arith}
+use Rattle.std.specs.Prelude.{slice_get, length, All}
 use Rattle.std.proofs.lemmas.Bool.{eqb-true, cases_Bool}
 use Rattle.std.proofs.lemmas.List.Elements.{All-head, All-tail}
 use Rattle.dcc_ir.specs.declared.syntax.Loc.{Loc}
 use Rattle.dcc_ir.specs.declared.syntax.Loc.TheVariants.{Half, Flag, Cell, Temp}
 use Rattle.dcc_ir.specs.Location.{same_location, location_width, Values, with_value}
 use Rattle.dcc_lift.specs.Temporaries.{temporary_bits}
-use Rattle.dcc_pipe.proofs.Places.{IsPlace}
 use Rattle.dcc_pipe.proofs.ExprMeanings.{AreHeld}
 use Rattle.dcc_pipe.proofs.TextSteps.{key_of, left_of}
 

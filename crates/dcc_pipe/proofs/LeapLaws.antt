@@ -1,11 +1,11 @@
 -- Where one step of a run stands for several of another, each of the two follows the other.
-use Rattle.std.proofs.Common.{◌≡◌, ◌≢◌, ℕ, zero, suc, ◌+◌, ◌*◌, ◌-◌, ◌≤◌, ◌<◌, inl, inr, Bool, true, false, refl, sym, ap, ◌∙◌, subst, true≢false, arith, suc-mul}
+use Rattle.std.proofs.Common.{◌≡◌, ℕ, zero, suc, ◌+◌, ◌*◌, ◌-◌, ◌≤◌, inl, inr, true, false, sym, ap, ◌∙◌, subst, true≢false, arith, suc-mul}
 use Rattle.std.proofs.lemmas.Bool.{cases_lt}
-use Rattle.dcc_run.specs.End.{End, is_over}
+use Rattle.dcc_run.specs.End.{is_over}
 use Rattle.dcc_run.specs.Prefix.{IsPrefix}
 use Rattle.dcc_run.specs.System.{System, after, IsLawful, out_after, end_after}
 use Rattle.dcc_run.specs.Follows.{Follows, Stands}
-use Rattle.dcc_run.specs.Gathers.{AreOverAlike, GoOn, still_related, both_over}
+use Rattle.dcc_run.specs.Gathers.{GoOn, still_related, both_over}
 use Rattle.dcc_run.proofs.PrefixLaws.{prefix_refl}
 use Rattle.dcc_run.proofs.RunLaws.{after-add, after-over, out_grows}
 use Rattle.dcc_pipe.proofs.FollowLaws.{Always, Reaches, follows_from_reaches}

@@ -1,10 +1,10 @@
 -- The text of what is lifted from an image agrees with the image.
-use Rattle.std.proofs.Common.{◌≡◌, ◌≢◌, ℕ, zero, suc, ◌+◌, ◌*◌, ◌^◌, ◌<◌, ◌≤◌, Bool, true, false, List, [], ◌∷◌, ◌++◌, length, map, Option, Some, None, refl, sym, ap, ◌∙◌, subst, true≢false, arith, add-one, mul-le-mul_left, mul-add}
+use Rattle.std.proofs.Common.{◌≡◌, ◌≢◌, ℕ, suc, ◌+◌, ◌*◌, ◌^◌, ◌<◌, ◌≤◌, true, false, List, [], ◌∷◌, ◌++◌, length, map, Some, refl, sym, ap, ◌∙◌, subst, arith, add-one, mul-le-mul_left, mul-add}
 use Rattle.std.specs.Prelude.{All}
 use Rattle.std.specs.List.{flat_map}
 use Rattle.std.proofs.lemmas.List.{append-nil}
-use Rattle.dcc_run.specs.End.{End, Stuck, is_over}
-use Rattle.dcc_run.specs.System.{System, after, end_after}
+use Rattle.dcc_run.specs.End.{Stuck, is_over}
+use Rattle.dcc_run.specs.System.{after, end_after}
 use Rattle.dcc_run.specs.Follows.{Follows}
 use Rattle.dcc_prog.specs.declared.image.Image.{Image}
 use Rattle.dcc_prog.specs.declared.procedure.Layout.{Layout}
@@ -20,20 +20,20 @@ use Rattle.dcc_ir.specs.Run as run
 use Rattle.dcc_ir.proofs.RunLaws.{inner_lawful}
 use Rattle.dcc_lift.specs.Temporaries.{temporary_bits}
 use Rattle.dcc_lift.specs.Lifted.{IsLifted, IsLiftOf, has_block_at, instruction_mark, offset_mark}
-use Rattle.dcc_c.specs.Tree.{Stmt, Lines, no_lines, line, Function, Tree}
+use Rattle.dcc_c.specs.Tree.{Stmt, Lines, Function, Tree}
 use Rattle.dcc_c.specs.Numbered.{numbered, numbered_function}
 use Rattle.dcc_c.specs.Run as c
 use Rattle.dcc_c.specs.Run.{text_system}
 use Rattle.dcc_c.specs.Text.{StandsFor}
 use Rattle.dcc_c.proofs.RunLaws.{text_lawful}
-use Rattle.dcc_pipe.specs.Variables.{flags, locations, variable}
+use Rattle.dcc_pipe.specs.Variables.{flags}
 use Rattle.dcc_pipe.specs.GotoText.{flag_cut, text_block, text_graph, text_stmts, goto_start, goto_tree}
-use Rattle.dcc_pipe.specs.Agreement.{IsClean, RunsAgree}
+use Rattle.dcc_pipe.specs.Agreement.{RunsAgree}
 use Rattle.dcc_pipe.proofs.FollowLaws.{Always, follows_trans, follows_wider}
 use Rattle.dcc_pipe.proofs.VisitFollows.{visits-follow}
 use Rattle.dcc_pipe.proofs.Lined.{AreLined, no_more, one_more, AreFlat, none_flat, flat-append, counted-lined, blocks-flat}
 use Rattle.dcc_pipe.proofs.TokenCounts.{count_of, unit-count}
-use Rattle.dcc_pipe.proofs.GotoRuns.{flags-flat, goto_stmts, IsGotoStart, goto_program, goto_text, statements, text-follows, text-leads, goto-marked}
+use Rattle.dcc_pipe.proofs.GotoRuns.{flags-flat, goto_stmts, IsGotoStart, text-follows, text-leads, goto-marked}
 use Rattle.dcc_pipe.proofs.LiftedGraph.{lifted-goto}
 
 -- as many lines as statements

@@ -1,15 +1,15 @@
 -- Statements in lines, whatever the lines, and where a jump leads among them.
-use Rattle.std.proofs.Common.{◌≡◌, ℕ, zero, suc, ◌+◌, ◌<◌, ◌≤◌, Bool, true, false, ◌==◌, List, [], ◌∷◌, ◌++◌, map, Option, Some, None, refl, sym, ap, ap₂, ◌∙◌, subst, true≢false, arith}
-use Rattle.std.specs.Prelude.{◌&&◌, ◌||◌, not, if◌then◌else◌, slice_get}
-use Rattle.std.specs.List.{flat_map, list_any, list_all}
-use Rattle.std.proofs.lemmas.Bool.{and_parts, cases_Bool, eqb-true, eq-eqb, or_left, or_right, not-true}
+use Rattle.std.proofs.Common.{◌≡◌, ℕ, zero, suc, ◌<◌, true, false, ◌==◌, List, [], ◌∷◌, ◌++◌, map, Some, None, refl, sym, ap, ◌∙◌, subst, true≢false}
+use Rattle.std.specs.Prelude.{not, if◌then◌else◌, slice_get}
+use Rattle.std.specs.List.{flat_map, list_any}
+use Rattle.std.proofs.lemmas.Bool.{and_parts, eq-eqb, or_left, or_right, not-true}
 use Rattle.dcc_ir.specs.Tree as inner
 use Rattle.dcc_ir.specs.WellFormed.{all_differ}
 use Rattle.dcc_c.specs.Token.{same_bytes}
-use Rattle.dcc_c.specs.Tree.{Word, Expr, Stmt, Assign, Call, If, Goto, Label, Empty, Lines, no_lines, line}
+use Rattle.dcc_c.specs.Tree.{Word, Expr, Stmt, If, Goto, Label, Lines, no_lines, line}
 use Rattle.dcc_c.specs.Numbered.{numbered_stmt, numbered_lines}
 use Rattle.dcc_c.specs.Run.{Continuation, runs, first_of, from_label, from_label_inside}
-use Rattle.dcc_pipe.specs.GotoText.{label_name, label_at, text_stmt, text_exit, text_block, uncounted, jump}
+use Rattle.dcc_pipe.specs.GotoText.{label_name, text_stmt, text_exit, text_block, uncounted}
 use Rattle.dcc_pipe.proofs.LabelLaws.{same-itself, labels-differ}
 
 -- the same statement, but for the lines inside it

@@ -1,20 +1,19 @@
 -- What an expression of a text means: its type and its value.
-use Rattle.std.proofs.Common.{◌≡◌, ℕ, ◌+◌, ◌*◌, ◌%◌, ◌^◌, ◌<◌, ◌≤◌, Bool, true, false, List, map, Option, Some, None, refl, sym, ap, ◌∙◌, subst, arith, mod-eq_of_lt}
-use Rattle.std.specs.Prelude.{if◌then◌else◌, bit_and}
+use Rattle.std.proofs.Common.{◌≡◌, ℕ, ◌%◌, ◌^◌, ◌<◌, ◌≤◌, true, map, Some, None, refl, sym, ap, ◌∙◌, subst, arith, mod-eq_of_lt}
+use Rattle.std.specs.Prelude.{bit_and}
 use Rattle.std.proofs.lemmas.Nat.{and_mask}
 use Rattle.std.proofs.lemmas.Bool.Decides.{nat_tests}
 use Rattle.dcc_c.specs.declared.syntax.Base.{Base}
-use Rattle.dcc_c.specs.declared.syntax.Base.TheVariants.{Schar, Uchar, Int, Uint, Long, Ulong}
+use Rattle.dcc_c.specs.declared.syntax.Base.TheVariants.{Uchar, Int, Uint, Ulong}
 use Rattle.dcc_c.specs.declared.syntax.CUn.{CUn}
 use Rattle.dcc_c.specs.declared.syntax.CBin.{CBin}
 use Rattle.dcc_c.specs.declared.syntax.CBin.TheVariants.{And as BitAnd}
-use Rattle.dcc_c.specs.Types.{bits_of, promoted_type, common_type, wrapped_bits, extended_bits, convert, plain}
-use Rattle.dcc_c.specs.Tree.{Expr, Number, Unary, Binary, Cast}
+use Rattle.dcc_c.specs.Types.{bits_of, common_type, extended_bits, convert, plain}
+use Rattle.dcc_c.specs.Tree.{Expr, Binary, Cast}
 use Rattle.dcc_c.specs.Typing.{type_of, both_types, numbers_type}
 use Rattle.dcc_c.specs.Value.{Value, number, converted, Outcome, Gives, and_then, Scope, declared_by, both_values, numbers_value, unary_value, value_of}
-use Rattle.dcc_pipe.specs.Variables.{unsigned_type}
 use Rattle.dcc_pipe.specs.GotoExpr.{small, cut, wrapped}
-use Rattle.dcc_pipe.proofs.Sizes.{Size, bit, byte, word, long, bits, holds, reckons, common-is, promoted-is, small-extended, kept}
+use Rattle.dcc_pipe.proofs.Sizes.{Size, bit, byte, word, long, bits, holds, reckons, common-is, kept}
 
 -- the expression has the type, and its value these bits
 pub record IsNumber (scope : Scope) (base : Base) (n : ℕ) (e : Expr) : Type 0 where

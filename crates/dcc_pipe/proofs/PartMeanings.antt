@@ -1,13 +1,11 @@
 -- Numbers of another size: widened ones, parts, and two halves that are joined; and a choice between two numbers.
-use Rattle.std.proofs.Common.{◌≡◌, ℕ, zero, suc, ◌+◌, ◌-◌, ◌*◌, ◌/◌, ◌%◌, ◌^◌, ◌<◌, ◌≤◌, ◌⊎◌, inl, inr, Bool, true, false, map, Option, Some, None, refl, sym, ap, ap₂, ◌∙◌, subst, true≢false, arith, mod-eq_of_lt}
+use Rattle.std.proofs.Common.{◌≡◌, ℕ, zero, suc, ◌+◌, ◌*◌, ◌/◌, ◌%◌, ◌^◌, ◌<◌, ◌≤◌, ◌⊎◌, inl, inr, Bool, true, false, map, Some, refl, sym, ap, ap₂, ◌∙◌, subst, true≢false, arith, mod-eq_of_lt}
 use Rattle.std.specs.Prelude.{if◌then◌else◌, ◌==◌, bit_or}
 use Rattle.std.proofs.lemmas.Bool.{cases_Bool, eqb-true}
-use Rattle.std.proofs.lemmas.Bool.Decides.{nat_tests}
 use Rattle.std.proofs.lemmas.Nat.{or_shifted, shr_le}
 use Rattle.dcc_ir.specs.Value.{signed_at, pattern_at}
 use Rattle.dcc_c.specs.declared.syntax.Base.{Base}
-use Rattle.dcc_c.specs.declared.syntax.Base.TheVariants.{Schar, Uchar, Int, Uint, Long, Ulong}
-use Rattle.dcc_c.specs.declared.syntax.CType.{CType}
+use Rattle.dcc_c.specs.declared.syntax.Base.TheVariants.{Uchar, Int, Uint, Ulong}
 use Rattle.dcc_c.specs.declared.syntax.CBin.TheVariants.{Or, Shl, Shr}
 use Rattle.dcc_c.specs.Types.{bits_of, promoted_type, common_type, extended_bits, convert, plain}
 use Rattle.dcc_c.specs.Arithmetic.{shifted_left, shifted_right}
@@ -16,7 +14,7 @@ use Rattle.dcc_c.specs.Typing.{type_of, both_arms_type, tested_type}
 use Rattle.dcc_c.specs.Value.{Value, number, converted, Outcome, Gives, and_then, Scope, declared_by, chosen, value_of}
 use Rattle.dcc_pipe.specs.Variables.{unsigned_type}
 use Rattle.dcc_pipe.specs.GotoExpr.{small, cut, signed_reading, widened, part_expr, joined}
-use Rattle.dcc_pipe.proofs.Sizes.{Size, bit, byte, word, long, bits, holds, reckons, promoted-is, common-is, small-positive, small-extended, is-positive, extended-is, kept}
+use Rattle.dcc_pipe.proofs.Sizes.{Size, bit, byte, word, long, bits, holds, reckons, promoted-is, common-is, small-positive, is-positive, extended-is, kept}
 use Rattle.dcc_pipe.proofs.Meanings.{IsNumber, Means, binary-valued, binary-typed, small-number, cast-number, cut-means}
 use Rattle.dcc_pipe.proofs.Reckoning.{shifting-number}
 use Rattle.dcc_pipe.proofs.SumMeanings.{plain-means}

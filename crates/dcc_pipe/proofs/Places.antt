@@ -1,6 +1,5 @@
 -- The locations of a lifted program, one by one.
-use Rattle.std.proofs.Common.{◌≡◌, ℕ, zero, suc, ◌+◌, ◌<◌, true, false, List, [], ◌∷◌, map, Option, Some, refl, sym, ap, ◌∙◌, subst, true≢false, arith}
-use Rattle.std.specs.Prelude.{nat_lt, length}
+use Rattle.std.proofs.Common.{◌≡◌, ℕ, zero, suc, ◌<◌, true, false, List, map, Some, refl, sym, true≢false, arith}
 use Rattle.std.specs.Fmt.{digits}
 use Rattle.std.proofs.lemmas.Bool.{ltb-true}
 use Rattle.dcc_num.specs.declared.Reg.TheVariants.{Ax, Cx, Dx, Bx, Sp, Bp, Si, Di}
@@ -13,7 +12,6 @@ use Rattle.dcc_ir.specs.WellFormed.{is_location}
 use Rattle.dcc_lift.specs.Temporaries.{temporary_bits}
 use Rattle.dcc_lift.specs.Form.{is_lifted_location}
 use Rattle.dcc_c.specs.Types.{plain}
-use Rattle.dcc_c.specs.Tree.{Word, Name}
 use Rattle.dcc_c.specs.Typing.{declared_as}
 use Rattle.dcc_c.specs.Value.{Value, converted, Unplaced, Binding, variable_in, after_assignment, Scope, declared_by}
 use Rattle.dcc_pipe.specs.Variables.{locations, variable_name, unsigned_type}

@@ -1,25 +1,16 @@
 -- Operators of a text on numbers of one size: their types and values.
-use Rattle.std.proofs.Common.{◌≡◌, ℕ, ◌+◌, ◌-◌, ◌*◌, ◌%◌, ◌^◌, ◌<◌, Bool, true, false, map, Some, refl, sym, ap, ◌∙◌, subst, arith}
-use Rattle.std.specs.Prelude.{if◌then◌else◌, not, ◌==◌, bit_and, bit_or, bit_xor}
+use Rattle.std.proofs.Common.{◌≡◌, ℕ, Bool, true, false, Some, refl, ap, ◌∙◌}
+use Rattle.std.specs.Prelude.{if◌then◌else◌}
 use Rattle.std.specs.Int.{from_bool}
-use Rattle.std.proofs.lemmas.Nat.{and_le_l, or_lt, xor_lt}
-use Rattle.std.proofs.lemmas.Bool.Decides.{nat_tests}
-use Rattle.dcc_ir.specs.declared.syntax.UnOp.TheVariants.{Neg, Not as NotOp, IsZero}
-use Rattle.dcc_ir.specs.declared.syntax.BinOp.TheVariants.{Add as AddOp, Sub as SubOp, Mul as MulOp, And as AndOp, Or as OrOp, Xor as XorOp}
-use Rattle.dcc_ir.specs.Value as inner
 use Rattle.dcc_c.specs.declared.syntax.Base.{Base}
-use Rattle.dcc_c.specs.declared.syntax.Base.TheVariants.{Uchar, Int, Uint, Ulong}
-use Rattle.dcc_c.specs.declared.syntax.CUn.TheVariants.{Minus, Complement}
+use Rattle.dcc_c.specs.declared.syntax.Base.TheVariants.{Int}
 use Rattle.dcc_c.specs.declared.syntax.CBin.{CBin}
-use Rattle.dcc_c.specs.declared.syntax.CBin.TheVariants.{Or, Xor, And, Add, Sub, Mul}
-use Rattle.dcc_c.specs.Types.{bits_of, promoted_type, common_type, wrapped_bits, convert, plain}
-use Rattle.dcc_c.specs.Arithmetic.{difference}
-use Rattle.dcc_c.specs.Tree.{Expr, Unary, Binary}
+use Rattle.dcc_c.specs.Types.{promoted_type, common_type, convert, plain}
+use Rattle.dcc_c.specs.Tree.{Expr, Binary}
 use Rattle.dcc_c.specs.Typing.{numbers_type}
-use Rattle.dcc_c.specs.Value.{Value, number, truth, Outcome, Gives, and_then, Scope, both_values, numbers_value, value_of}
-use Rattle.dcc_pipe.specs.GotoExpr.{small, wrapped, unary_expr, binary_expr}
-use Rattle.dcc_pipe.proofs.Sizes.{Size, bit, byte, word, long, bits, holds, reckons, common-is, promoted-is, kept}
-use Rattle.dcc_pipe.proofs.Meanings.{IsNumber, Means, binary-valued, binary-typed, small-number, wrapped-means, reckoned}
+use Rattle.dcc_c.specs.Value.{number, truth, Gives, and_then, Scope, both_values, numbers_value, value_of}
+use Rattle.dcc_pipe.proofs.Sizes.{Size, reckons, common-is}
+use Rattle.dcc_pipe.proofs.Meanings.{IsNumber, Means, binary-valued, binary-typed, reckoned}
 
 -- the operator evaluates both operands
 pub record IsEager (operator : CBin) : Type 0 where

@@ -1,5 +1,5 @@
 -- Shifts.
-use Rattle.std.proofs.Common.{◌≡◌, ℕ, suc, ◌+◌, ◌-◌, ◌*◌, ◌/◌, ◌%◌, ◌^◌, ◌<◌, ◌≤◌, inl, inr, lit<, add-zero, ◌⊎◌, Bool, true, false, map, Some, refl, sym, ap, ap₂, ◌∙◌, subst, true≢false, arith, mod-eq_of_lt, ℤ, pos, negsuc}
+use Rattle.std.proofs.Common.{◌≡◌, ℕ, ◌+◌, ◌-◌, ◌*◌, ◌/◌, ◌%◌, ◌^◌, ◌<◌, ◌≤◌, inl, inr, lit<, add-zero, ◌⊎◌, true, false, refl, sym, ap, ◌∙◌, subst, arith}
 use Rattle.std.specs.Prelude.{◌||◌, if◌then◌else◌, nat_le}
 use Rattle.std.proofs.lemmas.Bool.{cases_lt, le-leb, lt-leb}
 use Rattle.std.proofs.lemmas.Nat.{pow_pos, pow-add, mod_low, shr_le}
@@ -9,18 +9,17 @@ use Rattle.dcc_ir.specs.declared.syntax.BinOp.TheVariants.{Shl as ShlOp, Shr as 
 use Rattle.dcc_ir.specs.Value as inner
 use Rattle.dcc_ir.specs.Value.{signed_at, pattern_at}
 use Rattle.dcc_c.specs.declared.syntax.Base.{Base}
-use Rattle.dcc_c.specs.declared.syntax.Base.TheVariants.{Schar, Uchar, Int, Uint, Long, Ulong}
 use Rattle.dcc_c.specs.declared.syntax.CBin.TheVariants.{Shl, Shr}
-use Rattle.dcc_c.specs.Types.{bits_of, promoted_type, is_negative, extended_bits, convert, plain}
+use Rattle.dcc_c.specs.Types.{bits_of, promoted_type, is_negative, extended_bits, convert}
 use Rattle.dcc_c.specs.Arithmetic.{complement, is_past, shifted_left, shifted_right}
 use Rattle.dcc_c.specs.Tree.{Expr, Binary}
 use Rattle.dcc_c.specs.Value.{Scope}
-use Rattle.dcc_pipe.specs.GotoExpr.{signed_reading, cut, wrapped, binary_expr}
+use Rattle.dcc_pipe.specs.GotoExpr.{signed_reading, cut, binary_expr}
 use Rattle.dcc_pipe.proofs.Sizes.{Size, bit, byte, word, long, bits, holds, reckons, promoted-is, is-positive, kept}
 use Rattle.dcc_pipe.proofs.Meanings.{IsNumber, Means, cut-means}
-use Rattle.dcc_pipe.proofs.Reckoning.{IsEager, Shifts, shifting-number}
+use Rattle.dcc_pipe.proofs.Reckoning.{Shifts, shifting-number}
 use Rattle.dcc_pipe.proofs.SumMeanings.{twice-means, plain-means}
-use Rattle.dcc_pipe.proofs.SignedMeanings.{reading_type, reading_bits, signed_reckons, signed_bits, reading-number, reading-converted, promoted-reading, Sign, positive, negative, sign-of}
+use Rattle.dcc_pipe.proofs.SignedMeanings.{reading_type, reading_bits, signed_reckons, signed_bits, reading-number, reading-converted, promoted-reading, positive, negative, sign-of}
 
 pub shl-shifts : Shifts Shl shifted_left
 shl-shifts = record { eager = record { eager = λ s e g. refl }; typing = λ a b. refl; valuing = λ a b n m. refl }

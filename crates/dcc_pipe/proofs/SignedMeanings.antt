@@ -1,18 +1,16 @@
 -- Numbers read with a sign.
-use Rattle.std.proofs.Common.{◌≡◌, ℕ, ◌+◌, ◌-◌, ◌*◌, ◌%◌, ◌^◌, ◌<◌, ◌≤◌, inl, inr, Bool, true, false, map, Some, refl, sym, ap, ◌∙◌, subst, true≢false, arith, mod-eq_of_lt, ℤ, pos, negsuc}
-use Rattle.std.specs.Prelude.{if◌then◌else◌, nat_le, int_lt, int_le}
+use Rattle.std.proofs.Common.{◌≡◌, ℕ, ◌+◌, ◌-◌, ◌%◌, ◌^◌, ◌<◌, ◌≤◌, inl, inr, refl, ap, ◌∙◌, subst, arith, mod-eq_of_lt, pos, negsuc}
+use Rattle.std.specs.Prelude.{if◌then◌else◌, nat_le}
 use Rattle.std.proofs.lemmas.Bool.{cases_lt, le-leb, lt-leb}
 use Rattle.std.proofs.lemmas.Bool.Decides.{nat_tests}
-use Rattle.std.proofs.lemmas.Int.{ints}
 use Rattle.dcc_ir.specs.Value.{signed_at, pattern_at}
 use Rattle.dcc_c.specs.declared.syntax.Base.{Base}
-use Rattle.dcc_c.specs.declared.syntax.Base.TheVariants.{Schar, Uchar, Int, Uint, Long, Ulong}
+use Rattle.dcc_c.specs.declared.syntax.Base.TheVariants.{Schar, Int, Long}
 use Rattle.dcc_c.specs.Types.{bits_of, promoted_type, extended_bits, convert, plain}
 use Rattle.dcc_c.specs.Tree.{Expr, Cast}
 use Rattle.dcc_c.specs.Value.{Scope}
-use Rattle.dcc_pipe.specs.Variables.{unsigned_type}
 use Rattle.dcc_pipe.specs.GotoExpr.{signed_reading}
-use Rattle.dcc_pipe.proofs.Sizes.{Size, bit, byte, word, long, bits, holds, extended-is}
+use Rattle.dcc_pipe.proofs.Sizes.{Size, bit, byte, word, long, bits, extended-is}
 use Rattle.dcc_pipe.proofs.Meanings.{IsNumber, Means, cast-number}
 use Rattle.dcc_pipe.proofs.SumMeanings.{negated-number}
 

@@ -1,10 +1,10 @@
 -- The widths of expressions, and the number types in which a text holds numbers of these widths.
-use Rattle.std.proofs.Common.{◌≡◌, ℕ, ◌+◌, ◌-◌, ◌*◌, ◌%◌, ◌^◌, ◌<◌, ◌≤◌, Bool, true, false, ◌==◌, inl, inr, refl, sym, ap, ◌∙◌, subst, true≢false, arith, mod-eq_of_lt}
-use Rattle.std.specs.Prelude.{◌||◌, ◌&&◌, if◌then◌else◌, nat_le}
+use Rattle.std.proofs.Common.{◌≡◌, ℕ, ◌+◌, ◌-◌, ◌%◌, ◌^◌, ◌<◌, Bool, true, false, ◌==◌, inl, inr, refl, sym, ap, ◌∙◌, true≢false, arith, mod-eq_of_lt}
+use Rattle.std.specs.Prelude.{◌||◌, if◌then◌else◌}
 use Rattle.std.proofs.lemmas.Bool.{eqb-true, cases_Bool, lt-leb}
 use Rattle.dcc_ir.specs.WellFormed.{is_width}
 use Rattle.dcc_c.specs.declared.syntax.Base.{Base}
-use Rattle.dcc_c.specs.declared.syntax.Base.TheVariants.{Schar, Uchar, Int, Uint, Long, Ulong}
+use Rattle.dcc_c.specs.declared.syntax.Base.TheVariants.{Uchar, Int, Uint, Ulong}
 use Rattle.dcc_c.specs.Types.{bits_of, promoted_type, common_type, is_negative, extended_bits, convert}
 
 -- the widths

@@ -1,20 +1,11 @@
 -- The expressions of a lifted program's text have spellings, and few levels.
-use Rattle.std.proofs.Common.{◌≡◌, ℕ, zero, suc, ◌+◌, ◌*◌, ◌^◌, ◌<◌, ◌≤◌, ◌⊎◌, inl, inr, Bool, true, false, ◌==◌, List, [], ◌∷◌, ◌++◌, max, refl, sym, ap, ◌∙◌, subst, true≢false, arith}
-use Rattle.std.specs.Prelude.{◌&&◌, ◌||◌, not, nat_lt, nat_le, if◌then◌else◌}
-use Rattle.std.specs.List.{list_all}
-use Rattle.std.proofs.lemmas.Bool.{and_parts, and_from, cases_Bool, cases_lt, le-leb, lt-leb, ltb-true}
-use Rattle.std.proofs.lemmas.List.Folds.{list_all-append}
+use Rattle.std.proofs.Common.{◌≡◌, ℕ, suc, ◌+◌, ◌^◌, ◌<◌, ◌≤◌, Bool, true, false, ◌==◌, max, refl, sym, ap, true≢false, arith}
+use Rattle.std.specs.Prelude.{◌&&◌, ◌||◌, nat_le, if◌then◌else◌}
+use Rattle.std.proofs.lemmas.Bool.{and_from, le-leb}
 use Rattle.dcc_ir.specs.declared.syntax.UnOp.{UnOp}
 use Rattle.dcc_ir.specs.declared.syntax.UnOp.TheVariants.{Neg, Not, IsZero}
 use Rattle.dcc_ir.specs.declared.syntax.BinOp.{BinOp}
 use Rattle.dcc_ir.specs.declared.syntax.BinOp.TheVariants.{Add, Sub, Mul, DivS, DivU, RemS, RemU, And, Or, Xor, Shl, Shr, Sar, Eq, LtS, LtU, LeS, LeU}
-use Rattle.dcc_ir.specs.Tree as inner
-use Rattle.dcc_ir.specs.Use.{parts_of}
-use Rattle.dcc_ir.specs.Measure.{depth_of}
-use Rattle.dcc_ir.specs.WellFormed.{is_width, is_expr, is_location, is_division, divides_safely}
-use Rattle.dcc_ir.specs.Value.{width_of}
-use Rattle.dcc_lift.specs.Temporaries.{temporary_bits}
-use Rattle.dcc_lift.specs.Form.{is_lifted_location, is_lifted_part}
 use Rattle.dcc_c.specs.declared.syntax.Base.{Base}
 use Rattle.dcc_c.specs.declared.syntax.Base.TheVariants.{Int, Uint, Long, Ulong}
 use Rattle.dcc_c.specs.declared.syntax.CUn.TheVariants.{Minus, Complement}
@@ -22,15 +13,13 @@ use Rattle.dcc_c.specs.declared.syntax.CBin.{CBin}
 use Rattle.dcc_c.specs.declared.syntax.CBin.TheVariants.{And as BitAnd, Xor as BitXor, Shr as ShiftRight}
 use Rattle.dcc_c.specs.Token.{plain_number, unsigned_suffix, long_suffix, unsigned_long_suffix, first_that_holds}
 use Rattle.dcc_c.specs.Types.{plain, same_base}
-use Rattle.dcc_c.specs.Tree.{Expr, Number, Name, Unary, Binary, Conditional, Cast}
-use Rattle.dcc_c.specs.Grammar.{is_name}
+use Rattle.dcc_c.specs.Tree.{Expr, Number, Unary, Binary, Conditional, Cast}
 use Rattle.dcc_c.specs.Written.{suffix_gives, suffix_for}
 use Rattle.dcc_c.specs.Rules.{expr_depth}
 use Rattle.dcc_c.proofs.Writable.{is_small, is_writable_expr}
-use Rattle.dcc_pipe.specs.Variables.{variable_name, unsigned_type, signed_type}
-use Rattle.dcc_pipe.specs.GotoExpr.{bits_in, small, constant_type, cut, wrapped, signed_reading, unary_expr, binary_expr, widened, part_expr, joined, text_expr}
-use Rattle.dcc_pipe.proofs.Sizes.{Size, bit, byte, word, long, bits, size-of}
-use Rattle.dcc_pipe.proofs.Places.{IsPlace, AtEach, at-place}
+use Rattle.dcc_pipe.specs.Variables.{unsigned_type, signed_type}
+use Rattle.dcc_pipe.specs.GotoExpr.{small, constant_type, cut, wrapped, signed_reading, unary_expr, binary_expr, widened, part_expr, joined}
+use Rattle.dcc_pipe.proofs.Sizes.{Size, bit, byte, word, long, bits}
 
 -- an expression that is spelled as a text spells it, and is no deeper
 pub record IsSpelled (depth : ℕ) (e : Expr) : Type 0 where

@@ -1,5 +1,5 @@
 -- The text of each expression of a lifted program is spelled as a text spells it, and has a type.
-use Rattle.std.proofs.Common.{◌≡◌, ℕ, zero, suc, ◌+◌, ◌*◌, ◌^◌, ◌<◌, ◌≤◌, Bool, true, false, ◌==◌, List, [], ◌∷◌, ◌++◌, map, max, Option, Some, None, refl, sym, ap, ◌∙◌, subst, true≢false, arith}
+use Rattle.std.proofs.Common.{◌≡◌, ℕ, suc, ◌+◌, ◌*◌, ◌^◌, ◌<◌, ◌≤◌, true, ◌==◌, List, [], ◌++◌, map, max, Some, refl, sym, ◌∙◌, subst, true≢false, arith}
 use Rattle.std.specs.Prelude.{◌&&◌, ◌||◌, not, nat_lt, nat_le}
 use Rattle.std.specs.List.{list_all}
 use Rattle.std.specs.Fmt.{digits}
@@ -11,13 +11,13 @@ use Rattle.dcc_ir.specs.Location.{location_width, Values}
 use Rattle.dcc_ir.specs.Tree as inner
 use Rattle.dcc_ir.specs.Use.{parts_of}
 use Rattle.dcc_ir.specs.Measure.{depth_of}
-use Rattle.dcc_ir.specs.WellFormed.{is_width, is_expr, is_location, is_division, divides_safely}
+use Rattle.dcc_ir.specs.WellFormed.{is_width, is_expr, is_division, divides_safely}
 use Rattle.dcc_ir.specs.Value.{width_of}
 use Rattle.dcc_lift.specs.Temporaries.{temporary_bits}
 use Rattle.dcc_lift.specs.Form.{is_lifted_location, is_lifted_part}
 use Rattle.dcc_c.specs.declared.syntax.Base.{Base}
 use Rattle.dcc_c.specs.Types.{plain}
-use Rattle.dcc_c.specs.Tree.{Expr, Number, Name}
+use Rattle.dcc_c.specs.Tree.{Number}
 use Rattle.dcc_c.specs.Grammar.{is_name}
 use Rattle.dcc_c.specs.Typing.{type_of}
 use Rattle.dcc_c.specs.Value.{declared_by}

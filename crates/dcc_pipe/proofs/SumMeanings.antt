@@ -1,14 +1,12 @@
 -- Sums, differences, products and operators on single bits.
-use Rattle.std.proofs.Common.{◌≡◌, ℕ, ◌+◌, ◌-◌, ◌*◌, ◌%◌, ◌^◌, ◌<◌, Bool, true, false, map, Some, refl, sym, ap, ◌∙◌, subst, arith}
-use Rattle.std.specs.Prelude.{option_and_then, if◌then◌else◌, not, ◌==◌, bit_and, bit_or, bit_xor}
+use Rattle.std.proofs.Common.{◌≡◌, ℕ, ◌+◌, ◌-◌, ◌*◌, ◌%◌, ◌^◌, ◌<◌, true, Some, refl, ap, ◌∙◌, subst, arith}
+use Rattle.std.specs.Prelude.{option_and_then, bit_and, bit_or, bit_xor}
 use Rattle.std.proofs.lemmas.Nat.{and_le_l, or_lt, xor_lt}
-use Rattle.std.proofs.lemmas.Bool.Decides.{nat_tests}
 use Rattle.dcc_ir.specs.declared.syntax.UnOp.TheVariants.{Neg, Not as NotOp}
 use Rattle.dcc_ir.specs.declared.syntax.BinOp.TheVariants.{Add as AddOp, Sub as SubOp, Mul as MulOp, And as AndOp, Or as OrOp, Xor as XorOp}
 use Rattle.dcc_ir.specs.Value as inner
 use Rattle.dcc_c.specs.declared.syntax.Base.{Base}
-use Rattle.dcc_c.specs.declared.syntax.Base.TheVariants.{Uchar, Int, Uint, Ulong}
-use Rattle.dcc_c.specs.declared.syntax.CUn.{CUn}
+use Rattle.dcc_c.specs.declared.syntax.Base.TheVariants.{Int}
 use Rattle.dcc_c.specs.declared.syntax.CUn.TheVariants.{Minus, Complement}
 use Rattle.dcc_c.specs.declared.syntax.CBin.TheVariants.{Or, Xor, And, Add, Sub, Mul}
 use Rattle.dcc_c.specs.Types.{bits_of, promoted_type, wrapped_bits, convert, plain}
@@ -19,7 +17,7 @@ use Rattle.dcc_c.specs.Value.{number, Gives, Scope}
 use Rattle.dcc_pipe.specs.GotoExpr.{small, wrapped, unary_expr, binary_expr}
 use Rattle.dcc_pipe.proofs.Sizes.{Size, bit, byte, word, long, bits, holds, reckons, promoted-is, kept}
 use Rattle.dcc_pipe.proofs.Meanings.{IsNumber, Means, unary-valued, small-number, wrapped-means}
-use Rattle.dcc_pipe.proofs.Reckoning.{IsEager, Reckons, reckoning-number}
+use Rattle.dcc_pipe.proofs.Reckoning.{Reckons, reckoning-number}
 
 add-reckons : Reckons Add (λ t k l. wrapped_bits t (k + l))
 add-reckons = record { eager = record { eager = λ s e g. refl }; typing = λ a b. refl; valuing = λ a b n m. refl }

@@ -1,21 +1,21 @@
 -- What the statements of a text do, a step at a time.
-use Rattle.std.proofs.Common.{◌≡◌, ℕ, ◌+◌, ◌*◌, ◌%◌, ◌^◌, ◌<◌, ◌≤◌, Bool, true, false, List, [], ◌∷◌, ◌++◌, map, Option, Some, None, refl, sym, ap, ap₂, ◌∙◌, subst, true≢false, arith, mod-eq_of_lt}
+use Rattle.std.proofs.Common.{◌≡◌, ℕ, ◌%◌, ◌^◌, ◌<◌, Bool, true, false, List, [], ◌∷◌, ◌++◌, Option, Some, None, refl, sym, ap, ◌∙◌, arith, mod-eq_of_lt}
 use Rattle.std.specs.Prelude.{◌==◌, if◌then◌else◌, option_and_then}
 use Rattle.std.proofs.lemmas.List.{append-nil}
-use Rattle.dcc_run.specs.End.{End, Running, Exit}
+use Rattle.dcc_run.specs.End.{Running, Exit}
 use Rattle.dcc_run.specs.System.{after}
 use Rattle.dcc_ir.specs.declared.syntax.Loc.{Loc}
 use Rattle.dcc_ir.specs.Location.{location_width, Values, with_value}
 use Rattle.dcc_lift.specs.Temporaries.{temporary_bits}
 use Rattle.dcc_c.specs.declared.syntax.Base.{Base}
-use Rattle.dcc_c.specs.declared.syntax.Base.TheVariants.{Uchar, Int, Uint, Ulong}
+use Rattle.dcc_c.specs.declared.syntax.Base.TheVariants.{Uchar, Int}
 use Rattle.dcc_c.specs.declared.syntax.CBin.TheVariants.{And as BitAnd}
 use Rattle.dcc_c.specs.Types.{bits_of, plain, convert}
-use Rattle.dcc_c.specs.Tree.{Word, Expr, Name, Binary, Stmt, Assign, Call, If, Goto, Label, Empty, Lines, no_lines, line, Function, Tree}
+use Rattle.dcc_c.specs.Tree.{Word, Expr, Binary, Assign, Call, If, Goto, Label, Lines, no_lines, line, Function, Tree}
 use Rattle.dcc_c.specs.Typing.{type_of_name}
-use Rattle.dcc_c.specs.Value.{Value, number, converted, Outcome, Gives, and_then, given, Scope, variable_value, value_of, Target, ToVariable, variable_target, target_of}
+use Rattle.dcc_c.specs.Value.{Value, number, converted, Gives, and_then, given, variable_value, Target, ToVariable, variable_target, target_of}
 use Rattle.dcc_c.specs.Dos.{Dos, dos_name, Putc, Getche, Getch, Leave}
-use Rattle.dcc_c.specs.Run.{Continuation, ends_function, runs, State, with_end, goes_on, on, scope_of, takes, after_goto, jump_step, if_step, key_step, dos_step, arguments_of, result_target, stmt_step, step}
+use Rattle.dcc_c.specs.Run.{ends_function, runs, State, with_end, goes_on, on, takes, after_goto, jump_step, if_step, key_step, dos_step, arguments_of, result_target, step}
 use Rattle.dcc_pipe.specs.Variables.{variable_name, unsigned_type}
 use Rattle.dcc_pipe.specs.GotoExpr.{small}
 use Rattle.dcc_pipe.specs.GotoText.{place_of, flag_cut}

@@ -1,5 +1,5 @@
 -- Statements in lines that are not counted yet, as trees.
-use Rattle.std.proofs.Common.{◌≡◌, List, [], ◌∷◌, map, Result, Ok, Err, IfOk, Vec, Global, refl, sym, ap, ◌∙◌}
+use Rattle.std.proofs.Common.{◌≡◌, List, [], ◌∷◌, map, Result, Ok, Err, IfOk, Vec, Global, refl, ap, ◌∙◌}
 use Rattle.std.specs.declared.alloc.AllocError.{AllocError}
 use Rattle.dcc_c.specs.declared.syntax.CStmt.{CStmt}
 use Rattle.dcc_c.specs.declared.syntax.Line.{Line}

@@ -1,14 +1,14 @@
 -- A run that visits what is kept of another's visits follows it, where each of its steps is a visit.
-use Rattle.std.proofs.Common.{◌≡◌, ℕ, zero, suc, ◌+◌, ◌<◌, ◌≤◌, inl, inr, Bool, true, false, cond, List, [], ◌∷◌, ◌++◌, Option, Some, None, refl, sym, ap, ap₂, ◌∙◌, subst, true≢false, arith}
+use Rattle.std.proofs.Common.{◌≡◌, ℕ, zero, suc, ◌≤◌, inl, inr, Bool, true, false, cond, [], ◌∷◌, ◌++◌, Option, Some, None, refl, sym, ap, ap₂, ◌∙◌, subst, true≢false, arith}
 use Rattle.std.specs.Prelude.{slice_get, if◌then◌else◌}
 use Rattle.std.proofs.lemmas.Bool.{cases_lt, cases_Bool, false_from_ne_true}
-use Rattle.dcc_run.specs.End.{End, is_over}
+use Rattle.dcc_run.specs.End.{is_over}
 use Rattle.dcc_run.specs.Prefix.{IsPrefix}
 use Rattle.dcc_run.specs.System.{System, after, IsLawful, out_after, end_after}
 use Rattle.dcc_run.specs.Follows.{Follows}
-use Rattle.dcc_run.specs.Visits.{Visit, visit_at, visit_of, visits, visits_of, EndsAlike, VisitsKept}
+use Rattle.dcc_run.specs.Visits.{Visit, visit_at, visit_of, visits, visits_of, VisitsKept}
 use Rattle.dcc_run.proofs.PrefixLaws.{prefix_refl, prefix_trans}
-use Rattle.dcc_run.proofs.RunLaws.{out_grows, over_stays, after-over}
+use Rattle.dcc_run.proofs.RunLaws.{out_grows, over_stays}
 use Rattle.dcc_run.proofs.VisitLaws.{visits_of-append}
 use Rattle.dcc_pipe.proofs.FollowLaws.{Always}
 

@@ -1,31 +1,29 @@
 -- The text of a lifted program is writable.
-use Rattle.std.proofs.Common.{◌≡◌, ℕ, zero, suc, ◌+◌, ◌<◌, ◌≤◌, Bool, true, false, ◌==◌, List, [], ◌∷◌, ◌++◌, map, length, Option, Some, None, refl, sym, ap, ap₂, ◌∙◌, subst, true≢false, arith, append_assoc}
-use Rattle.std.specs.Prelude.{◌&&◌, ◌||◌, not, nat_le, codes, slice_get, option_and_then}
+use Rattle.std.proofs.Common.{◌≡◌, ℕ, suc, ◌<◌, ◌≤◌, true, false, ◌==◌, List, [], ◌∷◌, ◌++◌, map, Some, refl, sym, ap, ◌∙◌, subst, append_assoc}
+use Rattle.std.specs.Prelude.{◌&&◌, not, codes, option_and_then}
 use Rattle.std.specs.List.{flat_map, list_all, list_any}
 use Rattle.std.specs.Fmt.{digits}
-use Rattle.std.proofs.lemmas.Bool.{and_parts, and_from, not-true, not_from_false, or_from, eq-eqb, cases_Bool, or_parts, eqb-false}
+use Rattle.std.proofs.lemmas.Bool.{and_parts, and_from, not-true, not_from_false, or_from, or_parts, eqb-false}
 use Rattle.std.proofs.lemmas.List.Concat.{flat_map-append}
 use Rattle.std.proofs.lemmas.List.{append-nil}
 use Rattle.dcc_num.specs.declared.FlagName.TheVariants.{Cf, Zf, Sf, Of}
-use Rattle.dcc_ir.specs.declared.syntax.Loc.{Loc}
 use Rattle.dcc_ir.specs.declared.syntax.Loc.TheVariants.{Flag}
 use Rattle.dcc_ir.specs.Tree as inner
 use Rattle.dcc_ir.specs.Use.{block_exprs}
 use Rattle.dcc_ir.specs.WellFormed as formed
-use Rattle.dcc_lift.specs.Temporaries.{temporary_bits}
 use Rattle.dcc_c.specs.declared.syntax.Base.TheVariants.{Int}
 use Rattle.dcc_c.specs.declared.syntax.CBin.TheVariants.{And as BitAnd}
 use Rattle.dcc_c.specs.Types.{plain}
 use Rattle.dcc_c.specs.Token.{same_bytes}
-use Rattle.dcc_c.specs.Tree.{Word, Expr, Binary, Stmt, Label, Function, Tree}
+use Rattle.dcc_c.specs.Tree.{Word, Binary, Stmt, Function, Tree}
 use Rattle.dcc_c.specs.Parts.{stmts_in, inner_stmts, label_of, labels_in}
 use Rattle.dcc_c.specs.Grammar.{is_name, is_among, outermost}
-use Rattle.dcc_c.specs.Typing.{both_types, type_of_name, type_of}
-use Rattle.dcc_c.specs.Rules.{goto_of, declared_in, all_differ, names_of, own_variables, known_names, has_element, allows_labels, IsAllowedFunction, AreAllowed, no_more, one_more, IsAllowed}
-use Rattle.dcc_c.proofs.Writable.{is_label, is_writable_local, is_writable_function, are_writable_lines, IsWritable}
+use Rattle.dcc_c.specs.Typing.{both_types, type_of_name}
+use Rattle.dcc_c.specs.Rules.{goto_of, declared_in, all_differ, names_of, IsAllowedFunction, no_more, one_more}
+use Rattle.dcc_c.proofs.Writable.{is_writable_local, is_writable_function, are_writable_lines, IsWritable}
 use Rattle.dcc_pipe.specs.Variables.{locations, flags, variable, variable_name}
 use Rattle.dcc_pipe.specs.GotoExpr.{small}
-use Rattle.dcc_pipe.specs.GotoText.{label_name, text_stmt, text_exit, text_block, text_graph, text_stmts, flag_cut, place_of, uncounted, goto_start, goto_tree}
+use Rattle.dcc_pipe.specs.GotoText.{label_name, text_stmt, text_exit, text_block, text_stmts, flag_cut, place_of, uncounted, goto_start, goto_tree}
 use Rattle.dcc_pipe.proofs.Places.{IsPlace, variable-declared}
 use Rattle.dcc_pipe.proofs.Lined.{AreBelow}
 use Rattle.dcc_pipe.proofs.LabelLaws.{labels-differ}

@@ -1,5 +1,5 @@
 -- The text of a lifted program: each block stands behind its label, and jumps lead to others.
-use Rattle.std.specs.Prelude.{ℕ, ◌/◌, ◌%◌, ◌==◌, false, if◌then◌else◌, List, [], ◌∷◌, ◌++◌, map, flat_map, codes, slice_get, Option, Some, None, option_map, option_to_list}
+use Rattle.std.specs.Prelude.{ℕ, ◌/◌, ◌%◌, ◌==◌, false, if◌then◌else◌, List, [], ◌∷◌, ◌++◌, map, flat_map, codes, slice_get, Some, None, option_map, option_to_list}
 use Rattle.std.specs.Fmt.{digit_glyph}
 use Rattle.dcc_ir.specs.declared.syntax.Loc.{Loc}
 use Rattle.dcc_ir.specs.Tree as inner

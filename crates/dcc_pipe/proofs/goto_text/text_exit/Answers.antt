@@ -2,7 +2,7 @@ use Rattle.std.proofs.Common.{map, [], ◌∷◌, sym, ap, ◌∙◌}
 use Rattle.dcc_print.proofs.RowLaws.{if-tree}
 use Rattle.dcc_ir.specs.Views as inner
 use Rattle.dcc_c.specs.Tree.{If}
-use Rattle.dcc_c.specs.Views.{expr_of, lines_of}
+use Rattle.dcc_c.specs.Views.{lines_of}
 use Rattle.dcc_pipe.specs.GotoExpr.{text_expr}
 use Rattle.dcc_pipe.specs.GotoText.{uncounted, jump, text_exit}
 use Rattle.dcc_pipe.proofs.goto_text.text_exit.Goals as goal
