@@ -46,9 +46,29 @@ pub record IsText (e : Expr) : Type 0 where
 -- the size of a location
 pub location-size : (location : Loc) → IsPlace location → (size : Size) × (location_width temporary_bits location ≡ bits size)
 location-size = at-place (λ location. (size : Size) × (location_width temporary_bits location ≡ bits size)) (record {
-  al = (byte, refl); ah = (byte, refl); cl = (byte, refl); ch = (byte, refl); dl = (byte, refl); dh = (byte, refl); bl = (byte, refl); bh = (byte, refl);
-  si_low = (byte, refl); si_high = (byte, refl); di_low = (byte, refl); di_high = (byte, refl); cf = (bit, refl); zf = (bit, refl); sf = (bit, refl); of = (bit, refl);
-  left_byte = (byte, refl); right_byte = (byte, refl); result_byte = (byte, refl); left_word = (word, refl); right_word = (word, refl); result_word = (word, refl); product = (long, refl);
+  al = (byte, refl);
+  ah = (byte, refl);
+  cl = (byte, refl);
+  ch = (byte, refl);
+  dl = (byte, refl);
+  dh = (byte, refl);
+  bl = (byte, refl);
+  bh = (byte, refl);
+  si_low = (byte, refl);
+  si_high = (byte, refl);
+  di_low = (byte, refl);
+  di_high = (byte, refl);
+  cf = (bit, refl);
+  zf = (bit, refl);
+  sf = (bit, refl);
+  of = (bit, refl);
+  left_byte = (byte, refl);
+  right_byte = (byte, refl);
+  result_byte = (byte, refl);
+  left_word = (word, refl);
+  right_word = (word, refl);
+  result_word = (word, refl);
+  product = (long, refl);
 })
 
 pub same-size : (s t : Size) → bits s ≡ bits t → s ≡ t

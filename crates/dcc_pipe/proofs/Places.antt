@@ -100,22 +100,85 @@ module _ (values : Values) where
   found-each : AtEach (λ location. variable_in (bindings_of values) (variable_name location) ≡ Some (bound location (values location)))
   unfolding digits
   found-each = record {
-    al = refl; ah = refl; cl = refl; ch = refl; dl = refl; dh = refl; bl = refl; bh = refl; si_low = refl; si_high = refl; di_low = refl; di_high = refl; cf = refl; zf = refl; sf = refl; of = refl;
-    left_byte = refl; right_byte = refl; result_byte = refl; left_word = refl; right_word = refl; result_word = refl; product = refl;
+    al = refl;
+    ah = refl;
+    cl = refl;
+    ch = refl;
+    dl = refl;
+    dh = refl;
+    bl = refl;
+    bh = refl;
+    si_low = refl;
+    si_high = refl;
+    di_low = refl;
+    di_high = refl;
+    cf = refl;
+    zf = refl;
+    sf = refl;
+    of = refl;
+    left_byte = refl;
+    right_byte = refl;
+    result_byte = refl;
+    left_word = refl;
+    right_word = refl;
+    result_word = refl;
+    product = refl;
   }
 
   declared-each : AtEach (λ location. declared_as (map declared_by (bindings_of values)) (variable_name location) ≡ Some (declared_by (bound location (values location))))
   unfolding digits
   declared-each = record {
-    al = refl; ah = refl; cl = refl; ch = refl; dl = refl; dh = refl; bl = refl; bh = refl; si_low = refl; si_high = refl; di_low = refl; di_high = refl; cf = refl; zf = refl; sf = refl; of = refl;
-    left_byte = refl; right_byte = refl; result_byte = refl; left_word = refl; right_word = refl; result_word = refl; product = refl;
+    al = refl;
+    ah = refl;
+    cl = refl;
+    ch = refl;
+    dl = refl;
+    dh = refl;
+    bl = refl;
+    bh = refl;
+    si_low = refl;
+    si_high = refl;
+    di_low = refl;
+    di_high = refl;
+    cf = refl;
+    zf = refl;
+    sf = refl;
+    of = refl;
+    left_byte = refl;
+    right_byte = refl;
+    result_byte = refl;
+    left_word = refl;
+    right_word = refl;
+    result_word = refl;
+    product = refl;
   }
 
   assigned-each : (v : Value) → AtEach (λ location. after_assignment (bindings_of values) (variable_name location) v ≡ bindings_of (with_value values location (converted (plain (unsigned_type (location_width temporary_bits location))) v).bits))
   unfolding digits
   assigned-each v = record {
-    al = refl; ah = refl; cl = refl; ch = refl; dl = refl; dh = refl; bl = refl; bh = refl; si_low = refl; si_high = refl; di_low = refl; di_high = refl; cf = refl; zf = refl; sf = refl; of = refl;
-    left_byte = refl; right_byte = refl; result_byte = refl; left_word = refl; right_word = refl; result_word = refl; product = refl;
+    al = refl;
+    ah = refl;
+    cl = refl;
+    ch = refl;
+    dl = refl;
+    dh = refl;
+    bl = refl;
+    bh = refl;
+    si_low = refl;
+    si_high = refl;
+    di_low = refl;
+    di_high = refl;
+    cf = refl;
+    zf = refl;
+    sf = refl;
+    of = refl;
+    left_byte = refl;
+    right_byte = refl;
+    result_byte = refl;
+    left_word = refl;
+    right_word = refl;
+    result_word = refl;
+    product = refl;
   }
 
   module _ (location : Loc) (is : IsPlace location) where

@@ -32,8 +32,29 @@ use Rattle.dcc_pipe.proofs.SpelledExprs.{IsSpelled, deeper, constant-spelled, un
 names-each : AtEach (λ location. is_name (variable_name location) ≡ true)
 unfolding digits
 names-each = record {
-  al = refl; ah = refl; cl = refl; ch = refl; dl = refl; dh = refl; bl = refl; bh = refl; si_low = refl; si_high = refl; di_low = refl; di_high = refl; cf = refl; zf = refl; sf = refl; of = refl;
-  left_byte = refl; right_byte = refl; result_byte = refl; left_word = refl; right_word = refl; result_word = refl; product = refl;
+  al = refl;
+  ah = refl;
+  cl = refl;
+  ch = refl;
+  dl = refl;
+  dh = refl;
+  bl = refl;
+  bh = refl;
+  si_low = refl;
+  si_high = refl;
+  di_low = refl;
+  di_high = refl;
+  cf = refl;
+  zf = refl;
+  sf = refl;
+  of = refl;
+  left_byte = refl;
+  right_byte = refl;
+  result_byte = refl;
+  left_word = refl;
+  right_word = refl;
+  result_word = refl;
+  product = refl;
 }
 
 pub name-is : (location : Loc) → IsPlace location → is_name (variable_name location) ≡ true
