@@ -42,5 +42,3 @@ pub mod ExprWhole
 pub mod SimpleWhole
 pub mod BlockWhole
 pub mod DeclWhole
-pub mod TextWhole
-pub mod ParseLaws
