@@ -42,3 +42,5 @@ pub mod ExprWhole
 pub mod SimpleWhole
 pub mod BlockWhole
 pub mod DeclWhole
+pub mod TextWhole
+pub mod ParseLaws
