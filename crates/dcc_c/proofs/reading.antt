@@ -38,3 +38,9 @@ pub mod TextFinds
 pub mod UnitFinds
 pub mod TextComplete
 pub mod TextLaws
+pub mod ExprWhole
+pub mod SimpleWhole
+pub mod BlockWhole
+pub mod DeclWhole
+pub mod TextWhole
+pub mod ParseLaws

@@ -11,7 +11,7 @@ use Rattle.dcc_c.specs.Grammar.{mark, word, is_name, Around, IsStmt}
 use Rattle.dcc_c.specs.Rules.{shallow_stmt, most_open}
 use Rattle.dcc_c.specs.Partial.{WordAt, NumberAt, PartialStmt, BreakOf, LabelOf, PartialLines, no_rows, row}
 use Rattle.dcc_c.specs.Reading.{Reader, Got, got, next_token, skip, is_the_word}
-use Rattle.dcc_c.specs.ReadingStatements.{begins_stmt, begins_label, sees_head, take_number_of_line, set_depth, read_depth, Block, block_of, is_break, before_others, without_last, stop_if_nested, read_leave, read_stmt, read_lines, read_line}
+use Rattle.dcc_c.specs.ReadingStatements.{begins_stmt, begins_label, sees_head, take_number_of_line, set_depth, read_depth, Block, block_of, is_break, before_others, without_last, is_nested, stop_if_nested, is_block_word, read_leave, read_stmt, read_lines, read_line}
 use Rattle.dcc_c.specs.Stripped.{plain_lines}
 use Rattle.dcc_c.proofs.reading.Statements.{IsEnoughFor, on, first_of}
 use Rattle.dcc_c.proofs.reading.Stopping.{if-true, if-false}
@@ -67,13 +67,15 @@ no_more-complete calls at leaves enough few deep ends =
     record { partial = no_rows; behind = at; calls = calls; leaves = leaves; enough = enough; same = refl; is = refl }
 
 -- there is room for a statement
-nested_room : (around : Around) (r : Reader) → around.blocks ≤ 200 → stop_if_nested around r ≡ r
-nested_room around r room = if-false (nat_lt 200 around.blocks) _ _ (le-ltb 200 around.blocks room)
+not_nested : (around : Around) → around.blocks ≤ 200 → is_nested around ≡ false
+not_nested around room = le-ltb 200 around.blocks room
 
-line_begins : (calls : ℕ) (around : Around) (labelled leaves : Bool) (r : Reader) → around.blocks ≤ 200 → begins_stmt (next_token r) ≡ true →
+nested_room : (around : Around) (at : ℕ) (r : Reader) → around.blocks ≤ 200 → stop_if_nested around at r ≡ r
+nested_room around at r room = if-false (is_nested around) _ _ (not_nested around room)
+
+line_begins : (calls : ℕ) (around : Around) (labelled leaves : Bool) (r : Reader) → begins_stmt (next_token r) ≡ true →
     read_lines (suc calls) around labelled leaves r ≡ read_line calls around labelled r
-line_begins calls around labelled leaves r room begins =
-    if-true (begins_stmt (next_token r)) _ _ begins ∙ ap (read_line calls around labelled) (nested_room around r room)
+line_begins calls around labelled leaves r begins = if-true (begins_stmt (next_token r)) _ _ begins
 
 -- A depth line.
 
@@ -100,14 +102,16 @@ depth-complete around depth after number n tokens rest lines room others (suc (s
       leaves = found.leaves;
       enough = found.enough;
       same = found.same;
-      is = line_begins (suc calls) around false leaves r room refl ∙ (ap (λ q. read_lines calls around false false q) (depth-is number n at depth tokens) ∙ found.is);
+      is = line_begins (suc calls) around false leaves r refl
+          ∙ (if-false (is_nested around) _ _ (not_nested around room)
+          ∙ (ap (λ q. read_lines calls around false false q) (depth-is number n at depth tokens) ∙ found.is));
     }
 
 -- A label.
 
 label_rest : ℕ → Around → ℕ → ℕ → Got (Option WordAt) → Got Block
 label_rest calls around at number name = elim name.value [
-  | Some found ↦ before_others (LabelOf found) at number (read_lines calls around true false (skip name.behind))
+  | Some found ↦ before_others (LabelOf found) at number (read_lines calls around true false (stop_if_nested around at (skip name.behind)))
   | None ↦ got (block_of no_rows false) name.behind
 ]
 
@@ -128,10 +132,11 @@ label-complete around labelled depth after number colon tokens rest lines name g
       leaves = found.leaves;
       enough = found.enough;
       same = ap (line (Label name) number) found.same;
-      is = line_begins (suc calls) around labelled leaves r room (name_begins name good)
+      is = line_begins (suc calls) around labelled leaves r (name_begins name good)
           ∙ (if-true (begins_label r) _ _ begins
           ∙ (ap (label_rest calls around at number) (take_name-is number at depth name (mark colon (codes ":") ∷ tokens) good)
-          ∙ ap (before_others (LabelOf (record { word = name; at = at })) at number) found.is));
+          ∙ (ap (λ q. before_others (LabelOf (record { word = name; at = at })) at number (read_lines calls around true false q)) (nested_room around at (on tokens (suc (suc at)) depth) room)
+          ∙ ap (before_others (LabelOf (record { word = name; at = at })) at number) found.is)));
     }
 
 -- A statement.
@@ -159,11 +164,13 @@ statement-complete around labelled {depth} {between} {after} {number} {token} {t
       leaves = q.leaves;
       enough = q.enough;
       same = ap (λ x. line x number (plain_lines q.partial)) p.same ∙ ap (line s number) q.same;
-      is = line_begins (suc calls) around labelled leaves r room (stmt_begins derived)
+      is = line_begins (suc calls) around labelled leaves r (stmt_begins derived)
           ∙ (if-false (sees_head depth_line r) _ _ (stmt_no_head derived)
           ∙ (if-false (begins_label r) _ _ (stmt_no_label derived at depth)
-          ∙ (ap (λ (g : Got PartialStmt). before_others g.value at number (read_lines calls around false (is_break g.value && not labelled) g.behind)) p.is
-          ∙ ap (before_others p.partial at number) q.is)));
+          ∙ (if-false (is_nested around && is_block_word (Some token)) _ _ (ap (λ b. b && is_block_word (Some token)) (not_nested around room))
+          ∙ (ap (λ (g : Got PartialStmt). before_others g.value at number (read_lines calls around false (is_break g.value && not labelled) (stop_if_nested around at g.behind))) p.is
+          ∙ (ap (λ o. before_others p.partial at number (read_lines calls around false (is_break p.partial && not labelled) o)) (nested_room around at (on others p.behind between) room)
+          ∙ ap (before_others p.partial at number) q.is)))));
     }
 
 -- The end of an arm.
@@ -173,6 +180,9 @@ pub break-complete : (calls : ℕ) (around : Around) (leaves : Bool) (number end
     ≡ got (block_of (row BreakOf at number no_rows) true) (on others (suc (suc at)) depth)
 break-complete calls around leaves number end at depth others room breaks ends =
     let r : Reader = on (word number (codes "break") ∷ mark end (codes ";") ∷ others) at depth in
-    line_begins (suc (suc calls)) around false leaves r room refl
-    ∙ (ap (λ b. before_others (read_leave b BreakOf r).value at number (read_lines (suc calls) around false (is_break (read_leave b BreakOf r).value && true) (read_leave b BreakOf r).behind)) breaks
-    ∙ ap (before_others BreakOf at number) (if-false (begins_stmt (first_of others)) _ _ ends))
+    let stmt : Bool → Got PartialStmt = λ b. read_leave b BreakOf r in
+    line_begins (suc (suc calls)) around false leaves r refl
+    ∙ (if-false (is_nested around && false) _ _ (ap (λ b. b && false) (not_nested around room))
+    ∙ (ap (λ b. before_others (stmt b).value at number (read_lines (suc calls) around false (is_break (stmt b).value && true) (stop_if_nested around at (stmt b).behind))) breaks
+    ∙ (ap (λ q. before_others BreakOf at number (read_lines (suc calls) around false true q)) (nested_room around at (on others (suc (suc at)) depth) room)
+    ∙ ap (before_others BreakOf at number) (if-false (begins_stmt (first_of others)) _ _ ends))))

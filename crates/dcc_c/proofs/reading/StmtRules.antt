@@ -5,9 +5,10 @@ use Rattle.std.proofs.lemmas.Bool.{and_parts, ltb-false}
 use Rattle.dcc_c.specs.Token.{Token, WordToken, depth_line}
 use Rattle.dcc_c.specs.Grammar.{word, Around, in_block, in_loop, in_switch, no_arm}
 use Rattle.dcc_c.specs.Kinds.{of_depth}
+use Rattle.dcc_c.specs.Tree.{Word}
 use Rattle.dcc_c.specs.Partial.{WordAt, PartialExpr, BreakOf, ContinueOf, EmptyOf, LabelOf, PartialLines, no_rows, cases}
 use Rattle.dcc_c.specs.Reading.{Reader, Got, got, is_stopped, next_token, second_token, line_of, skip, stop_at, fail, is_the_mark, name_of, sees_mark, sees_word, take_mark, take_word, take_name}
-use Rattle.dcc_c.specs.ReadingStatements.{read_test, read_leave, read_goto, read_return, read_simple, begins_stmt, begins_label, begins_arm, sees_head, read_depth, block_of, before_others, without_last, is_break, read_arm_head, read_stmt, read_if, read_block, read_lines, read_line, read_arms, read_more_arms}
+use Rattle.dcc_c.specs.ReadingStatements.{read_test, read_leave, read_goto, read_return, read_simple, begins_stmt, begins_label, begins_arm, sees_head, read_depth, is_nested, stop_if_nested, is_block_word, block_of, before_others, without_last, is_break, read_arm_head, read_stmt, read_if, read_block, read_lines, read_line, read_arms, read_more_arms}
 use Rattle.dcc_c.proofs.reading.Passing.{Took, if-cases, stop_at-stops, fail-stops, skip-took, sees_mark-took, sees_word-took, take_mark-took, take_word-took}
 use Rattle.dcc_c.proofs.reading.Words.{name_of-is}
 use Rattle.dcc_c.proofs.reading.Statements.{IsEnough}
@@ -133,56 +134,73 @@ module _ (calls : ℕ) (keep : KeepsStmts calls) (sound : SoundStmts calls) wher
 
   lines-sound : (around : Around) (labelled leaves : Bool) (r : Reader) → IsEnough (suc calls) 3 r.left → SoundLines around labelled leaves r (read_lines (suc calls) around labelled leaves r)
   lines-sound around labelled leaves r enough =
-      let result : Reader → Type 0 = λ here. SoundLines around labelled leaves r (read_line calls around labelled here) in
       if-cases (SoundLines around labelled leaves r) (begins_stmt (next_token r))
-      (λ begins. if-cases result (nat_lt 200 around.blocks) {x = stop_at of_depth r.at r} {y = r}
-      (λ _ going. absurd (stop_at-stops of_depth r.at r (keep.line around labelled (stop_at of_depth r.at r) going)))
-      (λ room. sound.line around labelled leaves r (ltb-false 200 around.blocks room) begins (omega arith)))
-      (λ _. nothing_more labelled)
+      (λ begins. sound.line around labelled leaves r begins (omega arith)) (λ _. nothing_more labelled)
     where
       nothing_more : (is : Bool) → SoundLines around is leaves r (got (block_of no_rows leaves) (if is then fail r else r))
       nothing_more true going = absurd (fail-stops r going)
       nothing_more false going = no_lines-sound around leaves r going
 
-  labels-sound : (around : Around) (labelled leaves : Bool) (r : Reader) → around.blocks ≤ 200 → begins_label r ≡ true → IsEnough (suc calls) 2 r.left →
-      SoundLines around labelled leaves r (elim (take_name r).value [ Some word ↦ before_others (LabelOf word) r.at (line_of r.left) (read_lines calls around true false (skip (take_name r).behind)) | None ↦ got (block_of no_rows false) (take_name r).behind ])
-  labels-sound around labelled leaves r room begins enough =
-      let second = (and_parts (is_some (name_of (next_token r))) (is_the_mark (codes ":") (second_token r)) begins).1 in
-      choice-cases (λ (g : Got (Option WordAt)). SoundLines around labelled leaves r (elim g.value [ Some word ↦ before_others (LabelOf word) r.at (line_of r.left) (read_lines calls around true false (skip g.behind)) | None ↦ got (block_of no_rows false) g.behind ])) (name_of (next_token r))
-      (λ name is going.
+  -- a label that stands in so many blocks
+  label-sound : (around : Around) (labelled leaves : Bool) (r : Reader) (name : Word) → name_of (next_token r) ≡ Some name → sees_mark (codes ":") (skip r) ≡ true → IsEnough (suc calls) 2 r.left →
+      SoundLines around labelled leaves r (before_others (LabelOf (record { word = name; at = r.at })) r.at (line_of r.left) (read_lines calls around true false (stop_if_nested around r.at (skip (skip r)))))
+  label-sound around labelled leaves r name is second enough =
+      let here : WordAt = record { word = name; at = r.at } in
+      let result : Reader → Type 0 = λ q. SoundLines around labelled leaves r (before_others (LabelOf here) r.at (line_of r.left) (read_lines calls around true false q)) in
+      let stopped : Reader = stop_at of_depth r.at (skip (skip r)) in
+      if-cases result (is_nested around) {x = stopped} {y = skip (skip r)}
+      (λ _ going. absurd (stop_at-stops of_depth r.at (skip (skip r)) (keep.lines around true false stopped going)))
+      (λ room going.
       let seen = name_of-is (next_token r) name is in
       let took = skip-took r (WordToken name) seen.0 in
       let colon = sees_mark-took (codes ":") (skip r) second in
       let others = read_lines calls around true false (skip (skip r)) in
-      label_then around labelled leaves r (skip r) (record { word = name; at = r.at }) others room seen.1 took colon (sound.lines around true false (skip (skip r)) (omega (arith, took.one_less, colon.one_less)) going))
+      label_then around labelled leaves r (skip r) here others (ltb-false 200 around.blocks room) seen.1 took colon (sound.lines around true false (skip (skip r)) (omega (arith, took.one_less, colon.one_less)) going))
+
+  labels-sound : (around : Around) (labelled leaves : Bool) (r : Reader) → begins_label r ≡ true → IsEnough (suc calls) 2 r.left →
+      SoundLines around labelled leaves r (elim (take_name r).value [ Some word ↦ before_others (LabelOf word) r.at (line_of r.left) (read_lines calls around true false (stop_if_nested around r.at (skip (take_name r).behind))) | None ↦ got (block_of no_rows false) (take_name r).behind ])
+  labels-sound around labelled leaves r begins enough =
+      let second = (and_parts (is_some (name_of (next_token r))) (is_the_mark (codes ":") (second_token r)) begins).1 in
+      choice-cases (λ (g : Got (Option WordAt)). SoundLines around labelled leaves r (elim g.value [ Some word ↦ before_others (LabelOf word) r.at (line_of r.left) (read_lines calls around true false (stop_if_nested around r.at (skip g.behind))) | None ↦ got (block_of no_rows false) g.behind ])) (name_of (next_token r))
+      (λ name is. label-sound around labelled leaves r name is second enough)
       (λ _ going. absurd (fail-stops r going))
 
-  line-sound : (around : Around) (labelled leaves : Bool) (r : Reader) → around.blocks ≤ 200 → begins_stmt (next_token r) ≡ true → IsEnough (suc calls) 2 r.left →
-      SoundLines around labelled leaves r (read_line (suc calls) around labelled r)
-  line-sound around labelled leaves r room begins enough =
-      if-cases (SoundLines around labelled leaves r) (is_stopped r) (λ stopped going. absurd (going_on r going stopped))
-      (λ _. if-cases (SoundLines around labelled leaves r) (sees_head depth_line r) (λ sees. depths labelled sees)
-      (λ _. if-cases (SoundLines around labelled leaves r) (begins_label r) (λ label. labels-sound around labelled leaves r room label enough)
-      (λ _ going.
+  -- a statement that is no label
+  one_stmt-sound : (around : Around) (labelled leaves : Bool) (r : Reader) (token : Token) → next_token r ≡ Some token → IsEnough (suc calls) 2 r.left →
+      SoundLines around labelled leaves r (before_others (read_stmt calls around r).value r.at (line_of r.left) (read_lines calls around false (is_break (read_stmt calls around r).value && not labelled) (stop_if_nested around r.at (read_stmt calls around r).behind)))
+  one_stmt-sound around labelled leaves r token is enough =
       let stmt = read_stmt calls around r in
-      let others = read_lines calls around false (is_break stmt.value && not labelled) stmt.behind in
-      let first = sound.stmt around r (omega arith) (keep.lines around false (is_break stmt.value && not labelled) stmt.behind going) in
-      let token = begins_token (next_token r) begins in
-      let took = skip-took r token.0 token.1 in
-      stmt_then around labelled leaves r (skip r) token.0 stmt others room (begins_here took) first (sound.lines around false (is_break stmt.value && not labelled) stmt.behind (omega (arith, first.shorter)) going))))
-    where
-      going_on : (q : Reader) → q.stop ≡ None → is_stopped q ≡ true → ⊥
-      going_on q none stopped = absurd (let same : is_stopped q ≡ false = ap is_some none in cc)
+      let leaving : Bool = is_break stmt.value && not labelled in
+      let result : Reader → Type 0 = λ q. SoundLines around labelled leaves r (before_others stmt.value r.at (line_of r.left) (read_lines calls around false leaving q)) in
+      let stopped : Reader = stop_at of_depth r.at stmt.behind in
+      if-cases result (is_nested around) {x = stopped} {y = stmt.behind}
+      (λ _ going. absurd (stop_at-stops of_depth r.at stmt.behind (keep.lines around false leaving stopped going)))
+      (λ room going.
+      let others = read_lines calls around false leaving stmt.behind in
+      let first = sound.stmt around r (omega arith) (keep.lines around false leaving stmt.behind going) in
+      let took = skip-took r token is in
+      stmt_then around labelled leaves r (skip r) token stmt others (ltb-false 200 around.blocks room) (begins_here took) first (sound.lines around false leaving stmt.behind (omega (arith, first.shorter)) going))
 
+  line-sound : (around : Around) (labelled leaves : Bool) (r : Reader) → begins_stmt (next_token r) ≡ true → IsEnough (suc calls) 2 r.left →
+      SoundLines around labelled leaves r (read_line (suc calls) around labelled r)
+  line-sound around labelled leaves r begins enough =
+      if-cases (SoundLines around labelled leaves r) (sees_head depth_line r) (λ sees. depths labelled sees)
+      (λ _. if-cases (SoundLines around labelled leaves r) (begins_label r) (λ label. labels-sound around labelled leaves r label enough)
+      (λ _. if-cases (SoundLines around labelled leaves r) (is_nested around && is_block_word (next_token r)) (λ _ going. absurd (stop_at-stops of_depth r.at r going))
+      (λ _. let token = begins_token (next_token r) begins in one_stmt-sound around labelled leaves r token.0 token.1 enough)))
+    where
       begins_token : (token : Option Token) → begins_stmt token ≡ true → (t : Token) × (token ≡ Some t)
       begins_token (Some t) is = (t, refl)
       begins_token None is = absurd cc
 
-      depths : (is : Bool) → sees_head depth_line r ≡ true → SoundLines around is leaves r (if is then got (block_of no_rows false) (fail r) else read_lines calls around false false (read_depth r))
-      depths true sees going = absurd (fail-stops r going)
-      depths false sees going =
+      depths : (is : Bool) → sees_head depth_line r ≡ true →
+          SoundLines around is leaves r (if is then got (block_of no_rows false) (fail r) else if is_nested around then got (block_of no_rows false) (stop_at of_depth r.at r) else read_lines calls around false false (read_depth r))
+      depths true sees = λ going. absurd (fail-stops r going)
+      depths false sees =
+          if-cases (SoundLines around false leaves r) (is_nested around) (λ _ going. absurd (stop_at-stops of_depth r.at r going))
+          (λ room going.
           let read = depth-sound r sees (keep.lines around false false (read_depth r) going) in
-          depth_then around leaves r (read_depth r) (read_lines calls around false false (read_depth r)) room read (sound.lines around false false (read_depth r) (omega (arith, read.shorter)) going)
+          depth_then around leaves r (read_depth r) (read_lines calls around false false (read_depth r)) (ltb-false 200 around.blocks room) read (sound.lines around false false (read_depth r) (omega (arith, read.shorter)) going))
 
   arms-sound : (around : Around) (r : Reader) → IsEnough (suc calls) 2 r.left →
       (read_arms (suc calls) around r).behind.stop ≡ None → ReadsArms around r (read_arms (suc calls) around r) × (begins_arm r ≡ true)

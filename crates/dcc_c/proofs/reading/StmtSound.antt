@@ -58,7 +58,7 @@ pub record SoundStmts (calls : ℕ) : Type 0 where
       SoundStmt around start (read_if calls around test)
   pub block : (around : Around) (r : Reader) → IsEnough calls 1 r.left → SoundBlock around r (read_block calls around r)
   pub lines : (around : Around) (labelled leaves : Bool) (r : Reader) → IsEnough calls 3 r.left → SoundLines around labelled leaves r (read_lines calls around labelled leaves r)
-  pub line : (around : Around) (labelled leaves : Bool) (r : Reader) → around.blocks ≤ 200 → begins_stmt (next_token r) ≡ true → IsEnough calls 2 r.left →
+  pub line : (around : Around) (labelled leaves : Bool) (r : Reader) → begins_stmt (next_token r) ≡ true → IsEnough calls 2 r.left →
       SoundLines around labelled leaves r (read_line calls around labelled r)
   pub arms : (around : Around) (r : Reader) → IsEnough calls 2 r.left →
       (read_arms calls around r).behind.stop ≡ None → ReadsArms around r (read_arms calls around r) × (begins_arm r ≡ true)
@@ -71,7 +71,7 @@ none-sound =
       otherwise = λ around start r test took read enough going. absurd (omega (arith, enough going));
       block = λ around r enough. absurd (omega arith);
       lines = λ around labelled leaves r enough. absurd (omega arith);
-      line = λ around labelled leaves r room begins enough. absurd (omega arith);
+      line = λ around labelled leaves r begins enough. absurd (omega arith);
       arms = λ around r enough. absurd (omega arith);
       more_arms = λ around r enough. absurd (omega arith);
     }

@@ -6,7 +6,7 @@ use Rattle.dcc_c.specs.Grammar.{Around, in_block, in_loop, in_switch}
 use Rattle.dcc_c.specs.Kinds.{of_depth}
 use Rattle.dcc_c.specs.Partial.{WordAt, NumberAt, PartialExpr, PartialStmt, BreakOf, ContinueOf, EmptyOf, LabelOf, no_rows}
 use Rattle.dcc_c.specs.Reading.{Reader, Got, got, is_stopped, next_token, line_of, skip, fail, name_of, plain_of, sees_mark, sees_word, take_mark, take_word, take_name, take_plain, in_operator}
-use Rattle.dcc_c.specs.ReadingStatements.{whole, read_value, read_enclosed, read_test, sees_head, take_number_of_line, set_depth, read_depth, begins_call, more_arguments, read_arguments, call_of, read_call, read_place, assignment_of, read_assigned, read_simple, read_leave, read_goto, read_return, case_number, read_case, read_cases, read_arm_head, begins_arm, begins_stmt, begins_label, stop_if_nested, Block, block_of, is_break, before_others, end_arm, read_stmt, read_if, read_block, read_lines, read_line, read_arms, read_more_arms}
+use Rattle.dcc_c.specs.ReadingStatements.{whole, read_value, read_enclosed, read_test, sees_head, take_number_of_line, set_depth, read_depth, begins_call, more_arguments, read_arguments, call_of, read_call, read_place, assignment_of, read_assigned, read_simple, read_leave, read_goto, read_return, case_number, read_case, read_cases, read_arm_head, begins_arm, begins_stmt, begins_label, is_nested, stop_if_nested, is_block_word, Block, block_of, is_break, before_others, end_arm, read_stmt, read_if, read_block, read_lines, read_line, read_arms, read_more_arms}
 use Rattle.dcc_c.proofs.reading.Passing.{if-cases, stop_at-stops, fail-stops, take_mark-took, take_word-took}
 use Rattle.dcc_c.proofs.reading.Stopping.{GoesOn, choice-cases, keeps_stop}
 
@@ -124,8 +124,8 @@ pub arm_head-keeps : (calls : ℕ) (r : Reader) → GoesOn r (read_arm_head call
 arm_head-keeps calls r =
     if-cases (KeepsIn r) (sees_word (codes "default") r) (λ _ going. mark-keeps (codes ":") (skip r) going) (λ _. cases-keeps calls r)
 
-pub nested-keeps : (around : Around) (r : Reader) → GoesOn r (stop_if_nested around r)
-nested-keeps around r = if-cases (GoesOn r) (nat_lt 200 around.blocks) (λ _ going. absurd (stop_at-stops of_depth r.at r going)) (λ _ going. going)
+pub nested-keeps : (around : Around) (at : ℕ) (r : Reader) → GoesOn r (stop_if_nested around at r)
+nested-keeps around at r = if-cases (GoesOn r) (is_nested around) (λ _ going. absurd (stop_at-stops of_depth at r going)) (λ _ going. going)
 
 pub end_arm-keeps : (body : Got Block) → GoesOn body.behind (end_arm body).behind
 end_arm-keeps body =
@@ -198,27 +198,30 @@ module _ (calls : ℕ) (keep : KeepsStmts calls) where
 
   lines-keeps : (around : Around) (labelled leaves : Bool) (r : Reader) → KeepsIn r (read_lines (suc calls) around labelled leaves r)
   lines-keeps around labelled leaves r =
-      if-cases (KeepsIn r) (begins_stmt (next_token r)) (λ _ going. nested-keeps around r (keep.line around labelled (stop_if_nested around r) going))
-      (λ _. labelled_end labelled)
+      if-cases (KeepsIn r) (begins_stmt (next_token r)) (λ _. keep.line around labelled r) (λ _. labelled_end labelled)
     where
       labelled_end : (is : Bool) → GoesOn r (if is then fail r else r)
       labelled_end true going = absurd (fail-stops r going)
       labelled_end false going = going
 
   labels-keep : (around : Around) (r : Reader) (name : Option WordAt) (behind : Reader) → GoesOn r behind →
-      KeepsIn r (elim name [ Some word ↦ before_others (LabelOf word) r.at (line_of r.left) (read_lines calls around true false (skip behind)) | None ↦ got (block_of no_rows false) behind ])
-  labels-keep around r (Some word) behind before = λ going. before (keep.lines around true false (skip behind) going)
+      KeepsIn r (elim name [ Some word ↦ before_others (LabelOf word) r.at (line_of r.left) (read_lines calls around true false (stop_if_nested around r.at (skip behind))) | None ↦ got (block_of no_rows false) behind ])
+  labels-keep around r (Some word) behind before = λ going.
+      before (nested-keeps around r.at (skip behind) (keep.lines around true false (stop_if_nested around r.at (skip behind)) going))
   labels-keep around r None behind before = before
 
   line-keeps : (around : Around) (labelled : Bool) (r : Reader) → KeepsIn r (read_line (suc calls) around labelled r)
   line-keeps around labelled r =
-      if-cases (KeepsIn r) (is_stopped r) (λ _ going. going)
-      (λ _. if-cases (KeepsIn r) (sees_head depth_line r)
-      (λ _. if-cases (KeepsIn r) labelled (λ _ going. absurd (fail-stops r going)) (λ _ going. depth-keeps r (keep.lines around false false (read_depth r) going)))
+      if-cases (KeepsIn r) (sees_head depth_line r)
+      (λ _. if-cases (KeepsIn r) labelled (λ _ going. absurd (fail-stops r going))
+      (λ _. if-cases (KeepsIn r) (is_nested around) (λ _ going. absurd (stop_at-stops of_depth r.at r going))
+      (λ _ going. depth-keeps r (keep.lines around false false (read_depth r) going))))
       (λ _. if-cases (KeepsIn r) (begins_label r) (λ _. labels-keep around r (take_name r).value (take_name r).behind (name-keeps r))
+      (λ _. if-cases (KeepsIn r) (is_nested around && is_block_word (next_token r)) (λ _ going. absurd (stop_at-stops of_depth r.at r going))
       (λ _ going.
       let stmt = read_stmt calls around r in
-      keep.stmt around r (keep.lines around false (is_break stmt.value && not labelled) stmt.behind going))))
+      let behind = stop_if_nested around r.at stmt.behind in
+      keep.stmt around r (nested-keeps around r.at stmt.behind (keep.lines around false (is_break stmt.value && not labelled) behind going)))))
 
   arms-keeps : (around : Around) (r : Reader) → KeepsIn r (read_arms (suc calls) around r)
   arms-keeps around r = if-cases (KeepsIn r) (begins_arm r) (λ _. keep.more_arms around r) (λ _ going. absurd (fail-stops r going))

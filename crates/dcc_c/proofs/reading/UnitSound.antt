@@ -59,11 +59,11 @@ with-keeps calls r going =
 
 -- Global variables.
 
-record ReadsGlobal (here : ℕ) (r : Reader) (g : Got PartialVariable) : Type 0 where
-  steps : Steps 0 0 r g.behind
-  shorter : length g.behind.left < length r.left
-  derived : IsGlobal (tokens_of r.left) (plain_global g.value) (tokens_of g.behind.left)
-  next : here + size_in_bytes g.value ≡ behind_global (plain_global g.value)
+pub record ReadsGlobal (here : ℕ) (r : Reader) (g : Got PartialVariable) : Type 0 where
+  pub steps : Steps 0 0 r g.behind
+  pub shorter : length g.behind.left < length r.left
+  pub derived : IsGlobal (tokens_of r.left) (plain_global g.value) (tokens_of g.behind.left)
+  pub next : here + size_in_bytes g.value ≡ behind_global (plain_global g.value)
 
 global-keeps : (calls here : ℕ) (begun : Got Begun) → GoesOn begun.behind (read_global calls here begun).behind
 global-keeps calls here begun going =
@@ -71,7 +71,7 @@ global-keeps calls here begun going =
     let init = read_init calls size.behind in
     (size-sound begun.behind (init-sound calls size.behind (take_mark-took (codes ";") init.behind going).passed.going).steps.passed.going).steps.passed.going
 
-global-sound : (calls here : ℕ) (r : Reader) (begun : Got Begun) → (begun.behind.stop ≡ None → ReadsBegun r begun) → begun.value.has_result ≡ true →
+pub global-sound : (calls here : ℕ) (r : Reader) (begun : Got Begun) → (begun.behind.stop ≡ None → ReadsBegun r begun) → begun.value.has_result ≡ true →
     (read_global calls here begun).behind.stop ≡ None → ReadsGlobal here r (read_global calls here begun)
 global-sound calls here r begun begins has going =
     let size = read_size begun.behind in
@@ -142,7 +142,7 @@ here_declared calls address r = elim address [
   | None ↦ declared [] (with_functions calls (read_begun r))
 ]
 
-declared-keeps : (calls : ℕ) (address : Option ℕ) (r : Reader) → GoesOn r (read_declared calls address r).behind
+pub declared-keeps : (calls : ℕ) (address : Option ℕ) (r : Reader) → GoesOn r (read_declared calls address r).behind
 declared-keeps zero address r = λ going. going
 declared-keeps (suc calls) address r =
     let n = take_number_of_line (line_of r.left) (skip r) in
