@@ -1,19 +1,19 @@
 -- A statement that has been read is complete, and at most 200 blocks stand around each.
-use Rattle.std.proofs.Common.{◌≡◌, ℕ, zero, suc, ◌≤◌, length, [], Bool, true, false, Option, Some, None, refl, ap, arith}
+use Rattle.std.proofs.Common.{◌≡◌, ℕ, zero, suc, ◌≤◌, length, Bool, true, false, Option, Some, None, refl, ap, arith}
 use Rattle.std.specs.Prelude.{codes, nat_le, not, ◌&&◌, ◌==◌, is_some, if◌then◌else◌}
 use Rattle.std.proofs.lemmas.Bool.{and_parts, and_from, le-leb, ltb-false}
 use Rattle.dcc_c.specs.Token.{WordToken, depth_line}
 use Rattle.dcc_c.specs.Grammar.{Around, in_block, in_loop, in_switch}
 use Rattle.dcc_c.specs.Kinds.{of_depth}
-use Rattle.dcc_c.specs.Partial.{WordAt, PartialExpr, PartialStmt, LabelOf, PartialLines, no_rows, row, PartialArms, no_cases, cases}
-use Rattle.dcc_c.specs.Reading.{Reader, Got, got, is_stopped, next_token, line_of, skip, stop_at, fail, name_of, sees_mark, sees_word, take_mark, take_word, take_name}
+use Rattle.dcc_c.specs.Partial.{WordAt, PartialExpr, PartialStmt, LabelOf, PartialLines, no_rows, row, PartialArms, cases}
+use Rattle.dcc_c.specs.Reading.{Reader, Got, got, is_stopped, next_token, line_of, skip, stop_at, fail, name_of, sees_word, take_mark, take_word}
 use Rattle.dcc_c.specs.ReadingStatements.{read_test, is_nested, stop_if_nested, is_block_word, begins_stmt, begins_label, begins_arm, sees_head, read_depth, Block, block_of, before_others, without_last, is_break, ArmHead, read_arm_head, read_stmt, read_if, read_block, read_lines, read_line, read_arms, read_more_arms}
 use Rattle.dcc_c.specs.Complete.{is_complete_expr, is_complete_stmt, is_complete_lines, are_complete_arms, is_within, are_within, are_arms_within}
 use Rattle.dcc_c.proofs.reading.Passing.{if-cases, stop_at-stops, fail-stops, skip-took, sees_word-took, take_mark-took, take_word-took}
 use Rattle.dcc_c.proofs.reading.Words.{name_of-is}
 use Rattle.dcc_c.proofs.reading.Statements.{IsEnough}
 use Rattle.dcc_c.proofs.reading.Stopping.{choice-cases}
-use Rattle.dcc_c.proofs.reading.StmtStopping.{KeepsStmts, keeps_stmts, test-keeps, mark-keeps, word-keeps, nested-keeps}
+use Rattle.dcc_c.proofs.reading.StmtStopping.{KeepsStmts, keeps_stmts, test-keeps, mark-keeps}
 use Rattle.dcc_c.proofs.reading.StmtParts.{test-sound}
 use Rattle.dcc_c.proofs.reading.LineSound.{depth-sound}
 use Rattle.dcc_c.proofs.reading.ArmRules.{head-sound}

@@ -1,6 +1,6 @@
 -- A declaration that has been read is complete.
-use Rattle.std.proofs.Common.{◌≡◌, ℕ, zero, suc, length, List, [], ◌∷◌, Bool, true, false, Option, Some, None, refl, sym, ap, ◌∙◌, arith}
-use Rattle.std.specs.Prelude.{codes, not, ◌&&◌, ◌||◌, ◌==◌, is_some, if◌then◌else◌}
+use Rattle.std.proofs.Common.{◌≡◌, ℕ, zero, suc, length, List, ◌∷◌, Bool, true, false, Option, Some, None, refl, sym, ap, ◌∙◌, arith}
+use Rattle.std.specs.Prelude.{codes, ◌&&◌, ◌||◌, ◌==◌, is_some, if◌then◌else◌}
 use Rattle.std.specs.List.{list_all}
 use Rattle.std.proofs.lemmas.Bool.{and_from, or_left, or_right, false_from_ne_true, eqb-true}
 use Rattle.dcc_c.specs.declared.syntax.Base.{Base}
@@ -8,11 +8,11 @@ use Rattle.dcc_c.specs.declared.syntax.CType.{CType}
 use Rattle.dcc_c.specs.declared.syntax.Class.{Class}
 use Rattle.dcc_c.specs.declared.syntax.Class.TheVariants.{Plain, Auto}
 use Rattle.dcc_c.specs.Partial.{PartialVariable}
-use Rattle.dcc_c.specs.Reading.{Reader, Got, got, next_token, skip, fail, sees_mark, sees_word, take_mark, take_name, take_base, with_star, take_type, begins_type}
+use Rattle.dcc_c.specs.Reading.{Reader, Got, got, next_token, skip, sees_mark, sees_word, take_mark, take_name, take_base, with_star, take_type, begins_type}
 use Rattle.dcc_c.specs.ReadingStatements.{read_size, read_init, read_local, read_locals, read_class, read_param, more_params, read_params}
 use Rattle.dcc_c.specs.ReadingText.{Begun, read_begun, read_global}
 use Rattle.dcc_c.specs.Complete.{is_complete_variable, agree}
-use Rattle.dcc_c.proofs.reading.Passing.{if-cases, fail-stops, sees_mark-took}
+use Rattle.dcc_c.proofs.reading.Passing.{if-cases, fail-stops}
 use Rattle.dcc_c.proofs.reading.Words.{type-sound}
 use Rattle.dcc_c.proofs.reading.Stopping.{GoesOn}
 use Rattle.dcc_c.proofs.reading.StmtStopping.{mark-keeps}

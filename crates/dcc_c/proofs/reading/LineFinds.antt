@@ -1,6 +1,6 @@
 -- Statements one after the other that the grammar has are read, where each of them is.
 use Rattle.std.proofs.Common.{◌≡◌, ℕ, zero, suc, ◌≤◌, List, ◌∷◌, true, false, Bool, Option, Some, None, refl, sym, ap, ◌∙◌, arith, eq-eqb}
-use Rattle.std.specs.Prelude.{codes, nat_lt, not, ◌&&◌, ◌==◌, is_some}
+use Rattle.std.specs.Prelude.{codes, not, ◌&&◌, ◌==◌, is_some}
 use Rattle.std.proofs.lemmas.Bool.{and_parts, and_from, le-ltb}
 use Rattle.std.proofs.lemmas.List.Folds.{list_all-append}
 use Rattle.dcc_c.specs.Token.{Token, WordToken, Decimal, Mark, Pragma, plain_number, depth_line}

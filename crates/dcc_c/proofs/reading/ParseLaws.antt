@@ -1,5 +1,5 @@
 -- Pieces that are read to their end, and in which nothing offends, are the tokens of a tree, and the other way round.
-use Rattle.std.proofs.Common.{◌≡◌, ◌≤◌, List, [], ◌∷◌, map, true, Some, None, refl, sym, ap, ◌∙◌, subst}
+use Rattle.std.proofs.Common.{◌≡◌, ◌≤◌, List, [], ◌∷◌, None, refl, sym, ap, subst}
 use Rattle.dcc_c.specs.Lexing.{Placed}
 use Rattle.dcc_c.specs.Pieces.{Piece}
 use Rattle.dcc_c.specs.Tree.{Tree}
@@ -9,11 +9,11 @@ use Rattle.dcc_c.specs.ReadingText.{reading_of}
 use Rattle.dcc_c.specs.TextOffences.{text_offences}
 use Rattle.dcc_c.specs.Stripped.{plain_text}
 use Rattle.dcc_c.proofs.refusals.TextRules.{text-allowed, text-clean}
-use Rattle.dcc_c.proofs.reading.Passing.{tokens_of, are_tokens, pieces_with}
+use Rattle.dcc_c.proofs.reading.Passing.{tokens_of, pieces_with}
 use Rattle.dcc_c.proofs.reading.Statements.{with_version}
 use Rattle.dcc_c.proofs.reading.UnitSound.{sound_text}
 use Rattle.dcc_c.proofs.reading.TextComplete.{complete_text}
-use Rattle.dcc_c.proofs.reading.TextLaws.{IsReadAs, allowed_shallow, pieces_are}
+use Rattle.dcc_c.proofs.reading.TextLaws.{allowed_shallow}
 use Rattle.dcc_c.proofs.reading.TextWhole.{complete_reading}
 
 -- The tokens behind the version line stand for the tree: so says the grammar, and the rules on depth, names, types and

@@ -1,5 +1,5 @@
 -- A statement without blocks that has been read is complete.
-use Rattle.std.proofs.Common.{◌≡◌, ℕ, zero, suc, ◌≤◌, length, List, [], ◌∷◌, drop, Bool, true, false, Option, Some, None, refl, ap, arith}
+use Rattle.std.proofs.Common.{◌≡◌, ℕ, zero, suc, ◌≤◌, length, List, [], ◌∷◌, drop, true, false, Option, Some, None, refl, ap, arith}
 use Rattle.std.specs.Prelude.{codes, not, is_some, if◌then◌else◌}
 use Rattle.std.specs.List.{list_all}
 use Rattle.std.proofs.lemmas.Bool.{and_from, not_from_false, not-false}
@@ -7,19 +7,19 @@ use Rattle.dcc_c.specs.Token.{WordToken}
 use Rattle.dcc_c.specs.Pieces.{Piece}
 use Rattle.dcc_c.specs.Grammar.{Around}
 use Rattle.dcc_c.specs.Partial.{WordAt, PartialExpr, PartialStmt, BreakOf, ContinueOf, EmptyOf}
-use Rattle.dcc_c.specs.Reading.{Reader, Got, got, is_stopped, next_token, skip, fail, name_of, sees_mark, sees_word, take_mark, take_name, in_operator}
+use Rattle.dcc_c.specs.Reading.{Reader, Got, got, is_stopped, next_token, skip, name_of, sees_mark, sees_word, take_mark, take_name, in_operator}
 use Rattle.dcc_c.specs.ReadingStatements.{whole, read_value, read_enclosed, read_test, more_arguments, read_arguments, call_of, read_call, read_place, begins_call, assignment_of, read_assigned, read_simple, read_leave, read_goto, read_return}
 use Rattle.dcc_c.specs.Complete.{is_complete_expr, is_complete_place, is_complete_place_if, is_complete_stmt, is_within}
 use Rattle.dcc_c.proofs.reading.Passing.{if-cases, fail-stops, skip-took, sees_mark-took, sees_word-took, take_mark-took}
 use Rattle.dcc_c.proofs.reading.Words.{name_of-is}
 use Rattle.dcc_c.proofs.reading.Statements.{IsEnough}
 use Rattle.dcc_c.proofs.reading.Stopping.{choice-cases, keeps_stop}
-use Rattle.dcc_c.proofs.reading.StmtStopping.{mark-keeps, name-keeps, more_arguments-keeps, arguments-keeps, call_named}
+use Rattle.dcc_c.proofs.reading.StmtStopping.{mark-keeps, more_arguments-keeps, arguments-keeps, call_named}
 use Rattle.dcc_c.proofs.reading.Steps.{name-sound}
 use Rattle.dcc_c.proofs.reading.ExprRules.{sound_expr}
 use Rattle.dcc_c.proofs.reading.StmtParts.{place-sound}
 use Rattle.dcc_c.proofs.reading.StmtKinds.{last_stmts, return_stmts, goto_stmts, leave_stmts, semicolon_stmts}
-use Rattle.dcc_c.proofs.reading.ExprWhole.{NoCall, Entire, mark-no_call, taken-no_call, expr-entire, unary-entire}
+use Rattle.dcc_c.proofs.reading.ExprWhole.{NoCall, mark-no_call, taken-no_call, expr-entire, unary-entire}
 
 -- A reader that goes on has read what it stands behind to its end.
 pub going-done : (r : Reader) → r.stop ≡ None → not (is_stopped r) ≡ true

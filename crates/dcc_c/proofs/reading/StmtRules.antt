@@ -1,6 +1,6 @@
 -- What is read of statements is what the grammar says.
-use Rattle.std.proofs.Common.{◌≡◌, ℕ, zero, suc, ◌≤◌, Bool, true, false, Option, Some, None, refl, ap, arith}
-use Rattle.std.specs.Prelude.{codes, not, nat_lt, ◌&&◌, is_some, if◌then◌else◌}
+use Rattle.std.proofs.Common.{◌≡◌, ℕ, zero, suc, Bool, true, false, Option, Some, None, refl, ap, arith}
+use Rattle.std.specs.Prelude.{codes, not, ◌&&◌, is_some, if◌then◌else◌}
 use Rattle.std.proofs.lemmas.Bool.{and_parts, ltb-false}
 use Rattle.dcc_c.specs.Token.{Token, WordToken, depth_line}
 use Rattle.dcc_c.specs.Grammar.{word, Around, in_block, in_loop, in_switch, no_arm}

@@ -1,6 +1,6 @@
 -- Reading that has stopped stays so, in statements.
 use Rattle.std.proofs.Common.{ℕ, zero, suc, ◌&&◌, Bool, true, false, not, List, Option, Some, None}
-use Rattle.std.specs.Prelude.{codes, if◌then◌else◌, nat_lt, ◌==◌}
+use Rattle.std.specs.Prelude.{codes, if◌then◌else◌, ◌==◌}
 use Rattle.dcc_c.specs.Token.{depth_line}
 use Rattle.dcc_c.specs.Grammar.{Around, in_block, in_loop, in_switch}
 use Rattle.dcc_c.specs.Kinds.{of_depth}

@@ -1,9 +1,9 @@
 -- Reading a text and the grammar agree, and what stands for a tree is what is read of it.
-use Rattle.std.proofs.Common.{◌≡◌, ℕ, ◌≤◌, List, [], ◌∷◌, map, drop, true, false, Bool, Option, Some, None, refl, sym, ap, ◌∙◌, subst}
+use Rattle.std.proofs.Common.{◌≡◌, ℕ, ◌≤◌, List, [], ◌∷◌, true, Option, Some, None, refl, sym, ap, ◌∙◌, subst}
 use Rattle.std.specs.Prelude.{is_some, ◌&&◌}
 use Rattle.std.specs.List.{list_all}
 use Rattle.std.proofs.lemmas.Bool.{and_from}
-use Rattle.dcc_c.specs.Token.{Token, Decimal, Pragma, plain_number, version_line, stack_line}
+use Rattle.dcc_c.specs.Token.{Token, Decimal, Pragma, plain_number, stack_line}
 use Rattle.dcc_c.specs.Lexing.{Placed, placed}
 use Rattle.dcc_c.specs.Tree.{Function, Tree}
 use Rattle.dcc_c.specs.Pieces.{Piece, piece}
@@ -15,7 +15,7 @@ use Rattle.dcc_c.specs.Stripped.{plain_text}
 use Rattle.dcc_c.proofs.reading.Passing.{tokens_of, are_tokens, pieces_with}
 use Rattle.dcc_c.proofs.reading.Statements.{is_shallow, with_version, IsText}
 use Rattle.dcc_c.proofs.reading.UnitSound.{sound_text}
-use Rattle.dcc_c.proofs.reading.TextComplete.{complete_text, one_tree}
+use Rattle.dcc_c.proofs.reading.TextComplete.{complete_text}
 
 piece_is : (p : Piece) (token : Option Token) (pieces : List Piece) → p.token ≡ token → (is_some token && are_tokens pieces) ≡ true → (are_tokens pieces ≡ true → pieces_with (tokens_of pieces) ≡ pieces) →
     pieces_with (elim token [ Some t ↦ placed p.line t ∷ tokens_of pieces | None ↦ tokens_of pieces ]) ≡ p ∷ pieces

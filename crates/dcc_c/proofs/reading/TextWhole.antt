@@ -1,5 +1,5 @@
 -- A text that has been read to its end is complete, and no expression in it is too deep.
-use Rattle.std.proofs.Common.{◌≡◌, ℕ, zero, suc, ◌+◌, length, List, [], ◌∷◌, map, Bool, true, false, Option, Some, None, refl, sym, ap, ◌∙◌, arith}
+use Rattle.std.proofs.Common.{◌≡◌, ℕ, zero, suc, ◌+◌, length, List, [], true, false, Option, Some, None, refl, sym, ap, ◌∙◌, arith}
 use Rattle.std.specs.Prelude.{codes, not, ◌&&◌, ◌||◌, ◌==◌, is_some, if◌then◌else◌}
 use Rattle.std.specs.List.{list_all}
 use Rattle.std.proofs.lemmas.Bool.{and_parts, and_from}
@@ -8,7 +8,7 @@ use Rattle.dcc_c.specs.Token.{stack_line, place_line}
 use Rattle.dcc_c.specs.Pieces.{Piece}
 use Rattle.dcc_c.specs.Grammar.{outermost}
 use Rattle.dcc_c.specs.Partial.{PartialVariable, PartialFunction, PartialText}
-use Rattle.dcc_c.specs.Reading.{Reader, Got, got, is_stopped, line_of, skip, sees_mark, take_mark}
+use Rattle.dcc_c.specs.Reading.{Reader, Got, is_stopped, line_of, skip, sees_mark, take_mark}
 use Rattle.dcc_c.specs.ReadingStatements.{sees_head, take_head, take_number_of_line, read_lines, read_locals, read_params}
 use Rattle.dcc_c.specs.ReadingText.{Begun, read_begun, with_first_depth, read_function, read_functions, with_functions, read_global, size_in_bytes, address_of, Declared, declared, before_declared, read_declared, read_text, reader_of, enough_calls, reading_of}
 use Rattle.dcc_c.specs.Stripped.{plain_function}

@@ -1,18 +1,18 @@
 -- A complete function is allowed just where nothing offends in it.
-use Rattle.std.proofs.Common.{◌≡◌, ℕ, suc, Bool, true, false, ◌&&◌, ◌||◌, ◌==◌, List, [], ◌∷◌, ◌++◌, length, map, Option, Some, None, refl, sym, ap, ◌∙◌, append_assoc, append-nil}
+use Rattle.std.proofs.Common.{◌≡◌, ℕ, Bool, true, ◌&&◌, List, [], ◌∷◌, ◌++◌, map, Some, None, refl, sym, ap, ◌∙◌, append-nil}
 use Rattle.std.proofs.lemmas.List.{map-append}
-use Rattle.std.specs.Prelude.{not, is_some, option_map, if◌then◌else◌}
-use Rattle.std.specs.List.{list_any, list_all, flat_map}
-use Rattle.dcc_c.specs.Tree.{Word, Stmt, Variable, Global, Function, Tree}
+use Rattle.std.specs.Prelude.{not}
+use Rattle.std.specs.List.{list_all, flat_map}
+use Rattle.dcc_c.specs.Tree.{Word, Stmt, Variable, Global, Function}
 use Rattle.dcc_c.specs.Parts.{stmts_in, labels_in}
 use Rattle.dcc_c.specs.Grammar.{is_among}
 use Rattle.dcc_c.specs.Dos.{dos_names}
-use Rattle.dcc_c.specs.Rules.{names_of, known_names, own_variables, all_differ, goto_of, allows_labels, allows_stmt, has_element, shallow_stmt, IsAllowedFunction}
-use Rattle.dcc_c.specs.Kinds.{of_name, Offence, offence, only_if}
-use Rattle.dcc_c.specs.Partial.{WordAt, NumberAt, PartialVariable, PartialFunction, PartialText, PartialLines, PartialStmt, AssignOf, CallOf, IfOf, WhileOf, DoWhileOf, ForeverOf, SwitchOf, BreakOf, ContinueOf, GotoOf, LabelOf, EmptyOf, ReturnOf}
+use Rattle.dcc_c.specs.Rules.{names_of, known_names, own_variables, all_differ, goto_of, allows_stmt, shallow_stmt, IsAllowedFunction}
+use Rattle.dcc_c.specs.Kinds.{of_name, offence}
+use Rattle.dcc_c.specs.Partial.{WordAt, PartialVariable, PartialFunction, PartialText, PartialStmt, AssignOf, CallOf, IfOf, WhileOf, DoWhileOf, ForeverOf, SwitchOf, BreakOf, ContinueOf, GotoOf, LabelOf, EmptyOf, ReturnOf}
 use Rattle.dcc_c.specs.Known.{Known, known_functions}
 use Rattle.dcc_c.specs.Offences.{Scene, repeated, label_list, own_offences, inner_offences, lines_offences, body_offences}
-use Rattle.dcc_c.specs.TextOffences.{name_list, words_of, sizes_of, Whole, scene_of, function_offences, known_in}
+use Rattle.dcc_c.specs.TextOffences.{name_list, words_of, sizes_of, scene_of, function_offences, known_in}
 use Rattle.dcc_c.specs.Stripped.{plain_name, plain_stmt, plain_lines, plain_variable, plain_global, plain_function, plain_text}
 use Rattle.dcc_c.specs.Complete.{is_complete_stmt, is_complete_variable, is_complete_function}
 use Rattle.dcc_c.proofs.refusals.ExprRules.{none-both, none-only, both-empty, and-both}
@@ -21,8 +21,8 @@ use Rattle.dcc_c.proofs.refusals.ListRules.{none_among, repeated-apart, apart-re
 use Rattle.dcc_c.proofs.refusals.LabelRules.{lines-words}
 use Rattle.dcc_c.proofs.refusals.TimesRules.{among-same, differ-same, all-same}
 use Rattle.dcc_c.proofs.refusals.WalkRules.{lines-all, lines-clean, append-all}
-use Rattle.dcc_c.proofs.refusals.BodyRules.{IsScene, Knows, stmt-allowed, stmt-clean}
-use Rattle.dcc_c.proofs.refusals.KnownRules.{CompleteFunction, known_plain, known-all, name-words, function-words}
+use Rattle.dcc_c.proofs.refusals.BodyRules.{stmt-allowed, stmt-clean}
+use Rattle.dcc_c.proofs.refusals.KnownRules.{CompleteFunction, known_plain, known-all, name-words}
 use Rattle.dcc_c.proofs.refusals.FunctionRules.{append-differ, differ-append, sizes-there, there-sizes}
 use Rattle.dcc_c.proofs.refusals.SceneRules.{is-scene, knows}
 

@@ -1,28 +1,26 @@
 -- The statements of a function that have been read to their ends are allowed where nothing offends in them.
-use Rattle.std.proofs.Common.{◌≡◌, ℕ, suc, ◌≤◌, Bool, true, false, ◌&&◌, ◌||◌, ◌==◌, List, [], ◌∷◌, ◌++◌, length, map, Option, Some, None, refl, sym, ap, ◌∙◌}
+use Rattle.std.proofs.Common.{◌≡◌, ℕ, suc, Bool, true, false, ◌&&◌, ◌==◌, List, [], ◌∷◌, ◌++◌, length, map, Option, Some, None, refl, sym, ap, ◌∙◌}
 use Rattle.std.proofs.lemmas.List.{map-append}
 use Rattle.std.proofs.lemmas.Bool.{eqb-true}
-use Rattle.std.specs.Prelude.{not, nat_lt, is_some, is_none, option_map, if◌then◌else◌}
-use Rattle.std.specs.List.{list_any, list_all, flat_map}
-use Rattle.dcc_c.specs.declared.syntax.CType.{CType}
-use Rattle.dcc_c.specs.Tree.{Word, Expr, Stmt, Assign, Call, If, While, DoWhile, Forever, Switch, Break, Continue, Goto, Label, Empty, Return, Lines, Arms, no_arms, arm, Function, Tree}
+use Rattle.std.specs.Prelude.{not, is_some, option_map, if◌then◌else◌}
+use Rattle.std.specs.List.{list_all}
+use Rattle.dcc_c.specs.Tree.{Word, Expr, Return, Arms, no_arms, arm, Function, Tree}
 use Rattle.dcc_c.specs.Types.{promoted_type}
-use Rattle.dcc_c.specs.Parts.{stmts_in, inner_stmts, arm_stmts}
 use Rattle.dcc_c.specs.Typing.{Declared, declared_as, type_of, place_type}
 use Rattle.dcc_c.specs.Dos.{Signature}
 use Rattle.dcc_c.specs.Grammar.{is_among}
 use Rattle.dcc_c.specs.Rules.{fits, is_number, call_fits, declared_in, is_word_base, is_switch_value, signature_in, cases_of, differ, at_most_one, allows_stmt, goto_of}
-use Rattle.dcc_c.specs.Kinds.{of_name, of_type, of_depth, Offence, offence, only_if}
-use Rattle.dcc_c.specs.Partial.{WordAt, NumberAt, PartialExpr, place_of, PartialCall, PartialStmt, AssignOf, CallOf, IfOf, WhileOf, DoWhileOf, ForeverOf, SwitchOf, BreakOf, ContinueOf, GotoOf, LabelOf, EmptyOf, ReturnOf, PartialLines, no_rows, row, PartialArms, no_cases, cases}
+use Rattle.dcc_c.specs.Kinds.{of_name, of_type, offence, only_if}
+use Rattle.dcc_c.specs.Partial.{NumberAt, PartialExpr, place_of, PartialCall, PartialStmt, AssignOf, CallOf, IfOf, WhileOf, DoWhileOf, ForeverOf, SwitchOf, BreakOf, ContinueOf, GotoOf, LabelOf, EmptyOf, ReturnOf, PartialArms, no_cases, cases}
 use Rattle.dcc_c.specs.Known.{Known, known_as}
-use Rattle.dcc_c.specs.Offences.{Scene, told_type, is_switch_type, switch_offences, expr_offences, own_offences, case_offences, case_numbers, default_offences, lines_offences, inner_offences, arms_inner, test_offences, signature_offences, call_offences, place_if, arguments_inner, callee_offences}
+use Rattle.dcc_c.specs.Offences.{Scene, is_switch_type, switch_offences, expr_offences, own_offences, case_offences, case_numbers, default_offences, inner_offences, arms_inner, test_offences, signature_offences, call_offences, place_if, arguments_inner, callee_offences}
 use Rattle.dcc_c.specs.Stripped.{plain_expr, plain_numbers, plain_stmt, plain_lines, case_arms, default_arms}
-use Rattle.dcc_c.specs.Complete.{is_complete_expr, is_complete_place, is_complete_if, is_complete_place_if, is_complete_stmt, is_complete_lines, are_complete_arms, are_within, is_within, are_arms_within}
-use Rattle.dcc_c.proofs.refusals.ExprRules.{none-both, none-only, no-some, true-false, both-empty, and-both, IsTyped, expr-typed, IsClean, expr-clean}
+use Rattle.dcc_c.specs.Complete.{is_complete_expr, is_complete_place, is_complete_if, is_complete_place_if, is_complete_stmt, is_complete_lines, are_complete_arms}
+use Rattle.dcc_c.proofs.refusals.ExprRules.{none-both, none-only, true-false, both-empty, and-both, expr-typed, expr-clean}
 use Rattle.dcc_c.proofs.refusals.StmtRules.{number-of-test, test-of-number, assignment-fits, not-true}
 use Rattle.dcc_c.proofs.refusals.CallRules.{fitting-assignment, HasSignature, call-fits, fitting-call, allowed-known, return-fits, fitting-return}
 use Rattle.dcc_c.proofs.refusals.WalkRules.{OwnClean}
-use Rattle.dcc_c.proofs.refusals.ListRules.{not-true-false, cases-differ, differ-cases}
+use Rattle.dcc_c.proofs.refusals.ListRules.{cases-differ, differ-cases}
 
 -- What a scene knows is what a function of a tree knows.
 pub record IsScene (tree : Tree) (f : Function) (scene : Scene) : Type 0 where

@@ -1,23 +1,23 @@
 -- A call, a return and an assignment that have been read to their ends are allowed just where nothing offends in them.
 use native.Mathlib.Omega.{arith}
-use Rattle.std.proofs.Common.{◌≡◌, ℕ, zero, suc, ◌<◌, Bool, true, false, ◌&&◌, ◌||◌, List, [], ◌∷◌, ◌++◌, length, map, Option, Some, None, refl, sym, ap, ◌∙◌}
+use Rattle.std.proofs.Common.{◌≡◌, ℕ, suc, Bool, true, false, ◌&&◌, List, [], ◌∷◌, ◌++◌, length, map, Option, Some, None, refl, sym, ap, ◌∙◌}
 use Rattle.std.proofs.lemmas.Bool.{ltb-false, le-ltb}
-use Rattle.std.specs.Prelude.{not, is_some, is_none, nat_lt, option_map, option_and_then, if◌then◌else◌}
+use Rattle.std.specs.Prelude.{not, is_some, nat_lt, option_map, if◌then◌else◌}
 use Rattle.std.proofs.Math.Bool.{and-false}
 use Rattle.std.specs.List.{list_all}
 use Rattle.dcc_c.specs.declared.syntax.CType.{CType}
-use Rattle.dcc_c.specs.Tree.{Word, Expr, Name}
+use Rattle.dcc_c.specs.Tree.{Word, Expr}
 use Rattle.dcc_c.specs.Dos.{Signature}
 use Rattle.dcc_c.specs.Typing.{Declared, declared_as, place_type}
-use Rattle.dcc_c.specs.Rules.{converts, fits, fit_all, place_takes, result_fits, call_fits}
+use Rattle.dcc_c.specs.Rules.{converts, fits, fit_all, result_fits, call_fits}
 use Rattle.dcc_c.specs.Kinds.{of_name, of_type, Offence, offence, only_if}
-use Rattle.dcc_c.specs.Partial.{WordAt, PartialExpr, Missing, NumberHere, NameHere, UnaryHere, BinaryOf, ConditionalOf, CastHere, place_of, is_missing, is_name_here, PartialCall}
+use Rattle.dcc_c.specs.Partial.{WordAt, PartialExpr, Missing, NumberHere, NameHere, UnaryHere, BinaryOf, ConditionalOf, CastHere, is_missing, is_name_here, PartialCall}
 use Rattle.dcc_c.specs.Known.{Known, known_as}
-use Rattle.dcc_c.specs.Offences.{Scene, told_place, becomes, conversion, expr_offences, place_offences, assigned_offences, arguments_inner, arguments_become, count_read, count_offends, result_offences, signature_offences, callee_offences, place_if, call_offences, return_offences}
+use Rattle.dcc_c.specs.Offences.{Scene, becomes, conversion, expr_offences, assigned_offences, arguments_inner, arguments_become, count_read, count_offends, result_offences, signature_offences, callee_offences, place_if, call_offences, return_offences}
 use Rattle.dcc_c.specs.Stripped.{plain_expr}
 use Rattle.dcc_c.specs.Complete.{is_complete_expr, is_complete_place, is_complete_place_if, is_complete_if}
-use Rattle.dcc_c.proofs.refusals.ExprRules.{none-both, none-only, no-some, true-false, both-empty, and-both, or-left, or-right}
-use Rattle.dcc_c.proofs.refusals.StmtRules.{IsPlaced, place-placed, place-clean, fits-of, Becomes, becomes-of, not-true}
+use Rattle.dcc_c.proofs.refusals.ExprRules.{none-both, none-only, true-false, both-empty, and-both, or-left, or-right}
+use Rattle.dcc_c.proofs.refusals.StmtRules.{place-placed, place-clean, fits-of, becomes-of, not-true}
 
 -- An assignment that fits.
 pub fitting-assignment : (scene : Scene) (place e : PartialExpr) → is_complete_place place ≡ true → is_complete_expr e ≡ true →

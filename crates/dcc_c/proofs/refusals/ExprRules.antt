@@ -1,19 +1,18 @@
 -- An expression that has been read to its end has a type just where nothing in it offends.
 use Rattle.std.proofs.Common.{◌≡◌, ℕ, Bool, true, false, ◌&&◌, ◌||◌, List, [], ◌∷◌, ◌++◌, Option, Some, None, refl, sym, ap, ◌∙◌}
 use Rattle.std.specs.Prelude.{not, is_some, is_none, option_map, option_and_then, if◌then◌else◌}
-use Rattle.dcc_c.specs.declared.syntax.Base.{Base}
 use Rattle.dcc_c.specs.declared.syntax.Base.TheVariants.{Int}
 use Rattle.dcc_c.specs.declared.syntax.CType.{CType}
 use Rattle.dcc_c.specs.declared.syntax.CUn.{CUn}
 use Rattle.dcc_c.specs.declared.syntax.CUn.TheVariants.{Minus, Complement, Not, Deref, AddressOf}
 use Rattle.dcc_c.specs.declared.syntax.CBin.{CBin}
-use Rattle.dcc_c.specs.Tree.{Word, Expr, Number, Name, Unary, Binary, Conditional, Cast}
+use Rattle.dcc_c.specs.Tree.{Word, Unary}
 use Rattle.dcc_c.specs.Types.{plain, promoted_type}
 use Rattle.dcc_c.specs.Typing.{numbers_type, Declared, declared_as, type_of_name, type_of_address, unary_type, binary_type, is_comparison, is_sum, both_types, arms_type, both_arms_type, tested_type, type_of}
 use Rattle.dcc_c.specs.Kinds.{of_name, of_type, Offence, offence, only_if}
 use Rattle.dcc_c.specs.Partial.{PartialExpr, Missing, NumberHere, NameHere, UnaryHere, BinaryOf, ConditionalOf, CastHere, place_of}
 use Rattle.dcc_c.specs.Known.{known_as}
-use Rattle.dcc_c.specs.Offences.{Scene, told_type, operand_of_address, no_variable, value_offences, wants_number, wants_pointer, unary_offences, second_offends, binary_offences, arms_offences, address_offences, expr_offences, is_pointer}
+use Rattle.dcc_c.specs.Offences.{Scene, told_type, no_variable, value_offences, wants_number, wants_pointer, unary_offences, second_offends, binary_offences, arms_offences, address_offences, expr_offences, is_pointer}
 use Rattle.dcc_c.specs.Stripped.{plain_expr}
 use Rattle.dcc_c.specs.Complete.{is_complete_expr}
 

@@ -1,32 +1,17 @@
 -- A function that has been read to its end is allowed where nothing offends in it.
-use Rattle.std.proofs.Common.{◌≡◌, ℕ, suc, Bool, true, false, ◌&&◌, ◌||◌, ◌==◌, List, [], ◌∷◌, ◌++◌, length, map, Option, Some, None, refl, sym, ap, ◌∙◌, append_assoc, append-nil}
-use Rattle.std.proofs.lemmas.List.{map-append}
-use Rattle.std.specs.Prelude.{not, is_some, is_none, option_map, if◌then◌else◌}
-use Rattle.std.specs.List.{list_any, list_all, flat_map}
+use Rattle.std.proofs.Common.{◌≡◌, Bool, true, false, ◌||◌, List, [], ◌∷◌, ◌++◌, map, refl, sym, ap, ◌∙◌}
+use Rattle.std.specs.Prelude.{not, option_map}
+use Rattle.std.specs.List.{list_all}
 use Rattle.dcc_c.specs.Token.{same_bytes}
-use Rattle.dcc_c.specs.Tree.{Word, Stmt, Lines, Variable, Global, Function, Tree}
-use Rattle.dcc_c.specs.Parts.{stmts_in, labels_in}
-use Rattle.dcc_c.specs.Placement.{is_auto, is_register}
-use Rattle.dcc_c.specs.Typing.{Declared, declared_as}
-use Rattle.dcc_c.specs.Dos.{Signature, dos_names}
+use Rattle.dcc_c.specs.Tree.{Word, Variable}
 use Rattle.dcc_c.specs.Grammar.{is_among}
-use Rattle.dcc_c.specs.Rules.{names_of, known_names, own_variables, all_differ, goto_of, allows_labels, allows_stmt, has_element, declared_in, declared_param, declared_local, declared_global, signature_in, shallow_stmt, IsAllowedFunction}
-use Rattle.dcc_c.specs.Kinds.{of_name, of_place, Offence, offence, only_if}
-use Rattle.dcc_c.specs.Partial.{WordAt, NumberAt, PartialVariable, PartialFunction, PartialText, PartialLines}
-use Rattle.dcc_c.specs.Known.{Known, known_dos, known_as}
-use Rattle.dcc_c.specs.Offences.{Scene, repeated, label_list, lines_offences, body_offences}
-use Rattle.dcc_c.specs.TextOffences.{name_list, words_of, declared_of, sizes_of, size_offences, Whole, scene_of, function_offences}
-use Rattle.dcc_c.specs.Stripped.{plain_name, plain_type, plain_lines, plain_variable, plain_global, plain_function}
-use Rattle.dcc_c.specs.Complete.{is_complete_variable, is_complete_lines, are_within, is_complete_function}
-use Rattle.dcc_c.proofs.refusals.ExprRules.{none-both, none-only, both-empty, and-both, no-some}
-use Rattle.dcc_c.proofs.refusals.CallRules.{HasSignature}
-use Rattle.dcc_c.proofs.refusals.ListRules.{none_among, repeated-apart, apart-repeated, not-true-false}
-use Rattle.dcc_c.proofs.refusals.LabelRules.{lines-words}
-use Rattle.dcc_c.proofs.refusals.TimesRules.{among-same, differ-same, all-same}
-use Rattle.dcc_c.proofs.refusals.WalkRules.{all-append, append-all, lines-all, lines-clean, OwnClean}
-use Rattle.dcc_c.proofs.refusals.BodyRules.{IsScene, Knows, stmt-allowed, stmt-clean}
+use Rattle.dcc_c.specs.Rules.{all_differ, has_element}
+use Rattle.dcc_c.specs.Partial.{PartialVariable}
+use Rattle.dcc_c.specs.TextOffences.{sizes_of, size_offences}
+use Rattle.dcc_c.specs.Stripped.{plain_variable}
+use Rattle.dcc_c.proofs.refusals.ExprRules.{none-both, both-empty, and-both}
+use Rattle.dcc_c.proofs.refusals.ListRules.{none_among, not-true-false}
 use Rattle.dcc_c.proofs.refusals.GlobalRules.{size-there, there-size}
-use Rattle.dcc_c.proofs.refusals.KnownRules.{Complete, complete-variable, name-words, declared-all, CompleteFunction, complete-function, known_plain, same-signature}
 
 -- Lists of names.
 

@@ -1,25 +1,24 @@
 -- The places of global variables are allowed where none of them offends.
 use native.Mathlib.Omega.{arith}
-use Rattle.std.proofs.Common.{◌≡◌, ℕ, zero, suc, ◌+◌, ◌*◌, ◌≤◌, ◌<◌, Bool, true, false, ◌&&◌, ◌||◌, ◌==◌, List, [], ◌∷◌, ◌++◌, length, map, drop, Option, Some, None, refl, sym, ap, ◌∙◌}
+use Rattle.std.proofs.Common.{◌≡◌, ℕ, zero, suc, ◌+◌, ◌*◌, ◌≤◌, ◌<◌, Bool, true, false, ◌&&◌, ◌||◌, ◌==◌, List, [], ◌∷◌, length, map, drop, Option, Some, None, refl, sym, ap, ◌∙◌}
 use Rattle.std.proofs.lemmas.Bool.{ltb-false, le-ltb, leb-true, le-leb, eqb-true, lt-ltb, ltb-true}
 use Rattle.std.proofs.Math.Bool.{and-false}
-use Rattle.std.specs.Prelude.{not, nat_lt, nat_le, is_some, option_map, if◌then◌else◌}
-use Rattle.std.specs.List.{list_any, list_all}
+use Rattle.std.specs.Prelude.{not, nat_lt, nat_le, option_map, if◌then◌else◌}
+use Rattle.std.specs.List.{list_all}
 use Rattle.dcc_c.specs.declared.syntax.CType.{CType}
 use Rattle.dcc_c.specs.declared.syntax.Base.TheVariants.{Schar, Uchar, Int, Uint, Long, Ulong}
-use Rattle.dcc_c.specs.Tree.{Word, Global}
+use Rattle.dcc_c.specs.Tree.{Global}
 use Rattle.dcc_c.specs.Types.{size_of}
 use Rattle.dcc_c.specs.Placement.{elements, bytes_of, behind_global}
 use Rattle.dcc_c.specs.Rules.{has_element, allows_global, are_apart, all_apart, is_off_stack}
-use Rattle.dcc_c.specs.Kinds.{of_place, Offence, offence, only_if}
+use Rattle.dcc_c.specs.Kinds.{of_place, offence, only_if}
 use Rattle.dcc_c.specs.Partial.{WordAt, NumberAt, PartialVariable}
 use Rattle.dcc_c.specs.ReadingText.{size_in_bytes}
 use Rattle.dcc_c.specs.TextOffences.{size_offences, element_count, first_number, surplus, end_of, stand_apart, is_misplaced, misplaced_at, takes_bytes, globals_places}
 use Rattle.dcc_c.specs.Stripped.{plain_type, plain_numbers, plain_global}
 use Rattle.dcc_c.specs.Complete.{is_complete_variable}
-use Rattle.dcc_c.proofs.refusals.ExprRules.{none-both, none-only, both-empty, and-both, or-left, or-right, true-false}
+use Rattle.dcc_c.proofs.refusals.ExprRules.{none-both, none-only, both-empty, and-both, or-left, or-right}
 use Rattle.dcc_c.proofs.refusals.StmtRules.{not-true}
-use Rattle.dcc_c.proofs.refusals.ListRules.{not-true-false}
 use Rattle.dcc_c.proofs.refusals.KnownRules.{Complete, complete-variable}
 
 no-successor : {n : ℕ} → suc n ≡ 0 → ⊥

@@ -1,22 +1,20 @@
 -- What a complete text knows is what its tree knows: names, variables and functions.
-use Rattle.std.proofs.Common.{◌≡◌, ℕ, suc, ◌+◌, Bool, true, false, ◌&&◌, ◌||◌, ◌==◌, List, [], ◌∷◌, ◌++◌, length, map, Option, Some, None, refl, sym, ap, ◌∙◌, append_assoc, append-nil}
-use Rattle.std.proofs.lemmas.List.{map-append}
-use Rattle.std.specs.Prelude.{not, is_some, is_none, option_map, if◌then◌else◌}
-use Rattle.std.specs.List.{list_any, list_all}
+use Rattle.std.proofs.Common.{◌≡◌, ℕ, Bool, true, false, ◌&&◌, ◌==◌, List, [], ◌∷◌, ◌++◌, length, map, Option, Some, None, refl, sym, ap, ◌∙◌}
+use Rattle.std.specs.Prelude.{is_some, option_map, if◌then◌else◌}
+use Rattle.std.specs.List.{list_all}
 use Rattle.dcc_c.specs.declared.syntax.CType.{CType}
 use Rattle.dcc_c.specs.Token.{same_bytes}
-use Rattle.dcc_c.specs.Tree.{Word, Variable, Global, Function, Tree}
-use Rattle.dcc_c.specs.Placement.{is_auto, is_register}
-use Rattle.dcc_c.specs.Typing.{Declared, declared_as}
-use Rattle.dcc_c.specs.Dos.{Dos, Signature, all_dos, dos_name, dos_names, dos_in, dos_of, dos_signature}
-use Rattle.dcc_c.specs.Run.{function_in, param_types}
-use Rattle.dcc_c.specs.Rules.{names_of, known_names, own_variables, declared_param, declared_local, declared_global, declared_in, signature_in, signature_of as tree_signature}
-use Rattle.dcc_c.specs.Partial.{WordAt, NumberAt, PartialVariable, PartialFunction, PartialText}
+use Rattle.dcc_c.specs.Tree.{Word, Variable, Tree}
+use Rattle.dcc_c.specs.Typing.{Declared}
+use Rattle.dcc_c.specs.Dos.{Dos, Signature, all_dos, dos_name, dos_in, dos_of, dos_signature}
+use Rattle.dcc_c.specs.Run.{function_in}
+use Rattle.dcc_c.specs.Rules.{signature_in, signature_of as tree_signature}
+use Rattle.dcc_c.specs.Partial.{WordAt, PartialVariable, PartialFunction}
 use Rattle.dcc_c.specs.Known.{Known, known, known_dos, known_as, type_list, signature_of, known_named, known_of, known_functions}
 use Rattle.dcc_c.specs.TextOffences.{name_list, words_of, declared_of, function_names}
-use Rattle.dcc_c.specs.Stripped.{plain_name, plain_type, plain_variable, plain_global, plain_function}
+use Rattle.dcc_c.specs.Stripped.{plain_name, plain_type, plain_variable, plain_function}
 use Rattle.dcc_c.specs.Complete.{agree, is_complete_lines, are_within, is_complete_variable, is_complete_function}
-use Rattle.dcc_c.proofs.refusals.ExprRules.{and-both, true-false}
+use Rattle.dcc_c.proofs.refusals.ExprRules.{and-both}
 
 -- A complete variable has a name and a type.
 pub record Complete (v : PartialVariable) : Type 0 where

@@ -1,28 +1,26 @@
 -- What is known in a function of a complete text is what is known in the function of its tree.
-use Rattle.std.proofs.Common.{◌≡◌, ℕ, suc, Bool, true, false, ◌&&◌, ◌||◌, ◌==◌, List, [], ◌∷◌, ◌++◌, length, map, Option, Some, None, refl, sym, ap, ◌∙◌, append_assoc, append-nil}
+use Rattle.std.proofs.Common.{◌≡◌, Bool, true, false, ◌||◌, List, [], ◌∷◌, ◌++◌, map, Option, Some, None, refl, sym, ap, ◌∙◌, append-nil}
 use Rattle.std.proofs.lemmas.List.{map-append}
-use Rattle.std.specs.Prelude.{not, is_some, is_none, option_map, if◌then◌else◌}
-use Rattle.std.specs.List.{list_any, list_all}
+use Rattle.std.specs.Prelude.{not, is_some, option_map, if◌then◌else◌}
+use Rattle.std.specs.List.{list_all}
 use Rattle.dcc_c.specs.Token.{same_bytes}
-use Rattle.dcc_c.specs.Tree.{Word, Variable, Global, Function, Tree}
+use Rattle.dcc_c.specs.Tree.{Word, Variable, Global, Function}
 use Rattle.dcc_c.specs.Placement.{is_auto, is_register}
 use Rattle.dcc_c.specs.Typing.{Declared, declared_as}
 use Rattle.dcc_c.specs.Dos.{Dos, Signature, all_dos, dos_name, dos_names, dos_in, dos_of, dos_signature}
 use Rattle.dcc_c.specs.Grammar.{is_among}
 use Rattle.dcc_c.specs.Run.{function_in}
 use Rattle.dcc_c.specs.Rules.{names_of, known_names, own_variables, all_differ, declared_in, declared_param, declared_local, declared_global, signature_in, signature_of as tree_signature}
-use Rattle.dcc_c.specs.Partial.{WordAt, NumberAt, PartialVariable, PartialFunction, PartialText}
-use Rattle.dcc_c.specs.Known.{Known, known, known_dos, known_as, known_functions}
-use Rattle.dcc_c.specs.Offences.{Scene, label_list}
-use Rattle.dcc_c.specs.TextOffences.{name_list, words_of, declared_of, Whole, scene_of, known_in}
+use Rattle.dcc_c.specs.Partial.{NumberAt, PartialVariable, PartialFunction, PartialText}
+use Rattle.dcc_c.specs.Known.{Known, known_dos, known_as, known_functions}
+use Rattle.dcc_c.specs.TextOffences.{declared_of, scene_of, known_in}
 use Rattle.dcc_c.specs.Stripped.{plain_name, plain_type, plain_variable, plain_global, plain_function, plain_text}
 use Rattle.dcc_c.specs.Complete.{is_complete_variable, is_complete_function}
 use Rattle.dcc_c.proofs.WrittenRows.{same_bytes-true}
-use Rattle.dcc_c.proofs.refusals.ExprRules.{and-both, no-some, true-false, or-left, or-right}
-use Rattle.dcc_c.proofs.refusals.CallRules.{HasSignature}
+use Rattle.dcc_c.proofs.refusals.ExprRules.{and-both, true-false, or-left, or-right}
 use Rattle.dcc_c.proofs.refusals.ListRules.{none_among, not-true-false, bytes-symmetric}
 use Rattle.dcc_c.proofs.refusals.BodyRules.{IsScene, Knows}
-use Rattle.dcc_c.proofs.refusals.KnownRules.{declared_plain, declared-all, CompleteFunction, complete-function, known_plain, known-all, same-signature, signature_if}
+use Rattle.dcc_c.proofs.refusals.KnownRules.{declared_plain, declared-all, CompleteFunction, known_plain, known-all, same-signature, signature_if}
 use Rattle.dcc_c.proofs.refusals.FunctionRules.{append-differ}
 
 -- Variables.

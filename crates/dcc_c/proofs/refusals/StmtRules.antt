@@ -1,19 +1,18 @@
 -- A statement that has been read to its end is allowed just where nothing offends in its own parts.
-use Rattle.std.proofs.Common.{◌≡◌, ℕ, Bool, true, false, ◌&&◌, ◌||◌, List, [], ◌∷◌, ◌++◌, map, Option, Some, None, refl, sym, ap, ◌∙◌}
-use Rattle.std.specs.Prelude.{not, is_some, is_none, option_map, option_and_then, if◌then◌else◌}
-use Rattle.std.specs.List.{list_all}
+use Rattle.std.proofs.Common.{◌≡◌, ℕ, Bool, true, false, ◌&&◌, List, [], ◌∷◌, ◌++◌, Option, Some, None, refl, sym, ap, ◌∙◌}
+use Rattle.std.specs.Prelude.{not, is_some, option_and_then, if◌then◌else◌}
 use Rattle.dcc_c.specs.declared.syntax.CType.{CType}
 use Rattle.dcc_c.specs.declared.syntax.CUn.TheVariants.{Minus, Complement, Not, Deref, AddressOf}
-use Rattle.dcc_c.specs.Tree.{Word, Expr, Name, Unary}
+use Rattle.dcc_c.specs.Tree.{Word}
 use Rattle.dcc_c.specs.Typing.{Declared, declared_as, type_of_variable, type_of, place_type}
 use Rattle.dcc_c.specs.Rules.{converts, fits, is_number}
 use Rattle.dcc_c.specs.Kinds.{of_name, of_type, Offence, offence, only_if}
 use Rattle.dcc_c.specs.Partial.{PartialExpr, Missing, NumberHere, NameHere, UnaryHere, BinaryOf, ConditionalOf, CastHere, place_of, is_name_here}
 use Rattle.dcc_c.specs.Known.{known_as}
-use Rattle.dcc_c.specs.Offences.{Scene, told_type, told_place, is_pointer, no_variable, wants_number, expr_offences, place_offences, conversion, becomes, assigned_offences, test_offences}
+use Rattle.dcc_c.specs.Offences.{Scene, told_place, no_variable, wants_number, expr_offences, place_offences, conversion, becomes, assigned_offences, test_offences}
 use Rattle.dcc_c.specs.Stripped.{plain_expr}
 use Rattle.dcc_c.specs.Complete.{is_complete_expr, is_complete_place}
-use Rattle.dcc_c.proofs.refusals.ExprRules.{none-both, none-only, no-some, true-false, both-empty, IsTyped, expr-typed, IsClean, expr-clean, no-pointer, no-number, then-some}
+use Rattle.dcc_c.proofs.refusals.ExprRules.{none-both, none-only, no-some, both-empty, expr-typed, expr-clean, no-pointer, no-number, then-some}
 
 -- Places.
 

@@ -1,28 +1,26 @@
 -- A complete text keeps the rules just where nothing offends in it.
 use native.Mathlib.Omega.{arith}
-use Rattle.std.proofs.Common.{◌≡◌, ℕ, zero, suc, ◌≤◌, Bool, true, false, ◌&&◌, ◌||◌, ◌==◌, List, [], ◌∷◌, ◌++◌, length, map, Option, Some, None, refl, sym, ap, ◌∙◌, append_assoc, append-nil}
+use Rattle.std.proofs.Common.{◌≡◌, ℕ, suc, ◌≤◌, Bool, true, false, ◌&&◌, ◌==◌, List, [], ◌∷◌, ◌++◌, length, map, Option, Some, None, refl, sym, ap, ◌∙◌, append_assoc}
 use Rattle.std.proofs.lemmas.List.{map-append}
-use Rattle.std.proofs.lemmas.Bool.{ltb-false, le-ltb, eqb-true, eq-eqb}
-use Rattle.std.specs.Prelude.{not, nat_lt, is_some, codes, if◌then◌else◌}
-use Rattle.std.specs.List.{list_any, list_all}
-use Rattle.dcc_c.specs.declared.syntax.CType.{CType}
+use Rattle.std.proofs.lemmas.Bool.{ltb-false, le-ltb, eqb-true}
+use Rattle.std.specs.Prelude.{not, nat_lt, is_some, codes}
+use Rattle.std.specs.List.{list_all}
 use Rattle.dcc_c.specs.Token.{same_bytes}
-use Rattle.dcc_c.specs.Tree.{Word, Variable, Global, Function, Tree}
+use Rattle.dcc_c.specs.Tree.{Global, Function}
 use Rattle.dcc_c.specs.Parts.{stmts_in}
 use Rattle.dcc_c.specs.Dos.{dos_names}
-use Rattle.dcc_c.specs.Rules.{known_names, all_differ, is_off_stack, shallow_stmt, IsAllowedFunction, AreAllowed, no_more, one_more, IsAllowed}
+use Rattle.dcc_c.specs.Rules.{known_names, all_differ, is_off_stack, shallow_stmt, AreAllowed, no_more, one_more, IsAllowed}
 use Rattle.dcc_c.specs.Kinds.{of_name, of_place, Offence, offence, only_if}
 use Rattle.dcc_c.specs.Partial.{WordAt, NumberAt, PartialVariable, PartialFunction, PartialText}
 use Rattle.dcc_c.specs.Offences.{repeated}
-use Rattle.dcc_c.specs.TextOffences.{name_list, words_of, function_names, stack_offences, number_or_zero, globals_places, not_named_start, start_offences, known_in, Whole, function_offences, functions_offences, text_offences}
+use Rattle.dcc_c.specs.TextOffences.{name_list, words_of, function_names, stack_offences, number_or_zero, globals_places, not_named_start, start_offences, known_in, function_offences, functions_offences, text_offences}
 use Rattle.dcc_c.specs.Stripped.{plain_name, plain_number, plain_lines, plain_variable, plain_global, plain_function, plain_text}
 use Rattle.dcc_c.specs.Complete.{is_complete_variable, is_complete_function, is_complete_text}
 use Rattle.dcc_c.proofs.WrittenRows.{same_bytes-true}
-use Rattle.dcc_c.proofs.refusals.ExprRules.{none-both, none-only, both-empty, and-both, true-false}
+use Rattle.dcc_c.proofs.refusals.ExprRules.{none-both, none-only, both-empty, and-both}
 use Rattle.dcc_c.proofs.refusals.StmtRules.{not-true}
 use Rattle.dcc_c.proofs.refusals.ListRules.{none_among, repeated-apart, apart-repeated, not-true-false}
-use Rattle.dcc_c.proofs.refusals.TimesRules.{bytes-same}
-use Rattle.dcc_c.proofs.refusals.GlobalRules.{all_off, ArePlaced, places-allowed, placed-clean}
+use Rattle.dcc_c.proofs.refusals.GlobalRules.{all_off, places-allowed, placed-clean}
 use Rattle.dcc_c.proofs.refusals.KnownRules.{CompleteFunction, complete-function, name-words, function-words}
 use Rattle.dcc_c.proofs.refusals.FunctionRules.{append-differ, differ-append}
 use Rattle.dcc_c.proofs.refusals.AllowedRules.{function-allowed, function-clean, globals-map}

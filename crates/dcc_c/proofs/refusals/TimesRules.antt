@@ -1,15 +1,15 @@
 -- Words of a list that stand there once, and words that stand in a list.
 use native.Mathlib.Omega.{arith}
-use Rattle.std.proofs.Common.{◌≡◌, ℕ, zero, suc, ◌+◌, ◌≤◌, ◌<◌, Bool, true, false, ◌&&◌, ◌||◌, List, [], ◌∷◌, ◌++◌, refl, sym, ap, ◌∙◌}
+use Rattle.std.proofs.Common.{◌≡◌, suc, ◌≤◌, ◌<◌, Bool, true, false, ◌||◌, List, [], ◌∷◌, refl, sym, ap, ◌∙◌}
 use Rattle.std.proofs.lemmas.Bool.{eq-eqb}
 use Rattle.std.specs.Prelude.{not, if◌then◌else◌}
-use Rattle.std.specs.List.{list_any, list_all}
+use Rattle.std.specs.List.{list_all}
 use Rattle.dcc_c.specs.Token.{same_bytes}
 use Rattle.dcc_c.specs.Tree.{Word}
 use Rattle.dcc_c.specs.Grammar.{is_among}
 use Rattle.dcc_c.specs.Rules.{all_differ}
 use Rattle.dcc_c.proofs.WrittenRows.{same_bytes-true}
-use Rattle.dcc_c.proofs.refusals.ExprRules.{and-both, or-left, or-right, true-false}
+use Rattle.dcc_c.proofs.refusals.ExprRules.{and-both, or-left, or-right}
 use Rattle.dcc_c.proofs.refusals.ListRules.{bytes-symmetric, not-true-false}
 use Rattle.dcc_c.proofs.refusals.LabelRules.{times, SameWords}
 

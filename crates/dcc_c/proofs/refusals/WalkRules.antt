@@ -1,12 +1,12 @@
 -- What holds of each statement in which nothing offends holds of all statements of a block.
-use Rattle.std.proofs.Common.{◌≡◌, ℕ, suc, Bool, true, false, ◌&&◌, ◌==◌, List, [], ◌∷◌, ◌++◌, length, Option, Some, None, refl, ap, ◌∙◌}
+use Rattle.std.proofs.Common.{◌≡◌, ℕ, suc, Bool, true, false, ◌&&◌, ◌==◌, List, [], ◌∷◌, ◌++◌, length, Some, None, refl, ap}
 use Rattle.std.proofs.lemmas.Bool.{le-ltb, leb-true}
-use Rattle.std.specs.Prelude.{nat_lt, nat_le, is_some, if◌then◌else◌}
+use Rattle.std.specs.Prelude.{nat_lt, nat_le}
 use Rattle.std.specs.List.{list_all}
 use Rattle.dcc_c.specs.Tree.{Stmt}
 use Rattle.dcc_c.specs.Parts.{stmts_in, inner_stmts, arm_stmts}
 use Rattle.dcc_c.specs.Kinds.{of_depth, Offence, offence, only_if}
-use Rattle.dcc_c.specs.Partial.{WordAt, NumberAt, PartialExpr, PartialCall, PartialStmt, AssignOf, CallOf, IfOf, WhileOf, DoWhileOf, ForeverOf, SwitchOf, BreakOf, ContinueOf, GotoOf, LabelOf, EmptyOf, ReturnOf, PartialLines, no_rows, row, PartialArms, no_cases, cases}
+use Rattle.dcc_c.specs.Partial.{PartialStmt, AssignOf, CallOf, IfOf, WhileOf, DoWhileOf, ForeverOf, SwitchOf, BreakOf, ContinueOf, GotoOf, LabelOf, EmptyOf, ReturnOf, PartialLines, no_rows, row, PartialArms, no_cases, cases}
 use Rattle.dcc_c.specs.Offences.{Scene, own_offences, case_offences, case_numbers, default_offences, lines_offences, inner_offences, arms_inner}
 use Rattle.dcc_c.specs.Stripped.{plain_stmt, plain_lines, case_arms, default_arms}
 use Rattle.dcc_c.specs.Complete.{is_complete_expr, is_complete_stmt, is_complete_lines, are_complete_arms, are_within, is_within, are_arms_within}
