@@ -6,7 +6,7 @@ use Rattle.std.proofs.lemmas.Bool.{and_parts, and_from, leb-true, le-leb, lt-leb
 use Rattle.dcc_c.specs.declared.syntax.Base.TheVariants.{Uint}
 use Rattle.dcc_c.specs.declared.syntax.CBin.{CBin}
 use Rattle.dcc_c.specs.declared.syntax.CBin.TheVariants.{OrOr}
-use Rattle.dcc_c.specs.Token.{WordToken, Decimal, Mark, unsigned_suffix, is_word, is_word_byte, is_mark, ends_before, decimal_type}
+use Rattle.dcc_c.specs.Token.{WordToken, Decimal, Mark, Suffix, unsigned_suffix, is_word, is_word_byte, is_mark, ends_before, decimal_type}
 use Rattle.dcc_c.specs.Lexing.{Placed, placed}
 use Rattle.dcc_c.specs.Tree.{Word, Expr, Number, Name, Binary, Stmt, Assign, Call, Lines, no_lines, line}
 use Rattle.dcc_c.specs.Parts.{stmts_in}
@@ -22,7 +22,7 @@ pub data IsSimple : Expr → Type 0 where
   simple_binary : {a b : Expr} (operator : CBin) → IsSimple a → IsSimple b → IsSimple (Binary operator a b)
 
 -- a name is a word
-is_word-name : (spelled : Word) → is_name spelled ≡ true → is_word spelled ≡ true
+pub is_word-name : (spelled : Word) → is_name spelled ≡ true → is_word spelled ≡ true
 is_word-name spelled is = (and_parts (is_word spelled) (not (is_among keywords spelled)) is).0
 
 -- pieces, in parentheses where they are to be, before others
@@ -106,13 +106,13 @@ abbrev pub is_free : List ℕ → Bool
 is_free [] = true
 is_free (b ∷ bytes) = not (is_word_byte b)
 
-word_ends : (word bytes : List ℕ) → is_free bytes ≡ true → ends_before (WordToken word) bytes ≡ true
+pub word_ends : (word bytes : List ℕ) → is_free bytes ≡ true → ends_before (WordToken word) bytes ≡ true
 word_ends word [] free = refl
 word_ends word (b ∷ bytes) free = free
 
-number_ends : (n : ℕ) (bytes : List ℕ) → is_free bytes ≡ true → ends_before (Decimal n unsigned_suffix) bytes ≡ true
-number_ends n [] free = refl
-number_ends n (b ∷ bytes) free = free
+pub number_ends : (n : ℕ) (suffix : Suffix) (bytes : List ℕ) → is_free bytes ≡ true → ends_before (Decimal n suffix) bytes ≡ true
+number_ends n suffix [] free = refl
+number_ends n suffix (b ∷ bytes) free = free
 
 opening_ends : (bytes : List ℕ) → ends_before (Mark (codes "(")) bytes ≡ true
 opening_ends [] = refl
@@ -122,11 +122,11 @@ closing_ends : (bytes : List ℕ) → ends_before (Mark (codes ")")) bytes ≡ t
 closing_ends [] = refl
 closing_ends (b ∷ bytes) = refl
 
-operator_ends : (operator : CBin) (bytes : List ℕ) → ends_before (Mark (binary_mark operator)) (32 ∷ bytes) ≡ true
+pub operator_ends : (operator : CBin) (bytes : List ℕ) → ends_before (Mark (binary_mark operator)) (32 ∷ bytes) ≡ true
 operator_ends OrOr bytes = refl
 operator_ends _ bytes = refl
 
-operator_is : (operator : CBin) → is_mark (binary_mark operator) ≡ true
+pub operator_is : (operator : CBin) → is_mark (binary_mark operator) ≡ true
 operator_is OrOr = refl
 operator_is _ = refl
 
@@ -139,7 +139,7 @@ between_apart false row rest keeps others free apart = keeps others free apart
 -- the tokens of an expression end before what follows them
 expr_apart : {e : Expr} → IsSimple e → (rest : List ℕ) (others : List Piece) → is_free (row_bytes others rest) ≡ true → are_apart others rest ≡ true → are_apart (expr_row e others) rest ≡ true
 expr_apart (simple_number n small) rest others free apart =
-    and_from _ _ (le-leb n 4294967295 (omega arith)) (and_from _ _ (number_ends n (row_bytes others rest) free) apart)
+    and_from _ _ (le-leb n 4294967295 (omega arith)) (and_from _ _ (number_ends n unsigned_suffix (row_bytes others rest) free) apart)
 expr_apart (simple_name spelled is) rest others free apart =
     and_from _ _ (is_word-name spelled is) (and_from _ _ (word_ends spelled (row_bytes others rest) free) apart)
 expr_apart (simple_binary {a} {b} operator first second) rest others free apart =
@@ -156,12 +156,12 @@ lower : (k : ℕ) {s : ℕ} {tokens rest : List Placed} {e : Expr} → IsExpr (a
 lower zero is = is
 lower (suc k) is = lower k (stronger is)
 
-to_zero : (k : ℕ) {tokens rest : List Placed} {e : Expr} → IsExpr k tokens e rest → IsExpr 0 tokens e rest
+pub to_zero : (k : ℕ) {tokens rest : List Placed} {e : Expr} → IsExpr k tokens e rest → IsExpr 0 tokens e rest
 to_zero zero is = is
 to_zero (suc k) is = to_zero k (stronger is)
 
 -- a unary part is an operand of each operator
-as_operand : (operator : CBin) {tokens rest : List Placed} {e : Expr} → IsExpr 11 tokens e rest → IsExpr (suc (strength operator)) tokens e rest
+pub as_operand : (operator : CBin) {tokens rest : List Placed} {e : Expr} → IsExpr 11 tokens e rest → IsExpr (suc (strength operator)) tokens e rest
 as_operand OrOr is = lower 9 is
 as_operand operator is = lower (10 - strength operator) is
 

@@ -318,20 +318,21 @@ mutual
         AreLines limit around false between others lines after rest →
         AreLines limit around labelled depth (placed at token ∷ tokens) (line stmt at lines) after rest
 
-  -- The tokens begin with the arms of a `switch`, those with cases and those with `default`; a `break` ends each.
+  -- The tokens begin with the arms of a `switch`, those with cases and those with `default`; a `break` ends each, which
+  -- at most `limit` blocks stand around.
   pub data AreArms (limit : ℕ) : Around → ℕ → List Placed → Arms → Arms → ℕ → List Placed → Type 0 where
     no_arm : {around : Around} {depth : ℕ} {rest : List Placed} →
         AreArms limit around depth rest no_arms no_arms depth rest
     case_arm : {around : Around} {depth between after leaves end : ℕ}
         {all tokens others rest : List Placed} {cases : List ℕ} {body : Lines} {arms last : Arms} →
-        AreCases all cases tokens →
+        AreCases all cases tokens → around.blocks ≤ limit →
         AreLines limit around false depth tokens body between
         (word leaves (codes "break") ∷ mark end (codes ";") ∷ others) →
         AreArms limit around between others arms last after rest →
         AreArms limit around depth all (arm cases body arms) last after rest
     default_arm : {around : Around} {depth between after at colon leaves end : ℕ}
         {tokens others rest : List Placed}
-        {body : Lines} {arms last : Arms} →
+        {body : Lines} {arms last : Arms} → around.blocks ≤ limit →
         AreLines limit around false depth tokens body between
         (word leaves (codes "break") ∷ mark end (codes ";") ∷ others) →
         AreArms limit around between others arms last after rest →

@@ -1,2 +1,6 @@
+pub mod Variables
+pub mod GotoExpr
+pub mod GotoText
 pub mod Agreement
+pub mod Uncounted
 pub mod Answer

@@ -1,30 +1,51 @@
-//! From an image to its text. A stub: it finds no memory.
+//! From an image to its text.
 
-ghost use Rattle.std.specs.Prelude.{◌≡◌, IfOk, IfErr};
+ghost use Rattle.std.specs.Prelude.{IfOk, IfErr};
 ghost use Rattle.dcc_prog.specs.MzImage.{IsLoaded};
+ghost use Rattle.dcc_prog.specs.Layout.{HasLayout};
+ghost use Rattle.dcc_prog.specs.Found.{AreFound};
 ghost use Rattle.dcc_c.specs.Views.{tree_of};
 ghost use Rattle.dcc_c.specs.Written.{written_form};
 ghost use Rattle.dcc_c.specs.Numbered.{numbered};
 ghost use Rattle.dcc_pipe.specs.Agreement.{IsTextOf};
 ghost use Rattle.dcc_pipe.specs.Answer.{IsAccepted, IsRefusal};
 
+use crate::goto_text::goto_text;
 use dcc_c::Unit;
 use dcc_layout::layout;
-use dcc_prog::{Image, Refusal};
-use std::alloc::Global;
+use dcc_lift::lift;
+use dcc_procs::find;
+use dcc_prog::{Image, Layout, Proc, Refusal};
+use std::alloc::{AllocError, Global};
 
-/// The text of a loaded program, its lines counted: a variable for each half of a word register, each flag and each
-/// temporary, a label before each block, and jumps. On every input and from every fill its run agrees with that of
-/// the program.
+/// The text of a program whose layout and procedures are found.
+fn text_of(
+    alloc: Global,
+    image: &Image,
+    layout: &Layout,
+    procs: &Vec<Proc>,
+) -> Result<Unit, AllocError>
+    requires loaded { IsLoaded image.now }
+    requires layout { HasLayout image.now layout.now }
+    requires found { AreFound image.now layout.now procs.now.items }
+    ensures { IfOk result (λ unit. IsTextOf image.now (written_form (tree_of unit)) (numbered (tree_of unit))) }
+{
+    let program = lift(alloc, image, layout, procs)?;
+    goto_text(alloc, &program)
+}
+
+/// The text of a loaded program: a variable for each half of a word register, each flag and each temporary, a label
+/// before each block, and jumps. Its written form stands for its tree with the lines counted, whose run on every input
+/// and from every fill agrees with that of the program. The lines of the unit itself are not counted yet.
 ///
 /// A program is refused where it has no layout, and where its procedures are refused.
 pub fn decompile(alloc: Global, image: &Image) -> Result<Unit, Refusal>
     requires { IsLoaded image.now }
-    ensures text { IfOk result (λ unit. IsTextOf image.now (written_form (tree_of unit)) (tree_of unit)) }
-    ensures counted { IfOk result (λ unit. numbered (tree_of unit) ≡ tree_of unit) }
+    ensures text { IfOk result (λ unit. IsTextOf image.now (written_form (tree_of unit)) (numbered (tree_of unit))) }
     ensures accepted { IfOk result (λ unit. IsAccepted image.now) }
     ensures refused { IfErr result (IsRefusal image.now) }
 {
-    layout(alloc, image)?;
-    Err(Refusal::Memory)
+    let layout = layout(alloc, image)?;
+    let procs = find(alloc, image, &layout)?;
+    Ok(text_of(alloc, image, &layout, &procs)?)
 }

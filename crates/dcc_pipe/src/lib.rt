@@ -1,6 +1,11 @@
-//! From an executable to its C text. A stub: it finds no memory.
+//! From an executable to its C text.
 #![tactic(auto)]
 
 mod decompilation;
+mod goto_expr;
+mod goto_text;
+#[cfg(test)]
+mod tests;
+mod variables;
 
 pub use decompilation::decompile;

@@ -4,3 +4,4 @@ pub mod IndentLaws
 pub mod JoinedLaws
 pub mod MinusLaws
 pub mod RowLaws
+pub mod EndLaws

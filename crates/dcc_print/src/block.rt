@@ -25,7 +25,12 @@ fn inside(braces: usize) -> usize
 /// Appends a statement inside so many pairs of braces, where calls have this depth. The answer is
 /// the depth in force behind it.
 #[cycle(block)]
-fn push_stmt(text: &mut String, braces: usize, depth: u32, stmt: &CStmt) -> Result<u32, AllocError>
+pub(crate) fn push_stmt(
+    text: &mut String,
+    braces: usize,
+    depth: u32,
+    stmt: &CStmt,
+) -> Result<u32, AllocError>
     ensures text { OnOk result (string_bytes text.new ≡ string_bytes text.old ++ written_stmt braces depth (stmt_of stmt.now)) }
     ensures depth { IfOk result (λ behind. behind ≡ depth_behind depth (stmt_of stmt.now ∷ inner_stmts (stmt_of stmt.now))) }
 {
@@ -128,7 +133,12 @@ fn push_do_while(
 /// Appends the arms of a `switch`, each with the `break` that ends it. The answer is the depth in
 /// force behind them.
 #[cycle(block)]
-fn push_arms(text: &mut String, braces: usize, depth: u32, arms: &[Arm]) -> Result<u32, AllocError>
+pub(crate) fn push_arms(
+    text: &mut String,
+    braces: usize,
+    depth: u32,
+    arms: &[Arm],
+) -> Result<u32, AllocError>
     ensures text { OnOk result (string_bytes text.new ≡ string_bytes text.old ++ written_arms braces depth (arms_of arms.now)) }
     ensures depth { IfOk result (λ behind. behind ≡ depth_behind depth (arm_stmts (arms_of arms.now))) }
 {

@@ -2,7 +2,6 @@ pub mod StatusLaws
 pub mod FetchedLaws
 pub mod ProgramLaws
 pub mod ExecuteLaws
-pub mod TextRunLaws
 pub mod AnswerLaws
 pub mod DeliveredLaws
 pub mod NamedLaws

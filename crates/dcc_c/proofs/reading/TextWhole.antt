@@ -1,0 +1,148 @@
+-- A text that has been read to its end is complete, and no expression in it is too deep.
+use Rattle.std.proofs.Common.{◌≡◌, ℕ, zero, suc, ◌+◌, length, List, [], true, false, Option, Some, None, refl, sym, ap, ◌∙◌, arith}
+use Rattle.std.specs.Prelude.{codes, not, ◌&&◌, ◌||◌, ◌==◌, is_some, if◌then◌else◌}
+use Rattle.std.specs.List.{list_all}
+use Rattle.std.proofs.lemmas.Bool.{and_parts, and_from}
+use Rattle.std.proofs.lemmas.List.Folds.{list_all-map}
+use Rattle.dcc_c.specs.Token.{stack_line, place_line}
+use Rattle.dcc_c.specs.Pieces.{Piece}
+use Rattle.dcc_c.specs.Grammar.{outermost}
+use Rattle.dcc_c.specs.Partial.{PartialVariable, PartialFunction, PartialText}
+use Rattle.dcc_c.specs.Reading.{Reader, Got, is_stopped, line_of, skip, sees_mark, take_mark}
+use Rattle.dcc_c.specs.ReadingStatements.{sees_head, take_head, take_number_of_line, read_lines, read_locals, read_params}
+use Rattle.dcc_c.specs.ReadingText.{Begun, read_begun, with_first_depth, read_function, read_functions, with_functions, read_global, size_in_bytes, address_of, Declared, declared, before_declared, read_declared, read_text, reader_of, enough_calls, reading_of}
+use Rattle.dcc_c.specs.Stripped.{plain_function}
+use Rattle.dcc_c.specs.Complete.{is_complete_variable, is_complete_function, is_complete_text, agree}
+use Rattle.dcc_c.proofs.reading.Passing.{if-cases, take_mark-took}
+use Rattle.dcc_c.proofs.reading.Statements.{IsEnough, is_shallow}
+use Rattle.dcc_c.proofs.reading.StmtStopping.{keeps_stmts, mark-keeps}
+use Rattle.dcc_c.proofs.reading.Steps.{number-sound, head-sound, sees_head-took}
+use Rattle.dcc_c.proofs.reading.DeclSound.{locals-sound, params-sound}
+use Rattle.dcc_c.proofs.reading.TextSound.{ReadsBegun, begun-sound, function-sound, functions-keep}
+use Rattle.dcc_c.proofs.reading.UnitSound.{here_declared, declared-keeps, global-sound, sound_text}
+use Rattle.dcc_c.proofs.reading.SimpleWhole.{going-done}
+use Rattle.dcc_c.proofs.reading.BlockWhole.{AreEntire, entire_stmts}
+use Rattle.dcc_c.proofs.reading.DeclWhole.{not-empty, is-there, EntireBegun, begun-entire, locals-entire, params-entire, params-agree, global-entire}
+use Rattle.dcc_c.proofs.refusals.TextRules.{are_shallow}
+
+-- Functions.
+
+function-whole : (f : PartialFunction) → is_some f.name ≡ true → is_some f.opened ≡ true → f.headed ≡ true → agree f.has_result (is_some f.result) ≡ true →
+    agree f.without_params (length f.params == 0) ≡ true → list_all is_complete_variable f.params ≡ true → list_all is_complete_variable f.locals ≡ true → AreEntire 0 f.body →
+    is_complete_function f ≡ true
+function-whole f named opened headed typed empty params locals body =
+    and_from _ _ (and_from _ _ named (and_from _ _ opened headed)) (and_from _ _ (and_from _ _ typed empty) (and_from _ _ params (and_from _ _ locals (and_from _ _ body.0 body.1))))
+
+function-entire : (calls : ℕ) (r : Reader) (begun : Got Begun) → (begun.behind.stop ≡ None → ReadsBegun r begun) → (begun.behind.stop ≡ None → EntireBegun begun.value) → IsEnough calls 0 r.left →
+    (read_function calls begun).behind.stop ≡ None → is_complete_function (read_function calls begun).value ≡ true
+function-entire calls r begun begins there enough going =
+    let inside = take_mark (codes "(") begun.behind in
+    let params = read_params calls inside in
+    let end = take_mark (codes ")") params.behind in
+    let brace = take_mark (codes "{") (with_first_depth end) in
+    let locals = read_locals calls brace in
+    let body = read_lines calls outermost false false locals.behind in
+    let ended = mark-keeps (codes "}") body.behind going in
+    let located = (keeps_stmts calls).lines outermost false false locals.behind ended in
+    let placed_locals = locals-sound calls brace located in
+    let opened = take_mark-took (codes "{") (with_first_depth end) placed_locals.steps.passed.going in
+    let closed = take_mark-took (codes ")") params.behind opened.passed.going in
+    let given = params-sound calls inside closed.passed.going in
+    let open_mark = take_mark-took (codes "(") begun.behind given.steps.passed.going in
+    let head = begins open_mark.passed.going in
+    let begin = there open_mark.passed.going in
+    let lines = (entire_stmts calls).lines outermost false false locals.behind (omega (arith, head.shorter, open_mark.one_less, given.steps.passed.fewer, closed.one_less, opened.one_less, placed_locals.steps.passed.fewer)) ended in
+    let place : is_some (if is_stopped inside then None else Some inside.at) ≡ true = ap (λ stop. is_some (if is_some stop then None else Some inside.at)) given.steps.passed.going in
+    function-whole (read_function calls begun).value begin.named place (going-done end opened.passed.going) begin.typed (params-agree calls inside)
+    (params-entire calls inside closed.passed.going) (locals-entire calls brace located) lines
+
+abbrev EntireFunctions : Got (List PartialFunction) → Type 0
+EntireFunctions g = g.behind.stop ≡ None → list_all is_complete_function g.value ≡ true
+
+functions-entire : (calls : ℕ) (r : Reader) → IsEnough calls 1 r.left → EntireFunctions (read_functions calls r)
+functions-entire zero r enough = λ going. refl
+functions-entire (suc calls) r enough =
+    if-cases EntireFunctions (is_stopped r || (length r.left == 0)) (λ _ going. refl)
+    (λ _ going.
+    let first = read_function calls (read_begun r) in
+    let on = functions-keep calls first.behind going in
+    let read = function-sound calls r (read_begun r) (begun-sound r) (omega arith) on in
+    and_from (is_complete_function first.value) (list_all is_complete_function (read_functions calls first.behind).value) (function-entire calls r (read_begun r) (begun-sound r) (begun-entire r) (omega arith) on) (functions-entire calls first.behind (omega (arith, read.shorter)) going))
+
+-- Global variables and functions.
+
+-- variables and functions are complete, and there is a function
+record EntireDeclared (d : Declared) : Type 0 where
+  globals : list_all is_complete_variable d.globals ≡ true
+  functions : list_all is_complete_function d.functions ≡ true
+  some : (length d.functions == 0) ≡ false
+
+abbrev AreDeclared : Got Declared → Type 0
+AreDeclared g = g.behind.stop ≡ None → EntireDeclared g.value
+
+with-entire : (calls : ℕ) (r : Reader) → IsEnough (suc calls) 1 r.left → AreDeclared (declared [] (with_functions calls (read_begun r)))
+with-entire calls r enough going =
+    let first = read_function calls (read_begun r) in
+    let on = functions-keep calls first.behind going in
+    let read = function-sound calls r (read_begun r) (begun-sound r) (omega arith) on in
+    record {
+      globals = refl;
+      functions = and_from (is_complete_function first.value) (list_all is_complete_function (read_functions calls first.behind).value) (function-entire calls r (read_begun r) (begun-sound r) (begun-entire r) (omega arith) on) (functions-entire calls first.behind (omega (arith, read.shorter)) going);
+      some = not-empty first.value (read_functions calls first.behind).value;
+    }
+
+-- a variable, and what is declared behind it
+before-entire : (v : PartialVariable) (others : Got Declared) → is_complete_variable v ≡ true → EntireDeclared others.value → EntireDeclared (before_declared v others).value
+before-entire v others first more =
+    record { globals = and_from _ _ first more.globals; functions = more.functions; some = more.some }
+
+declared-entire : (calls : ℕ) (address : Option ℕ) (r : Reader) → IsEnough calls 1 r.left → AreDeclared (read_declared calls address r)
+declared-entire zero address r enough = absurd (omega arith)
+declared-entire (suc calls) address r enough =
+    let n = take_number_of_line (line_of r.left) (skip r) in
+    if-cases AreDeclared (sees_head place_line r) {x = read_declared calls (Some (address_of n.value)) n.behind} {y = here_declared calls address r}
+    (λ sees going.
+    let took = sees_head-took place_line r sees in
+    let read = number-sound (line_of r.left) (skip r) (declared-keeps calls (Some (address_of n.value)) n.behind going) in
+    declared-entire calls (Some (address_of n.value)) n.behind (omega (arith, took.one_less, read.0.took.one_less)) going)
+    (λ _. by address (λ here room going. declared-entire calls (Some (here + size_in_bytes (read_global calls here (read_begun r)).value)) (read_global calls here (read_begun r)).behind room going))
+  where
+    by : (a : Option ℕ) → ((here : ℕ) → IsEnough calls 1 (read_global calls here (read_begun r)).behind.left →
+        AreDeclared (read_declared calls (Some (here + size_in_bytes (read_global calls here (read_begun r)).value)) (read_global calls here (read_begun r)).behind)) →
+        AreDeclared (here_declared calls a r)
+    by (Some here) others =
+        let v = read_global calls here (read_begun r) in
+        let next = read_declared calls (Some (here + size_in_bytes v.value)) v.behind in
+        if-cases AreDeclared ((read_begun r).value.has_result && not (sees_mark (codes "(") (read_begun r).behind))
+        {x = before_declared v.value next} {y = declared [] (with_functions calls (read_begun r))}
+        (λ is going.
+        let has = (and_parts (read_begun r).value.has_result (not (sees_mark (codes "(") (read_begun r).behind)) is).0 in
+        let on = declared-keeps calls (Some (here + size_in_bytes v.value)) v.behind going in
+        let read = global-sound calls here r (read_begun r) (begun-sound r) has on in
+        before-entire v.value next (global-entire calls here (read_begun r) (begun-entire r) has on) (others here (omega (arith, read.shorter)) going))
+        (λ _. with-entire calls r enough)
+    by None others = with-entire calls r enough
+
+-- The text.
+
+text-whole : (text : PartialText) → is_some text.lo ≡ true → is_some text.hi ≡ true → list_all is_complete_variable text.globals ≡ true →
+    list_all is_complete_function text.functions ≡ true → (length text.functions == 0) ≡ false → is_complete_text text ≡ true
+text-whole text lo hi globals functions some = and_from _ _ (and_from _ _ lo hi) (and_from _ _ globals (and_from _ _ functions (ap not some)))
+
+text-entire : (calls : ℕ) (r : Reader) → IsEnough calls 1 r.left → (read_text calls r).behind.stop ≡ None → is_complete_text (read_text calls r).value ≡ true
+text-entire calls r enough going =
+    let stack = take_head stack_line r in
+    let lo = take_number_of_line (line_of r.left) stack in
+    let hi = take_number_of_line (line_of r.left) lo.behind in
+    let two = number-sound (line_of r.left) lo.behind (declared-keeps calls None hi.behind going) in
+    let one = number-sound (line_of r.left) stack two.0.took.passed.going in
+    let took = head-sound stack_line r one.0.took.passed.going in
+    let all = declared-entire calls None hi.behind (omega (arith, took.one_less, one.0.took.one_less, two.0.took.one_less)) going in
+    text-whole (read_text calls r).value (is-there lo.value one.0.number one.0.is) (is-there hi.value two.0.number two.0.is) all.globals all.functions all.some
+
+-- What has been read of a text to its end is complete, and its expressions are at most 200 deep.
+pub complete_reading : (pieces : List Piece) → (reading_of pieces).behind.stop ≡ None →
+    (is_complete_text (reading_of pieces).value ≡ true) × (are_shallow (reading_of pieces).value.functions ≡ true)
+complete_reading pieces going =
+    let read = sound_text pieces going in
+    (text-entire (enough_calls pieces) (reader_of pieces) (omega arith) going, sym (list_all-map is_shallow plain_function (reading_of pieces).value.functions) ∙ read.1.shallow)

@@ -1,0 +1,15 @@
+pub mod ExprRules
+pub mod StmtRules
+pub mod CallRules
+pub mod ListRules
+pub mod BodyRules
+pub mod LabelRules
+pub mod WalkRules
+pub mod TimesRules
+pub mod KnownRules
+pub mod GlobalRules
+pub mod FunctionRules
+pub mod SceneRules
+pub mod AllowedRules
+pub mod TextRules
+pub mod FirstRules

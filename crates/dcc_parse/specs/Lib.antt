@@ -1,2 +1,0 @@
-pub mod OffenceViews
-pub mod Fault
