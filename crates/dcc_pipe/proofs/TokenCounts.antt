@@ -75,8 +75,8 @@ mutual
 
   arms-short : {limit : ℕ} {around : Around} {depth after : ℕ} {tokens rest : List Placed} {arms last : Arms} → AreArms limit around depth tokens arms last after rest → length rest ≤ length tokens
   arms-short no_arm = omega arith
-  arms-short (case_arm cases lines arms) = omega (arith, cases-short cases, lines-count lines, arms-short arms)
-  arms-short (default_arm lines arms) = omega (arith, lines-count lines, arms-short arms)
+  arms-short (case_arm cases few lines arms) = omega (arith, cases-short cases, lines-count lines, arms-short arms)
+  arms-short (default_arm few lines arms) = omega (arith, lines-count lines, arms-short arms)
 
 -- Declarations.
 
