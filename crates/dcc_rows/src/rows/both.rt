@@ -164,12 +164,7 @@ fn check_text(rt: &impl Abort, alloc: Global, file: &[u8]) -> Result<(), Fail> {
 }
 
 /// The file puts this out and ends so, and has a text.
-fn check_both(
-    rt: &impl Abort,
-    alloc: Global,
-    file: &[u8],
-    program: &Program,
-) -> Result<(), Fail> {
+fn check_both(rt: &impl Abort, alloc: Global, file: &[u8], program: &Program) -> Result<(), Fail> {
     let words = ["run", "ROW1.EXE"];
     let given = answered_on(alloc, &words, file, program.input, NO_FAULTS)?;
     check(rt, &given, program.output, program.line);
