@@ -28,8 +28,8 @@ fn index_named(names: &[Declared], name: &str) -> Option<usize>
 }
 
 /// The place of the variable with the name.
-fn slot_named(names: Names<'_>, name: &str) -> Option<Slot>
-    ensures { result ≡ slot_named (names_of names) name.now }
+fn slot_named(names: &Names<'_>, name: &str) -> Option<Slot>
+    ensures { result ≡ slot_named (names_of names.now) name.now }
 {
     match index_named(names.locals, name) {
         Some(i) => Some(Slot::Local(i)),
@@ -38,8 +38,8 @@ fn slot_named(names: Names<'_>, name: &str) -> Option<Slot>
 }
 
 /// What the name is declared as.
-fn declared_as<'a>(names: Names<'a>, name: &str) -> Option<&'a Declared>
-    ensures { option_map lent_declared result ≡ declared_as (all_names (names_of names)) name.now }
+fn declared_as<'a>(names: &Names<'a>, name: &str) -> Option<&'a Declared>
+    ensures { option_map lent_declared result ≡ declared_as (all_names (names_of names.now)) name.now }
 {
     match slot_named(names, name)? {
         Slot::Local(i) => names.locals.get(i),
@@ -138,8 +138,8 @@ fn arms_type(a: CType, b: CType) -> Option<CType>
 }
 
 /// The type of an expression, or none where a name is not declared or an operand not allowed.
-pub fn type_of(names: Names<'_>, e: &CExpr) -> Option<CType>
-    ensures { result ≡ type_of (all_names (names_of names)) (expr_of e.now) }
+pub fn type_of(names: &Names<'_>, e: &CExpr) -> Option<CType>
+    ensures { result ≡ type_of (all_names (names_of names.now)) (expr_of e.now) }
 {
     match e {
         CExpr::Num(_, base) => Some(plain(*base)),
@@ -167,15 +167,15 @@ pub fn type_of(names: Names<'_>, e: &CExpr) -> Option<CType>
 }
 
 /// The type of `?:` by its last two operands, where they have one.
-fn type_of_arms(names: Names<'_>, b: &CExpr, c: &CExpr) -> Option<CType>
-    ensures { result ≡ both_arms_type (type_of (all_names (names_of names)) (expr_of b.now)) (type_of (all_names (names_of names)) (expr_of c.now)) }
+fn type_of_arms(names: &Names<'_>, b: &CExpr, c: &CExpr) -> Option<CType>
+    ensures { result ≡ both_arms_type (type_of (all_names (names_of names.now)) (expr_of b.now)) (type_of (all_names (names_of names.now)) (expr_of c.now)) }
 {
     arms_type(type_of(names, b)?, type_of(names, c)?)
 }
 
 /// `&` of an expression: only a variable has an address.
-fn resolve_address(names: Names<'_>, a: &CExpr) -> Resolved
-    ensures { Stands (names_of names) (Unary AddressOf (expr_of a.now)) result }
+fn resolve_address(names: &Names<'_>, a: &CExpr) -> Resolved
+    ensures { Stands (names_of names.now) (Unary AddressOf (expr_of a.now)) result }
 {
     match a {
         CExpr::Name(name) => match slot_named(names, name.as_str()) {
@@ -187,8 +187,8 @@ fn resolve_address(names: Names<'_>, a: &CExpr) -> Resolved
 }
 
 /// The expression with its names resolved; one that is not declared has no meaning.
-pub fn resolve(alloc: Global, names: Names<'_>, e: &CExpr) -> Result<Resolved, AllocError>
-    ensures { IfOk result (λ r. Stands (names_of names) (expr_of e.now) r) }
+pub fn resolve(alloc: Global, names: &Names<'_>, e: &CExpr) -> Result<Resolved, AllocError>
+    ensures { IfOk result (λ r. Stands (names_of names.now) (expr_of e.now) r) }
 {
     Ok(match e {
         CExpr::Num(n, base) => {

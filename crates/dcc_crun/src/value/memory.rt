@@ -1,6 +1,6 @@
 //! Memory: 65,536 bytes at addresses that wrap, the low byte of a value first.
 
-ghost use Rattle.std.specs.Prelude.{◌≡◌, ℕ, ◌+◌, ◌/◌, ◌<◌, ◌^◌, length};
+ghost use Rattle.std.specs.Prelude.{◌≡◌, ◌%◌, ◌<◌, ◌^◌, slice_set};
 ghost use Rattle.dcc_c.specs.Types.{size_of};
 ghost use Rattle.dcc_c.specs.Memory.{byte_at, load, store};
 ghost use Rattle.dcc_c.specs.Value.{loaded};

@@ -1,6 +1,6 @@
 //! The operators on two's complement bit patterns of the number types (ISO/IEC 9899:1990, 6.3.3 to 6.3.14).
 
-ghost use Rattle.std.specs.Prelude.{◌≡◌, ℕ, ◌-◌, ◌/◌, ◌%◌, ◌^◌, ◌<◌, ◌≤◌, false};
+ghost use Rattle.std.specs.Prelude.{◌≡◌, ◌-◌, ◌/◌, ◌^◌, ◌<◌, ◌≤◌, false, if◌then◌else◌};
 ghost use Rattle.dcc_c.specs.Types.{bits_of, is_signed, wrapped_bits, extended_bits, is_negative};
 ghost use Rattle.dcc_c.specs.Arithmetic.{negated, complement, difference, magnitude, with_sign, same_sign, division_faults, quotient, remainder, rank, is_less, is_past, shifted_left, shifted_right};
 
