@@ -1,2 +1,3 @@
 pub mod Evaluation
 pub mod Resolved
+pub mod Ending

@@ -1,11 +1,5 @@
 //! Where the parameters and the local variables of a function stand.
 
-ghost use Rattle.std.specs.Prelude.{◌≡◌, ◌==◌, Bool, ◌||◌, ◌%◌, ◌*◌, map, List, IfOk, ℕ};
-ghost use Rattle.std.specs.List.{list_any};
-ghost use Rattle.dcc_c.specs.Parts.{stmts_in, inner_stmts, arm_stmts, exprs_of, parts_of, exprs_in};
-ghost use Rattle.dcc_c.specs.Placement.{is_address_of, takes_address, wants_place, bytes_of, param_places, local_places};
-ghost use Rattle.dcc_c.specs.Views.{expr_of, stmt_of, lines_of, arms_of, variable_of};
-ghost use Rattle.dcc_crun.specs.Frames.{place_at, takes_in_stmt};
 
 use crate::program::Variable;
 use crate::value::size_of;
@@ -14,7 +8,6 @@ use std::alloc::{AllocError, Global};
 
 /// Whether the address of the name is taken in the expression.
 fn expr_takes(e: &CExpr, name: &str) -> bool
-    ensures { result ≡ list_any (is_address_of name.now) (parts_of (expr_of e.now)) }
 {
     match e {
         CExpr::Num(_, _) | CExpr::Name(_) => false,
