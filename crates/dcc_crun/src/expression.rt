@@ -164,8 +164,8 @@ pub fn take(target: Target, v: Value, frame: &mut [Binding], memory: &mut [u8])
 {
     match target {
         Target::Local(i) => {
-            if let Some(b) = frame.get_mut(i) {
-                b.storage = Storage::Unplaced(converted(b.ty, v).bits);
+            if i < frame.len() {
+                frame[i].storage = Storage::Unplaced(converted(frame[i].ty, v).bits);
             }
         }
         Target::Memory(ty, at) => store(memory, ty, at, converted(ty, v).bits),

@@ -2,11 +2,11 @@
 
 ghost use Rattle.std.specs.Prelude.{◌≡◌, map, option_map, IfOk};
 ghost use Rattle.dcc_c.specs.declared.syntax.CUn.TheVariants.{AddressOf};
-ghost use Rattle.dcc_c.specs.Tree.{Unary};
+ghost use Rattle.dcc_c.specs.Tree.{Expr, Name, Unary, Binary};
 ghost use Rattle.dcc_c.specs.Typing.{unary_number_type, unary_type, is_comparison, is_sum, numbers_type, binary_type, arms_type, both_arms_type, type_of, type_of_name, type_of_address, declared_as};
 ghost use Rattle.dcc_c.specs.Views.{expr_of};
 ghost use Rattle.dcc_crun.specs.Evaluation.{declared_of};
-ghost use Rattle.dcc_crun.specs.Resolved.{names_of, all_names, index_named, slot_named, lent_declared, Stands};
+ghost use Rattle.dcc_crun.specs.Resolved.{Names as NamesOf, names_of, all_names, index_named, slot_named, lent_declared, Stands};
 
 use crate::expression::{Resolved, Slot};
 use crate::value::{number, plain, pointer_to, same_type, wrapped_bits};
@@ -173,6 +173,16 @@ fn type_of_arms(names: &Names<'_>, b: &CExpr, c: &CExpr) -> Option<CType>
     arms_type(type_of(names, b)?, type_of(names, c)?)
 }
 
+/// The value of a variable.
+fn resolve_name(names: &Names<'_>, name: &str) -> Resolved
+    ensures { Stands (names_of names.now) (Name name.now) result }
+{
+    match slot_named(names, name) {
+        Some(slot) => Resolved::Variable(slot),
+        None => Resolved::Meaningless,
+    }
+}
+
 /// `&` of an expression: only a variable has an address.
 fn resolve_address(names: &Names<'_>, a: &CExpr) -> Resolved
     ensures { Stands (names_of names.now) (Unary AddressOf (expr_of a.now)) result }
@@ -186,38 +196,52 @@ fn resolve_address(names: &Names<'_>, a: &CExpr) -> Resolved
     }
 }
 
+/// A binary operator on resolved operands.
+fn resolve_binary(operator: CBin, left: Box<Resolved>, right: Box<Resolved>) -> Resolved
+    ensures { (names : NamesOf) (a b : Expr) → Stands names a left → Stands names b right →
+        Stands names (Binary operator a b) result }
+{
+    match operator {
+        CBin::OrOr => Resolved::Either(left, right),
+        CBin::AndAnd => Resolved::Both(left, right),
+        _ => Resolved::Binary(operator, left, right),
+    }
+}
+
 /// The expression with its names resolved; one that is not declared has no meaning.
 pub fn resolve(alloc: Global, names: &Names<'_>, e: &CExpr) -> Result<Resolved, AllocError>
     ensures { IfOk result (λ r. Stands (names_of names.now) (expr_of e.now) r) }
 {
-    Ok(match e {
-        CExpr::Num(n, base) => {
-            Resolved::Constant(number(*base, wrapped_bits(*base, u64::from(*n))))
+    match e {
+        CExpr::Num(n, base) => Ok(Resolved::Constant(number(
+            *base,
+            wrapped_bits(*base, u64::from(*n)),
+        ))),
+        CExpr::Name(name) => Ok(resolve_name(names, name.as_str())),
+        CExpr::Un(CUn::AddressOf, a) => Ok(resolve_address(names, a)),
+        CExpr::Un(CUn::Deref, a) => {
+            let address = Box::new(alloc, resolve(alloc, names, a)?)?;
+            Ok(Resolved::Load(address))
         }
-        CExpr::Name(name) => match slot_named(names, name.as_str()) {
-            Some(slot) => Resolved::Variable(slot),
-            None => Resolved::Meaningless,
-        },
-        CExpr::Un(CUn::AddressOf, a) => resolve_address(names, a),
-        CExpr::Un(CUn::Deref, a) => Resolved::Load(Box::new(alloc, resolve(alloc, names, a)?)?),
         CExpr::Un(operator, a) => {
-            Resolved::Unary(*operator, Box::new(alloc, resolve(alloc, names, a)?)?)
+            let operand = Box::new(alloc, resolve(alloc, names, a)?)?;
+            Ok(Resolved::Unary(*operator, operand))
         }
         CExpr::Bin(operator, a, b) => {
             let left = Box::new(alloc, resolve(alloc, names, a)?)?;
             let right = Box::new(alloc, resolve(alloc, names, b)?)?;
-            match operator {
-                CBin::OrOr => Resolved::Either(left, right),
-                CBin::AndAnd => Resolved::Both(left, right),
-                _ => Resolved::Binary(*operator, left, right),
-            }
+            Ok(resolve_binary(*operator, left, right))
         }
-        CExpr::Cond(a, b, c) => Resolved::Choose(
-            type_of_arms(names, b, c),
-            Box::new(alloc, resolve(alloc, names, a)?)?,
-            Box::new(alloc, resolve(alloc, names, b)?)?,
-            Box::new(alloc, resolve(alloc, names, c)?)?,
-        ),
-        CExpr::Cast(ty, a) => Resolved::Cast(*ty, Box::new(alloc, resolve(alloc, names, a)?)?),
-    })
+        CExpr::Cond(a, b, c) => {
+            let ty = type_of_arms(names, b, c);
+            let test = Box::new(alloc, resolve(alloc, names, a)?)?;
+            let first = Box::new(alloc, resolve(alloc, names, b)?)?;
+            let second = Box::new(alloc, resolve(alloc, names, c)?)?;
+            Ok(Resolved::Choose(ty, test, first, second))
+        }
+        CExpr::Cast(ty, a) => {
+            let operand = Box::new(alloc, resolve(alloc, names, a)?)?;
+            Ok(Resolved::Cast(*ty, operand))
+        }
+    }
 }

@@ -51,8 +51,9 @@ pub fn loaded(memory: &[u8], ty: CType, at: u32) -> Value
 fn put_byte(memory: &mut [u8], at: u64, byte: u8)
     ensures { memory.new ≡ slice_set memory.old (at % 65536) byte }
 {
-    if let Some(place) = memory.get_mut((at % 65_536) as usize) {
-        *place = byte;
+    let i = (at % 65_536) as usize;
+    if i < memory.len() {
+        memory[i] = byte;
     }
 }
 

@@ -5,4 +5,4 @@ use Rattle.dcc_crun.proofs.value.memory.store.Given as goal
 
 -- what is left to store takes the memory to where storing all takes the first one
 abbrev pub invariant-loop-i : goal.invariant-loop-i
-invariant-loop-i l = store (size_of l.ty) l.initial.memory l.at l.n ≡ store (size_of l.ty - l.i) l.memory (l.at + l.i) l.rest
+invariant-loop-i l = store (size_of l.fn.ty) l.initial.memory l.fn.at l.fn.n ≡ store (size_of l.fn.ty - l.i) l.memory (l.fn.at + l.i) l.rest
