@@ -1,2 +1,4 @@
 pub mod NameLaws
 pub mod MemoryLaws
+pub mod PointLaws
+pub mod EmissionLaws

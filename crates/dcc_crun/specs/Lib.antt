@@ -1,3 +1,5 @@
 pub mod Evaluation
 pub mod Resolved
 pub mod Ending
+pub mod Points
+pub mod Emission

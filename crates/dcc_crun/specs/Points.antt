@@ -1,5 +1,5 @@
 -- What stands at the points of a function's code: how the text goes on from there.
-use Rattle.std.specs.Prelude.{◌≡◌, ℕ, suc, Bool, true, false, ◌==◌, ◌≤◌, if◌then◌else◌, List, [], ◌∷◌, length, map, string_bytes, Option, Some, None, option_map, is_some, slice_get}
+use Rattle.std.specs.Prelude.{◌≡◌, ℕ, suc, Bool, true, false, ◌==◌, ◌≤◌, if◌then◌else◌, List, [], ◌∷◌, ◌++◌, length, map, string_bytes, Option, Some, None, option_map, is_some, slice_get}
 use Rattle.std.specs.List.{list_any}
 use Rattle.dcc_c.specs.declared.syntax.Base.TheVariants.{Uint}
 use Rattle.dcc_c.specs.Token.{same_bytes}
@@ -139,16 +139,16 @@ pub record IsCall (tree : Tree) (f : Function) (points : List Continuation) (res
       step_at tree rest s ≡ stmt_step tree (Call place word arguments row.depth) line (goes_on to s)
 
 pub record IsTest (tree : Tree) (f : Function) (points : List Continuation) (rest : Continuation) (line : ℕ)
-    (e : Resolved) (yes no : ℕ) : Type 0 where
+    (e : Resolved) (first second : ℕ) : Type 0 where
   pub expr : Expr
   pub if_yes : Continuation
   pub if_no : Continuation
-  pub behind : Continuation
+  pub behind : State → Continuation
   pub stands : Stands (names_in tree f) expr e
-  pub goes_yes : Goes tree points yes if_yes
-  pub goes_no : Goes tree points no if_no
+  pub goes_yes : Goes tree points first if_yes
+  pub goes_no : Goes tree points second if_no
   pub does : (s : State) → step_at tree rest s
-      ≡ on (value_of (scope_of tree s) expr) line (goes_on behind s) (λ v. goes_on (if is_zero v then if_no else if_yes) s)
+      ≡ on (value_of (scope_of tree s) expr) line (goes_on (behind s) s) (λ v. goes_on (if is_zero v then if_no else if_yes) s)
 
 pub record IsSwitch (tree : Tree) (f : Function) (points : List Continuation) (rest : Continuation) (line : ℕ)
     (e : Resolved) (cases : List Case) (otherwise : ℕ) : Type 0 where
@@ -184,7 +184,7 @@ abbrev pub Acts : Tree → Function → List Continuation → List Label → Con
 Acts tree f points labels rest line (Pass next) = IsPass tree points rest next
 Acts tree f points labels rest line (Assigns place e next) = IsAssign tree f points rest line place e next
 Acts tree f points labels rest line (Calls row) = IsCall tree f points rest line row
-Acts tree f points labels rest line (Test e yes no) = IsTest tree f points rest line e yes no
+Acts tree f points labels rest line (Test e first second) = IsTest tree f points rest line e first second
 Acts tree f points labels rest line (Switch e cases otherwise) = IsSwitch tree f points rest line e cases.items otherwise
 Acts tree f points labels rest line (Goto number) = IsGoto tree labels rest line number
 Acts tree f points labels rest line (Returns e) = IsReturn tree f rest line e

@@ -1,6 +1,14 @@
 //! From the statements of a function to its points, the last statement first, so that the points behind a statement
 //! are known.
 
+ghost use Rattle.std.specs.Prelude.{◌≡◌, ℕ, Bool, List, map, Option, None, Some, IfOk, MatchOption, string_bytes, slice_get, option_map};
+ghost use Rattle.dcc_c.specs.Tree.{Lines, line, Function, Tree};
+ghost use Rattle.dcc_c.specs.Run.{Continuation, runs, tests, turns, from_label, from_label_inside, from_label_in_arms, default_body, State, step_at, jump_step, goes_on, function_in};
+ghost use Rattle.dcc_c.specs.Dos.{dos_of};
+ghost use Rattle.dcc_c.specs.Views.{expr_of, stmt_of, lines_of, arms_of, function_of};
+ghost use Rattle.dcc_crun.specs.Points.{Goes, MayGo, AreRows, IsCallee, dos_call};
+ghost use Rattle.dcc_crun.specs.Emission.{Emits, EmitsArms, Leads, IsContext, arms_if};
+
 use crate::code::{Code, Context, resolve_all, resolve_option};
 use crate::program::{Action, CallRow, Callee, Case, Dos};
 use crate::resolve::resolve;
@@ -22,11 +30,15 @@ pub(crate) struct Behind {
 #[cycle(emit)]
 pub(crate) fn emit_lines(
     alloc: Global,
-    context: Context<'_>,
+    context: &Context<'_>,
     lines: &[Line],
     behind: Behind,
     code: &mut Code,
-) -> Result<usize, AllocError> {
+) -> Result<usize, AllocError>
+    ensures { (tree : Tree) (f : Function) (is_open : ℕ → Bool) (points : List Continuation) (rest : Continuation) →
+        IsContext context.now tree f → AreRows tree f is_open points code.old.rows.items code.old.labels.items → Leads tree points behind rest →
+        IfOk result (λ at. Emits tree f is_open points code.old code.new (λ word. from_label word (lines_of lines.now) rest) at (runs (lines_of lines.now) rest)) }
+{
     let mut behind = behind;
     let mut i = lines.len();
     while i > 0 {
@@ -41,12 +53,16 @@ pub(crate) fn emit_lines(
 #[cycle(emit)]
 fn emit_stmt(
     alloc: Global,
-    context: Context<'_>,
+    context: &Context<'_>,
     stmt: &CStmt,
     line: u32,
     behind: Behind,
     code: &mut Code,
-) -> Result<usize, AllocError> {
+) -> Result<usize, AllocError>
+    ensures { (tree : Tree) (f : Function) (is_open : ℕ → Bool) (points : List Continuation) (lines : Lines) (rest : Continuation) →
+        IsContext context.now tree f → AreRows tree f is_open points code.old.rows.items code.old.labels.items → Leads tree points behind (runs lines rest) →
+        IfOk result (λ at. Emits tree f is_open points code.old code.new (λ word. from_label_inside word (stmt_of stmt.now) line lines rest) at (runs (line (stmt_of stmt.now) line lines) rest)) }
+{
     match stmt {
         CStmt::Assign(place, e) => {
             let place = resolve(alloc, context.names, place)?;
@@ -109,7 +125,12 @@ fn emit_stmt(
 }
 
 /// Makes the point of a jump to a point, where there is one.
-fn emit_jump(line: u32, to: Option<usize>, code: &mut Code) -> Result<usize, AllocError> {
+fn emit_jump(line: u32, to: Option<usize>, code: &mut Code) -> Result<usize, AllocError>
+    ensures { (tree : Tree) (f : Function) (is_open : ℕ → Bool) (points : List Continuation) (own behind : Continuation) (target : Option Continuation) →
+        AreRows tree f is_open points code.old.rows.items code.old.labels.items → MayGo tree points to target →
+        ((s : State) → step_at tree own s ≡ jump_step target line (goes_on behind s)) →
+        IfOk result (λ at. Emits tree f is_open points code.old code.new (λ word. None) at own) }
+{
     match to {
         Some(point) => code.push(line, Action::Pass(point)),
         None => code.push(line, Action::Stuck),
@@ -121,13 +142,17 @@ fn emit_jump(line: u32, to: Option<usize>, code: &mut Code) -> Result<usize, All
 #[cycle(emit)]
 fn emit_repeated(
     alloc: Global,
-    context: Context<'_>,
+    context: &Context<'_>,
     e: &CExpr,
     body: &[Line],
     line: u32,
     next: usize,
     code: &mut Code,
-) -> Result<usize, AllocError> {
+) -> Result<usize, AllocError>
+    ensures { (tree : Tree) (f : Function) (is_open : ℕ → Bool) (points : List Continuation) (rest : Continuation) →
+        IsContext context.now tree f → AreRows tree f is_open points code.old.rows.items code.old.labels.items → Goes tree points next rest →
+        IfOk result (λ at. Emits tree f is_open points code.old code.new (λ word. from_label word (lines_of body.now) (tests (expr_of e.now) (lines_of body.now) line rest)) at (runs (lines_of body.now) (tests (expr_of e.now) (lines_of body.now) line rest))) }
+{
     let test = code.push(line, Action::Stuck)?;
     let behind = Behind {
         next: test,
@@ -144,12 +169,16 @@ fn emit_repeated(
 #[cycle(emit)]
 fn emit_forever(
     alloc: Global,
-    context: Context<'_>,
+    context: &Context<'_>,
     body: &[Line],
     line: u32,
     next: usize,
     code: &mut Code,
-) -> Result<usize, AllocError> {
+) -> Result<usize, AllocError>
+    ensures { (tree : Tree) (f : Function) (is_open : ℕ → Bool) (points : List Continuation) (rest : Continuation) →
+        IsContext context.now tree f → AreRows tree f is_open points code.old.rows.items code.old.labels.items → Goes tree points next rest →
+        IfOk result (λ at. Emits tree f is_open points code.old code.new (λ word. from_label word (lines_of body.now) (turns (lines_of body.now) rest)) at (turns (lines_of body.now) rest)) }
+{
     let turn = code.push(line, Action::Stuck)?;
     let behind = Behind {
         next: turn,
@@ -165,11 +194,15 @@ fn emit_forever(
 #[cycle(emit)]
 fn emit_arms(
     alloc: Global,
-    context: Context<'_>,
+    context: &Context<'_>,
     arms: &[Arm],
     behind: Behind,
     code: &mut Code,
-) -> Result<Vec<Case>, AllocError> {
+) -> Result<Vec<Case>, AllocError>
+    ensures { (tree : Tree) (f : Function) (is_open : ℕ → Bool) (points : List Continuation) (rest : Continuation) →
+        IsContext context.now tree f → AreRows tree f is_open points code.old.rows.items code.old.labels.items → Leads tree points behind rest →
+        IfOk result (λ cases. EmitsArms tree f is_open points code.old code.new (λ word. from_label_in_arms word (arms_of arms.now) rest) cases.items (arms_of arms.now) rest) }
+{
     let mut cases = Vec::new(alloc);
     let mut i = arms.len();
     while i > 0 {
@@ -186,11 +219,15 @@ fn emit_arms(
 #[cycle(emit)]
 fn emit_default(
     alloc: Global,
-    context: Context<'_>,
+    context: &Context<'_>,
     last: &Option<Arm>,
     behind: Behind,
     code: &mut Code,
-) -> Result<usize, AllocError> {
+) -> Result<usize, AllocError>
+    ensures { (tree : Tree) (f : Function) (is_open : ℕ → Bool) (points : List Continuation) (rest : Continuation) →
+        IsContext context.now tree f → AreRows tree f is_open points code.old.rows.items code.old.labels.items → Leads tree points behind rest →
+        IfOk result (λ at. Emits tree f is_open points code.old code.new (λ word. from_label_in_arms word (arms_if last.now) rest) at (runs (default_body (arms_if last.now)) rest)) }
+{
     match last {
         Some(arm) => emit_lines(alloc, context, &arm.body, behind, code),
         None => Ok(behind.next),
@@ -198,15 +235,22 @@ fn emit_default(
 }
 
 /// What has the name: a DOS call, or else the first of the functions with it.
-fn callee(functions: &[Func], name: &str) -> Callee {
+fn callee(functions: &[Func], name: &str) -> Callee
+    ensures { (tree : Tree) → map function_of functions.now ≡ tree.functions → IsCallee tree name.now result }
+{
     match dos_of(name) {
         Some(dos) => Callee::Dos(dos),
-        None => function_in(functions, name),
+        None => match function_in(functions, name) {
+            Some(number) => Callee::Function(number),
+            None => Callee::Unknown,
+        },
     }
 }
 
 /// The DOS call with the name.
-fn dos_of(name: &str) -> Option<Dos> {
+fn dos_of(name: &str) -> Option<Dos>
+    ensures { option_map dos_call result ≡ dos_of name.now }
+{
     match name {
         "dos_putc" => Some(Dos::Putc),
         "dos_getche" => Some(Dos::Getche),
@@ -218,11 +262,14 @@ fn dos_of(name: &str) -> Option<Dos> {
 }
 
 /// The first of the functions with the name.
-fn function_in(functions: &[Func], name: &str) -> Callee {
+fn function_in(functions: &[Func], name: &str) -> Option<usize>
+    ensures { MatchOption result (function_in (map function_of functions.now) name.now ≡ None)
+        (λ number. (f : Function) × (function_in (map function_of functions.now) name.now ≡ Some f) × (slice_get (map function_of functions.now) number ≡ Some f)) }
+{
     for (i, function) in functions.iter().enumerate() {
         if function.name.as_str() == name {
-            return Callee::Function(i);
+            return Some(i);
         }
     }
-    Callee::Unknown
+    None
 }

@@ -125,7 +125,7 @@ impl Moment {
         otherwise: usize,
     ) -> Result<usize, NoValue> {
         let v = e.evaluate(&self.scene(globals))?;
-        let n = converted(plain(Base::Uint), v).bits as u16;
+        let n = (converted(plain(Base::Uint), v).bits % 0x1_0000) as u16;
         Ok(case_point(cases, n, otherwise))
     }
 
@@ -257,7 +257,7 @@ impl Moment {
                 if target.is_some() {
                     return Err(Stop::Undefined);
                 }
-                let Ok(()) = put_all(out, &[v.bits as u8]) else {
+                let Ok(()) = put_all(out, &[(v.bits % 256) as u8]) else {
                     return Err(Stop::Refused(Fault::Output));
                 };
             }
@@ -275,7 +275,7 @@ impl Moment {
                 if target.is_some() {
                     return Err(Stop::Undefined);
                 }
-                self.end = Ending::Exit(v.bits as u8);
+                self.end = Ending::Exit((v.bits % 256) as u8);
             }
         }
         Ok(())

@@ -42,7 +42,7 @@ fn procedure(
         functions,
     };
     let mut code = Code::new(alloc);
-    let entry = body(alloc, context, function, &mut code)?;
+    let entry = body(alloc, &context, function, &mut code)?;
     let Code { rows, labels } = code;
     Ok(Procedure {
         is_start: function.name.as_str() == "start",
@@ -58,7 +58,7 @@ fn procedure(
 /// Makes the points of a function. The answer is the point where its body begins.
 fn body(
     alloc: Global,
-    context: Context<'_>,
+    context: &Context<'_>,
     function: &Func,
     code: &mut Code,
 ) -> Result<usize, AllocError> {
