@@ -1,2 +1,4 @@
-pub mod NameLaws
 pub mod MemoryLaws
+pub mod NameLaws
+pub mod PlaceLaws
+pub mod StandLaws

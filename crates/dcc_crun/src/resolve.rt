@@ -198,7 +198,7 @@ fn resolve_address(names: &Names<'_>, a: &CExpr) -> Resolved
 
 /// A binary operator on resolved operands.
 fn resolve_binary(operator: CBin, left: Box<Resolved>, right: Box<Resolved>) -> Resolved
-    ensures { (names : NamesOf) (a b : Expr) → Stands names a left → Stands names b right →
+    ensures { (names : NamesOf) (a b : Expr) → Stands names a left.value → Stands names b right.value →
         Stands names (Binary operator a b) result }
 {
     match operator {
