@@ -3,6 +3,7 @@ use Rattle.std.proofs.Common.{◌≡◌, ℕ, zero, suc, ◌<◌, ◌≤◌, Boo
 use Rattle.std.specs.Prelude.{◌==◌, ◌&&◌, option_map, if◌then◌else◌, slice_get, slice_set}
 use Rattle.std.specs.List.{list_all}
 use Rattle.std.proofs.lemmas.Bool.{and_parts}
+use Rattle.std.proofs.lemmas.List.{append-nil}
 use Rattle.std.proofs.lemmas.Option.{same_Some}
 use Rattle.dcc_c.specs.Token.{same_bytes}
 use Rattle.dcc_c.specs.Tree.{Word}
@@ -10,7 +11,9 @@ use Rattle.dcc_c.specs.Typing.{Declared, declared_as}
 use Rattle.dcc_c.specs.Value.{Value, converted, Storage, Unplaced, PlacedAt, Binding, is_placed, declared_by, variable_in, after_assignment}
 use Rattle.dcc_crun.specs.declared.variable.Binding.{Binding as Bound}
 use Rattle.dcc_crun.specs.Evaluation.{storage_of, binding_named, bindings_named}
-use Rattle.dcc_crun.specs.Resolved.{index_named, name_at, IsAlone}
+use Rattle.dcc_crun.specs.declared.expression.Slot.{Slot}
+use Rattle.dcc_crun.specs.declared.expression.Slot.TheVariants.{Local as InFrame, Global as InGlobals}
+use Rattle.dcc_crun.specs.Resolved.{Names, all_names, index_named, slot_named, name_at, IsAlone}
 
 same_numbers : (x y : ℕ) → (x == y) ≡ true → x ≡ y
 same_numbers x y e = grind arith
@@ -196,3 +199,50 @@ declared_not_found (d ∷ names) rest word e =
       | true ↦ λ at. absurd cc
       | false ↦ λ at. declared_not_found names rest word (no_place (index_named names word) at)
     ] e
+
+-- What a name is declared as, by its place.
+module _ (names : Names) (word : Word) where
+  place_by : Option ℕ → Option ℕ → Option Slot
+  place_by first second = elim first [ Some i ↦ Some (InFrame i) | None ↦ option_map InGlobals second ]
+
+  -- the declaration at a place
+  pub at_slot : Slot → Option Declared
+  at_slot (InFrame i) = slice_get names.locals i
+  at_slot (InGlobals i) = slice_get names.globals i
+
+  in_globals : (i : ℕ) → index_named names.locals word ≡ None → index_named names.globals word ≡ Some i →
+      slice_get names.globals i ≡ declared_as (all_names names) word
+  in_globals i missing at =
+      declared_found names.globals [] word i at
+      ∙ ap (λ ds. declared_as ds word) (append-nil names.globals)
+      ∙ declared_not_found names.locals names.globals word missing
+
+  declared_by_place : (first second : Option ℕ) (slot : Slot) → index_named names.locals word ≡ first → index_named names.globals word ≡ second →
+      place_by first second ≡ Some slot → at_slot slot ≡ declared_as (all_names names) word
+  unfolding place_by at_slot
+  declared_by_place (Some i) second slot at other e =
+      ap at_slot (sym (same_Some (InFrame i) slot e)) ∙ declared_found names.locals names.globals word i at
+  declared_by_place None (Some i) slot missing at e = ap at_slot (sym (same_Some (InGlobals i) slot e)) ∙ in_globals i missing at
+  declared_by_place None None slot missing none e = absurd cc
+
+  pub declared_local : (i : ℕ) → slot_named names word ≡ Some (InFrame i) → slice_get names.locals i ≡ declared_as (all_names names) word
+  unfolding place_by at_slot
+  declared_local i e = declared_by_place (index_named names.locals word) (index_named names.globals word) (InFrame i) refl refl e
+
+  pub declared_global : (i : ℕ) → slot_named names word ≡ Some (InGlobals i) → slice_get names.globals i ≡ declared_as (all_names names) word
+  unfolding place_by at_slot
+  declared_global i e = declared_by_place (index_named names.locals word) (index_named names.globals word) (InGlobals i) refl refl e
+
+  missing_by : (first second : Option ℕ) → index_named names.locals word ≡ first → index_named names.globals word ≡ second →
+      place_by first second ≡ None → None ≡ declared_as (all_names names) word
+  unfolding place_by
+  missing_by (Some i) second at other e = absurd cc
+  missing_by None (Some i) missing at e = absurd cc
+  missing_by None None missing none e =
+      declared_not_found names.globals [] word none
+      ∙ ap (λ ds. declared_as ds word) (append-nil names.globals)
+      ∙ declared_not_found names.locals names.globals word missing
+
+  pub declared_missing : slot_named names word ≡ None → None ≡ declared_as (all_names names) word
+  unfolding place_by
+  declared_missing e = missing_by (index_named names.locals word) (index_named names.globals word) refl refl e
