@@ -1,4 +1,6 @@
-pub mod NameLaws
 pub mod MemoryLaws
 pub mod PointLaws
 pub mod EmissionLaws
+pub mod NameLaws
+pub mod PlaceLaws
+pub mod StandLaws

@@ -2,7 +2,7 @@
 //! are known.
 
 ghost use Rattle.std.specs.Prelude.{◌≡◌, ℕ, Bool, List, map, Option, None, Some, IfOk, MatchOption, string_bytes, slice_get, option_map};
-ghost use Rattle.dcc_c.specs.Tree.{Lines, line, Function, Tree};
+ghost use Rattle.dcc_c.specs.Tree.{Lines, line as before_lines, Function, Tree};
 ghost use Rattle.dcc_c.specs.Run.{Continuation, runs, tests, turns, from_label, from_label_inside, from_label_in_arms, default_body, State, step_at, jump_step, goes_on, function_in};
 ghost use Rattle.dcc_c.specs.Dos.{dos_of};
 ghost use Rattle.dcc_c.specs.Views.{expr_of, stmt_of, lines_of, arms_of, function_of};
@@ -61,7 +61,7 @@ fn emit_stmt(
 ) -> Result<usize, AllocError>
     ensures { (tree : Tree) (f : Function) (is_open : ℕ → Bool) (points : List Continuation) (lines : Lines) (rest : Continuation) →
         IsContext context.now tree f → AreRows tree f is_open points code.old.rows.items code.old.labels.items → Leads tree points behind (runs lines rest) →
-        IfOk result (λ at. Emits tree f is_open points code.old code.new (λ word. from_label_inside word (stmt_of stmt.now) line lines rest) at (runs (line (stmt_of stmt.now) line lines) rest)) }
+        IfOk result (λ at. Emits tree f is_open points code.old code.new (λ word. from_label_inside word (stmt_of stmt.now) line lines rest) at (runs (before_lines (stmt_of stmt.now) line lines) rest)) }
 {
     match stmt {
         CStmt::Assign(place, e) => {

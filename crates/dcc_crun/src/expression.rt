@@ -1,10 +1,11 @@
 //! Expressions whose names are resolved to places of variables, their values, and where assignments go.
 
-ghost use Rattle.std.specs.Prelude.{◌≡◌, List, map};
+ghost use Rattle.std.specs.Prelude.{◌≡◌, List, map, slice_get, Some};
+ghost use Rattle.dcc_c.specs.Tree.{Word};
 ghost use Rattle.dcc_c.specs.Typing.{Declared};
-ghost use Rattle.dcc_c.specs.Value.{given, declared_by};
-ghost use Rattle.dcc_crun.specs.Evaluation.{typed, outcome_of, itself, unnamed, bindings_named};
-ghost use Rattle.dcc_crun.specs.Resolved.{scene_of, slot_in, evaluated, slot_target, address_target, targeted, target_named, IsTargetIn, variables_after, memory_after};
+ghost use Rattle.dcc_c.specs.Value.{given, declared_by, Unplaced, converted, after_assignment};
+ghost use Rattle.dcc_crun.specs.Evaluation.{typed, outcome_of, itself, unnamed, binding_named, bindings_named};
+ghost use Rattle.dcc_crun.specs.Resolved.{scene_of, slot_in, evaluated, slot_target, address_target, targeted, target_named, index_named, IsAlone, IsTargetIn, variables_after, memory_after};
 
 use crate::value::memory::store;
 use crate::value::{
@@ -152,6 +153,31 @@ fn pointed_target(v: Value) -> Result<Target, NoValue>
     }
 }
 
+/// A variable that is kept by itself, after it has taken the value, converted to its type.
+fn with_value(b: Binding, v: Value) -> Binding
+    ensures { (word : Word) → binding_named word result
+        ≡ record (binding_named word b) { storage = Unplaced (converted b.ty (typed v)).bits } }
+{
+    Binding {
+        ty: b.ty,
+        is_array: b.is_array,
+        storage: Storage::Unplaced(converted(b.ty, v).bits),
+    }
+}
+
+/// The variable of the call at this place takes the value, converted to its type.
+fn assign(frame: &mut [Binding], i: usize, v: Value)
+    ensures variables { (names : List Declared) (word : Word) → index_named names word ≡ Some i →
+        bindings_named names frame.new ≡ after_assignment (bindings_named names frame.old) word (typed v) }
+    ensures declared { (names : List Declared) → IsAlone (slice_get names i) →
+        map declared_by (bindings_named names frame.old) ≡ names →
+        map declared_by (bindings_named names frame.new) ≡ names }
+{
+    if i < frame.len() {
+        frame[i] = with_value(frame[i], v);
+    }
+}
+
 /// The target takes the value, converted to its type.
 pub fn take(target: Target, v: Value, frame: &mut [Binding], memory: &mut [u8])
     ensures variables { (names : List Declared) → IsTargetIn names target → bindings_named names frame.new
@@ -163,11 +189,7 @@ pub fn take(target: Target, v: Value, frame: &mut [Binding], memory: &mut [u8])
         map declared_by (bindings_named names frame.new) ≡ names }
 {
     match target {
-        Target::Local(i) => {
-            if i < frame.len() {
-                frame[i].storage = Storage::Unplaced(converted(frame[i].ty, v).bits);
-            }
-        }
+        Target::Local(i) => assign(frame, i, v),
         Target::Memory(ty, at) => store(memory, ty, at, converted(ty, v).bits),
     }
 }

@@ -1,6 +1,6 @@
 //! From the expressions of a text to resolved ones.
 
-ghost use Rattle.std.specs.Prelude.{◌≡◌, map, option_map, IfOk};
+ghost use Rattle.std.specs.Prelude.{◌≡◌, map, option_map, slice_get, IfOk};
 ghost use Rattle.dcc_c.specs.declared.syntax.CUn.TheVariants.{AddressOf};
 ghost use Rattle.dcc_c.specs.Tree.{Expr, Name, Unary, Binary};
 ghost use Rattle.dcc_c.specs.Typing.{unary_number_type, unary_type, is_comparison, is_sum, numbers_type, binary_type, arms_type, both_arms_type, type_of, type_of_name, type_of_address, declared_as};
@@ -37,13 +37,20 @@ fn slot_named(names: &Names<'_>, name: &str) -> Option<Slot>
     }
 }
 
+/// The declaration at a place.
+fn declared_at(declared: &[Declared], i: usize) -> Option<&Declared>
+    ensures { option_map lent_declared result ≡ slice_get (map declared_of declared.now) i }
+{
+    declared.get(i)
+}
+
 /// What the name is declared as.
 fn declared_as<'a>(names: &Names<'a>, name: &str) -> Option<&'a Declared>
     ensures { option_map lent_declared result ≡ declared_as (all_names (names_of names.now)) name.now }
 {
     match slot_named(names, name)? {
-        Slot::Local(i) => names.locals.get(i),
-        Slot::Global(i) => names.globals.get(i),
+        Slot::Local(i) => declared_at(names.locals, i),
+        Slot::Global(i) => declared_at(names.globals, i),
     }
 }
 
@@ -198,7 +205,7 @@ fn resolve_address(names: &Names<'_>, a: &CExpr) -> Resolved
 
 /// A binary operator on resolved operands.
 fn resolve_binary(operator: CBin, left: Box<Resolved>, right: Box<Resolved>) -> Resolved
-    ensures { (names : NamesOf) (a b : Expr) → Stands names a left → Stands names b right →
+    ensures { (names : NamesOf) (a b : Expr) → Stands names a left.value → Stands names b right.value →
         Stands names (Binary operator a b) result }
 {
     match operator {
