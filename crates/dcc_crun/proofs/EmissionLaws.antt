@@ -1,5 +1,5 @@
 -- How pieces of code that grow make one piece.
-use Rattle.std.proofs.Common.{◌≡◌, ◌≢◌, ℕ, zero, suc, ◌+◌, ◌<◌, ◌≤◌, Bool, true, false, List, [], ◌∷◌, ◌++◌, length, Option, Some, None, inl, inr, refl, sym, ap, ◌∙◌, subst, arith}
+use Rattle.std.proofs.Common.{◌≡◌, ◌≢◌, ◌⊎◌, ℕ, zero, suc, ◌+◌, ◌<◌, ◌≤◌, Bool, true, false, List, [], ◌∷◌, ◌++◌, length, Option, Some, None, inl, inr, refl, sym, ap, ◌∙◌, subst, arith}
 use Rattle.std.specs.Prelude.{if◌then◌else◌, ◌||◌, ◌==◌, slice_get, slice_set, Result, Ok, Err, IfOk, OnOk}
 use Rattle.std.proofs.lemmas.List.{length_push, length-set}
 use Rattle.std.proofs.lemmas.Bool.{cases_eq}
@@ -15,9 +15,14 @@ use Rattle.dcc_crun.specs.declared.program.Label.{Label}
 use Rattle.dcc_crun.specs.declared.code.Code.{Code}
 use Rattle.dcc_crun.specs.Points.{Goes, MayGo, label_named, point_named, IsPass, IsStuck, Acts, AreRows}
 use Rattle.dcc_crun.specs.Emission.{Stay, KeepNumbers, Relabels, Grows, Emits}
-use Rattle.dcc_crun.proofs.PointLaws.{get-last, get-push, some_same, stay_push, stay_all, goes_stay, goes_new, acts_stay, rows_push}
+use Rattle.dcc_crun.proofs.LabelLaws.{same_word, same_self}
+use Rattle.dcc_crun.proofs.PointLaws.{goes_alike, get-last, get-push, some_same, stay_push, stay_all, goes_stay, goes_new, acts_stay, rows_push}
 
 -- Tests.
+
+decided : (b : Bool) → (b ≡ true) ⊎ (b ≡ false)
+decided true = inl refl
+decided false = inr refl
 
 clash : {b : Bool} → b ≡ true → b ≡ false → ⊥
 clash t f = cc
@@ -59,6 +64,14 @@ relabels_after tree mid now before between after word (Some rest) None stay one 
     (one.0, two ∙ one.1, goes_stay tree mid now one.0 rest stay one.2)
 relabels_after tree mid now before between after word None None stay one two = two ∙ one
 
+-- the same between lists with the same points
+pub relabels_moved : (tree : Tree) (points : List Continuation) (before opened mid now : List Label) (word : Word)
+    (found : Option Continuation) → point_named opened word ≡ point_named before word →
+    point_named now word ≡ point_named mid word → Relabels tree points opened mid word found →
+    Relabels tree points before now word found
+relabels_moved tree points before opened mid now word (Some rest) first last is = (is.0, last ∙ is.1, is.2)
+relabels_moved tree points before opened mid now word None first last is = last ∙ is ∙ first
+
 pub stay_after : (first second third : List Continuation) → Stay first second → Stay second third → Stay first third
 stay_after first second third one two at rest is = two at rest (one at rest is)
 
@@ -68,10 +81,22 @@ keep_after first second third one two word number is = two word number (one word
 pub keep_all : (labels : List Label) → KeepNumbers labels labels
 keep_all labels word number is = is
 
+-- the same points under other labels, which keep their numbers
+pub rows_kept : (tree : Tree) (f : Function) (is_open : ℕ → Bool) (points : List Continuation) (rows now : List Row)
+    (labels more : List Label) → AreRows tree f is_open points rows labels → KeepNumbers labels more → now ≡ rows →
+    AreRows tree f is_open points now more
+rows_kept tree f is_open points rows now labels more are keep same =
+    subst (λ (rs : List Row). AreRows tree f is_open points rs more) (sym same)
+    (record {
+      same = are.same;
+      acts = λ at rest row here has shut.
+          acts_stay tree f points points labels more rest row.line row.action (stay_all points) keep (are.acts at rest row here has shut);
+    })
+
 -- Pieces.
 
 -- a piece behind another one
-pub grows_after : (tree : Tree) (f : Function) (is_open : ℕ → Bool) (points : List Continuation) (before mid now : Code)
+unfoldable pub grows_after : (tree : Tree) (f : Function) (is_open : ℕ → Bool) (points : List Continuation) (before mid now : Code)
     (first second : Word → Option Continuation) (g : Grows tree f is_open points before mid first) →
     Grows tree f is_open g.grown mid now second →
     Grows tree f is_open points before now (λ word. first_of (second word) (first word))
@@ -106,7 +131,7 @@ emits_after_ok tree f is_open points before mid now first second (Ok at) rest g 
 emits_after_ok tree f is_open points before mid now first second (Err e) rest g h = h
 
 -- no piece
-pub grows_none : (tree : Tree) (f : Function) (is_open : ℕ → Bool) (points : List Continuation) (code : Code) →
+unfoldable pub grows_none : (tree : Tree) (f : Function) (is_open : ℕ → Bool) (points : List Continuation) (code : Code) →
     AreRows tree f is_open points code.rows.items code.labels.items → Grows tree f is_open points code code (λ word. None)
 grows_none tree f is_open points code are = record {
   grown = points;
@@ -115,6 +140,13 @@ grows_none tree f is_open points code are = record {
   numbers = keep_all code.labels.items;
   labels = λ word. refl;
 }
+
+pub emits_none : (tree : Tree) (f : Function) (is_open : ℕ → Bool) (points : List Continuation) (code : Code) (at : ℕ)
+    (rest : Continuation) → AreRows tree f is_open points code.rows.items code.labels.items → Goes tree points at rest →
+    Emits tree f is_open points code code (λ word. None) at rest
+unfolding grows_none
+emits_none tree f is_open points code at rest are goes =
+    record { grows = grows_none tree f is_open points code are; goes = goes }
 
 -- One point.
 
@@ -209,3 +241,92 @@ pub jump_sticks : (tree : Tree) (points : List Continuation) (own behind : Conti
     ((s : State) → step_at tree own s ≡ jump_step target line (goes_on behind s)) → IsStuck tree own line
 jump_sticks tree points own behind (Some rest) line goes does = absurd goes
 jump_sticks tree points own behind None line goes does = record { behind = behind; does = does }
+
+-- Labels that are found.
+
+-- the same labels are found
+pub emits_found : (tree : Tree) (f : Function) (is_open : ℕ → Bool) (points : List Continuation) (before now : Code)
+    (found other : Word → Option Continuation) (r : Result ℕ AllocError) (rest : Continuation) →
+    ((word : Word) → found word ≡ other word) → IfOk r (λ at. Emits tree f is_open points before now found at rest) →
+    IfOk r (λ at. Emits tree f is_open points before now other at rest)
+emits_found tree f is_open points before now found other (Err e) rest same emits = emits
+emits_found tree f is_open points before now found other (Ok at) rest same emits = record {
+  grows = record {
+    grown = emits.grows.grown;
+    stay = emits.grows.stay;
+    rows = emits.grows.rows;
+    numbers = emits.grows.numbers;
+    labels = λ word. subst (λ o. Relabels tree emits.grows.grown before.labels.items now.labels.items word o) (same word) (emits.grows.labels word);
+  };
+  goes = emits.goes;
+}
+
+-- from a point where the text goes on as it does here
+pub emits_alike : (tree : Tree) (f : Function) (is_open : ℕ → Bool) (points : List Continuation) (before now : Code)
+    (found : Word → Option Continuation) (r : Result ℕ AllocError) (rest other : Continuation) →
+    ((s : State) → step_at tree rest s ≡ step_at tree other s) →
+    IfOk r (λ at. Emits tree f is_open points before now found at rest) →
+    IfOk r (λ at. Emits tree f is_open points before now found at other)
+emits_alike tree f is_open points before now found (Err e) rest other same emits = emits
+emits_alike tree f is_open points before now found (Ok at) rest other same emits = record {
+  grows = emits.grows;
+  goes = goes_alike tree emits.grows.grown at rest other same emits.goes;
+}
+
+pub first_of-none : (o : Option Continuation) → o ≡ first_of o None
+first_of-none None = refl
+first_of-none (Some k) = refl
+
+-- further labels, which have no points
+pub grows_labels : (tree : Tree) (f : Function) (is_open : ℕ → Bool) (points : List Continuation) (before now : Code) →
+    AreRows tree f is_open points before.rows.items before.labels.items →
+    KeepNumbers before.labels.items now.labels.items →
+    ((word : Word) → point_named now.labels.items word ≡ point_named before.labels.items word) → now.rows ≡ before.rows →
+    Grows tree f is_open points before now (λ word. None)
+grows_labels tree f is_open points before now are numbers same rows = record {
+  grown = points;
+  stay = stay_all points;
+  rows = rows_kept tree f is_open points before.rows.items now.rows.items before.labels.items now.labels.items are numbers (ap (λ v. v.items) rows);
+  numbers = numbers;
+  labels = same;
+}
+
+same_turned : (xs ys : Word) → same_bytes xs ys ≡ true → same_bytes ys xs ≡ true
+same_turned xs ys is = subst (λ (w : Word). same_bytes w xs ≡ true) (same_word xs ys is) (same_self xs)
+
+turned : (xs ys : Word) → same_bytes xs ys ≡ same_bytes ys xs
+turned xs ys = elim (decided (same_bytes xs ys)) [
+  | inl is ↦ is ∙ sym (same_turned xs ys is)
+  | inr is ↦ elim (decided (same_bytes ys xs)) [
+    | inl other ↦ absurd (clash (same_turned ys xs other) is)
+    | inr other ↦ is ∙ sym other
+  ]
+]
+
+relabels_one : (tree : Tree) (points : List Continuation) (before mid now : List Label) (word : Word) (b c : Bool) (at : ℕ)
+    (own : Continuation) → b ≡ c → point_named now word ≡ (if c then Some at else point_named mid word) →
+    Relabels tree points before mid word None → Goes tree points at own →
+    Relabels tree points before now word (if b then Some own else None)
+relabels_one tree points before mid now word true true at own same is had goes = (at, is, goes)
+relabels_one tree points before mid now word false false at own same is had goes = is ∙ had
+relabels_one tree points before mid now word true false at own same is had goes = cc
+relabels_one tree points before mid now word false true at own same is had goes = cc
+
+-- the label stands at a new point
+pub label_placed : (tree : Tree) (f : Function) (is_open : ℕ → Bool) (points : List Continuation) (before mid now : Code)
+    (name : Word) (at : ℕ) (own : Continuation) → Emits tree f is_open points before mid (λ word. None) at own →
+    KeepNumbers mid.labels.items now.labels.items →
+    ((word : Word) → point_named now.labels.items word ≡ (if same_bytes name word then Some at else point_named mid.labels.items word)) →
+    now.rows ≡ mid.rows →
+    Emits tree f is_open points before now (λ word. if same_bytes word name then Some own else None) at own
+label_placed tree f is_open points before mid now name at own emits numbers placed rows = record {
+  grows = record {
+    grown = emits.grows.grown;
+    stay = emits.grows.stay;
+    rows = rows_kept tree f is_open emits.grows.grown mid.rows.items now.rows.items mid.labels.items now.labels.items emits.grows.rows numbers (ap (λ v. v.items) rows);
+    numbers = keep_after before.labels.items mid.labels.items now.labels.items emits.grows.numbers numbers;
+    labels = λ word. relabels_one tree emits.grows.grown before.labels.items mid.labels.items now.labels.items word (same_bytes word name) (same_bytes name word) at own
+        (turned word name) (placed word) (emits.grows.labels word) emits.goes;
+  };
+  goes = emits.goes;
+}

@@ -4,3 +4,6 @@ pub mod EmissionLaws
 pub mod NameLaws
 pub mod PlaceLaws
 pub mod StandLaws
+pub mod StatementLaws
+pub mod RowLaws
+pub mod LabelLaws

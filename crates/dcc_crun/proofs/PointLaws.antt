@@ -4,13 +4,15 @@ use Rattle.std.specs.Prelude.{if◌then◌else◌, ◌||◌, ◌==◌, slice_get
 use Rattle.std.proofs.lemmas.List.{length_push}
 use Rattle.std.proofs.lemmas.Bool.{cases_eq}
 use Rattle.std.proofs.lemmas.Option.{slice_get_within}
-use Rattle.dcc_c.specs.Tree.{Word, Function, Tree}
+use Rattle.dcc_c.specs.Tree.{Word, Expr, Function, Tree}
 use Rattle.dcc_c.specs.Run.{Continuation, State, step_at}
 use Rattle.dcc_crun.specs.declared.program.Action.{Action}
 use Rattle.dcc_crun.specs.declared.program.Action.TheVariants.{Pass, Assign as Assigns, Call as Calls, Test, Switch, Goto, Return as Returns, Close, Stuck}
 use Rattle.dcc_crun.specs.declared.program.Row.{Row}
 use Rattle.dcc_crun.specs.declared.program.Label.{Label}
-use Rattle.dcc_crun.specs.Points.{Goes, MayGo, label_named, point_named, IsPass, IsAssign, IsCall, IsTest, IsSwitch, IsGoto, Acts, AreRows}
+use Rattle.dcc_crun.specs.Points.{Goes, MayGo, label_named, point_named, IsPass, IsAssign, IsCall, IsTest, IsSwitch, IsGoto, Acts, AreRows, StandAll}
+use Rattle.dcc_crun.specs.declared.expression.Resolved.{Resolved}
+use Rattle.dcc_crun.specs.Resolved.{Names, Stands}
 use Rattle.dcc_crun.specs.Emission.{Stay, KeepNumbers, Relabels}
 
 -- Elements of lists.
@@ -142,3 +144,12 @@ rows_push tree f is_open points rows labels k line action are acts = record {
           (get-push rows (record { action = action; line = line }) at row has (λ same. other (same ∙ sym are.same))) closed)
       ];
 }
+
+-- Expressions.
+
+pub stand_push : (names : Names) (es : List Expr) (rs : List Resolved) (e : Expr) (r : Resolved) → StandAll names es rs →
+    Stands names e r → StandAll names (es ++ e ∷ []) (rs ++ r ∷ [])
+stand_push names [] [] e r stand one = (one, tt)
+stand_push names (x ∷ es) (y ∷ rs) e r stand one = (stand.0, stand_push names es rs e r stand.1 one)
+stand_push names (x ∷ es) [] e r stand one = absurd stand
+stand_push names [] (y ∷ rs) e r stand one = absurd stand

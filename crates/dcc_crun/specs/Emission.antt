@@ -51,8 +51,8 @@ pub record Emits (tree : Tree) (f : Function) (is_open : ℕ → Bool) (points :
 pub record EmitsArms (tree : Tree) (f : Function) (is_open : ℕ → Bool) (points : List Continuation) (before now : Code)
     (found : Word → Option Continuation) (cases : List Case) (arms : Arms) (rest : Continuation) : Type 0 where
   pub grows : Grows tree f is_open points before now found
-  pub goes : (n at : ℕ) (otherwise : Lines) → Goes tree grows.grown at (runs otherwise rest) →
-      Goes tree grows.grown (case_point cases n at) (runs (arm_for n arms otherwise) rest)
+  pub goes : (later : List Continuation) (n at : ℕ) (otherwise : Lines) → Stay grows.grown later →
+      Goes tree later at (runs otherwise rest) → Goes tree later (case_point cases n at) (runs (arm_for n arms otherwise) rest)
 
 -- the points behind a statement lead where the continuation does
 pub record Leads (tree : Tree) (points : List Continuation) (behind : Behind) (rest : Continuation) : Type 0 where

@@ -3,3 +3,5 @@ pub mod Resolved
 pub mod Ending
 pub mod Points
 pub mod Emission
+pub mod Standing
+pub mod Stepped

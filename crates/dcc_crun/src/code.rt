@@ -1,6 +1,6 @@
 //! The points of a function while they are made.
 
-ghost use Rattle.std.specs.Prelude.{◌≡◌, ◌++◌, ◌∷◌, [], length, map, option_map, string_bytes, Option, Some, IfOk, OnOk, slice_set, if◌then◌else◌};
+ghost use Rattle.std.specs.Prelude.{◌≡◌, ◌++◌, ◌∷◌, [], length, map, option_map, string_bytes, Option, Some, None, IfOk, OnOk, slice_set, if◌then◌else◌};
 ghost use Rattle.dcc_c.specs.Token.{same_bytes};
 ghost use Rattle.dcc_c.specs.Tree.{Word};
 ghost use Rattle.dcc_c.specs.Views.{expr_of};
@@ -73,16 +73,23 @@ impl Code {
         ensures points { (word : Word) → point_named self.new.labels.items word ≡ point_named self.old.labels.items word }
         ensures rows { self.new.rows ≡ self.old.rows }
     {
-        for (i, label) in self.labels.iter().enumerate() {
-            if label.name.as_str() == name {
-                return Ok(i);
-            }
+        match label_named(&self.labels, name) {
+            Some(number) => Ok(number),
+            None => self.add_label(alloc, name),
         }
+    }
+
+    /// A new label, whose number is the answer.
+    fn add_label(&mut self, alloc: Global, name: &str) -> Result<usize, AllocError>
+        ensures number { label_named self.old.labels.items name.now ≡ None →
+            IfOk result (λ number. label_named self.new.labels.items name.now ≡ Some number) }
+        ensures numbers { KeepNumbers self.old.labels.items self.new.labels.items }
+        ensures points { (word : Word) → point_named self.new.labels.items word ≡ point_named self.old.labels.items word }
+        ensures rows { self.new.rows ≡ self.old.rows }
+    {
         let number = self.labels.len();
-        self.labels.push(Label {
-            name: String::from_str(alloc, name)?,
-            point: None,
-        })?;
+        let name = String::from_str(alloc, name)?;
+        self.labels.push(Label { name, point: None })?;
         Ok(number)
     }
 
@@ -104,6 +111,18 @@ impl Code {
         }
         Ok(())
     }
+}
+
+/// The number of the label with the name.
+fn label_named(labels: &[Label], name: &str) -> Option<usize>
+    ensures { result ≡ label_named labels.now name.now }
+{
+    for (i, label) in labels.iter().enumerate() {
+        if label.name.as_str() == name {
+            return Some(i);
+        }
+    }
+    None
 }
 
 /// Resolves an expression, where there is one.

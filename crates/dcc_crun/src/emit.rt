@@ -86,12 +86,12 @@ fn emit_stmt(
             code.push(line, Action::Test(value, yes, no))
         }
         CStmt::While(e, body) => {
-            let yes = emit_repeated(alloc, context, e, body, line, behind.next, code)?;
+            let yes = emit_repeated(alloc, context, body, e, line, behind.next, code)?;
             let value = resolve(alloc, context.names, e)?;
             code.push(line, Action::Test(value, yes, behind.next))
         }
         CStmt::DoWhile(body, e) => {
-            let yes = emit_repeated(alloc, context, e, body, line, behind.next, code)?;
+            let yes = emit_repeated(alloc, context, body, e, line, behind.next, code)?;
             code.push(line, Action::Pass(yes))
         }
         CStmt::Forever(body) => emit_forever(alloc, context, body, line, behind.next, code),
@@ -143,8 +143,8 @@ fn emit_jump(line: u32, to: Option<usize>, code: &mut Code) -> Result<usize, All
 fn emit_repeated(
     alloc: Global,
     context: &Context<'_>,
-    e: &CExpr,
     body: &[Line],
+    e: &CExpr,
     line: u32,
     next: usize,
     code: &mut Code,
