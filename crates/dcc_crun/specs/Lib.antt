@@ -5,3 +5,5 @@ pub mod Points
 pub mod Emission
 pub mod Standing
 pub mod Stepped
+pub mod Doing
+pub mod Frames

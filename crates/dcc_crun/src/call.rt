@@ -1,6 +1,10 @@
 //! Calls: what a call holds, and how it begins.
 
 use crate::program::{Procedure, Variable};
+ghost use Rattle.std.specs.Prelude.{◌≡◌, ◌++◌, IfOk};
+ghost use Rattle.dcc_crun.specs.Standing.{place_in};
+ghost use Rattle.dcc_crun.specs.Frames.{holding, params_holding, locals_holding, with_argument, arguments_put};
+
 use crate::expression::Target;
 use crate::value::memory::store;
 use crate::value::{Value, converted, number};
@@ -32,7 +36,9 @@ pub struct Waiting {
 
 impl Variable {
     /// The address in a call with this base, where the variable is in memory.
-    fn place(&self, base: u16) -> Option<u32> {
+    fn place(&self, base: u16) -> Option<u32>
+        ensures { result ≡ place_in base self.now }
+    {
         match self.offset {
             Some(offset) => Some(u32::from(base.wrapping_add(offset))),
             None => None,
@@ -40,7 +46,9 @@ impl Variable {
     }
 
     /// The variable with these bits in a call with this base.
-    fn holding(&self, base: u16, bits: u32) -> Binding {
+    fn holding(&self, base: u16, bits: u32) -> Binding
+        ensures { result ≡ holding base bits self.now }
+    {
         Binding {
             ty: self.ty,
             is_array: self.is_array,
@@ -61,10 +69,13 @@ impl Procedure {
         base: u16,
         fill: u16,
         arguments: &[Value],
-    ) -> Result<Vec<Binding>, AllocError> {
+    ) -> Result<Vec<Binding>, AllocError>
+        ensures { IfOk result (λ variables. variables.items
+            ≡ params_holding base self.now.params.items arguments.now ++ locals_holding base fill self.now.locals.items) }
+    {
         let mut variables = Vec::new(alloc);
-        for (param, argument) in self.params.iter().zip(arguments) {
-            variables.push(param.holding(base, argument.bits))?;
+        for i in 0..self.params.len().min(arguments.len()) {
+            variables.push(self.params[i].holding(base, arguments[i].bits))?;
         }
         for local in &self.locals {
             let first = converted(local.ty, number(Base::Int, u32::from(fill)));
@@ -74,11 +85,20 @@ impl Procedure {
     }
 
     /// Puts the arguments of placed parameters into memory.
-    pub(crate) fn put_arguments(&self, base: u16, arguments: &[Value], memory: &mut [u8]) {
-        for (param, argument) in self.params.iter().zip(arguments) {
-            if let Some(at) = param.place(base) {
-                store(memory, argument.ty, at, argument.bits);
-            }
+    pub(crate) fn put_arguments(&self, base: u16, arguments: &[Value], memory: &mut [u8])
+        ensures { memory.new ≡ arguments_put base self.now.params.items arguments.now memory.old }
+    {
+        for i in 0..self.params.len().min(arguments.len()) {
+            put_argument(base, self.params[i], arguments[i], memory);
         }
+    }
+}
+
+/// Puts an argument into memory, where its parameter is in memory.
+fn put_argument(base: u16, param: Variable, argument: Value, memory: &mut [u8])
+    ensures { memory.new ≡ with_argument base param argument memory.old }
+{
+    if let Some(at) = param.place(base) {
+        store(memory, argument.ty, at, argument.bits);
     }
 }

@@ -1,0 +1,161 @@
+-- What statements do to the state of a run while they are executed.
+use Rattle.std.specs.Prelude.{◌≡◌, ℕ, Bool, List, [], ◌∷◌, ◌++◌, map, Option, None, Some, is_some, Result, Ok, Err}
+use Rattle.dcc_run.specs.End.{End, Running as running, Divide as divided, Stuck as stuck}
+use Rattle.dcc_io.specs.Told.{append_told, prepend_told, AppendsProperPrefix}
+use Rattle.dcc_c.specs.Tree.{Word, Expr, Function, Tree}
+use Rattle.dcc_c.specs.Rules.{declared_global}
+use Rattle.dcc_c.specs.Value.{Value, Outcome, Gives, Divides, Undefined, Target}
+use Rattle.dcc_c.specs.Dos.{Dos}
+use Rattle.dcc_c.specs.Run.{Continuation, State, global_binding, step_at, scope_of, dos_or_call_step}
+use Rattle.dcc_crun.specs.declared.value.Value.{Value as Held}
+use Rattle.dcc_crun.specs.declared.value.NoValue.{NoValue}
+use Rattle.dcc_crun.specs.declared.value.NoValue.TheVariants.{Divides as Faults, Undefined as Meaningless}
+use Rattle.dcc_crun.specs.declared.variable.Binding.{Binding as Bound}
+use Rattle.dcc_crun.specs.declared.expression.Resolved.{Resolved}
+use Rattle.dcc_crun.specs.declared.ending.Fault.{Fault}
+use Rattle.dcc_crun.specs.declared.ending.Fault.TheVariants.{Input, Output, Memory}
+use Rattle.dcc_crun.specs.declared.ending.Stop.{Stop}
+use Rattle.dcc_crun.specs.declared.ending.Stop.TheVariants.{Divides as HaltsDividing, Undefined as HaltsUndefined, Refused}
+use Rattle.dcc_crun.specs.declared.program.Action.{Action}
+use Rattle.dcc_crun.specs.declared.program.Procedure.{Procedure}
+use Rattle.dcc_crun.specs.declared.program.Program.{Program}
+use Rattle.dcc_crun.specs.declared.moment.Moment.{Moment}
+use Rattle.dcc_crun.specs.Evaluation.{typed, bindings_named}
+use Rattle.dcc_crun.specs.Resolved.{Names, Scene}
+use Rattle.dcc_crun.specs.Points.{names_in, Acts, StandAll}
+use Rattle.dcc_crun.specs.Standing.{IsProgram, IsProcedure, IsRunning, IsGoing, IsMoment}
+use Rattle.dcc_crun.specs.Stepped.{told_bytes}
+
+-- what the expressions of the call are evaluated over
+abbrev pub scene_in : Moment → List Bound → Scene
+scene_in m globals = record { frame = m.call.variables.items; globals = globals; memory = m.memory.items }
+
+-- these are the global variables of the text
+abbrev pub AreGlobals : Tree → List Bound → Type 0
+AreGlobals tree globals = bindings_named (map declared_global tree.globals) globals ≡ map global_binding tree.globals
+
+-- what the expressions of the call may name
+abbrev pub names_at : Tree → State → Names
+names_at tree s = names_in tree s.frame.function
+
+-- nothing was read or written
+pub record IsQuiet (s now : State) : Type 0 where
+  pub input : now.input ≡ s.input
+  pub out : now.out ≡ s.out
+
+-- the end of a run where an evaluation gives nothing
+abbrev pub end_at : ℕ → NoValue → End
+end_at line Faults = divided
+end_at line Meaningless = stuck line
+
+-- the moment stands for the state now, and the text goes on as before
+pub record IsKept (tree : Tree) (points : ℕ → List Continuation) (m : Moment) (s now : State) : Type 0 where
+  pub state : IsRunning tree points m now
+  pub rest : now.rest ≡ s.rest
+  pub quiet : IsQuiet s now
+
+-- the moment stands for the state now
+pub record IsLed (tree : Tree) (points : ℕ → List Continuation) (m : Moment) (s now : State) : Type 0 where
+  pub going : IsGoing tree points m now
+  pub quiet : IsQuiet s now
+
+-- the run has ended so
+pub record IsEnded (s now : State) (end : End) : Type 0 where
+  pub is : now.end ≡ end
+  pub quiet : IsQuiet s now
+
+abbrev pub Keeps : {A : Type 0} → Tree → (ℕ → List Continuation) → ℕ → Result A NoValue → Moment → State → State → Type 0
+Keeps tree points line (Ok _) m s now = IsKept tree points m s now
+Keeps tree points line (Err why) m s now = IsEnded s now (end_at line why)
+
+abbrev pub Led : {A : Type 0} → Tree → (ℕ → List Continuation) → ℕ → Result A NoValue → Moment → State → State → Type 0
+Led tree points line (Ok _) m s now = IsLed tree points m s now
+Led tree points line (Err why) m s now = IsEnded s now (end_at line why)
+
+-- What is read and written.
+
+-- What the code does is done from states to states, of the text and for the continuations of its points.
+abbrev pub Operation : Type 1
+Operation = Tree → (ℕ → List Continuation) → State → State → Type 0
+
+-- The operation was made. The input gave some bytes and the output took some; and with just these bytes to read the state
+-- that the operation leads to is one of these, and has put out just these bytes more.
+pub record Does (op done : Operation) (left taken left_now taken_now : Option (List ℕ)) : Type 0 where
+  pub given : List ℕ
+  pub written : List ℕ
+  pub took : left ≡ prepend_told given left_now
+  pub wrote : taken_now ≡ append_told taken written
+  pub made : (tree : Tree) (points : ℕ → List Continuation) (s now : State) → op tree points s now →
+      s.input ≡ given ++ told_bytes left_now →
+      done tree points s now × (now.input ≡ told_bytes left_now) × (now.out ≡ s.out ++ written)
+
+-- a read failed: the operation is one that takes the next input byte
+pub record CannotRead (op : Operation) (left taken left_now taken_now : Option (List ℕ)) : Type 0 where
+  pub takes : (tree : Tree) (points : ℕ → List Continuation) (s now : State) (byte : ℕ) (rest : List ℕ) →
+      op tree points s now → s.input ≡ byte ∷ rest → now.input ≡ rest
+  pub same_left : left_now ≡ left
+  pub same_taken : taken_now ≡ taken
+
+-- a write failed: the input gave what the operation takes, and the output took a part of what it writes, and not all of it
+pub record CannotWrite (op : Operation) (left taken left_now taken_now : Option (List ℕ)) : Type 0 where
+  pub given : List ℕ
+  pub written : List ℕ
+  pub makes : (tree : Tree) (points : ℕ → List Continuation) (s now : State) (rest : List ℕ) → op tree points s now →
+      s.input ≡ given ++ rest → (now.input ≡ rest) × (now.out ≡ s.out ++ written)
+  pub took : left ≡ prepend_told given left_now
+  pub part : AppendsProperPrefix taken taken_now written
+
+-- memory was wanting: nothing was read or written
+pub record CannotGrow (left taken left_now taken_now : Option (List ℕ)) : Type 0 where
+  pub same_left : left_now ≡ left
+  pub same_taken : taken_now ≡ taken
+
+-- the operation ends the run so, and reads and writes nothing
+pub record Halts (op : Operation) (end : End) (left taken left_now taken_now : Option (List ℕ)) : Type 0 where
+  pub ends : (tree : Tree) (points : ℕ → List Continuation) (s now : State) → op tree points s now → IsEnded s now end
+  pub same_left : left_now ≡ left
+  pub same_taken : taken_now ≡ taken
+
+abbrev pub Refuses : Fault → Operation → Option (List ℕ) → Option (List ℕ) → Option (List ℕ) → Option (List ℕ) → Type 0
+Refuses Input op left taken left_now taken_now = CannotRead op left taken left_now taken_now
+Refuses Output op left taken left_now taken_now = CannotWrite op left taken left_now taken_now
+Refuses Memory op left taken left_now taken_now = CannotGrow left taken left_now taken_now
+
+-- what an operation comes to, in this line, with what it leaves
+abbrev pub ComesTo : {A : Type 0} → ℕ → Result A Stop → Operation → Operation → Option (List ℕ) → Option (List ℕ) → Option (List ℕ) → Option (List ℕ) → Type 0
+ComesTo line (Ok _) op done left taken left_now taken_now = Does op done left taken left_now taken_now
+ComesTo line (Err HaltsDividing) op done left taken left_now taken_now = Halts op divided left taken left_now taken_now
+ComesTo line (Err HaltsUndefined) op done left taken left_now taken_now = Halts op (stuck line) left taken left_now taken_now
+ComesTo line (Err (Refused fault)) op done left taken left_now taken_now = Refuses fault op left taken left_now taken_now
+
+-- where something is refused nothing of the moment has changed
+abbrev pub StaysIfRefused : {A : Type 0} → Result A Stop → Moment → Moment → Type 0
+StaysIfRefused (Err (Refused fault)) before now = now ≡ before
+StaysIfRefused _ before now = Unit {0}
+
+-- The operations.
+
+-- the moment stands for the state now, and goes on as before
+abbrev pub Kept : Moment → Operation
+Kept m = λ tree points s now. IsRunning tree points m now × (now.rest ≡ s.rest)
+
+-- the moment stands for the state now
+abbrev pub Stood : Moment → Operation
+Stood m = λ tree points s now. IsMoment tree points m now
+
+-- the step of the text, from what a moment stands for
+pub record Steps (program : Program) (m : Moment) (tree : Tree) (points : ℕ → List Continuation) (s now : State) : Type 0 where
+  pub program_is : IsProgram tree points program
+  pub state : IsGoing tree points m s
+  pub is : now ≡ step_at tree s.rest s
+
+-- the action of a procedure in a line
+pub record Performs (program : Program) (procedure : Procedure) (line : ℕ) (action : Action) (m : Moment)
+    (tree : Tree) (points : ℕ → List Continuation) (s now : State) : Type 0 where
+  pub program_is : IsProgram tree points program
+  pub state : IsRunning tree points m s
+  pub running : s.end ≡ running
+  pub procedure_is : IsProcedure tree s.frame.function (points m.call.procedure) procedure
+  pub own : Continuation
+  pub acts : Acts tree s.frame.function (points m.call.procedure) procedure.labels.items own line action
+  pub is : now ≡ step_at tree own s
