@@ -7,3 +7,8 @@ pub mod StandLaws
 pub mod StatementLaws
 pub mod RowLaws
 pub mod LabelLaws
+pub mod FrameLaws
+pub mod MomentLaws
+pub mod CallLaws
+pub mod StringLaws
+pub mod Scenes

@@ -1,12 +1,13 @@
 -- What statements do to the state of a run while they are executed.
-use Rattle.std.specs.Prelude.{◌≡◌, ℕ, Bool, List, [], ◌∷◌, ◌++◌, map, Option, None, Some, is_some, Result, Ok, Err}
+use Rattle.std.specs.Prelude.{◌≡◌, ℕ, Bool, List, [], ◌∷◌, ◌++◌, map, Option, None, Some, is_some, Result, Ok, Err, Vec, option_map, slice_get}
+use Rattle.std.specs.Global.{Global}
 use Rattle.dcc_run.specs.End.{End, Running as running, Divide as divided, Stuck as stuck}
 use Rattle.dcc_io.specs.Told.{append_told, prepend_told, AppendsProperPrefix}
-use Rattle.dcc_c.specs.Tree.{Word, Expr, Function, Tree}
+use Rattle.dcc_c.specs.Tree.{Word, Expr, Call as CallOf, Function, Tree}
 use Rattle.dcc_c.specs.Rules.{declared_global}
-use Rattle.dcc_c.specs.Value.{Value, Outcome, Gives, Divides, Undefined, Target}
-use Rattle.dcc_c.specs.Dos.{Dos}
-use Rattle.dcc_c.specs.Run.{Continuation, State, global_binding, step_at, scope_of, dos_or_call_step}
+use Rattle.dcc_c.specs.Value.{Value, Outcome, Gives, Divides, Undefined}
+use Rattle.dcc_c.specs.Dos.{dos_signature}
+use Rattle.dcc_c.specs.Run.{Continuation, State, global_binding, on, step_at, scope_of, key_step, dos_step, arguments_of, enter_step, param_types, stmt_step}
 use Rattle.dcc_crun.specs.declared.value.Value.{Value as Held}
 use Rattle.dcc_crun.specs.declared.value.NoValue.{NoValue}
 use Rattle.dcc_crun.specs.declared.value.NoValue.TheVariants.{Divides as Faults, Undefined as Meaningless}
@@ -16,14 +17,18 @@ use Rattle.dcc_crun.specs.declared.ending.Fault.{Fault}
 use Rattle.dcc_crun.specs.declared.ending.Fault.TheVariants.{Input, Output, Memory}
 use Rattle.dcc_crun.specs.declared.ending.Stop.{Stop}
 use Rattle.dcc_crun.specs.declared.ending.Stop.TheVariants.{Divides as HaltsDividing, Undefined as HaltsUndefined, Refused}
+use Rattle.dcc_crun.specs.declared.expression.Target.{Target as Place}
+use Rattle.dcc_crun.specs.declared.program.Dos.{Dos as DosCall}
+use Rattle.dcc_crun.specs.declared.program.CallRow.{CallRow}
 use Rattle.dcc_crun.specs.declared.program.Action.{Action}
+use Rattle.dcc_crun.specs.declared.program.Action.TheVariants.{Call}
 use Rattle.dcc_crun.specs.declared.program.Procedure.{Procedure}
 use Rattle.dcc_crun.specs.declared.program.Program.{Program}
 use Rattle.dcc_crun.specs.declared.moment.Moment.{Moment}
 use Rattle.dcc_crun.specs.Evaluation.{typed, bindings_named}
-use Rattle.dcc_crun.specs.Resolved.{Names, Scene}
-use Rattle.dcc_crun.specs.Points.{names_in, Acts, StandAll}
-use Rattle.dcc_crun.specs.Standing.{IsProgram, IsProcedure, IsRunning, IsGoing, IsMoment}
+use Rattle.dcc_crun.specs.Resolved.{Names, Scene, target_named}
+use Rattle.dcc_crun.specs.Points.{names_in, locals_declared, Goes, Acts, StandsIf, StandAll, IsCallee, dos_call}
+use Rattle.dcc_crun.specs.Standing.{IsProgram, IsProcedure, IsTargetIf, IsRunning, IsGoing, IsMoment}
 use Rattle.dcc_crun.specs.Stepped.{told_bytes}
 
 -- what the expressions of the call are evaluated over
@@ -71,6 +76,31 @@ Keeps tree points line (Err why) m s now = IsEnded s now (end_at line why)
 abbrev pub Led : {A : Type 0} → Tree → (ℕ → List Continuation) → ℕ → Result A NoValue → Moment → State → State → Type 0
 Led tree points line (Ok _) m s now = IsLed tree points m s now
 Led tree points line (Err why) m s now = IsEnded s now (end_at line why)
+
+-- what a step that reads and writes nothing leaves
+pub record IsStood (tree : Tree) (points : ℕ → List Continuation) (m : Moment) (s now : State) : Type 0 where
+  pub stood : IsMoment tree points m now
+  pub quiet : IsQuiet s now
+
+abbrev pub Stays : {A : Type 0} → Tree → (ℕ → List Continuation) → ℕ → Result A NoValue → Moment → State → State → Type 0
+Stays tree points line (Ok _) m s now = IsStood tree points m s now
+Stays tree points line (Err why) m s now = IsEnded s now (end_at line why)
+
+-- the call stands at the same point
+pub record StepsAside (before now : Moment) : Type 0 where
+  pub procedure : now.call.procedure ≡ before.call.procedure
+  pub at : now.call.at ≡ before.call.at
+
+-- the list of one value
+abbrev pub single : Held → List Value
+single v = typed v ∷ []
+
+-- the values of arguments come to this
+abbrev pub ArgumentsAre : Result (Vec Held Global) Stop → Outcome (List Value) → Type 0
+ArgumentsAre (Ok values) o = o ≡ Gives (map typed values.items)
+ArgumentsAre (Err HaltsDividing) o = o ≡ Divides
+ArgumentsAre (Err HaltsUndefined) o = o ≡ Undefined
+ArgumentsAre (Err (Refused fault)) o = fault ≡ Memory
 
 -- What is read and written.
 
@@ -159,3 +189,56 @@ pub record Performs (program : Program) (procedure : Procedure) (line : ℕ) (ac
   pub own : Continuation
   pub acts : Acts tree s.frame.function (points m.call.procedure) procedure.labels.items own line action
   pub is : now ≡ step_at tree own s
+
+-- a call of a DOS function that takes a key
+pub record TakesKey (m : Moment) (echo : Bool) (target : Option Place) (line : ℕ)
+    (tree : Tree) (points : ℕ → List Continuation) (s now : State) : Type 0 where
+  pub state : IsRunning tree points m s
+  pub lands : IsTargetIf (locals_declared s.frame.function) target
+  pub is : now ≡ key_step echo s.input (option_map (target_named (locals_declared s.frame.function)) target) line s
+
+-- a call of a DOS function
+pub record CallsDos (m : Moment) (globals : List Bound) (dos : DosCall) (target : Option Place) (arguments : List Resolved) (line : ℕ)
+    (tree : Tree) (points : ℕ → List Continuation) (s now : State) : Type 0 where
+  pub globals_are : AreGlobals tree globals
+  pub state : IsRunning tree points m s
+  pub lands : IsTargetIf (locals_declared s.frame.function) target
+  pub exprs : List Expr
+  pub stand : StandAll (names_at tree s) exprs arguments
+  pub is : now ≡ on (arguments_of (scope_of tree s) (dos_signature (dos_call dos)).params exprs) line s
+      (λ vs. dos_step (dos_call dos) (option_map (target_named (locals_declared s.frame.function)) target) vs line s)
+
+-- a call of a function of the text
+pub record CallsFunction (m : Moment) (program : Program) (row : CallRow) (number : ℕ) (target : Option Place) (line : ℕ)
+    (tree : Tree) (points : ℕ → List Continuation) (s now : State) : Type 0 where
+  pub program_is : IsProgram tree points program
+  pub state : IsRunning tree points m s
+  pub running : s.end ≡ running
+  pub goes : Goes tree (points m.call.procedure) row.next s.rest
+  pub lands : IsTargetIf (locals_declared s.frame.function) target
+  pub exprs : List Expr
+  pub stand : StandAll (names_at tree s) exprs row.arguments.items
+  pub f : Function
+  pub here : slice_get tree.functions number ≡ Some f
+  pub is : now ≡ on (arguments_of (scope_of tree s) (param_types f) exprs) line s
+      (λ vs. enter_step f row.depth (option_map (target_named (locals_declared s.frame.function)) target) vs s)
+
+-- a call
+pub record CallsAny (m : Moment) (program : Program) (row : CallRow) (line : ℕ)
+    (tree : Tree) (points : ℕ → List Continuation) (s now : State) : Type 0 where
+  pub program_is : IsProgram tree points program
+  pub state : IsRunning tree points m s
+  pub running : s.end ≡ running
+  pub goes : Goes tree (points m.call.procedure) row.next s.rest
+  pub place : Option Expr
+  pub word : Word
+  pub exprs : List Expr
+  pub place_stands : StandsIf (names_at tree s) place row.place
+  pub callee : IsCallee tree word row.callee
+  pub stand : StandAll (names_at tree s) exprs row.arguments.items
+  pub is : now ≡ stmt_step tree (CallOf place word exprs row.depth) line s
+
+-- the action is no call
+abbrev pub IsNoCall : Action → Type 0
+IsNoCall (Call row) = ⊥
+IsNoCall action = Unit {0}

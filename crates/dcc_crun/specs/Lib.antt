@@ -7,3 +7,4 @@ pub mod Standing
 pub mod Stepped
 pub mod Doing
 pub mod Frames
+pub mod Takes

@@ -40,9 +40,9 @@ abbrev pub declared_kind : DeclaredVariable → Kind
 declared_kind v = record { type = v.type; is_array = is_some v.len }
 
 -- the variables have the types that they are declared with, and stand at these places
-pub record AreVariables (declared : List DeclaredVariable) (places : ℕ → List (Option ℕ)) (variables : List Variable) : Type 0 where
+pub record AreVariables (declared : List DeclaredVariable) (places_of : ℕ → List (Option ℕ)) (variables : List Variable) : Type 0 where
   pub kinds : map kind_of variables ≡ map declared_kind declared
-  pub places : (base : ℕ) → map (place_in base) variables ≡ places base
+  pub places : (base : ℕ) → map (place_in base) variables ≡ places_of base
 
 -- no point is open
 abbrev pub none_open : ℕ → Bool

@@ -25,10 +25,10 @@ told_bytes None = []
 told_bytes (Some bytes) = bytes
 
 -- the run now stands for this state, which has these bytes left and has put out these ones
-pub record Comes (tree : Tree) (run : CRun) (left out : List ℕ) (s : State) : Type 0 where
+pub record Comes (tree : Tree) (run : CRun) (rest written : List ℕ) (s : State) : Type 0 where
   pub stands : StandsAt tree run s
-  pub left : s.input ≡ left
-  pub out : s.out ≡ out
+  pub left : s.input ≡ rest
+  pub out : s.out ≡ written
 
 -- A step was made. The input gave some bytes and the output took some; and from each state that the run stood for, with
 -- just these bytes to read, the step of the text leads to a state that the run stands for now, which has put out just

@@ -1,7 +1,20 @@
 //! The state of a run, and what statements do to it.
 
+ghost use Rattle.std.specs.Prelude.{◌≡◌, ◌≤◌, ℕ, suc, List, [], ◌∷◌, map, option_map, Option, Some, None, if◌then◌else◌, IfOk, OnOk, OnErr, IfErr, IsErrOf, slice_get};
+ghost use Rattle.dcc_io.specs.Count.{Rose};
+ghost use Rattle.dcc_c.specs.declared.syntax.Base.TheVariants.{Uchar, Uint};
+ghost use Rattle.dcc_c.specs.Types.{plain};
+ghost use Rattle.dcc_c.specs.Tree.{Word, Expr, Assign, Return, Function, Tree};
+ghost use Rattle.dcc_c.specs.Value.{number, is_zero, converted, given, and_then, Gives, Target as Place};
+ghost use Rattle.dcc_c.specs.Run.{Continuation, State, takes, result_step, back_step, close_step, enter_step, arguments_of, result_target, param_types, stmt_step};
+ghost use Rattle.dcc_crun.specs.Evaluation.{typed, itself, outcome_of};
+ghost use Rattle.dcc_crun.specs.Resolved.{Names, Fits, Stands, IsTargetIn, scene_of, scope_over, evaluated, target_named};
+ghost use Rattle.dcc_crun.specs.Points.{Goes, StandsIf, StandAll, case_point, label_point, locals_declared};
+ghost use Rattle.dcc_crun.specs.Standing.{IsProgram, IsProcedure, IsTargetIf, IsRunning};
+ghost use Rattle.dcc_crun.specs.Doing.{scene_in, names_at, AreGlobals, single, ArgumentsAre, StepsAside, Keeps, Led, IsLed, Kept, Stood, ComesTo, StaysIfRefused, TakesKey, CallsDos, CallsFunction, CallsAny, IsNoCall, Stays, Performs, Steps, Does, Refuses};
+
 use crate::call::{Call, Waiting};
-use crate::dos::{put_string, take_key};
+use crate::dos::{END_OF_INPUT, echo_key, next_key, put_string};
 use crate::ending::{Ending, Fault, Stop};
 use crate::expression::{Resolved, Target, take};
 use crate::program::{Action, CallRow, Callee, Case, Dos, Label, Procedure, Program, Row};
@@ -28,7 +41,9 @@ pub struct Moment {
 }
 
 /// The point of the case that the value is, or else the last one.
-fn case_point(cases: &[Case], n: u16, otherwise: usize) -> usize {
+fn case_point(cases: &[Case], n: u16, otherwise: usize) -> usize
+    ensures { result ≡ case_point cases.now n otherwise }
+{
     let mut point = otherwise;
     for case in cases {
         if case.values.contains(&n) {
@@ -39,7 +54,9 @@ fn case_point(cases: &[Case], n: u16, otherwise: usize) -> usize {
 }
 
 /// The point where the label stands.
-fn label_point(labels: &[Label], number: usize) -> Result<usize, NoValue> {
+fn label_point(labels: &[Label], number: usize) -> Result<usize, NoValue>
+    ensures { outcome_of itself result ≡ given (label_point labels.now number) }
+{
     match labels.get(number) {
         Some(label) => label.point.ok_or(NoValue::Undefined),
         None => Err(NoValue::Undefined),
@@ -47,7 +64,11 @@ fn label_point(labels: &[Label], number: usize) -> Result<usize, NoValue> {
 }
 
 /// The value of the only argument, converted to the type.
-fn only_argument(scene: &Scene<'_>, ty: CType, arguments: &[Resolved]) -> Result<Value, NoValue> {
+fn only_argument(scene: &Scene<'_>, ty: CType, arguments: &[Resolved]) -> Result<Value, NoValue>
+    ensures value { (names : Names) (es : List Expr) → StandAll names es arguments.now → Fits names (scene_of scene.now) →
+        outcome_of single result ≡ arguments_of (scope_over names (scene_of scene.now)) (ty ∷ []) es }
+    ensures kind { IfOk result (λ v. v.ty ≡ ty) }
+{
     match arguments {
         [] => Err(NoValue::Undefined),
         [e] => Ok(converted(ty, e.evaluate(scene)?)),
@@ -64,7 +85,10 @@ fn argument_values(
     scene: &Scene<'_>,
     procedure: &Procedure,
     arguments: &[Resolved],
-) -> Result<Vec<Value>, Stop> {
+) -> Result<Vec<Value>, Stop>
+    ensures { (names : Names) (es : List Expr) → StandAll names es arguments.now → Fits names (scene_of scene.now) →
+        ArgumentsAre result (arguments_of (scope_over names (scene_of scene.now)) (map (λ p. p.ty) procedure.now.params.items) es) }
+{
     let mut values = Vec::new(alloc);
     for (i, e) in arguments.iter().enumerate() {
         let Some(param) = procedure.params.get(i) else {
@@ -80,7 +104,12 @@ fn argument_values(
 }
 
 /// Where the result goes, where it goes anywhere.
-fn result_target(scene: &Scene<'_>, place: &Option<Resolved>) -> Result<Option<Target>, NoValue> {
+fn result_target(scene: &Scene<'_>, place: &Option<Resolved>) -> Result<Option<Target>, NoValue>
+    ensures value { (names : Names) (e : Option Expr) → StandsIf names e place.now → Fits names (scene_of scene.now) →
+        outcome_of (option_map (target_named names.locals)) result ≡ result_target (scope_over names (scene_of scene.now)) e }
+    ensures lands { (names : Names) (e : Option Expr) → StandsIf names e place.now → Fits names (scene_of scene.now) →
+        IfOk result (IsTargetIf names.locals) }
+{
     match place {
         Some(place) => Ok(Some(place.target(scene)?)),
         None => Ok(None),
@@ -89,7 +118,9 @@ fn result_target(scene: &Scene<'_>, place: &Option<Resolved>) -> Result<Option<T
 
 impl Moment {
     /// What expressions are evaluated over.
-    fn scene<'a>(&'a self, globals: &'a [Binding]) -> Scene<'a> {
+    fn scene<'a>(&'a self, globals: &'a [Binding]) -> Scene<'a>
+        ensures { scene_of result ≡ scene_in self.now globals.now }
+    {
         Scene {
             frame: self.call.variables.as_slice(),
             globals,
@@ -98,7 +129,12 @@ impl Moment {
     }
 
     /// The target takes the value, converted to its type.
-    fn take(&mut self, target: Target, v: Value) {
+    fn take(&mut self, target: Target, v: Value)
+        ensures state { (tree : Tree) (points : ℕ → List Continuation) (s : State) → IsRunning tree points self.old s →
+            IsTargetIn (locals_declared s.frame.function) target →
+            IsRunning tree points self.new (takes (target_named (locals_declared s.frame.function) target) (typed v) s) }
+        ensures at { StepsAside self.old self.new }
+    {
         take(target, v, &mut self.call.variables, &mut self.memory);
     }
 
@@ -108,7 +144,13 @@ impl Moment {
         globals: &[Binding],
         place: &Resolved,
         e: &Resolved,
-    ) -> Result<(), NoValue> {
+    ) -> Result<(), NoValue>
+        ensures state { (tree : Tree) (points : ℕ → List Continuation) (s : State) (place_expr expr : Expr) (line : ℕ) →
+            AreGlobals tree globals.now → IsRunning tree points self.old s →
+            Stands (names_at tree s) place_expr place.now → Stands (names_at tree s) expr e.now →
+            Keeps tree points line result self.new s (stmt_step tree (Assign place_expr expr) line s) }
+        ensures at { StepsAside self.old self.new }
+    {
         let scene = self.scene(globals);
         let v = e.evaluate(&scene)?;
         let target = place.target(&scene)?;
@@ -123,7 +165,10 @@ impl Moment {
         e: &Resolved,
         cases: &[Case],
         otherwise: usize,
-    ) -> Result<usize, NoValue> {
+    ) -> Result<usize, NoValue>
+        ensures { outcome_of itself result ≡ and_then (λ v. Gives (case_point cases.now (converted (plain Uint) v).bits otherwise))
+            (evaluated (scene_in self.now globals.now) e.now) }
+    {
         let v = e.evaluate(&self.scene(globals))?;
         let n = (converted(plain(Base::Uint), v).bits % 0x1_0000) as u16;
         Ok(case_point(cases, n, otherwise))
@@ -136,13 +181,22 @@ impl Moment {
         e: &Resolved,
         yes: usize,
         no: usize,
-    ) -> Result<usize, NoValue> {
+    ) -> Result<usize, NoValue>
+        ensures { outcome_of itself result ≡ and_then (λ v. Gives (if is_zero v then no else yes))
+            (evaluated (scene_in self.now globals.now) e.now) }
+    {
         let v = e.evaluate(&self.scene(globals))?;
         Ok(if is_zero(v) { no } else { yes })
     }
 
     /// The waiting call takes the result, where it wants one.
-    fn take_result(&mut self, target: Option<Target>, v: Option<Value>) -> Result<(), NoValue> {
+    fn take_result(&mut self, target: Option<Target>, v: Option<Value>) -> Result<(), NoValue>
+        ensures state { (tree : Tree) (points : ℕ → List Continuation) (s : State) (line : ℕ) → IsRunning tree points self.old s →
+            IsTargetIf (locals_declared s.frame.function) target →
+            Keeps tree points line result self.new s
+            (result_step (option_map (target_named (locals_declared s.frame.function)) target) (option_map typed v) line s) }
+        ensures at { StepsAside self.old self.new }
+    {
         match (target, v) {
             (None, _) => Ok(()),
             (Some(target), Some(v)) => {
@@ -154,7 +208,10 @@ impl Moment {
     }
 
     /// The newest of the waiting calls goes on.
-    fn go_back(&mut self, v: Option<Value>) -> Result<(), NoValue> {
+    fn go_back(&mut self, v: Option<Value>) -> Result<(), NoValue>
+        ensures { (tree : Tree) (points : ℕ → List Continuation) (s : State) (line : ℕ) → IsRunning tree points self.old s →
+            Led tree points line result self.new s (back_step s.waiting (option_map typed v) line s) }
+    {
         let Some(waiting) = self.waiting.pop() else {
             return Err(NoValue::Undefined);
         };
@@ -164,7 +221,11 @@ impl Moment {
     }
 
     /// The closing brace.
-    fn close(&mut self, procedure: &Procedure) -> Result<(), NoValue> {
+    fn close(&mut self, procedure: &Procedure) -> Result<(), NoValue>
+        ensures { (tree : Tree) (points : ℕ → List Continuation) (s : State) (line : ℕ) → IsRunning tree points self.old s →
+            IsProcedure tree s.frame.function (points self.old.call.procedure) procedure.now →
+            Led tree points line result self.new s (close_step line s) }
+    {
         if procedure.is_start || procedure.result.is_some() {
             return Err(NoValue::Undefined);
         }
@@ -177,7 +238,13 @@ impl Moment {
         globals: &[Binding],
         procedure: &Procedure,
         e: &Option<Resolved>,
-    ) -> Result<(), NoValue> {
+    ) -> Result<(), NoValue>
+        ensures { (tree : Tree) (points : ℕ → List Continuation) (s : State) (expr : Option Expr) (line : ℕ) →
+            AreGlobals tree globals.now → IsRunning tree points self.old s →
+            IsProcedure tree s.frame.function (points self.old.call.procedure) procedure.now →
+            StandsIf (names_at tree s) expr e.now →
+            Led tree points line result self.new s (stmt_step tree (Return expr) line s) }
+    {
         if procedure.is_start {
             return Err(NoValue::Undefined);
         }
@@ -198,9 +265,18 @@ impl Moment {
         number: usize,
         procedure: &Procedure,
         depth: u32,
+        next: usize,
         target: Option<Target>,
         arguments: &[Value],
-    ) -> Result<(), AllocError> {
+    ) -> Result<(), AllocError>
+        ensures state { (tree : Tree) (points : ℕ → List Continuation) (s : State) (f : Function) →
+            IsRunning tree points self.old s → Goes tree (points self.old.call.procedure) next s.rest →
+            slice_get tree.functions number ≡ Some f → IsProcedure tree f (points number) procedure.now →
+            IsTargetIf (locals_declared s.frame.function) target → map (λ v. v.ty) arguments.now ≡ param_types f →
+            OnOk result (IsLed tree points self.new s (enter_step f depth
+            (option_map (target_named (locals_declared s.frame.function)) target) (map typed arguments.now) s)) }
+        ensures same { OnErr result (self.new ≡ self.old) }
+    {
         let base = self.call.base.wrapping_sub((depth % 0x1_0000) as u16);
         let callee = Call {
             procedure: number,
@@ -208,6 +284,8 @@ impl Moment {
             base,
             variables: procedure.variables(alloc, base, self.fill, arguments)?,
         };
+        let at = self.call.at;
+        self.call.at = next;
         let caller = Waiting {
             call: mem::replace(&mut self.call, callee),
             target,
@@ -215,10 +293,24 @@ impl Moment {
         if let Err(refused) = self.waiting.push(caller) {
             let Waiting { call, target: _ } = refused.value;
             self.call = call;
+            self.call.at = at;
             return Err(AllocError);
         }
         procedure.put_arguments(base, arguments, &mut self.memory);
         Ok(())
+    }
+
+    /// The waiting call takes a key, where it wants one.
+    fn take_byte(&mut self, target: Option<Target>, byte: u8)
+        ensures state { (tree : Tree) (points : ℕ → List Continuation) (s : State) (line : ℕ) → IsRunning tree points self.old s →
+            IsTargetIf (locals_declared s.frame.function) target →
+            IsRunning tree points self.new (result_step (option_map (target_named (locals_declared s.frame.function)) target)
+            (Some (number Uchar byte)) line s) }
+        ensures at { StepsAside self.old self.new }
+    {
+        if let Some(target) = target {
+            self.take(target, number(Base::Uchar, u32::from(byte)));
+        }
     }
 
     /// A DOS call that takes a key.
@@ -228,11 +320,105 @@ impl Moment {
         target: Option<Target>,
         input: &mut I,
         out: &mut O,
-    ) -> Result<(), Stop> {
-        match take_key(echo, input, out) {
-            Err(fault) => Err(Stop::Refused(fault)),
-            Ok(byte) => Ok(self.take_result(target, Some(number(Base::Uchar, u32::from(byte))))?),
+    ) -> Result<(), Stop>
+        ensures comes { (line : ℕ) → ComesTo line result (TakesKey self.old echo target line) (Kept self.new)
+            (I.left input.old) (O.taken out.old) (I.left input.new) (O.taken out.new) }
+        ensures stays { StaysIfRefused result self.old self.new }
+        ensures at { StepsAside self.old self.new }
+
+        // The counts never fall, and a fault comes only where its count rose.
+        ensures input_faults { I.faults input.old ≤ I.faults input.new }
+        ensures output_faults { O.faults out.old ≤ O.faults out.new }
+        ensures read_failed { IsErrOf result (Stop.Refused Fault.Input) → Rose (I.faults input.old) (I.faults input.new) }
+        ensures write_failed { IsErrOf result (Stop.Refused Fault.Output) → Rose (O.faults out.old) (O.faults out.new) }
+    {
+        let Ok(key) = next_key(input) else {
+            return Err(Stop::Refused(Fault::Input));
+        };
+        let Some(byte) = key else {
+            self.take_byte(target, END_OF_INPUT);
+            return Ok(());
+        };
+        let Ok(()) = echo_key(echo, byte, out) else {
+            return Err(Stop::Refused(Fault::Output));
+        };
+        self.take_byte(target, byte);
+        Ok(())
+    }
+
+    /// The DOS call that writes a byte.
+    fn putc<O: Sink>(
+        &self,
+        globals: &[Binding],
+        target: Option<Target>,
+        arguments: &[Resolved],
+        out: &mut O,
+    ) -> Result<(), Stop>
+        ensures comes { (line : ℕ) (left : Option (List ℕ)) →
+            ComesTo line result (CallsDos self.now globals.now Dos.Putc target arguments.now line) (Kept self.now)
+            left (O.taken out.old) left (O.taken out.new) }
+
+        // The count never falls, and a fault comes only where it rose.
+        ensures output_faults { O.faults out.old ≤ O.faults out.new }
+        ensures read_failed { IsErrOf result (Stop.Refused Fault.Input) → ⊥ }
+        ensures write_failed { IsErrOf result (Stop.Refused Fault.Output) → Rose (O.faults out.old) (O.faults out.new) }
+    {
+        let v = only_argument(&self.scene(globals), plain(Base::Uchar), arguments)?;
+        if target.is_some() {
+            return Err(Stop::Undefined);
         }
+        let byte = (v.bits % 256) as u8;
+        let Ok(()) = put_all(out, &[byte]) else {
+            return Err(Stop::Refused(Fault::Output));
+        };
+        Ok(())
+    }
+
+    /// The DOS call that writes a string.
+    fn puts<O: Sink>(
+        &self,
+        globals: &[Binding],
+        target: Option<Target>,
+        arguments: &[Resolved],
+        out: &mut O,
+    ) -> Result<(), Stop>
+        ensures comes { (line : ℕ) (left : Option (List ℕ)) →
+            ComesTo line result (CallsDos self.now globals.now Dos.Puts target arguments.now line) (Kept self.now)
+            left (O.taken out.old) left (O.taken out.new) }
+
+        // The count never falls, and a fault comes only where it rose.
+        ensures output_faults { O.faults out.old ≤ O.faults out.new }
+        ensures read_failed { IsErrOf result (Stop.Refused Fault.Input) → ⊥ }
+        ensures write_failed { IsErrOf result (Stop.Refused Fault.Output) → Rose (O.faults out.old) (O.faults out.new) }
+    {
+        let v = only_argument(&self.scene(globals), plain(Base::Uint), arguments)?;
+        if target.is_some() {
+            return Err(Stop::Undefined);
+        }
+        let Ok(()) = put_string(&self.memory, v.bits, out) else {
+            return Err(Stop::Refused(Fault::Output));
+        };
+        Ok(())
+    }
+
+    /// The DOS call that ends the run.
+    fn leave(
+        &mut self,
+        globals: &[Binding],
+        target: Option<Target>,
+        arguments: &[Resolved],
+    ) -> Result<(), NoValue>
+        ensures state { (tree : Tree) (points : ℕ → List Continuation) (s now : State) (line : ℕ) →
+            CallsDos self.old globals.now Dos.Leave target arguments.now line tree points s now →
+            Keeps tree points line result self.new s now }
+        ensures at { StepsAside self.old self.new }
+    {
+        let v = only_argument(&self.scene(globals), plain(Base::Uchar), arguments)?;
+        if target.is_some() {
+            return Err(NoValue::Undefined);
+        }
+        self.end = Ending::Exit((v.bits % 256) as u8);
+        Ok(())
     }
 
     /// A DOS call.
@@ -244,40 +430,48 @@ impl Moment {
         arguments: &[Resolved],
         input: &mut I,
         out: &mut O,
-    ) -> Result<(), Stop> {
+    ) -> Result<(), Stop>
+        ensures comes { (line : ℕ) → ComesTo line result (CallsDos self.old globals.now dos target arguments.now line) (Kept self.new)
+            (I.left input.old) (O.taken out.old) (I.left input.new) (O.taken out.new) }
+        ensures stays { StaysIfRefused result self.old self.new }
+        ensures at { StepsAside self.old self.new }
+
+        // The counts never fall, and a fault comes only where its count rose.
+        ensures input_faults { I.faults input.old ≤ I.faults input.new }
+        ensures output_faults { O.faults out.old ≤ O.faults out.new }
+        ensures read_failed { IsErrOf result (Stop.Refused Fault.Input) → Rose (I.faults input.old) (I.faults input.new) }
+        ensures write_failed { IsErrOf result (Stop.Refused Fault.Output) → Rose (O.faults out.old) (O.faults out.new) }
+    {
         match dos {
-            Dos::Getche | Dos::Getch => {
-                if !arguments.is_empty() {
-                    return Err(Stop::Undefined);
-                }
-                return self.key(dos == Dos::Getche, target, input, out);
-            }
-            Dos::Putc => {
-                let v = only_argument(&self.scene(globals), plain(Base::Uchar), arguments)?;
-                if target.is_some() {
-                    return Err(Stop::Undefined);
-                }
-                let Ok(()) = put_all(out, &[(v.bits % 256) as u8]) else {
-                    return Err(Stop::Refused(Fault::Output));
-                };
-            }
-            Dos::Puts => {
-                let v = only_argument(&self.scene(globals), plain(Base::Uint), arguments)?;
-                if target.is_some() {
-                    return Err(Stop::Undefined);
-                }
-                let Ok(()) = put_string(&self.memory, v.bits, out) else {
-                    return Err(Stop::Refused(Fault::Output));
-                };
-            }
-            Dos::Leave => {
-                let v = only_argument(&self.scene(globals), plain(Base::Uchar), arguments)?;
-                if target.is_some() {
-                    return Err(Stop::Undefined);
-                }
-                self.end = Ending::Exit((v.bits % 256) as u8);
-            }
+            Dos::Getche if arguments.is_empty() => self.key(true, target, input, out),
+            Dos::Getch if arguments.is_empty() => self.key(false, target, input, out),
+            Dos::Getche | Dos::Getch => Err(Stop::Undefined),
+            Dos::Putc => self.putc(globals, target, arguments, out),
+            Dos::Puts => self.puts(globals, target, arguments, out),
+            Dos::Leave => Ok(self.leave(globals, target, arguments)?),
         }
+    }
+
+    /// A call of a function of the text.
+    fn call_function(
+        &mut self,
+        alloc: Global,
+        program: &Program,
+        row: &CallRow,
+        number: usize,
+        target: Option<Target>,
+    ) -> Result<(), Stop>
+        ensures comes { (line : ℕ) (left taken : Option (List ℕ)) →
+            ComesTo line result (CallsFunction self.old program.now row.now number target line) (Stood self.new) left taken left taken }
+        ensures stays { StaysIfRefused result self.old self.new }
+        ensures no_fault { IsErrOf result (Stop.Refused Fault.Input) → ⊥ }
+        ensures no_write { IsErrOf result (Stop.Refused Fault.Output) → ⊥ }
+    {
+        let Some(procedure) = program.procedures.get(number) else {
+            return Err(Stop::Undefined);
+        };
+        let values = argument_values(alloc, &self.scene(&program.globals), procedure, &row.arguments)?;
+        self.enter(alloc, number, procedure, row.depth, row.next, target, &values)?;
         Ok(())
     }
 
@@ -289,28 +483,58 @@ impl Moment {
         row: &CallRow,
         input: &mut I,
         out: &mut O,
-    ) -> Result<(), Stop> {
-        self.call.at = row.next;
-        let scene = self.scene(&program.globals);
-        let target = result_target(&scene, &row.place)?;
+    ) -> Result<(), Stop>
+        ensures comes { (line : ℕ) → ComesTo line result (CallsAny self.old program.now row.now line) (Stood self.new)
+            (I.left input.old) (O.taken out.old) (I.left input.new) (O.taken out.new) }
+        ensures stays { StaysIfRefused result self.old self.new }
+
+        // The counts never fall, and a fault comes only where its count rose.
+        ensures input_faults { I.faults input.old ≤ I.faults input.new }
+        ensures output_faults { O.faults out.old ≤ O.faults out.new }
+        ensures read_failed { IsErrOf result (Stop.Refused Fault.Input) → Rose (I.faults input.old) (I.faults input.new) }
+        ensures write_failed { IsErrOf result (Stop.Refused Fault.Output) → Rose (O.faults out.old) (O.faults out.new) }
+    {
+        let target = result_target(&self.scene(&program.globals), &row.place)?;
         match row.callee {
-            Callee::Dos(dos) => self.dos(
-                &program.globals,
-                dos,
-                target,
-                &row.arguments,
-                input,
-                out,
-            ),
-            Callee::Function(number) => {
-                let Some(procedure) = program.procedures.get(number) else {
-                    return Err(Stop::Undefined);
-                };
-                let values = argument_values(alloc, &scene, procedure, &row.arguments)?;
-                Ok(self.enter(alloc, number, procedure, row.depth, target, &values)?)
+            Callee::Dos(dos) => {
+                self.dos(&program.globals, dos, target, &row.arguments, input, out)?;
+                self.call.at = row.next;
+                Ok(())
             }
+            Callee::Function(number) => self.call_function(alloc, program, row, number, target),
             Callee::Unknown => Err(Stop::Undefined),
         }
+    }
+
+    /// What reads and writes nothing.
+    fn act(
+        &mut self,
+        program: &Program,
+        procedure: &Procedure,
+        action: &Action,
+    ) -> Result<(), NoValue>
+        ensures { (tree : Tree) (points : ℕ → List Continuation) (s now : State) (line : ℕ) → IsNoCall action.now →
+            Performs program.now procedure.now line action.now self.old tree points s now →
+            Stays tree points line result self.new s now }
+    {
+        match action {
+            Action::Pass(next) => self.call.at = *next,
+            Action::Assign(place, e, next) => {
+                self.assign(&program.globals, place, e)?;
+                self.call.at = *next;
+            }
+            Action::Test(e, yes, no) => {
+                self.call.at = self.test(&program.globals, e, *yes, *no)?;
+            }
+            Action::Switch(e, cases, otherwise) => {
+                self.call.at = self.switch(&program.globals, e, cases, *otherwise)?;
+            }
+            Action::Goto(label) => self.call.at = label_point(&procedure.labels, *label)?,
+            Action::Return(e) => self.give(&program.globals, procedure, e)?,
+            Action::Close => self.close(procedure)?,
+            Action::Call(_) | Action::Stuck => return Err(NoValue::Undefined),
+        }
+        Ok(())
     }
 
     /// What stands at a point of a function.
@@ -322,26 +546,21 @@ impl Moment {
         action: &Action,
         input: &mut I,
         out: &mut O,
-    ) -> Result<(), Stop> {
+    ) -> Result<(), Stop>
+        ensures comes { (line : ℕ) → ComesTo line result (Performs program.now procedure.now line action.now self.old) (Stood self.new)
+            (I.left input.old) (O.taken out.old) (I.left input.new) (O.taken out.new) }
+        ensures stays { StaysIfRefused result self.old self.new }
+
+        // The counts never fall, and a fault comes only where its count rose.
+        ensures input_faults { I.faults input.old ≤ I.faults input.new }
+        ensures output_faults { O.faults out.old ≤ O.faults out.new }
+        ensures read_failed { IsErrOf result (Stop.Refused Fault.Input) → Rose (I.faults input.old) (I.faults input.new) }
+        ensures write_failed { IsErrOf result (Stop.Refused Fault.Output) → Rose (O.faults out.old) (O.faults out.new) }
+    {
         match action {
-            Action::Pass(next) => self.call.at = *next,
-            Action::Assign(place, e, next) => {
-                self.assign(&program.globals, place, e)?;
-                self.call.at = *next;
-            }
-            Action::Call(row) => return self.call(alloc, program, row, input, out),
-            Action::Test(e, yes, no) => {
-                self.call.at = self.test(&program.globals, e, *yes, *no)?;
-            }
-            Action::Switch(e, cases, otherwise) => {
-                self.call.at = self.switch(&program.globals, e, cases, *otherwise)?;
-            }
-            Action::Goto(label) => self.call.at = label_point(&procedure.labels, *label)?,
-            Action::Return(e) => self.give(&program.globals, procedure, e)?,
-            Action::Close => self.close(procedure)?,
-            Action::Stuck => return Err(Stop::Undefined),
+            Action::Call(row) => self.call(alloc, program, row, input, out),
+            _ => Ok(self.act(program, procedure, action)?),
         }
-        Ok(())
     }
 
     /// One step of a run that is not over.
@@ -351,25 +570,38 @@ impl Moment {
         program: &Program,
         input: &mut I,
         out: &mut O,
-    ) -> Result<(), Fault> {
+    ) -> Result<(), Fault>
+        ensures made { OnOk result (Does (Steps program.now self.old) (Stood self.new)
+            (I.left input.old) (O.taken out.old) (I.left input.new) (O.taken out.new)) }
+        ensures refused { IfErr result (λ fault. Refuses fault (Steps program.now self.old)
+            (I.left input.old) (O.taken out.old) (I.left input.new) (O.taken out.new)) }
+        ensures stays { OnErr result (self.new ≡ self.old) }
+
+        // The counts never fall, and a fault comes only where its count rose.
+        ensures input_faults { I.faults input.old ≤ I.faults input.new }
+        ensures output_faults { O.faults out.old ≤ O.faults out.new }
+        ensures read_failed { IsErrOf result Fault.Input → Rose (I.faults input.old) (I.faults input.new) }
+        ensures write_failed { IsErrOf result Fault.Output → Rose (O.faults out.old) (O.faults out.new) }
+    {
         let Some(procedure) = program.procedures.get(self.call.procedure) else {
             self.end = Ending::Stuck(0);
             return Ok(());
         };
-        let at = self.call.at;
-        let Some(row) = procedure.rows.get(at) else {
+        let Some(row) = procedure.rows.get(self.call.at) else {
             self.end = Ending::Stuck(0);
             return Ok(());
         };
         match self.perform(alloc, program, procedure, &row.action, input, out) {
-            Ok(()) => {}
-            Err(Stop::Divides) => self.end = Ending::Divide,
-            Err(Stop::Undefined) => self.end = Ending::Stuck(row.line),
-            Err(Stop::Refused(fault)) => {
-                self.call.at = at;
-                return Err(fault);
+            Ok(()) => Ok(()),
+            Err(Stop::Divides) => {
+                self.end = Ending::Divide;
+                Ok(())
             }
+            Err(Stop::Undefined) => {
+                self.end = Ending::Stuck(row.line);
+                Ok(())
+            }
+            Err(Stop::Refused(fault)) => Err(fault),
         }
-        Ok(())
     }
 }

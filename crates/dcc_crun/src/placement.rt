@@ -1,6 +1,15 @@
 //! Where the parameters and the local variables of a function stand.
 
 
+ghost use Rattle.std.specs.Prelude.{◌≡◌, ◌%◌, ◌*◌, ℕ, ◌+◌, map, option_map, is_some, false, IfOk};
+ghost use Rattle.dcc_c.specs.declared.syntax.CUn.TheVariants.{AddressOf};
+ghost use Rattle.dcc_c.specs.Tree.{Unary};
+ghost use Rattle.dcc_c.specs.Placement.{is_address_of, bytes_of, param_places, local_places};
+ghost use Rattle.dcc_c.specs.Views.{expr_of, stmt_of, lines_of, arms_of, variable_of};
+ghost use Rattle.dcc_crun.specs.Emission.{arms_if};
+ghost use Rattle.dcc_crun.specs.Standing.{AreVariables};
+ghost use Rattle.dcc_crun.specs.Takes.{expr_takes, any_takes, option_takes, stmt_takes, lines_take, arms_take};
+
 use crate::program::Variable;
 use crate::value::size_of;
 use dcc_c::{Arm, CExpr, CStmt, CUn, Class, Line, Var};
@@ -8,7 +17,7 @@ use std::alloc::{AllocError, Global};
 
 /// Whether the address of the name is taken in the expression.
 fn expr_takes(e: &CExpr, name: &str) -> bool
-{
+    ensures { result ≡ expr_takes name.now (expr_of e.now) } {
     match e {
         CExpr::Num(_, _) | CExpr::Name(_) => false,
         CExpr::Un(CUn::AddressOf, a) => is_name(a, name) || expr_takes(a, name),
@@ -21,7 +30,9 @@ fn expr_takes(e: &CExpr, name: &str) -> bool
 }
 
 /// Whether the expression is the name.
-fn is_name(e: &CExpr, name: &str) -> bool {
+fn is_name(e: &CExpr, name: &str) -> bool
+    ensures { result ≡ is_address_of name.now (Unary AddressOf (expr_of e.now)) }
+{
     match e {
         CExpr::Name(other) => other.as_str() == name,
         _ => false,
@@ -29,12 +40,16 @@ fn is_name(e: &CExpr, name: &str) -> bool {
 }
 
 /// Whether the address of the name is taken in one of the expressions.
-fn any_takes(list: &[CExpr], name: &str) -> bool {
+fn any_takes(list: &[CExpr], name: &str) -> bool
+    ensures { result ≡ any_takes name.now (map expr_of list.now) }
+{
     list.iter().any(|e| expr_takes(e, name))
 }
 
 /// Whether the address of the name is taken in the expression, where there is one.
-fn option_takes(e: &Option<CExpr>, name: &str) -> bool {
+fn option_takes(e: &Option<CExpr>, name: &str) -> bool
+    ensures { result ≡ option_takes name.now (option_map expr_of e.now) }
+{
     match e {
         Some(e) => expr_takes(e, name),
         None => false,
@@ -43,7 +58,9 @@ fn option_takes(e: &Option<CExpr>, name: &str) -> bool {
 
 /// Whether the address of the name is taken in the statement.
 #[cycle(takes)]
-fn stmt_takes(stmt: &CStmt, name: &str) -> bool {
+fn stmt_takes(stmt: &CStmt, name: &str) -> bool
+    ensures { result ≡ stmt_takes name.now (stmt_of stmt.now) }
+{
     match stmt {
         CStmt::Assign(place, e) => expr_takes(place, name) || expr_takes(e, name),
         CStmt::Call(place, _, arguments, _) => {
@@ -70,7 +87,9 @@ fn stmt_takes(stmt: &CStmt, name: &str) -> bool {
 
 /// Whether the address of the name is taken in the statements.
 #[cycle(takes)]
-fn lines_take(lines: &[Line], name: &str) -> bool {
+fn lines_take(lines: &[Line], name: &str) -> bool
+    ensures { result ≡ lines_take name.now (lines_of lines.now) }
+{
     for line in lines {
         if stmt_takes(&line.stmt, name) {
             return true;
@@ -81,7 +100,9 @@ fn lines_take(lines: &[Line], name: &str) -> bool {
 
 /// Whether the address of the name is taken in the arms.
 #[cycle(takes)]
-fn arms_take(arms: &[Arm], name: &str) -> bool {
+fn arms_take(arms: &[Arm], name: &str) -> bool
+    ensures { result ≡ arms_take name.now (arms_of arms.now) }
+{
     for arm in arms {
         if lines_take(&arm.body, name) {
             return true;
@@ -92,7 +113,9 @@ fn arms_take(arms: &[Arm], name: &str) -> bool {
 
 /// Whether the address of the name is taken in the default arm, where there is one.
 #[cycle(takes)]
-fn default_takes(last: &Option<Arm>, name: &str) -> bool {
+fn default_takes(last: &Option<Arm>, name: &str) -> bool
+    ensures { result ≡ arms_take name.now (arms_if last.now) }
+{
     match last {
         Some(arm) => lines_take(&arm.body, name),
         None => false,
@@ -100,7 +123,14 @@ fn default_takes(last: &Option<Arm>, name: &str) -> bool {
 }
 
 /// The parameters of a function with this body. A stack argument is in memory where it, or one before it, has to be.
-pub(crate) fn params_of(alloc: Global, body: &[Line], params: &[Var]) -> Result<Vec<Variable>, AllocError> {
+pub(crate) fn params_of(
+    alloc: Global,
+    body: &[Line],
+    params: &[Var],
+) -> Result<Vec<Variable>, AllocError>
+    ensures { IfOk result (λ variables. AreVariables (map variable_of params.now)
+        (λ base. param_places (lines_of body.now) base 0 false (map variable_of params.now)) variables.items) }
+{
     let mut variables = Vec::new(alloc);
     let mut offset = 0u16;
     let mut placed = false;
@@ -117,7 +147,10 @@ pub(crate) fn params_of(alloc: Global, body: &[Line], params: &[Var]) -> Result<
 }
 
 /// The local variables of a function: `auto` ones stand below the base and four bytes, each below the one before.
-pub(crate) fn locals_of(alloc: Global, locals: &[Var]) -> Result<Vec<Variable>, AllocError> {
+pub(crate) fn locals_of(alloc: Global, locals: &[Var]) -> Result<Vec<Variable>, AllocError>
+    ensures { IfOk result (λ variables. AreVariables (map variable_of locals.now)
+        (λ base. local_places base 4 (map variable_of locals.now)) variables.items) }
+{
     let mut variables = Vec::new(alloc);
     let mut used = 4u16;
     for local in locals {
@@ -132,13 +165,19 @@ pub(crate) fn locals_of(alloc: Global, locals: &[Var]) -> Result<Vec<Variable>, 
 }
 
 /// How many bytes the variable takes, modulo 65536.
-fn bytes_of(variable: &Var) -> u16 {
+fn bytes_of(variable: &Var) -> u16
+    ensures { result ≡ bytes_of variable.now.ty variable.now.len % 65536 }
+{
     let elements = variable.len.unwrap_or(1);
     (u64::from(size_of(variable.ty)) * u64::from(elements) % 0x1_0000) as u16
 }
 
 /// A variable at so many bytes above the base.
-fn variable(declared: &Var, offset: Option<u16>) -> Variable {
+fn variable(declared: &Var, offset: Option<u16>) -> Variable
+    ensures kind { result.ty ≡ declared.now.ty }
+    ensures array { result.is_array ≡ is_some declared.now.len }
+    ensures offset { result.offset ≡ offset }
+{
     Variable {
         ty: declared.ty,
         is_array: declared.len.is_some(),

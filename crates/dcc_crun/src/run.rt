@@ -1,5 +1,14 @@
 //! The run of a text.
 
+ghost use Rattle.std.specs.Prelude.{◌≡◌, ◌≤◌, ℕ, List, ◌∷◌, IfOk};
+ghost use Rattle.dcc_io.specs.Count.{Rose};
+ghost use Rattle.dcc_c.specs.Tree.{Function};
+ghost use Rattle.dcc_c.specs.Run.{first_state};
+ghost use Rattle.dcc_c.specs.Views.{tree_of};
+ghost use Rattle.dcc_crun.specs.Ending.{end_of};
+ghost use Rattle.dcc_crun.specs.Standing.{StandsAt};
+ghost use Rattle.dcc_crun.specs.Stepped.{scene, Steps, TellsEnd, Runs};
+
 use crate::call::Call;
 use crate::ending::{CStepped, Ending};
 use crate::moment::Moment;
@@ -21,7 +30,11 @@ pub struct CRun {
 
 impl CRun {
     /// The run of a text from its first function on. Variables and the stack hold the fill before they have a value.
-    pub fn new(alloc: Global, unit: &Unit, fill: u16) -> Result<CRun, AllocError> {
+    pub fn new(alloc: Global, unit: &Unit, fill: u16) -> Result<CRun, AllocError>
+        ensures { IfOk result (λ run. (start : Function) (others : List Function) (input : List ℕ) →
+            (tree_of unit.now).functions ≡ start ∷ others →
+            StandsAt (tree_of unit.now) run (first_state (tree_of unit.now) start fill input)) }
+    {
         let program = prepare(alloc, unit)?;
         let base = unit.hi.wrapping_add(2);
         let (entry, variables, end) = match program.procedures.first() {
@@ -50,7 +63,18 @@ impl CRun {
         alloc: Global,
         input: &mut I,
         out: &mut O,
-    ) -> CStepped {
+    ) -> CStepped
+        ensures step { Steps result
+            (scene self.old (I.left input.old) (O.taken out.old))
+            (scene self.new (I.left input.new) (O.taken out.new)) }
+        ensures answer { TellsEnd result (end_of self.new.moment.end) }
+
+        // The counts never fall, and a fault comes only where its count rose.
+        ensures input_faults { I.faults input.old ≤ I.faults input.new }
+        ensures output_faults { O.faults out.old ≤ O.faults out.new }
+        ensures read_failed { result ≡ CStepped.InFault → Rose (I.faults input.old) (I.faults input.new) }
+        ensures write_failed { result ≡ CStepped.OutFault → Rose (O.faults out.old) (O.faults out.new) }
+    {
         let Ending::Running = self.moment.end else {
             return self.moment.end.answer();
         };
@@ -68,7 +92,18 @@ impl CRun {
         input: &mut I,
         out: &mut O,
         most: u64,
-    ) -> CStepped {
+    ) -> CStepped
+        ensures run { Runs most result
+            (scene self.old (I.left input.old) (O.taken out.old))
+            (scene self.new (I.left input.new) (O.taken out.new)) }
+        ensures answer { TellsEnd result (end_of self.new.moment.end) }
+
+        // The counts never fall, and a fault comes only where its count rose.
+        ensures input_faults { I.faults input.old ≤ I.faults input.new }
+        ensures output_faults { O.faults out.old ≤ O.faults out.new }
+        ensures read_failed { result ≡ CStepped.InFault → Rose (I.faults input.old) (I.faults input.new) }
+        ensures write_failed { result ≡ CStepped.OutFault → Rose (O.faults out.old) (O.faults out.new) }
+    {
         for _count in 0..most {
             match self.step(alloc, input, out) {
                 CStepped::Running => {}
