@@ -92,7 +92,7 @@ params_declared (v ∷ declared) (x ∷ xs) (p ∷ firsts) (q ∷ heres) base []
 params_declared (v ∷ declared) (x ∷ xs) (p ∷ firsts) (q ∷ heres) base (a ∷ arguments) kinds first here same =
     let one : IsOne v x p q base = record { kind = first_cons _ _ _ _ kinds; at_first = first_cons _ _ _ _ first; at_here = first_cons _ _ _ _ here } in
     ap (λ d. d ∷ map declared_by (param_bindings declared heres arguments)) (declared_same v x p q base a.bits one)
-    ∙ ap (λ ds. _ ∷ ds) (params_declared declared xs firsts heres base arguments (rest_cons _ _ _ _ kinds) (rest_cons _ _ _ _ first) (rest_cons _ _ _ _ here) (omega arith))
+    ∙ ap (λ (ds : List Declared). record { name = v.name; type = v.type; is_array = is_some v.len; is_placed = is_some p } ∷ ds) (params_declared declared xs firsts heres base arguments (rest_cons _ _ _ _ kinds) (rest_cons _ _ _ _ first) (rest_cons _ _ _ _ here) (omega arith))
 
 -- Local variables.
 
@@ -122,7 +122,7 @@ locals_declared_by (v ∷ declared) (x ∷ xs) (p ∷ firsts) [] base fill kinds
 locals_declared_by (v ∷ declared) (x ∷ xs) (p ∷ firsts) (q ∷ heres) base fill kinds first here =
     let one : IsOne v x p q base = record { kind = first_cons _ _ _ _ kinds; at_first = first_cons _ _ _ _ first; at_here = first_cons _ _ _ _ here } in
     ap (λ d. d ∷ map declared_by (local_bindings fill declared heres)) (declared_same v x p q base (converted v.type (number Int fill)).bits one)
-    ∙ ap (λ ds. _ ∷ ds) (locals_declared_by declared xs firsts heres base fill (rest_cons _ _ _ _ kinds) (rest_cons _ _ _ _ first) (rest_cons _ _ _ _ here))
+    ∙ ap (λ (ds : List Declared). record { name = v.name; type = v.type; is_array = is_some v.len; is_placed = is_some p } ∷ ds) (locals_declared_by declared xs firsts heres base fill (rest_cons _ _ _ _ kinds) (rest_cons _ _ _ _ first) (rest_cons _ _ _ _ here))
 
 -- The whole call.
 

@@ -12,3 +12,9 @@ pub mod MomentLaws
 pub mod CallLaws
 pub mod StringLaws
 pub mod Scenes
+pub mod StepLaws
+pub mod TakesLaws
+pub mod DosLaws
+pub mod RunLaws
+pub mod EnterLaws
+pub mod ActLaws

@@ -3,9 +3,10 @@ use Rattle.std.specs.Prelude.{◌≡◌, ℕ, Bool, List, [], ◌∷◌, ◌++�
 use Rattle.std.specs.Global.{Global}
 use Rattle.dcc_run.specs.End.{End, Running as running, Divide as divided, Stuck as stuck}
 use Rattle.dcc_io.specs.Told.{append_told, prepend_told, AppendsProperPrefix}
+use Rattle.dcc_c.specs.declared.syntax.CType.{CType}
 use Rattle.dcc_c.specs.Tree.{Word, Expr, Call as CallOf, Function, Tree}
 use Rattle.dcc_c.specs.Rules.{declared_global}
-use Rattle.dcc_c.specs.Value.{Value, Outcome, Gives, Divides, Undefined}
+use Rattle.dcc_c.specs.Value.{Value, converted, Outcome, Gives, Divides, Undefined, and_then}
 use Rattle.dcc_c.specs.Dos.{dos_signature}
 use Rattle.dcc_c.specs.Run.{Continuation, State, global_binding, on, step_at, scope_of, key_step, dos_step, arguments_of, enter_step, param_types, stmt_step}
 use Rattle.dcc_crun.specs.declared.value.Value.{Value as Held}
@@ -26,7 +27,7 @@ use Rattle.dcc_crun.specs.declared.program.Procedure.{Procedure}
 use Rattle.dcc_crun.specs.declared.program.Program.{Program}
 use Rattle.dcc_crun.specs.declared.moment.Moment.{Moment}
 use Rattle.dcc_crun.specs.Evaluation.{typed, bindings_named}
-use Rattle.dcc_crun.specs.Resolved.{Names, Scene, target_named}
+use Rattle.dcc_crun.specs.Resolved.{Names, Scene, evaluated, target_named}
 use Rattle.dcc_crun.specs.Points.{names_in, locals_declared, Goes, Acts, StandsIf, StandAll, IsCallee, dos_call}
 use Rattle.dcc_crun.specs.Standing.{IsProgram, IsProcedure, IsTargetIf, IsRunning, IsGoing, IsMoment}
 use Rattle.dcc_crun.specs.Stepped.{told_bytes}
@@ -95,6 +96,14 @@ pub record StepsAside (before now : Moment) : Type 0 where
 abbrev pub single : Held → List Value
 single v = typed v ∷ []
 
+-- the values of resolved arguments, each converted to the type of its parameter
+abbrev pub resolved_arguments : Scene → List CType → List Resolved → Outcome (List Value)
+resolved_arguments scene [] [] = Gives []
+resolved_arguments scene (type ∷ types) (e ∷ es) =
+    and_then (λ v. and_then (λ vs. Gives (converted type v ∷ vs)) (resolved_arguments scene types es)) (evaluated scene e)
+resolved_arguments scene (type ∷ types) [] = Undefined
+resolved_arguments scene [] (e ∷ es) = Undefined
+
 -- the values of arguments come to this
 abbrev pub ArgumentsAre : Result (Vec Held Global) Stop → Outcome (List Value) → Type 0
 ArgumentsAre (Ok values) o = o ≡ Gives (map typed values.items)
@@ -158,10 +167,25 @@ ComesTo line (Err HaltsDividing) op done left taken left_now taken_now = Halts o
 ComesTo line (Err HaltsUndefined) op done left taken left_now taken_now = Halts op (stuck line) left taken left_now taken_now
 ComesTo line (Err (Refused fault)) op done left taken left_now taken_now = Refuses fault op left taken left_now taken_now
 
+-- nothing has changed but where a list stands in the interpreter's own memory
+pub record IsSame (before now : Moment) : Type 0 where
+  pub call : now.call ≡ before.call
+  pub waiting : now.waiting.items ≡ before.waiting.items
+  pub fill : now.fill ≡ before.fill
+  pub memory : now.memory ≡ before.memory
+  pub end : now.end ≡ before.end
+
 -- where something is refused nothing of the moment has changed
+abbrev pub StaysAt : Fault → Moment → Moment → Type 0
+StaysAt Input before now = now ≡ before
+StaysAt Output before now = now ≡ before
+StaysAt Memory before now = IsSame before now
+
 abbrev pub StaysIfRefused : {A : Type 0} → Result A Stop → Moment → Moment → Type 0
-StaysIfRefused (Err (Refused fault)) before now = now ≡ before
-StaysIfRefused _ before now = Unit {0}
+StaysIfRefused (Err (Refused fault)) before now = StaysAt fault before now
+StaysIfRefused (Err HaltsDividing) before now = Unit {0}
+StaysIfRefused (Err HaltsUndefined) before now = Unit {0}
+StaysIfRefused (Ok _) before now = Unit {0}
 
 -- The operations.
 

@@ -60,7 +60,13 @@ pub record IsRefusedWrite (before now : Scene) : Type 0 where
   pub took : before.left ≡ prepend_told given now.left
   pub part : AppendsProperPrefix before.taken now.taken written
 
--- what a step leaves, by its answer; where memory was wanting nothing has changed
+-- Memory was wanting: nothing was read or written, and the run stands for what it stood for.
+pub record IsSameScene (before now : Scene) : Type 0 where
+  pub stands : (tree : Tree) (s : State) → StandsAt tree before.run s → StandsAt tree now.run s
+  pub same_left : now.left ≡ before.left
+  pub same_taken : now.taken ≡ before.taken
+
+-- what a step leaves, by its answer
 abbrev pub Steps : CStepped → Scene → Scene → Type 0
 Steps Running before now = Makes before now
 Steps (Exit code) before now = Makes before now
@@ -68,7 +74,7 @@ Steps Divide before now = Makes before now
 Steps (Stuck line) before now = Makes before now
 Steps InFault before now = IsRefusedRead before now
 Steps OutFault before now = IsRefusedWrite before now
-Steps Memory before now = now ≡ before
+Steps Memory before now = IsSameScene before now
 
 -- the answer tells how the run has ended
 abbrev pub TellsEnd : CStepped → End → Type 0

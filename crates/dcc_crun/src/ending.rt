@@ -84,6 +84,17 @@ impl From<AllocError> for Stop {
     }
 }
 
+impl<T: Drop> From<AllocFailed<T>> for Stop {
+    ghost use Rattle.dcc_crun.specs.declared.ending.Fault.TheVariants.{Memory};
+    ghost use Rattle.dcc_crun.specs.declared.ending.Stop.TheVariants.{Refused};
+
+    ghost from_gives = { λ _ stop. stop ≡ Refused Memory };
+
+    fn from(_: AllocFailed<T>) -> Stop {
+        Stop::Refused(Fault::Memory)
+    }
+}
+
 impl Ending {
     /// What a step answers.
     pub(crate) fn answer(self) -> CStepped

@@ -1,17 +1,19 @@
 //! The state of a run, and what statements do to it.
 
-ghost use Rattle.std.specs.Prelude.{◌≡◌, ◌≤◌, ℕ, suc, List, [], ◌∷◌, map, option_map, Option, Some, None, if◌then◌else◌, IfOk, OnOk, OnErr, IfErr, IsErrOf, slice_get};
+ghost use Rattle.std.specs.Prelude.{◌≡◌, ◌≤◌, ◌==◌, ℕ, List, [], ◌∷◌, length, map, option_map, Option, Some, None, if◌then◌else◌, IfOk, OnOk, OnErr, IfErr, IsErrOf, slice_get};
+ghost use Rattle.std.specs.List.{list_any};
 ghost use Rattle.dcc_io.specs.Count.{Rose};
 ghost use Rattle.dcc_c.specs.declared.syntax.Base.TheVariants.{Uchar, Uint};
 ghost use Rattle.dcc_c.specs.Types.{plain};
 ghost use Rattle.dcc_c.specs.Tree.{Word, Expr, Assign, Return, Function, Tree};
 ghost use Rattle.dcc_c.specs.Value.{number, is_zero, converted, given, and_then, Gives, Target as Place};
-ghost use Rattle.dcc_c.specs.Run.{Continuation, State, takes, result_step, back_step, close_step, enter_step, arguments_of, result_target, param_types, stmt_step};
+ghost use Rattle.dcc_c.specs.Placement.{below};
+ghost use Rattle.dcc_c.specs.Run.{Continuation, State, takes, result_step, back_step, close_step, enter_step, arguments_of, result_target, stmt_step};
 ghost use Rattle.dcc_crun.specs.Evaluation.{typed, itself, outcome_of};
 ghost use Rattle.dcc_crun.specs.Resolved.{Names, Fits, Stands, IsTargetIn, scene_of, scope_over, evaluated, target_named};
 ghost use Rattle.dcc_crun.specs.Points.{Goes, StandsIf, StandAll, case_point, label_point, locals_declared};
 ghost use Rattle.dcc_crun.specs.Standing.{IsProgram, IsProcedure, IsTargetIf, IsRunning};
-ghost use Rattle.dcc_crun.specs.Doing.{scene_in, names_at, AreGlobals, single, ArgumentsAre, StepsAside, Keeps, Led, IsLed, Kept, Stood, ComesTo, StaysIfRefused, TakesKey, CallsDos, CallsFunction, CallsAny, IsNoCall, Stays, Performs, Steps, Does, Refuses};
+ghost use Rattle.dcc_crun.specs.Doing.{scene_in, names_at, AreGlobals, single, ArgumentsAre, resolved_arguments, IsSame, StaysAt, StepsAside, Keeps, Led, IsLed, Kept, Stood, ComesTo, StaysIfRefused, TakesKey, CallsDos, CallsFunction, CallsAny, IsNoCall, Stays, Performs, Steps, Does, Refuses};
 
 use crate::call::{Call, Waiting};
 use crate::dos::{END_OF_INPUT, echo_key, next_key, put_string};
@@ -46,11 +48,34 @@ fn case_point(cases: &[Case], n: u16, otherwise: usize) -> usize
 {
     let mut point = otherwise;
     for case in cases {
-        if case.values.contains(&n) {
-            point = case.point;
-        }
+        point = case_or(case, n, point);
     }
     point
+}
+
+/// The point of the case, where the value is one of it, or else the other one.
+fn case_or(case: &Case, n: u16, otherwise: usize) -> usize
+    ensures { result ≡ (if list_any (λ v. v == n) case.now.values.items then case.now.point else otherwise) }
+{
+    if has_value(&case.values, n) {
+        case.point
+    } else {
+        otherwise
+    }
+}
+
+/// Whether the value is one of these.
+fn has_value(values: &[u16], n: u16) -> bool
+    ensures { result ≡ list_any (λ v. v == n) values.now }
+{
+    values.iter().any(|v| *v == n)
+}
+
+/// The base of a call with this depth below the base of its caller.
+fn base_below(base: u16, depth: u32) -> u16
+    ensures { result ≡ below base depth }
+{
+    base.wrapping_sub((depth % 0x1_0000) as u16)
 }
 
 /// The point where the label stands.
@@ -86,16 +111,16 @@ fn argument_values(
     procedure: &Procedure,
     arguments: &[Resolved],
 ) -> Result<Vec<Value>, Stop>
-    ensures { (names : Names) (es : List Expr) → StandAll names es arguments.now → Fits names (scene_of scene.now) →
-        ArgumentsAre result (arguments_of (scope_over names (scene_of scene.now)) (map (λ p. p.ty) procedure.now.params.items) es) }
+    ensures { ArgumentsAre result
+        (resolved_arguments (scene_of scene.now) (map (λ p. p.ty) procedure.now.params.items) arguments.now) }
 {
     let mut values = Vec::new(alloc);
     for (i, e) in arguments.iter().enumerate() {
         let Some(param) = procedure.params.get(i) else {
             return Err(Stop::Undefined);
         };
-        let value = converted(param.ty, e.evaluate(scene)?);
-        values.push(value).map_err(AllocError::from)?;
+        let value = e.evaluate(scene)?;
+        values.push(converted(param.ty, value))?;
     }
     if arguments.len() < procedure.params.len() {
         return Err(Stop::Undefined);
@@ -272,12 +297,12 @@ impl Moment {
         ensures state { (tree : Tree) (points : ℕ → List Continuation) (s : State) (f : Function) →
             IsRunning tree points self.old s → Goes tree (points self.old.call.procedure) next s.rest →
             slice_get tree.functions number ≡ Some f → IsProcedure tree f (points number) procedure.now →
-            IsTargetIf (locals_declared s.frame.function) target → map (λ v. v.ty) arguments.now ≡ param_types f →
+            IsTargetIf (locals_declared s.frame.function) target → length arguments.now ≡ length f.params →
             OnOk result (IsLed tree points self.new s (enter_step f depth
             (option_map (target_named (locals_declared s.frame.function)) target) (map typed arguments.now) s)) }
-        ensures same { OnErr result (self.new ≡ self.old) }
+        ensures same { OnErr result (IsSame self.old self.new) }
     {
-        let base = self.call.base.wrapping_sub((depth % 0x1_0000) as u16);
+        let base = base_below(self.call.base, depth);
         let callee = Call {
             procedure: number,
             at: procedure.entry,
@@ -575,7 +600,7 @@ impl Moment {
             (I.left input.old) (O.taken out.old) (I.left input.new) (O.taken out.new)) }
         ensures refused { IfErr result (λ fault. Refuses fault (Steps program.now self.old)
             (I.left input.old) (O.taken out.old) (I.left input.new) (O.taken out.new)) }
-        ensures stays { OnErr result (self.new ≡ self.old) }
+        ensures stays { IfErr result (λ fault. StaysAt fault self.old self.new) }
 
         // The counts never fall, and a fault comes only where its count rose.
         ensures input_faults { I.faults input.old ≤ I.faults input.new }
