@@ -198,9 +198,9 @@ gives_not : {w : List Value} → Undefined ≡ Gives w → ⊥
 gives_not is = cc
 
 none_given : (f : Value → Outcome (List Value)) (o : Outcome Value) (w : List Value) → ((v : Value) → f v ≡ Gives w → ⊥) → and_then f o ≡ Gives w → ⊥
-none_given f (Gives v) w no is = no v is
-none_given f Divides w no is = cc
-none_given f Undefined w no is = cc
+none_given f (Gives v) w never is = never v is
+none_given f Divides w never is = cc
+none_given f Undefined w never is = cc
 
 -- the value of an only argument that becomes an unsigned char is a byte
 pub byte_argument : (scope : Scope) (es : List Expr) (w : Value) → arguments_of scope (plain Uchar ∷ []) es ≡ Gives (w ∷ []) → w.bits % 256 ≡ w.bits

@@ -18,3 +18,5 @@ pub mod DosLaws
 pub mod RunLaws
 pub mod EnterLaws
 pub mod ActLaws
+pub mod ArgumentLaws
+pub mod ComingLaws

@@ -201,6 +201,7 @@ Stood m = λ tree points s now. IsMoment tree points m now
 pub record Steps (program : Program) (m : Moment) (tree : Tree) (points : ℕ → List Continuation) (s now : State) : Type 0 where
   pub program_is : IsProgram tree points program
   pub state : IsGoing tree points m s
+  pub running : s.end ≡ running
   pub is : now ≡ step_at tree s.rest s
 
 -- the action of a procedure in a line

@@ -116,9 +116,10 @@ fn argument_values(
 {
     let mut values = Vec::new(alloc);
     for (i, e) in arguments.iter().enumerate() {
-        let Some(param) = procedure.params.get(i) else {
+        if i >= procedure.params.len() {
             return Err(Stop::Undefined);
-        };
+        }
+        let param = &procedure.params[i];
         let value = e.evaluate(scene)?;
         values.push(converted(param.ty, value))?;
     }
@@ -492,9 +493,10 @@ impl Moment {
         ensures no_fault { IsErrOf result (Stop.Refused Fault.Input) → ⊥ }
         ensures no_write { IsErrOf result (Stop.Refused Fault.Output) → ⊥ }
     {
-        let Some(procedure) = program.procedures.get(number) else {
+        if number >= program.procedures.len() {
             return Err(Stop::Undefined);
-        };
+        }
+        let procedure = &program.procedures[number];
         let values = argument_values(alloc, &self.scene(&program.globals), procedure, &row.arguments)?;
         self.enter(alloc, number, procedure, row.depth, row.next, target, &values)?;
         Ok(())
@@ -608,14 +610,18 @@ impl Moment {
         ensures read_failed { IsErrOf result Fault.Input → Rose (I.faults input.old) (I.faults input.new) }
         ensures write_failed { IsErrOf result Fault.Output → Rose (O.faults out.old) (O.faults out.new) }
     {
-        let Some(procedure) = program.procedures.get(self.call.procedure) else {
+        let number = self.call.procedure;
+        if number >= program.procedures.len() {
             self.end = Ending::Stuck(0);
             return Ok(());
-        };
-        let Some(row) = procedure.rows.get(self.call.at) else {
+        }
+        let procedure = &program.procedures[number];
+        let at = self.call.at;
+        if at >= procedure.rows.len() {
             self.end = Ending::Stuck(0);
             return Ok(());
-        };
+        }
+        let row = &procedure.rows[at];
         match self.perform(alloc, program, procedure, &row.action, input, out) {
             Ok(()) => Ok(()),
             Err(Stop::Divides) => {

@@ -1,6 +1,9 @@
-use Rattle.std.proofs.Common.{◌≡◌, refl, sym, ap, ◌∙◌}
+use Rattle.std.proofs.Common.{◌≡◌, [], ◌∷◌, ◌++◌, length, refl, sym, ap, ◌∙◌, arith}
+use Rattle.std.specs.Vec.{with_items}
+use Rattle.std.proofs.lemmas.List.{with_items_is}
 use Rattle.dcc_crun.specs.declared.call.Call.{Call}
 use Rattle.dcc_crun.specs.declared.call.Waiting.{Waiting}
+use Rattle.dcc_crun.specs.Frames.{arguments_put}
 use Rattle.dcc_crun.proofs.EnterLaws.{entered}
 use Rattle.dcc_crun.proofs.moment.Moment.enter.Goals as goal
 
@@ -17,14 +20,18 @@ returns-in-Err-clause-same c =
 
 pub returns-clause-state : goal.returns-clause-state
 returns-clause-state c tree points s f state goes here is lands same =
-    entered tree points c.args.self.now _ s c.args.number c.args.next _ c.args.depth f c.args.procedure.now c.args.target c.args.arguments.now
+    let now = record c.args.self.now { call = c.replace.new.dest; waiting = c.push.new.self; memory = with_items c.args.self.now.memory c.put_arguments.new.memory } in
+    let long : length c.put_arguments.new.memory ≡ c.args.self.now.memory.len =
+    omega (arith, c.put_arguments.auto.memory, c.deref_mut.ensures.len, c.deref_mut.ensures.value, ap length c.deref_mut.ensures.value, c.args.self.now.memory.ok.0) in
+    entered tree points c.args.self.now now s c.args.number c.args.next c.base_below-base.result c.args.depth f c.args.procedure.now c.args.target c.args.arguments.now
     (record {
       procedure_is = ap (λ (k : Call). k.procedure) c.replace.ensures.after;
       at = ap (λ (k : Call). k.at) c.replace.ensures.after;
       base_is = ap (λ (k : Call). k.base) c.replace.ensures.after;
       variables = ap (λ (k : Call). k.variables.items) c.replace.ensures.after ∙ c.in_ok-variables.ensures;
-      waiting = c.in_default.ensures.items ∙ ?;
-      memory = c.put_arguments.ensures ∙ ?;
+      waiting = c.in_default.ensures.items ∙ ap (λ (k : Call). c.args.self.now.waiting.items ++ record { call = k; target = c.args.target } ∷ []) c.replace.ensures.value;
+      memory = with_items_is c.args.self.now.memory c.put_arguments.new.memory long ∙ c.put_arguments.ensures
+          ∙ ap (arguments_put c.base_below-base.result c.args.procedure.now.params.items c.args.arguments.now) c.deref_mut.ensures.value;
       fill = refl;
       end = refl;
     }) c.base_below-base.ensures state goes here is lands same

@@ -1,11 +1,12 @@
-use Rattle.std.proofs.Common.{◌≡◌, ℕ, ◌%◌, List, [], ◌∷◌, ◌++◌, Option, Some, None, Ok, Err, refl, sym, ap, ◌∙◌, subst}
-use Rattle.std.specs.Prelude.{option_map}
+use Rattle.std.proofs.Common.{◌≡◌, ℕ, ◌%◌, List, [], ◌∷◌, ◌++◌, Option, Some, None, Ok, Err, true, false, refl, sym, ap, ◌∙◌, subst}
+use Rattle.std.specs.Prelude.{option_map, is_some}
 use Rattle.dcc_run.specs.End.{Exit, Stuck}
 use Rattle.dcc_c.specs.declared.syntax.CType.{CType}
 use Rattle.dcc_c.specs.Tree.{Expr, Tree}
 use Rattle.dcc_c.specs.Dos.{string_at, Leave as spec_Leave}
 use Rattle.dcc_c.specs.Run.{Continuation, State, dos_step, arguments_of, scope_of}
 use Rattle.dcc_crun.specs.declared.program.Dos.TheVariants.{Leave}
+use Rattle.dcc_crun.specs.declared.ending.Ending.TheVariants.{Exit as KeptExit}
 use Rattle.dcc_crun.specs.Evaluation.{typed}
 use Rattle.dcc_crun.specs.Resolved.{target_named}
 use Rattle.dcc_crun.specs.Points.{locals_declared}
@@ -26,7 +27,8 @@ returns-then-is_some-clause-state c tree points s now line call =
     let named = target_named (locals_declared s.frame.function) in
       let given = sym (argument_is {points = points} c.args.globals.now c.args.self.now Leave c.args.target c.args.arguments.now line tree s now c.plain.result _ (Ok c.in_ok-v.v) call c.scene.ensures c.in_ok-v.ensures.value
       ∙ ap (λ (t : CType). arguments_of (scope_of tree s) (t ∷ []) call.exprs) c.plain.ensures) in
-      let some = some_of c.args.target (sym c.if-is_some.ensures ∙ c.if-is_some.true) in
+      let flag : is_some c.args.target ≡ true = cc in
+      let some = some_of c.args.target flag in
       let is = call_goes {points = points} c.args.globals.now c.args.self.now Leave c.args.target c.args.arguments.now line tree s now (typed c.in_ok-v.v ∷ []) call given
       ∙ ap (λ t. dos_step spec_Leave (option_map named t) (typed c.in_ok-v.v ∷ []) line s) some.1 in
       subst (λ (t : State). IsEnded s t (Stuck line)) (sym is) (record { is = refl; quiet = record { input = refl; out = refl } })
@@ -36,12 +38,13 @@ returns-clause-state c tree points s now line call =
     let named = target_named (locals_declared s.frame.function) in
       let given = sym (argument_is {points = points} c.args.globals.now c.args.self.now Leave c.args.target c.args.arguments.now line tree s now c.plain.result _ (Ok c.in_ok-v.v) call c.scene.ensures c.in_ok-v.ensures.value
       ∙ ap (λ (t : CType). arguments_of (scope_of tree s) (t ∷ []) call.exprs) c.plain.ensures) in
-      let none = not_some c.args.target (sym c.if-is_some.ensures ∙ c.if-is_some.false) in
+      let flag : is_some c.args.target ≡ false = cc in
+      let none = not_some c.args.target flag in
       let is : now ≡ record s { end = Exit (c.in_ok-v.v.bits % 256) } =
     call_goes {points = points} c.args.globals.now c.args.self.now Leave c.args.target c.args.arguments.now line tree s now (typed c.in_ok-v.v ∷ []) call given
       ∙ ap (λ t. dos_step spec_Leave (option_map named t) (typed c.in_ok-v.v ∷ []) line s) none
       ∙ ap (λ (b : ℕ). record s { end = Exit b }) (sym (byte_argument (scope_of tree s) call.exprs (typed c.in_ok-v.v) given)) in
-    subst (λ (t : State). IsKept tree points _ s t) (sym is)
+    subst (λ (t : State). IsKept tree points (record c.args.self.now { end = KeptExit (c.in_ok-v.v.bits % 256) }) s t) (sym is)
     (record {
       state = record { call = call.state.call; waiting = call.state.waiting; fill = call.state.fill; memory = call.state.memory; end = refl };
       rest = refl;

@@ -1,5 +1,5 @@
-use Rattle.std.proofs.Common.{◌≡◌, ℕ, ◌%◌, List, [], ◌∷◌, ◌++◌, Option, Some, None, Ok, Err, refl, sym, ap, ◌∙◌, subst}
-use Rattle.std.specs.Prelude.{option_map}
+use Rattle.std.proofs.Common.{◌≡◌, ℕ, ◌%◌, List, [], ◌∷◌, ◌++◌, Option, Some, None, Ok, Err, true, false, refl, sym, ap, ◌∙◌, subst}
+use Rattle.std.specs.Prelude.{option_map, is_some}
 use Rattle.dcc_run.specs.End.{Exit, Stuck}
 use Rattle.dcc_c.specs.declared.syntax.CType.{CType}
 use Rattle.dcc_c.specs.Tree.{Expr, Tree}
@@ -28,7 +28,8 @@ returns-then-is_some-clause-comes g c line left = record {
       let named = target_named (locals_declared s.frame.function) in
       let given = sym (argument_is {points = points} c.args.globals.now c.args.self.now Putc c.args.target c.args.arguments.now line tree s now c.plain.result _ (Ok c.in_ok-v.v) call c.scene.ensures c.in_ok-v.ensures.value
       ∙ ap (λ (t : CType). arguments_of (scope_of tree s) (t ∷ []) call.exprs) c.plain.ensures) in
-      let some = some_of c.args.target (sym c.if-is_some.ensures ∙ c.if-is_some.true) in
+      let flag : is_some c.args.target ≡ true = cc in
+      let some = some_of c.args.target flag in
       let is = call_goes {points = points} c.args.globals.now c.args.self.now Putc c.args.target c.args.arguments.now line tree s now (typed c.in_ok-v.v ∷ []) call given
       ∙ ap (λ t. dos_step spec_Putc (option_map named t) (typed c.in_ok-v.v ∷ []) line s) some.1 in
       subst (λ (t : State). IsEnded s t (Stuck line)) (sym is) (record { is = refl; quiet = record { input = refl; out = refl } });
@@ -43,7 +44,8 @@ returns-in_default-clause-comes g c line left =
       let named = target_named (locals_declared s.frame.function) in
       let given = sym (argument_is {points = points} c.args.globals.now c.args.self.now Putc c.args.target c.args.arguments.now line tree s now c.plain.result _ (Ok c.in_ok-v.v) call c.scene.ensures c.in_ok-v.ensures.value
       ∙ ap (λ (t : CType). arguments_of (scope_of tree s) (t ∷ []) call.exprs) c.plain.ensures) in
-      let none = not_some c.args.target (sym c.if-is_some.ensures ∙ c.if-is_some.false) in
+      let flag : is_some c.args.target ≡ false = cc in
+      let none = not_some c.args.target flag in
       call_goes {points = points} c.args.globals.now c.args.self.now Putc c.args.target c.args.arguments.now line tree s now (typed c.in_ok-v.v ∷ []) call given
       ∙ ap (λ t. dos_step spec_Putc (option_map named t) (typed c.in_ok-v.v ∷ []) line s) none
       ∙ ap (λ (b : ℕ). record s { out = s.out ++ b ∷ [] }) (sym (byte_argument (scope_of tree s) call.exprs (typed c.in_ok-v.v) given)) in
@@ -56,7 +58,8 @@ returns-clause-comes g c line left =
       let named = target_named (locals_declared s.frame.function) in
       let given = sym (argument_is {points = points} c.args.globals.now c.args.self.now Putc c.args.target c.args.arguments.now line tree s now c.plain.result _ (Ok c.in_ok-v.v) call c.scene.ensures c.in_ok-v.ensures.value
       ∙ ap (λ (t : CType). arguments_of (scope_of tree s) (t ∷ []) call.exprs) c.plain.ensures) in
-      let none = not_some c.args.target (sym c.if-is_some.ensures ∙ c.if-is_some.false) in
+      let flag : is_some c.args.target ≡ false = cc in
+      let none = not_some c.args.target flag in
       call_goes {points = points} c.args.globals.now c.args.self.now Putc c.args.target c.args.arguments.now line tree s now (typed c.in_ok-v.v ∷ []) call given
       ∙ ap (λ t. dos_step spec_Putc (option_map named t) (typed c.in_ok-v.v ∷ []) line s) none
       ∙ ap (λ (b : ℕ). record s { out = s.out ++ b ∷ [] }) (sym (byte_argument (scope_of tree s) call.exprs (typed c.in_ok-v.v) given)) in
