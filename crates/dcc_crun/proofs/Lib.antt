@@ -20,3 +20,4 @@ pub mod EnterLaws
 pub mod ActLaws
 pub mod ArgumentLaws
 pub mod ComingLaws
+pub mod FunctionLaws
