@@ -21,3 +21,5 @@ pub mod ActLaws
 pub mod ArgumentLaws
 pub mod ComingLaws
 pub mod FunctionLaws
+pub mod CallingLaws
+pub mod StandingLaws

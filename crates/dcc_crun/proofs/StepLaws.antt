@@ -1,7 +1,7 @@
 -- What statements do, from what their parts come to.
 use Rattle.std.proofs.Common.{◌≡◌, ℕ, Bool, true, false, List, [], ◌∷◌, ◌++◌, map, Option, Some, None, refl, sym, ap, ◌∙◌, subst}
 use Rattle.std.specs.Prelude.{if◌then◌else◌, Result, Ok, Err, option_map, slice_get, ◌||◌}
-use Rattle.std.specs.Result.{IsErrAnd}
+use Rattle.std.specs.Result.{IsErrAnd, IsErrOf}
 use Rattle.std.proofs.lemmas.List.{same_from_push}
 use Rattle.dcc_run.specs.End.{End, Stuck as stuck}
 use Rattle.dcc_c.specs.declared.syntax.CType.{CType}
@@ -19,10 +19,12 @@ use Rattle.dcc_crun.specs.declared.moment.Moment.{Moment}
 use Rattle.dcc_crun.specs.Evaluation.{typed, nothing_of}
 use Rattle.dcc_crun.specs.Resolved.{Names, Stands, evaluated, targeted, target_named, IsTargetIn, LandsIn}
 use Rattle.dcc_crun.specs.Points.{locals_declared, Goes, StandsIf}
+use Rattle.dcc_crun.specs.declared.ending.Fault.{Fault}
 use Rattle.dcc_crun.specs.declared.ending.Stop.{Stop}
+use Rattle.dcc_crun.specs.declared.ending.Stop.TheVariants.{Refused}
 use Rattle.dcc_crun.specs.Ending.{end_of, stop_of}
 use Rattle.dcc_crun.specs.Standing.{IsCallOf, IsTargetIf, IsWaiting, AreWaiting, IsRunning, IsGoing}
-use Rattle.dcc_crun.specs.Doing.{Operation, Stays, ComesTo, Halts, scene_in, AreGlobals, names_at, IsQuiet, end_at, IsKept, IsLed, IsEnded, Keeps, Led, StepsAside}
+use Rattle.dcc_crun.specs.Doing.{Operation, Stays, StaysIfRefused, ComesTo, Halts, scene_in, AreGlobals, names_at, IsQuiet, end_at, IsKept, IsLed, IsEnded, Keeps, Led, StepsAside}
 use Rattle.dcc_crun.proofs.MomentLaws.{fits_here, value_here, target_here, ended, goes_further, takes-quiet, takes-rest}
 
 -- Assignments.
@@ -175,3 +177,17 @@ pub comes_err : (line : ℕ) (r : Result (Unit {0}) Stop) (op done : Operation) 
 comes_err line (Ok a) op done left taken why is ends = absurd is
 comes_err line (Err y) op done left taken why is ends =
     subst (λ (x : Stop). let e : Result (Unit {0}) Stop = Err x in ComesTo line e op done left taken left taken) (sym is) (halts line op done left taken why ends)
+
+-- What gives nothing is not refused.
+
+pub not_refused : (r : Result (Unit {0}) Stop) (why : NoValue) (fault : Fault) → IsErrAnd r (λ y. y ≡ stop_of why) → IsErrOf r (Refused fault) → ⊥
+not_refused (Ok a) why fault is refused = absurd is
+not_refused (Err y) Faults fault is refused = cc
+not_refused (Err y) Meaningless fault is refused = cc
+
+pub stays_unless : (r : Result (Unit {0}) Stop) (why : NoValue) (before now : Moment) → IsErrAnd r (λ y. y ≡ stop_of why) → StaysIfRefused r before now
+stays_unless (Ok a) why before now is = absurd is
+stays_unless (Err y) Faults before now is =
+    subst (λ (x : Stop). let e : Result (Unit {0}) Stop = Err x in StaysIfRefused e before now) (sym is) tt
+stays_unless (Err y) Meaningless before now is =
+    subst (λ (x : Stop). let e : Result (Unit {0}) Stop = Err x in StaysIfRefused e before now) (sym is) tt

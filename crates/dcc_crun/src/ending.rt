@@ -1,7 +1,7 @@
 //! How a step comes out, and how a run has ended.
 
 ghost use Rattle.std.specs.Prelude.{◌≡◌};
-ghost use Rattle.dcc_crun.specs.Ending.{answer_of, stop_of};
+ghost use Rattle.dcc_crun.specs.Ending.{answer_of, fault_answer_of};
 
 use crate::value::NoValue;
 use std::alloc::{AllocError, AllocFailed};
@@ -111,7 +111,9 @@ impl Ending {
 
 impl Fault {
     /// What a step answers that is refused.
-    pub(crate) fn answer(self) -> CStepped {
+    pub(crate) fn answer(self) -> CStepped
+        ensures { result ≡ fault_answer_of self }
+    {
         match self {
             Fault::Input => CStepped::InFault,
             Fault::Output => CStepped::OutFault,
