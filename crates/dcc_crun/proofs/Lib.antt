@@ -23,3 +23,4 @@ pub mod ComingLaws
 pub mod FunctionLaws
 pub mod CallingLaws
 pub mod StandingLaws
+pub mod StartLaws

@@ -152,3 +152,15 @@ over going other = absurd (other refl)
 over (left_with code) other = refl
 over faulted other = refl
 over (stuck_at line) other = refl
+
+pub no_fault : (e : Ending) → answer_of e ≡ InFault → ⊥
+no_fault going is = cc
+no_fault (left_with code) is = cc
+no_fault faulted is = cc
+no_fault (stuck_at line) is = cc
+
+pub no_write_fault : (e : Ending) → answer_of e ≡ OutFault → ⊥
+no_write_fault going is = cc
+no_write_fault (left_with code) is = cc
+no_write_fault faulted is = cc
+no_write_fault (stuck_at line) is = cc

@@ -8,3 +8,4 @@ pub mod Stepped
 pub mod Doing
 pub mod Frames
 pub mod Takes
+pub mod Placing

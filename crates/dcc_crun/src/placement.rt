@@ -8,6 +8,7 @@ ghost use Rattle.dcc_c.specs.Placement.{is_address_of, bytes_of, param_places, l
 ghost use Rattle.dcc_c.specs.Views.{expr_of, stmt_of, lines_of, arms_of, variable_of};
 ghost use Rattle.dcc_crun.specs.Emission.{arms_if};
 ghost use Rattle.dcc_crun.specs.Standing.{AreVariables};
+ghost use Rattle.dcc_crun.specs.Placing.{IsNextParam};
 ghost use Rattle.dcc_crun.specs.Takes.{expr_takes, any_takes, option_takes, stmt_takes, lines_take, arms_take};
 
 use crate::program::Variable;
@@ -135,15 +136,47 @@ pub(crate) fn params_of(
     let mut offset = 0u16;
     let mut placed = false;
     for param in params {
-        if param.class == Class::Register {
-            variables.push(variable(param, None))?;
-        } else {
-            placed = placed || param.class == Class::Auto || lines_take(body, param.name.as_str());
-            variables.push(variable(param, if placed { Some(offset) } else { None }))?;
-            offset = offset.wrapping_add(2);
-        }
+        let next = param_of(body, param, placed, offset);
+        variables.push(next.variable)?;
+        placed = next.placed;
+        offset = next.offset;
     }
     Ok(variables)
+}
+
+/// A parameter, and what is then known of those behind it: whether they are in memory, and where the next stack
+/// argument stands.
+#[derive(Clone, Copy)]
+struct NextParam {
+    variable: Variable,
+    placed: bool,
+    offset: u16,
+}
+
+/// The parameter at this place.
+fn param_of(body: &[Line], param: &Var, placed: bool, offset: u16) -> NextParam
+    ensures { (number : ℕ) → offset ≡ (2 * number) % 65536 →
+        IsNextParam (lines_of body.now) (variable_of param.now) placed number result }
+{
+    if param.class == Class::Register {
+        return NextParam {
+            variable: variable(param, None),
+            placed,
+            offset,
+        };
+    }
+    if placed || param.class == Class::Auto || lines_take(body, param.name.as_str()) {
+        return NextParam {
+            variable: variable(param, Some(offset)),
+            placed: true,
+            offset: offset.wrapping_add(2),
+        };
+    }
+    NextParam {
+        variable: variable(param, None),
+        placed: false,
+        offset: offset.wrapping_add(2),
+    }
 }
 
 /// The local variables of a function: `auto` ones stand below the base and four bytes, each below the one before.
