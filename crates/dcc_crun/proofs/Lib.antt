@@ -24,3 +24,4 @@ pub mod FunctionLaws
 pub mod CallingLaws
 pub mod StandingLaws
 pub mod StartLaws
+pub mod PrepareLaws

@@ -9,3 +9,4 @@ pub mod Doing
 pub mod Frames
 pub mod Takes
 pub mod Placing
+pub mod Prepared

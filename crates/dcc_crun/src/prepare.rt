@@ -1,5 +1,16 @@
 //! From a text to a program that is ready to run.
 
+ghost use Rattle.std.specs.Prelude.{◌≡◌, ◌++◌, ℕ, List, [], map, Option, IfOk, OnOk};
+ghost use Rattle.dcc_c.specs.Tree.{Word, Function, Tree};
+ghost use Rattle.dcc_c.specs.Rules.{declared_global};
+ghost use Rattle.dcc_c.specs.Run.{Continuation, runs, ends_function, after_goto, global_binding};
+ghost use Rattle.dcc_c.specs.Views.{variable_of, global_of, function_of, tree_of};
+ghost use Rattle.dcc_crun.specs.Evaluation.{declared_of, bindings_named};
+ghost use Rattle.dcc_crun.specs.Points.{Goes, MayGo, point_named, declared_with, AreRows};
+ghost use Rattle.dcc_crun.specs.Emission.{IsContext};
+ghost use Rattle.dcc_crun.specs.Standing.{none_open, place_in, AreVariables, IsProcedure, IsProgram};
+ghost use Rattle.dcc_crun.specs.Prepared.{IsBody, HasPoints, name_declared, names_declared};
+
 use crate::code::{Code, Context};
 use crate::emit::{Behind, emit_lines};
 use crate::placement::{locals_of, params_of};
@@ -9,7 +20,9 @@ use dcc_c::{Func, Global_, Unit, Var};
 use std::alloc::{AllocError, Global};
 
 /// The program of a text.
-pub(crate) fn prepare(alloc: Global, unit: &Unit) -> Result<Program, AllocError> {
+pub(crate) fn prepare(alloc: Global, unit: &Unit) -> Result<Program, AllocError>
+    ensures { IfOk result (λ program. (points : ℕ → List Continuation) × IsProgram (tree_of unit.now) points program) }
+{
     let globals = declared_globals(alloc, &unit.globals)?;
     let mut procedures = Vec::new(alloc);
     for function in &unit.funcs {
@@ -27,7 +40,11 @@ fn procedure(
     globals: &[Declared],
     functions: &[Func],
     function: &Func,
-) -> Result<Procedure, AllocError> {
+) -> Result<Procedure, AllocError>
+    ensures { (tree : Tree) → map declared_of globals.now ≡ map declared_global tree.globals →
+        map function_of functions.now ≡ tree.functions →
+        IfOk result (HasPoints tree (function_of function.now)) }
+{
     let params = params_of(alloc, &function.body, &function.params)?;
     let locals = locals_of(alloc, &function.locals)?;
     let mut names = Vec::new(alloc);
@@ -61,7 +78,10 @@ fn body(
     context: &Context<'_>,
     function: &Func,
     code: &mut Code,
-) -> Result<usize, AllocError> {
+) -> Result<usize, AllocError>
+    ensures { (tree : Tree) → IsContext context.now tree (function_of function.now) → code.old.rows.items ≡ [] → code.old.labels.items ≡ [] →
+        IfOk result (IsBody tree (function_of function.now) code.new) }
+{
     let close = code.push(function.last, Action::Close)?;
     let behind = Behind {
         next: close,
@@ -77,22 +97,20 @@ fn declare(
     declared: &[Var],
     variables: &[Variable],
     names: &mut Vec<Declared>,
-) -> Result<(), AllocError> {
-    for (i, variable) in variables.iter().enumerate() {
-        if i < declared.len() {
-            names.push(Declared {
-                name: String::from_str(alloc, declared[i].name.as_str())?,
-                ty: variable.ty,
-                is_array: variable.is_array,
-                is_placed: variable.offset.is_some(),
-            })?;
-        }
+) -> Result<(), AllocError>
+    ensures { OnOk result (map declared_of names.new.items ≡ map declared_of names.old.items ++ names_declared declared.now variables.now) }
+{
+    for i in 0..declared.len().min(variables.len()) {
+        let name = declared_name(alloc, &declared[i], variables[i])?;
+        names.push(name)?;
     }
     Ok(())
 }
 
 /// The names of the global variables.
-fn declared_globals(alloc: Global, globals: &[Global_]) -> Result<Vec<Declared>, AllocError> {
+fn declared_globals(alloc: Global, globals: &[Global_]) -> Result<Vec<Declared>, AllocError>
+    ensures { IfOk result (λ names. map declared_of names.items ≡ map declared_global (map global_of globals.now)) }
+{
     let mut names = Vec::new(alloc);
     for global in globals {
         names.push(Declared {
@@ -106,7 +124,10 @@ fn declared_globals(alloc: Global, globals: &[Global_]) -> Result<Vec<Declared>,
 }
 
 /// The global variables.
-fn global_bindings(alloc: Global, globals: &[Global_]) -> Result<Vec<Binding>, AllocError> {
+fn global_bindings(alloc: Global, globals: &[Global_]) -> Result<Vec<Binding>, AllocError>
+    ensures { IfOk result (λ bindings. bindings_named (map declared_global (map global_of globals.now)) bindings.items
+        ≡ map global_binding (map global_of globals.now)) }
+{
     let mut bindings = Vec::new(alloc);
     for global in globals {
         bindings.push(Binding {
@@ -116,4 +137,16 @@ fn global_bindings(alloc: Global, globals: &[Global_]) -> Result<Vec<Binding>, A
         })?;
     }
     Ok(bindings)
+}
+
+/// The name of a variable.
+fn declared_name(alloc: Global, declared: &Var, variable: Variable) -> Result<Declared, AllocError>
+    ensures { IfOk result (λ d. declared_of d ≡ name_declared declared.now variable) }
+{
+    Ok(Declared {
+        name: String::from_str(alloc, declared.name.as_str())?,
+        ty: variable.ty,
+        is_array: variable.is_array,
+        is_placed: variable.offset.is_some(),
+    })
 }

@@ -1,0 +1,22 @@
+use Rattle.std.proofs.Common.{◌≡◌, ◌⊎◌, ◌+◌, ◌<◌, ◌≤◌, ◌++◌, [], ◌∷◌, List, min, length, drop, map, inl, inr, refl, sym, ap, ◌∙◌, append_assoc, arith}
+use Rattle.std.proofs.lemmas.List.{append-nil, map-append}
+use Rattle.dcc_crun.specs.Evaluation.{declared_of}
+use Rattle.dcc_crun.specs.Prepared.{names_declared}
+use Rattle.dcc_crun.proofs.FrameLaws.{min_end}
+use Rattle.dcc_crun.proofs.PrepareLaws.{declare-step, declare-end}
+use Rattle.dcc_crun.proofs.prepare.declare.Goals as goal
+
+pub loop-i-preserved : goal.loop-i-preserved
+loop-i-preserved c = ?
+
+pub returns : goal.returns
+returns c =
+    let vs = c.args.declared.now in
+    let xs = c.args.variables.now in
+    let end : (length vs ≤ c.loop-i.i) ⊎ (length xs ≤ c.loop-i.i) = elim (min_end (length vs) (length xs)) [
+      | inl le ↦ inl (omega arith)
+      | inr le ↦ inr (omega arith)
+    ] in
+    sym (append-nil (map declared_of c.loop-i.names.items))
+    ∙ ap (λ l. map declared_of c.loop-i.names.items ++ l) (sym (declare-end vs xs c.loop-i.i end))
+    ∙ c.loop-i.invariant
