@@ -25,3 +25,4 @@ pub mod CallingLaws
 pub mod StandingLaws
 pub mod StartLaws
 pub mod PrepareLaws
+pub mod PlacementLaws

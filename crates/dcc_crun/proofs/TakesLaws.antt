@@ -7,7 +7,7 @@ use Rattle.dcc_c.specs.Parts.{stmts_in, inner_stmts, arm_stmts, expr_if, exprs_o
 use Rattle.dcc_c.specs.Placement.{is_address_of, takes_address}
 use Rattle.dcc_crun.specs.Takes.{expr_takes, any_takes, option_takes, lines_take, stmt_takes, arms_take}
 
-or-false : (a : Bool) → (a || false) ≡ a
+pub or-false : (a : Bool) → (a || false) ≡ a
 or-false true = refl
 or-false false = refl
 
@@ -18,6 +18,10 @@ or-assoc false b c = refl
 pub any-append : {X : Type 0} (p : X → Bool) (xs ys : List X) → list_any p (xs ++ ys) ≡ (list_any p xs || list_any p ys)
 any-append p [] ys = refl
 any-append p (x ∷ xs) ys = ap (λ b. p x || b) (any-append p xs ys) ∙ sym (or-assoc (p x) (list_any p xs) (list_any p ys))
+
+pub any-map : {X Y : Type 0} (p : Y → Bool) (f : X → Y) (xs : List X) → list_any p (map f xs) ≡ list_any (λ x. p (f x)) xs
+any-map p f [] = refl
+any-map p f (x ∷ xs) = ap (λ b. p (f x) || b) (any-map p f xs)
 
 any-flat : {X Y : Type 0} (p : Y → Bool) (f : X → List Y) (xs : List X) → list_any p (flat_map f xs) ≡ list_any (λ x. list_any p (f x)) xs
 any-flat p f [] = refl
@@ -74,7 +78,6 @@ mutual
       ap (λ b. (expr_takes word e || false) || b) (own-append word (stmts_in body) (stmts_in otherwise))
       ∙ ap (λ b. b || (own_of word (stmts_in body) || own_of word (stmts_in otherwise))) (or-false (expr_takes word e))
       ∙ ap (λ b. expr_takes word e || b) (both _ _ _ _ (lines-own word body) (lines-own word otherwise))
-      ∙ sym (or-assoc (expr_takes word e) (lines_take word body) (lines_take word otherwise))
   stmt-own word (While e body) = both _ _ _ _ (or-false (expr_takes word e)) (lines-own word body)
   stmt-own word (DoWhile body e) = both _ _ _ _ (or-false (expr_takes word e)) (lines-own word body)
   stmt-own word (Forever body) = lines-own word body
@@ -82,7 +85,6 @@ mutual
       ap (λ b. (expr_takes word e || false) || b) (own-append word (arm_stmts arms) (arm_stmts last))
       ∙ ap (λ b. b || (own_of word (arm_stmts arms) || own_of word (arm_stmts last))) (or-false (expr_takes word e))
       ∙ ap (λ b. expr_takes word e || b) (both _ _ _ _ (arms-own word arms) (arms-own word last))
-      ∙ sym (or-assoc (expr_takes word e) (arms_take word arms) (arms_take word last))
   stmt-own word Break = own-none word
   stmt-own word Continue = own-none word
   stmt-own word (Goto name) = own-none word

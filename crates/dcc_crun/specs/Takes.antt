@@ -23,11 +23,11 @@ abbrev mutual
   pub stmt_takes : Word → Stmt → Bool
   stmt_takes word (Assign place e) = expr_takes word place || expr_takes word e
   stmt_takes word (Call place function arguments depth) = option_takes word place || any_takes word arguments
-  stmt_takes word (If e body otherwise) = expr_takes word e || lines_take word body || lines_take word otherwise
+  stmt_takes word (If e body otherwise) = expr_takes word e || (lines_take word body || lines_take word otherwise)
   stmt_takes word (While e body) = expr_takes word e || lines_take word body
   stmt_takes word (DoWhile body e) = expr_takes word e || lines_take word body
   stmt_takes word (Forever body) = lines_take word body
-  stmt_takes word (Switch e arms last) = expr_takes word e || arms_take word arms || arms_take word last
+  stmt_takes word (Switch e arms last) = expr_takes word e || (arms_take word arms || arms_take word last)
   stmt_takes word (Return e) = option_takes word e
   stmt_takes word _ = false
 

@@ -2,6 +2,7 @@
 
 
 ghost use Rattle.std.specs.Prelude.{◌≡◌, ◌%◌, ◌*◌, ℕ, ◌+◌, map, option_map, is_some, false, IfOk};
+ghost use Rattle.std.specs.List.{list_any};
 ghost use Rattle.dcc_c.specs.declared.syntax.CUn.TheVariants.{AddressOf};
 ghost use Rattle.dcc_c.specs.Tree.{Unary};
 ghost use Rattle.dcc_c.specs.Placement.{is_address_of, bytes_of, param_places, local_places};
@@ -9,7 +10,7 @@ ghost use Rattle.dcc_c.specs.Views.{expr_of, stmt_of, lines_of, arms_of, variabl
 ghost use Rattle.dcc_crun.specs.Emission.{arms_if};
 ghost use Rattle.dcc_crun.specs.Standing.{AreVariables};
 ghost use Rattle.dcc_crun.specs.Placing.{IsNextParam};
-ghost use Rattle.dcc_crun.specs.Takes.{expr_takes, any_takes, option_takes, stmt_takes, lines_take, arms_take};
+ghost use Rattle.dcc_crun.specs.Takes.{expr_takes, option_takes, stmt_takes, lines_take, arms_take};
 
 use crate::program::Variable;
 use crate::value::size_of;
@@ -35,14 +36,14 @@ fn is_name(e: &CExpr, name: &str) -> bool
     ensures { result ≡ is_address_of name.now (Unary AddressOf (expr_of e.now)) }
 {
     match e {
-        CExpr::Name(other) => other.as_str() == name,
+        CExpr::Name(other) => name == other.as_str(),
         _ => false,
     }
 }
 
 /// Whether the address of the name is taken in one of the expressions.
 fn any_takes(list: &[CExpr], name: &str) -> bool
-    ensures { result ≡ any_takes name.now (map expr_of list.now) }
+    ensures { result ≡ list_any (λ e. expr_takes name.now (expr_of e)) list.now }
 {
     list.iter().any(|e| expr_takes(e, name))
 }
@@ -68,14 +69,13 @@ fn stmt_takes(stmt: &CStmt, name: &str) -> bool
             option_takes(place, name) || any_takes(arguments, name)
         }
         CStmt::If(e, body, otherwise) => {
-            expr_takes(e, name) || lines_take(body, name) || lines_take(otherwise, name)
+            expr_takes(e, name) || (lines_take(body, name) || lines_take(otherwise, name))
         }
-        CStmt::While(e, body) | CStmt::DoWhile(body, e) => {
-            expr_takes(e, name) || lines_take(body, name)
-        }
+        CStmt::While(e, body) => expr_takes(e, name) || lines_take(body, name),
+        CStmt::DoWhile(body, e) => expr_takes(e, name) || lines_take(body, name),
         CStmt::Forever(body) => lines_take(body, name),
         CStmt::Switch(e, arms, last) => {
-            expr_takes(e, name) || arms_take(arms, name) || default_takes(last, name)
+            expr_takes(e, name) || (arms_take(arms, name) || default_takes(last, name))
         }
         CStmt::Return(e) => option_takes(e, name),
         CStmt::Break

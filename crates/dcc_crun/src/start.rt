@@ -51,6 +51,6 @@ fn put_values(global: &Global_, memory: &mut [u8])
     let mut at = global.at % 0x1_0000;
     for n in &global.init {
         store(memory, global.ty, at, *n);
-        at = (at + size) % 0x1_0000;
+        at = at.wrapping_add(size) % 0x1_0000;
     }
 }
