@@ -79,3 +79,57 @@ stmt_takes-returns-else-expr_takes-4 t c =
     ∙ ap (λ ls. lines_take name (lines_of ls)) c.deref-else-expr_takes-4.ensures.value
     ∙ ap (λ x. x || lines_take name (lines_of body.items)) (sym (sym c.expr_takes-in-DoWhile.ensures ∙ c.if-expr_takes-4.false))
     ∙ ap (stmt_takes name) (sym (do_while-tree c.in-DoWhile.e body) ∙ ap stmt_of (sym c.in-DoWhile.is))
+
+pub stmt_takes-returns-then-lines_take : goal.stmt_takes-returns-then-lines_take
+stmt_takes-returns-then-lines_take t c =
+    let name = c.args.name.now in
+    let e = c.in-If.e in
+    let body = c.in-If.body in
+    let otherwise = c.in-If.otherwise in
+    let first = lines_take name (lines_of body.items) in
+    let second = lines_take name (lines_of otherwise.items) in
+    let is = c.lines_take.ensures ∙ ap (λ ls. lines_take name (lines_of ls)) c.deref-else-expr_takes-2.ensures.value in
+    c.if-lines_take.true
+    ∙ ap (λ x. x || second) (sym (sym is ∙ c.if-lines_take.true))
+    ∙ ap (λ x. x || (first || second)) (sym (sym c.expr_takes-in-If.ensures ∙ c.if-expr_takes-2.false))
+    ∙ ap (stmt_takes name) (sym (if-tree e body otherwise) ∙ ap stmt_of (sym c.in-If.is))
+
+pub stmt_takes-returns-else-lines_take : goal.stmt_takes-returns-else-lines_take
+stmt_takes-returns-else-lines_take t c =
+    let name = c.args.name.now in
+    let e = c.in-If.e in
+    let body = c.in-If.body in
+    let otherwise = c.in-If.otherwise in
+    let first = lines_take name (lines_of body.items) in
+    let second = lines_take name (lines_of otherwise.items) in
+    let is = c.lines_take.ensures ∙ ap (λ ls. lines_take name (lines_of ls)) c.deref-else-expr_takes-2.ensures.value in
+    c.lines_take-else-lines_take.ensures ∙ ap (λ ls. lines_take name (lines_of ls)) c.deref-else-lines_take.ensures.value
+    ∙ ap (λ x. x || second) (sym (sym is ∙ c.if-lines_take.false))
+    ∙ ap (λ x. x || (first || second)) (sym (sym c.expr_takes-in-If.ensures ∙ c.if-expr_takes-2.false))
+    ∙ ap (stmt_takes name) (sym (if-tree e body otherwise) ∙ ap stmt_of (sym c.in-If.is))
+
+pub stmt_takes-returns-then-arms_take : goal.stmt_takes-returns-then-arms_take
+stmt_takes-returns-then-arms_take t c =
+    let name = c.args.name.now in
+    let arms = c.in-Switch.arms in
+    let last = c.in-Switch.last in
+    let first = arms_take name (arms_of arms.items) in
+    let second = arms_take name (arms_if last) in
+    let is = c.arms_take.ensures ∙ ap (λ l. arms_take name (arms_of l)) c.deref-else-expr_takes-5.ensures.value in
+    c.if-arms_take.true
+    ∙ ap (λ x. x || second) (sym (sym is ∙ c.if-arms_take.true))
+    ∙ ap (λ x. x || (first || second)) (sym (sym c.expr_takes-in-Switch.ensures ∙ c.if-expr_takes-5.false))
+    ∙ ap (stmt_takes name) (sym (switch-tree c.in-Switch.e arms last) ∙ ap stmt_of (sym c.in-Switch.is))
+
+pub stmt_takes-returns-else-arms_take : goal.stmt_takes-returns-else-arms_take
+stmt_takes-returns-else-arms_take t c =
+    let name = c.args.name.now in
+    let arms = c.in-Switch.arms in
+    let last = c.in-Switch.last in
+    let first = arms_take name (arms_of arms.items) in
+    let second = arms_take name (arms_if last) in
+    let is = c.arms_take.ensures ∙ ap (λ l. arms_take name (arms_of l)) c.deref-else-expr_takes-5.ensures.value in
+    c.default_takes.ensures
+    ∙ ap (λ x. x || second) (sym (sym is ∙ c.if-arms_take.false))
+    ∙ ap (λ x. x || (first || second)) (sym (sym c.expr_takes-in-Switch.ensures ∙ c.if-expr_takes-5.false))
+    ∙ ap (stmt_takes name) (sym (switch-tree c.in-Switch.e arms last) ∙ ap stmt_of (sym c.in-Switch.is))
