@@ -87,24 +87,29 @@ pub dos_from : (m mid : Moment) (program : Program) (row : CallRow) (dos : DosCa
     From (CallsDos m globals dos target arguments line) (Kept mid) (CallsAny m program row line) (Stood (moved mid row.next))
 dos_from m mid program row dos target line globals arguments same_globals same_arguments callee aside place lands tree points s now call =
     let to = option_map (target_named (locals_declared s.frame.function)) target in
-    let is_dos : dos_of call.word ≡ Some (dos_call dos) = subst (λ (k : Callee). IsCallee tree call.word k) callee call.callee in
-    (s, record {
-      globals_are = subst (AreGlobals tree) (sym same_globals) call.program_is.globals;
-      state = call.state;
-      lands = lands tree points s now call;
-      exprs = call.exprs;
-      stand = subst (StandAll (names_at tree s) call.exprs) (sym same_arguments) call.stand;
-      is = calls_on m program row line tree points s now call to (place tree points s now call)
-          ∙ ap (λ (o : Option Dos). dos_or_call_step tree o call.word to call.exprs row.depth line s) is_dos;
-    }, refl, refl, λ done. record {
-      end = done.0.end;
-      going = λ runs. record {
-        state = running_moved tree points mid now row.next done.0;
-        rest =
-            subst (λ k. Goes tree (points mid.call.procedure) row.next k) (sym done.1)
-            (subst (λ p. Goes tree (points p) row.next s.rest) (sym aside.procedure) call.goes);
-      };
-    })
+    let is_dos : dos_of call.word ≡ Some (dos_call dos) = subst (λ (k : Callee). IsCallee tree call.word k) callee call.callee in (
+      s,
+      record {
+        globals_are = subst (AreGlobals tree) (sym same_globals) call.program_is.globals;
+        state = call.state;
+        lands = lands tree points s now call;
+        exprs = call.exprs;
+        stand = subst (StandAll (names_at tree s) call.exprs) (sym same_arguments) call.stand;
+        is = calls_on m program row line tree points s now call to (place tree points s now call)
+            ∙ ap (λ (o : Option Dos). dos_or_call_step tree o call.word to call.exprs row.depth line s) is_dos;
+      },
+      refl,
+      refl,
+      λ done. record {
+        end = done.0.end;
+        going = λ runs. record {
+          state = running_moved tree points mid now row.next done.0;
+          rest =
+              subst (λ k. Goes tree (points mid.call.procedure) row.next k) (sym done.1)
+              (subst (λ p. Goes tree (points p) row.next s.rest) (sym aside.procedure) call.goes);
+        };
+      },
+    )
 
 -- a call of a function of the text
 pub function_from : (m now_m : Moment) (program : Program) (row : CallRow) (number : ℕ) (target : Option Place) (line : ℕ) →
@@ -115,21 +120,26 @@ pub function_from : (m now_m : Moment) (program : Program) (row : CallRow) (numb
     From (CallsFunction m program row number target line) (Stood now_m) (CallsAny m program row line) (Stood now_m)
 function_from m now_m program row number target line callee place lands tree points s now call =
     let to = option_map (target_named (locals_declared s.frame.function)) target in
-    let is = subst (λ (k : Callee). IsCallee tree call.word k) callee call.callee in
-    (s, record {
-      program_is = call.program_is;
-      state = call.state;
-      running = call.running;
-      goes = call.goes;
-      lands = lands tree points s now call;
-      exprs = call.exprs;
-      stand = call.stand;
-      f = is.0;
-      here = is.3;
-      is = calls_on m program row line tree points s now call to (place tree points s now call)
-          ∙ ap (λ (o : Option Dos). dos_or_call_step tree o call.word to call.exprs row.depth line s) is.1
-          ∙ ap (λ (o : Option Function). call_step o (scope_of tree s) to call.exprs row.depth line s) is.2;
-    }, refl, refl, λ done. done)
+    let is = subst (λ (k : Callee). IsCallee tree call.word k) callee call.callee in (
+      s,
+      record {
+        program_is = call.program_is;
+        state = call.state;
+        running = call.running;
+        goes = call.goes;
+        lands = lands tree points s now call;
+        exprs = call.exprs;
+        stand = call.stand;
+        f = is.0;
+        here = is.3;
+        is = calls_on m program row line tree points s now call to (place tree points s now call)
+            ∙ ap (λ (o : Option Dos). dos_or_call_step tree o call.word to call.exprs row.depth line s) is.1
+            ∙ ap (λ (o : Option Function). call_step o (scope_of tree s) to call.exprs row.depth line s) is.2;
+      },
+      refl,
+      refl,
+      λ done. done,
+    )
 
 -- a call of nothing
 pub nothing_called : (m : Moment) (program : Program) (row : CallRow) (target : Option Place) (line : ℕ) (left taken : Option (List ℕ)) →

@@ -168,11 +168,11 @@ does_halting op m end left taken left_now taken_now is other halts =
     subst (λ l. Does op (Stood m) left taken l taken_now) (sym halts.same_left)
     (subst (λ t. Does op (Stood m) left taken left t) (sym halts.same_taken)
     (does_stood op m left taken (λ tree points s now made.
-      let ends = halts.ends tree points s now made in
-      record {
-        stood = record { end = is ∙ sym ends.is; going = λ runs. absurd (other (sym ends.is ∙ runs)) };
-        quiet = ends.quiet;
-      })))
+    let ends = halts.ends tree points s now made in
+    record {
+      stood = record { end = is ∙ sym ends.is; going = λ runs. absurd (other (sym ends.is ∙ runs)) };
+      quiet = ends.quiet;
+    })))
 
 -- Steps.
 
@@ -187,16 +187,21 @@ step_performs program m procedure row here within there inside done tree points 
     let same : has.procedure ≡ procedure = some_same _ _ (sym has.here ∙ found) in
     let is = subst (λ p. IsProcedure tree s.frame.function (points m.call.procedure) p) same has.is in
     let rest = call.state.rest in
-    let at_row : slice_get procedure.rows.items m.call.at ≡ Some row = slice_get_read procedure.rows.items _ m.call.at row refl inside there in
-    (s, record {
-      program_is = call.program_is;
-      state = call.state.state;
-      running = call.running;
-      procedure_is = is;
-      own = rest.own;
-      acts = is.rows.acts m.call.at rest.own row rest.here at_row refl;
-      is = call.is ∙ sym (rest.alike s);
-    }, refl, refl, λ d. d)
+    let at_row : slice_get procedure.rows.items m.call.at ≡ Some row = slice_get_read procedure.rows.items _ m.call.at row refl inside there in (
+      s,
+      record {
+        program_is = call.program_is;
+        state = call.state.state;
+        running = call.running;
+        procedure_is = is;
+        own = rest.own;
+        acts = is.rows.acts m.call.at rest.own row rest.here at_row refl;
+        is = call.is ∙ sym (rest.alike s);
+      },
+      refl,
+      refl,
+      λ d. d,
+    )
   where
     some_same : {X : Type 0} (x y : X) → Some x ≡ Some y → x ≡ y
     some_same x y e = cc
@@ -225,17 +230,22 @@ pub call_performs : (program : Program) (procedure : Procedure) (line : ℕ) (ac
     From (CallsAny m program row line) (Stood now) (Performs program procedure line action m) (Stood now)
 call_performs program procedure line action m now row is tree points s after call =
     let acts : IsCall tree s.frame.function (points m.call.procedure) call.own line row =
-    subst (λ (a : Action). Acts tree s.frame.function (points m.call.procedure) procedure.labels.items call.own line a) is call.acts in
-    (goes_on acts.to s, record {
-      program_is = call.program_is;
-      state = running_on tree points m s acts.to call.state;
-      running = call.running;
-      goes = acts.goes;
-      place = acts.place;
-      word = acts.word;
-      exprs = acts.arguments;
-      place_stands = acts.place_stands;
-      callee = acts.callee;
-      stand = acts.stand;
-      is = call.is ∙ acts.does s;
-    }, refl, refl, λ done. done)
+    subst (λ (a : Action). Acts tree s.frame.function (points m.call.procedure) procedure.labels.items call.own line a) is call.acts in (
+      goes_on acts.to s,
+      record {
+        program_is = call.program_is;
+        state = running_on tree points m s acts.to call.state;
+        running = call.running;
+        goes = acts.goes;
+        place = acts.place;
+        word = acts.word;
+        exprs = acts.arguments;
+        place_stands = acts.place_stands;
+        callee = acts.callee;
+        stand = acts.stand;
+        is = call.is ∙ acts.does s;
+      },
+      refl,
+      refl,
+      λ done. done,
+    )

@@ -212,14 +212,14 @@ closed tree f is_open points rows labels slot k line action are here acts = reco
   same = are.same ∙ sym (length-set rows slot (record { action = action; line = line }));
   acts = λ at rest row is has shut. elim (cases_eq at slot) [
     | inl same ↦
-      let own : k ≡ rest = some_same _ _ (sym here ∙ ap (slice_get points) (sym same) ∙ is) in
-      let new : record { action = action; line = line } ≡ row =
-      set-same rows slot (record { action = action; line = line }) row (ap (slice_get (slice_set rows slot (record { action = action; line = line }))) (sym same) ∙ has) in
-      subst (λ (r : Row). Acts tree f points labels rest r.line r.action) new
-      (subst (λ (c : Continuation). Acts tree f points labels c line action) own acts)
+        let own : k ≡ rest = some_same _ _ (sym here ∙ ap (slice_get points) (sym same) ∙ is) in
+        let new : record { action = action; line = line } ≡ row =
+        set-same rows slot (record { action = action; line = line }) row (ap (slice_get (slice_set rows slot (record { action = action; line = line }))) (sym same) ∙ has) in
+        subst (λ (r : Row). Acts tree f points labels rest r.line r.action) new
+        (subst (λ (c : Continuation). Acts tree f points labels c line action) own acts)
     | inr other ↦
-      are.acts at rest row is (set-other rows slot (record { action = action; line = line }) at row has other)
-      (both_false (is_open at) (at == slot) shut (eqb_other at slot other))
+        are.acts at rest row is (set-other rows slot (record { action = action; line = line }) at row has other)
+        (both_false (is_open at) (at == slot) shut (eqb_other at slot other))
   ];
 }
 

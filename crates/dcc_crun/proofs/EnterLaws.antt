@@ -61,14 +61,18 @@ entered tree points m now s number next base depth f procedure target arguments 
             variables = variables;
             declared = call_declared f procedure.params.items procedure.locals.items own s.fill (map typed arguments) is.params is.locals (typed_length arguments ∙ same);
           };
-          waiting =
-              (m.waiting.items, record { call = record m.call { at = next }; target = target }, enters.waiting,
-              record {
-                call = record { function = state.call.function; base = state.call.base; variables = state.call.variables; declared = state.call.declared };
-                rest = goes;
-                target = refl;
-                lands = lands;
-              }, state.waiting);
+          waiting = (
+            m.waiting.items,
+            record { call = record m.call { at = next }; target = target },
+            enters.waiting,
+            record {
+              call = record { function = state.call.function; base = state.call.base; variables = state.call.variables; declared = state.call.declared };
+              rest = goes;
+              target = refl;
+              lands = lands;
+            },
+            state.waiting,
+          );
           fill = enters.fill ∙ state.fill;
           memory =
               enters.memory

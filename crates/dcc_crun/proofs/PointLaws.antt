@@ -130,18 +130,18 @@ pub rows_push : (tree : Tree) (f : Function) (is_open : ℕ → Bool) (points : 
     AreRows tree f is_open (points ++ k ∷ []) (rows ++ record { action = action; line = line } ∷ []) labels
 rows_push tree f is_open points rows labels k line action are acts = record {
   same = length_push points k ∙ ap (λ n. n + 1) are.same ∙ sym (length_push rows (record { action = action; line = line }));
-  acts = λ at rest row here has closed. 
+  acts = λ at rest row here has closed.
       elim (cases_eq at (length points)) [
         | inl is ↦
-          let own : k ≡ rest = some_same _ _ (sym (get-last points k) ∙ ap (slice_get (points ++ k ∷ [])) (sym is) ∙ here) in
-          let new : record { action = action; line = line } ≡ row =
-          some_same _ _ (sym (get-last rows (record { action = action; line = line })) ∙ ap (slice_get (rows ++ record { action = action; line = line } ∷ [])) (sym are.same ∙ sym is) ∙ has) in
-          subst (λ (r : Row). Acts tree f (points ++ k ∷ []) labels rest r.line r.action) new
-          (subst (λ (c : Continuation). Acts tree f (points ++ k ∷ []) labels c line action) own acts)
+            let own : k ≡ rest = some_same _ _ (sym (get-last points k) ∙ ap (slice_get (points ++ k ∷ [])) (sym is) ∙ here) in
+            let new : record { action = action; line = line } ≡ row =
+            some_same _ _ (sym (get-last rows (record { action = action; line = line })) ∙ ap (slice_get (rows ++ record { action = action; line = line } ∷ [])) (sym are.same ∙ sym is) ∙ has) in
+            subst (λ (r : Row). Acts tree f (points ++ k ∷ []) labels rest r.line r.action) new
+            (subst (λ (c : Continuation). Acts tree f (points ++ k ∷ []) labels c line action) own acts)
         | inr other ↦
-          acts_stay tree f points (points ++ k ∷ []) labels labels rest row.line row.action (stay_push points k) (λ word number named. named)
-          (are.acts at rest row (get-push points k at rest here other)
-          (get-push rows (record { action = action; line = line }) at row has (λ same. other (same ∙ sym are.same))) closed)
+            acts_stay tree f points (points ++ k ∷ []) labels labels rest row.line row.action (stay_push points k) (λ word number named. named)
+            (are.acts at rest row (get-push points k at rest here other)
+            (get-push rows (record { action = action; line = line }) at row has (λ same. other (same ∙ sym are.same))) closed)
       ];
 }
 

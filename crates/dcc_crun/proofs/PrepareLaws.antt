@@ -75,12 +75,16 @@ names_are (v ∷ vs) (x ∷ xs) (p ∷ firsts) kinds places =
   where
     first_kind : (a b : Kind) (as_ bs : List Kind) → a ∷ as_ ≡ b ∷ bs → a ≡ b
     first_kind a b as_ bs is = cc
+
     rest_kinds : (a b : Kind) (as_ bs : List Kind) → a ∷ as_ ≡ b ∷ bs → as_ ≡ bs
     rest_kinds a b as_ bs is = cc
+
     first_place : (a b : Option ℕ) (as_ bs : List (Option ℕ)) → a ∷ as_ ≡ b ∷ bs → a ≡ b
     first_place a b as_ bs is = cc
+
     rest_places : (a b : Option ℕ) (as_ bs : List (Option ℕ)) → a ∷ as_ ≡ b ∷ bs → as_ ≡ bs
     rest_places a b as_ bs is = cc
+
     some_place : (o : Option ℕ) → is_some o ≡ is_some (option_map (λ k. (0 + k) % 65536) o)
     some_place None = refl
     some_place (Some k) = refl

@@ -206,21 +206,23 @@ loop_made tree f is_open points before opened mid now found turn slot at first r
     let grown = one.0.grows.grown in
     let here : slice_get (points ++ turn ∷ []) slot ≡ Some turn =
     ap (slice_get (points ++ turn ∷ [])) (place ∙ sym are.same) ∙ get-last points turn in
-    let there = one.0.grows.stay slot turn here in
-    (record {
-      grows = record {
-        grown = grown;
-        stay = λ p rest is. one.0.grows.stay p rest (stay_push points turn p rest is);
-        rows =
-            subst (λ (rs : List Row). AreRows tree f is_open grown rs now.labels.items) (sym set)
-            (subst (λ (ls : List Label). AreRows tree f is_open grown (slice_set mid.rows.items slot (record { action = action; line = row.line })) ls) (sym (ap (λ v. v.items) labels))
-            (closed tree f is_open grown mid.rows.items mid.labels.items slot turn row.line action one.0.grows.rows there one.1));
-        numbers = λ word number is. ap (λ v. label_named v.items word) labels ∙ one.0.grows.numbers word number (ap (λ v. label_named v.items word) same ∙ is);
-        labels = λ word. relabels_moved tree grown before.labels.items opened.labels.items mid.labels.items now.labels.items word (found word)
-            (ap (λ v. point_named v.items word) same) (ap (λ v. point_named v.items word) labels) (one.0.grows.labels word);
-      };
-      goes = one.0.goes;
-    }, record { own = turn; here = there; alike = λ s. refl })
+    let there = one.0.grows.stay slot turn here in (
+      record {
+        grows = record {
+          grown = grown;
+          stay = λ p rest is. one.0.grows.stay p rest (stay_push points turn p rest is);
+          rows =
+              subst (λ (rs : List Row). AreRows tree f is_open grown rs now.labels.items) (sym set)
+              (subst (λ (ls : List Label). AreRows tree f is_open grown (slice_set mid.rows.items slot (record { action = action; line = row.line })) ls) (sym (ap (λ v. v.items) labels))
+              (closed tree f is_open grown mid.rows.items mid.labels.items slot turn row.line action one.0.grows.rows there one.1));
+          numbers = λ word number is. ap (λ v. label_named v.items word) labels ∙ one.0.grows.numbers word number (ap (λ v. label_named v.items word) same ∙ is);
+          labels = λ word. relabels_moved tree grown before.labels.items opened.labels.items mid.labels.items now.labels.items word (found word)
+              (ap (λ v. point_named v.items word) same) (ap (λ v. point_named v.items word) labels) (one.0.grows.labels word);
+        };
+        goes = one.0.goes;
+      },
+      record { own = turn; here = there; alike = λ s. refl },
+    )
 
 -- Arms.
 

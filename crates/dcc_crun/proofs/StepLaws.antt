@@ -142,10 +142,12 @@ give_is tree s line None None e type stands is other result = cc
 give_is tree s line (Some own) None e type stands is other result = absurd stands
 give_is tree s line None (Some r) e type stands is other result = absurd stands
 give_is tree s line (Some own) (Some r) e type stands is other result =
-    let same : r ≡ e = cc in
-    (own, subst (Stands (names_at tree s) own) same stands,
-    ap (λ o. give_step o (value_of (scope_of tree s) own) line s) result
-    ∙ ap (λ b. if b then with_end (stuck line) s else on (value_of (scope_of tree s) own) line s (λ v. back_step s.waiting (Some (converted type v)) line s)) other)
+    let same : r ≡ e = cc in (
+      own,
+      subst (Stands (names_at tree s) own) same stands,
+      ap (λ o. give_step o (value_of (scope_of tree s) own) line s) result
+          ∙ ap (λ b. if b then with_end (stuck line) s else on (value_of (scope_of tree s) own) line s (λ v. back_step s.waiting (Some (converted type v)) line s)) other,
+    )
 
 -- Where an evaluation gives nothing.
 

@@ -1,11 +1,11 @@
 //! Calls: what a call holds, and how it begins.
 
-use crate::program::{Procedure, Variable};
 ghost use Rattle.std.specs.Prelude.{◌≡◌, ◌++◌, IfOk};
 ghost use Rattle.dcc_crun.specs.Standing.{place_in};
 ghost use Rattle.dcc_crun.specs.Frames.{holding, params_holding, locals_holding, with_argument, arguments_put};
 
 use crate::expression::Target;
+use crate::program::{Procedure, Variable};
 use crate::value::memory::store;
 use crate::value::{Value, converted, number};
 use crate::variable::{Binding, Storage};

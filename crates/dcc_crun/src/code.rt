@@ -8,10 +8,10 @@ ghost use Rattle.dcc_crun.specs.Resolved.{names_of};
 ghost use Rattle.dcc_crun.specs.Points.{StandsIf, StandAll, label_named, point_named};
 ghost use Rattle.dcc_crun.specs.Emission.{KeepNumbers};
 
+use crate::expression::Resolved;
 use crate::program::{Action, Label, Row};
 use crate::resolve::resolve;
 use crate::variable::Names;
-use crate::expression::Resolved;
 use dcc_c::{CExpr, Func};
 use std::alloc::{AllocError, Global};
 

@@ -165,12 +165,7 @@ impl Moment {
     }
 
     /// The place takes the value of the expression.
-    fn assign(
-        &mut self,
-        globals: &[Binding],
-        place: &Resolved,
-        e: &Resolved,
-    ) -> Result<(), NoValue>
+    fn assign(&mut self, globals: &[Binding], place: &Resolved, e: &Resolved) -> Result<(), NoValue>
         ensures state { (tree : Tree) (points : ℕ → List Continuation) (s : State) (place_expr expr : Expr) (line : ℕ) →
             AreGlobals tree globals.now → IsRunning tree points self.old s →
             Stands (names_at tree s) place_expr place.now → Stands (names_at tree s) expr e.now →
@@ -497,8 +492,15 @@ impl Moment {
             return Err(Stop::Undefined);
         }
         let procedure = &program.procedures[number];
-        let values = argument_values(alloc, &self.scene(&program.globals), procedure, &row.arguments)?;
-        self.enter(alloc, number, procedure, row.depth, row.next, target, &values)?;
+        let values = argument_values(
+            alloc,
+            &self.scene(&program.globals),
+            procedure,
+            &row.arguments,
+        )?;
+        self.enter(
+            alloc, number, procedure, row.depth, row.next, target, &values,
+        )?;
         Ok(())
     }
 

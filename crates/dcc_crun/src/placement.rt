@@ -1,6 +1,5 @@
 //! Where the parameters and the local variables of a function stand.
 
-
 ghost use Rattle.std.specs.Prelude.{◌≡◌, ◌%◌, ◌*◌, ℕ, ◌+◌, map, option_map, is_some, false, IfOk};
 ghost use Rattle.std.specs.List.{list_any};
 ghost use Rattle.dcc_c.specs.declared.syntax.CUn.TheVariants.{AddressOf};
@@ -19,7 +18,8 @@ use std::alloc::{AllocError, Global};
 
 /// Whether the address of the name is taken in the expression.
 fn expr_takes(e: &CExpr, name: &str) -> bool
-    ensures { result ≡ expr_takes name.now (expr_of e.now) } {
+    ensures { result ≡ expr_takes name.now (expr_of e.now) }
+{
     match e {
         CExpr::Num(_, _) | CExpr::Name(_) => false,
         CExpr::Un(CUn::AddressOf, a) => is_name(a, name) || expr_takes(a, name),
@@ -78,11 +78,7 @@ fn stmt_takes(stmt: &CStmt, name: &str) -> bool
             expr_takes(e, name) || (arms_take(arms, name) || default_takes(last, name))
         }
         CStmt::Return(e) => option_takes(e, name),
-        CStmt::Break
-        | CStmt::Continue
-        | CStmt::Goto(_)
-        | CStmt::Label(_)
-        | CStmt::Empty => false,
+        CStmt::Break | CStmt::Continue | CStmt::Goto(_) | CStmt::Label(_) | CStmt::Empty => false,
     }
 }
 

@@ -38,7 +38,11 @@ impl CRun {
         let program = prepare(alloc, unit)?;
         let base = unit.hi.wrapping_add(2);
         let (entry, variables, end) = match program.procedures.first() {
-            Some(start) => (start.entry, start.variables(alloc, base, fill, &[])?, Ending::Running),
+            Some(start) => (
+                start.entry,
+                start.variables(alloc, base, fill, &[])?,
+                Ending::Running,
+            ),
             None => (0, Vec::new(alloc), Ending::Stuck(0)),
         };
         let call = Call {

@@ -43,11 +43,13 @@ emit_repeated-returns t c tree f is_open points rest context are goes =
     (λ word. from_label word body turn) turn c.in_ok-test.test c.in_ok-yes.yes (runs body turn) _ _
     c.in_ok-test.ensures.point are c.in_ok-test.ensures.rows c.in_ok-test.ensures.labels
     (λ opened own.
-      let there = goes_stay tree points (points ++ turn ∷ []) c.args.next rest (stay_push points turn) goes in
-      let one = c.in_ok-yes.ensures tree f _ (points ++ turn ∷ []) turn context opened (record { next = own; on_break = there; on_continue = own }) in
-      (one, loop_test tree f one.grows.grown e body c.args.line rest c.in_ok-value.value c.in_ok-yes.yes c.args.next
-      (stands_here _ _ _ _ context.names c.in_ok-value.ensures) one.goes
-      (goes_stay tree (points ++ turn ∷ []) one.grows.grown c.args.next rest one.grows.stay there)))
+    let there = goes_stay tree points (points ++ turn ∷ []) c.args.next rest (stay_push points turn) goes in
+    let one = c.in_ok-yes.ensures tree f _ (points ++ turn ∷ []) turn context opened (record { next = own; on_break = there; on_continue = own }) in (
+      one,
+      loop_test tree f one.grows.grown e body c.args.line rest c.in_ok-value.value c.in_ok-yes.yes c.args.next
+          (stands_here _ _ _ _ context.names c.in_ok-value.ensures) one.goes
+          (goes_stay tree (points ++ turn ∷ []) one.grows.grown c.args.next rest one.grows.stay there),
+    ))
     c.set.ensures.rows c.set.ensures.labels).0
 
 pub emit_lines-loop-i-init : goal.emit_lines-loop-i-init
@@ -222,7 +224,7 @@ emit_stmt-returns-in_ok-value-in-Switch t c tree f is_open points lines rest con
     (switch_test tree f (grown ++ own ∷ []) e arms last lines c.args.line rest c.in_ok-value-in-Switch.value c.in_ok-cases-in-Switch.cases.items c.in_ok-otherwise-in-Switch.otherwise
     (stands_here _ _ _ _ context.names c.in_ok-value-in-Switch.ensures)
     (λ n. second.goes (grown ++ own ∷ []) n c.in_ok-otherwise-in-Switch.otherwise (default_body last) (stay_push grown own)
-      (goes_push tree first.grows.grown grown own c.in_ok-otherwise-in-Switch.otherwise (runs (default_body last) inside) second.grows.stay first.goes)))
+    (goes_push tree first.grows.grown grown own c.in_ok-otherwise-in-Switch.otherwise (runs (default_body last) inside) second.grows.stay first.goes)))
     c.push-in-Switch.ensures.point c.push-in-Switch.ensures.rows c.push-in-Switch.ensures.labels)
 
 pub emit_stmt-returns-in-Break : goal.emit_stmt-returns-in-Break
@@ -306,9 +308,9 @@ emit_forever-returns t c tree f is_open points rest context are goes =
     (λ word. from_label word body turn) turn c.in_ok-turn.turn c.in_ok-first.first (runs body turn) _ _
     c.in_ok-turn.ensures.point are c.in_ok-turn.ensures.rows c.in_ok-turn.ensures.labels
     (λ opened own.
-      let there = goes_stay tree points (points ++ turn ∷ []) c.args.next rest (stay_push points turn) goes in
-      let one = c.in_ok-first.ensures tree f _ (points ++ turn ∷ []) turn context opened (record { next = own; on_break = there; on_continue = own }) in
-      (one, record { to = runs body turn; goes = one.goes; does = λ s. refl }))
+    let there = goes_stay tree points (points ++ turn ∷ []) c.args.next rest (stay_push points turn) goes in
+    let one = c.in_ok-first.ensures tree f _ (points ++ turn ∷ []) turn context opened (record { next = own; on_break = there; on_continue = own }) in
+    (one, record { to = runs body turn; goes = one.goes; does = λ s. refl }))
     c.set.ensures.rows c.set.ensures.labels in
     record { grows = all.0.grows; goes = all.1 }
 

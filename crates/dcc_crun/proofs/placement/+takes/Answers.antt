@@ -24,9 +24,9 @@ default_takes-returns-in-Some t c =
     c.lines_take.ensures
     ∙ sym (or-false (lines_take name (lines_of c.deref.result.now)))
     ∙ ap (arms_take name)
-      (ap (λ (ls : List Line). arm (out-Arm c.in-Some.arm).cases.items (lines_of ls) no_arms) c.deref.ensures.value
-      ∙ sym (arm-parts c.in-Some.arm no_arms)
-      ∙ ap arms_if (sym c.in-Some.is))
+    (ap (λ (ls : List Line). arm (out-Arm c.in-Some.arm).cases.items (lines_of ls) no_arms) c.deref.ensures.value
+    ∙ sym (arm-parts c.in-Some.arm no_arms)
+    ∙ ap arms_if (sym c.in-Some.is))
 
 -- the arm at this place, before those behind it
 arm_step : (name : Word) (arms : List Arm) (i : ℕ) (a : Arm) (b : Bool) → i < length arms → a ≡ get_or arms i a →
@@ -43,14 +43,14 @@ arms_take-returns-then-lines_take t c =
     let name = c.args.name.now in
     sym (c.loop-arm.invariant
     ∙ arm_step name c.args.arms.now c.loop-arm.arm-index c.arm-item.result true (omega arith) c.arm-item.is
-      (ap (λ ls. lines_take name (lines_of ls)) (sym c.deref.ensures.value) ∙ sym c.lines_take.ensures ∙ c.if-lines_take.true))
+    (ap (λ ls. lines_take name (lines_of ls)) (sym c.deref.ensures.value) ∙ sym c.lines_take.ensures ∙ c.if-lines_take.true))
 
 pub arms_take-loop-arm-preserved : goal.arms_take-loop-arm-preserved
 arms_take-loop-arm-preserved t c =
     let name = c.args.name.now in
     c.loop-arm.invariant
     ∙ arm_step name c.args.arms.now c.loop-arm.arm-index c.arm-item.result false (omega arith) c.arm-item.is
-      (ap (λ ls. lines_take name (lines_of ls)) (sym c.deref.ensures.value) ∙ sym c.lines_take.ensures ∙ c.if-lines_take.false)
+    (ap (λ ls. lines_take name (lines_of ls)) (sym c.deref.ensures.value) ∙ sym c.lines_take.ensures ∙ c.if-lines_take.false)
 
 pub stmt_takes-returns-else-option_takes : goal.stmt_takes-returns-else-option_takes
 stmt_takes-returns-else-option_takes t c =

@@ -19,7 +19,7 @@ returns c tree context rows labels =
     let made = c.emit_lines.ensures tree f none_open points (ends_function c.args.function.now.last) context one.grows.rows (body_leads tree points c.in_ok-close.close c.args.function.now.last one.goes) in
     IfOk-weaker c.emit_lines.result _ (IsBody tree f c.emit_lines.new.code)
     (λ at emits.
-      body_is tree f c.args.code.now c.push.new.self c.emit_lines.new.code at points labels c.in_ok-close.ensures.labels
-      (subst (λ (body : Lines). Emits tree f none_open points c.push.new.self c.emit_lines.new.code (λ word. from_label word body (ends_function c.args.function.now.last)) at (runs body (ends_function c.args.function.now.last)))
-      (ap lines_of c.deref.ensures.value) emits))
+    body_is tree f c.args.code.now c.push.new.self c.emit_lines.new.code at points labels c.in_ok-close.ensures.labels
+    (subst (λ (body : Lines). Emits tree f none_open points c.push.new.self c.emit_lines.new.code (λ word. from_label word body (ends_function c.args.function.now.last)) at (runs body (ends_function c.args.function.now.last)))
+    (ap lines_of c.deref.ensures.value) emits))
     made

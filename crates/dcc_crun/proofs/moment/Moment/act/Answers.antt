@@ -19,14 +19,14 @@ returns-in_err-assign-in-Assign c tree points s now line other call =
     stays_err tree points line c.from_residual.result c.assign.new.self s now why c.from_residual.ensures.1
     (assigned c.args.program.now c.args.procedure.now line c.args.action.now c.args.self.now c.assign.new.self tree points s now c.in-Assign.place c.in-Assign.e c.in-Assign.next (Err why) call c.in-Assign.is
     (λ t place_expr expr globals state place_stands stands.
-      c.in_err-assign-in-Assign.ensures.state tree points t place_expr expr line (subst (AreGlobals tree) (sym c.deref.ensures.value) globals) state place_stands stands)
+    c.in_err-assign-in-Assign.ensures.state tree points t place_expr expr line (subst (AreGlobals tree) (sym c.deref.ensures.value) globals) state place_stands stands)
     c.assign.ensures.at)
 
 pub returns-in_ok-assign-in-Assign : goal.returns-in_ok-assign-in-Assign
 returns-in_ok-assign-in-Assign c tree points s now line other call =
     assigned c.args.program.now c.args.procedure.now line c.args.action.now c.args.self.now c.assign.new.self tree points s now c.in-Assign.place c.in-Assign.e c.in-Assign.next (Ok tt) call c.in-Assign.is
     (λ t place_expr expr globals state place_stands stands.
-      c.in_ok-assign-in-Assign.ensures.state tree points t place_expr expr line (subst (AreGlobals tree) (sym c.deref.ensures.value) globals) state place_stands stands)
+    c.in_ok-assign-in-Assign.ensures.state tree points t place_expr expr line (subst (AreGlobals tree) (sym c.deref.ensures.value) globals) state place_stands stands)
     c.assign.ensures.at
 
 pub returns-in_err-self-in-Test : goal.returns-in_err-self-in-Test
@@ -75,4 +75,4 @@ pub returns-in_ok-give-in-Return : goal.returns-in_ok-give-in-Return
 returns-in_ok-give-in-Return c tree points s now line other call =
     returned c.args.program.now c.args.procedure.now line c.args.action.now c.args.self.now c.give.new.self tree points s now c.in-Return.e call c.in-Return.is
     (λ t expr globals state procedure stands.
-      c.in_ok-give-in-Return.ensures tree points t expr line (subst (AreGlobals tree) (sym c.deref-in-Return.ensures.value) globals) state procedure stands)
+    c.in_ok-give-in-Return.ensures tree points t expr line (subst (AreGlobals tree) (sym c.deref-in-Return.ensures.value) globals) state procedure stands)

@@ -13,17 +13,17 @@ pub returns-then-number-len-clause-made : goal.returns-then-number-len-clause-ma
 returns-then-number-len-clause-made g c =
     does_never _ _ _ _
     (λ tree points s now call.
-      no_procedure c.args.program.now c.args.self.now tree points s now call
-      (omega (arith, c.args.program.now.procedures.ok.0, c.len.ensures, c.if-number-len.true)))
+    no_procedure c.args.program.now c.args.self.now tree points s now call
+    (omega (arith, c.args.program.now.procedures.ok.0, c.len.ensures, c.if-number-len.true)))
 
 pub returns-then-at-len-clause-made : goal.returns-then-at-len-clause-made
 returns-then-at-len-clause-made g c =
     let procedure = c.index-procedure.result.now in
     does_never _ _ _ _
     (λ tree points s now call.
-      no_row c.args.program.now c.args.self.now procedure tree points s now call c.index-procedure.ensures
-      (omega (arith, c.args.program.now.procedures.ok.0, c.len.ensures, c.if-number-len.false))
-      (omega (arith, procedure.rows.ok.0, c.len-2.ensures, c.if-at-len.true)))
+    no_row c.args.program.now c.args.self.now procedure tree points s now call c.index-procedure.ensures
+    (omega (arith, c.args.program.now.procedures.ok.0, c.len.ensures, c.if-number-len.false))
+    (omega (arith, procedure.rows.ok.0, c.len-2.ensures, c.if-at-len.true)))
 
 pub returns-in-Ok-clause-made : goal.returns-in-Ok-clause-made
 returns-in-Ok-clause-made g c =

@@ -21,8 +21,8 @@ returns-in_err-target-clause-comes g c line =
     let scene = c.scene.ensures ∙ ap (scene_in c.args.self.now) c.deref.ensures.value in
     comes_err line c.from_residual.result _ _ _ _ c.in_err-target.field-0.0 c.from_residual.ensures.1
     (λ tree points s now call.
-      target_ended c.args.self.now c.args.program.now c.args.row.now line tree points s now call c.in_err-target.field-0.0
-      (target_place c.args.self.now c.args.program.now c.args.row.now line tree points s now call (scene_of c.scene.result) (Err c.in_err-target.field-0.0) scene c.in_err-target.ensures.value))
+    target_ended c.args.self.now c.args.program.now c.args.row.now line tree points s now call c.in_err-target.field-0.0
+    (target_place c.args.self.now c.args.program.now c.args.row.now line tree points s now call (scene_of c.scene.result) (Err c.in_err-target.field-0.0) scene c.in_err-target.ensures.value))
 
 pub returns-in_err-dos-in-Dos-clause-comes : goal.returns-in_err-dos-in-Dos-clause-comes
 returns-in_err-dos-in-Dos-clause-comes g c line =

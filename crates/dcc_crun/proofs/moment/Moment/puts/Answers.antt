@@ -18,9 +18,9 @@ pub returns-in_err-v-clause-comes : goal.returns-in_err-v-clause-comes
 returns-in_err-v-clause-comes g c line left =
     comes_err line c.from_residual.result _ _ left _ c.in_err-v.field-0.0 c.from_residual.ensures.1
     (λ tree points s now call.
-      call_ended {points = points} c.args.globals.now c.args.self.now Puts c.args.target c.args.arguments.now line tree s now c.in_err-v.field-0.0 call
-      (sym (argument_is {points = points} c.args.globals.now c.args.self.now Puts c.args.target c.args.arguments.now line tree s now c.plain.result _ (Err c.in_err-v.field-0.0) call c.scene.ensures c.in_err-v.ensures.value
-      ∙ ap (λ (t : CType). arguments_of (scope_of tree s) (t ∷ []) call.exprs) c.plain.ensures)))
+    call_ended {points = points} c.args.globals.now c.args.self.now Puts c.args.target c.args.arguments.now line tree s now c.in_err-v.field-0.0 call
+    (sym (argument_is {points = points} c.args.globals.now c.args.self.now Puts c.args.target c.args.arguments.now line tree s now c.plain.result _ (Err c.in_err-v.field-0.0) call c.scene.ensures c.in_err-v.ensures.value
+    ∙ ap (λ (t : CType). arguments_of (scope_of tree s) (t ∷ []) call.exprs) c.plain.ensures)))
 
 pub returns-then-is_some-clause-comes : goal.returns-then-is_some-clause-comes
 returns-then-is_some-clause-comes g c line left = record {
@@ -41,26 +41,26 @@ pub returns-in_default-clause-comes : goal.returns-in_default-clause-comes
 returns-in_default-clause-comes g c line left =
     let writes : (tree : Tree) (points : ℕ → List Continuation) (s now : State) → CallsDos c.args.self.now c.args.globals.now Puts c.args.target c.args.arguments.now line tree points s now → now ≡ record s { out = s.out ++ (string_at c.deref.result.now c.in_ok-v.v.bits) } =
     λ tree points s now call.
-      let named = target_named (locals_declared s.frame.function) in
-      let given = sym (argument_is {points = points} c.args.globals.now c.args.self.now Puts c.args.target c.args.arguments.now line tree s now c.plain.result _ (Ok c.in_ok-v.v) call c.scene.ensures c.in_ok-v.ensures.value
-      ∙ ap (λ (t : CType). arguments_of (scope_of tree s) (t ∷ []) call.exprs) c.plain.ensures) in
-      let flag : is_some c.args.target ≡ false = cc in
-      let none = not_some c.args.target flag in
-      call_goes {points = points} c.args.globals.now c.args.self.now Puts c.args.target c.args.arguments.now line tree s now (typed c.in_ok-v.v ∷ []) call given
-      ∙ ap (λ t. dos_step spec_Puts (option_map named t) (typed c.in_ok-v.v ∷ []) line s) none
-      ∙ ap (λ (l : List ℕ). record s { out = s.out ++ string_at l c.in_ok-v.v.bits }) (sym call.state.memory ∙ sym c.deref.ensures.value) in
+    let named = target_named (locals_declared s.frame.function) in
+    let given = sym (argument_is {points = points} c.args.globals.now c.args.self.now Puts c.args.target c.args.arguments.now line tree s now c.plain.result _ (Ok c.in_ok-v.v) call c.scene.ensures c.in_ok-v.ensures.value
+    ∙ ap (λ (t : CType). arguments_of (scope_of tree s) (t ∷ []) call.exprs) c.plain.ensures) in
+    let flag : is_some c.args.target ≡ false = cc in
+    let none = not_some c.args.target flag in
+    call_goes {points = points} c.args.globals.now c.args.self.now Puts c.args.target c.args.arguments.now line tree s now (typed c.in_ok-v.v ∷ []) call given
+    ∙ ap (λ t. dos_step spec_Puts (option_map named t) (typed c.in_ok-v.v ∷ []) line s) none
+    ∙ ap (λ (l : List ℕ). record s { out = s.out ++ string_at l c.in_ok-v.v.bits }) (sym call.state.memory ∙ sym c.deref.ensures.value) in
     dos_unwritten c.args.globals.now c.args.self.now Puts c.args.target c.args.arguments.now line (string_at c.deref.result.now c.in_ok-v.v.bits) left _ _ writes c.in_default.ensures.part
 
 pub returns-clause-comes : goal.returns-clause-comes
 returns-clause-comes g c line left =
     let writes : (tree : Tree) (points : ℕ → List Continuation) (s now : State) → CallsDos c.args.self.now c.args.globals.now Puts c.args.target c.args.arguments.now line tree points s now → now ≡ record s { out = s.out ++ (string_at c.deref.result.now c.in_ok-v.v.bits) } =
     λ tree points s now call.
-      let named = target_named (locals_declared s.frame.function) in
-      let given = sym (argument_is {points = points} c.args.globals.now c.args.self.now Puts c.args.target c.args.arguments.now line tree s now c.plain.result _ (Ok c.in_ok-v.v) call c.scene.ensures c.in_ok-v.ensures.value
-      ∙ ap (λ (t : CType). arguments_of (scope_of tree s) (t ∷ []) call.exprs) c.plain.ensures) in
-      let flag : is_some c.args.target ≡ false = cc in
-      let none = not_some c.args.target flag in
-      call_goes {points = points} c.args.globals.now c.args.self.now Puts c.args.target c.args.arguments.now line tree s now (typed c.in_ok-v.v ∷ []) call given
-      ∙ ap (λ t. dos_step spec_Puts (option_map named t) (typed c.in_ok-v.v ∷ []) line s) none
-      ∙ ap (λ (l : List ℕ). record s { out = s.out ++ string_at l c.in_ok-v.v.bits }) (sym call.state.memory ∙ sym c.deref.ensures.value) in
+    let named = target_named (locals_declared s.frame.function) in
+    let given = sym (argument_is {points = points} c.args.globals.now c.args.self.now Puts c.args.target c.args.arguments.now line tree s now c.plain.result _ (Ok c.in_ok-v.v) call c.scene.ensures c.in_ok-v.ensures.value
+    ∙ ap (λ (t : CType). arguments_of (scope_of tree s) (t ∷ []) call.exprs) c.plain.ensures) in
+    let flag : is_some c.args.target ≡ false = cc in
+    let none = not_some c.args.target flag in
+    call_goes {points = points} c.args.globals.now c.args.self.now Puts c.args.target c.args.arguments.now line tree s now (typed c.in_ok-v.v ∷ []) call given
+    ∙ ap (λ t. dos_step spec_Puts (option_map named t) (typed c.in_ok-v.v ∷ []) line s) none
+    ∙ ap (λ (l : List ℕ). record s { out = s.out ++ string_at l c.in_ok-v.v.bits }) (sym call.state.memory ∙ sym c.deref.ensures.value) in
     dos_writes c.args.globals.now c.args.self.now Puts c.args.target c.args.arguments.now line (string_at c.deref.result.now c.in_ok-v.v.bits) left _ _ writes c.in-Ok.ensures.whole
