@@ -2,13 +2,22 @@
 use Rattle.std.proofs.Common.{◌≡◌, ℕ, ◌+◌, ◌-◌, ◌*◌, ◌%◌, ◌<◌, ◌≤◌, Bool, true, false, List, [], ◌∷◌, ◌++◌, length, map, drop, get_or, Option, Some, None, refl, sym, ap, ◌∙◌, append_assoc, arith}
 use Rattle.std.specs.Prelude.{◌||◌, is_some, if◌then◌else◌}
 use Rattle.std.proofs.lemmas.List.{append-nil, map-append, at_drop_more, drop_all}
+use Rattle.dcc_c.specs.declared.syntax.CType.{CType}
 use Rattle.dcc_c.specs.declared.syntax.Var.{Var}
 use Rattle.dcc_c.specs.Tree.{Lines, Variable as DeclaredVariable}
 use Rattle.dcc_c.specs.Placement.{param_places, local_places, is_register, is_auto, wants_place, bytes_of, below}
 use Rattle.dcc_c.specs.Views.{variable_of}
 use Rattle.dcc_crun.specs.declared.program.Variable.{Variable}
 use Rattle.dcc_crun.specs.Placing.{ArePlaced}
-use Rattle.dcc_crun.specs.Standing.{AreVariables, place_in, kind_of, declared_kind}
+use Rattle.dcc_crun.specs.Standing.{AreVariables, Kind, place_in, kind_of, declared_kind}
+
+-- the type that the variable is declared with
+kind_with : CType → Bool → Kind
+kind_with type is_array = record { type = type; is_array = is_array }
+
+pub same_kind : (x : Variable) (v : DeclaredVariable) → x.ty ≡ v.type → x.is_array ≡ is_some v.len → kind_of x ≡ declared_kind v
+unfolding kind_with
+same_kind x v type is_array = ap (λ t. kind_with t x.is_array) type ∙ ap (kind_with v.type) is_array
 
 -- one more variable has its place
 pub place-step : (declared left : List DeclaredVariable) (v : DeclaredVariable) (places_of : ℕ → List (Option ℕ))

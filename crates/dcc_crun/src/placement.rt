@@ -1,10 +1,10 @@
 //! Where the parameters and the local variables of a function stand.
 
-ghost use Rattle.std.specs.Prelude.{◌≡◌, ◌%◌, ◌*◌, ℕ, ◌+◌, map, option_map, is_some, false, IfOk};
+ghost use Rattle.std.specs.Prelude.{◌≡◌, ◌%◌, ◌*◌, ℕ, ◌+◌, ◌||◌, map, option_map, is_some, false, IfOk};
 ghost use Rattle.std.specs.List.{list_any};
 ghost use Rattle.dcc_c.specs.declared.syntax.CUn.TheVariants.{AddressOf};
 ghost use Rattle.dcc_c.specs.Tree.{Unary};
-ghost use Rattle.dcc_c.specs.Placement.{is_address_of, bytes_of, param_places, local_places};
+ghost use Rattle.dcc_c.specs.Placement.{is_address_of, is_auto, is_register, wants_place, bytes_of, param_places, local_places};
 ghost use Rattle.dcc_c.specs.Views.{expr_of, stmt_of, lines_of, arms_of, variable_of};
 ghost use Rattle.dcc_crun.specs.Emission.{arms_if};
 ghost use Rattle.dcc_crun.specs.Standing.{AreVariables};
@@ -154,14 +154,14 @@ fn param_of(body: &[Line], param: &Var, placed: bool, offset: u16) -> NextParam
     ensures { (number : ℕ) → offset ≡ (2 * number) % 65536 →
         IsNextParam (lines_of body.now) (variable_of param.now) placed number result }
 {
-    if param.class == Class::Register {
+    if is_register(param.class) {
         return NextParam {
             variable: variable(param, None),
             placed,
             offset,
         };
     }
-    if placed || param.class == Class::Auto || lines_take(body, param.name.as_str()) {
+    if needs_place(body, param, placed) {
         return NextParam {
             variable: variable(param, Some(offset)),
             placed: true,
@@ -175,6 +175,27 @@ fn param_of(body: &[Line], param: &Var, placed: bool, offset: u16) -> NextParam
     }
 }
 
+/// Whether the parameter is no stack argument.
+fn is_register(class: Class) -> bool
+    ensures { result ≡ is_register class }
+{
+    class == Class::Register
+}
+
+/// Whether a variable of this class is in memory in any case.
+fn is_auto(class: Class) -> bool
+    ensures { result ≡ is_auto class }
+{
+    class == Class::Auto
+}
+
+/// Whether the parameter, behind others of which one may have its place, is in memory.
+fn needs_place(body: &[Line], param: &Var, placed: bool) -> bool
+    ensures { result ≡ (placed || wants_place (lines_of body.now) (variable_of param.now)) }
+{
+    placed || (is_auto(param.class) || lines_take(body, param.name.as_str()))
+}
+
 /// The local variables of a function: `auto` ones stand below the base and four bytes, each below the one before.
 pub(crate) fn locals_of(alloc: Global, locals: &[Var]) -> Result<Vec<Variable>, AllocError>
     ensures { IfOk result (λ variables. AreVariables (map variable_of locals.now)
@@ -183,7 +204,7 @@ pub(crate) fn locals_of(alloc: Global, locals: &[Var]) -> Result<Vec<Variable>, 
     let mut variables = Vec::new(alloc);
     let mut used = 4u16;
     for local in locals {
-        if local.class == Class::Auto {
+        if is_auto(local.class) {
             used = used.wrapping_add(bytes_of(local));
             variables.push(variable(local, Some(0u16.wrapping_sub(used))))?;
         } else {
