@@ -26,3 +26,4 @@ pub mod StandingLaws
 pub mod StartLaws
 pub mod PrepareLaws
 pub mod PlacementLaws
+pub mod ProgramLaws

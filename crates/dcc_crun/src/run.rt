@@ -1,6 +1,6 @@
 //! The run of a text.
 
-ghost use Rattle.std.specs.Prelude.{◌≡◌, ◌≤◌, ℕ, List, ◌∷◌, IfOk};
+ghost use Rattle.std.specs.Prelude.{◌≡◌, ◌≤◌, ℕ, List, [], ◌∷◌, IfOk};
 ghost use Rattle.dcc_io.specs.Count.{Rose};
 ghost use Rattle.dcc_c.specs.Tree.{Function};
 ghost use Rattle.dcc_c.specs.Run.{first_state};
@@ -29,10 +29,11 @@ pub struct CRun {
 }
 
 impl CRun {
-    /// The run of a text from its first function on. Variables and the stack hold the fill before they have a value.
+    /// The run of a text from its first function on, which has no parameters. Variables and the stack hold the fill
+    /// before they have a value.
     pub fn new(alloc: Global, unit: &Unit, fill: u16) -> Result<CRun, AllocError>
         ensures { IfOk result (λ run. (start : Function) (others : List Function) (input : List ℕ) →
-            (tree_of unit.now).functions ≡ start ∷ others →
+            (tree_of unit.now).functions ≡ start ∷ others → start.params ≡ [] →
             StandsAt (tree_of unit.now) run (first_state (tree_of unit.now) start fill input)) }
     {
         let program = prepare(alloc, unit)?;
