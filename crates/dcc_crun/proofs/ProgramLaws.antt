@@ -1,5 +1,5 @@
 -- How the functions of a text become those of a program, and how its run begins.
-use Rattle.std.proofs.Common.{◌≡◌, ℕ, zero, suc, ◌+◌, List, [], ◌∷◌, ◌++◌, length, map, Some, refl, sym, ap, ◌∙◌, subst}
+use Rattle.std.proofs.Common.{◌≡◌, ℕ, zero, suc, ◌+◌, List, [], ◌∷◌, ◌++◌, length, map, None, Some, refl, sym, ap, ◌∙◌, subst}
 use Rattle.std.specs.Prelude.{slice_get}
 use Rattle.dcc_c.specs.declared.syntax.Global_.{Global_}
 use Rattle.dcc_c.specs.Tree.{Function, Tree}
@@ -67,6 +67,16 @@ program_is tree program are globals = record {
       let at = prepared_at tree tree.functions program.procedures.items are number f is in
       record { procedure = at.procedure; here = at.here; is = at.is };
 }
+
+-- the program has a first procedure
+pub no_first : (tree : Tree) (points : ℕ → List Continuation) (program : Program) (start : Function) (others : List Function) →
+    IsProgram tree points program → tree.functions ≡ start ∷ others → slice_get program.procedures.items 0 ≡ None → ⊥
+no_first tree points program start others program_is first none =
+    let has : HasProcedure tree start (points 0) program 0 = program_is.procedures 0 start (ap (λ fs. slice_get fs 0) first) in
+    is_none has.procedure (sym none ∙ has.here)
+  where
+    is_none : (p : Procedure) → None ≡ Some p → ⊥
+    is_none p e = cc
 
 -- what the interpreter does at the start
 pub record Opens (tree : Tree) (m : Moment) (procedure : Procedure) (fill : ℕ) : Type 0 where
