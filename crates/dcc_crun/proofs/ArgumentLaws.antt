@@ -1,13 +1,13 @@
 -- The values of the arguments of a call.
-use Rattle.std.proofs.Common.{◌≡◌, ℕ, zero, suc, ◌+◌, ◌<◌, ◌≤◌, List, [], ◌∷◌, ◌++◌, length, map, drop, get_or, Option, Some, None, refl, sym, ap, ◌∙◌, subst, append_assoc, arith}
+use Rattle.std.proofs.Common.{◌≡◌, ℕ, zero, suc, ◌+◌, ◌<◌, ◌≤◌, List, [], ◌∷◌, ◌++◌, length, map, drop, get_or, refl, sym, ap, ◌∙◌, subst, append_assoc, arith}
 use Rattle.std.specs.Prelude.{Result, Ok, Err, Vec}
 use Rattle.std.specs.Global.{Global}
 use Rattle.std.specs.Result.{IsErrAnd}
 use Rattle.std.proofs.lemmas.List.{at_drop_more, drop_all, length-drop}
 use Rattle.dcc_c.specs.declared.syntax.CType.{CType}
-use Rattle.dcc_c.specs.Tree.{Expr, Function}
+use Rattle.dcc_c.specs.Tree.{Expr}
 use Rattle.dcc_c.specs.Value.{Value, converted, Outcome, Gives, Divides, Undefined, and_then, value_of, Scope}
-use Rattle.dcc_c.specs.Run.{arguments_of, param_types}
+use Rattle.dcc_c.specs.Run.{arguments_of}
 use Rattle.dcc_crun.specs.declared.value.Value.{Value as Held}
 use Rattle.dcc_crun.specs.declared.value.NoValue.{NoValue}
 use Rattle.dcc_crun.specs.declared.value.NoValue.TheVariants.{Divides as Faults, Undefined as Meaningless}
@@ -16,7 +16,7 @@ use Rattle.dcc_crun.specs.declared.expression.Resolved.{Resolved}
 use Rattle.dcc_crun.specs.declared.program.Variable.{Variable}
 use Rattle.dcc_crun.specs.Evaluation.{nothing_of}
 use Rattle.dcc_crun.specs.Ending.{stop_of}
-use Rattle.dcc_crun.specs.Resolved.{Names, Scene, Fits, Stands, scope_over, evaluated}
+use Rattle.dcc_crun.specs.Resolved.{Names, Scene, Fits, scope_over, evaluated}
 use Rattle.dcc_crun.specs.Points.{StandAll}
 use Rattle.dcc_crun.specs.Doing.{resolved_arguments, ArgumentsAre}
 

@@ -1,8 +1,7 @@
 -- The variables and the memory of a call that begins are those of the text.
-use Rattle.std.proofs.Common.{◌≡◌, ℕ, suc, ◌+◌, ◌%◌, Bool, true, false, List, [], ◌∷◌, ◌++◌, length, map, Option, Some, None, refl, sym, ap, ◌∙◌, subst, arith}
+use Rattle.std.proofs.Common.{◌≡◌, ℕ, suc, ◌+◌, ◌%◌, Bool, List, [], ◌∷◌, ◌++◌, length, map, Option, Some, None, refl, sym, ap, ◌∙◌, subst, arith}
 use Rattle.std.specs.Prelude.{option_map, is_some}
-use Rattle.std.proofs.lemmas.List.{map-append, length-map}
-use Rattle.dcc_c.specs.declared.syntax.CType.{CType}
+use Rattle.std.proofs.lemmas.List.{map-append}
 use Rattle.dcc_c.specs.declared.syntax.Base.TheVariants.{Int}
 use Rattle.dcc_c.specs.Types.{size_of}
 use Rattle.dcc_c.specs.Memory.{store}

@@ -1,12 +1,12 @@
 -- Calls, by what is called.
-use Rattle.std.proofs.Common.{◌≡◌, ℕ, List, [], ◌∷◌, Option, Some, None, refl, sym, ap, ◌∙◌, subst}
-use Rattle.std.specs.Prelude.{Result, Ok, Err, option_map, slice_get, IfOk}
+use Rattle.std.proofs.Common.{◌≡◌, ℕ, List, Option, Some, refl, sym, ap, ◌∙◌, subst}
+use Rattle.std.specs.Prelude.{Result, Ok, Err, option_map}
 use Rattle.std.specs.Result.{IsErrAnd}
 use Rattle.dcc_run.specs.End.{Stuck as stuck}
-use Rattle.dcc_c.specs.Tree.{Word, Expr, Function, Tree}
-use Rattle.dcc_c.specs.Value.{Outcome, Gives, Target}
+use Rattle.dcc_c.specs.Tree.{Expr, Function, Tree}
+use Rattle.dcc_c.specs.Value.{Gives, Target}
 use Rattle.dcc_c.specs.Dos.{Dos, dos_of}
-use Rattle.dcc_c.specs.Run.{Continuation, State, on, scope_of, result_target, function_in, call_step, dos_or_call_step}
+use Rattle.dcc_c.specs.Run.{Continuation, State, scope_of, result_target, call_step, dos_or_call_step}
 use Rattle.dcc_crun.specs.declared.value.NoValue.{NoValue}
 use Rattle.dcc_crun.specs.declared.expression.Target.{Target as Place}
 use Rattle.dcc_crun.specs.declared.ending.Stop.{Stop}
@@ -24,7 +24,7 @@ use Rattle.dcc_crun.specs.declared.moment.Moment.{Moment}
 use Rattle.dcc_crun.specs.Evaluation.{nothing_of, outcome_of}
 use Rattle.dcc_crun.specs.Resolved.{Names, Scene, Fits, scope_over, target_named}
 use Rattle.dcc_crun.specs.Points.{Goes, locals_declared, StandsIf, StandAll, IsCallee, dos_call}
-use Rattle.dcc_crun.specs.Standing.{IsTargetIf, IsRunning, IsMoment}
+use Rattle.dcc_crun.specs.Standing.{IsTargetIf}
 use Rattle.dcc_crun.specs.Doing.{Operation, AreGlobals, scene_in, names_at, end_at, IsEnded, StepsAside, Halts, ComesTo, Kept, Stood, CallsDos, CallsFunction, CallsAny, IsNoCall}
 use Rattle.dcc_crun.proofs.MomentLaws.{fits_here, scope_here, ended, goes_further}
 use Rattle.dcc_crun.proofs.ActLaws.{moved, running_moved}

@@ -1,16 +1,11 @@
 -- How operations are made of others.
-use Rattle.std.proofs.Common.{◌≡◌, ◌≢◌, ℕ, ◌<◌, ◌≤◌, Bool, true, false, List, [], ◌∷◌, ◌++◌, length, get_or, map, Option, Some, None, refl, sym, ap, ◌∙◌, subst, arith}
-use Rattle.std.specs.Prelude.{if◌then◌else◌, Result, Ok, Err, option_map, slice_get}
-use Rattle.std.proofs.lemmas.List.{append-nil}
-use Rattle.std.proofs.lemmas.Option.{slice_get_within, slice_get_read, slice_get_past}
-use Rattle.dcc_run.specs.End.{End, Running as running, Divide as divided, Stuck as stuck, is_over}
-use Rattle.dcc_io.specs.Told.{append_told, prepend_told, AppendsProperPrefix}
-use Rattle.dcc_io.proofs.ToldLemmas.{append_told-nil, prepend_told-nil}
-use Rattle.dcc_c.specs.Tree.{Expr, Function, Tree}
-use Rattle.dcc_c.specs.Value.{Outcome, Gives, Undefined}
+use Rattle.std.proofs.Common.{◌≡◌, ◌≢◌, ℕ, ◌<◌, ◌≤◌, true, false, List, [], ◌∷◌, ◌++◌, length, get_or, Option, Some, refl, sym, ap, ◌∙◌, subst, arith}
+use Rattle.std.specs.Prelude.{Result, Ok, Err, option_map, slice_get}
+use Rattle.std.proofs.lemmas.Option.{slice_get_within, slice_get_read}
+use Rattle.dcc_run.specs.End.{End, Running as running, Divide as divided, Stuck as stuck}
+use Rattle.dcc_c.specs.Tree.{Expr, Tree}
 use Rattle.dcc_c.specs.Dos.{Getche, Getch}
-use Rattle.dcc_c.specs.Run.{Continuation, State, goes_on, on, step_at, step, scope_of, arguments_of, key_step, dos_step}
-use Rattle.dcc_crun.specs.declared.value.NoValue.{NoValue}
+use Rattle.dcc_c.specs.Run.{Continuation, State, goes_on, on, scope_of, arguments_of, dos_step}
 use Rattle.dcc_crun.specs.declared.variable.Binding.{Binding as Bound}
 use Rattle.dcc_crun.specs.declared.expression.Resolved.{Resolved}
 use Rattle.dcc_crun.specs.declared.expression.Target.{Target as Place}
@@ -18,8 +13,6 @@ use Rattle.dcc_crun.specs.declared.ending.Fault.{Fault}
 use Rattle.dcc_crun.specs.declared.ending.Fault.TheVariants.{Input, Output, Memory}
 use Rattle.dcc_crun.specs.declared.ending.Stop.{Stop}
 use Rattle.dcc_crun.specs.declared.ending.Stop.TheVariants.{Divides as HaltsDividing, Undefined as HaltsUndefined, Refused}
-use Rattle.dcc_crun.specs.declared.ending.Ending.{Ending}
-use Rattle.dcc_crun.specs.declared.program.Dos.{Dos as DosCall}
 use Rattle.dcc_crun.specs.declared.program.Dos.TheVariants.{Getche as calls_getche, Getch as calls_getch}
 use Rattle.dcc_crun.specs.declared.program.CallRow.{CallRow}
 use Rattle.dcc_crun.specs.declared.program.Action.{Action}
@@ -30,11 +23,10 @@ use Rattle.dcc_crun.specs.declared.program.Program.{Program}
 use Rattle.dcc_crun.specs.declared.moment.Moment.{Moment}
 use Rattle.dcc_crun.specs.Ending.{end_of}
 use Rattle.dcc_crun.specs.Resolved.{Names, target_named}
-use Rattle.dcc_crun.specs.Points.{Goes, locals_declared, StandAll, IsCall, Acts}
-use Rattle.dcc_crun.specs.Standing.{none_open, IsProcedure, HasProcedure, IsProgram, IsRunning, IsGoing, IsMoment}
-use Rattle.dcc_crun.specs.Stepped.{told_bytes}
-use Rattle.dcc_crun.specs.Doing.{Operation, names_at, IsQuiet, end_at, IsKept, IsStood, IsEnded, StepsAside, Does, CannotRead, CannotWrite, CannotGrow, Halts, Refuses, ComesTo, Kept, Stood, TakesKey, CallsDos, CallsAny, Performs, Steps}
-use Rattle.dcc_crun.proofs.ActLaws.{moved, running_moved, running_on}
+use Rattle.dcc_crun.specs.Points.{locals_declared, StandAll, IsCall, Acts}
+use Rattle.dcc_crun.specs.Standing.{IsProcedure, HasProcedure}
+use Rattle.dcc_crun.specs.Doing.{Operation, names_at, IsKept, IsStood, IsEnded, Does, Halts, Refuses, ComesTo, Kept, Stood, TakesKey, CallsDos, CallsAny, Performs, Steps}
+use Rattle.dcc_crun.proofs.ActLaws.{running_on}
 use Rattle.dcc_crun.proofs.Scenes.{does_quiet}
 
 -- what one operation does from a state another does from a state with the same input and output

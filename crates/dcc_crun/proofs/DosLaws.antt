@@ -1,17 +1,16 @@
 -- What DOS calls do.
-use Rattle.std.proofs.Common.{◌≡◌, ℕ, ◌%◌, Bool, true, false, List, [], ◌∷◌, ◌++◌, map, Option, Some, None, refl, sym, ap, ◌∙◌, subst, arith}
-use Rattle.std.specs.Prelude.{if◌then◌else◌, is_some, option_map, Result, Ok, Err}
+use Rattle.std.proofs.Common.{◌≡◌, ℕ, ◌%◌, Bool, true, false, List, [], ◌∷◌, ◌++◌, Option, Some, None, refl, sym, ap, ◌∙◌, subst, arith}
+use Rattle.std.specs.Prelude.{if◌then◌else◌, is_some, option_map, Result}
 use Rattle.std.proofs.lemmas.List.{append-nil}
-use Rattle.dcc_run.specs.End.{End, Exit, Stuck as stuck}
 use Rattle.dcc_io.specs.Told.{append_told, prepend_told, AppendsProperPrefix}
 use Rattle.dcc_io.proofs.ToldLemmas.{append_told-nil, prepend_told-nil}
 use Rattle.dcc_c.specs.declared.syntax.CType.{CType}
-use Rattle.dcc_c.specs.declared.syntax.Base.TheVariants.{Uchar, Uint}
+use Rattle.dcc_c.specs.declared.syntax.Base.TheVariants.{Uchar}
 use Rattle.dcc_c.specs.Types.{plain}
 use Rattle.dcc_c.specs.Tree.{Expr, Tree}
 use Rattle.dcc_c.specs.Value.{Value, number, converted, Outcome, Gives, Divides, Undefined, and_then, Target, Scope, value_of}
-use Rattle.dcc_c.specs.Dos.{Dos, Putc, Puts, Leave, dos_signature, string_at}
-use Rattle.dcc_c.specs.Run.{Continuation, State, with_end, on, scope_of, takes, result_step, key_step, dos_step, arguments_of}
+use Rattle.dcc_c.specs.Dos.{dos_signature}
+use Rattle.dcc_c.specs.Run.{Continuation, State, scope_of, result_step, key_step, dos_step, arguments_of}
 use Rattle.dcc_crun.specs.declared.value.Value.{Value as Held}
 use Rattle.dcc_crun.specs.declared.value.NoValue.{NoValue}
 use Rattle.dcc_crun.specs.declared.variable.Binding.{Binding as Bound}
@@ -19,12 +18,12 @@ use Rattle.dcc_crun.specs.declared.expression.Resolved.{Resolved}
 use Rattle.dcc_crun.specs.declared.expression.Target.{Target as Place}
 use Rattle.dcc_crun.specs.declared.program.Dos.{Dos as DosCall}
 use Rattle.dcc_crun.specs.declared.moment.Moment.{Moment}
-use Rattle.dcc_crun.specs.Evaluation.{typed, nothing_of, outcome_of}
+use Rattle.dcc_crun.specs.Evaluation.{nothing_of, outcome_of}
 use Rattle.dcc_crun.specs.Resolved.{Names, Scene, Fits, scope_over, target_named}
 use Rattle.dcc_crun.specs.Points.{locals_declared, StandAll, dos_call}
 use Rattle.dcc_crun.specs.Standing.{IsTargetIf, IsRunning}
 use Rattle.dcc_crun.specs.Stepped.{told_bytes}
-use Rattle.dcc_crun.specs.Doing.{scene_in, names_at, IsQuiet, IsEnded, end_at, single, Kept, TakesKey, CallsDos, Does, CannotRead, CannotWrite}
+use Rattle.dcc_crun.specs.Doing.{scene_in, names_at, IsEnded, end_at, single, Kept, TakesKey, CallsDos, Does, CannotRead, CannotWrite}
 use Rattle.dcc_crun.proofs.MomentLaws.{fits_here, scope_here, ended, goes_further, takes-quiet, takes-rest}
 
 -- The argument of a call.

@@ -1,5 +1,5 @@
 -- How pieces of code that grow make one piece.
-use Rattle.std.proofs.Common.{◌≡◌, ◌≢◌, ◌⊎◌, ℕ, zero, suc, ◌+◌, ◌<◌, ◌≤◌, Bool, true, false, List, [], ◌∷◌, ◌++◌, length, Option, Some, None, inl, inr, refl, sym, ap, ◌∙◌, subst, arith}
+use Rattle.std.proofs.Common.{◌≡◌, ◌≢◌, ◌⊎◌, ℕ, zero, suc, ◌+◌, Bool, true, false, List, [], ◌∷◌, ◌++◌, length, Option, Some, None, inl, inr, refl, sym, ap, ◌∙◌, subst, arith}
 use Rattle.std.specs.Prelude.{if◌then◌else◌, ◌||◌, ◌==◌, slice_get, slice_set, Result, Ok, Err, IfOk, OnOk}
 use Rattle.std.proofs.lemmas.List.{length_push, length-set}
 use Rattle.std.proofs.lemmas.Bool.{cases_eq}
@@ -9,14 +9,13 @@ use Rattle.dcc_c.specs.Token.{same_bytes}
 use Rattle.dcc_c.specs.Tree.{Word, Function, Tree}
 use Rattle.dcc_c.specs.Run.{Continuation, State, step_at, goes_on, jump_step, first_of}
 use Rattle.dcc_crun.specs.declared.program.Action.{Action}
-use Rattle.dcc_crun.specs.declared.program.Action.TheVariants.{Pass, Stuck}
 use Rattle.dcc_crun.specs.declared.program.Row.{Row}
 use Rattle.dcc_crun.specs.declared.program.Label.{Label}
 use Rattle.dcc_crun.specs.declared.code.Code.{Code}
 use Rattle.dcc_crun.specs.Points.{Goes, MayGo, label_named, point_named, IsPass, IsStuck, Acts, AreRows}
 use Rattle.dcc_crun.specs.Emission.{Stay, KeepNumbers, Relabels, Grows, Emits}
 use Rattle.dcc_crun.proofs.LabelLaws.{same_word, same_self}
-use Rattle.dcc_crun.proofs.PointLaws.{goes_alike, get-last, get-push, some_same, stay_push, stay_all, goes_stay, goes_new, acts_stay, rows_push}
+use Rattle.dcc_crun.proofs.PointLaws.{goes_alike, get-push, some_same, stay_push, stay_all, goes_stay, goes_new, acts_stay, rows_push}
 
 -- Tests.
 

@@ -1,9 +1,9 @@
 -- Laws of the variables and the memory of a call that begins.
-use Rattle.std.proofs.Common.{◌≡◌, ◌⊎◌, ℕ, zero, suc, ◌+◌, ◌<◌, ◌≤◌, min, List, [], ◌∷◌, ◌++◌, length, drop, get_or, inl, inr, refl, sym, ap, ◌∙◌, arith}
+use Rattle.std.proofs.Common.{◌≡◌, ◌⊎◌, ℕ, zero, suc, ◌+◌, ◌<◌, ◌≤◌, min, List, [], ◌∷◌, length, drop, get_or, inl, inr, refl, sym, ap, ◌∙◌, arith}
 use Rattle.std.proofs.lemmas.List.{drop_all, at_drop_more}
 use Rattle.dcc_crun.specs.declared.value.Value.{Value as Held}
 use Rattle.dcc_crun.specs.declared.program.Variable.{Variable}
-use Rattle.dcc_crun.specs.Frames.{holding, params_holding, with_argument, arguments_put}
+use Rattle.dcc_crun.specs.Frames.{params_holding, with_argument, arguments_put}
 
 -- one of two lists has ended
 pub min_end : (a b : ℕ) → (a ≤ min a b) ⊎ (b ≤ min a b)

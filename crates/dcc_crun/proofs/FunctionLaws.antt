@@ -1,21 +1,16 @@
 -- Calls of functions of the text.
-use Rattle.std.proofs.Common.{◌≡◌, ℕ, ◌<◌, ◌≤◌, ◌==◌, true, List, [], ◌∷◌, length, get_or, map, Option, Some, None, refl, sym, ap, ◌∙◌, subst, arith}
-use Rattle.std.specs.Prelude.{Result, Ok, Err, Vec, option_map, slice_get, is_some}
+use Rattle.std.proofs.Common.{◌≡◌, ℕ, ◌<◌, ◌≤◌, ◌==◌, true, List, [], ◌∷◌, length, get_or, map, Option, Some, refl, sym, ap, ◌∙◌, subst, arith}
+use Rattle.std.specs.Prelude.{Result, Ok, Err, option_map, slice_get}
 use Rattle.std.specs.Result.{IsErrAnd}
-use Rattle.std.specs.Global.{Global}
 use Rattle.std.proofs.lemmas.List.{length-map, nil_from_length}
 use Rattle.std.proofs.lemmas.Bool.Decides.{nat_tests}
 use Rattle.std.proofs.lemmas.Option.{slice_get_within, slice_get_read}
 use Rattle.dcc_run.specs.End.{Divide as divided, Stuck as stuck}
-use Rattle.dcc_c.specs.declared.syntax.CType.{CType}
-use Rattle.dcc_c.specs.Tree.{Variable as DeclaredVariable, Function, Tree}
-use Rattle.dcc_c.specs.Value.{Value, Outcome, Gives, Divides, Undefined}
+use Rattle.dcc_c.specs.Tree.{Variable as DeclaredVariable, Tree}
+use Rattle.dcc_c.specs.Value.{Value, Outcome, Gives}
 use Rattle.dcc_c.specs.Run.{Continuation, State, on, scope_of, arguments_of, param_types, enter_step}
 use Rattle.dcc_crun.specs.declared.value.Value.{Value as Held}
-use Rattle.dcc_crun.specs.declared.variable.Binding.{Binding as Bound}
-use Rattle.dcc_crun.specs.declared.expression.Resolved.{Resolved}
 use Rattle.dcc_crun.specs.declared.expression.Target.{Target as Place}
-use Rattle.dcc_crun.specs.declared.ending.Fault.{Fault}
 use Rattle.dcc_crun.specs.declared.ending.Fault.TheVariants.{Input, Output, Memory}
 use Rattle.dcc_crun.specs.declared.ending.Stop.{Stop}
 use Rattle.dcc_crun.specs.declared.ending.Stop.TheVariants.{Divides as HaltsDividing, Undefined as HaltsUndefined, Refused}
@@ -25,11 +20,11 @@ use Rattle.dcc_crun.specs.declared.program.Procedure.{Procedure}
 use Rattle.dcc_crun.specs.declared.program.Program.{Program}
 use Rattle.dcc_crun.specs.declared.moment.Moment.{Moment}
 use Rattle.dcc_crun.specs.Evaluation.{typed}
-use Rattle.dcc_crun.specs.Resolved.{Scene, target_named}
+use Rattle.dcc_crun.specs.Resolved.{target_named}
 use Rattle.dcc_crun.specs.Points.{locals_declared}
 use Rattle.dcc_crun.specs.Standing.{kind_of, declared_kind, Kind, IsProcedure, HasProcedure}
-use Rattle.dcc_crun.specs.Doing.{Operation, scene_in, names_at, resolved_arguments, ArgumentsAre, IsEnded, IsLed, IsStood, ComesTo, Halts, CallsFunction}
-use Rattle.dcc_crun.proofs.MomentLaws.{fits_here, scope_here, ended, goes_further}
+use Rattle.dcc_crun.specs.Doing.{Operation, scene_in, names_at, resolved_arguments, ArgumentsAre, IsEnded, IsLed, IsStood, ComesTo, CallsFunction}
+use Rattle.dcc_crun.proofs.MomentLaws.{fits_here, scope_here, goes_further}
 use Rattle.dcc_crun.proofs.ArgumentLaws.{arguments_are, arguments_length}
 
 zero_from : (n : ℕ) → (n == 0) ≡ true → n ≡ 0

@@ -1,5 +1,5 @@
 -- One byte of a store after another.
-use Rattle.std.proofs.Common.{◌≡◌, ℕ, zero, suc, ◌+◌, ◌-◌, ◌/◌, ◌%◌, ◌<◌, List, refl, ap, set, arith}
+use Rattle.std.proofs.Common.{◌≡◌, ℕ, zero, suc, ◌+◌, ◌/◌, ◌%◌, List, refl, arith}
 use Rattle.std.specs.Prelude.{slice_set}
 use Rattle.dcc_c.specs.Memory.{store}
 

@@ -1,30 +1,26 @@
 -- What a moment stands for, and the scene of its expressions.
-use Rattle.std.proofs.Common.{◌≡◌, ℕ, Bool, true, false, List, [], ◌∷◌, ◌++◌, map, Option, Some, None, refl, sym, ap, ◌∙◌, subst}
-use Rattle.std.specs.Prelude.{if◌then◌else◌, Result, Ok, Err, option_map, slice_get, ◌&&◌}
+use Rattle.std.proofs.Common.{◌≡◌, ℕ, true, List, [], ◌∷◌, ◌++◌, map, refl, sym, ap, ◌∙◌, subst}
+use Rattle.std.specs.Prelude.{slice_get}
 use Rattle.std.specs.List.{list_all}
-use Rattle.std.proofs.lemmas.List.{same_from_push}
-use Rattle.dcc_run.specs.End.{End, Running as running, Divide as divided, Stuck as stuck}
-use Rattle.dcc_c.specs.declared.syntax.CType.{CType}
-use Rattle.dcc_c.specs.Tree.{Word, Expr, Global, Function, Tree}
+use Rattle.dcc_run.specs.End.{End}
+use Rattle.dcc_c.specs.Tree.{Expr, Global, Tree}
 use Rattle.dcc_c.specs.Typing.{Declared}
 use Rattle.dcc_c.specs.Rules.{declared_global}
-use Rattle.dcc_c.specs.Value.{Value, Outcome, Gives, Divides, Undefined, and_then, given, Binding, declared_by, Scope, value_of, target_of, Target, ToVariable, ToMemory}
-use Rattle.dcc_c.specs.Run.{Continuation, State, Waiting as WaitingCall, with_end, goes_on, on, global_binding, scope_of, takes, result_step, back_step, step_at}
+use Rattle.dcc_c.specs.Value.{Value, Outcome, Gives, and_then, Binding, declared_by, Scope, value_of, target_of, Target, ToVariable, ToMemory}
+use Rattle.dcc_c.specs.Run.{Continuation, State, on, global_binding, scope_of, takes}
 use Rattle.dcc_crun.specs.declared.value.NoValue.{NoValue}
 use Rattle.dcc_crun.specs.declared.value.NoValue.TheVariants.{Divides as Faults, Undefined as Meaningless}
 use Rattle.dcc_crun.specs.declared.variable.Binding.{Binding as Bound}
 use Rattle.dcc_crun.specs.declared.expression.Resolved.{Resolved}
 use Rattle.dcc_crun.specs.declared.expression.Target.{Target as Place}
 use Rattle.dcc_crun.specs.declared.expression.Target.TheVariants.{Local as ToLocal, Memory as Into}
-use Rattle.dcc_crun.specs.declared.call.Call.{Call}
-use Rattle.dcc_crun.specs.declared.call.Waiting.{Waiting}
 use Rattle.dcc_crun.specs.declared.moment.Moment.{Moment}
-use Rattle.dcc_crun.specs.Evaluation.{typed, nothing_of, outcome_of, itself, bindings_named}
-use Rattle.dcc_crun.specs.Resolved.{Names, Scene, Fits, Stands, scope_over, evaluated, targeted, target_named, IsTargetIn, LandsIn, variables_after, memory_after}
-use Rattle.dcc_crun.specs.Points.{locals_declared, names_in, Goes}
+use Rattle.dcc_crun.specs.Evaluation.{nothing_of, bindings_named}
+use Rattle.dcc_crun.specs.Resolved.{Fits, Stands, scope_over, evaluated, targeted, target_named, variables_after, memory_after}
+use Rattle.dcc_crun.specs.Points.{locals_declared}
 use Rattle.dcc_crun.specs.Ending.{end_of}
-use Rattle.dcc_crun.specs.Standing.{IsCallOf, IsTargetIf, IsWaiting, AreWaiting, IsRunning, IsGoing, IsMoment}
-use Rattle.dcc_crun.specs.Doing.{scene_in, AreGlobals, names_at, IsQuiet, end_at, IsKept, IsLed, IsEnded, Keeps, Led}
+use Rattle.dcc_crun.specs.Standing.{AreWaiting, IsRunning}
+use Rattle.dcc_crun.specs.Doing.{scene_in, AreGlobals, names_at, IsQuiet, end_at, IsEnded}
 
 -- The scene of expressions.
 

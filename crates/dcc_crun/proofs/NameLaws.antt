@@ -1,9 +1,8 @@
 -- Laws of names and of the places of those that have them.
-use Rattle.std.proofs.Common.{◌≡◌, ℕ, suc, ◌+◌, ◌<◌, Bool, true, false, List, [], ◌∷◌, length, map, drop, get_or, Option, Some, None, refl, sym, ap, ◌∙◌, add-one, drop-cons, arith}
-use Rattle.std.specs.Prelude.{option_map, if◌then◌else◌}
+use Rattle.std.proofs.Common.{◌≡◌, ℕ, suc, ◌+◌, ◌<◌, true, false, List, ◌∷◌, length, map, drop, get_or, Option, Some, None, refl, sym, ap, ◌∙◌, add-one, drop-cons, arith}
+use Rattle.std.specs.Prelude.{option_map}
 use Rattle.dcc_c.specs.Token.{same_bytes}
 use Rattle.dcc_c.specs.Tree.{Word}
-use Rattle.dcc_c.specs.Typing.{Declared}
 use Rattle.dcc_crun.specs.declared.variable.Declared.{Declared as Named}
 use Rattle.dcc_crun.specs.Evaluation.{declared_of}
 use Rattle.dcc_crun.specs.Resolved.{index_named}

@@ -1,19 +1,18 @@
 -- Points and their actions while code grows.
-use Rattle.std.proofs.Common.{◌≡◌, ◌≢◌, ℕ, zero, suc, ◌+◌, ◌<◌, ◌≤◌, Bool, true, false, List, [], ◌∷◌, ◌++◌, length, Option, Some, None, inl, inr, refl, sym, ap, ◌∙◌, subst, arith}
-use Rattle.std.specs.Prelude.{if◌then◌else◌, ◌||◌, ◌==◌, slice_get, option_map, string_bytes}
+use Rattle.std.proofs.Common.{◌≡◌, ◌≢◌, ℕ, zero, suc, ◌+◌, Bool, List, [], ◌∷◌, ◌++◌, length, Option, Some, None, inl, inr, refl, sym, ap, ◌∙◌, subst}
+use Rattle.std.specs.Prelude.{slice_get}
 use Rattle.std.proofs.lemmas.List.{length_push}
 use Rattle.std.proofs.lemmas.Bool.{cases_eq}
-use Rattle.std.proofs.lemmas.Option.{slice_get_within}
-use Rattle.dcc_c.specs.Tree.{Word, Expr, Function, Tree}
+use Rattle.dcc_c.specs.Tree.{Expr, Function, Tree}
 use Rattle.dcc_c.specs.Run.{Continuation, State, step_at}
 use Rattle.dcc_crun.specs.declared.program.Action.{Action}
 use Rattle.dcc_crun.specs.declared.program.Action.TheVariants.{Pass, Assign as Assigns, Call as Calls, Test, Switch, Goto, Return as Returns, Close, Stuck}
 use Rattle.dcc_crun.specs.declared.program.Row.{Row}
 use Rattle.dcc_crun.specs.declared.program.Label.{Label}
-use Rattle.dcc_crun.specs.Points.{Goes, MayGo, label_named, point_named, IsPass, IsAssign, IsCall, IsTest, IsSwitch, IsGoto, Acts, AreRows, StandAll}
+use Rattle.dcc_crun.specs.Points.{Goes, MayGo, Acts, AreRows, StandAll}
 use Rattle.dcc_crun.specs.declared.expression.Resolved.{Resolved}
 use Rattle.dcc_crun.specs.Resolved.{Names, Stands}
-use Rattle.dcc_crun.specs.Emission.{Stay, KeepNumbers, Relabels}
+use Rattle.dcc_crun.specs.Emission.{Stay, KeepNumbers}
 
 -- Elements of lists.
 

@@ -1,24 +1,21 @@
 -- How a function and a text are made ready to run.
-use Rattle.std.proofs.Common.{◌≡◌, ◌⊎◌, inl, inr, ℕ, ◌+◌, ◌%◌, ◌<◌, ◌≤◌, drop, get_or, string_bytes, Bool, false, List, [], ◌∷◌, ◌++◌, length, map, Option, None, Some, refl, sym, ap, ◌∙◌, subst}
-use Rattle.std.specs.Prelude.{is_some, option_map, slice_get, Result, Ok, Err, IfOk, OnOk}
+use Rattle.std.proofs.Common.{◌≡◌, ◌⊎◌, inl, inr, ℕ, ◌+◌, ◌%◌, ◌<◌, ◌≤◌, drop, get_or, string_bytes, Bool, List, [], ◌∷◌, ◌++◌, length, map, Option, None, Some, refl, sym, ap, ◌∙◌, subst}
+use Rattle.std.specs.Prelude.{is_some, option_map}
 use Rattle.std.proofs.lemmas.List.{at_drop_more, drop_all}
-use Rattle.std.specs.declared.alloc.AllocError.{AllocError}
 use Rattle.dcc_c.specs.declared.syntax.Var.{Var}
 use Rattle.dcc_c.specs.Views.{variable_of}
 use Rattle.dcc_c.specs.Typing.{Declared}
 use Rattle.dcc_c.specs.Tree.{Word, Function, Tree}
-use Rattle.dcc_c.specs.Run.{Continuation, runs, ends_function, from_label, after_goto}
+use Rattle.dcc_c.specs.Run.{Continuation, runs, ends_function, from_label}
 use Rattle.dcc_crun.specs.declared.program.Action.TheVariants.{Close}
 use Rattle.dcc_crun.specs.declared.program.Variable.{Variable}
-use Rattle.dcc_crun.specs.declared.program.Program.{Program}
 use Rattle.dcc_crun.specs.declared.program.Label.{Label}
 use Rattle.dcc_crun.specs.declared.program.Row.{Row}
 use Rattle.dcc_crun.specs.declared.code.Code.{Code}
-use Rattle.dcc_crun.specs.declared.emit.Behind.{Behind}
 use Rattle.dcc_crun.specs.Points.{Goes, MayGo, point_named, declared_with, AreRows}
 use Rattle.dcc_crun.specs.Emission.{Relabels, Emits, Leads}
-use Rattle.dcc_crun.specs.Standing.{none_open, place_in, Kind, kind_of, declared_kind, IsProcedure, HasProcedure, IsProgram}
-use Rattle.dcc_crun.specs.Prepared.{IsBody, HasPoints, name_declared, names_declared}
+use Rattle.dcc_crun.specs.Standing.{none_open, place_in, Kind, kind_of, declared_kind}
+use Rattle.dcc_crun.specs.Prepared.{IsBody, name_declared, names_declared}
 use Rattle.dcc_crun.proofs.EmissionLaws.{pushed}
 
 -- no points

@@ -1,22 +1,18 @@
 -- How a run is made of steps.
-use Rattle.std.proofs.Common.{◌≡◌, ◌≢◌, ℕ, zero, suc, ◌+◌, ◌-◌, ◌<◌, ◌≤◌, true, false, List, [], ◌++◌, Some, Option, refl, sym, ap, ◌∙◌, subst, append_assoc, arith}
-use Rattle.std.specs.Prelude.{if◌then◌else◌, None}
+use Rattle.std.proofs.Common.{◌≡◌, ◌≢◌, ℕ, zero, suc, ◌+◌, ◌-◌, ◌<◌, ◌≤◌, true, List, [], ◌++◌, Some, Option, refl, sym, ap, ◌∙◌, subst, append_assoc, arith}
 use Rattle.std.proofs.lemmas.List.{append-nil}
-use Rattle.dcc_run.specs.End.{End, Running as running, Exit as exited, Divide as divided, Stuck as stuck, is_over}
+use Rattle.dcc_run.specs.End.{is_over}
 use Rattle.dcc_run.specs.System.{after}
 use Rattle.dcc_run.proofs.RunLaws.{after-add, after-over}
 use Rattle.dcc_io.specs.Told.{append_told, prepend_told}
 use Rattle.dcc_io.proofs.ToldLemmas.{append_told-nil, append_told-append, prepend_told-nil, prepend_told-append, prepend_told-some}
-use Rattle.dcc_c.specs.Tree.{Tree}
-use Rattle.dcc_c.specs.Run.{State, step_at, step, text_system}
+use Rattle.dcc_c.specs.Run.{State, step, text_system}
 use Rattle.dcc_c.proofs.RunLaws.{text_lawful}
-use Rattle.dcc_crun.specs.declared.run.CRun.{CRun}
 use Rattle.dcc_crun.specs.declared.ending.Ending.{Ending}
 use Rattle.dcc_crun.specs.declared.ending.Ending.TheVariants.{Running as going, Exit as left_with, Divide as faulted, Stuck as stuck_at}
 use Rattle.dcc_crun.specs.declared.ending.CStepped.{CStepped}
 use Rattle.dcc_crun.specs.declared.ending.CStepped.TheVariants.{Running, Exit, Divide, Stuck, InFault, OutFault, Memory}
 use Rattle.dcc_crun.specs.Ending.{end_of, answer_of}
-use Rattle.dcc_crun.specs.Standing.{StandsAt}
 use Rattle.dcc_crun.specs.Stepped.{Scene, told_bytes, Comes, Makes, MakesEach, MakesSteps, Steps, TellsEnd, Runs}
 
 -- no step, each by itself

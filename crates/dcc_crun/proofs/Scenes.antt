@@ -1,14 +1,13 @@
 -- What operations read and write.
-use Rattle.std.proofs.Common.{◌≡◌, ◌≢◌, ℕ, Bool, true, false, List, [], ◌∷◌, ◌++◌, take, refl, sym, ap, ◌∙◌}
-use Rattle.std.specs.Prelude.{Option, None, Some, if◌then◌else◌}
+use Rattle.std.proofs.Common.{◌≡◌, ℕ, List, [], ◌++◌, take, refl, sym, ap, ◌∙◌}
+use Rattle.std.specs.Prelude.{Option, None, Some}
 use Rattle.std.proofs.lemmas.List.{append-nil}
-use Rattle.dcc_io.specs.Told.{append_told, prepend_told, WhenTold, AppendsProperPrefix}
+use Rattle.dcc_io.specs.Told.{prepend_told, WhenTold}
 use Rattle.dcc_io.proofs.ToldLemmas.{append_told-nil, prepend_told-nil}
-use Rattle.dcc_run.specs.End.{End}
 use Rattle.dcc_c.specs.Tree.{Tree}
 use Rattle.dcc_c.specs.Run.{Continuation, State}
 use Rattle.dcc_crun.specs.Stepped.{told_bytes}
-use Rattle.dcc_crun.specs.Doing.{Operation, IsQuiet, IsEnded, Does, CannotRead, CannotWrite, CannotGrow, Halts}
+use Rattle.dcc_crun.specs.Doing.{Operation, IsQuiet, Does}
 
 -- nothing is left where a read of no bytes said so
 pub end_told : (before after : Option (List ℕ)) (bytes : List ℕ) (count : ℕ) → count ≡ 0

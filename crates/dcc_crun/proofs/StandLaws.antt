@@ -1,22 +1,20 @@
 -- Which resolved expressions stand for which expressions.
-use Rattle.std.proofs.Common.{◌≡◌, ℕ, Bool, true, false, List, [], ◌∷◌, ◌++◌, Option, Some, None, refl, sym, ap, ◌∙◌, subst}
-use Rattle.std.specs.Prelude.{option_map, if◌then◌else◌, slice_get}
+use Rattle.std.proofs.Common.{◌≡◌, ℕ, Bool, true, false, List, [], Option, Some, None, refl, sym, ap, ◌∙◌, subst}
+use Rattle.std.specs.Prelude.{option_map, slice_get}
 use Rattle.std.proofs.lemmas.List.{append-nil}
 use Rattle.std.proofs.lemmas.Option.{same_Some}
-use Rattle.dcc_c.specs.declared.syntax.CType.{CType}
-use Rattle.dcc_c.specs.declared.syntax.CUn.TheVariants.{Deref, AddressOf}
-use Rattle.dcc_c.specs.Tree.{Word, Expr, Name, Unary}
+use Rattle.dcc_c.specs.declared.syntax.CUn.TheVariants.{AddressOf}
+use Rattle.dcc_c.specs.Tree.{Word, Name, Unary}
 use Rattle.dcc_c.specs.Typing.{Declared}
-use Rattle.dcc_c.specs.Value.{Value, Outcome, Gives, Divides, Undefined, and_then, given, Binding, is_placed, declared_by, variable_in, variable_value, address_value, pointed_value, variable_target, ToVariable}
+use Rattle.dcc_c.specs.Value.{Gives, and_then, given, Binding, is_placed, declared_by, variable_in, variable_value, address_value, variable_target, ToVariable}
 use Rattle.dcc_crun.specs.declared.variable.Binding.{Binding as Bound}
 use Rattle.dcc_crun.specs.declared.variable.Storage.{Storage as Kept}
 use Rattle.dcc_crun.specs.declared.variable.Storage.TheVariants.{Unplaced as KeptAlone, PlacedAt as KeptAt}
 use Rattle.dcc_crun.specs.declared.expression.Slot.{Slot}
 use Rattle.dcc_crun.specs.declared.expression.Slot.TheVariants.{Local as InFrame, Global as InGlobals}
-use Rattle.dcc_crun.specs.declared.expression.Target.{Target as Place}
-use Rattle.dcc_crun.specs.declared.expression.Resolved.{Resolved, Variable, AddressOf as AddressIn, Load', Meaningless}
+use Rattle.dcc_crun.specs.declared.expression.Resolved.{Variable, AddressOf as AddressIn, Meaningless}
 use Rattle.dcc_crun.specs.Evaluation.{storage_of, unnamed, binding_named, bindings_named}
-use Rattle.dcc_crun.specs.Resolved.{Scene, slot_in, evaluated, kept_target, slot_target, address_target, targeted, Names, Fits, scope_over, index_named, slot_named, name_at, target_named, IsAlone, IsTargetIn, LandsIn, Stands}
+use Rattle.dcc_crun.specs.Resolved.{Scene, slot_in, slot_target, Names, Fits, scope_over, index_named, slot_named, target_named, IsAlone, LandsIn, Stands}
 use Rattle.dcc_crun.proofs.PlaceLaws.{Found, found, not_found, placed_at, name_found}
 
 -- an assignment to a variable of the call

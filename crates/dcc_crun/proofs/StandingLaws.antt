@@ -1,18 +1,17 @@
 -- What a run stands for while steps are made.
-use Rattle.std.proofs.Common.{◌≡◌, ℕ, true, false, List, [], ◌∷◌, ◌++◌, Option, Some, None, refl, sym, ap, ◌∙◌, subst}
+use Rattle.std.proofs.Common.{◌≡◌, ℕ, List, Option, sym, ap, ◌∙◌, subst}
 use Rattle.std.specs.Prelude.{if◌then◌else◌}
-use Rattle.dcc_run.specs.End.{End, Running as running, is_over}
+use Rattle.dcc_run.specs.End.{Running as running, is_over}
 use Rattle.dcc_c.specs.Tree.{Tree}
 use Rattle.dcc_c.specs.Run.{Continuation, State, step, step_at}
 use Rattle.dcc_crun.specs.declared.ending.Fault.{Fault}
 use Rattle.dcc_crun.specs.declared.ending.Fault.TheVariants.{Input, Output, Memory}
-use Rattle.dcc_crun.specs.declared.program.Program.{Program}
 use Rattle.dcc_crun.specs.declared.moment.Moment.{Moment}
 use Rattle.dcc_crun.specs.declared.run.CRun.{CRun}
 use Rattle.dcc_crun.specs.Ending.{end_of, fault_answer_of}
-use Rattle.dcc_crun.specs.Standing.{IsCallOf, AreWaiting, IsRunning, IsGoing, IsMoment, StandsAt}
+use Rattle.dcc_crun.specs.Standing.{IsCallOf, AreWaiting, IsMoment, StandsAt}
 use Rattle.dcc_crun.specs.Points.{Goes}
-use Rattle.dcc_crun.specs.Stepped.{Scene, scene, told_bytes, Comes, Makes, IsRefusedRead, IsRefusedWrite, IsSameScene, TellsEnd}
+use Rattle.dcc_crun.specs.Stepped.{scene, Makes, TellsEnd}
 use Rattle.dcc_crun.specs.Stepped.{Steps as StepsTo}
 use Rattle.dcc_crun.specs.Doing.{Does, Refuses, IsSame, StaysAt, Stood, Steps}
 

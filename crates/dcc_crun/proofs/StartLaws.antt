@@ -1,12 +1,10 @@
 -- The memory at the start.
-use Rattle.std.proofs.Common.{◌≡◌, ℕ, zero, suc, ◌+◌, ◌%◌, ◌/◌, ◌<◌, List, [], ◌∷◌, map, length, drop, get_or, refl, sym, ap, ◌∙◌, arith}
+use Rattle.std.proofs.Common.{◌≡◌, ℕ, zero, suc, ◌+◌, ◌%◌, ◌/◌, List, [], ◌∷◌, refl, ap, ◌∙◌, arith}
 use Rattle.std.specs.Prelude.{slice_set}
-use Rattle.std.proofs.lemmas.List.{at_drop_more}
 use Rattle.dcc_c.specs.declared.syntax.CType.{CType}
 use Rattle.dcc_c.specs.Types.{size_of}
 use Rattle.dcc_c.specs.Memory.{store}
-use Rattle.dcc_c.specs.Tree.{Global}
-use Rattle.dcc_c.specs.Run.{with_values, with_globals}
+use Rattle.dcc_c.specs.Run.{with_values}
 
 -- a number is put at an address modulo 65536
 pub store-same : (count : ℕ) (memory : List ℕ) (a b n : ℕ) → a % 65536 ≡ b % 65536 → store count memory a n ≡ store count memory b n

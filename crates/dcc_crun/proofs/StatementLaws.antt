@@ -1,6 +1,6 @@
 -- The points of statements, by those of their parts.
-use Rattle.std.proofs.Common.{◌≡◌, ℕ, ◌+◌, ◌-◌, ◌<◌, ◌≤◌, Bool, true, false, List, [], ◌∷◌, ◌++◌, length, get_or, drop, Option, Some, None, refl, sym, ap, ◌∙◌, subst, arith}
-use Rattle.std.specs.Prelude.{if◌then◌else◌, slice_get, slice_set, Result, Ok, Err, IfOk, OnOk, ◌==◌}
+use Rattle.std.proofs.Common.{◌≡◌, ℕ, ◌+◌, ◌<◌, Bool, true, false, List, [], ◌∷◌, ◌++◌, length, get_or, drop, Option, Some, None, refl, sym, ap, ◌∙◌, subst}
+use Rattle.std.specs.Prelude.{if◌then◌else◌, slice_get, slice_set, Result, IfOk, OnOk, ◌==◌}
 use Rattle.std.specs.List.{list_any}
 use Rattle.std.specs.declared.alloc.AllocError.{AllocError}
 use Rattle.std.proofs.lemmas.List.{at_drop_more}
@@ -8,7 +8,7 @@ use Rattle.dcc_c.specs.declared.syntax.Line.{Line}
 use Rattle.dcc_c.specs.declared.syntax.Arm.{Arm, out-Arm}
 use Rattle.dcc_c.specs.Tree.{Word, Expr, Stmt, If, While, Switch, Lines, line, Arms, arm, Function, Tree}
 use Rattle.dcc_c.specs.Value.{Outcome, Gives, Divides, Undefined, is_zero, value_of}
-use Rattle.dcc_c.specs.Run.{Continuation, runs, tests, turns, ends_switch, State, step_at, goes_on, on, scope_of, default_body, from_label, from_label_inside, from_label_in_arms, first_of, arm_for, after_break, after_continue}
+use Rattle.dcc_c.specs.Run.{Continuation, runs, tests, ends_switch, State, goes_on, on, scope_of, default_body, from_label, from_label_inside, from_label_in_arms, arm_for, after_break, after_continue}
 use Rattle.dcc_c.specs.Views.{stmt_of, lines_of, arms_of, arm_before}
 use Rattle.dcc_crun.specs.declared.expression.Resolved.{Resolved}
 use Rattle.dcc_crun.specs.declared.program.Action.{Action}

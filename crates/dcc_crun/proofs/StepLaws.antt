@@ -1,14 +1,13 @@
 -- What statements do, from what their parts come to.
-use Rattle.std.proofs.Common.{◌≡◌, ℕ, Bool, true, false, List, [], ◌∷◌, ◌++◌, map, Option, Some, None, refl, sym, ap, ◌∙◌, subst}
-use Rattle.std.specs.Prelude.{if◌then◌else◌, Result, Ok, Err, option_map, slice_get, ◌||◌}
+use Rattle.std.proofs.Common.{◌≡◌, ℕ, false, List, [], ◌∷◌, ◌++◌, Option, Some, None, refl, sym, ap, ◌∙◌, subst}
+use Rattle.std.specs.Prelude.{if◌then◌else◌, Result, Ok, Err, option_map}
 use Rattle.std.specs.Result.{IsErrAnd, IsErrOf}
 use Rattle.std.proofs.lemmas.List.{same_from_push}
-use Rattle.dcc_run.specs.End.{End, Stuck as stuck}
+use Rattle.dcc_run.specs.End.{Stuck as stuck}
 use Rattle.dcc_c.specs.declared.syntax.CType.{CType}
-use Rattle.dcc_c.specs.Tree.{Word, Expr, Assign, Return, Function, Tree}
-use Rattle.dcc_c.specs.Value.{Value, Outcome, Gives, Divides, Undefined, and_then, converted, value_of, target_of, Target}
+use Rattle.dcc_c.specs.Tree.{Expr, Assign, Return, Tree}
+use Rattle.dcc_c.specs.Value.{Value, Outcome, Gives, and_then, converted, value_of, target_of}
 use Rattle.dcc_c.specs.Run.{Continuation, State, with_end, Waiting as WaitingCall, on, scope_of, takes, result_step, back_step, is_start, give_step, stmt_step}
-use Rattle.dcc_crun.specs.declared.value.Value.{Value as Held}
 use Rattle.dcc_crun.specs.declared.value.NoValue.{NoValue}
 use Rattle.dcc_crun.specs.declared.value.NoValue.TheVariants.{Divides as Faults, Undefined as Meaningless}
 use Rattle.dcc_crun.specs.declared.variable.Binding.{Binding as Bound}
@@ -16,15 +15,15 @@ use Rattle.dcc_crun.specs.declared.expression.Resolved.{Resolved}
 use Rattle.dcc_crun.specs.declared.expression.Target.{Target as Place}
 use Rattle.dcc_crun.specs.declared.call.Waiting.{Waiting}
 use Rattle.dcc_crun.specs.declared.moment.Moment.{Moment}
-use Rattle.dcc_crun.specs.Evaluation.{typed, nothing_of}
-use Rattle.dcc_crun.specs.Resolved.{Names, Stands, evaluated, targeted, target_named, IsTargetIn, LandsIn}
+use Rattle.dcc_crun.specs.Evaluation.{nothing_of}
+use Rattle.dcc_crun.specs.Resolved.{Stands, evaluated, targeted, target_named, IsTargetIn, LandsIn}
 use Rattle.dcc_crun.specs.Points.{locals_declared, Goes, StandsIf}
 use Rattle.dcc_crun.specs.declared.ending.Fault.{Fault}
 use Rattle.dcc_crun.specs.declared.ending.Stop.{Stop}
 use Rattle.dcc_crun.specs.declared.ending.Stop.TheVariants.{Refused}
 use Rattle.dcc_crun.specs.Ending.{end_of, stop_of}
-use Rattle.dcc_crun.specs.Standing.{IsCallOf, IsTargetIf, IsWaiting, AreWaiting, IsRunning, IsGoing}
-use Rattle.dcc_crun.specs.Doing.{Operation, Stays, StaysIfRefused, ComesTo, Halts, scene_in, AreGlobals, names_at, IsQuiet, end_at, IsKept, IsLed, IsEnded, Keeps, Led, StepsAside}
+use Rattle.dcc_crun.specs.Standing.{IsCallOf, IsTargetIf, IsWaiting, AreWaiting, IsRunning}
+use Rattle.dcc_crun.specs.Doing.{Operation, Stays, StaysIfRefused, ComesTo, scene_in, AreGlobals, names_at, end_at, IsKept, IsEnded, Keeps, Led, StepsAside}
 use Rattle.dcc_crun.proofs.MomentLaws.{fits_here, value_here, target_here, ended, goes_further, takes-quiet, takes-rest}
 
 -- Assignments.

@@ -1,9 +1,9 @@
 -- Where a body takes the address of a name, as a whole and part by part.
-use Rattle.std.proofs.Common.{◌≡◌, ℕ, Bool, true, false, List, [], ◌∷◌, ◌++◌, map, Option, Some, None, refl, sym, ap, ◌∙◌}
-use Rattle.std.specs.Prelude.{◌||◌, option_map}
+use Rattle.std.proofs.Common.{◌≡◌, Bool, true, false, List, [], ◌∷◌, ◌++◌, map, Option, Some, None, refl, sym, ap, ◌∙◌}
+use Rattle.std.specs.Prelude.{◌||◌}
 use Rattle.std.specs.List.{list_any, flat_map}
-use Rattle.dcc_c.specs.Tree.{Word, Expr, Number, Name, Unary, Binary, Conditional, Cast, Stmt, Assign, Call, If, While, DoWhile, Forever, Switch, Break, Continue, Goto, Label, Empty, Return, Lines, no_lines, line, Arms, no_arms, arm}
-use Rattle.dcc_c.specs.Parts.{stmts_in, inner_stmts, arm_stmts, expr_if, exprs_of, parts_of, exprs_in}
+use Rattle.dcc_c.specs.Tree.{Word, Expr, Stmt, Assign, Call, If, While, DoWhile, Forever, Switch, Break, Continue, Goto, Label, Empty, Return, Lines, no_lines, line, Arms, no_arms, arm}
+use Rattle.dcc_c.specs.Parts.{stmts_in, inner_stmts, arm_stmts, expr_if, exprs_of, parts_of}
 use Rattle.dcc_c.specs.Placement.{is_address_of, takes_address}
 use Rattle.dcc_crun.specs.Takes.{expr_takes, any_takes, option_takes, lines_take, stmt_takes, arms_take}
 

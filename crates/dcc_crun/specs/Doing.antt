@@ -1,5 +1,5 @@
 -- What statements do to the state of a run while they are executed.
-use Rattle.std.specs.Prelude.{◌≡◌, ℕ, Bool, List, [], ◌∷◌, ◌++◌, map, Option, None, Some, is_some, Result, Ok, Err, Vec, option_map, slice_get}
+use Rattle.std.specs.Prelude.{◌≡◌, ℕ, Bool, List, [], ◌∷◌, ◌++◌, map, Option, Some, Result, Ok, Err, Vec, option_map, slice_get}
 use Rattle.std.specs.Global.{Global}
 use Rattle.dcc_run.specs.End.{End, Running as running, Divide as divided, Stuck as stuck}
 use Rattle.dcc_io.specs.Told.{append_told, prepend_told, AppendsProperPrefix}

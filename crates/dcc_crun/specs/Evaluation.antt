@@ -1,5 +1,5 @@
 -- The values, variables and outcomes that those of the interpreter stand for.
-use Rattle.std.specs.Prelude.{ℕ, List, [], ◌∷◌, string_bytes, Result, Ok, Err}
+use Rattle.std.specs.Prelude.{List, [], ◌∷◌, string_bytes, Result, Ok, Err}
 use Rattle.dcc_crun.specs.declared.value.Value.{Value as Held}
 use Rattle.dcc_crun.specs.declared.value.NoValue.{NoValue}
 use Rattle.dcc_crun.specs.declared.value.NoValue.TheVariants.{Divides as Faults, Undefined as Meaningless}

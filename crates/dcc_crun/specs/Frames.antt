@@ -1,5 +1,5 @@
 -- The variables and the memory of a call that begins.
-use Rattle.std.specs.Prelude.{ℕ, ◌+◌, ◌%◌, List, [], ◌∷◌, ◌++◌, map, Option, Some, None}
+use Rattle.std.specs.Prelude.{ℕ, List, [], ◌∷◌, map, Some, None}
 use Rattle.dcc_c.specs.declared.syntax.Base.TheVariants.{Int}
 use Rattle.dcc_c.specs.Types.{size_of}
 use Rattle.dcc_c.specs.Memory.{store}
@@ -8,7 +8,6 @@ use Rattle.dcc_crun.specs.declared.value.Value.{Value as Held}
 use Rattle.dcc_crun.specs.declared.variable.Binding.{Binding as Bound}
 use Rattle.dcc_crun.specs.declared.variable.Storage.TheVariants.{Unplaced, PlacedAt}
 use Rattle.dcc_crun.specs.declared.program.Variable.{Variable}
-use Rattle.dcc_crun.specs.declared.program.Procedure.{Procedure}
 use Rattle.dcc_crun.specs.Standing.{place_in}
 
 -- the variable with these bits, in a call with the base

@@ -1,5 +1,5 @@
 -- What stands at the points of a function's code: how the text goes on from there.
-use Rattle.std.specs.Prelude.{◌≡◌, ℕ, suc, Bool, true, false, ◌==◌, ◌≤◌, if◌then◌else◌, List, [], ◌∷◌, ◌++◌, length, map, string_bytes, Option, Some, None, option_map, is_some, slice_get}
+use Rattle.std.specs.Prelude.{◌≡◌, ℕ, suc, Bool, false, ◌==◌, if◌then◌else◌, List, [], ◌∷◌, ◌++◌, length, map, string_bytes, Option, Some, None, option_map, is_some, slice_get}
 use Rattle.std.specs.List.{list_any}
 use Rattle.dcc_c.specs.declared.syntax.Base.TheVariants.{Uint}
 use Rattle.dcc_c.specs.Token.{same_bytes}

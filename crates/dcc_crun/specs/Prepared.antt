@@ -1,5 +1,5 @@
 -- Functions that are made ready to run.
-use Rattle.std.specs.Prelude.{◌≡◌, ℕ, List, [], ◌∷◌, string_bytes, is_some}
+use Rattle.std.specs.Prelude.{ℕ, List, [], ◌∷◌, string_bytes, is_some}
 use Rattle.dcc_c.specs.declared.syntax.Var.{Var}
 use Rattle.dcc_c.specs.declared.syntax.Global_.{Global_}
 use Rattle.dcc_c.specs.Typing.{Declared}

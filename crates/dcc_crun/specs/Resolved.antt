@@ -1,5 +1,5 @@
 -- What resolved expressions come to, and the expressions of a text that they stand for.
-use Rattle.std.specs.Prelude.{◌≡◌, ℕ, suc, Bool, true, false, if◌then◌else◌, List, [], ◌∷◌, ◌++◌, map, string_bytes, Option, Some, None, option_map, slice_get, IsTrue}
+use Rattle.std.specs.Prelude.{◌≡◌, ℕ, suc, true, false, if◌then◌else◌, List, [], ◌∷◌, ◌++◌, map, Option, Some, None, option_map, slice_get}
 use Rattle.std.specs.List.{list_all}
 use denote.Ref.{Bor}
 use Rattle.dcc_c.specs.declared.syntax.CType.{CType}

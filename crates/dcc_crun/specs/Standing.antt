@@ -1,7 +1,7 @@
 -- The state of a text's run that a run of the code stands for.
 use Rattle.std.specs.Prelude.{◌≡◌, ℕ, ◌+◌, ◌%◌, Bool, false, List, [], ◌∷◌, ◌++◌, map, Option, Some, None, is_some, slice_get}
 use Rattle.std.specs.Option.{option_map}
-use Rattle.dcc_run.specs.End.{End, Running as running}
+use Rattle.dcc_run.specs.End.{Running as running}
 use Rattle.dcc_c.specs.declared.syntax.CType.{CType}
 use Rattle.dcc_c.specs.Tree.{Word, Variable as DeclaredVariable, Function, Tree}
 use Rattle.dcc_c.specs.Typing.{Declared}

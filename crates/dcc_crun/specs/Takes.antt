@@ -1,5 +1,5 @@
 -- Where a body takes the address of a name, part by part.
-use Rattle.std.specs.Prelude.{Bool, true, false, ◌||◌, List, [], ◌∷◌, Option, Some, None}
+use Rattle.std.specs.Prelude.{Bool, false, ◌||◌, List, Option, Some, None}
 use Rattle.std.specs.List.{list_any}
 use Rattle.dcc_c.specs.Tree.{Word, Expr, Stmt, Assign, Call, If, While, DoWhile, Forever, Switch, Return, Lines, no_lines, line, Arms, no_arms, arm}
 use Rattle.dcc_c.specs.Parts.{parts_of}

@@ -1,8 +1,6 @@
-use Rattle.std.proofs.Common.{◌≡◌, ◌+◌, ◌<◌, length, drop, None, sym, ap, ◌∙◌, arith}
-use Rattle.std.specs.Prelude.{option_map}
+use Rattle.std.proofs.Common.{◌<◌, length, sym, ◌∙◌, arith}
 use Rattle.dcc_c.proofs.NameLaws.{same_bytes-answer}
-use Rattle.dcc_crun.specs.Points.{label_named}
-use Rattle.dcc_crun.proofs.LabelLaws.{label_named-further, label_named-here, label_named-none}
+use Rattle.dcc_crun.proofs.LabelLaws.{label_named-further, label_named-here}
 use Rattle.dcc_crun.proofs.code.label_named.Goals as goal
 
 pub returns-then-eq : goal.returns-then-eq

@@ -1,6 +1,5 @@
 use Rattle.std.proofs.Common.{◌≡◌, ◌+◌, ◌<◌, ◌++◌, [], ◌∷◌, List, length, take, map, sym, ap, ◌∙◌, subst, arith}
 use Rattle.std.proofs.lemmas.List.{take_more, map-append}
-use Rattle.dcc_c.specs.declared.syntax.CExpr.{CExpr}
 use Rattle.dcc_c.specs.Tree.{Expr}
 use Rattle.dcc_c.specs.Views.{expr_of}
 use Rattle.dcc_crun.specs.declared.expression.Resolved.{Resolved}

@@ -1,18 +1,18 @@
-use Rattle.std.proofs.Common.{◌≡◌, ℕ, ◌+◌, ◌-◌, ◌<◌, ◌≤◌, Bool, List, [], ◌∷◌, ◌++◌, length, get_or, drop, Option, Some, None, string_bytes, refl, sym, ap, ◌∙◌, subst, arith}
+use Rattle.std.proofs.Common.{◌≡◌, ◌-◌, List, [], ◌∷◌, ◌++◌, length, drop, Some, None, string_bytes, refl, sym, ap, ◌∙◌, subst, arith}
 use Rattle.std.specs.Prelude.{option_map, map, IfOk}
 use Rattle.std.proofs.lemmas.List.{drop_all}
 use Rattle.dcc_c.specs.declared.syntax.CExpr.{CExpr}
 use Rattle.dcc_c.specs.declared.syntax.Line.{Line}
 use Rattle.dcc_c.specs.declared.syntax.Arm.{Arm, out-Arm}
-use Rattle.dcc_c.specs.Tree.{Word, Stmt, Assign, Call, If, While, DoWhile, Forever, Switch, Break, Continue, Goto, Label, Empty, Return, Lines, no_lines, line, Arms, no_arms, arm, Function, Tree}
-use Rattle.dcc_c.specs.Run.{Continuation, runs, tests, turns, ends_switch, from_label, from_label_inside, from_label_in_arms, default_body, first_of, after_break, after_continue}
+use Rattle.dcc_c.specs.Tree.{Word, Stmt, Assign, Call, If, While, DoWhile, Forever, Switch, Break, Continue, Goto, Label, Empty, Return, no_lines, line, Arms, no_arms, arm}
+use Rattle.dcc_c.specs.Run.{runs, tests, turns, ends_switch, from_label, from_label_inside, from_label_in_arms, default_body, first_of, after_break, after_continue}
 use Rattle.dcc_c.specs.Views.{expr_of, stmt_of, lines_of, arms_of}
-use Rattle.dcc_crun.specs.Resolved.{Names, Stands, names_of}
-use Rattle.dcc_crun.specs.Points.{names_in, Goes, MayGo, StandsIf, StandAll}
+use Rattle.dcc_crun.specs.Resolved.{Names}
+use Rattle.dcc_crun.specs.Points.{StandsIf, StandAll}
 use Rattle.dcc_crun.specs.Emission.{Emits, EmitsArms, Leads, arms_if}
 use Rattle.dcc_crun.proofs.PointLaws.{stay_push, stay_all, goes_stay, goes_alike}
-use Rattle.dcc_crun.proofs.EmissionLaws.{emits_none, emits_found, emits_alike, first_of-none, grows_labels, grows_after, label_placed, pushed, pushed_ok, emits_after}
-use Rattle.dcc_crun.proofs.StatementLaws.{first_line, stmt_at, lines_step, leads_stay, leads_behind, loop_test, stands_here, emits_push, goes_push, if_test, while_test, switch_test, loop_made, first_arm, arms_step}
+use Rattle.dcc_crun.proofs.EmissionLaws.{emits_none, emits_found, emits_alike, first_of-none, grows_labels, grows_after, label_placed, pushed, pushed_ok}
+use Rattle.dcc_crun.proofs.StatementLaws.{stmt_at, lines_step, leads_stay, leads_behind, loop_test, stands_here, emits_push, goes_push, if_test, while_test, switch_test, loop_made, first_arm, arms_step}
 use Rattle.dcc_crun.proofs.RowLaws.{arm-parts, if-tree, while-tree, do_while-tree, forever-tree, switch-tree}
 use Rattle.dcc_crun.proofs.emit.+emit.Goals as goal
 

@@ -1,8 +1,5 @@
-use Rattle.std.proofs.Common.{◌≡◌, ℕ, Bool, List, [], ◌∷◌, ◌++◌, Option, Some, None, sym, ap, ◌∙◌, subst}
-use Rattle.dcc_c.specs.Tree.{Function, Tree}
-use Rattle.dcc_c.specs.Run.{Continuation, State, step_at, goes_on, jump_step}
+use Rattle.std.proofs.Common.{subst}
 use Rattle.dcc_crun.specs.Points.{MayGo}
-use Rattle.dcc_crun.proofs.PointLaws.{stay_push, goes_stay}
 use Rattle.dcc_crun.proofs.EmissionLaws.{pushed_ok, jump_passes, jump_sticks}
 use Rattle.dcc_crun.proofs.emit.emit_jump.Goals as goal
 

@@ -1,11 +1,8 @@
-use Rattle.std.proofs.Common.{◌≡◌, ◌+◌, ◌<◌, [], ◌∷◌, List, length, get_or, drop, map, Option, None, Some, refl, sym, ap, ◌∙◌, arith}
-use Rattle.std.specs.Prelude.{option_map, if◌then◌else◌, slice_get}
+use Rattle.std.proofs.Common.{◌≡◌, ◌+◌, ◌<◌, ◌∷◌, length, drop, map, Some, refl, sym, ap, ◌∙◌, arith}
+use Rattle.std.specs.Prelude.{option_map, if◌then◌else◌}
 use Rattle.std.proofs.lemmas.List.{at_drop_more}
 use Rattle.std.proofs.lemmas.Option.{slice_get-map, slice_get_read}
 use Rattle.dcc_c.proofs.NameLaws.{same_bytes-answer}
-use Rattle.dcc_c.specs.declared.syntax.Func.{Func}
-use Rattle.dcc_c.specs.Token.{same_bytes}
-use Rattle.dcc_c.specs.Tree.{Function}
 use Rattle.dcc_c.specs.Run.{function_in}
 use Rattle.dcc_c.specs.Views.{function_of}
 use Rattle.dcc_crun.proofs.emit.function_in.Goals as goal

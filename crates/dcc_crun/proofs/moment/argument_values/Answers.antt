@@ -1,11 +1,10 @@
-use Rattle.std.proofs.Common.{◌≡◌, ℕ, ◌+◌, ◌<◌, ◌≤◌, List, [], ◌∷◌, ◌++◌, length, map, drop, get_or, refl, sym, ap, ◌∙◌, subst, arith}
+use Rattle.std.proofs.Common.{◌≡◌, ◌+◌, ◌<◌, List, [], ◌∷◌, ◌++◌, length, map, drop, sym, ap, ◌∙◌, arith}
 use Rattle.std.proofs.lemmas.List.{length-map, map-append}
 use Rattle.dcc_c.specs.declared.syntax.CType.{CType}
-use Rattle.dcc_c.specs.Value.{Value, Outcome, Gives, Undefined, and_then, converted}
-use Rattle.dcc_crun.specs.declared.value.Value.{Value as Held}
+use Rattle.dcc_c.specs.Value.{Value, Gives, and_then, converted}
 use Rattle.dcc_crun.specs.declared.program.Variable.{Variable}
 use Rattle.dcc_crun.specs.Evaluation.{typed}
-use Rattle.dcc_crun.specs.Resolved.{scene_of, evaluated}
+use Rattle.dcc_crun.specs.Resolved.{scene_of}
 use Rattle.dcc_crun.specs.Doing.{resolved_arguments}
 use Rattle.dcc_crun.proofs.ArgumentLaws.{argument_step, argument_fails, arguments_wanting, arguments_err, type_at}
 use Rattle.dcc_crun.proofs.moment.argument_values.Goals as goal

@@ -1,4 +1,4 @@
-use Rattle.std.proofs.Common.{◌≡◌, ℕ, Bool, true, false, ◌+◌, ◌<◌, ◌∷◌, List, map, drop, length, get_or, refl, sym, ap, ◌∙◌, arith}
+use Rattle.std.proofs.Common.{◌≡◌, ℕ, Bool, true, false, ◌+◌, ◌<◌, List, map, drop, length, get_or, sym, ap, ◌∙◌, arith}
 use Rattle.std.proofs.lemmas.List.{at_drop_more}
 use Rattle.std.specs.Prelude.{◌||◌}
 use Rattle.std.specs.List.{list_any}
@@ -7,7 +7,7 @@ use Rattle.dcc_c.specs.declared.syntax.Arm.{Arm, out-Arm}
 use Rattle.dcc_c.specs.Tree.{Word, no_arms, arm}
 use Rattle.dcc_c.specs.Views.{expr_of, stmt_of, lines_of, arms_of, arm_before}
 use Rattle.dcc_crun.specs.Emission.{arms_if}
-use Rattle.dcc_crun.specs.Takes.{expr_takes, option_takes, stmt_takes, lines_take, arms_take}
+use Rattle.dcc_crun.specs.Takes.{expr_takes, stmt_takes, lines_take, arms_take}
 use Rattle.dcc_crun.proofs.RowLaws.{arm-parts, if-tree, while-tree, do_while-tree, forever-tree, switch-tree}
 use Rattle.dcc_crun.proofs.TakesLaws.{or-false, any-map}
 use Rattle.dcc_crun.proofs.placement.+takes.Goals as goal

@@ -1,4 +1,4 @@
-use Rattle.std.proofs.Common.{◌≡◌, refl, sym, ap, ◌∙◌}
+use Rattle.std.proofs.Common.{refl, sym, ap, ◌∙◌}
 use Rattle.dcc_c.proofs.NameLaws.{same_bytes-answer}
 use Rattle.dcc_c.specs.declared.syntax.CUn.TheVariants.{AddressOf}
 use Rattle.dcc_c.specs.Token.{same_bytes}

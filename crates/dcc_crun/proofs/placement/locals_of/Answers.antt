@@ -1,4 +1,4 @@
-use Rattle.std.proofs.Common.{◌≡◌, ℕ, ◌+◌, ◌-◌, ◌<◌, ◌%◌, List, [], ◌∷◌, ◌++◌, map, length, drop, Option, Some, None, Vec, Global, sym, ap, ◌∙◌, subst, arith}
+use Rattle.std.proofs.Common.{◌≡◌, ℕ, ◌+◌, ◌%◌, List, ◌∷◌, map, drop, Some, None, Vec, Global, sym, ap, ◌∙◌, subst, arith}
 use Rattle.std.specs.Prelude.{option_map}
 use Rattle.dcc_c.specs.Tree.{Variable as DeclaredVariable}
 use Rattle.dcc_c.specs.Placement.{local_places, bytes_of, below}
@@ -33,16 +33,16 @@ loop-local-preserved c =
           (place-step declared left v places_of before after vs w.variable.result had
           (same_kind w.variable.result v w.variable.ensures.kind w.variable.ensures.array)
           (λ base.
-            ap (λ o. option_map (λ offset. (base + offset) % 65536) o ∷ local_places base now left) w.variable.ensures.offset
-            ∙ ap (λ k. Some k ∷ local_places base now left) (omega (arith, w.used-is, w.bytes_of-used.ensures))
-            ∙ ap (λ l. Some (below base (used + n)) ∷ l) (local_same base now (used + n) left same)
-            ∙ local-auto base used v left (sym c.is_auto.ensures ∙ w.if-is_auto.true)))
+          ap (λ o. option_map (λ offset. (base + offset) % 65536) o ∷ local_places base now left) w.variable.ensures.offset
+          ∙ ap (λ k. Some k ∷ local_places base now left) (omega (arith, w.used-is, w.bytes_of-used.ensures))
+          ∙ ap (λ l. Some (below base (used + n)) ∷ l) (local_same base now (used + n) left same)
+          ∙ local-auto base used v left (sym c.is_auto.ensures ∙ w.if-is_auto.true)))
       | else-is_auto+in_ok-push-2 w ↦
           subst (λ (items : List Variable). ArePlaced declared places_of left after items) (sym (ap (λ (q : Vec Variable Global). q.items) w.variables-is ∙ w.in_ok-push-2.ensures.items))
           (place-step declared left v places_of before after vs w.variable-else-is_auto.result had
           (same_kind w.variable-else-is_auto.result v w.variable-else-is_auto.ensures.kind w.variable-else-is_auto.ensures.array)
           (λ base.
-            ap (λ o. option_map (λ offset. (base + offset) % 65536) o ∷ local_places base now left) w.variable-else-is_auto.ensures.offset
-            ∙ ap (λ k. None ∷ local_places base k left) w.used-is
-            ∙ local-other base used v left (sym c.is_auto.ensures ∙ w.if-is_auto.false)))
+          ap (λ o. option_map (λ offset. (base + offset) % 65536) o ∷ local_places base now left) w.variable-else-is_auto.ensures.offset
+          ∙ ap (λ k. None ∷ local_places base k left) w.used-is
+          ∙ local-other base used v left (sym c.is_auto.ensures ∙ w.if-is_auto.false)))
     ]

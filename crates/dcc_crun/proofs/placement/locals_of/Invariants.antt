@@ -1,4 +1,4 @@
-use Rattle.std.proofs.Common.{◌≡◌, ◌++◌, ◌%◌, ℕ, map, drop, take}
+use Rattle.std.proofs.Common.{map, drop}
 use Rattle.dcc_c.specs.Placement.{local_places}
 use Rattle.dcc_c.specs.Views.{variable_of}
 use Rattle.dcc_crun.specs.Placing.{ArePlaced}

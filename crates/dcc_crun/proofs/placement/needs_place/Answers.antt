@@ -1,4 +1,4 @@
-use Rattle.std.proofs.Common.{◌≡◌, Bool, true, false, string_bytes, sym, ap, ◌∙◌}
+use Rattle.std.proofs.Common.{string_bytes, sym, ap, ◌∙◌}
 use Rattle.std.specs.Prelude.{◌||◌}
 use Rattle.dcc_c.specs.Placement.{is_auto, takes_address}
 use Rattle.dcc_c.specs.Views.{lines_of}

@@ -1,4 +1,4 @@
-use Rattle.std.proofs.Common.{◌≡◌, ℕ, Bool, true, false, ◌+◌, ◌*◌, ◌%◌, List, ◌∷◌, Option, Some, None, sym, ap, ◌∙◌, arith}
+use Rattle.std.proofs.Common.{◌≡◌, true, false, ◌+◌, ◌*◌, ◌%◌, ◌∷◌, Some, sym, ap, ◌∙◌, arith}
 use Rattle.std.specs.Prelude.{option_map}
 use Rattle.dcc_c.specs.Placement.{param_places}
 use Rattle.dcc_c.specs.Views.{lines_of, variable_of}

@@ -1,4 +1,4 @@
-use Rattle.std.proofs.Common.{◌≡◌, ℕ, ◌+◌, ◌<◌, List, [], ◌∷◌, ◌++◌, map, length, drop, false, sym, ap, ◌∙◌, subst, arith}
+use Rattle.std.proofs.Common.{ℕ, ◌+◌, List, ◌∷◌, map, drop, false, sym, subst, arith}
 use Rattle.dcc_c.specs.Tree.{Variable as DeclaredVariable}
 use Rattle.dcc_c.specs.Placement.{param_places}
 use Rattle.dcc_c.specs.Views.{variable_of, lines_of}
@@ -22,6 +22,9 @@ loop-param-preserved c =
     let before = λ (base : ℕ) (l : List DeclaredVariable). param_places body base number c.loop-param.placed l in
     let after = λ (base : ℕ) (l : List DeclaredVariable). param_places body base next.next c.param_of-next.result.placed l in
     let had : ArePlaced declared places_of (variable_of param ∷ left) before vs =
-    subst (λ (l : List DeclaredVariable). ArePlaced declared places_of l before vs) (next_variable params i param param (omega arith) c.param-item.is) c.loop-param.invariant.2 in
-    (next.next, next.at, subst (λ (items : List Variable). ArePlaced declared places_of left after items) (sym c.in_ok-push.ensures.items)
-    (place-step declared left (variable_of param) places_of before after vs c.param_of-next.result.variable had next.kind (λ base. next.places base left)))
+    subst (λ (l : List DeclaredVariable). ArePlaced declared places_of l before vs) (next_variable params i param param (omega arith) c.param-item.is) c.loop-param.invariant.2 in (
+      next.next,
+      next.at,
+      subst (λ (items : List Variable). ArePlaced declared places_of left after items) (sym c.in_ok-push.ensures.items)
+          (place-step declared left (variable_of param) places_of before after vs c.param_of-next.result.variable had next.kind (λ base. next.places base left)),
+    )

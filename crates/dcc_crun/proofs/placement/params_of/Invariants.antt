@@ -1,4 +1,4 @@
-use Rattle.std.proofs.Common.{◌≡◌, ◌+◌, ◌*◌, ◌%◌, ℕ, map, drop, false}
+use Rattle.std.proofs.Common.{◌≡◌, ◌*◌, ◌%◌, ℕ, map, drop, false}
 use Rattle.dcc_c.specs.Placement.{param_places}
 use Rattle.dcc_c.specs.Views.{variable_of, lines_of}
 use Rattle.dcc_crun.specs.Placing.{ArePlaced}

@@ -1,7 +1,5 @@
-use Rattle.std.proofs.Common.{◌≡◌, List, ap, subst}
-use Rattle.std.specs.Prelude.{IfOk}
+use Rattle.std.proofs.Common.{ap, subst}
 use Rattle.std.proofs.lemmas.Result.{IfOk-weaker}
-use Rattle.dcc_c.specs.declared.syntax.Line.{Line}
 use Rattle.dcc_c.specs.Tree.{Function, Lines}
 use Rattle.dcc_c.specs.Run.{runs, ends_function, from_label}
 use Rattle.dcc_c.specs.Views.{lines_of, function_of}

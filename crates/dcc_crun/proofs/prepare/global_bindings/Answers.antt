@@ -1,4 +1,4 @@
-use Rattle.std.proofs.Common.{◌≡◌, Bool, ◌+◌, ◌<◌, ◌≤◌, ◌++◌, [], ◌∷◌, length, take, map, sym, ap, ◌∙◌, arith}
+use Rattle.std.proofs.Common.{Bool, ◌<◌, ◌≤◌, ◌++◌, [], ◌∷◌, length, take, map, sym, ap, ◌∙◌, arith}
 use Rattle.std.proofs.lemmas.List.{take_more, take_all, map-append}
 use Rattle.dcc_c.specs.Rules.{declared_global}
 use Rattle.dcc_c.specs.Views.{global_of}

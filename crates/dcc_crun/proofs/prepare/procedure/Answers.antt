@@ -4,7 +4,7 @@ use Rattle.dcc_c.proofs.NameLaws.{same_bytes-answer}
 use Rattle.dcc_c.specs.declared.syntax.Line.{Line}
 use Rattle.dcc_c.specs.declared.syntax.Var.{Var}
 use Rattle.dcc_c.specs.Typing.{Declared}
-use Rattle.dcc_c.specs.Tree.{Function, Tree}
+use Rattle.dcc_c.specs.Tree.{Function}
 use Rattle.dcc_c.specs.Placement.{param_places, local_places, params_of_call, locals_of_call}
 use Rattle.dcc_c.specs.Views.{variable_of, lines_of, function_of}
 use Rattle.dcc_crun.specs.declared.program.Variable.{Variable}

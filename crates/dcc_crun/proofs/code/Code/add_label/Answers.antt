@@ -1,8 +1,7 @@
-use Rattle.std.proofs.Common.{◌≡◌, ◌++◌, [], ◌∷◌, List, length, Some, refl, sym, ap, ◌∙◌, arith}
+use Rattle.std.proofs.Common.{◌≡◌, List, length, Some, refl, sym, ap, ◌∙◌, arith}
 use Rattle.dcc_c.specs.Token.{same_bytes}
 use Rattle.dcc_crun.specs.declared.program.Label.{Label}
 use Rattle.dcc_crun.specs.Points.{label_named, point_named}
-use Rattle.dcc_crun.specs.Emission.{KeepNumbers}
 use Rattle.dcc_crun.proofs.LabelLaws.{same_self, label_named-new, numbers-push, points-push}
 use Rattle.dcc_crun.proofs.code.Code.add_label.Goals as goal
 

@@ -1,9 +1,8 @@
-use Rattle.std.proofs.Common.{◌≡◌, ℕ, ◌<◌, ◌≤◌, List, length, Err, refl, subst, arith}
+use Rattle.std.proofs.Common.{Err, refl, subst, arith}
 use Rattle.std.specs.Prelude.{Result}
-use Rattle.dcc_run.specs.End.{Running as running, Divide as divided, Stuck as stuck}
+use Rattle.dcc_run.specs.End.{Divide as divided, Stuck as stuck}
 use Rattle.dcc_crun.specs.declared.ending.Ending.TheVariants.{Divide as kept_divide, Stuck as kept_stuck}
 use Rattle.dcc_crun.specs.declared.ending.Stop.{Stop}
-use Rattle.dcc_crun.specs.declared.ending.Stop.TheVariants.{Divides as HaltsDividing, Undefined as HaltsUndefined, Refused}
 use Rattle.dcc_crun.specs.declared.moment.Moment.{Moment}
 use Rattle.dcc_crun.specs.Doing.{Halts, Refuses, ComesTo, Stood, Performs, Steps}
 use Rattle.dcc_crun.proofs.ComingLaws.{does_from, halts_from, refuses_from, does_never, does_halting, step_performs, no_procedure, no_row}

@@ -1,15 +1,8 @@
-use Rattle.std.proofs.Common.{◌≡◌, ℕ, List, Option, Ok, Err, sym, ap, ◌∙◌, subst}
-use Rattle.dcc_c.specs.Tree.{Tree}
-use Rattle.dcc_c.specs.Value.{Gives}
-use Rattle.dcc_c.specs.Run.{Continuation, State, result_target, scope_of}
-use Rattle.std.specs.Prelude.{option_map, Result}
+use Rattle.std.proofs.Common.{Ok, Err, ap, ◌∙◌}
+use Rattle.std.specs.Prelude.{Result}
 use Rattle.dcc_crun.specs.declared.ending.Stop.{Stop}
-use Rattle.dcc_crun.specs.declared.variable.Binding.{Binding as Bound}
-use Rattle.dcc_crun.specs.declared.expression.Resolved.{Resolved}
-use Rattle.dcc_crun.specs.Resolved.{scene_of, target_named}
-use Rattle.dcc_crun.specs.Points.{locals_declared}
-use Rattle.dcc_crun.specs.Standing.{IsTargetIf}
-use Rattle.dcc_crun.specs.Doing.{scene_in, Does, ComesTo, Kept, Stood, CallsDos, CallsFunction, CallsAny}
+use Rattle.dcc_crun.specs.Resolved.{scene_of}
+use Rattle.dcc_crun.specs.Doing.{scene_in, Kept, Stood, CallsDos, CallsFunction, CallsAny}
 use Rattle.dcc_crun.proofs.StepLaws.{comes_err}
 use Rattle.dcc_crun.proofs.ActLaws.{moved}
 use Rattle.dcc_crun.proofs.ComingLaws.{comes_from, does_from}

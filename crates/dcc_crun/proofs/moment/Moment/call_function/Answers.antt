@@ -1,7 +1,7 @@
-use Rattle.std.proofs.Common.{◌≡◌, ℕ, ◌<◌, ◌≤◌, List, length, map, refl, sym, ap, ◌∙◌, subst, arith}
+use Rattle.std.proofs.Common.{◌≡◌, ◌<◌, List, length, map, refl, sym, ap, ◌∙◌, subst, arith}
 use Rattle.std.specs.Prelude.{option_map}
 use Rattle.dcc_c.specs.Value.{Value, Outcome, Gives}
-use Rattle.dcc_c.specs.Run.{State, on, enter_step, arguments_of, scope_of, param_types}
+use Rattle.dcc_c.specs.Run.{State, on, enter_step}
 use Rattle.dcc_crun.specs.declared.value.Value.{Value as Held}
 use Rattle.dcc_crun.specs.declared.variable.Binding.{Binding as Bound}
 use Rattle.dcc_crun.specs.declared.expression.Resolved.{Resolved}

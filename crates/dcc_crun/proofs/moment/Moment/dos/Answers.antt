@@ -1,6 +1,4 @@
-use Rattle.std.proofs.Common.{◌≡◌, ℕ, ◌==◌, true, false, List, [], length, subst}
-use Rattle.dcc_c.specs.Tree.{Tree}
-use Rattle.dcc_c.specs.Run.{Continuation, State}
+use Rattle.std.proofs.Common.{◌≡◌, ◌==◌, true, false, length, subst}
 use Rattle.dcc_crun.specs.declared.program.Dos.{Dos as DosCall}
 use Rattle.dcc_crun.specs.Doing.{Kept, TakesKey, CallsDos}
 use Rattle.dcc_crun.proofs.StepLaws.{comes_err}

@@ -1,4 +1,4 @@
-use Rattle.std.proofs.Common.{refl, ap}
+use Rattle.std.proofs.Common.{refl}
 use Rattle.std.specs.Prelude.{option_map}
 use Rattle.dcc_crun.specs.Evaluation.{typed}
 use Rattle.dcc_crun.proofs.StepLaws.{back_made}

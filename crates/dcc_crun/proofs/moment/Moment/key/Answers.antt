@@ -1,6 +1,5 @@
-use Rattle.dcc_crun.proofs.DosLaws.{key_ended, key_made, key_unwritten, key_unread}
-use Rattle.dcc_crun.proofs.Scenes.{end_told}
-use Rattle.std.proofs.Common.{◌≡◌, [], ◌∷◌, Option, None, Some, Ok, ap, ◌∙◌}
+use Rattle.dcc_crun.proofs.DosLaws.{key_ended, key_made}
+use Rattle.std.proofs.Common.{Ok, ap, ◌∙◌}
 use Rattle.std.specs.Option.{option_to_list}
 use Rattle.dcc_io.specs.Told.{prepend_told}
 use Rattle.dcc_crun.proofs.moment.Moment.key.Goals as goal

@@ -1,18 +1,17 @@
-use Rattle.std.proofs.Common.{◌≡◌, ℕ, ◌%◌, List, [], ◌∷◌, ◌++◌, Option, Some, None, Ok, Err, true, false, refl, sym, ap, ◌∙◌, subst}
+use Rattle.std.proofs.Common.{◌≡◌, ℕ, ◌%◌, [], ◌∷◌, Ok, Err, true, false, refl, sym, ap, ◌∙◌, subst}
 use Rattle.std.specs.Prelude.{option_map, is_some}
 use Rattle.dcc_run.specs.End.{Exit, Stuck}
 use Rattle.dcc_c.specs.declared.syntax.CType.{CType}
-use Rattle.dcc_c.specs.Tree.{Expr, Tree}
-use Rattle.dcc_c.specs.Dos.{string_at, Leave as spec_Leave}
-use Rattle.dcc_c.specs.Run.{Continuation, State, dos_step, arguments_of, scope_of}
+use Rattle.dcc_c.specs.Dos.{Leave as spec_Leave}
+use Rattle.dcc_c.specs.Run.{State, dos_step, arguments_of, scope_of}
 use Rattle.dcc_crun.specs.declared.program.Dos.TheVariants.{Leave}
 use Rattle.dcc_crun.specs.declared.ending.Ending.TheVariants.{Exit as KeptExit}
 use Rattle.dcc_crun.specs.Evaluation.{typed}
 use Rattle.dcc_crun.specs.Resolved.{target_named}
 use Rattle.dcc_crun.specs.Points.{locals_declared}
-use Rattle.dcc_crun.specs.Doing.{IsEnded, IsKept, CallsDos}
-use Rattle.dcc_crun.proofs.StepLaws.{comes_err, kept_err}
-use Rattle.dcc_crun.proofs.DosLaws.{some_of, not_some, argument_is, call_ended, call_goes, byte_argument, dos_writes, dos_unwritten}
+use Rattle.dcc_crun.specs.Doing.{IsEnded, IsKept}
+use Rattle.dcc_crun.proofs.StepLaws.{kept_err}
+use Rattle.dcc_crun.proofs.DosLaws.{some_of, not_some, argument_is, call_ended, call_goes, byte_argument}
 use Rattle.dcc_crun.proofs.moment.Moment.leave.Goals as goal
 
 pub returns-in_err-v-clause-state : goal.returns-in_err-v-clause-state

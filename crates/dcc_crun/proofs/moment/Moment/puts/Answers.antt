@@ -1,17 +1,17 @@
-use Rattle.std.proofs.Common.{◌≡◌, ℕ, ◌%◌, List, [], ◌∷◌, ◌++◌, Option, Some, None, Ok, Err, true, false, refl, sym, ap, ◌∙◌, subst}
+use Rattle.std.proofs.Common.{◌≡◌, ℕ, List, [], ◌∷◌, ◌++◌, Ok, Err, true, false, refl, sym, ap, ◌∙◌, subst}
 use Rattle.std.specs.Prelude.{option_map, is_some}
-use Rattle.dcc_run.specs.End.{Exit, Stuck}
+use Rattle.dcc_run.specs.End.{Stuck}
 use Rattle.dcc_c.specs.declared.syntax.CType.{CType}
-use Rattle.dcc_c.specs.Tree.{Expr, Tree}
+use Rattle.dcc_c.specs.Tree.{Tree}
 use Rattle.dcc_c.specs.Dos.{string_at, Puts as spec_Puts}
 use Rattle.dcc_c.specs.Run.{Continuation, State, dos_step, arguments_of, scope_of}
 use Rattle.dcc_crun.specs.declared.program.Dos.TheVariants.{Puts}
 use Rattle.dcc_crun.specs.Evaluation.{typed}
 use Rattle.dcc_crun.specs.Resolved.{target_named}
 use Rattle.dcc_crun.specs.Points.{locals_declared}
-use Rattle.dcc_crun.specs.Doing.{IsEnded, IsKept, CallsDos}
-use Rattle.dcc_crun.proofs.StepLaws.{comes_err, kept_err}
-use Rattle.dcc_crun.proofs.DosLaws.{some_of, not_some, argument_is, call_ended, call_goes, byte_argument, dos_writes, dos_unwritten}
+use Rattle.dcc_crun.specs.Doing.{IsEnded, CallsDos}
+use Rattle.dcc_crun.proofs.StepLaws.{comes_err}
+use Rattle.dcc_crun.proofs.DosLaws.{some_of, not_some, argument_is, call_ended, call_goes, dos_writes, dos_unwritten}
 use Rattle.dcc_crun.proofs.moment.Moment.puts.Goals as goal
 
 pub returns-in_err-v-clause-comes : goal.returns-in_err-v-clause-comes

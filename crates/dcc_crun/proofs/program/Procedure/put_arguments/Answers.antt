@@ -1,4 +1,4 @@
-use Rattle.std.proofs.Common.{◌≡◌, ◌⊎◌, ◌+◌, ◌<◌, ◌≤◌, min, length, drop, inl, inr, refl, sym, ap, ◌∙◌, arith}
+use Rattle.std.proofs.Common.{◌⊎◌, ◌+◌, ◌<◌, ◌≤◌, length, drop, inl, inr, refl, sym, ap, ◌∙◌, arith}
 use Rattle.dcc_crun.specs.Frames.{arguments_put}
 use Rattle.dcc_crun.proofs.FrameLaws.{min_end, put-end, put-step}
 use Rattle.dcc_crun.proofs.program.Procedure.put_arguments.Goals as goal

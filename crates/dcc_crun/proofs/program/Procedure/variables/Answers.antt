@@ -1,4 +1,4 @@
-use Rattle.std.proofs.Common.{◌≡◌, ◌⊎◌, ◌≤◌, ◌++◌, min, length, inl, inr, sym, ap, ◌∙◌, arith}
+use Rattle.std.proofs.Common.{◌⊎◌, ◌≤◌, ◌++◌, length, inl, inr, sym, ap, ◌∙◌, arith}
 use Rattle.std.proofs.lemmas.List.{append-nil}
 use Rattle.dcc_crun.proofs.FrameLaws.{min_end, params-end}
 use Rattle.dcc_crun.proofs.program.Procedure.variables.Goals as goal

@@ -1,6 +1,6 @@
 use Rattle.std.proofs.Common.{◌≡◌, ℕ, ◌+◌, ◌%◌, List, Vec, Global, refl, sym, ap, ◌∙◌}
 use Rattle.std.specs.Prelude.{slice_get, option_copied}
-use Rattle.dcc_c.specs.Tree.{Function, Tree}
+use Rattle.dcc_c.specs.Tree.{Tree}
 use Rattle.dcc_c.specs.Run.{Continuation}
 use Rattle.dcc_c.specs.Views.{tree_of}
 use Rattle.dcc_crun.specs.declared.ending.Ending.{Ending}

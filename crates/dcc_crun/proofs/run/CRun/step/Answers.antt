@@ -1,5 +1,4 @@
-use Rattle.std.proofs.Common.{◌≡◌, sym, ap, ◌∙◌, subst, arith}
-use Rattle.dcc_run.specs.End.{Running as running}
+use Rattle.std.proofs.Common.{sym, ap, ◌∙◌, subst, arith}
 use Rattle.dcc_crun.specs.Ending.{end_of}
 use Rattle.dcc_crun.specs.declared.ending.CStepped.{CStepped}
 use Rattle.dcc_crun.specs.Stepped.{Scene, scene, Steps, TellsEnd}
