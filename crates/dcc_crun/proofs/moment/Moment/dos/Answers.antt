@@ -1,0 +1,39 @@
+use Rattle.std.proofs.Common.{◌≡◌, ◌==◌, true, false, length, subst}
+use Rattle.dcc_crun.specs.declared.program.Dos.{Dos as DosCall}
+use Rattle.dcc_crun.specs.Doing.{Kept, TakesKey, CallsDos}
+use Rattle.dcc_crun.proofs.StepLaws.{comes_err}
+use Rattle.dcc_crun.proofs.FunctionLaws.{empty_list}
+use Rattle.dcc_crun.proofs.ComingLaws.{comes_from, getche_from, getch_from, does_kept}
+use Rattle.dcc_crun.proofs.moment.Moment.dos.Goals as goal
+
+pub returns-in_err-leave-in-Leave-clause-comes : goal.returns-in_err-leave-in-Leave-clause-comes
+returns-in_err-leave-in-Leave-clause-comes g c line =
+    comes_err line c.from_residual.result _ _ _ _ c.in_err-leave-in-Leave.field-0.0 c.from_residual.ensures.1
+    (λ tree points s now call.
+    c.in_err-leave-in-Leave.ensures.state tree points s now line
+    (subst (λ (d : DosCall). CallsDos c.args.self.now c.args.globals.now d c.args.target c.args.arguments.now line tree points s now) c.in-Leave.is call))
+
+pub returns-in_ok-leave-in-Leave-clause-comes : goal.returns-in_ok-leave-in-Leave-clause-comes
+returns-in_ok-leave-in-Leave-clause-comes g c line =
+    does_kept _ c.leave.new.self _ _
+    (λ tree points s now call.
+    c.in_ok-leave-in-Leave.ensures.state tree points s now line
+    (subst (λ (d : DosCall). CallsDos c.args.self.now c.args.globals.now d c.args.target c.args.arguments.now line tree points s now) c.in-Leave.is call))
+
+pub returns-in-Getche-clause-comes : goal.returns-in-Getche-clause-comes
+returns-in-Getche-clause-comes g c line =
+    let flag : (length c.args.arguments.now == 0) ≡ true = cc in
+    comes_from line c.key.result (TakesKey c.args.self.now true c.args.target line) (Kept c.key.new.self) _ (Kept c.key.new.self) _ _ _ _
+    (λ tree points s now call.
+    getche_from c.args.self.now c.key.new.self c.args.globals.now c.args.target c.args.arguments.now line (empty_list c.args.arguments.now flag) tree points s now
+    (subst (λ (d : DosCall). CallsDos c.args.self.now c.args.globals.now d c.args.target c.args.arguments.now line tree points s now) c.in-Getche.is call))
+    (c.key.ensures.comes line)
+
+pub returns-in-Getch-clause-comes : goal.returns-in-Getch-clause-comes
+returns-in-Getch-clause-comes g c line =
+    let flag : (length c.args.arguments.now == 0) ≡ true = cc in
+    comes_from line c.key-in-Getch.result (TakesKey c.args.self.now false c.args.target line) (Kept c.key-in-Getch.new.self) _ (Kept c.key-in-Getch.new.self) _ _ _ _
+    (λ tree points s now call.
+    getch_from c.args.self.now c.key-in-Getch.new.self c.args.globals.now c.args.target c.args.arguments.now line (empty_list c.args.arguments.now flag) tree points s now
+    (subst (λ (d : DosCall). CallsDos c.args.self.now c.args.globals.now d c.args.target c.args.arguments.now line tree points s now) c.in-Getch.is call))
+    (c.key-in-Getch.ensures.comes line)

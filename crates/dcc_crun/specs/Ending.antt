@@ -1,0 +1,37 @@
+-- How a run has ended, and what steps answer.
+use Rattle.dcc_run.specs.End.{End, Running as running, Exit as exited, Divide as divided, Stuck as stuck}
+use Rattle.dcc_crun.specs.declared.value.NoValue.{NoValue}
+use Rattle.dcc_crun.specs.declared.value.NoValue.TheVariants.{Divides as Faults, Undefined as Meaningless}
+use Rattle.dcc_crun.specs.declared.ending.CStepped.{CStepped}
+use Rattle.dcc_crun.specs.declared.ending.CStepped.TheVariants.{Running as still_running, Exit as exit_answered, Divide as divide_answered, Stuck as stuck_answered, InFault, OutFault, Memory as memory_answered}
+use Rattle.dcc_crun.specs.declared.ending.Ending.{Ending}
+use Rattle.dcc_crun.specs.declared.ending.Ending.TheVariants.{Running, Exit, Divide, Stuck}
+use Rattle.dcc_crun.specs.declared.ending.Fault.{Fault}
+use Rattle.dcc_crun.specs.declared.ending.Fault.TheVariants.{Input, Output, Memory}
+use Rattle.dcc_crun.specs.declared.ending.Stop.{Stop}
+use Rattle.dcc_crun.specs.declared.ending.Stop.TheVariants.{Divides, Undefined}
+
+-- the end of the run that the code keeps
+abbrev pub end_of : Ending → End
+end_of Running = running
+end_of (Exit code) = exited code
+end_of Divide = divided
+end_of (Stuck line) = stuck line
+
+-- what a step answers whose run has ended so, or goes on
+abbrev pub answer_of : Ending → CStepped
+answer_of Running = still_running
+answer_of (Exit code) = exit_answered code
+answer_of Divide = divide_answered
+answer_of (Stuck line) = stuck_answered line
+
+-- an evaluation that gives nothing stops what a statement does
+abbrev pub stop_of : NoValue → Stop
+stop_of Faults = Divides
+stop_of Meaningless = Undefined
+
+-- what a step answers that is refused
+abbrev pub fault_answer_of : Fault → CStepped
+fault_answer_of Input = InFault
+fault_answer_of Output = OutFault
+fault_answer_of Memory = memory_answered

@@ -1,0 +1,124 @@
+-- The state of a text's run that a run of the code stands for.
+use Rattle.std.specs.Prelude.{◌≡◌, ℕ, ◌+◌, ◌%◌, Bool, false, List, [], ◌∷◌, ◌++◌, map, Option, Some, None, is_some, slice_get}
+use Rattle.std.specs.Option.{option_map}
+use Rattle.dcc_run.specs.End.{Running as running}
+use Rattle.dcc_c.specs.declared.syntax.CType.{CType}
+use Rattle.dcc_c.specs.Tree.{Word, Variable as DeclaredVariable, Function, Tree}
+use Rattle.dcc_c.specs.Typing.{Declared}
+use Rattle.dcc_c.specs.Rules.{declared_global}
+use Rattle.dcc_c.specs.Placement.{params_of_call, locals_of_call}
+use Rattle.dcc_c.specs.Value.{declared_by}
+use Rattle.dcc_c.specs.Run.{Continuation, runs, ends_function, Frame, Waiting as WaitingCall, State, global_binding, is_start, after_goto}
+use Rattle.dcc_crun.specs.declared.expression.Target.{Target}
+use Rattle.dcc_crun.specs.declared.program.Variable.{Variable}
+use Rattle.dcc_crun.specs.declared.program.Procedure.{Procedure}
+use Rattle.dcc_crun.specs.declared.program.Program.{Program}
+use Rattle.dcc_crun.specs.declared.call.Call.{Call}
+use Rattle.dcc_crun.specs.declared.call.Waiting.{Waiting}
+use Rattle.dcc_crun.specs.declared.moment.Moment.{Moment}
+use Rattle.dcc_crun.specs.declared.run.CRun.{CRun}
+use Rattle.dcc_crun.specs.Evaluation.{bindings_named}
+use Rattle.dcc_crun.specs.Resolved.{target_named, IsTargetIn}
+use Rattle.dcc_crun.specs.Ending.{end_of}
+use Rattle.dcc_crun.specs.Points.{Goes, MayGo, point_named, locals_declared, AreRows}
+
+-- The program.
+
+-- the address of a parameter or a local variable in a call with the base
+abbrev pub place_in : ℕ → Variable → Option ℕ
+place_in base v = option_map (λ offset. (base + offset) % 65536) v.offset
+
+-- a type, and whether it is that of an array's elements
+pub record Kind : Type 0 where
+  pub type : CType
+  pub is_array : Bool
+
+abbrev pub kind_of : Variable → Kind
+kind_of v = record { type = v.ty; is_array = v.is_array }
+
+abbrev pub declared_kind : DeclaredVariable → Kind
+declared_kind v = record { type = v.type; is_array = is_some v.len }
+
+-- the variables have the types that they are declared with, and stand at these places
+pub record AreVariables (declared : List DeclaredVariable) (places_of : ℕ → List (Option ℕ)) (variables : List Variable) : Type 0 where
+  pub kinds : map kind_of variables ≡ map declared_kind declared
+  pub places : (base : ℕ) → map (place_in base) variables ≡ places_of base
+
+-- no point is open
+abbrev pub none_open : ℕ → Bool
+none_open at = false
+
+-- the procedure is the function, whose points have these continuations
+pub record IsProcedure (tree : Tree) (f : Function) (points : List Continuation) (procedure : Procedure) : Type 0 where
+  pub is_start : procedure.is_start ≡ is_start f
+  pub result : procedure.result ≡ f.result
+  pub params : AreVariables f.params (params_of_call f) procedure.params.items
+  pub locals : AreVariables f.locals (locals_of_call f) procedure.locals.items
+  pub rows : AreRows tree f none_open points procedure.rows.items procedure.labels.items
+  pub labels : (word : Word) → MayGo tree points (point_named procedure.labels.items word) (after_goto f word)
+  pub entry : Goes tree points procedure.entry (runs f.body (ends_function f.last))
+
+-- the function of this number has its procedure
+pub record HasProcedure (tree : Tree) (f : Function) (points : List Continuation) (program : Program) (number : ℕ) : Type 0 where
+  pub procedure : Procedure
+  pub here : slice_get program.procedures.items number ≡ Some procedure
+  pub is : IsProcedure tree f points procedure
+
+-- the program is the text, the points of whose functions, by their numbers, have these continuations
+pub record IsProgram (tree : Tree) (points : ℕ → List Continuation) (program : Program) : Type 0 where
+  pub globals : bindings_named (map declared_global tree.globals) program.globals.items ≡ map global_binding tree.globals
+  pub procedures : (number : ℕ) (f : Function) → slice_get tree.functions number ≡ Some f →
+      HasProcedure tree f (points number) program number
+
+-- Calls.
+
+-- the call has the function, the base and the variables
+pub record IsCallOf (tree : Tree) (call : Call) (frame : Frame) : Type 0 where
+  pub function : slice_get tree.functions call.procedure ≡ Some frame.function
+  pub base : call.base ≡ frame.base
+  pub variables : bindings_named (locals_declared frame.function) call.variables.items ≡ frame.variables
+  pub declared : map declared_by frame.variables ≡ locals_declared frame.function
+
+abbrev pub IsTargetIf : List Declared → Option Target → Type 0
+IsTargetIf names None = Unit {0}
+IsTargetIf names (Some target) = IsTargetIn names target
+
+-- the call waits, and wants its result there
+pub record IsWaiting (tree : Tree) (points : ℕ → List Continuation) (w : Waiting) (waiting : WaitingCall) : Type 0 where
+  pub call : IsCallOf tree w.call waiting.frame
+  pub rest : Goes tree (points w.call.procedure) w.call.at waiting.rest
+  pub target : option_map (target_named (locals_declared waiting.frame.function)) w.target ≡ waiting.target
+  pub lands : IsTargetIf (locals_declared waiting.frame.function) w.target
+
+-- the last of the list waits as the first of the calls, and the others as the others
+abbrev pub AreWaiting : Tree → (ℕ → List Continuation) → List Waiting → List WaitingCall → Type 0
+AreWaiting tree points ws [] = ws ≡ []
+AreWaiting tree points ws (call ∷ waiting) =
+    (others : List Waiting) × (last : Waiting) × (ws ≡ others ++ last ∷ []) × IsWaiting tree points last call
+    × AreWaiting tree points others waiting
+
+-- States.
+
+-- all but how the text goes on
+pub record IsRunning (tree : Tree) (points : ℕ → List Continuation) (m : Moment) (s : State) : Type 0 where
+  pub call : IsCallOf tree m.call s.frame
+  pub waiting : AreWaiting tree points m.waiting.items s.waiting
+  pub fill : m.fill ≡ s.fill
+  pub memory : m.memory.items ≡ s.memory
+  pub end : end_of m.end ≡ s.end
+
+-- a run that is not over
+pub record IsGoing (tree : Tree) (points : ℕ → List Continuation) (m : Moment) (s : State) : Type 0 where
+  pub state : IsRunning tree points m s
+  pub rest : Goes tree (points m.call.procedure) m.call.at s.rest
+
+-- of a run that is over only its end counts
+pub record IsMoment (tree : Tree) (points : ℕ → List Continuation) (m : Moment) (s : State) : Type 0 where
+  pub end : end_of m.end ≡ s.end
+  pub going : s.end ≡ running → IsGoing tree points m s
+
+-- the run stands for the state of the text's run, but for what is read and written
+pub record StandsAt (tree : Tree) (run : CRun) (s : State) : Type 0 where
+  pub points : ℕ → List Continuation
+  pub program : IsProgram tree points run.program
+  pub moment : IsMoment tree points run.moment s

@@ -1,0 +1,123 @@
+//! How a step comes out, and how a run has ended.
+
+ghost use Rattle.std.specs.Prelude.{◌≡◌};
+ghost use Rattle.dcc_crun.specs.Ending.{answer_of, fault_answer_of};
+
+use crate::value::NoValue;
+use std::alloc::{AllocError, AllocFailed};
+
+/// How a step or a run came out.
+#[derive(Clone, Copy, PartialEq, Eq, Debug)]
+pub enum CStepped {
+    /// The run goes on.
+    Running,
+    /// The text ended with this exit code.
+    Exit(u8),
+    /// A division has no quotient.
+    Divide,
+    /// The statement or the closing brace in this line has no step.
+    Stuck(u32),
+    /// A read of the input failed; the step was not made.
+    InFault,
+    /// A write to the output failed; the step was not made.
+    OutFault,
+    /// Memory was wanting; the step was not made.
+    Memory,
+}
+
+/// How a run has ended, if it has.
+#[derive(Clone, Copy, PartialEq, Eq, Debug)]
+pub enum Ending {
+    /// The run goes on.
+    Running,
+    /// With this exit code.
+    Exit(u8),
+    /// By a division that has no quotient.
+    Divide,
+    /// In this line, at a statement or a closing brace that has no step.
+    Stuck(u32),
+}
+
+/// Why a step is refused.
+#[derive(Clone, Copy, PartialEq, Eq, Debug)]
+pub(crate) enum Fault {
+    /// A read failed.
+    Input,
+    /// A write failed.
+    Output,
+    /// Memory was wanting.
+    Memory,
+}
+
+/// Why what a statement does stops before its end.
+#[derive(Clone, Copy, PartialEq, Eq, Debug)]
+pub(crate) enum Stop {
+    /// A division has no quotient.
+    Divides,
+    /// It has no meaning.
+    Undefined,
+    /// It is refused.
+    Refused(Fault),
+}
+
+impl From<NoValue> for Stop {
+    ghost use Rattle.dcc_crun.specs.Ending.{stop_of};
+
+    ghost from_gives = { λ why stop. stop ≡ stop_of why };
+
+    fn from(why: NoValue) -> Stop {
+        match why {
+            NoValue::Divides => Stop::Divides,
+            NoValue::Undefined => Stop::Undefined,
+        }
+    }
+}
+
+impl From<AllocError> for Stop {
+    ghost use Rattle.dcc_crun.specs.declared.ending.Fault.TheVariants.{Memory};
+    ghost use Rattle.dcc_crun.specs.declared.ending.Stop.TheVariants.{Refused};
+
+    ghost from_gives = { λ _ stop. stop ≡ Refused Memory };
+
+    fn from(_: AllocError) -> Stop {
+        Stop::Refused(Fault::Memory)
+    }
+}
+
+impl<T: Drop> From<AllocFailed<T>> for Stop {
+    ghost use Rattle.dcc_crun.specs.declared.ending.Fault.TheVariants.{Memory};
+    ghost use Rattle.dcc_crun.specs.declared.ending.Stop.TheVariants.{Refused};
+
+    ghost from_gives = { λ _ stop. stop ≡ Refused Memory };
+
+    fn from(_: AllocFailed<T>) -> Stop {
+        Stop::Refused(Fault::Memory)
+    }
+}
+
+impl Ending {
+    /// What a step answers.
+    pub(crate) fn answer(self) -> CStepped
+        ensures { result ≡ answer_of self }
+    {
+        match self {
+            Ending::Running => CStepped::Running,
+            Ending::Exit(code) => CStepped::Exit(code),
+            Ending::Divide => CStepped::Divide,
+            Ending::Stuck(line) => CStepped::Stuck(line),
+        }
+    }
+}
+
+impl Fault {
+    /// What a step answers that is refused.
+    pub(crate) fn answer(self) -> CStepped
+        ensures { result ≡ fault_answer_of self }
+    {
+        match self {
+            Fault::Input => CStepped::InFault,
+            Fault::Output => CStepped::OutFault,
+            Fault::Memory => CStepped::Memory,
+        }
+    }
+}
