@@ -1,6 +1,6 @@
 //! The lines of a unit, counted as they stand in its written form.
 
-ghost use Rattle.std.specs.Prelude.{◌≡◌, true, ◌+◌, ◌<◌, if◌then◌else◌, ◌∷◌, OnOk, IfOk, length, drop, map};
+ghost use Rattle.std.specs.Prelude.{◌≡◌, true, ◌+◌, ◌<◌, if◌then◌else◌, ◌∷◌, [], OnOk, IfOk, length, drop, map};
 ghost use Rattle.std.specs.List.{list_all};
 ghost use Rattle.dcc_c.specs.Tree.{Arms, no_arms};
 ghost use Rattle.dcc_c.specs.Parts.{stmts_in, inner_stmts, arm_stmts};
@@ -14,6 +14,7 @@ ghost use Rattle.dcc_pipe.specs.Unbroken.{are_unbroken, is_unbroken_tree};
 use dcc_c::{Arm, CStmt, Func, Line, Unit};
 use dcc_print::{globals_rows, next_depth};
 use std::alloc::{AllocError, Global};
+use std::mem;
 
 /// The depth of calls that is in force where a function's body begins, in bytes.
 const FIRST_DEPTH: u32 = 2;
@@ -83,32 +84,55 @@ fn behind_if(end: Place, has_else: bool) -> Result<Place, AllocError>
     if has_else { end.below() } else { Ok(end) }
 }
 
-/// Counts the lines inside a statement that stands in this line. The answer is the place behind it.
-#[cycle(number)]
-fn number_stmt(depth: u32, line: u32, stmt: &mut CStmt) -> Result<Place, AllocError>
-    ensures numbered { are_unbroken (stmt_of stmt.old ∷ inner_stmts (stmt_of stmt.old)) ≡ true →
-        OnOk result (stmt_of stmt.new ≡ numbered_stmt depth line (stmt_of stmt.old)) }
-    ensures line { are_unbroken (stmt_of stmt.old ∷ inner_stmts (stmt_of stmt.old)) ≡ true →
-        IfOk result (λ behind. behind.line ≡ line + rows (written_stmt 1 depth (stmt_of stmt.old))) }
-    ensures depth { IfOk result (λ behind.
-        behind.depth ≡ depth_behind depth (stmt_of stmt.old ∷ inner_stmts (stmt_of stmt.old))) }
+/// The depth in force behind a statement without others inside it.
+fn depth_behind_simple(depth: u32, stmt: &CStmt) -> u32
+    ensures { result ≡ depth_behind depth (stmt_of stmt.now ∷ []) }
 {
     match stmt {
-        CStmt::If(_, body, otherwise) => {
-            let middle = number_lines(depth, further(line, 1)?, body)?;
+        CStmt::Call(_, _, _, own) => *own,
+        _ => depth,
+    }
+}
+
+/// The statement, which stands in this line, with the lines inside it counted, and the place behind it.
+#[cycle(number)]
+fn number_stmt(depth: u32, line: u32, stmt: CStmt) -> Result<(CStmt, Place), AllocError>
+    ensures numbered { are_unbroken (stmt_of stmt ∷ inner_stmts (stmt_of stmt)) ≡ true →
+        IfOk result (λ r. stmt_of r.0 ≡ numbered_stmt depth line (stmt_of stmt)) }
+    ensures line { are_unbroken (stmt_of stmt ∷ inner_stmts (stmt_of stmt)) ≡ true →
+        IfOk result (λ r. r.1.line ≡ line + rows (written_stmt 1 depth (stmt_of stmt))) }
+    ensures depth { IfOk result (λ r. r.1.depth ≡ depth_behind depth (stmt_of stmt ∷ inner_stmts (stmt_of stmt))) }
+{
+    match stmt {
+        CStmt::If(test, mut body, mut otherwise) => {
+            let middle = number_lines(depth, further(line, 1)?, &mut body)?;
             let has_else = !otherwise.is_empty();
-            let end = number_lines(middle.depth, further(middle.line, 1)?, otherwise)?;
-            behind_if(end, has_else)
+            let end = number_lines(middle.depth, further(middle.line, 1)?, &mut otherwise)?;
+            let behind = behind_if(end, has_else)?;
+            Ok((CStmt::If(test, body, otherwise), behind))
         }
-        CStmt::While(_, body) => number_lines(depth, further(line, 1)?, body)?.below(),
-        CStmt::DoWhile(body, _) => number_lines(depth, further(line, 1)?, body)?.below(),
-        CStmt::Forever(body) => number_lines(depth, further(line, 1)?, body)?.below(),
-        CStmt::Switch(_, arms, last) => {
-            let middle = number_arms(depth, further(line, 1)?, arms)?;
-            number_default(middle.depth, further(middle.line, 1)?, last)
+        CStmt::While(test, mut body) => {
+            let behind = number_lines(depth, further(line, 1)?, &mut body)?.below()?;
+            Ok((CStmt::While(test, body), behind))
         }
-        CStmt::Call(_, _, _, own) => Place { line, depth: *own }.below(),
-        _ => Place { line, depth }.below(),
+        CStmt::DoWhile(mut body, test) => {
+            let behind = number_lines(depth, further(line, 1)?, &mut body)?.below()?;
+            Ok((CStmt::DoWhile(body, test), behind))
+        }
+        CStmt::Forever(mut body) => {
+            let behind = number_lines(depth, further(line, 1)?, &mut body)?.below()?;
+            Ok((CStmt::Forever(body), behind))
+        }
+        CStmt::Switch(value, mut arms, mut last) => {
+            let middle = number_arms(depth, further(line, 1)?, &mut arms)?;
+            let behind = number_default(middle.depth, further(middle.line, 1)?, &mut last)?;
+            Ok((CStmt::Switch(value, arms, last), behind))
+        }
+        simple => {
+            let depth = depth_behind_simple(depth, &simple);
+            let behind = Place { line, depth }.below()?;
+            Ok((simple, behind))
+        }
     }
 }
 
@@ -191,14 +215,17 @@ fn number_line(depth: u32, here: u32, line: &mut Line) -> Result<Place, AllocErr
     ensures depth { IfOk result (λ behind.
         behind.depth ≡ depth_behind depth (stmt_of line.old.stmt ∷ inner_stmts (stmt_of line.old.stmt))) }
 {
+    let stmt = mem::replace(&mut line.stmt, CStmt::Empty);
+    let (stmt, behind) = number_stmt(depth, here, stmt)?;
+    line.stmt = stmt;
     line.line = here;
-    number_stmt(depth, here, &mut line.stmt)
+    Ok(behind)
 }
 
 /// Counts the lines of a function whose head stands in this line. The answer is the line behind it.
 fn number_function(line: u32, f: &mut Func) -> Result<u32, AllocError>
-    requires { are_unbroken (stmts_in (lines_of f.old.body.items)) ≡ true }
-    ensures numbered { OnOk result (function_of f.new ≡ numbered_function line (function_of f.old)) }
+    ensures numbered { are_unbroken (stmts_in (lines_of f.old.body.items)) ≡ true →
+        OnOk result (function_of f.new ≡ numbered_function line (function_of f.old)) }
     ensures line { IfOk result (λ behind. behind ≡ f.new.last + 1) }
 {
     let first = further(further(line, 2)?, f.locals.len())?;
@@ -208,21 +235,20 @@ fn number_function(line: u32, f: &mut Func) -> Result<u32, AllocError>
 
 /// Counts the lines of functions, the head of the first of which stands in this line.
 fn number_functions(line: u32, functions: &mut [Func]) -> Result<(), AllocError>
-    requires { list_all (λ f. are_unbroken (stmts_in f.body)) (map function_of functions.old) ≡ true }
-    ensures { OnOk result (map function_of functions.new ≡ numbered_functions line (map function_of functions.old)) }
+    ensures { list_all (λ f. are_unbroken (stmts_in f.body)) (map function_of functions.old) ≡ true →
+        OnOk result (map function_of functions.new ≡ numbered_functions line (map function_of functions.old)) }
 {
-    let mut line = line;
+    let mut next = line;
     for i in 0..functions.len() {
-        line = number_function(line, &mut functions[i])?;
+        next = number_function(next, &mut functions[i])?;
     }
     Ok(())
 }
 
-/// The unit with its lines counted as they stand in its written form. A line whose number has more than 32 bits is told
-/// as want of memory.
+/// The unit with its lines counted as they stand in its written form, where no name has a line feed. A line whose number
+/// has more than 32 bits is told as want of memory.
 pub(crate) fn number(alloc: Global, unit: Unit) -> Result<Unit, AllocError>
-    requires { is_unbroken_tree (tree_of unit) ≡ true }
-    ensures { IfOk result (λ r. tree_of r ≡ numbered (tree_of unit)) }
+    ensures { is_unbroken_tree (tree_of unit) ≡ true → IfOk result (λ r. tree_of r ≡ numbered (tree_of unit)) }
 {
     let mut unit = unit;
     let line = further(3, globals_rows(alloc, &unit.globals)?)?;

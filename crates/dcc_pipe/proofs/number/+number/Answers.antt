@@ -102,226 +102,188 @@ number_default-returns-in_ok-below-in-Some-clause-depth t c =
 
 -- An `if`.
 
-pub number_stmt-returns-in_ok-end-in-If-clause-numbered : goal.number_stmt-returns-in_ok-end-in-If-clause-numbered
-number_stmt-returns-in_ok-end-in-If-clause-numbered t c u =
-    let e = expr_of c.in-If.field-0 in
+pub number_stmt-returns-in_ok-behind-in-If-clause-numbered : goal.number_stmt-returns-in_ok-behind-in-If-clause-numbered
+number_stmt-returns-in_ok-behind-in-If-clause-numbered t c u =
+    let e = expr_of c.in-If.test in
     let body = lines_of c.deref_mut.result.now in
     let otherwise = lines_of c.deref_mut-in-If.result.now in
-    let stmt = stmt_of c.args.stmt.now in
-    let value : c.deref_mut.result.now ≡ c.in-If.body.items = c.deref_mut.ensures.value ∙ ap (λ v. v.items) c.in-If.body-is in
-    let other : c.deref_mut-in-If.result.now ≡ c.in-If.otherwise.items = c.deref_mut-in-If.ensures.value ∙ ap (λ v. v.items) c.in-If.otherwise-is in
-    let is : stmt ≡ If e body otherwise = ap stmt_of c.in-If.is ∙ if-tree c.in-If.field-0 c.in-If.body c.in-If.otherwise
-        ∙ ap₂ (λ b o. If e (lines_of b) (lines_of o)) (sym value) (sym other) in
+    let stmt = stmt_of c.args.stmt in
+    let is : stmt ≡ If e body otherwise = ap stmt_of c.in-If.is ∙ if-tree c.in-If.test c.in-If.body c.in-If.otherwise
+        ∙ ap₂ (λ b o. If e (lines_of b) (lines_of o)) (sym c.deref_mut.ensures.value) (sym c.deref_mut-in-If.ensures.value) in
     let inner = both-unbroken (stmts_in body) (stmts_in otherwise) (inner-unbroken stmt (stmts_in body ++ stmts_in otherwise) (ap inner_stmts is) u) in
     let lines = c.in_ok-middle-in-If.ensures in
     let middle = c.in_ok-middle-in-If.middle in
     let counted : If e (lines_of c.number_lines.new.lines) (lines_of c.number_lines-in-If.new.lines) ≡ numbered_stmt c.args.depth c.args.line stmt =
     if-numbered c.args.depth c.args.line stmt e body otherwise c.in_ok-further-in-If.field-0 middle.depth middle.line c.in_ok-further-in-If-2.field-0 (lines_of c.number_lines.new.lines) (lines_of c.number_lines-in-If.new.lines) is c.in_ok-further-in-If.ensures (lines.numbered inner.0) (lines.line inner.0) lines.depth c.in_ok-further-in-If-2.ensures (c.in_ok-end-in-If.ensures.numbered inner.1) in
-    rw c.in-If.is (on-ok c.behind_if.result (counted-if c.in-If.field-0 c.in-If.body c.in-If.otherwise c.in-If.field-0 c.number_lines.new.lines c.number_lines-in-If.new.lines _ refl (c.number_lines.auto.lines ∙ ap length value) (c.number_lines-in-If.auto.lines ∙ ap length other) (counted ∙ ap (λ s. numbered_stmt c.args.depth c.args.line (stmt_of s)) c.in-If.is)))
+    counted-if _ _ _ c.in-If.test c.number_lines.new.lines c.number_lines-in-If.new.lines _ refl (c.number_lines.auto.lines ∙ ap length c.deref_mut.ensures.value) (c.number_lines-in-If.auto.lines ∙ ap length c.deref_mut-in-If.ensures.value) counted
 
-pub number_stmt-returns-in_ok-end-in-If-clause-line : goal.number_stmt-returns-in_ok-end-in-If-clause-line
-number_stmt-returns-in_ok-end-in-If-clause-line t c u =
-    let e = expr_of c.in-If.field-0 in
+pub number_stmt-returns-in_ok-behind-in-If-clause-line : goal.number_stmt-returns-in_ok-behind-in-If-clause-line
+number_stmt-returns-in_ok-behind-in-If-clause-line t c u =
+    let e = expr_of c.in-If.test in
     let body = lines_of c.deref_mut.result.now in
     let otherwise = lines_of c.deref_mut-in-If.result.now in
-    let stmt = stmt_of c.args.stmt.now in
-    let value : c.deref_mut.result.now ≡ c.in-If.body.items = c.deref_mut.ensures.value ∙ ap (λ v. v.items) c.in-If.body-is in
-    let other : c.deref_mut-in-If.result.now ≡ c.in-If.otherwise.items = c.deref_mut-in-If.ensures.value ∙ ap (λ v. v.items) c.in-If.otherwise-is in
-    let is : stmt ≡ If e body otherwise = ap stmt_of c.in-If.is ∙ if-tree c.in-If.field-0 c.in-If.body c.in-If.otherwise
-        ∙ ap₂ (λ b o. If e (lines_of b) (lines_of o)) (sym value) (sym other) in
+    let stmt = stmt_of c.args.stmt in
+    let is : stmt ≡ If e body otherwise = ap stmt_of c.in-If.is ∙ if-tree c.in-If.test c.in-If.body c.in-If.otherwise
+        ∙ ap₂ (λ b o. If e (lines_of b) (lines_of o)) (sym c.deref_mut.ensures.value) (sym c.deref_mut-in-If.ensures.value) in
     let inner = both-unbroken (stmts_in body) (stmts_in otherwise) (inner-unbroken stmt (stmts_in body ++ stmts_in otherwise) (ap inner_stmts is) u) in
-    let flat = test-unbroken stmt e (ap exprs_of is) u in
     let lines = c.in_ok-middle-in-If.ensures in
     let middle = c.in_ok-middle-in-If.middle in
+    let flat = test-unbroken stmt e (ap exprs_of is) u in
     let end = c.in_ok-end-in-If.ensures.line inner.1 in
+    let last = c.in_ok-behind-in-If.ensures.line in
     let has_else : not c.is_empty-has_else.result ≡ not (length c.deref_mut-in-If.result.now == 0) = ap not (c.is_empty-has_else.ensures ∙ ap (λ n. n == 0) (sym c.deref_mut-in-If.ensures.len)) in
     let more = else-lines middle.depth c.deref_mut-in-If.result.now (not c.is_empty-has_else.result) has_else in
-    IfOk-weaker c.behind_if.result _ _
-    (λ behind line_is. if-line c.args.depth c.args.line stmt e body otherwise c.in_ok-further-in-If.field-0 middle.depth middle.line c.in_ok-further-in-If-2.field-0 behind.line is flat c.in_ok-further-in-If.ensures (lines.line inner.0) lines.depth c.in_ok-further-in-If-2.ensures (omega (arith, line_is, end, more)))
-    c.behind_if.ensures.line
+    if-line c.args.depth c.args.line stmt e body otherwise c.in_ok-further-in-If.field-0 middle.depth middle.line c.in_ok-further-in-If-2.field-0 c.in_ok-behind-in-If.behind.line is flat c.in_ok-further-in-If.ensures (lines.line inner.0) lines.depth c.in_ok-further-in-If-2.ensures (omega (arith, last, end, more))
 
-pub number_stmt-returns-in_ok-end-in-If-clause-depth : goal.number_stmt-returns-in_ok-end-in-If-clause-depth
-number_stmt-returns-in_ok-end-in-If-clause-depth t c =
-    let e = expr_of c.in-If.field-0 in
+pub number_stmt-returns-in_ok-behind-in-If-clause-depth : goal.number_stmt-returns-in_ok-behind-in-If-clause-depth
+number_stmt-returns-in_ok-behind-in-If-clause-depth t c =
+    let e = expr_of c.in-If.test in
     let body = lines_of c.deref_mut.result.now in
     let otherwise = lines_of c.deref_mut-in-If.result.now in
-    let stmt = stmt_of c.args.stmt.now in
-    let value : c.deref_mut.result.now ≡ c.in-If.body.items = c.deref_mut.ensures.value ∙ ap (λ v. v.items) c.in-If.body-is in
-    let other : c.deref_mut-in-If.result.now ≡ c.in-If.otherwise.items = c.deref_mut-in-If.ensures.value ∙ ap (λ v. v.items) c.in-If.otherwise-is in
-    let is : stmt ≡ If e body otherwise = ap stmt_of c.in-If.is ∙ if-tree c.in-If.field-0 c.in-If.body c.in-If.otherwise
-        ∙ ap₂ (λ b o. If e (lines_of b) (lines_of o)) (sym value) (sym other) in
-    IfOk-weaker c.behind_if.result _ _
-    (λ behind depth_is. if-depth c.args.depth stmt e body otherwise c.in_ok-middle-in-If.middle.depth behind.depth is c.in_ok-middle-in-If.ensures.depth (depth_is ∙ c.in_ok-end-in-If.ensures.depth))
-    c.behind_if.ensures.depth
+    let stmt = stmt_of c.args.stmt in
+    let is : stmt ≡ If e body otherwise = ap stmt_of c.in-If.is ∙ if-tree c.in-If.test c.in-If.body c.in-If.otherwise
+        ∙ ap₂ (λ b o. If e (lines_of b) (lines_of o)) (sym c.deref_mut.ensures.value) (sym c.deref_mut-in-If.ensures.value) in
+    if-depth c.args.depth stmt e body otherwise c.in_ok-middle-in-If.middle.depth c.in_ok-behind-in-If.behind.depth is c.in_ok-middle-in-If.ensures.depth (c.in_ok-behind-in-If.ensures.depth ∙ c.in_ok-end-in-If.ensures.depth)
 
 -- Loops.
 
-pub number_stmt-returns-in_ok-number_lines-in-While-clause-numbered : goal.number_stmt-returns-in_ok-number_lines-in-While-clause-numbered
-number_stmt-returns-in_ok-number_lines-in-While-clause-numbered t c u =
-    let e = expr_of c.in-While.field-0 in
+pub number_stmt-returns-in_ok-behind-in-While-clause-numbered : goal.number_stmt-returns-in_ok-behind-in-While-clause-numbered
+number_stmt-returns-in_ok-behind-in-While-clause-numbered t c u =
+    let e = expr_of c.in-While.test in
     let body = lines_of c.deref_mut-in-While.result.now in
-    let stmt = stmt_of c.args.stmt.now in
-    let value : c.deref_mut-in-While.result.now ≡ c.in-While.body.items = c.deref_mut-in-While.ensures.value ∙ ap (λ v. v.items) c.in-While.body-is in
-    let is : stmt ≡ While e body = ap stmt_of c.in-While.is ∙ while-tree c.in-While.field-0 c.in-While.body ∙ ap (λ b. While e (lines_of b)) (sym value) in
+    let stmt = stmt_of c.args.stmt in
+    let is : stmt ≡ While e body = ap stmt_of c.in-While.is ∙ while-tree c.in-While.test c.in-While.body ∙ ap (λ b. While e (lines_of b)) (sym c.deref_mut-in-While.ensures.value) in
     let inner = inner-unbroken stmt (stmts_in body) (ap inner_stmts is) u in
     let counted : While e (lines_of c.number_lines-in-While.new.lines) ≡ numbered_stmt c.args.depth c.args.line stmt =
     ap (λ b. While e b) (c.in_ok-number_lines-in-While.ensures.numbered inner ∙ ap (λ n. numbered_lines c.args.depth n body) c.in_ok-further-in-While.ensures) ∙ ap (numbered_stmt c.args.depth c.args.line) (sym is) in
-    rw c.in-While.is (on-ok c.below.result (counted-while c.in-While.field-0 c.in-While.body c.in-While.field-0 c.number_lines-in-While.new.lines _ refl (c.number_lines-in-While.auto.lines ∙ ap length value) (counted ∙ ap (λ s. numbered_stmt c.args.depth c.args.line (stmt_of s)) c.in-While.is)))
+    counted-while _ _ c.in-While.test c.number_lines-in-While.new.lines _ refl (c.number_lines-in-While.auto.lines ∙ ap length c.deref_mut-in-While.ensures.value) counted
 
-pub number_stmt-returns-in_ok-number_lines-in-While-clause-line : goal.number_stmt-returns-in_ok-number_lines-in-While-clause-line
-number_stmt-returns-in_ok-number_lines-in-While-clause-line t c u =
-    let e = expr_of c.in-While.field-0 in
+pub number_stmt-returns-in_ok-behind-in-While-clause-line : goal.number_stmt-returns-in_ok-behind-in-While-clause-line
+number_stmt-returns-in_ok-behind-in-While-clause-line t c u =
+    let e = expr_of c.in-While.test in
     let body = lines_of c.deref_mut-in-While.result.now in
-    let stmt = stmt_of c.args.stmt.now in
-    let value : c.deref_mut-in-While.result.now ≡ c.in-While.body.items = c.deref_mut-in-While.ensures.value ∙ ap (λ v. v.items) c.in-While.body-is in
-    let is : stmt ≡ While e body = ap stmt_of c.in-While.is ∙ while-tree c.in-While.field-0 c.in-While.body ∙ ap (λ b. While e (lines_of b)) (sym value) in
+    let stmt = stmt_of c.args.stmt in
+    let is : stmt ≡ While e body = ap stmt_of c.in-While.is ∙ while-tree c.in-While.test c.in-While.body ∙ ap (λ b. While e (lines_of b)) (sym c.deref_mut-in-While.ensures.value) in
     let inner = inner-unbroken stmt (stmts_in body) (ap inner_stmts is) u in
     let flat = test-unbroken stmt e (ap exprs_of is) u in
     let first = c.in_ok-further-in-While.ensures in
     let last = c.in_ok-number_lines-in-While.ensures.line inner in
+    let end = c.in_ok-behind-in-While.ensures.line in
     let all = ap (λ s. rows (written_stmt 1 c.args.depth s)) is ∙ while-count c.args.depth e body flat in
-    IfOk-weaker c.below.result _ _ (λ behind line_is. omega (arith, first, last, line_is, all)) c.below.ensures.line
+    omega (arith, first, last, end, all)
 
-pub number_stmt-returns-in_ok-number_lines-in-While-clause-depth : goal.number_stmt-returns-in_ok-number_lines-in-While-clause-depth
-number_stmt-returns-in_ok-number_lines-in-While-clause-depth t c =
-    let e = expr_of c.in-While.field-0 in
+pub number_stmt-returns-in_ok-behind-in-While-clause-depth : goal.number_stmt-returns-in_ok-behind-in-While-clause-depth
+number_stmt-returns-in_ok-behind-in-While-clause-depth t c =
+    let e = expr_of c.in-While.test in
     let body = lines_of c.deref_mut-in-While.result.now in
-    let stmt = stmt_of c.args.stmt.now in
-    let value : c.deref_mut-in-While.result.now ≡ c.in-While.body.items = c.deref_mut-in-While.ensures.value ∙ ap (λ v. v.items) c.in-While.body-is in
-    let is : stmt ≡ While e body = ap stmt_of c.in-While.is ∙ while-tree c.in-While.field-0 c.in-While.body ∙ ap (λ b. While e (lines_of b)) (sym value) in
-    IfOk-weaker c.below.result _ _
-    (λ behind depth_is. depth_is ∙ c.in_ok-number_lines-in-While.ensures.depth ∙ ap (λ s. depth_behind c.args.depth (s ∷ inner_stmts s)) (sym is))
-    c.below.ensures.depth
+    let stmt = stmt_of c.args.stmt in
+    let is : stmt ≡ While e body = ap stmt_of c.in-While.is ∙ while-tree c.in-While.test c.in-While.body ∙ ap (λ b. While e (lines_of b)) (sym c.deref_mut-in-While.ensures.value) in
+    c.in_ok-behind-in-While.ensures.depth ∙ c.in_ok-number_lines-in-While.ensures.depth ∙ ap (λ s. depth_behind c.args.depth (s ∷ inner_stmts s)) (sym is)
 
-pub number_stmt-returns-in_ok-number_lines-in-DoWhile-clause-numbered : goal.number_stmt-returns-in_ok-number_lines-in-DoWhile-clause-numbered
-number_stmt-returns-in_ok-number_lines-in-DoWhile-clause-numbered t c u =
-    let e = expr_of c.in-DoWhile.field-1 in
+pub number_stmt-returns-in_ok-behind-in-DoWhile-clause-numbered : goal.number_stmt-returns-in_ok-behind-in-DoWhile-clause-numbered
+number_stmt-returns-in_ok-behind-in-DoWhile-clause-numbered t c u =
+    let e = expr_of c.in-DoWhile.test in
     let body = lines_of c.deref_mut-in-DoWhile.result.now in
-    let stmt = stmt_of c.args.stmt.now in
-    let value : c.deref_mut-in-DoWhile.result.now ≡ c.in-DoWhile.body.items = c.deref_mut-in-DoWhile.ensures.value ∙ ap (λ v. v.items) c.in-DoWhile.body-is in
-    let is : stmt ≡ DoWhile body e = ap stmt_of c.in-DoWhile.is ∙ do_while-tree c.in-DoWhile.field-1 c.in-DoWhile.body ∙ ap (λ b. DoWhile (lines_of b) e) (sym value) in
+    let stmt = stmt_of c.args.stmt in
+    let is : stmt ≡ DoWhile body e = ap stmt_of c.in-DoWhile.is ∙ do_while-tree c.in-DoWhile.test c.in-DoWhile.body ∙ ap (λ b. DoWhile (lines_of b) e) (sym c.deref_mut-in-DoWhile.ensures.value) in
     let inner = inner-unbroken stmt (stmts_in body) (ap inner_stmts is) u in
     let counted : DoWhile (lines_of c.number_lines-in-DoWhile.new.lines) e ≡ numbered_stmt c.args.depth c.args.line stmt =
     ap (λ b. DoWhile b e) (c.in_ok-number_lines-in-DoWhile.ensures.numbered inner ∙ ap (λ n. numbered_lines c.args.depth n body) c.in_ok-further-in-DoWhile.ensures) ∙ ap (numbered_stmt c.args.depth c.args.line) (sym is) in
-    rw c.in-DoWhile.is (on-ok c.below-in-DoWhile.result (counted-do_while c.in-DoWhile.field-1 c.in-DoWhile.body c.in-DoWhile.field-1 c.number_lines-in-DoWhile.new.lines _ refl (c.number_lines-in-DoWhile.auto.lines ∙ ap length value) (counted ∙ ap (λ s. numbered_stmt c.args.depth c.args.line (stmt_of s)) c.in-DoWhile.is)))
+    counted-do_while _ _ c.in-DoWhile.test c.number_lines-in-DoWhile.new.lines _ refl (c.number_lines-in-DoWhile.auto.lines ∙ ap length c.deref_mut-in-DoWhile.ensures.value) counted
 
-pub number_stmt-returns-in_ok-number_lines-in-DoWhile-clause-line : goal.number_stmt-returns-in_ok-number_lines-in-DoWhile-clause-line
-number_stmt-returns-in_ok-number_lines-in-DoWhile-clause-line t c u =
-    let e = expr_of c.in-DoWhile.field-1 in
+pub number_stmt-returns-in_ok-behind-in-DoWhile-clause-line : goal.number_stmt-returns-in_ok-behind-in-DoWhile-clause-line
+number_stmt-returns-in_ok-behind-in-DoWhile-clause-line t c u =
+    let e = expr_of c.in-DoWhile.test in
     let body = lines_of c.deref_mut-in-DoWhile.result.now in
-    let stmt = stmt_of c.args.stmt.now in
-    let value : c.deref_mut-in-DoWhile.result.now ≡ c.in-DoWhile.body.items = c.deref_mut-in-DoWhile.ensures.value ∙ ap (λ v. v.items) c.in-DoWhile.body-is in
-    let is : stmt ≡ DoWhile body e = ap stmt_of c.in-DoWhile.is ∙ do_while-tree c.in-DoWhile.field-1 c.in-DoWhile.body ∙ ap (λ b. DoWhile (lines_of b) e) (sym value) in
+    let stmt = stmt_of c.args.stmt in
+    let is : stmt ≡ DoWhile body e = ap stmt_of c.in-DoWhile.is ∙ do_while-tree c.in-DoWhile.test c.in-DoWhile.body ∙ ap (λ b. DoWhile (lines_of b) e) (sym c.deref_mut-in-DoWhile.ensures.value) in
     let inner = inner-unbroken stmt (stmts_in body) (ap inner_stmts is) u in
     let flat = test-unbroken stmt e (ap exprs_of is) u in
     let first = c.in_ok-further-in-DoWhile.ensures in
     let last = c.in_ok-number_lines-in-DoWhile.ensures.line inner in
+    let end = c.in_ok-behind-in-DoWhile.ensures.line in
     let all = ap (λ s. rows (written_stmt 1 c.args.depth s)) is ∙ do_while-count c.args.depth e body flat in
-    IfOk-weaker c.below-in-DoWhile.result _ _ (λ behind line_is. omega (arith, first, last, line_is, all)) c.below-in-DoWhile.ensures.line
+    omega (arith, first, last, end, all)
 
-pub number_stmt-returns-in_ok-number_lines-in-DoWhile-clause-depth : goal.number_stmt-returns-in_ok-number_lines-in-DoWhile-clause-depth
-number_stmt-returns-in_ok-number_lines-in-DoWhile-clause-depth t c =
-    let e = expr_of c.in-DoWhile.field-1 in
+pub number_stmt-returns-in_ok-behind-in-DoWhile-clause-depth : goal.number_stmt-returns-in_ok-behind-in-DoWhile-clause-depth
+number_stmt-returns-in_ok-behind-in-DoWhile-clause-depth t c =
+    let e = expr_of c.in-DoWhile.test in
     let body = lines_of c.deref_mut-in-DoWhile.result.now in
-    let stmt = stmt_of c.args.stmt.now in
-    let value : c.deref_mut-in-DoWhile.result.now ≡ c.in-DoWhile.body.items = c.deref_mut-in-DoWhile.ensures.value ∙ ap (λ v. v.items) c.in-DoWhile.body-is in
-    let is : stmt ≡ DoWhile body e = ap stmt_of c.in-DoWhile.is ∙ do_while-tree c.in-DoWhile.field-1 c.in-DoWhile.body ∙ ap (λ b. DoWhile (lines_of b) e) (sym value) in
-    IfOk-weaker c.below-in-DoWhile.result _ _
-    (λ behind depth_is. depth_is ∙ c.in_ok-number_lines-in-DoWhile.ensures.depth ∙ ap (λ s. depth_behind c.args.depth (s ∷ inner_stmts s)) (sym is))
-    c.below-in-DoWhile.ensures.depth
+    let stmt = stmt_of c.args.stmt in
+    let is : stmt ≡ DoWhile body e = ap stmt_of c.in-DoWhile.is ∙ do_while-tree c.in-DoWhile.test c.in-DoWhile.body ∙ ap (λ b. DoWhile (lines_of b) e) (sym c.deref_mut-in-DoWhile.ensures.value) in
+    c.in_ok-behind-in-DoWhile.ensures.depth ∙ c.in_ok-number_lines-in-DoWhile.ensures.depth ∙ ap (λ s. depth_behind c.args.depth (s ∷ inner_stmts s)) (sym is)
 
-pub number_stmt-returns-in_ok-number_lines-in-Forever-clause-numbered : goal.number_stmt-returns-in_ok-number_lines-in-Forever-clause-numbered
-number_stmt-returns-in_ok-number_lines-in-Forever-clause-numbered t c u =
+pub number_stmt-returns-in_ok-behind-in-Forever-clause-numbered : goal.number_stmt-returns-in_ok-behind-in-Forever-clause-numbered
+number_stmt-returns-in_ok-behind-in-Forever-clause-numbered t c u =
     let body = lines_of c.deref_mut-in-Forever.result.now in
-    let stmt = stmt_of c.args.stmt.now in
-    let value : c.deref_mut-in-Forever.result.now ≡ c.in-Forever.body.items = c.deref_mut-in-Forever.ensures.value ∙ ap (λ v. v.items) c.in-Forever.body-is in
-    let is : stmt ≡ Forever body = ap stmt_of c.in-Forever.is ∙ forever-tree c.in-Forever.body ∙ ap (λ b. Forever (lines_of b)) (sym value) in
+    let stmt = stmt_of c.args.stmt in
+    let is : stmt ≡ Forever body = ap stmt_of c.in-Forever.is ∙ forever-tree c.in-Forever.body ∙ ap (λ b. Forever (lines_of b)) (sym c.deref_mut-in-Forever.ensures.value) in
     let inner = inner-unbroken stmt (stmts_in body) (ap inner_stmts is) u in
     let counted : Forever (lines_of c.number_lines-in-Forever.new.lines) ≡ numbered_stmt c.args.depth c.args.line stmt =
     ap (λ b. Forever b) (c.in_ok-number_lines-in-Forever.ensures.numbered inner ∙ ap (λ n. numbered_lines c.args.depth n body) c.in_ok-further-in-Forever.ensures) ∙ ap (numbered_stmt c.args.depth c.args.line) (sym is) in
-    rw c.in-Forever.is (on-ok c.below-in-Forever.result (counted-forever c.in-Forever.body c.number_lines-in-Forever.new.lines _ (c.number_lines-in-Forever.auto.lines ∙ ap length value) (counted ∙ ap (λ s. numbered_stmt c.args.depth c.args.line (stmt_of s)) c.in-Forever.is)))
+    counted-forever _ c.number_lines-in-Forever.new.lines _ (c.number_lines-in-Forever.auto.lines ∙ ap length c.deref_mut-in-Forever.ensures.value) counted
 
-pub number_stmt-returns-in_ok-number_lines-in-Forever-clause-line : goal.number_stmt-returns-in_ok-number_lines-in-Forever-clause-line
-number_stmt-returns-in_ok-number_lines-in-Forever-clause-line t c u =
+pub number_stmt-returns-in_ok-behind-in-Forever-clause-line : goal.number_stmt-returns-in_ok-behind-in-Forever-clause-line
+number_stmt-returns-in_ok-behind-in-Forever-clause-line t c u =
     let body = lines_of c.deref_mut-in-Forever.result.now in
-    let stmt = stmt_of c.args.stmt.now in
-    let value : c.deref_mut-in-Forever.result.now ≡ c.in-Forever.body.items = c.deref_mut-in-Forever.ensures.value ∙ ap (λ v. v.items) c.in-Forever.body-is in
-    let is : stmt ≡ Forever body = ap stmt_of c.in-Forever.is ∙ forever-tree c.in-Forever.body ∙ ap (λ b. Forever (lines_of b)) (sym value) in
+    let stmt = stmt_of c.args.stmt in
+    let is : stmt ≡ Forever body = ap stmt_of c.in-Forever.is ∙ forever-tree c.in-Forever.body ∙ ap (λ b. Forever (lines_of b)) (sym c.deref_mut-in-Forever.ensures.value) in
     let inner = inner-unbroken stmt (stmts_in body) (ap inner_stmts is) u in
     let first = c.in_ok-further-in-Forever.ensures in
     let last = c.in_ok-number_lines-in-Forever.ensures.line inner in
+    let end = c.in_ok-behind-in-Forever.ensures.line in
     let all = ap (λ s. rows (written_stmt 1 c.args.depth s)) is ∙ forever-count c.args.depth body in
-    IfOk-weaker c.below-in-Forever.result _ _ (λ behind line_is. omega (arith, first, last, line_is, all)) c.below-in-Forever.ensures.line
+    omega (arith, first, last, end, all)
 
-pub number_stmt-returns-in_ok-number_lines-in-Forever-clause-depth : goal.number_stmt-returns-in_ok-number_lines-in-Forever-clause-depth
-number_stmt-returns-in_ok-number_lines-in-Forever-clause-depth t c =
+pub number_stmt-returns-in_ok-behind-in-Forever-clause-depth : goal.number_stmt-returns-in_ok-behind-in-Forever-clause-depth
+number_stmt-returns-in_ok-behind-in-Forever-clause-depth t c =
     let body = lines_of c.deref_mut-in-Forever.result.now in
-    let stmt = stmt_of c.args.stmt.now in
-    let value : c.deref_mut-in-Forever.result.now ≡ c.in-Forever.body.items = c.deref_mut-in-Forever.ensures.value ∙ ap (λ v. v.items) c.in-Forever.body-is in
-    let is : stmt ≡ Forever body = ap stmt_of c.in-Forever.is ∙ forever-tree c.in-Forever.body ∙ ap (λ b. Forever (lines_of b)) (sym value) in
-    IfOk-weaker c.below-in-Forever.result _ _
-    (λ behind depth_is. depth_is ∙ c.in_ok-number_lines-in-Forever.ensures.depth ∙ ap (λ s. depth_behind c.args.depth (s ∷ inner_stmts s)) (sym is))
-    c.below-in-Forever.ensures.depth
+    let stmt = stmt_of c.args.stmt in
+    let is : stmt ≡ Forever body = ap stmt_of c.in-Forever.is ∙ forever-tree c.in-Forever.body ∙ ap (λ b. Forever (lines_of b)) (sym c.deref_mut-in-Forever.ensures.value) in
+    c.in_ok-behind-in-Forever.ensures.depth ∙ c.in_ok-number_lines-in-Forever.ensures.depth ∙ ap (λ s. depth_behind c.args.depth (s ∷ inner_stmts s)) (sym is)
 
 -- A `switch`.
 
-pub number_stmt-returns-in_ok-further-in-Switch-2-clause-numbered : goal.number_stmt-returns-in_ok-further-in-Switch-2-clause-numbered
-number_stmt-returns-in_ok-further-in-Switch-2-clause-numbered t c u =
-    let e = expr_of c.in-Switch.field-0 in
+pub number_stmt-returns-in_ok-behind-in-Switch-clause-numbered : goal.number_stmt-returns-in_ok-behind-in-Switch-clause-numbered
+number_stmt-returns-in_ok-behind-in-Switch-clause-numbered t c u =
+    let e = expr_of c.in-Switch.value in
     let arms = arms_of c.deref_mut-in-Switch.result.now in
     let last = arms_if c.in-Switch.last in
-    let stmt = stmt_of c.args.stmt.now in
-    let value : c.deref_mut-in-Switch.result.now ≡ c.in-Switch.arms.items = c.deref_mut-in-Switch.ensures.value ∙ ap (λ v. v.items) c.in-Switch.arms-is in
-    let is : stmt ≡ Switch e arms last = ap stmt_of c.in-Switch.is ∙ switch-tree c.in-Switch.field-0 c.in-Switch.arms c.in-Switch.last
-        ∙ ap (λ b. Switch e (arms_of b) last) (sym value) in
+    let stmt = stmt_of c.args.stmt in
+    let is : stmt ≡ Switch e arms last = ap stmt_of c.in-Switch.is ∙ switch-tree c.in-Switch.value c.in-Switch.arms c.in-Switch.last
+        ∙ ap (λ b. Switch e (arms_of b) last) (sym c.deref_mut-in-Switch.ensures.value) in
     let inner = both-unbroken (arm_stmts arms) (arm_stmts last) (inner-unbroken stmt (arm_stmts arms ++ arm_stmts last) (ap inner_stmts is) u) in
     let lines = c.in_ok-middle-in-Switch.ensures in
     let middle = c.in_ok-middle-in-Switch.middle in
-    rw c.in-Switch.is (on_ok_weaker c.number_default.result
-    (λ last_is.
-        let counted : Switch e (arms_of c.number_arms.new.arms) (arms_if c.number_default.new.last) ≡ numbered_stmt c.args.depth c.args.line stmt =
-        switch-numbered c.args.depth c.args.line stmt e arms last c.in_ok-further-in-Switch.field-0 middle.depth middle.line c.in_ok-further-in-Switch-2.field-0 (arms_of c.number_arms.new.arms) (arms_if c.number_default.new.last) is c.in_ok-further-in-Switch.ensures (lines.numbered inner.0) (lines.line inner.0) lines.depth c.in_ok-further-in-Switch-2.ensures (last_is ∙ ap (λ l. numbered_default middle.depth c.in_ok-further-in-Switch-2.field-0 (arms_if l)) c.in-Switch.last-is) in
-        counted-switch c.in-Switch.field-0 c.in-Switch.arms c.in-Switch.field-0 c.number_default.new.last c.number_arms.new.arms _ refl (c.number_arms.auto.arms ∙ ap length value) (counted ∙ ap (λ s. numbered_stmt c.args.depth c.args.line (stmt_of s)) c.in-Switch.is))
-    (c.number_default.ensures.numbered (ap (λ l. are_unbroken (arm_stmts (arms_if l))) c.in-Switch.last-is ∙ inner.1)))
+    let behind = c.in_ok-behind-in-Switch.ensures in
+    let counted : Switch e (arms_of c.number_arms.new.arms) (arms_if c.number_default.new.last) ≡ numbered_stmt c.args.depth c.args.line stmt =
+    switch-numbered c.args.depth c.args.line stmt e arms last c.in_ok-further-in-Switch.field-0 middle.depth middle.line c.in_ok-further-in-Switch-2.field-0 (arms_of c.number_arms.new.arms) (arms_if c.number_default.new.last) is c.in_ok-further-in-Switch.ensures (lines.numbered inner.0) (lines.line inner.0) lines.depth c.in_ok-further-in-Switch-2.ensures (behind.numbered inner.1) in
+    counted-switch _ _ c.in-Switch.value c.number_default.new.last c.number_arms.new.arms _ refl (c.number_arms.auto.arms ∙ ap length c.deref_mut-in-Switch.ensures.value) counted
 
-pub number_stmt-returns-in_ok-further-in-Switch-2-clause-line : goal.number_stmt-returns-in_ok-further-in-Switch-2-clause-line
-number_stmt-returns-in_ok-further-in-Switch-2-clause-line t c u =
-    let e = expr_of c.in-Switch.field-0 in
+pub number_stmt-returns-in_ok-behind-in-Switch-clause-line : goal.number_stmt-returns-in_ok-behind-in-Switch-clause-line
+number_stmt-returns-in_ok-behind-in-Switch-clause-line t c u =
+    let e = expr_of c.in-Switch.value in
     let arms = arms_of c.deref_mut-in-Switch.result.now in
     let last = arms_if c.in-Switch.last in
-    let stmt = stmt_of c.args.stmt.now in
-    let value : c.deref_mut-in-Switch.result.now ≡ c.in-Switch.arms.items = c.deref_mut-in-Switch.ensures.value ∙ ap (λ v. v.items) c.in-Switch.arms-is in
-    let is : stmt ≡ Switch e arms last = ap stmt_of c.in-Switch.is ∙ switch-tree c.in-Switch.field-0 c.in-Switch.arms c.in-Switch.last
-        ∙ ap (λ b. Switch e (arms_of b) last) (sym value) in
+    let stmt = stmt_of c.args.stmt in
+    let is : stmt ≡ Switch e arms last = ap stmt_of c.in-Switch.is ∙ switch-tree c.in-Switch.value c.in-Switch.arms c.in-Switch.last
+        ∙ ap (λ b. Switch e (arms_of b) last) (sym c.deref_mut-in-Switch.ensures.value) in
     let inner = both-unbroken (arm_stmts arms) (arm_stmts last) (inner-unbroken stmt (arm_stmts arms ++ arm_stmts last) (ap inner_stmts is) u) in
+    let lines = c.in_ok-middle-in-Switch.ensures in
+    let middle = c.in_ok-middle-in-Switch.middle in
+    let behind = c.in_ok-behind-in-Switch.ensures in
     let flat = test-unbroken stmt e (ap exprs_of is) u in
-    let lines = c.in_ok-middle-in-Switch.ensures in
-    let middle = c.in_ok-middle-in-Switch.middle in
-    IfOk-weaker c.number_default.result _ _
-    (λ behind line_is. switch-line c.args.depth c.args.line stmt e arms last c.in_ok-further-in-Switch.field-0 middle.depth middle.line c.in_ok-further-in-Switch-2.field-0 behind.line is flat c.in_ok-further-in-Switch.ensures (lines.line inner.0) lines.depth c.in_ok-further-in-Switch-2.ensures (line_is ∙ ap (λ l. c.in_ok-further-in-Switch-2.field-0 + rows (written_default 1 middle.depth (arms_if l))) c.in-Switch.last-is))
-    (c.number_default.ensures.line (ap (λ l. are_unbroken (arm_stmts (arms_if l))) c.in-Switch.last-is ∙ inner.1))
+    switch-line c.args.depth c.args.line stmt e arms last c.in_ok-further-in-Switch.field-0 middle.depth middle.line c.in_ok-further-in-Switch-2.field-0 c.in_ok-behind-in-Switch.behind.line is flat c.in_ok-further-in-Switch.ensures (lines.line inner.0) lines.depth c.in_ok-further-in-Switch-2.ensures (behind.line inner.1)
 
-pub number_stmt-returns-in_ok-further-in-Switch-2-clause-depth : goal.number_stmt-returns-in_ok-further-in-Switch-2-clause-depth
-number_stmt-returns-in_ok-further-in-Switch-2-clause-depth t c =
-    let e = expr_of c.in-Switch.field-0 in
+pub number_stmt-returns-in_ok-behind-in-Switch-clause-depth : goal.number_stmt-returns-in_ok-behind-in-Switch-clause-depth
+number_stmt-returns-in_ok-behind-in-Switch-clause-depth t c =
+    let e = expr_of c.in-Switch.value in
     let arms = arms_of c.deref_mut-in-Switch.result.now in
     let last = arms_if c.in-Switch.last in
-    let stmt = stmt_of c.args.stmt.now in
-    let value : c.deref_mut-in-Switch.result.now ≡ c.in-Switch.arms.items = c.deref_mut-in-Switch.ensures.value ∙ ap (λ v. v.items) c.in-Switch.arms-is in
-    let is : stmt ≡ Switch e arms last = ap stmt_of c.in-Switch.is ∙ switch-tree c.in-Switch.field-0 c.in-Switch.arms c.in-Switch.last
-        ∙ ap (λ b. Switch e (arms_of b) last) (sym value) in
-    IfOk-weaker c.number_default.result _ _
-    (λ behind depth_is. switch-depth c.args.depth stmt e arms last c.in_ok-middle-in-Switch.middle.depth behind.depth is c.in_ok-middle-in-Switch.ensures.depth (depth_is ∙ ap (λ l. depth_behind c.in_ok-middle-in-Switch.middle.depth (arm_stmts (arms_if l))) c.in-Switch.last-is))
-    c.number_default.ensures.depth
-
--- Other statements.
-
-pub number_stmt-returns-in-Call-clause-line : goal.number_stmt-returns-in-Call-clause-line
-number_stmt-returns-in-Call-clause-line t c u =
-    let stmt = stmt_of c.args.stmt.now in
-    IfOk-weaker c.below-in-Call.result _ _
-    (λ behind line_is. own-line c.args.depth c.args.line behind.line stmt (ap (λ s. has_block (stmt_of s)) c.in-Call.is) u line_is)
-    c.below-in-Call.ensures.line
+    let stmt = stmt_of c.args.stmt in
+    let is : stmt ≡ Switch e arms last = ap stmt_of c.in-Switch.is ∙ switch-tree c.in-Switch.value c.in-Switch.arms c.in-Switch.last
+        ∙ ap (λ b. Switch e (arms_of b) last) (sym c.deref_mut-in-Switch.ensures.value) in
+    switch-depth c.args.depth stmt e arms last c.in_ok-middle-in-Switch.middle.depth c.in_ok-behind-in-Switch.behind.depth is c.in_ok-middle-in-Switch.ensures.depth c.in_ok-behind-in-Switch.ensures.depth
 
 -- The lines of a slice, and the arms.
 
@@ -345,9 +307,12 @@ number_lines-loop-i-preserved t c =
     let here = c.in_ok-here.here in
     let behind = lines-left lines i new in
     record {
-      unvisited = (length-set lines i new ∙ before.unvisited.0, λ k d later.
-          let other : k ≢ i = omega (arith, later) in
-          get_or-set_other lines i k new d other ∙ before.unvisited.1 k d (omega (arith, later)));
+      unvisited = (
+        length-set lines i new ∙ before.unvisited.0,
+        λ k d later.
+            let other : k ≢ i = omega (arith, later) in
+            get_or-set_other lines i k new d other ∙ before.unvisited.1 k d (omega (arith, later)),
+      );
       unbroken = λ u. ap (λ l. are_unbroken (stmts_in l)) behind ∙ (line-unbroken stmt old.line rest left is (before.unbroken u)).1;
       numbered = λ u.
           let inner = (line-unbroken stmt old.line rest left is (before.unbroken u)).0 in
@@ -393,9 +358,12 @@ number_arms-loop-i-preserved t c =
     let before = c.loop-i.invariant in
     let behind = arms-left arms i new in
     record {
-      unvisited = (length-set arms i new ∙ before.unvisited.0, λ k d later.
-          let other : k ≢ i = omega (arith, later) in
-          get_or-set_other arms i k new d other ∙ before.unvisited.1 k d (omega (arith, later)));
+      unvisited = (
+        length-set arms i new ∙ before.unvisited.0,
+        λ k d later.
+            let other : k ≢ i = omega (arith, later) in
+            get_or-set_other arms i k new d other ∙ before.unvisited.1 k d (omega (arith, later)),
+      );
       unbroken = λ u. ap (λ l. are_unbroken (arm_stmts l)) behind ∙ (arms-unbroken old rest left is (before.unbroken u)).1;
       numbered = λ u.
           let inner = (arms-unbroken old rest left is (before.unbroken u)).0 in
