@@ -292,3 +292,20 @@ arms-unbroken a rest left is unbroken =
     let body = stmts_in (lines_of (out-Arm a).body.items) in
     let (first, others) = both-unbroken body (arm_stmts rest) (subst (λ arms. are_unbroken (arm_stmts arms) ≡ true) (is ∙ arm-parts a rest) unbroken) in
     (ap (λ arms. are_unbroken (arm_stmts arms)) (arm-parts a no_arms) ∙ ap are_unbroken (append-nil body) ∙ first, others)
+
+-- a statement without blocks has no lines inside it
+pub simple-same : (depth at : ℕ) (stmt : Stmt) → has_block stmt ≡ false → stmt ≡ numbered_stmt depth at stmt
+simple-same depth at (If e body otherwise) none = absurd cc
+simple-same depth at (While e body) none = absurd cc
+simple-same depth at (DoWhile body e) none = absurd cc
+simple-same depth at (Forever body) none = absurd cc
+simple-same depth at (Switch e arms last) none = absurd cc
+simple-same depth at stmt none = refl
+
+pub simple-inner : (stmt : Stmt) → has_block stmt ≡ false → inner_stmts stmt ≡ []
+simple-inner (If e body otherwise) none = absurd cc
+simple-inner (While e body) none = absurd cc
+simple-inner (DoWhile body e) none = absurd cc
+simple-inner (Forever body) none = absurd cc
+simple-inner (Switch e arms last) none = absurd cc
+simple-inner stmt none = refl

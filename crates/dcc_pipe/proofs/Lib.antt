@@ -30,3 +30,4 @@ pub mod UncountedLaws
 pub mod CountedRows
 pub mod CountedTrees
 pub mod UnbrokenText
+pub mod CountedSimple

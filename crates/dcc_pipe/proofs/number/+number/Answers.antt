@@ -13,7 +13,8 @@ use Rattle.dcc_print.specs.Blocks.{arms_if}
 use Rattle.dcc_print.proofs.RowLaws.{arm-parts, if-tree, while-tree, do_while-tree, forever-tree, switch-tree}
 use Rattle.dcc_pipe.specs.Unbroken.{are_unbroken}
 use Rattle.dcc_pipe.proofs.CountedRows.{has_block, while-count, do_while-count, forever-count, default-count}
-use Rattle.dcc_pipe.proofs.CountedTrees.{lines_before, arms_before, both-unbroken, arm-unbroken, arms-unbroken, counted-arm, counted-if, counted-while, counted-do_while, counted-forever, counted-switch, else-lines, if-numbered, if-line, if-depth, switch-numbered, switch-line, switch-depth, line-numbered, line-line, line-depth, line-unbroken, one-line, one-arm, lines-left, arms-left, first_line, first_arm, whole_lines, whole_arms, arm-numbered, arm-line, arm-depth, test-unbroken, inner-unbroken, own-line, if-both, on-ok}
+use Rattle.dcc_pipe.proofs.CountedTrees.{lines_before, arms_before, both-unbroken, arm-unbroken, arms-unbroken, counted-arm, counted-if, counted-while, counted-do_while, counted-forever, counted-switch, else-lines, if-numbered, if-line, if-depth, switch-numbered, switch-line, switch-depth, line-numbered, line-line, line-depth, line-unbroken, one-line, one-arm, lines-left, arms-left, first_line, first_arm, whole_lines, whole_arms, arm-numbered, arm-line, arm-depth, test-unbroken, inner-unbroken, own-line, simple-same, simple-inner, if-both, on-ok}
+use Rattle.dcc_pipe.proofs.CountedSimple.{no-block}
 use Rattle.dcc_pipe.proofs.number.+number.Goals as goal
 
 -- An arm.
@@ -391,3 +392,17 @@ number_arms-returns-clause-numbered t c u =
     ∙ ap (λ ls. arms_before ls no_arms) (sym (take_all i arms over))
     ∙ ap (λ ls. arms_before (take i arms) (numbered_arms place.depth place.line (arms_of ls))) (sym (drop_all i arms over))
     ∙ c.loop-i.invariant.numbered u
+
+-- Statements without blocks.
+
+pub number_stmt-returns-in_ok-behind-in_default : goal.number_stmt-returns-in_ok-behind-in_default
+number_stmt-returns-in_ok-behind-in_default t c =
+    let not = c.in_default in
+    let stmt = stmt_of c.args.stmt in
+    let none = no-block c.args.stmt (record { no_if = not.not-If; no_while = not.not-While; no_do_while = not.not-DoWhile; no_forever = not.not-Forever; no_switch = not.not-Switch }) in
+    let behind = c.in_ok-behind-in_default.ensures in
+    record {
+      numbered = λ u. simple-same c.args.depth c.args.line stmt none;
+      line = λ u. own-line c.args.depth c.args.line c.in_ok-behind-in_default.behind.line stmt none u behind.line;
+      depth = behind.depth ∙ c.depth_behind_simple-depth.ensures ∙ ap (λ l. depth_behind c.args.depth (stmt ∷ l)) (sym (simple-inner stmt none));
+    }
