@@ -110,7 +110,7 @@ number_stmt-returns-in_ok-behind-in-If-clause-numbered t c u =
     let otherwise = lines_of c.deref_mut-in-If.result.now in
     let stmt = stmt_of c.args.stmt in
     let is : stmt ≡ If e body otherwise = ap stmt_of c.in-If.is ∙ if-tree c.in-If.test c.in-If.body c.in-If.otherwise
-        ∙ ap₂ (λ b o. If e (lines_of b) (lines_of o)) (sym c.deref_mut.ensures.value) (sym c.deref_mut-in-If.ensures.value) in
+    ∙ ap₂ (λ b o. If e (lines_of b) (lines_of o)) (sym c.deref_mut.ensures.value) (sym c.deref_mut-in-If.ensures.value) in
     let inner = both-unbroken (stmts_in body) (stmts_in otherwise) (inner-unbroken stmt (stmts_in body ++ stmts_in otherwise) (ap inner_stmts is) u) in
     let lines = c.in_ok-middle-in-If.ensures in
     let middle = c.in_ok-middle-in-If.middle in
@@ -125,7 +125,7 @@ number_stmt-returns-in_ok-behind-in-If-clause-line t c u =
     let otherwise = lines_of c.deref_mut-in-If.result.now in
     let stmt = stmt_of c.args.stmt in
     let is : stmt ≡ If e body otherwise = ap stmt_of c.in-If.is ∙ if-tree c.in-If.test c.in-If.body c.in-If.otherwise
-        ∙ ap₂ (λ b o. If e (lines_of b) (lines_of o)) (sym c.deref_mut.ensures.value) (sym c.deref_mut-in-If.ensures.value) in
+    ∙ ap₂ (λ b o. If e (lines_of b) (lines_of o)) (sym c.deref_mut.ensures.value) (sym c.deref_mut-in-If.ensures.value) in
     let inner = both-unbroken (stmts_in body) (stmts_in otherwise) (inner-unbroken stmt (stmts_in body ++ stmts_in otherwise) (ap inner_stmts is) u) in
     let lines = c.in_ok-middle-in-If.ensures in
     let middle = c.in_ok-middle-in-If.middle in
@@ -143,7 +143,7 @@ number_stmt-returns-in_ok-behind-in-If-clause-depth t c =
     let otherwise = lines_of c.deref_mut-in-If.result.now in
     let stmt = stmt_of c.args.stmt in
     let is : stmt ≡ If e body otherwise = ap stmt_of c.in-If.is ∙ if-tree c.in-If.test c.in-If.body c.in-If.otherwise
-        ∙ ap₂ (λ b o. If e (lines_of b) (lines_of o)) (sym c.deref_mut.ensures.value) (sym c.deref_mut-in-If.ensures.value) in
+    ∙ ap₂ (λ b o. If e (lines_of b) (lines_of o)) (sym c.deref_mut.ensures.value) (sym c.deref_mut-in-If.ensures.value) in
     if-depth c.args.depth stmt e body otherwise c.in_ok-middle-in-If.middle.depth c.in_ok-behind-in-If.behind.depth is c.in_ok-middle-in-If.ensures.depth (c.in_ok-behind-in-If.ensures.depth ∙ c.in_ok-end-in-If.ensures.depth)
 
 -- Loops.
@@ -252,7 +252,7 @@ number_stmt-returns-in_ok-behind-in-Switch-clause-numbered t c u =
     let last = arms_if c.in-Switch.last in
     let stmt = stmt_of c.args.stmt in
     let is : stmt ≡ Switch e arms last = ap stmt_of c.in-Switch.is ∙ switch-tree c.in-Switch.value c.in-Switch.arms c.in-Switch.last
-        ∙ ap (λ b. Switch e (arms_of b) last) (sym c.deref_mut-in-Switch.ensures.value) in
+    ∙ ap (λ b. Switch e (arms_of b) last) (sym c.deref_mut-in-Switch.ensures.value) in
     let inner = both-unbroken (arm_stmts arms) (arm_stmts last) (inner-unbroken stmt (arm_stmts arms ++ arm_stmts last) (ap inner_stmts is) u) in
     let lines = c.in_ok-middle-in-Switch.ensures in
     let middle = c.in_ok-middle-in-Switch.middle in
@@ -268,7 +268,7 @@ number_stmt-returns-in_ok-behind-in-Switch-clause-line t c u =
     let last = arms_if c.in-Switch.last in
     let stmt = stmt_of c.args.stmt in
     let is : stmt ≡ Switch e arms last = ap stmt_of c.in-Switch.is ∙ switch-tree c.in-Switch.value c.in-Switch.arms c.in-Switch.last
-        ∙ ap (λ b. Switch e (arms_of b) last) (sym c.deref_mut-in-Switch.ensures.value) in
+    ∙ ap (λ b. Switch e (arms_of b) last) (sym c.deref_mut-in-Switch.ensures.value) in
     let inner = both-unbroken (arm_stmts arms) (arm_stmts last) (inner-unbroken stmt (arm_stmts arms ++ arm_stmts last) (ap inner_stmts is) u) in
     let lines = c.in_ok-middle-in-Switch.ensures in
     let middle = c.in_ok-middle-in-Switch.middle in
@@ -283,7 +283,7 @@ number_stmt-returns-in_ok-behind-in-Switch-clause-depth t c =
     let last = arms_if c.in-Switch.last in
     let stmt = stmt_of c.args.stmt in
     let is : stmt ≡ Switch e arms last = ap stmt_of c.in-Switch.is ∙ switch-tree c.in-Switch.value c.in-Switch.arms c.in-Switch.last
-        ∙ ap (λ b. Switch e (arms_of b) last) (sym c.deref_mut-in-Switch.ensures.value) in
+    ∙ ap (λ b. Switch e (arms_of b) last) (sym c.deref_mut-in-Switch.ensures.value) in
     switch-depth c.args.depth stmt e arms last c.in_ok-middle-in-Switch.middle.depth c.in_ok-behind-in-Switch.behind.depth is c.in_ok-middle-in-Switch.ensures.depth c.in_ok-behind-in-Switch.ensures.depth
 
 -- The lines of a slice, and the arms.

@@ -19,10 +19,10 @@ returns-clause-numbered c u =
     let lines = c.in_ok-f.ensures in
     let new = c.number_lines.new.lines in
     let first_is : c.in_ok-first.first ≡ at + 2 + length (map variable_of f.locals.items) =
-    c.in_ok-first.ensures ∙ ap₂ (λ n m. n + m) c.in_ok-further.ensures (c.len.ensures ∙ f.locals.ok.0 ∙ sym (length-map variable_of f.locals.items)) in
+    c.in_ok-first.ensures ∙ ap₂ (λ n m. n + m) c.in_ok-further.ensures (c.len.ensures ∙ f.locals.ok.0 ∙ sym (length-map f.locals.items variable_of)) in
     let made : Lines → ℕ → Function = λ b l. record (function_of f) { body = b; last = l } in
     on-ok c.further-3.result
     (ap₂ made
-        (ap lines_of (with-items f.body new (c.number_lines.auto.lines ∙ ap length value)) ∙ lines.numbered inner
-            ∙ ap₂ (λ n ls. numbered_lines 2 n (lines_of ls)) first_is value)
-        (lines.line inner ∙ ap₂ (λ n ls. n + rows (written_lines 1 2 (lines_of ls))) first_is value))
+    (ap lines_of (with-items f.body new (c.number_lines.auto.lines ∙ ap length value)) ∙ lines.numbered inner
+    ∙ ap₂ (λ n ls. numbered_lines 2 n (lines_of ls)) first_is value)
+    (lines.line inner ∙ ap₂ (λ n ls. n + rows (written_lines 1 2 (lines_of ls))) first_is value))
