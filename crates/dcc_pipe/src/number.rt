@@ -215,6 +215,7 @@ fn number_line(depth: u32, here: u32, line: &mut Line) -> Result<Place, AllocErr
     ensures depth { IfOk result (λ behind.
         behind.depth ≡ depth_behind depth (stmt_of line.old.stmt ∷ inner_stmts (stmt_of line.old.stmt))) }
 {
+    // The statement is taken out, since it is made anew from its parts.
     let stmt = mem::replace(&mut line.stmt, CStmt::Empty);
     let (stmt, behind) = number_stmt(depth, here, stmt)?;
     line.stmt = stmt;
@@ -245,8 +246,8 @@ fn number_functions(line: u32, functions: &mut [Func]) -> Result<(), AllocError>
     Ok(())
 }
 
-/// The unit with its lines counted as they stand in its written form, where no name has a line feed. A line whose number
-/// has more than 32 bits is told as want of memory.
+/// The unit with its lines counted as they stand in its written form, where no name has a line feed. A line whose
+/// number has more than 32 bits is told as want of memory.
 pub(crate) fn number(alloc: Global, unit: Unit) -> Result<Unit, AllocError>
     ensures { is_unbroken_tree (tree_of unit) ≡ true → IfOk result (λ r. tree_of r ≡ numbered (tree_of unit)) }
 {
