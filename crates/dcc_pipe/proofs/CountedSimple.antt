@@ -1,5 +1,5 @@
 -- Statements without blocks, by what they are not.
-use Rattle.std.proofs.Common.{◌≡◌, ◌⊎◌, false, Vec, Global, Option, List, refl, sym, ap, ◌∙◌}
+use Rattle.std.proofs.Common.{◌≡◌, false, Vec, Global, Option, sym, ap, ◌∙◌}
 use Rattle.dcc_c.specs.declared.syntax.CExpr.{CExpr}
 use Rattle.dcc_c.specs.declared.syntax.CStmt.{CStmt, out-CStmt, roll-CStmt, roll-out-CStmt, If as IfOf, While as WhileOf, DoWhile as DoWhileOf, Forever as ForeverOf, Switch as SwitchOf}
 use Rattle.dcc_c.specs.declared.syntax.CStmt.TheVariants.{rolls-Assign, rolls-Call, rolls-If, rolls-While, rolls-DoWhile, rolls-Forever, rolls-Switch, rolls-Break, rolls-Continue, rolls-Goto, rolls-Label, rolls-Empty, rolls-Return}

@@ -1,6 +1,6 @@
 -- No name and no expression of a writable tree has a line feed.
-use Rattle.std.proofs.Common.{◌≡◌, ℕ, Bool, true, false, List, [], ◌∷◌, ◌++◌, None, Some, refl, sym, ◌∙◌}
-use Rattle.std.specs.Prelude.{◌&&◌, ◌||◌, not, nat_le}
+use Rattle.std.proofs.Common.{◌≡◌, Bool, true, false, List, [], ◌∷◌, ◌++◌, None, Some, refl, ◌∙◌}
+use Rattle.std.specs.Prelude.{◌&&◌, ◌||◌, nat_le}
 use Rattle.std.specs.List.{list_all}
 use Rattle.std.proofs.lemmas.Bool.{and_parts, and_from, eq-eqb, both_ways}
 use Rattle.std.proofs.lemmas.List.Folds.{list_all-append}
@@ -9,7 +9,7 @@ use Rattle.dcc_c.specs.Grammar.{is_name, Around, outermost, in_block, in_loop, i
 use Rattle.dcc_c.specs.Parts.{stmts_in, inner_stmts, arm_stmts}
 use Rattle.dcc_c.specs.Written.{written_expr}
 use Rattle.dcc_c.specs.Numbered.{rows}
-use Rattle.dcc_c.proofs.Writable.{is_writable_expr, is_place, is_place_if, is_writable_place, is_small, is_label, are_cases, has_no_case, is_writable_stmt, are_writable_lines, are_writable_arms, is_writable_default, is_writable_param, is_writable_local, is_writable_function, IsWritable}
+use Rattle.dcc_c.proofs.Writable.{is_writable_expr, is_place, is_writable_place, is_small, is_label, are_cases, has_no_case, is_writable_stmt, are_writable_lines, are_writable_arms, is_writable_default, is_writable_param, is_writable_local, is_writable_function, IsWritable}
 use Rattle.dcc_c.proofs.WrittenLaws.{is_word-name}
 use Rattle.dcc_c.proofs.WrittenRows.{word_flat}
 use Rattle.dcc_c.proofs.WrittenExprs.{expr_reads}

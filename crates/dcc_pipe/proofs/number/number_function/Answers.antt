@@ -1,9 +1,9 @@
-use Rattle.std.proofs.Common.{◌≡◌, ℕ, ◌+◌, length, map, sym, ap, ap₂, ◌∙◌, arith}
+use Rattle.std.proofs.Common.{◌≡◌, ℕ, ◌+◌, length, map, sym, ap, ap₂, ◌∙◌}
 use Rattle.std.proofs.lemmas.List.{length-map}
 use Rattle.dcc_c.specs.Tree.{Lines, Function}
 use Rattle.dcc_c.specs.Parts.{stmts_in}
 use Rattle.dcc_c.specs.Written.{written_lines}
-use Rattle.dcc_c.specs.Numbered.{rows, numbered_lines, numbered_function}
+use Rattle.dcc_c.specs.Numbered.{rows, numbered_lines}
 use Rattle.dcc_c.specs.Views.{lines_of, variable_of, function_of}
 use Rattle.dcc_pipe.specs.Unbroken.{are_unbroken}
 use Rattle.dcc_pipe.proofs.CountedTrees.{with-items, on-ok}
