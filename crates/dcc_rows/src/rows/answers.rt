@@ -33,8 +33,8 @@ static WORDS: [WordsRow; 14] = [
     (&["c", "ROW1.EXE"], 1, 4, "dcc: file fault\n"),
     (&["run", "ROW1.EXE"], 1, 4, "dcc: file fault\n"),
     (&["runc"], 0, 2, "dcc: usage\n"),
-    (&["runc", "ROW1.EXE"], 0, 2, "dcc: usage\n"),
-    (&["run", "ROW1.EXE", "--fill", "1"], 0, 2, "dcc: usage\n"),
+    (&["runc", "ROW2.C"], 0, 3, "dcc: no file\n"),
+    (&["runc", "ROW1.EXE"], 1, 4, "dcc: file fault\n"),
 ];
 
 fn words() -> &'static [WordsRow] {
