@@ -27,8 +27,8 @@ pub returns-in-InFault-clause-ran : goal.returns-in-InFault-clause-ran
 returns-in-InFault-clause-ran g c =
     text-to_read (tree_of c.args.unit.now) c.args.fill c.args.steps c.in-Ok.running _ _ (scene c.run.new.self _ _) c.in-Ok.ensures c.in-InFault.ensures.run
 
-pub returns-in-Memory-clause-ran : goal.returns-in-Memory-clause-ran
-returns-in-Memory-clause-ran g c =
+pub returns-clause-ran : goal.returns-clause-ran
+returns-clause-ran g c =
     text-found_none (tree_of c.args.unit.now) c.args.fill c.args.steps c.in-Ok.running _ _ (scene c.run.new.self _ _) c.in-Ok.ensures c.in-Memory.ensures.run
 
 pub returns-in-OutFault-clause-broke_off : goal.returns-in-OutFault-clause-broke_off
