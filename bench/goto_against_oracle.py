@@ -11,13 +11,12 @@ Prints each program whose text differs; the status is 1 if there is one.
 """
 import pathlib
 import random
-import shutil
 import subprocess
 import sys
 import tempfile
 
-sys.path.insert(0, str(pathlib.Path(__file__).resolve().parent))
-from procs_against_oracle import ROOT, code_of, file_of  # noqa: E402
+from random_programs import code_of, file_of
+from tried import tried
 
 DEPENDENCIES = ("dcc_run dcc_num dcc_prog dcc_mz dcc_decode dcc_layout dcc_procs dcc_ir dcc_lift dcc_c dcc_io dcc_print "
                 "dcc_pipe indexmap smallvec anyhow")
@@ -53,26 +52,13 @@ fn main(rt: HostRuntime) -> Result<(), Error> {
 }
 """
 
-SECONDS = 3000
 STEPS = 3000
 RUNNING, OUTSIDE = 20, 22
 
 
 def texts(folder, paths):
-    """The lines of decompile, which is run on the files from a crate in the folder."""
-    crates = folder / "crates"
-    shutil.copytree(ROOT / "crates", crates, ignore=shutil.ignore_patterns("out"))
-    source = crates / "goto_show" / "src"
-    source.mkdir(parents=True)
-    (source / "main.rt").write_text(SHOW)
-    crates_txt = (ROOT / "crates.txt").read_text()
-    (folder / "crates.txt").write_text(f"{crates_txt}goto_show: {DEPENDENCIES}\n")
-    words = ["rt", "try", "--seconds", str(SECONDS), "--", *map(str, paths)]
-    done = subprocess.run(words, cwd=source.parent, capture_output=True, text=True, check=False)
-    lines = [line for line in done.stdout.splitlines() if line in ("text", "refused")]
-    if len(lines) != len(paths):
-        sys.exit(f"rt try gave {len(lines)} lines of {len(paths)}:\n{done.stdout}{done.stderr}")
-    return lines
+    """The lines of decompile, which is run on the files."""
+    return tried(folder, "goto_show", SHOW, DEPENDENCIES, paths, ("text", "refused"))
 
 
 def ran(reference, words, keys):
