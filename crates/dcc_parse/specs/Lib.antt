@@ -1,0 +1,2 @@
+pub mod OffenceViews
+pub mod Fault
