@@ -1,0 +1,6 @@
+//! From the bytes of a text to its pieces: tokens, and bytes that are none.
+#![tactic(auto)]
+
+pub mod token;
+
+pub use token::{Head, Mark, Piece, Suffix, Token};

@@ -1,0 +1,3 @@
+pub mod OffenceViews
+pub mod PartialViews
+pub mod ReaderViews
