@@ -40,33 +40,6 @@ pub struct Inside {
     pub opened: usize,
 }
 
-/// The name that the token is: a word that is no keyword.
-pub fn name_of<'a>(token: Option<&'a Token>) -> Option<&'a str>
-    ensures { option_map (λ word. string_bytes word.now) result ≡ reading.name_of (option_map (λ t. token_of t.now) token) }
-{
-    None
-}
-
-/// Whether the token is the mark.
-pub fn is_the_mark(mark: Mark, token: Option<&Token>) -> bool
-    ensures { result ≡ reading.is_the_mark (mark_of mark) (option_map (λ t. token_of t.now) token) }
-{
-    match token {
-        Some(Token::Mark(seen)) => *seen == mark,
-        _ => false,
-    }
-}
-
-/// Whether the token is the word.
-pub fn is_the_word(word: &str, token: Option<&Token>) -> bool
-    ensures { result ≡ reading.is_the_word (string_bytes word.now) (option_map (λ t. token_of t.now) token) }
-{
-    match token {
-        Some(Token::Word(seen)) => seen.as_str() == word,
-        _ => false,
-    }
-}
-
 impl<'a> Reader<'a> {
     /// Whether reading has stopped.
     pub fn is_stopped(&self) -> bool
@@ -107,14 +80,20 @@ impl<'a> Reader<'a> {
     pub fn sees_mark(&self, mark: Mark) -> bool
         ensures { result ≡ reading.sees_mark (mark_of mark) (reader_of self.now) }
     {
-        is_the_mark(mark, self.next())
+        match self.next() {
+            Some(Token::Mark(seen)) => *seen == mark,
+            _ => false,
+        }
     }
 
     /// Whether the next token is the word.
     pub fn sees_word(&self, word: &str) -> bool
-        ensures { result ≡ reading.sees_word (string_bytes word.now) (reader_of self.now) }
+        ensures { result ≡ reading.sees_word word.now (reader_of self.now) }
     {
-        is_the_word(word, self.next())
+        match self.next() {
+            Some(Token::Word(seen)) => seen.as_str() == word,
+            _ => false,
+        }
     }
 
     /// Whether the next token is the words of the pragma.
@@ -123,6 +102,42 @@ impl<'a> Reader<'a> {
     {
         match self.next() {
             Some(Token::Pragma(seen)) => *seen == head,
+            _ => false,
+        }
+    }
+
+    /// The name that the next token is: a word that is no keyword.
+    pub fn name(&self) -> Option<&'a str>
+        ensures { option_map (λ word. word.now) result ≡ reading.name_of (reading.next_token (reader_of self.now)) }
+    {
+        match self.next() {
+            Some(Token::Word(word)) if is_name(word) => Some(word),
+            _ => None,
+        }
+    }
+
+    /// Whether the next token is a name, and the one behind it the mark.
+    pub fn sees_name_and(&self, mark: Mark) -> bool
+        ensures { result ≡ is_some (reading.name_of (reading.next_token (reader_of self.now)))
+            && reading.is_the_mark (mark_of mark) (reading.second_token (reader_of self.now)) }
+    {
+        if self.name().is_none() {
+            return false;
+        }
+        match self.second() {
+            Some(Token::Mark(seen)) => *seen == mark,
+            _ => false,
+        }
+    }
+
+    /// Whether a type begins with the next token.
+    pub fn sees_type(&self) -> bool
+        ensures { result ≡ reading.begins_type (reading.next_token (reader_of self.now)) }
+    {
+        match self.next() {
+            Some(Token::Word(word)) => {
+                matches!(word.as_str(), "signed" | "unsigned" | "int" | "long")
+            }
             _ => false,
         }
     }
@@ -168,7 +183,7 @@ impl<'a> Reader<'a> {
 
     /// Takes the word, which must stand here.
     pub fn take_word(&mut self, word: &str)
-        ensures { reader_of self.new ≡ reading.take_word (string_bytes word.now) (reader_of self.old) }
+        ensures { reader_of self.new ≡ reading.take_word word.now (reader_of self.old) }
     {
         if self.sees_word(word) {
             self.skip();
@@ -193,8 +208,7 @@ impl<'a> Reader<'a> {
         ensures { IfOk result (λ name.
             reading.got (option_map word_of name) (reader_of self.new) ≡ reading.take_name (reader_of self.old)) }
     {
-        let _ = alloc;
-        match name_of(self.next()) {
+        match self.name() {
             Some(word) => {
                 let at = self.at;
                 self.skip();
