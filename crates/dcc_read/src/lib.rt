@@ -3,7 +3,10 @@
 
 pub mod offence;
 pub mod partial;
+mod expression;
+mod operator;
 mod reader;
+mod token;
 
 pub use offence::{Offence, ParseKind};
 pub use partial::{
