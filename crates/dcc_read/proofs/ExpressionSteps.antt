@@ -1,6 +1,6 @@
 -- One step of reading an expression, by what the reader sees.
-use Rattle.std.proofs.Common.{◌≡◌, ℕ, suc, ◌+◌, ◌<◌, ◌≤◌, Bool, true, false, refl, sym, ap, ◌∙◌, add-one, Option, Some, None, absurd, arith}
-use Rattle.std.specs.Prelude.{nat_le, codes}
+use Rattle.std.proofs.Common.{◌≡◌, ℕ, suc, ◌+◌, ◌<◌, ◌≤◌, Bool, true, false, refl, sym, ap, ◌∙◌, add-one, Option, Some, None, arith}
+use Rattle.std.specs.Prelude.{nat_le, codes, if◌then◌else◌, zero}
 use Rattle.std.proofs.lemmas.Bool.{le-leb, lt-leb}
 use Rattle.dcc_c.specs.declared.syntax.CUn.{CUn}
 use Rattle.dcc_c.specs.declared.syntax.CBin.{CBin}
@@ -97,7 +97,7 @@ cast-some calls fewer inside at type r a is got_is = rw (is, add-one) (ap (cast_
 
 pub cast-no_type : (calls : ℕ) (inside : Inside) (at : ℕ) (r : Reader) →
     got Missing r ≡ read_cast calls inside at (got None r)
-cast-no_type 0 inside at r = refl
+cast-no_type zero inside at r = refl
 cast-no_type (suc calls) inside at r = refl
 
 -- Operators.
@@ -173,3 +173,7 @@ rest-chooses calls fewer inside test first second is sees first_is second_is =
     (ap (chosen inside test.value first.value) second_is
     ∙ ap (λ f. chosen inside test.value f.value (read_expr fewer (in_operator inside) (take_mark (codes ":") f.behind))) first_is
     ∙ sym (if-true (sees_mark (codes "?") test.behind) _ _ sees))
+
+-- two equations under a function
+pub both : {A B C : Type 0} (f : A → B → C) {a b : A} {x y : B} → a ≡ b → x ≡ y → f a x ≡ f b y
+both f {a} {b} {x} {y} first second = ap (λ a. f a x) first ∙ ap (f b) second

@@ -1,0 +1,133 @@
+use Rattle.std.proofs.Common.{◌≡◌, ℕ, ◌+◌, ◌<◌, ◌≤◌, true, false, Some, None, sym, ap, ◌∙◌, arith}
+use Rattle.std.specs.Prelude.{codes}
+use Rattle.std.proofs.lemmas.Result.{IfOk-weaker}
+use Rattle.dcc_c.specs.Grammar as grammar
+use Rattle.dcc_c.specs.Reading as reading
+use Rattle.dcc_read.specs.PartialViews.{expr_of}
+use Rattle.dcc_read.specs.ReaderViews.{reader_of, inside_of}
+use Rattle.dcc_read.proofs.expression.+expression.Goals as goal
+use Rattle.dcc_read.proofs.ExpressionSteps as steps
+use Rattle.dcc_read.proofs.ExpressionSteps.{both}
+
+pub measured_unary-returns-in_ok-operand-in-Some-unary_of : goal.measured_unary-returns-in_ok-operand-in-Some-unary_of
+measured_unary-returns-in_ok-operand-in-Some-unary_of t c =
+    let is : c.args.calls ≡ c.in-Some.calls + 1 = omega (arith, c.in-Some.ensures) in
+    let shallow : c.args.inside.operators < 200 = omega (arith, c.if-inside-ge-MOST.false) in
+    let sees : reading.unary_of (reading.next_token (reader_of c.args.r.now)) ≡ Some c.in-Some-unary_of.operator =
+        sym (c.in-Some-unary_of.ensures ∙ ap reading.unary_of c.next.ensures) in
+    let a = reading.got (expr_of c.in_ok-operand-in-Some-unary_of.operand.expr) (reader_of c.measured_unary.new.r) in
+    let inner : a ≡ reading.read_unary c.in-Some.calls (reading.in_operator (inside_of c.args.inside)) (reading.skip (reader_of c.args.r.now)) =
+        c.in_ok-operand-in-Some-unary_of.ensures ∙ both (reading.read_unary c.in-Some.calls) c.in_operator.ensures c.skip.ensures in
+    IfOk-weaker _ _ _
+    (λ e h. ap (λ x. reading.got x (reader_of c.measured_unary.new.r)) h
+        ∙ steps.unary-operator c.args.calls c.in-Some.calls (inside_of c.args.inside) (reader_of c.args.r.now) c.in-Some-unary_of.operator a is shallow sees inner)
+    c.unary_at.ensures
+
+pub measured_unary-returns-then-sees_mark : goal.measured_unary-returns-then-sees_mark
+measured_unary-returns-then-sees_mark t c =
+    let is : c.args.calls ≡ c.in-Some.calls + 1 = omega (arith, c.in-Some.ensures) in
+    let shallow : c.args.inside.operators < 200 = omega (arith, c.if-inside-ge-MOST.false) in
+    let sees : reading.unary_of (reading.next_token (reader_of c.args.r.now)) ≡ None =
+        sym (c.in-None-unary_of.ensures ∙ ap reading.unary_of c.next.ensures) in
+    IfOk-weaker _ _ _
+    (λ e h. h ∙ ap (reading.read_parentheses c.in-Some.calls (inside_of c.args.inside) c.args.r.now.at) c.skip-then-sees_mark.ensures
+        ∙ steps.unary-parentheses c.args.calls c.in-Some.calls (inside_of c.args.inside) (reader_of c.args.r.now) is shallow sees (sym c.if-sees_mark.ensures))
+    c.read_parentheses.ensures
+
+pub measured_unary-returns-else-sees_mark : goal.measured_unary-returns-else-sees_mark
+measured_unary-returns-else-sees_mark t c =
+    let is : c.args.calls ≡ c.in-Some.calls + 1 = omega (arith, c.in-Some.ensures) in
+    let shallow : c.args.inside.operators < 200 = omega (arith, c.if-inside-ge-MOST.false) in
+    let sees : reading.unary_of (reading.next_token (reader_of c.args.r.now)) ≡ None =
+        sym (c.in-None-unary_of.ensures ∙ ap reading.unary_of c.next.ensures) in
+    IfOk-weaker _ _ _
+    (λ e h. h ∙ steps.unary-leaf c.args.calls c.in-Some.calls (inside_of c.args.inside) (reader_of c.args.r.now) is shallow sees (sym c.if-sees_mark.ensures))
+    c.read_leaf.ensures
+
+pub read_parentheses-returns-then-sees_type : goal.read_parentheses-returns-then-sees_type
+read_parentheses-returns-then-sees_type t c =
+    let is : c.args.calls ≡ c.in-Some.calls + 1 = omega (arith, c.in-Some.ensures) in
+    let here = reading.stop_if_enclosed (reading.in_parentheses (inside_of c.args.inside)) (reader_of c.args.r.now) in
+    let enclosed : reader_of c.stop_if_enclosed.new.r ≡ here =
+        c.stop_if_enclosed.ensures ∙ ap (λ i. reading.stop_if_enclosed i (reader_of c.args.r.now)) c.in_parentheses-content.ensures in
+    let begins : reading.begins_type (reading.next_token here) ≡ true =
+        sym (c.if-sees_type.ensures ∙ ap (λ r. reading.begins_type (reading.next_token r)) enclosed) in
+    IfOk-weaker _ _ _
+    (λ e h. h ∙ ap (reading.read_cast c.in-Some.calls (inside_of c.args.inside) c.args.at) (c.take_type-ty.ensures ∙ ap reading.take_type enclosed)
+        ∙ steps.parentheses-cast c.args.calls c.in-Some.calls (inside_of c.args.inside) c.args.at (reader_of c.args.r.now) is begins)
+    c.read_cast.ensures
+
+pub read_parentheses-returns-in_ok-whole-in-Some : goal.read_parentheses-returns-in_ok-whole-in-Some
+read_parentheses-returns-in_ok-whole-in-Some t c =
+    let is : c.args.calls ≡ c.in-Some.calls + 1 = omega (arith, c.in-Some.ensures) in
+    let here = reading.stop_if_enclosed (reading.in_parentheses (inside_of c.args.inside)) (reader_of c.args.r.now) in
+    let enclosed : reader_of c.stop_if_enclosed.new.r ≡ here =
+        c.stop_if_enclosed.ensures ∙ ap (λ i. reading.stop_if_enclosed i (reader_of c.args.r.now)) c.in_parentheses-content.ensures in
+    let begins : reading.begins_type (reading.next_token here) ≡ false =
+        sym (c.if-sees_type.ensures ∙ ap (λ r. reading.begins_type (reading.next_token r)) enclosed) in
+    let a = reading.got (expr_of c.in_ok-whole-in-Some.whole.expr) (reader_of c.measured_expr.new.r) in
+    let inner : a ≡ reading.read_expr c.in-Some.calls (reading.in_parentheses (inside_of c.args.inside)) here =
+        c.in_ok-whole-in-Some.ensures ∙ both (reading.read_expr c.in-Some.calls) c.in_parentheses-content.ensures enclosed in
+    ap (reading.got (expr_of c.in_ok-whole-in-Some.whole.expr)) c.take_mark.ensures
+    ∙ steps.parentheses-closed c.args.calls c.in-Some.calls (inside_of c.args.inside) c.args.at (reader_of c.args.r.now) a is begins inner
+
+pub read_cast-returns-in_ok-operand-in-Some-ty : goal.read_cast-returns-in_ok-operand-in-Some-ty
+read_cast-returns-in_ok-operand-in-Some-ty t c =
+    let is : c.args.calls ≡ c.in-Some.calls + 1 = omega (arith, c.in-Some.ensures) in
+    let a = reading.got (expr_of c.in_ok-operand-in-Some-ty.operand.expr) (reader_of c.measured_unary.new.r) in
+    let inner : a ≡ reading.read_unary c.in-Some.calls (reading.in_operator (inside_of c.args.inside)) (reading.take_mark (codes ")") (reader_of c.args.r.now)) =
+        c.in_ok-operand-in-Some-ty.ensures ∙ both (reading.read_unary c.in-Some.calls) c.in_operator.ensures c.take_mark.ensures in
+    IfOk-weaker _ _ _
+    (λ e h. ap (λ x. reading.got x (reader_of c.measured_unary.new.r)) h
+        ∙ steps.cast-some c.args.calls c.in-Some.calls (inside_of c.args.inside) c.args.at c.in-Some-ty.ty (reader_of c.args.r.now) a is inner
+        ∙ ap (λ ty. reading.read_cast c.args.calls (inside_of c.args.inside) c.args.at (reading.got ty (reader_of c.args.r.now))) (sym c.in-Some-ty.is))
+    c.cast_at.ensures
+
+pub read_binary-returns-in_ok-first-in-Some : goal.read_binary-returns-in_ok-first-in-Some
+read_binary-returns-in_ok-first-in-Some t c =
+    let is : c.args.calls ≡ c.in-Some.calls + 1 = omega (arith, c.in-Some.ensures) in
+    IfOk-weaker _ _ _
+    (λ e h. h ∙ steps.binary-first c.args.calls c.in-Some.calls (inside_of c.args.inside) c.args.weakest (reader_of c.args.r.now)
+        (reading.got (expr_of c.in_ok-first-in-Some.first.expr) (reader_of c.measured_unary.new.r)) is c.in_ok-first-in-Some.ensures)
+    c.read_more.ensures
+
+pub read_more-loop-fewer-preserved : goal.read_more-loop-fewer-preserved
+read_more-loop-fewer-preserved t c =
+    let is : c.loop-fewer.calls ≡ c.in-Some.fewer + 1 = omega (arith, c.in-Some.ensures) in
+    let few : c.in-Some.fewer ≤ c.args.calls = omega (arith, c.loop-fewer.invariant.few) in
+    let inside = inside_of c.args.inside in
+    let operator = c.in-Some-operator_of.operator in
+    let left = reading.got (expr_of c.loop-fewer.left.expr) (reader_of c.loop-fewer.r) in
+    let right = reading.got (expr_of c.in_ok-right-in-Some-operator_of.right.expr) (reader_of c.read_binary.new.r) in
+    let read : right ≡ reading.read_binary c.in-Some.fewer (reading.in_operator inside) (grammar.strength operator + 1) (reading.skip left.behind) =
+        c.in_ok-right-in-Some-operator_of.ensures
+        ∙ both (λ i s. reading.read_binary c.in-Some.fewer i (s + 1) (reader_of c.skip.new.self)) c.in_operator.ensures c.strength.ensures
+        ∙ ap (reading.read_binary c.in-Some.fewer (reading.in_operator inside) (grammar.strength operator + 1)) c.skip.ensures in
+    let joined : reading.got (expr_of c.in_ok-left-in-Some-operator_of.left.expr) (reader_of c.stop_if_deep.new.r)
+            ≡ reading.joined inside operator left.value right =
+        ap (reading.got (expr_of c.in_ok-left-in-Some-operator_of.left.expr)) c.stop_if_deep.ensures
+        ∙ ap (λ w. reading.got w (reading.stop_if_deep inside w (reader_of c.read_binary.new.r))) c.in_ok-left-in-Some-operator_of.ensures in
+    record {
+      same = ap (reading.read_more c.in-Some.fewer inside c.args.weakest) joined
+          ∙ steps.more-joins c.loop-fewer.calls c.in-Some.fewer inside c.args.weakest left operator right is c.in-Some-operator_of.ensures read
+          ∙ c.loop-fewer.invariant.same;
+      few = few;
+    }
+
+pub read_more-returns-in-None : goal.read_more-returns-in-None
+read_more-returns-in-None t c =
+    let is : c.loop-fewer.calls ≡ c.in-Some.fewer + 1 = omega (arith, c.in-Some.ensures) in
+    steps.more-ends c.loop-fewer.calls c.in-Some.fewer (inside_of c.args.inside) c.args.weakest
+    (reading.got (expr_of c.loop-fewer.left.expr) (reader_of c.loop-fewer.r)) is c.in-None.ensures
+    ∙ c.loop-fewer.invariant.same
+
+pub measured_expr-returns-in_ok-test-in-Some : goal.measured_expr-returns-in_ok-test-in-Some
+measured_expr-returns-in_ok-test-in-Some t c =
+    let is : c.args.calls ≡ c.in-Some.calls + 1 = omega (arith, c.in-Some.ensures) in
+    IfOk-weaker _ _ _
+    (λ e h. h ∙ steps.expr-test c.args.calls c.in-Some.calls (inside_of c.args.inside) (reader_of c.args.r.now)
+        (reading.got (expr_of c.in_ok-test-in-Some.test.expr) (reader_of c.read_binary.new.r)) is c.in_ok-test-in-Some.ensures)
+    c.read_rest.ensures
+
+pub read_rest-returns-in_ok-whole-in-Some : goal.read_rest-returns-in_ok-whole-in-Some
+read_rest-returns-in_ok-whole-in-Some t c = ?
