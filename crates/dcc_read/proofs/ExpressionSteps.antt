@@ -1,6 +1,9 @@
 -- One step of reading an expression, by what the reader sees.
 use Rattle.std.proofs.Common.{◌≡◌, ℕ, suc, ◌+◌, ◌<◌, ◌≤◌, Bool, true, false, refl, sym, ap, ◌∙◌, add-one, Option, Some, None, arith}
-use Rattle.std.specs.Prelude.{nat_le, codes, if◌then◌else◌, zero}
+use Rattle.std.specs.Prelude.{nat_le, codes, if◌then◌else◌, zero, Result}
+use Rattle.std.specs.Result.{IfOk}
+
+use Rattle.std.proofs.lemmas.Result.{IfOk-weaker}
 use Rattle.std.proofs.lemmas.Bool.{le-leb, lt-leb}
 use Rattle.dcc_c.specs.declared.syntax.CUn.{CUn}
 use Rattle.dcc_c.specs.declared.syntax.CBin.{CBin}
@@ -10,7 +13,9 @@ use Rattle.dcc_c.specs.Kinds.{of_depth}
 use Rattle.dcc_c.specs.Partial.{PartialExpr, Missing, UnaryHere, CastHere}
 use Rattle.dcc_c.specs.Reading.{Reader, Got, got, Inside, in_operator, in_parentheses, next_token, skip, stop_at, sees_mark, take_mark, take_type, begins_type, unary_of, binary_of, stop_if_enclosed, closed, cast_of, unary_at, joined, chosen, read_leaf, read_unary, read_parentheses, read_cast, read_binary, read_more, read_expr, read_rest}
 use Rattle.dcc_c.proofs.reading.Stopping.{if-true, if-false, choice-some, choice-none}
+use Rattle.dcc_read.specs.declared.expression.Measured.{Measured}
 use Rattle.dcc_read.specs.ExpressionViews.{strong_enough}
+use Rattle.dcc_read.specs.PartialViews.{expr_of}
 
 -- With no calls nothing is read.
 
@@ -177,3 +182,15 @@ rest-chooses calls fewer inside test first second is sees first_is second_is =
 -- two equations under a function
 pub both : {A B C : Type 0} (f : A → B → C) {a b : A} {x y : B} → a ≡ b → x ≡ y → f a x ≡ f b y
 both f {a} {b} {x} {y} first second = ap (λ a. f a x) first ∙ ap (f b) second
+
+-- What was read, where it was read, by another name for it.
+
+pub along : {E : Type 0} (r : Result Measured E) (behind : Reader) (x y : Got PartialExpr) → IfOk r (λ e. got (expr_of e.expr) behind ≡ x) →
+    x ≡ y → IfOk r (λ e. got (expr_of e.expr) behind ≡ y)
+along r behind x y read is =
+    IfOk-weaker r (λ e. got (expr_of e.expr) behind ≡ x) (λ e. got (expr_of e.expr) behind ≡ y) (λ e was. was ∙ is) read
+
+pub made : {E : Type 0} (r : Result Measured E) (behind : Reader) (x : PartialExpr) (y : Got PartialExpr) → IfOk r (λ e. expr_of e.expr ≡ x) →
+    got x behind ≡ y → IfOk r (λ e. got (expr_of e.expr) behind ≡ y)
+made r behind x y read is =
+    IfOk-weaker r (λ e. expr_of e.expr ≡ x) (λ e. got (expr_of e.expr) behind ≡ y) (λ e was. ap (λ x. got x behind) was ∙ is) read
