@@ -2,7 +2,6 @@
 use Rattle.std.proofs.Common.{◌≡◌, ℕ, suc, ◌+◌, ◌<◌, ◌≤◌, Bool, true, false, refl, sym, ap, ◌∙◌, add-one, Option, Some, None, arith}
 use Rattle.std.specs.Prelude.{nat_le, codes, if◌then◌else◌, zero, Result}
 use Rattle.std.specs.Result.{IfOk}
-
 use Rattle.std.proofs.lemmas.Result.{IfOk-weaker}
 use Rattle.std.proofs.lemmas.Bool.{le-leb, lt-leb}
 use Rattle.dcc_c.specs.declared.syntax.CUn.{CUn}
@@ -10,7 +9,7 @@ use Rattle.dcc_c.specs.declared.syntax.CBin.{CBin}
 use Rattle.dcc_c.specs.declared.syntax.CType.{CType}
 use Rattle.dcc_c.specs.Grammar.{strength}
 use Rattle.dcc_c.specs.Kinds.{of_depth}
-use Rattle.dcc_c.specs.Partial.{PartialExpr, Missing, UnaryHere, CastHere}
+use Rattle.dcc_c.specs.Partial.{PartialExpr, Missing}
 use Rattle.dcc_c.specs.Reading.{Reader, Got, got, Inside, in_operator, in_parentheses, next_token, skip, stop_at, sees_mark, take_mark, take_type, begins_type, unary_of, binary_of, stop_if_enclosed, closed, cast_of, unary_at, joined, chosen, read_leaf, read_unary, read_parentheses, read_cast, read_binary, read_more, read_expr, read_rest}
 use Rattle.dcc_c.proofs.reading.Stopping.{if-true, if-false, choice-some, choice-none}
 use Rattle.dcc_read.specs.declared.expression.Measured.{Measured}

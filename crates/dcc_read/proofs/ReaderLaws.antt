@@ -1,5 +1,5 @@
 -- Laws of readers.
-use Rattle.std.proofs.Common.{◌≡◌, ℕ, suc, zero, ◌+◌, List, [], ◌∷◌, map, drop, refl, ap, ◌∙◌, add-one, Option, Some, None, true, false, Bool}
+use Rattle.std.proofs.Common.{◌≡◌, ℕ, suc, zero, ◌+◌, List, [], ◌∷◌, map, drop, refl, ap, ◌∙◌, add-one, Option, Some, None, true}
 use Rattle.std.specs.Prelude.{is_some}
 use Rattle.dcc_c.specs.declared.syntax.Base.{Base}
 use Rattle.dcc_c.specs.declared.syntax.CType.{CType}

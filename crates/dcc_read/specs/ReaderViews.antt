@@ -1,5 +1,5 @@
 -- The readers that the declared type stands for.
-use Rattle.std.specs.Prelude.{List, drop, map}
+use Rattle.std.specs.Prelude.{drop, map}
 use Rattle.std.specs.Option.{option_map}
 use Rattle.dcc_c.specs.Reading as reading
 use Rattle.dcc_lex.specs.TokenViews.{piece_of}

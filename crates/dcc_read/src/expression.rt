@@ -76,7 +76,12 @@ fn missing() -> Measured
 }
 
 /// The unary operator on an operand.
-fn unary_at(alloc: Global, at: usize, operator: CUn, operand: Measured) -> Result<Measured, AllocError>
+fn unary_at(
+    alloc: Global,
+    at: usize,
+    operator: CUn,
+    operand: Measured,
+) -> Result<Measured, AllocError>
     ensures { IfOk result (λ e. expr_of e.expr ≡ partial.UnaryHere at operator (expr_of operand.expr)) }
 {
     let depth = deeper(operand.depth);
@@ -100,7 +105,12 @@ fn cast_at(alloc: Global, at: usize, ty: CType, operand: Measured) -> Result<Mea
 }
 
 /// Two operands and their operator.
-fn binary_of_two(alloc: Global, operator: CBin, left: Measured, right: Measured) -> Result<Measured, AllocError>
+fn binary_of_two(
+    alloc: Global,
+    operator: CBin,
+    left: Measured,
+    right: Measured,
+) -> Result<Measured, AllocError>
     ensures { IfOk result (λ e. expr_of e.expr ≡ partial.BinaryOf operator (expr_of left.expr) (expr_of right.expr)) }
 {
     let depth = deeper(left.depth.max(right.depth));
@@ -113,7 +123,12 @@ fn binary_of_two(alloc: Global, operator: CBin, left: Measured, right: Measured)
 }
 
 /// A conditional.
-fn conditional_of(alloc: Global, test: Measured, first: Measured, second: Measured) -> Result<Measured, AllocError>
+fn conditional_of(
+    alloc: Global,
+    test: Measured,
+    first: Measured,
+    second: Measured,
+) -> Result<Measured, AllocError>
     ensures { IfOk result (λ e. expr_of e.expr ≡ partial.ConditionalOf (expr_of test.expr) (expr_of first.expr) (expr_of second.expr)) }
 {
     let depth = deeper(test.depth.max(first.depth.max(second.depth)));
@@ -219,7 +234,12 @@ fn read_leaf(r: &mut Reader<'_>, alloc: Global) -> Result<Measured, AllocError>
 
 /// Reads a unary part.
 #[cycle(expression)]
-fn measured_unary(r: &mut Reader<'_>, alloc: Global, calls: usize, inside: Inside) -> Result<Measured, AllocError>
+fn measured_unary(
+    r: &mut Reader<'_>,
+    alloc: Global,
+    calls: usize,
+    inside: Inside,
+) -> Result<Measured, AllocError>
     requires operators { inside.operators + calls ≤ 2 ^ 64 }
     requires opened { inside.opened + calls ≤ 2 ^ 64 }
     ensures { IfOk result (λ e. reading.got (expr_of e.expr) (reader_of r.new) ≡ reading.read_unary calls (inside_of inside) (reader_of r.old)) }
@@ -254,7 +274,13 @@ fn measured_unary(r: &mut Reader<'_>, alloc: Global, calls: usize, inside: Insid
 /// Reads what stands behind an opening parenthesis at a place: the rest of a cast, or an expression and the closing
 /// parenthesis.
 #[cycle(expression)]
-fn read_parentheses(r: &mut Reader<'_>, alloc: Global, calls: usize, inside: Inside, at: usize) -> Result<Measured, AllocError>
+fn read_parentheses(
+    r: &mut Reader<'_>,
+    alloc: Global,
+    calls: usize,
+    inside: Inside,
+    at: usize,
+) -> Result<Measured, AllocError>
     requires operators { inside.operators + calls < 2 ^ 64 }
     requires opened { inside.opened + calls < 2 ^ 64 }
     ensures { IfOk result (λ e. reading.got (expr_of e.expr) (reader_of r.new) ≡ reading.read_parentheses calls (inside_of inside) at (reader_of r.old)) }
@@ -278,7 +304,14 @@ fn read_parentheses(r: &mut Reader<'_>, alloc: Global, calls: usize, inside: Ins
 
 /// Reads the rest of a cast behind its type.
 #[cycle(expression)]
-fn read_cast(r: &mut Reader<'_>, alloc: Global, calls: usize, inside: Inside, at: usize, ty: Option<CType>) -> Result<Measured, AllocError>
+fn read_cast(
+    r: &mut Reader<'_>,
+    alloc: Global,
+    calls: usize,
+    inside: Inside,
+    at: usize,
+    ty: Option<CType>,
+) -> Result<Measured, AllocError>
     requires operators { inside.operators + calls < 2 ^ 64 }
     requires opened { inside.opened + calls < 2 ^ 64 }
     ensures { IfOk result (λ e. reading.got (expr_of e.expr) (reader_of r.new) ≡ reading.read_cast calls (inside_of inside) at (reading.got ty (reader_of r.old))) }
@@ -298,7 +331,13 @@ fn read_cast(r: &mut Reader<'_>, alloc: Global, calls: usize, inside: Inside, at
 
 /// Reads operands that are joined by binary operators of this strength at least.
 #[cycle(expression)]
-fn read_binary(r: &mut Reader<'_>, alloc: Global, calls: usize, inside: Inside, weakest: u8) -> Result<Measured, AllocError>
+fn read_binary(
+    r: &mut Reader<'_>,
+    alloc: Global,
+    calls: usize,
+    inside: Inside,
+    weakest: u8,
+) -> Result<Measured, AllocError>
     requires operators { inside.operators + calls ≤ 2 ^ 64 }
     requires opened { inside.opened + calls ≤ 2 ^ 64 }
     ensures { IfOk result (λ e. reading.got (expr_of e.expr) (reader_of r.new) ≡ reading.read_binary calls (inside_of inside) weakest (reader_of r.old)) }
@@ -314,7 +353,14 @@ fn read_binary(r: &mut Reader<'_>, alloc: Global, calls: usize, inside: Inside, 
 
 /// Reads the same behind the first operand.
 #[cycle(expression)]
-fn read_more(r: &mut Reader<'_>, alloc: Global, calls: usize, inside: Inside, weakest: u8, first: Measured) -> Result<Measured, AllocError>
+fn read_more(
+    r: &mut Reader<'_>,
+    alloc: Global,
+    calls: usize,
+    inside: Inside,
+    weakest: u8,
+    first: Measured,
+) -> Result<Measured, AllocError>
     requires operators { inside.operators + calls < 2 ^ 64 }
     requires opened { inside.opened + calls < 2 ^ 64 }
     ensures { IfOk result (λ e. reading.got (expr_of e.expr) (reader_of r.new) ≡ reading.read_more calls (inside_of inside) weakest (reading.got (expr_of first.expr) (reader_of r.old))) }
@@ -325,7 +371,13 @@ fn read_more(r: &mut Reader<'_>, alloc: Global, calls: usize, inside: Inside, we
         match operator_of(r, weakest) {
             Some(operator) => {
                 r.skip();
-                let right = read_binary(r, alloc, fewer, inside.in_operator(), strength(operator) + 1)?;
+                let right = read_binary(
+                    r,
+                    alloc,
+                    fewer,
+                    inside.in_operator(),
+                    strength(operator) + 1,
+                )?;
                 left = binary_of_two(alloc, operator, left, right)?;
                 stop_if_deep(r, inside, &left);
                 calls = fewer;
@@ -338,7 +390,12 @@ fn read_more(r: &mut Reader<'_>, alloc: Global, calls: usize, inside: Inside, we
 
 /// Reads an expression.
 #[cycle(expression)]
-fn measured_expr(r: &mut Reader<'_>, alloc: Global, calls: usize, inside: Inside) -> Result<Measured, AllocError>
+fn measured_expr(
+    r: &mut Reader<'_>,
+    alloc: Global,
+    calls: usize,
+    inside: Inside,
+) -> Result<Measured, AllocError>
     requires operators { inside.operators + calls ≤ 2 ^ 64 }
     requires opened { inside.opened + calls ≤ 2 ^ 64 }
     ensures { IfOk result (λ e. reading.got (expr_of e.expr) (reader_of r.new) ≡ reading.read_expr calls (inside_of inside) (reader_of r.old)) }
@@ -354,7 +411,13 @@ fn measured_expr(r: &mut Reader<'_>, alloc: Global, calls: usize, inside: Inside
 
 /// Reads the rest of a conditional behind its test, where there is one.
 #[cycle(expression)]
-fn read_rest(r: &mut Reader<'_>, alloc: Global, calls: usize, inside: Inside, test: Measured) -> Result<Measured, AllocError>
+fn read_rest(
+    r: &mut Reader<'_>,
+    alloc: Global,
+    calls: usize,
+    inside: Inside,
+    test: Measured,
+) -> Result<Measured, AllocError>
     requires operators { inside.operators + calls < 2 ^ 64 }
     requires opened { inside.opened + calls < 2 ^ 64 }
     ensures { IfOk result (λ e. reading.got (expr_of e.expr) (reader_of r.new) ≡ reading.read_rest calls (inside_of inside) (reading.got (expr_of test.expr) (reader_of r.old))) }
@@ -377,7 +440,12 @@ fn read_rest(r: &mut Reader<'_>, alloc: Global, calls: usize, inside: Inside, te
 }
 
 /// Reads a unary part, which must stand here.
-pub fn read_unary(r: &mut Reader<'_>, alloc: Global, calls: usize, inside: Inside) -> Result<PartialExpr, AllocError>
+pub fn read_unary(
+    r: &mut Reader<'_>,
+    alloc: Global,
+    calls: usize,
+    inside: Inside,
+) -> Result<PartialExpr, AllocError>
     requires operators { inside.operators + calls ≤ 2 ^ 64 }
     requires opened { inside.opened + calls ≤ 2 ^ 64 }
     ensures { IfOk result (λ e. reading.got (expr_of e) (reader_of r.new) ≡ reading.read_unary calls (inside_of inside) (reader_of r.old)) }
@@ -386,7 +454,12 @@ pub fn read_unary(r: &mut Reader<'_>, alloc: Global, calls: usize, inside: Insid
 }
 
 /// Reads an expression, which must stand here.
-pub fn read_expr(r: &mut Reader<'_>, alloc: Global, calls: usize, inside: Inside) -> Result<PartialExpr, AllocError>
+pub fn read_expr(
+    r: &mut Reader<'_>,
+    alloc: Global,
+    calls: usize,
+    inside: Inside,
+) -> Result<PartialExpr, AllocError>
     requires operators { inside.operators + calls ≤ 2 ^ 64 }
     requires opened { inside.opened + calls ≤ 2 ^ 64 }
     ensures { IfOk result (λ e. reading.got (expr_of e) (reader_of r.new) ≡ reading.read_expr calls (inside_of inside) (reader_of r.old)) }
@@ -395,7 +468,11 @@ pub fn read_expr(r: &mut Reader<'_>, alloc: Global, calls: usize, inside: Inside
 }
 
 /// Reads a whole expression.
-pub fn read_value(r: &mut Reader<'_>, alloc: Global, calls: usize) -> Result<PartialExpr, AllocError>
+pub fn read_value(
+    r: &mut Reader<'_>,
+    alloc: Global,
+    calls: usize,
+) -> Result<PartialExpr, AllocError>
     ensures { IfOk result (λ e. reading.got (expr_of e) (reader_of r.new) ≡ statements.read_value calls (reader_of r.old)) }
 {
     let inside = Inside {
@@ -407,7 +484,11 @@ pub fn read_value(r: &mut Reader<'_>, alloc: Global, calls: usize) -> Result<Par
 }
 
 /// Reads a whole expression inside the parentheses of a statement.
-pub fn read_enclosed(r: &mut Reader<'_>, alloc: Global, calls: usize) -> Result<PartialExpr, AllocError>
+pub fn read_enclosed(
+    r: &mut Reader<'_>,
+    alloc: Global,
+    calls: usize,
+) -> Result<PartialExpr, AllocError>
     ensures { IfOk result (λ e. reading.got (expr_of e) (reader_of r.new) ≡ statements.read_enclosed calls (reader_of r.old)) }
 {
     let inside = Inside {

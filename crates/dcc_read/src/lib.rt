@@ -1,15 +1,15 @@
 //! Reading a text piece by piece, as far as the grammar and the limits of depth allow.
 #![tactic(auto)]
 
-pub mod offence;
-pub mod partial;
 mod expression;
+pub mod offence;
 mod operator;
+pub mod partial;
 mod reader;
 mod token;
 
 pub use offence::{Offence, ParseKind};
 pub use partial::{
-    CaseAt, NumberAt, PartialArm, PartialCall, PartialExpr, PartialFunction, PartialStmt, PartialText,
-    PartialVariable, Row, WordAt,
+    CaseAt, NumberAt, PartialArm, PartialCall, PartialExpr, PartialFunction, PartialStmt,
+    PartialText, PartialVariable, Row, WordAt,
 };

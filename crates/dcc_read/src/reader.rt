@@ -12,8 +12,8 @@ ghost use Rattle.dcc_read.specs.ReaderViews.{reader_of};
 
 use crate::offence::{Offence, ParseKind};
 use crate::partial::{NumberAt, WordAt};
-use dcc_c::{Base, CType};
 use crate::token::{begins_type, is_the_head, is_the_mark, is_the_word, name_of, plain_of};
+use dcc_c::{Base, CType};
 use dcc_lex::{Head, Mark, Piece, Token};
 use std::alloc::{AllocError, Global};
 

@@ -185,11 +185,7 @@ pub fn name_of(token: Option<&Token>) -> Option<&str>
 fn name_if(word: &str) -> Option<&str>
     ensures { option_map (λ word. word.now) result ≡ reading.name_if word.now }
 {
-    if is_name(word) {
-        Some(word)
-    } else {
-        None
-    }
+    if is_name(word) { Some(word) } else { None }
 }
 
 /// Whether a type begins with the token.

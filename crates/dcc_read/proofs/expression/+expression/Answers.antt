@@ -1,4 +1,4 @@
-use Rattle.std.proofs.Common.{◌≡◌, ℕ, ◌+◌, ◌<◌, ◌≤◌, true, false, Some, None, sym, ap, ◌∙◌, arith}
+use Rattle.std.proofs.Common.{◌≡◌, ◌+◌, ◌<◌, ◌≤◌, true, false, Some, None, sym, ap, ◌∙◌, arith}
 use Rattle.std.specs.Prelude.{codes}
 use Rattle.dcc_c.specs.Grammar as grammar
 use Rattle.dcc_c.specs.Partial as partial
@@ -14,10 +14,10 @@ measured_unary-returns-in_ok-operand-in-Some-unary_of t c =
     let is : c.args.calls ≡ c.in-Some.calls + 1 = omega (arith, c.in-Some.ensures) in
     let shallow : c.args.inside.operators < 200 = omega (arith, c.if-inside-ge-MOST.false) in
     let sees : reading.unary_of (reading.next_token (reader_of c.args.r.now)) ≡ Some c.in-Some-unary_of.operator =
-        sym (c.in-Some-unary_of.ensures ∙ ap reading.unary_of c.next.ensures) in
+    sym (c.in-Some-unary_of.ensures ∙ ap reading.unary_of c.next.ensures) in
     let a = reading.got (expr_of c.in_ok-operand-in-Some-unary_of.operand.expr) (reader_of c.measured_unary.new.r) in
     let inner : a ≡ reading.read_unary c.in-Some.calls (reading.in_operator (inside_of c.args.inside)) (reading.skip (reader_of c.args.r.now)) =
-        c.in_ok-operand-in-Some-unary_of.ensures ∙ both (reading.read_unary c.in-Some.calls) c.in_operator.ensures c.skip.ensures in
+    c.in_ok-operand-in-Some-unary_of.ensures ∙ both (reading.read_unary c.in-Some.calls) c.in_operator.ensures c.skip.ensures in
     made c.unary_at.result (reader_of c.measured_unary.new.r)
     (partial.UnaryHere c.args.r.now.at c.in-Some-unary_of.operator (expr_of c.in_ok-operand-in-Some-unary_of.operand.expr))
     (reading.read_unary c.args.calls (inside_of c.args.inside) (reader_of c.args.r.now))
@@ -29,7 +29,7 @@ measured_unary-returns-then-sees_mark t c =
     let is : c.args.calls ≡ c.in-Some.calls + 1 = omega (arith, c.in-Some.ensures) in
     let shallow : c.args.inside.operators < 200 = omega (arith, c.if-inside-ge-MOST.false) in
     let sees : reading.unary_of (reading.next_token (reader_of c.args.r.now)) ≡ None =
-        sym (c.in-None-unary_of.ensures ∙ ap reading.unary_of c.next.ensures) in
+    sym (c.in-None-unary_of.ensures ∙ ap reading.unary_of c.next.ensures) in
     along c.read_parentheses.result (reader_of c.read_parentheses.new.r)
     (reading.read_parentheses c.in-Some.calls (inside_of c.args.inside) c.args.r.now.at (reader_of c.skip-then-sees_mark.new.self))
     (reading.read_unary c.args.calls (inside_of c.args.inside) (reader_of c.args.r.now))
@@ -42,7 +42,7 @@ measured_unary-returns-else-sees_mark t c =
     let is : c.args.calls ≡ c.in-Some.calls + 1 = omega (arith, c.in-Some.ensures) in
     let shallow : c.args.inside.operators < 200 = omega (arith, c.if-inside-ge-MOST.false) in
     let sees : reading.unary_of (reading.next_token (reader_of c.args.r.now)) ≡ None =
-        sym (c.in-None-unary_of.ensures ∙ ap reading.unary_of c.next.ensures) in
+    sym (c.in-None-unary_of.ensures ∙ ap reading.unary_of c.next.ensures) in
     along c.read_leaf.result (reader_of c.read_leaf.new.r) (reading.read_leaf (reader_of c.args.r.now))
     (reading.read_unary c.args.calls (inside_of c.args.inside) (reader_of c.args.r.now))
     c.read_leaf.ensures
@@ -53,9 +53,9 @@ read_parentheses-returns-then-sees_type t c =
     let is : c.args.calls ≡ c.in-Some.calls + 1 = omega (arith, c.in-Some.ensures) in
     let here = reading.stop_if_enclosed (reading.in_parentheses (inside_of c.args.inside)) (reader_of c.args.r.now) in
     let enclosed : reader_of c.stop_if_enclosed.new.r ≡ here =
-        c.stop_if_enclosed.ensures ∙ ap (λ i. reading.stop_if_enclosed i (reader_of c.args.r.now)) c.in_parentheses-content.ensures in
+    c.stop_if_enclosed.ensures ∙ ap (λ i. reading.stop_if_enclosed i (reader_of c.args.r.now)) c.in_parentheses-content.ensures in
     let begins : reading.begins_type (reading.next_token here) ≡ true =
-        sym (c.if-sees_type.ensures ∙ ap (λ r. reading.begins_type (reading.next_token r)) enclosed) in
+    sym (c.if-sees_type.ensures ∙ ap (λ r. reading.begins_type (reading.next_token r)) enclosed) in
     along c.read_cast.result (reader_of c.read_cast.new.r)
     (reading.read_cast c.in-Some.calls (inside_of c.args.inside) c.args.at (reading.got c.take_type-ty.result (reader_of c.take_type-ty.new.self)))
     (reading.read_parentheses c.args.calls (inside_of c.args.inside) c.args.at (reader_of c.args.r.now))
@@ -68,12 +68,12 @@ read_parentheses-returns-in_ok-whole-in-Some t c =
     let is : c.args.calls ≡ c.in-Some.calls + 1 = omega (arith, c.in-Some.ensures) in
     let here = reading.stop_if_enclosed (reading.in_parentheses (inside_of c.args.inside)) (reader_of c.args.r.now) in
     let enclosed : reader_of c.stop_if_enclosed.new.r ≡ here =
-        c.stop_if_enclosed.ensures ∙ ap (λ i. reading.stop_if_enclosed i (reader_of c.args.r.now)) c.in_parentheses-content.ensures in
+    c.stop_if_enclosed.ensures ∙ ap (λ i. reading.stop_if_enclosed i (reader_of c.args.r.now)) c.in_parentheses-content.ensures in
     let begins : reading.begins_type (reading.next_token here) ≡ false =
-        sym (c.if-sees_type.ensures ∙ ap (λ r. reading.begins_type (reading.next_token r)) enclosed) in
+    sym (c.if-sees_type.ensures ∙ ap (λ r. reading.begins_type (reading.next_token r)) enclosed) in
     let a = reading.got (expr_of c.in_ok-whole-in-Some.whole.expr) (reader_of c.measured_expr.new.r) in
     let inner : a ≡ reading.read_expr c.in-Some.calls (reading.in_parentheses (inside_of c.args.inside)) here =
-        c.in_ok-whole-in-Some.ensures ∙ both (reading.read_expr c.in-Some.calls) c.in_parentheses-content.ensures enclosed in
+    c.in_ok-whole-in-Some.ensures ∙ both (reading.read_expr c.in-Some.calls) c.in_parentheses-content.ensures enclosed in
     ap (reading.got (expr_of c.in_ok-whole-in-Some.whole.expr)) c.take_mark.ensures
     ∙ steps.parentheses-closed c.args.calls c.in-Some.calls (inside_of c.args.inside) c.args.at (reader_of c.args.r.now) a is begins inner
 
@@ -82,7 +82,7 @@ read_cast-returns-in_ok-operand-in-Some-ty t c =
     let is : c.args.calls ≡ c.in-Some.calls + 1 = omega (arith, c.in-Some.ensures) in
     let a = reading.got (expr_of c.in_ok-operand-in-Some-ty.operand.expr) (reader_of c.measured_unary.new.r) in
     let inner : a ≡ reading.read_unary c.in-Some.calls (reading.in_operator (inside_of c.args.inside)) (reading.take_mark (codes ")") (reader_of c.args.r.now)) =
-        c.in_ok-operand-in-Some-ty.ensures ∙ both (reading.read_unary c.in-Some.calls) c.in_operator.ensures c.take_mark.ensures in
+    c.in_ok-operand-in-Some-ty.ensures ∙ both (reading.read_unary c.in-Some.calls) c.in_operator.ensures c.take_mark.ensures in
     made c.cast_at.result (reader_of c.measured_unary.new.r)
     (partial.CastHere c.args.at c.in-Some-ty.ty (expr_of c.in_ok-operand-in-Some-ty.operand.expr))
     (reading.read_cast c.args.calls (inside_of c.args.inside) c.args.at (reading.got c.args.ty (reader_of c.args.r.now)))
@@ -109,13 +109,13 @@ read_more-loop-fewer-preserved t c =
     let left = reading.got (expr_of c.loop-fewer.left.expr) (reader_of c.loop-fewer.r) in
     let right = reading.got (expr_of c.in_ok-right-in-Some-operator_of.right.expr) (reader_of c.read_binary.new.r) in
     let read : right ≡ reading.read_binary c.in-Some.fewer (reading.in_operator inside) (grammar.strength operator + 1) (reading.skip left.behind) =
-        c.in_ok-right-in-Some-operator_of.ensures
-        ∙ both (λ i s. reading.read_binary c.in-Some.fewer i (s + 1) (reader_of c.skip.new.self)) c.in_operator.ensures c.strength.ensures
-        ∙ ap (reading.read_binary c.in-Some.fewer (reading.in_operator inside) (grammar.strength operator + 1)) c.skip.ensures in
+    c.in_ok-right-in-Some-operator_of.ensures
+    ∙ both (λ i s. reading.read_binary c.in-Some.fewer i (s + 1) (reader_of c.skip.new.self)) c.in_operator.ensures c.strength.ensures
+    ∙ ap (reading.read_binary c.in-Some.fewer (reading.in_operator inside) (grammar.strength operator + 1)) c.skip.ensures in
     let joined : reading.got (expr_of c.in_ok-left-in-Some-operator_of.left.expr) (reader_of c.stop_if_deep.new.r)
-            ≡ reading.joined inside operator left.value right =
-        ap (reading.got (expr_of c.in_ok-left-in-Some-operator_of.left.expr)) c.stop_if_deep.ensures
-        ∙ ap (λ w. reading.got w (reading.stop_if_deep inside w (reader_of c.read_binary.new.r))) c.in_ok-left-in-Some-operator_of.ensures in
+    ≡ reading.joined inside operator left.value right =
+    ap (reading.got (expr_of c.in_ok-left-in-Some-operator_of.left.expr)) c.stop_if_deep.ensures
+    ∙ ap (λ w. reading.got w (reading.stop_if_deep inside w (reader_of c.read_binary.new.r))) c.in_ok-left-in-Some-operator_of.ensures in
     record {
       same = ap (reading.read_more c.in-Some.fewer inside c.args.weakest) joined
           ∙ steps.more-joins c.loop-fewer.calls c.in-Some.fewer inside c.args.weakest left operator right is c.in-Some-operator_of.ensures read
@@ -149,9 +149,9 @@ read_rest-returns-in_ok-whole-in-Some t c =
     let second = reading.got (expr_of c.in_ok-second-in-Some.second.expr) (reader_of c.measured_expr-in-Some.new.r) in
     let sees : reading.sees_mark (codes "?") test.behind ≡ true = sym c.sees_mark.ensures ∙ c.if-not-sees_mark.false in
     let first_is : first ≡ reading.read_expr c.in-Some.calls (reading.in_operator inside) (reading.skip test.behind) =
-        c.in_ok-first-in-Some.ensures ∙ both (reading.read_expr c.in-Some.calls) c.in_operator.ensures c.skip.ensures in
+    c.in_ok-first-in-Some.ensures ∙ both (reading.read_expr c.in-Some.calls) c.in_operator.ensures c.skip.ensures in
     let second_is : second ≡ reading.read_expr c.in-Some.calls (reading.in_operator inside) (reading.take_mark (codes ":") first.behind) =
-        c.in_ok-second-in-Some.ensures ∙ both (reading.read_expr c.in-Some.calls) c.in_operator-in-Some.ensures c.take_mark.ensures in
+    c.in_ok-second-in-Some.ensures ∙ both (reading.read_expr c.in-Some.calls) c.in_operator-in-Some.ensures c.take_mark.ensures in
     ap (reading.got (expr_of c.in_ok-whole-in-Some.whole.expr)) c.stop_if_deep.ensures
     ∙ ap (λ w. reading.got w (reading.stop_if_deep inside w (reader_of c.measured_expr-in-Some.new.r))) c.in_ok-whole-in-Some.ensures
     ∙ steps.rest-chooses c.args.calls c.in-Some.calls inside test first second is sees first_is second_is

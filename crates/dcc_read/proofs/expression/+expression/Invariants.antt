@@ -30,7 +30,7 @@ abbrev pub invariant-read_more-loop-fewer : goal.invariant-read_more-loop-fewer
 invariant-read_more-loop-fewer l = record {
   same : reading.read_more l.calls (inside_of l.inside) l.weakest (reading.got (expr_of l.left.expr) (reader_of l.r))
       ≡ reading.read_more l.fn.calls (inside_of l.inside) l.weakest (reading.got (expr_of l.fn.first.expr) (reader_of l.fn.r));
-  few : l.calls ≤ l.fn.calls
+  few : l.calls ≤ l.fn.calls;
 }
 
 abbrev pub decreases-read_more-loop-fewer : goal.decreases-read_more-loop-fewer
