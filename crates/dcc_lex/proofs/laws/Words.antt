@@ -1,0 +1,93 @@
+-- A run of letters, digits and `_` is a token exactly where it spells one.
+use Rattle.std.proofs.Common.{◌≡◌, ◌≤◌, ◌<◌, ◌+◌, ◌*◌, ◌-◌, ◌/◌, ◌%◌, ℕ, Bool, true, false, not, ◌==◌, ◌&&◌, if◌then◌else◌, List, [], ◌∷◌, ◌++◌, length, Option, Some, None, refl, sym, ap, ◌∙◌, subst, inl, inr, arith}
+use Rattle.std.specs.Prelude.{codes, nat_le, option_map}
+use Rattle.std.specs.List.{take_while, list_all}
+use Rattle.std.specs.Fmt.{decimal}
+use Rattle.std.proofs.lemmas.Bool.{and_parts, and_from, or_left, or_right, or_from, or_cases, and_left, and_right, cases_Bool, cond-true, cond-false, not_from_false, eq-eqb, eqb-true, leb-true, le-leb, lt-leb, ne_eqb}
+use Rattle.std.proofs.lemmas.List.Folds.{list_all-append}
+use Rattle.std.proofs.lemmas.List.{append-nil}
+use Rattle.std.proofs.lemmas.Fmt.{decimal_by_steps}
+use Rattle.dcc_c.specs.Token.{Token, WordToken, Decimal, Hex, Mark, Pragma, Suffix, plain_number, unsigned_suffix, long_suffix, unsigned_long_suffix, suffix_bytes, is_between, is_digit, is_letter, is_word, is_word_byte, hex_value, hex_from, same_bytes, are_hex_digits, Spells, ends_before, version_line}
+use Rattle.dcc_c.specs.Grammar.{is_among}
+use Rattle.dcc_c.specs.Pieces.{behind_while, behind, unused_keywords, suffix_of, decimal_from, decimal_of, is_hex_digit, hex_of, number_of, token_of_word}
+use Rattle.dcc_c.proofs.reading.Passing.{if-cases, same_bytes-equal}
+use Rattle.dcc_lex.proofs.laws.Runs.{ends_run, IsRun, run_of, run_is, behind_run, behind-is, behind-append}
+
+-- a word or a number
+abbrev pub is_of_word : Token → Bool
+is_of_word (WordToken word) = true
+is_of_word (Decimal n suffix) = true
+is_of_word (Hex n suffix) = true
+is_of_word (Mark mark) = false
+is_of_word (Pragma head) = false
+
+-- the token may stand behind the version line
+abbrev pub is_used : Token → Bool
+is_used (WordToken word) = not (is_among unused_keywords word)
+is_used (Pragma version_line) = false
+is_used token = true
+
+pub word_ends_before : (token : Token) (rest : List ℕ) → is_of_word token ≡ true → ends_before token rest ≡ ends_run is_word_byte rest
+word_ends_before (WordToken word) [] is = refl
+word_ends_before (WordToken word) (b ∷ rest) is = refl
+word_ends_before (Decimal n suffix) [] is = refl
+word_ends_before (Decimal n suffix) (b ∷ rest) is = refl
+word_ends_before (Hex n suffix) [] is = refl
+word_ends_before (Hex n suffix) (b ∷ rest) is = refl
+word_ends_before (Mark mark) rest is = absurd cc
+word_ends_before (Pragma head) rest is = absurd cc
+
+pub same_bytes-refl : (bytes : List ℕ) → same_bytes bytes bytes ≡ true
+same_bytes-refl [] = refl
+same_bytes-refl (b ∷ bytes) = and_from _ _ (eq-eqb b b refl) (same_bytes-refl bytes)
+
+-- From a run to its token.
+
+-- the run spells the token
+pub record IsWord (run : List ℕ) (token : Token) : Type 0 where
+  pub spells : Spells run token
+  pub kind : is_of_word token ≡ true
+  pub used : is_used token ≡ true
+
+-- what an option gives is made of what it holds
+mapped : {A : Type 0} (make : A → Token) (o : Option A) (token : Token) → option_map make o ≡ Some token → (a : A) × (o ≡ Some a) × (make a ≡ token)
+mapped make (Some a) token is = (a, refl, cc)
+mapped make None token is = absurd cc
+
+suffix_is : (bytes : List ℕ) (suffix : Suffix) → suffix_of bytes ≡ Some suffix → bytes ≡ suffix_bytes suffix
+suffix_is bytes suffix =
+    if-cases (λ o. o ≡ Some suffix → bytes ≡ suffix_bytes suffix) (same_bytes bytes [])
+    (λ same is. same_bytes-equal bytes [] same ∙ ap suffix_bytes (is_suffix plain_number is))
+    (λ _. if-cases (λ o. o ≡ Some suffix → bytes ≡ suffix_bytes suffix) (same_bytes bytes (codes "U"))
+      (λ same is. same_bytes-equal bytes (codes "U") same ∙ ap suffix_bytes (is_suffix unsigned_suffix is))
+      (λ _. if-cases (λ o. o ≡ Some suffix → bytes ≡ suffix_bytes suffix) (same_bytes bytes (codes "L"))
+        (λ same is. same_bytes-equal bytes (codes "L") same ∙ ap suffix_bytes (is_suffix long_suffix is))
+        (λ _. if-cases (λ o. o ≡ Some suffix → bytes ≡ suffix_bytes suffix) (same_bytes bytes (codes "UL"))
+          (λ same is. same_bytes-equal bytes (codes "UL") same ∙ ap suffix_bytes (is_suffix unsigned_long_suffix is))
+          (λ _ is. absurd cc))))
+  where
+    is_suffix : (other : Suffix) → Some other ≡ Some suffix → other ≡ suffix
+    is_suffix other is = cc
+
+decimal_spelled : (run : List ℕ) (token : Token) → decimal_of run ≡ Some token → IsWord run token
+decimal_spelled run token =
+    let digits = take_while is_digit run in
+    let n = decimal_from 0 digits in
+    if-cases (λ o. o ≡ Some token → IsWord run token) (same_bytes digits (decimal n) && nat_le n 4294967295)
+    (λ good is. decimal_made digits n good (mapped (λ suffix. Decimal n suffix) (suffix_of (behind_while is_digit run)) token is))
+    (λ _ is. absurd cc)
+  where
+    decimal_made : (digits : List ℕ) (n : ℕ) → (same_bytes digits (decimal n) && nat_le n 4294967295) ≡ true →
+        (suffix : Suffix) × (suffix_of (behind_while is_digit run) ≡ Some suffix) × (Decimal n suffix ≡ token) → IsWord run token
+    decimal_made digits n good found = ?
+
+hex_spelled : (bytes : List ℕ) (token : Token) → hex_of bytes ≡ Some token → IsWord (codes "0x" ++ bytes) token
+hex_spelled bytes token = ?
+
+number_spelled : (run : List ℕ) (token : Token) → number_of run ≡ Some token → IsWord run token
+number_spelled run token = ?
+
+-- the run is a token that it spells
+pub word_spelled : (run : List ℕ) (token : Token) → token_of_word run ≡ Some token → IsWord run token
+word_spelled [] token = λ is. absurd cc
+word_spelled (b ∷ bytes) token = ?
