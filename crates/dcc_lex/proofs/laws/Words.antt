@@ -147,7 +147,7 @@ letter_no_digit b letter =
     above : 65 ≤ b → is_digit b ≡ false
     above high = and_right _ _ (lt-leb b 57 (omega arith))
 
-word_found : (word : List ℕ) → is_word word ≡ true → not (is_among unused_keywords word) ≡ true → IsFound word (WordToken word)
+pub word_found : (word : List ℕ) → is_word word ≡ true → not (is_among unused_keywords word) ≡ true → IsFound word (WordToken word)
 word_found [] is used = absurd cc
 word_found (b ∷ bytes) is used =
     let (letter, others) = and_parts (is_letter b) (list_all is_word_byte bytes && nat_le (length bytes) 30) is in
