@@ -1,8 +1,11 @@
 pub mod CutsLex
+pub mod LexesCut
 pub mod Marks
 pub mod Numbers
 pub mod Pieces
 pub mod Runs
+pub mod TextParsed
 pub mod Used
 pub mod UsedDeclarations
+pub mod Version
 pub mod Words

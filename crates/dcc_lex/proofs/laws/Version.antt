@@ -1,0 +1,2 @@
+-- To come.
+use Rattle.std.proofs.Common.{◌≡◌}
