@@ -5,6 +5,7 @@ pub mod Numbers
 pub mod Pieces
 pub mod Runs
 pub mod TextParsed
+pub mod TokensCut
 pub mod Used
 pub mod UsedDeclarations
 pub mod Version

@@ -22,7 +22,7 @@ spot_of true = line_start
 spot_of false = in_line
 
 -- the pieces behind a first cut
-abbrev with_cut : ℕ → Cut → List Piece
+abbrev pub with_cut : ℕ → Cut → List Piece
 with_cut more c = c.pieces ++ pieces_from more c.spot c.line c.rest
 
 -- the first cut of these bytes, if it is no number of a pragma
@@ -40,7 +40,7 @@ allowed_first false o = refl
 
 -- a byte that is no line feed
 module _ (fresh : Bool) (line b : ℕ) (bytes : List ℕ) (no_feed : (b == 10) ≡ false) where
-  blank_first : is_blank b ≡ true → first_cut (spot_of fresh) line b bytes ≡ cut [] in_line line bytes
+  pub blank_first : is_blank b ≡ true → first_cut (spot_of fresh) line b bytes ≡ cut [] in_line line bytes
   blank_first is =
       cond-false _ _ _ no_feed ∙ cond-false _ _ _ (number_no_first fresh b bytes) ∙ cond-true _ _ _ is ∙ cond-true _ _ _ (free_first fresh)
 
@@ -48,7 +48,7 @@ module _ (fresh : Bool) (line b : ℕ) (bytes : List ℕ) (no_feed : (b == 10) �
   token_first no_blank =
       cond-false _ _ _ no_feed ∙ cond-false _ _ _ (number_no_first fresh b bytes) ∙ cond-false _ _ _ no_blank
 
-blank_no_feed : (b : ℕ) → is_blank b ≡ true → (b == 10) ≡ false
+pub blank_no_feed : (b : ℕ) → is_blank b ≡ true → (b == 10) ≡ false
 blank_no_feed b is =
     elim (or_cases (b == 32) (b == 9) is) [
       | inl space ↦ ne_eqb b 10 (λ same. omega (arith, same, eqb-true b 32 space))
@@ -92,7 +92,7 @@ module _ (fresh : Bool) (line : ℕ) (b : ℕ) (others rest : List ℕ) where
       ∙ ap (λ r. cut (piece line (Some (Mark (b ∷ others))) ∷ []) in_line line r) (drop_first (b ∷ others) rest)
 
 -- the spelling of a token that stands before a rest, in which it does not go on, is the first cut
-token_first_cut : (fresh : Bool) (line : ℕ) (b : ℕ) (others rest : List ℕ) (read : Token) → Spells (b ∷ others) read → ends_before read rest ≡ true → is_used read ≡ true →
+pub token_first_cut : (fresh : Bool) (line : ℕ) (b : ℕ) (others rest : List ℕ) (read : Token) → Spells (b ∷ others) read → ends_before read rest ≡ true → is_used read ≡ true →
     first_cut (spot_of fresh) line b (others ++ rest) ≡ cut (piece line (Some read) ∷ []) in_line line rest
 token_first_cut fresh line b others rest (WordToken word) spells ended used =
     word_first fresh line b others rest (WordToken word) (spelling_found (b ∷ others) (WordToken word) spells refl used) (sym (word_ends_before (WordToken word) rest refl) ∙ ended)
@@ -106,7 +106,7 @@ token_first_cut fresh line b others rest (Mark mark) (same, is) ended used =
 token_first_cut fresh line b others rest (Pragma head) spells ended used = absurd spells
 
 -- no token has an empty spelling
-spelled_some : (read : Token) → Spells [] read → is_used read ≡ true → ⊥
+pub spelled_some : (read : Token) → Spells [] read → is_used read ≡ true → ⊥
 spelled_some (WordToken word) spells used = absurd_found (WordToken word) (spelling_found [] (WordToken word) spells refl used)
   where
     absurd_found : (read : Token) → IsFound [] read → ⊥

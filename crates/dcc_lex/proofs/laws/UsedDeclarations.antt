@@ -69,7 +69,7 @@ functions_used : {limit : ℕ} {tokens : List Placed} {functions : List Function
 functions_used (last_function is) = function_used is refl
 functions_used (more_functions is others) = function_used is (functions_used others)
 
-abbrev behind_first : List Placed → List Placed
+abbrev pub behind_first : List Placed → List Placed
 behind_first [] = []
 behind_first (t ∷ tokens) = tokens
 
