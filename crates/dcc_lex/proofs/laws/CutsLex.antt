@@ -1,18 +1,18 @@
 -- Pieces that are tokens, none of which stands where it may not, are the tokens of the bytes.
-use Rattle.std.proofs.Common.{◌≡◌, ◌≤◌, ℕ, zero, suc, Bool, true, false, not, ◌==◌, ◌&&◌, if◌then◌else◌, List, [], ◌∷◌, ◌++◌, map, length, drop, Option, Some, None, refl, sym, ap, ◌∙◌, subst, append_assoc, arith}
-use Rattle.std.specs.Prelude.{nat_le, option_map}
+use Rattle.std.proofs.Common.{◌≡◌, ◌≤◌, ℕ, zero, suc, Bool, true, false, not, ◌==◌, List, [], ◌∷◌, ◌++◌, map, length, drop, Option, Some, None, refl, sym, ap, ◌∙◌, subst, append_assoc, arith}
+use Rattle.std.specs.Prelude.{nat_le}
 use Rattle.std.specs.List.{take_while, list_all, flat_map}
 use Rattle.std.specs.Fmt.{decimal}
 use Rattle.std.proofs.lemmas.Bool.{and_parts, and_from, eqb-true, le-leb}
 use Rattle.std.proofs.lemmas.List.{append-nil}
-use Rattle.dcc_c.specs.Token.{Token, WordToken, Decimal, Hex, Mark, Pragma, Suffix, plain_number, unsigned_suffix, long_suffix, unsigned_long_suffix, Head, version_line, stack_line, place_line, depth_line, head_bytes, is_mark, is_word_byte, Spells, ends_before}
-use Rattle.dcc_c.specs.Lexing.{Placed, placed, is_blank, pragma_bytes, pragma_tokens, are_pragma_numbers, Lexes, ends, blank, feed, token, pragma}
-use Rattle.dcc_c.specs.Pieces.{Piece, piece, behind_while, behind, stray, token_of_word, is_line_end, is_word_end, pragma_words, FoundHead, head_if, head_in, head_of, Spot, line_start, in_line, in_pragma, in_blanks, is_of_pragma, is_in_pragma, is_line_start, Cut, cut, allowed_at, first_mark, cut_head, cut_mark, cut_token, cut_blank, is_plain, has_number, first_cut, pieces_from}
+use Rattle.dcc_c.specs.Token.{Token, WordToken, Decimal, Hex, Mark, Pragma, plain_number, unsigned_suffix, long_suffix, unsigned_long_suffix, Head, version_line, stack_line, place_line, depth_line, head_bytes, is_mark, is_word_byte, Spells, ends_before}
+use Rattle.dcc_c.specs.Lexing.{Placed, placed, is_blank, are_pragma_numbers, Lexes, ends, blank, feed, token, pragma}
+use Rattle.dcc_c.specs.Pieces.{Piece, piece, behind_while, behind, stray, token_of_word, is_line_end, is_word_end, pragma_words, FoundHead, head_if, head_in, head_of, Spot, line_start, in_line, in_pragma, in_blanks, is_of_pragma, Cut, cut, allowed_at, first_mark, cut_head, cut_mark, cut_blank, is_plain, has_number, first_cut, pieces_from}
 use Rattle.dcc_c.proofs.reading.Passing.{if-cases, option-cases, pieces_with}
 use Rattle.dcc_lex.proofs.laws.Runs.{run_of, behind_shorter, drop_shorter, behind-is}
 use Rattle.dcc_lex.proofs.laws.Words.{word_ends_before, word_spelled}
 use Rattle.dcc_lex.proofs.laws.Marks.{first_mark_is, first_mark_shorter}
-use Rattle.dcc_lex.proofs.laws.Pieces.{is_no_version, no_version, IsFirstToken, first_of_tokens, no_stray, no_none, not_of_pragma, allowed_free}
+use Rattle.dcc_lex.proofs.laws.Pieces.{is_no_version, no_version, first_of_tokens, no_stray, no_none, not_of_pragma, allowed_free}
 
 -- The bytes are numbers of a pragma, one space before each, then tokens from the end of the line on.
 pub record InPragma (line : ℕ) (bytes : List ℕ) (tokens : List Placed) : Type 0 where
@@ -132,8 +132,8 @@ blank_cut spot line b bytes is =
     if-cases (IsGoodCut spot line b bytes) (not (is_of_pragma spot))
     (λ free. record { shorter = omega arith; joins = λ others tokens goes same good more. blank_at spot tokens free (goes tokens same good refl) })
     (λ _. if-cases (IsGoodCut spot line b bytes) (is_line_end rest)
-      (λ _. record { shorter = drop_shorter (length (take_while is_blank bytes)) bytes; joins = λ others tokens goes same good more. absurd (no_stray line others tokens same good) })
-      (λ some. record { shorter = omega arith; joins = λ others tokens goes same good more. absurd (goes tokens same good (ap not some)) }))
+    (λ _. record { shorter = drop_shorter (length (take_while is_blank bytes)) bytes; joins = λ others tokens goes same good more. absurd (no_stray line others tokens same good) })
+    (λ some. record { shorter = omega arith; joins = λ others tokens goes same good more. absurd (goes tokens same good (ap not some)) }))
   where
     blank_at : (spot : Spot) (tokens : List Placed) → not (is_of_pragma spot) ≡ true → Lexes false line bytes tokens → IsAt spot line (b ∷ bytes) tokens
     blank_at line_start tokens free later = blank is later
@@ -260,15 +260,15 @@ module _ (spot : Spot) (line b : ℕ) (bytes : List ℕ) where
       if-cases (IsGoodCut spot line b bytes) (is_mark mark)
       (λ is. token_cut spot line b bytes (Some (Mark mark)) mark rest (mark_spelled mark rest is first.ended) first.same (first_mark_shorter b bytes))
       (λ _. option-cases (head_of (b ∷ bytes)) (λ o. IsGoodCut spot line b bytes (elim o [ Some found ↦ cut_head spot line found | None ↦ cut (piece line None ∷ []) in_line line bytes ]))
-        (λ found is. head_cut line b bytes found (head_in_found (b ∷ bytes) found (version_line ∷ stack_line ∷ place_line ∷ depth_line ∷ []) is) spot)
-        (λ _. record { shorter = omega arith; joins = λ others tokens goes same good more. absurd (no_none line others tokens same good) }))
+      (λ found is. head_cut line b bytes found (head_in_found (b ∷ bytes) found (version_line ∷ stack_line ∷ place_line ∷ depth_line ∷ []) is) spot)
+      (λ _. record { shorter = omega arith; joins = λ others tokens goes same good more. absurd (no_none line others tokens same good) }))
 
   first_good : IsGoodCut spot line b bytes (first_cut spot line b bytes)
   first_good =
       if-cases (IsGoodCut spot line b bytes) (b == 10) (λ is. feed_cut line bytes spot b (eqb-true b 10 is))
       (λ _. if-cases (IsGoodCut spot line b bytes) (has_number spot b bytes) (λ has. number_cut line bytes spot b has)
-        (λ _. if-cases (IsGoodCut spot line b bytes) (is_blank b) (λ is. blank_cut spot line b bytes is)
-          (λ _. if-cases (IsGoodCut spot line b bytes) (is_word_byte b) (λ is. word_cut spot line b bytes is) (λ _. mark_cut))))
+      (λ _. if-cases (IsGoodCut spot line b bytes) (is_blank b) (λ is. blank_cut spot line b bytes is)
+      (λ _. if-cases (IsGoodCut spot line b bytes) (is_word_byte b) (λ is. word_cut spot line b bytes is) (λ _. mark_cut))))
 
 no_bytes_at : (spot : Spot) (line : ℕ) (tokens : List Placed) → has_more spot [] ≡ true → [] ≡ pieces_with tokens → IsAt spot line [] tokens
 no_bytes_at line_start line [] more same = ends

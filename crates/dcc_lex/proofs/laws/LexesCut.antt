@@ -1,20 +1,15 @@
 -- Bytes that are tokens are cut into these.
-use Rattle.std.proofs.Common.{◌≡◌, ◌≤◌, ◌<◌, ◌+◌, ℕ, zero, suc, Bool, true, false, not, ◌==◌, ◌&&◌, if◌then◌else◌, List, [], ◌∷◌, ◌++◌, map, length, drop, Option, Some, None, refl, sym, ap, ◌∙◌, subst, append_assoc, inl, inr, arith}
-use Rattle.std.specs.Prelude.{nat_le, option_map}
-use Rattle.std.specs.List.{take_while, list_all, flat_map}
-use Rattle.std.specs.Fmt.{decimal}
-use Rattle.std.proofs.lemmas.Bool.{and_parts, and_from, or_cases, cond-true, cond-false, eqb-true, leb-true, le-leb, ne_eqb}
-use Rattle.std.proofs.lemmas.List.{append-nil, length-append}
-use Rattle.dcc_c.specs.Token.{Token, WordToken, Decimal, Hex, Mark, Pragma, Suffix, plain_number, Head, version_line, stack_line, place_line, depth_line, head_bytes, is_mark, is_word_byte, Spells, ends_before}
-use Rattle.dcc_c.specs.Lexing.{Placed, placed, is_blank, pragma_bytes, pragma_tokens, are_pragma_numbers, Lexes, ends, blank, feed, token, pragma}
-use Rattle.dcc_c.specs.Pieces.{Piece, piece, behind_while, behind, stray, token_of_word, is_line_end, is_word_end, pragma_words, FoundHead, head_if, head_in, head_of, Spot, line_start, in_line, in_pragma, in_blanks, is_of_pragma, is_in_pragma, is_line_start, Cut, cut, allowed_at, first_mark, cut_head, cut_mark, cut_token, cut_blank, is_plain, has_number, first_cut, pieces_from}
-use Rattle.dcc_c.proofs.reading.Passing.{if-cases, option-cases, pieces_with}
+use Rattle.std.proofs.Common.{◌≡◌, ℕ, Bool, true, false, not, ◌==◌, ◌&&◌, List, [], ◌∷◌, ◌++◌, length, drop, Option, Some, None, refl, sym, ap, ◌∙◌, subst, inl, inr, arith}
+use Rattle.std.specs.List.{take_while, list_all}
+use Rattle.std.proofs.lemmas.Bool.{and_parts, or_cases, cond-true, cond-false, eqb-true, ne_eqb}
+use Rattle.dcc_c.specs.Token.{Token, WordToken, Decimal, Hex, Mark, Pragma, is_mark, is_word_byte, Spells, ends_before}
+use Rattle.dcc_c.specs.Lexing.{is_blank}
+use Rattle.dcc_c.specs.Pieces.{Piece, piece, behind_while, token_of_word, Spot, line_start, in_line, is_of_pragma, Cut, cut, allowed_at, first_mark, cut_mark, cut_token, has_number, first_cut, pieces_from}
 use Rattle.dcc_c.proofs.WrittenRows.{other_byte}
 use Rattle.dcc_lex.proofs.laws.Runs.{ends_run, no_more_of, run_is, behind_run, drop_first}
-use Rattle.dcc_lex.proofs.laws.Words.{is_of_word, is_used, word_ends_before, IsFound}
+use Rattle.dcc_lex.proofs.laws.Words.{is_used, word_ends_before, IsFound}
 use Rattle.dcc_lex.proofs.laws.Numbers.{spelling_found}
-use Rattle.dcc_lex.proofs.laws.Used.{all_used}
-use Rattle.dcc_lex.proofs.laws.Marks.{begins_mark, mark_begins, mark_first}
+use Rattle.dcc_lex.proofs.laws.Marks.{mark_begins, mark_first}
 
 -- where tokens begin
 abbrev pub spot_of : Bool → Spot

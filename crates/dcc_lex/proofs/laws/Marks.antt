@@ -1,6 +1,6 @@
 -- The longest mark that bytes begin with.
-use Rattle.std.proofs.Common.{◌≡◌, ◌≤◌, ℕ, Bool, true, false, not, ◌==◌, ◌&&◌, if◌then◌else◌, List, [], ◌∷◌, ◌++◌, length, drop, refl, ap, ◌∙◌, subst, arith}
-use Rattle.std.proofs.lemmas.Bool.{and_parts, cond-true, cond-false, not_from_false, both_ways, true_from_ne_false, false_from_ne_true}
+use Rattle.std.proofs.Common.{◌≡◌, ◌≤◌, ℕ, Bool, true, false, not, ◌==◌, ◌&&◌, List, [], ◌∷◌, ◌++◌, length, drop, refl, arith}
+use Rattle.std.proofs.lemmas.Bool.{cond-true, cond-false, not_from_false, both_ways, false_from_ne_true}
 use Rattle.dcc_c.specs.Token.{Mark, marks, is_mark, is_word_byte, ends_before}
 use Rattle.dcc_c.specs.Lexing.{is_blank}
 use Rattle.dcc_c.specs.Pieces.{first_mark}

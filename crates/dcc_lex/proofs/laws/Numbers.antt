@@ -1,13 +1,13 @@
 -- The spelling of a word or a number is a run of letters, digits and `_`, which is read as the token.
-use Rattle.std.proofs.Common.{◌≡◌, ◌≤◌, ◌<◌, ◌+◌, ◌*◌, ◌-◌, ◌/◌, ◌%◌, ℕ, Bool, true, false, not, ◌==◌, ◌&&◌, ◌||◌, if◌then◌else◌, List, [], ◌∷◌, ◌++◌, length, Option, Some, None, refl, sym, ap, ◌∙◌, subst, inl, inr, arith}
+use Rattle.std.proofs.Common.{◌≡◌, ◌≤◌, ◌<◌, ◌+◌, ◌*◌, ◌-◌, ◌/◌, ◌%◌, ℕ, true, ◌==◌, ◌&&◌, if◌then◌else◌, List, [], ◌∷◌, ◌++◌, length, Option, Some, None, refl, sym, ap, ◌∙◌, subst, arith}
 use Rattle.std.specs.Prelude.{codes, nat_le, option_map}
-use Rattle.std.specs.List.{take_while, list_all}
+use Rattle.std.specs.List.{list_all}
 use Rattle.std.specs.Fmt.{decimal}
-use Rattle.std.proofs.lemmas.Bool.{and_parts, and_from, or_left, or_right, or_from, or_cases, and_left, and_right, cases_Bool, cond-true, cond-false, not_from_false, eq-eqb, eqb-true, leb-true, le-leb, lt-leb, ne_eqb}
+use Rattle.std.proofs.lemmas.Bool.{and_parts, and_from, or_left, or_right, cond-true, cond-false, leb-true, le-leb, ne_eqb}
 use Rattle.std.proofs.lemmas.List.Folds.{list_all-append}
 use Rattle.std.proofs.lemmas.Fmt.{decimal_by_steps}
-use Rattle.dcc_c.specs.Token.{Token, WordToken, Decimal, Hex, Mark, Pragma, Suffix, plain_number, unsigned_suffix, long_suffix, unsigned_long_suffix, suffix_bytes, is_between, is_digit, is_letter, is_word, is_word_byte, hex_value, hex_from, same_bytes, are_hex_digits, Spells}
-use Rattle.dcc_c.specs.Pieces.{behind_while, behind, suffix_of, decimal_from, decimal_of, is_hex_digit, hex_of, number_of, token_of_word}
+use Rattle.dcc_c.specs.Token.{Token, WordToken, Decimal, Hex, Mark, Pragma, Suffix, plain_number, unsigned_suffix, long_suffix, unsigned_long_suffix, suffix_bytes, is_between, is_digit, is_letter, is_word_byte, hex_from, same_bytes, are_hex_digits, Spells}
+use Rattle.dcc_c.specs.Pieces.{behind_while, behind, suffix_of, decimal_from, decimal_of, is_hex_digit, hex_of}
 use Rattle.dcc_c.proofs.reading.Passing.{if-cases}
 use Rattle.dcc_c.proofs.WrittenRows.{begins_with_digit, decimal_begins}
 use Rattle.dcc_lex.proofs.laws.Runs.{ends_run, run_is, behind_run}
@@ -126,10 +126,10 @@ hex_word : (b : ℕ) → is_hex_digit b ≡ true → is_word_byte b ≡ true
 hex_word b =
     if-cases (λ n. nat_le n 15 ≡ true → is_word_byte b ≡ true) (is_digit b) (λ digit _. or_right (is_letter b) (is_digit b) digit)
     (λ _. if-cases (λ n. nat_le n 15 ≡ true → is_word_byte b ≡ true) (is_between 65 70 b)
-      (λ upper _. or_left _ _ (or_left _ _ (letter_within 65 70 65 90 b (omega arith) (omega arith) upper)))
-      (λ _. if-cases (λ n. nat_le n 15 ≡ true → is_word_byte b ≡ true) (is_between 97 102 b)
-        (λ lower _. or_left _ _ (or_right _ _ (or_left _ _ (letter_within 97 102 97 122 b (omega arith) (omega arith) lower))))
-        (λ _ is. absurd cc)))
+    (λ upper _. or_left _ _ (or_left _ _ (letter_within 65 70 65 90 b (omega arith) (omega arith) upper)))
+    (λ _. if-cases (λ n. nat_le n 15 ≡ true → is_word_byte b ≡ true) (is_between 97 102 b)
+    (λ lower _. or_left _ _ (or_right _ _ (or_left _ _ (letter_within 97 102 97 122 b (omega arith) (omega arith) lower))))
+    (λ _ is. absurd cc)))
 
 hex_digits_word : (digits : List ℕ) → list_all is_hex_digit digits ≡ true → list_all is_word_byte digits ≡ true
 hex_digits_word [] all = refl

@@ -1,8 +1,7 @@
 -- The first of some pieces, and which tokens may stand where.
-use Rattle.std.proofs.Common.{◌≡◌, ℕ, Bool, true, false, not, ◌&&◌, List, [], ◌∷◌, drop, Option, Some, None, refl, sym, ap, ◌∙◌}
-use Rattle.std.specs.Prelude.{if◌then◌else◌}
-use Rattle.std.proofs.lemmas.Bool.{and_parts, and_from}
-use Rattle.dcc_c.specs.Token.{Token, Pragma, Head, version_line, stack_line, place_line, depth_line}
+use Rattle.std.proofs.Common.{◌≡◌, ℕ, Bool, true, false, ◌&&◌, List, [], ◌∷◌, drop, Option, Some, None, refl, sym, ap, ◌∙◌}
+use Rattle.std.proofs.lemmas.Bool.{and_parts}
+use Rattle.dcc_c.specs.Token.{Token, Pragma, version_line}
 use Rattle.dcc_c.specs.Lexing.{Placed, placed}
 use Rattle.dcc_c.specs.Pieces.{Piece, piece, stray, Spot, line_start, in_line, in_pragma, in_blanks, is_of_pragma, allowed_at}
 use Rattle.dcc_c.specs.Reading.{first_token, line_of}

@@ -1,13 +1,13 @@
 -- A text stands for a tree exactly where its pieces behind the version line are read to their end as the tree and
 -- nothing offends in them.
-use Rattle.std.proofs.Common.{◌≡◌, ◌≤◌, ℕ, true, List, Option, Some, refl, sym, ◌∙◌, subst}
+use Rattle.std.proofs.Common.{◌≡◌, ◌≤◌, ℕ, true, List, Some, refl, sym, ◌∙◌, subst}
 use Rattle.dcc_c.specs.Lexing.{Placed, Lexes}
 use Rattle.dcc_c.specs.Pieces.{Piece, pieces_of, behind_version}
 use Rattle.dcc_c.specs.Tree.{Tree}
 use Rattle.dcc_c.specs.Rules.{most_open}
 use Rattle.dcc_c.specs.Grammar.{IsUnit}
 use Rattle.dcc_c.specs.Text.{StandsFor}
-use Rattle.dcc_c.proofs.reading.Passing.{tokens_of, are_tokens, pieces_with}
+use Rattle.dcc_c.proofs.reading.Passing.{tokens_of, pieces_with}
 use Rattle.dcc_c.proofs.reading.Statements.{with_version}
 use Rattle.dcc_c.proofs.reading.UnitSound.{sound_text}
 use Rattle.dcc_c.proofs.reading.TextLaws.{pieces_are}

@@ -1,13 +1,13 @@
 -- The bytes of tokens are cut into these: lines of pragmas, and whole texts.
-use Rattle.std.proofs.Common.{◌≡◌, ◌≤◌, ◌+◌, ℕ, zero, suc, Bool, true, false, ◌==◌, ◌&&◌, List, [], ◌∷◌, ◌++◌, map, length, Option, Some, None, refl, sym, ap, ◌∙◌, subst, append_assoc, arith}
-use Rattle.std.specs.Prelude.{nat_le, if◌then◌else◌}
+use Rattle.std.proofs.Common.{◌≡◌, ◌≤◌, ℕ, zero, suc, Bool, true, List, [], ◌∷◌, ◌++◌, map, length, Some, refl, sym, ap, ◌∙◌, subst, append_assoc, arith}
+use Rattle.std.specs.Prelude.{nat_le}
 use Rattle.std.specs.List.{take_while, list_all, flat_map}
 use Rattle.std.specs.Fmt.{decimal}
-use Rattle.std.proofs.lemmas.Bool.{and_parts, cond-true, eqb-true, leb-true, not_from_false}
+use Rattle.std.proofs.lemmas.Bool.{and_parts, cond-true, eqb-true, leb-true}
 use Rattle.std.proofs.lemmas.List.{append-nil, length-append}
 use Rattle.dcc_c.specs.Token.{Token, Decimal, Pragma, plain_number, Head, version_line, stack_line, place_line, depth_line, head_bytes, is_word_byte, Spells, ends_before}
-use Rattle.dcc_c.specs.Lexing.{Placed, placed, pragma_bytes, pragma_tokens, are_pragma_numbers, Lexes, ends, blank, feed, token, pragma}
-use Rattle.dcc_c.specs.Pieces.{Piece, piece, behind_while, token_of_word, is_line_end, is_word_end, Spot, line_start, in_line, in_pragma, cut, is_plain, first_cut, pieces_from}
+use Rattle.dcc_c.specs.Lexing.{Placed, placed, pragma_bytes, are_pragma_numbers, Lexes, ends, blank, feed, token, pragma}
+use Rattle.dcc_c.specs.Pieces.{piece, behind_while, token_of_word, is_line_end, is_word_end, Spot, line_start, in_line, in_pragma, cut, is_plain, first_cut, pieces_from}
 use Rattle.dcc_c.proofs.reading.Passing.{pieces_with}
 use Rattle.dcc_lex.proofs.laws.Runs.{ends_run, run_is, behind_run}
 use Rattle.dcc_lex.proofs.laws.Words.{is_used, IsFound}

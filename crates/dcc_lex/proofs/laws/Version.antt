@@ -1,15 +1,16 @@
 -- A text is its version line and pieces, and the tokens of the text are that of the version line and those of the pieces.
-use Rattle.std.proofs.Common.{◌≡◌, ◌≤◌, ◌<◌, ℕ, suc, Bool, true, false, ◌&&◌, List, [], ◌∷◌, ◌++◌, map, length, Option, Some, None, refl, sym, ap, ◌∙◌, subst, arith}
+use Rattle.std.proofs.Common.{◌≡◌, ◌≤◌, ◌<◌, ℕ, suc, Bool, true, false, List, [], ◌∷◌, ◌++◌, map, length, Some, None, refl, sym, ap, ◌∙◌, subst, arith}
 use Rattle.std.specs.Prelude.{if◌then◌else◌}
 use Rattle.std.proofs.lemmas.Bool.{and_parts, and_from, cond-true}
-use Rattle.dcc_c.specs.Token.{Token, WordToken, Decimal, Hex, Mark, Pragma, plain_number, Head, version_line, stack_line, place_line, depth_line, head_bytes, Spells, ends_before}
-use Rattle.dcc_c.specs.Lexing.{Placed, placed, pragma_bytes, pragma_tokens, are_pragma_numbers, Lexes, ends, blank, feed, token, pragma}
-use Rattle.dcc_c.specs.Pieces.{behind, is_line_end, in_line, pieces_from, pieces_of, behind_version}
+use Rattle.dcc_c.specs.Token.{Token, WordToken, Decimal, Hex, Mark, Pragma, plain_number, Head, version_line, stack_line, place_line, depth_line, head_bytes, Spells}
+use Rattle.dcc_c.specs.Lexing.{Placed, placed, pragma_bytes, are_pragma_numbers, Lexes, ends, blank, feed, token, pragma}
+use Rattle.dcc_c.specs.Pieces.{behind, is_line_end, in_line, pieces_of, behind_version}
 use Rattle.dcc_c.proofs.reading.Passing.{if-cases, option-cases, pieces_with}
 use Rattle.dcc_c.proofs.reading.Statements.{with_version}
 use Rattle.dcc_lex.proofs.laws.Runs.{behind-is}
 use Rattle.dcc_lex.proofs.laws.Words.{is_used}
 use Rattle.dcc_lex.proofs.laws.Used.{all_used}
+use Rattle.dcc_lex.proofs.laws.UsedDeclarations.{behind_first}
 use Rattle.dcc_lex.proofs.laws.Pieces.{is_no_version, no_version}
 use Rattle.dcc_lex.proofs.laws.CutsLex.{line_ends, cuts_lex}
 use Rattle.dcc_lex.proofs.laws.TokensCut.{line_ended, lexes_cut}
@@ -25,8 +26,8 @@ pub versioned : (text rest : List ℕ) → behind_version text ≡ Some rest →
 versioned text rest =
     option-cases (behind (head_bytes version_line) text) (λ o. elim o [ Some others ↦ if is_line_end others then Some others else None | None ↦ None ] ≡ Some rest → IsVersioned text rest)
     (λ others begins. if-cases (λ o. o ≡ Some rest → IsVersioned text rest) (is_line_end others)
-      (λ ended is. let same : others ≡ rest = cc in subst (IsVersioned text) same (record { same = behind-is (head_bytes version_line) text others begins; ended = ended }))
-      (λ _ is. absurd cc))
+    (λ ended is. let same : others ≡ rest = cc in subst (IsVersioned text) same (record { same = behind-is (head_bytes version_line) text others begins; ended = ended }))
+    (λ _ is. absurd cc))
     (λ _ is. absurd cc)
 
 pub version_behind : (text rest : List ℕ) → IsVersioned text rest → behind_version text ≡ Some rest
@@ -90,10 +91,6 @@ lexes_free (pragma head numbers rest good ended same later all_is) inside = absu
 abbrev first_of : List Placed → Token
 first_of [] = Mark []
 first_of (t ∷ tokens) = t.token
-
-abbrev behind_first : List Placed → List Placed
-behind_first [] = []
-behind_first (t ∷ tokens) = tokens
 
 -- a pragma that is a version line has no numbers
 no_numbers : (head : Head) (numbers : List ℕ) → Pragma head ≡ Pragma version_line → are_pragma_numbers head numbers ≡ true → (head ≡ version_line) × (numbers ≡ [])

@@ -1,17 +1,14 @@
 -- A run of letters, digits and `_` is a token exactly where it spells one.
-use Rattle.std.proofs.Common.{◌≡◌, ◌≤◌, ◌<◌, ◌+◌, ◌*◌, ◌-◌, ◌/◌, ◌%◌, ℕ, Bool, true, false, not, ◌==◌, ◌&&◌, ◌||◌, if◌then◌else◌, List, [], ◌∷◌, ◌++◌, length, Option, Some, None, refl, sym, ap, ◌∙◌, subst, inl, inr, arith}
+use Rattle.std.proofs.Common.{◌≡◌, ◌≤◌, ℕ, Bool, true, false, not, ◌==◌, ◌&&◌, ◌||◌, List, [], ◌∷◌, ◌++◌, length, Option, Some, None, refl, sym, ap, ◌∙◌, subst, inl, inr, arith}
 use Rattle.std.specs.Prelude.{codes, nat_le, option_map}
 use Rattle.std.specs.List.{take_while, list_all}
 use Rattle.std.specs.Fmt.{decimal}
-use Rattle.std.proofs.lemmas.Bool.{and_parts, and_from, or_left, or_right, or_from, or_cases, and_left, and_right, cases_Bool, cond-true, cond-false, not_from_false, eq-eqb, eqb-true, leb-true, le-leb, lt-leb, ne_eqb}
-use Rattle.std.proofs.lemmas.List.Folds.{list_all-append}
-use Rattle.std.proofs.lemmas.List.{append-nil}
-use Rattle.std.proofs.lemmas.Fmt.{decimal_by_steps}
-use Rattle.dcc_c.specs.Token.{Token, WordToken, Decimal, Hex, Mark, Pragma, Suffix, plain_number, unsigned_suffix, long_suffix, unsigned_long_suffix, suffix_bytes, is_between, is_digit, is_letter, is_word, is_word_byte, hex_value, hex_from, same_bytes, are_hex_digits, Spells, ends_before, version_line}
+use Rattle.std.proofs.lemmas.Bool.{and_parts, and_from, or_left, or_cases, and_right, cond-true, cond-false, eq-eqb, eqb-true, leb-true, lt-leb}
+use Rattle.dcc_c.specs.Token.{Token, WordToken, Decimal, Hex, Mark, Pragma, Suffix, plain_number, unsigned_suffix, long_suffix, unsigned_long_suffix, suffix_bytes, is_between, is_digit, is_letter, is_word, is_word_byte, hex_from, same_bytes, Spells, ends_before, version_line}
 use Rattle.dcc_c.specs.Grammar.{is_among}
 use Rattle.dcc_c.specs.Pieces.{behind_while, behind, unused_keywords, suffix_of, decimal_from, decimal_of, is_hex_digit, hex_of, number_of, token_of_word}
 use Rattle.dcc_c.proofs.reading.Passing.{if-cases, option-cases, same_bytes-equal}
-use Rattle.dcc_lex.proofs.laws.Runs.{ends_run, IsRun, run_of, run_is, behind_run, behind-is, behind-append}
+use Rattle.dcc_lex.proofs.laws.Runs.{ends_run, run_of, behind-is}
 
 -- a word or a number
 abbrev pub is_of_word : Token → Bool
@@ -59,12 +56,12 @@ suffix_is bytes suffix =
     if-cases (λ o. o ≡ Some suffix → bytes ≡ suffix_bytes suffix) (same_bytes bytes [])
     (λ same is. same_bytes-equal bytes [] same ∙ ap suffix_bytes (is_suffix plain_number is))
     (λ _. if-cases (λ o. o ≡ Some suffix → bytes ≡ suffix_bytes suffix) (same_bytes bytes (codes "U"))
-      (λ same is. same_bytes-equal bytes (codes "U") same ∙ ap suffix_bytes (is_suffix unsigned_suffix is))
-      (λ _. if-cases (λ o. o ≡ Some suffix → bytes ≡ suffix_bytes suffix) (same_bytes bytes (codes "L"))
-        (λ same is. same_bytes-equal bytes (codes "L") same ∙ ap suffix_bytes (is_suffix long_suffix is))
-        (λ _. if-cases (λ o. o ≡ Some suffix → bytes ≡ suffix_bytes suffix) (same_bytes bytes (codes "UL"))
-          (λ same is. same_bytes-equal bytes (codes "UL") same ∙ ap suffix_bytes (is_suffix unsigned_long_suffix is))
-          (λ _ is. absurd cc))))
+    (λ same is. same_bytes-equal bytes (codes "U") same ∙ ap suffix_bytes (is_suffix unsigned_suffix is))
+    (λ _. if-cases (λ o. o ≡ Some suffix → bytes ≡ suffix_bytes suffix) (same_bytes bytes (codes "L"))
+    (λ same is. same_bytes-equal bytes (codes "L") same ∙ ap suffix_bytes (is_suffix long_suffix is))
+    (λ _. if-cases (λ o. o ≡ Some suffix → bytes ≡ suffix_bytes suffix) (same_bytes bytes (codes "UL"))
+    (λ same is. same_bytes-equal bytes (codes "UL") same ∙ ap suffix_bytes (is_suffix unsigned_long_suffix is))
+    (λ _ is. absurd cc))))
   where
     is_suffix : (other : Suffix) → Some other ≡ Some suffix → other ≡ suffix
     is_suffix other is = cc
@@ -119,7 +116,7 @@ word_spelled (b ∷ bytes) token =
     if-cases (λ o. o ≡ Some token → IsWord (b ∷ bytes) token) (is_digit b)
     (λ _ is. number_spelled (b ∷ bytes) token is)
     (λ _. if-cases (λ o. o ≡ Some token → IsWord (b ∷ bytes) token) (is_word (b ∷ bytes) && not (is_among unused_keywords (b ∷ bytes)))
-      (λ good is. word_made good is) (λ _ is. absurd cc))
+    (λ good is. word_made good is) (λ _ is. absurd cc))
   where
     word_made : (is_word (b ∷ bytes) && not (is_among unused_keywords (b ∷ bytes))) ≡ true → Some (WordToken (b ∷ bytes)) ≡ Some token → IsWord (b ∷ bytes) token
     word_made good is =
