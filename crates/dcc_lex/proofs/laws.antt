@@ -1,4 +1,5 @@
 pub mod CutsLex
+pub mod Enough
 pub mod LexesCut
 pub mod Marks
 pub mod Numbers

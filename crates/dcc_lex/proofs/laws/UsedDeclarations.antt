@@ -1,4 +1,5 @@
--- The same for declarations, functions and whole texts.
+-- The grammar allows neither the version line behind the first line nor a keyword that it does not have: declarations,
+-- functions and whole texts.
 use Rattle.std.proofs.Common.{◌≡◌, ℕ, true, List, [], ◌∷◌, refl, sym, subst, Option}
 use Rattle.std.proofs.lemmas.Bool.{and_from}
 use Rattle.dcc_c.specs.declared.syntax.CType.{CType}
