@@ -1,1 +1,2 @@
+pub mod NumberViews
 pub mod TokenViews
