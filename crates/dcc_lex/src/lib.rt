@@ -2,7 +2,12 @@
 #![tactic(auto)]
 
 mod bytes;
+mod cut;
+mod mark;
 mod number;
+mod pragma;
 pub mod token;
+mod word;
 
+pub use pragma::behind_version;
 pub use token::{Head, Mark, Piece, Suffix, Token};
