@@ -30,7 +30,7 @@ run_ascii (b ∷ bytes) are zero = word_byte_small b (and_parts (is_word_byte b)
 run_ascii (b ∷ bytes) are (suc i) = run_ascii bytes (and_parts (is_word_byte b) (list_all is_word_byte bytes) are).1 i
 
 word_ascii : (bytes : List ℕ) → is_word bytes ≡ true → IsAscii bytes
-word_ascii [] is = absurd cc
+word_ascii [] is i = absurd cc
 word_ascii (b ∷ bytes) is zero = letter_small b (and_parts (is_letter b) _ is).0
 word_ascii (b ∷ bytes) is (suc i) =
     let (first, others) = and_parts (is_letter b) (list_all is_word_byte bytes && nat_le (length bytes) 30) is in

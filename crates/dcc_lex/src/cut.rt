@@ -185,3 +185,33 @@ fn number_cut(spot: Spot, line: u32, bytes: &[u8]) -> Option<Cut<'_>>
         rest,
     })
 }
+
+/// The first cut of bytes that are not none; a run of blanks is one.
+///
+/// # Errors
+///
+/// An `AllocError` where memory runs out.
+pub fn next_cut(alloc: Global, spot: Spot, line: u32, bytes: &[u8]) -> Result<Cut<'_>, AllocError>
+    requires some { 0 < length bytes.now }
+    requires short { line < 4294967295 }
+    ensures continues { IfOk result (λ c. cuts.Continues (cuts.spot_of spot) line bytes.now (cuts.cut_of c)) }
+    ensures shorter { IfOk result (λ c. length c.rest.now < length bytes.now) }
+    ensures line { IfOk result (λ c. c.line ≤ line + 1) }
+{
+    let first = bytes[0];
+    if first == b'\n' {
+        return Ok(Cut {
+            piece: None,
+            spot: Spot::LineStart,
+            line: line + 1,
+            rest: &bytes[1..],
+        });
+    }
+    if let Some(cut) = number_cut(spot, line, bytes) {
+        return Ok(cut);
+    }
+    if is_blank(first) {
+        return Ok(blank_cut(spot, line, bytes));
+    }
+    token_cut(alloc, spot, line, bytes)
+}

@@ -3,11 +3,13 @@
 
 mod bytes;
 mod cut;
+mod lexer;
 mod mark;
 mod number;
 mod pragma;
 pub mod token;
 mod word;
 
+pub use lexer::{line_feeds, pieces};
 pub use pragma::behind_version;
 pub use token::{Head, Mark, Piece, Suffix, Token};
