@@ -1,12 +1,12 @@
 -- Each cut leaves fewer bytes, and the pieces of bytes are those of a cut and those of what it leaves.
-use Rattle.std.proofs.Common.{◌≡◌, ℕ, zero, suc, ◌+◌, ◌≤◌, ◌<◌, Bool, true, false, ◌&&◌, ◌||◌, ◌==◌, cond, List, [], ◌∷◌, ◌++◌, length, drop, get_or, length-drop, Option, Some, None, refl, sym, ap, subst, ◌∙◌, arith, inl, inr, ⊎_elim}
-use Rattle.std.specs.Prelude.{nat_le, not, codes}
+use Rattle.std.proofs.Common.{◌≡◌, ℕ, zero, suc, ◌+◌, ◌≤◌, ◌<◌, Bool, true, false, ◌==◌, cond, List, [], ◌∷◌, ◌++◌, length, drop, get_or, length-drop, Option, Some, None, refl, sym, ap, subst, append_assoc, ◌∙◌, arith, ⊎_elim}
+use Rattle.std.specs.Prelude.{not, Result, Ok, Err, IfOk, MatchOption, option_to_list}
 use Rattle.std.specs.List.{take_while}
 use Rattle.std.proofs.lemmas.List.Sums.{take_while-cons}
-use Rattle.std.proofs.lemmas.Bool.{and_parts, and_left, or_cases, cases_Bool, eqb-true, eq-eqb, ne_eqb, cond-true, cond-false, cond_both, not_from_true}
-use Rattle.dcc_c.specs.Token.{Token, Mark, Pragma, Head, version_line, stack_line, place_line, depth_line, is_mark, is_word_byte}
+use Rattle.std.proofs.lemmas.Bool.{or_cases, cases_Bool, eqb-true, eq-eqb, ne_eqb, cond-true, cond-false, cond_both, not_from_true}
+use Rattle.dcc_c.specs.Token.{Mark, Pragma, Head, version_line, stack_line, place_line, depth_line, is_mark, is_word_byte}
 use Rattle.dcc_c.specs.Lexing.{is_blank}
-use Rattle.dcc_c.specs.Pieces.{Piece, piece, stray, behind_while, behind, token_of_word, is_line_end, is_word_end, pragma_words, FoundHead, head_if, head_in, head_of, Spot, line_start, in_line, in_pragma, in_blanks, is_of_pragma, is_line_start, Cut, cut, allowed_at, first_mark, cut_head, cut_mark, cut_token, cut_blank, has_number, first_cut, pieces_from}
+use Rattle.dcc_c.specs.Pieces.{Piece, piece, stray, behind_while, behind, token_of_word, is_line_end, is_word_end, pragma_words, FoundHead, head_if, head_of, Spot, line_start, in_line, in_pragma, in_blanks, is_of_pragma, is_line_start, Cut, cut, allowed_at, first_mark, cut_head, cut_mark, cut_token, cut_blank, has_number, first_cut, pieces_from, pieces_of}
 use Rattle.dcc_lex.specs.CutViews.{remaining, Continues, blank_run, mark_cut, token_cut, has_number as begins_number, number_cut}
 use Rattle.dcc_lex.specs.MarkViews.{first_mark as mark_bytes}
 use Rattle.std.specs.Prelude.{if◌then◌else◌}
@@ -30,7 +30,7 @@ behind-le [] bytes rest is = let same : bytes ≡ rest = cc in omega (arith, ap 
 behind-le (w ∷ words) [] rest is = absurd cc
 behind-le (w ∷ words) (b ∷ bytes) rest is =
     ⊎_elim (λ yes. let later : behind words bytes ≡ Some rest = sym (cond-true (w == b) (behind words bytes) None yes) ∙ is in
-      let less = behind-le words bytes rest later in omega arith)
+    let less = behind-le words bytes rest later in omega arith)
     (λ differs. let none : None ≡ Some rest = sym (cond-false (w == b) (behind words bytes) None differs) ∙ is in absurd cc)
     (cases_Bool (w == b))
 
@@ -110,10 +110,10 @@ pub first_shorter : (spot : Spot) (line b : ℕ) (bytes : List ℕ) → length (
 first_shorter spot line b bytes =
     ⊎_elim (λ feed. shorter_as (first_feed spot line b bytes feed) (omega arith))
     (λ differs. ⊎_elim (λ number. shorter_as (first_number spot line b bytes differs number) (behind_while-le is_word_byte bytes))
-      (λ none. ⊎_elim (λ blank. shorter_as (first_blank spot line b bytes differs none blank) (blank_shorter spot line bytes).0)
-        (λ other. shorter_as (first_token spot line b bytes differs none other) (token_shorter spot line b bytes).0)
-        (cases_Bool (is_blank b)))
-      (cases_Bool (has_number spot b bytes)))
+    (λ none. ⊎_elim (λ blank. shorter_as (first_blank spot line b bytes differs none blank) (blank_shorter spot line bytes).0)
+    (λ other. shorter_as (first_token spot line b bytes differs none other) (token_shorter spot line b bytes).0)
+    (cases_Bool (is_blank b)))
+    (cases_Bool (has_number spot b bytes)))
     (cases_Bool (b == 10))
 
 -- All the pieces.
@@ -165,7 +165,7 @@ line_blanks : (line : ℕ) (bytes : List ℕ) → Continues in_line line bytes (
 line_blanks line [] = continues_same in_line line []
 line_blanks line (b ∷ bytes) =
     ⊎_elim (λ is. let first = continues_as in_line line (b ∷ bytes) (first_blank in_line line b bytes (blank_no_feed b is) refl is) (first_continues in_line line b bytes) in
-      subst (λ rest. Continues in_line line (b ∷ bytes) (cut [] in_line line rest)) (sym (behind_while-more is_blank b bytes is)) (continues_then in_line in_line line (b ∷ bytes) bytes (cut [] in_line line (behind_while is_blank bytes)) first (line_blanks line bytes)))
+    subst (λ rest. Continues in_line line (b ∷ bytes) (cut [] in_line line rest)) (sym (behind_while-more is_blank b bytes is)) (continues_then in_line in_line line (b ∷ bytes) bytes (cut [] in_line line (behind_while is_blank bytes)) first (line_blanks line bytes)))
     (λ differs. subst (λ rest. Continues in_line line (b ∷ bytes) (cut [] in_line line rest)) (sym (behind_while-none is_blank b bytes differs)) (continues_same in_line line (b ∷ bytes)))
     (cases_Bool (is_blank b))
 
@@ -183,10 +183,10 @@ pragma_blanks : (line : ℕ) (bytes : List ℕ) → is_line_end (behind_while is
 pragma_blanks line [] goes = absurd cc
 pragma_blanks line (b ∷ bytes) goes =
     ⊎_elim (λ is.
-      let same = behind_while-more is_blank b bytes is in
-      let later : is_line_end (behind_while is_blank bytes) ≡ false = subst (λ rest. is_line_end rest ≡ false) same goes in
-      let first = continues_as in_blanks line (b ∷ bytes) (first_blank in_blanks line b bytes (blank_no_feed b is) refl is ∙ blank_goes in_blanks line bytes refl later) (first_continues in_blanks line b bytes) in
-      subst (λ rest. Continues in_blanks line (b ∷ bytes) (cut [] in_blanks line rest)) (sym same) (continues_then in_blanks in_blanks line (b ∷ bytes) bytes (cut [] in_blanks line (behind_while is_blank bytes)) first (pragma_blanks line bytes later)))
+    let same = behind_while-more is_blank b bytes is in
+    let later : is_line_end (behind_while is_blank bytes) ≡ false = subst (λ rest. is_line_end rest ≡ false) same goes in
+    let first = continues_as in_blanks line (b ∷ bytes) (first_blank in_blanks line b bytes (blank_no_feed b is) refl is ∙ blank_goes in_blanks line bytes refl later) (first_continues in_blanks line b bytes) in
+    subst (λ rest. Continues in_blanks line (b ∷ bytes) (cut [] in_blanks line rest)) (sym same) (continues_then in_blanks in_blanks line (b ∷ bytes) bytes (cut [] in_blanks line (behind_while is_blank bytes)) first (pragma_blanks line bytes later)))
     (λ differs. subst (λ rest. Continues in_blanks line (b ∷ bytes) (cut [] in_blanks line rest)) (sym (behind_while-none is_blank b bytes differs)) (continues_same in_blanks line (b ∷ bytes)))
     (cases_Bool (is_blank b))
 
@@ -213,11 +213,11 @@ blanks_continue spot line b bytes none is =
     let first : Continues spot line (b ∷ bytes) (cut_blank spot line bytes) = continues_as spot line (b ∷ bytes) (first_blank spot line b bytes (blank_no_feed b is) none is) (first_continues spot line b bytes) in
     let rest = behind_while is_blank bytes in
     ⊎_elim (λ pragma. ⊎_elim
-      (λ ends. continues_as spot line (b ∷ bytes) (blank_ends spot line bytes pragma ends ∙ sym ((run_of_pragma spot line bytes pragma).0 ends)) first)
-      (λ goes. continues_as spot line (b ∷ bytes) (sym ((run_of_pragma spot line bytes pragma).1 goes)) (continues_then spot in_blanks line (b ∷ bytes) bytes (cut [] in_blanks line rest) (continues_as spot line (b ∷ bytes) (blank_goes spot line bytes pragma goes) first) (pragma_blanks line bytes goes)))
-      (cases_Bool (is_line_end rest)))
+    (λ ends. continues_as spot line (b ∷ bytes) (blank_ends spot line bytes pragma ends ∙ sym ((run_of_pragma spot line bytes pragma).0 ends)) first)
+    (λ goes. continues_as spot line (b ∷ bytes) (sym ((run_of_pragma spot line bytes pragma).1 goes)) (continues_then spot in_blanks line (b ∷ bytes) bytes (cut [] in_blanks line rest) (continues_as spot line (b ∷ bytes) (blank_goes spot line bytes pragma goes) first) (pragma_blanks line bytes goes)))
+    (cases_Bool (is_line_end rest)))
     (λ plain. let (one, all) = run_plain spot line bytes plain in
-      continues_as spot line (b ∷ bytes) (sym all) (continues_then spot in_line line (b ∷ bytes) bytes (cut [] in_line line rest) (continues_as spot line (b ∷ bytes) one first) (line_blanks line bytes)))
+    continues_as spot line (b ∷ bytes) (sym all) (continues_then spot in_line line (b ∷ bytes) bytes (cut [] in_line line rest) (continues_as spot line (b ∷ bytes) one first) (line_blanks line bytes)))
     (cases_Bool (is_of_pragma spot))
 
 -- The cuts of bytes that are not none.
@@ -278,3 +278,49 @@ token_run spot line (b ∷ bytes) some =
     ⊎_elim (λ is. cond-true (is_word_byte b) _ (cut_mark spot line b bytes) is)
     (λ differs. absurd (omega (arith, some, ap (λ (run : List ℕ). length run) (take_while-cons is_word_byte b bytes ∙ ap (λ t. cond t (b ∷ take_while is_word_byte bytes) []) differs))))
     (cases_Bool (is_word_byte b))
+
+-- a line feed, before the other bytes in the next line
+pub feed_goes : (spot : Spot) (line next : ℕ) (bytes rest : List ℕ) → 0 < length bytes → get_or bytes 0 0 ≡ 10 → next ≡ line + 1 → rest ≡ drop 1 bytes → Continues spot line bytes (cut [] line_start next rest)
+feed_goes spot line next bytes rest some is after behind =
+    let same : suc line ≡ next = omega arith in
+    continues_as spot line bytes (ap (λ n. cut [] line_start n (drop 1 bytes)) same ∙ ap (λ r. cut [] line_start next r) (sym behind)) (feed_advances spot line bytes some is).0
+
+-- the pieces so far, those of a cut and those behind it
+pub continues_so_far : (before : List Piece) (spot : Spot) (line : ℕ) (bytes : List ℕ) (c : Cut) (all : List Piece) → Continues spot line bytes c → before ++ remaining spot line bytes ≡ all → (before ++ c.pieces) ++ remaining c.spot c.line c.rest ≡ all
+unfolding Continues
+continues_so_far before spot line bytes c all goes so =
+    append_assoc before c.pieces (remaining c.spot c.line c.rest) ∙ ap (λ (later : List Piece). before ++ later) (sym goes) ∙ so
+
+-- all the pieces behind the version line
+pub remaining-all : (bytes : List ℕ) → remaining in_line 1 bytes ≡ pieces_of bytes
+unfolding remaining
+remaining-all bytes = refl
+
+-- a cut that is that of a token
+pub token_goes : (spot : Spot) (line : ℕ) (bytes : List ℕ) → 0 < length bytes → (get_or bytes 0 0 ≡ 10 → ⊥) → begins_number spot bytes ≡ false → is_blank (get_or bytes 0 0) ≡ false → (c : Cut) → c ≡ token_cut spot line bytes → Advances spot line line bytes c
+token_goes spot line bytes some differs none other c same =
+    subst (Advances spot line line bytes) (sym same) (token_advances spot line bytes some differs none other)
+
+pub blanks_go : (spot : Spot) (line : ℕ) (bytes : List ℕ) → 0 < length bytes → begins_number spot bytes ≡ false → is_blank (get_or bytes 0 0) ≡ true → (c : Cut) → c ≡ blank_run spot line bytes → Advances spot line line bytes c
+blanks_go spot line bytes some none is c same =
+    subst (Advances spot line line bytes) (sym same) (blank_advances spot line bytes some none is)
+
+pub number_goes : (spot : Spot) (line : ℕ) (bytes : List ℕ) → (get_or bytes 0 0 ≡ 10 → ⊥) → begins_number spot bytes ≡ true → (c : Cut) → c ≡ number_cut line bytes → Advances spot line line bytes c
+number_goes spot line bytes differs is c same =
+    subst (Advances spot line line bytes) (sym same) (number_advances spot line bytes differs is)
+
+-- Answers.
+
+-- what holds of each value holds of that of an answer
+pub if_ok : {T E : Type 0} (answer : Result T E) (P Q : T → Type 0) → ((x : T) → P x → Q x) → IfOk answer P → IfOk answer Q
+if_ok (Ok x) P Q follows holds = follows x holds
+if_ok (Err e) P Q follows holds = tt
+
+-- an answer that is no value
+pub if_none : {T : Type 0} (answer : Option T) (P : Type 0) (Q : T → Type 0) → MatchOption answer P Q → ((x : T) → answer ≡ Some x → ⊥) → P
+if_none None P Q holds never = holds
+if_none (Some x) P Q holds never = absurd (never x refl)
+
+pub option_short : {T : Type 0} (o : Option T) → length (option_to_list o) ≤ 1
+option_short None = omega arith
+option_short (Some x) = omega arith

@@ -1,12 +1,12 @@
 -- The values of digits, and that digits without a needless zero are what is written of their value.
-use Rattle.std.proofs.Common.{◌≡◌, ℕ, zero, suc, ◌+◌, ◌-◌, ◌*◌, ◌^◌, ◌≤◌, ◌<◌, Bool, true, false, ◌&&◌, ◌||◌, ◌==◌, cond, List, [], ◌∷◌, length, get_or, drop, Option, Some, None, refl, sym, ap, subst, ◌∙◌, arith, inl, inr, ⊎_elim}
+use Rattle.std.proofs.Common.{◌≡◌, ℕ, zero, suc, ◌+◌, ◌-◌, ◌*◌, ◌≤◌, ◌<◌, Bool, true, false, ◌&&◌, ◌==◌, cond, List, [], ◌∷◌, length, get_or, drop, Option, Some, None, refl, sym, ap, subst, ◌∙◌, arith, ⊎_elim}
 use Rattle.std.specs.Prelude.{nat_le, not, option_map}
 use Rattle.std.specs.List.{list_all, take_while}
 use Rattle.std.specs.Fmt.{decimal}
-use Rattle.std.proofs.lemmas.Bool.{and_parts, and_from, and_left, and_right, or_left, or_right, or_parts, or_cases, cases_Bool, cases_eq, leb-true, le-leb, lt-leb, leb-false, eqb-true, eqb-false, eq-eqb, ne_eqb, not_from_false, not-true, false_from_ne_true, cond-true, cond-false}
+use Rattle.std.proofs.lemmas.Bool.{and_parts, and_from, and_right, or_left, or_right, or_cases, cases_eq, leb-true, le-leb, lt-leb, eqb-true, eqb-false, eq-eqb, ne_eqb, not_from_false, not-true, false_from_ne_true, cond-true, cond-false}
 use Rattle.std.proofs.lemmas.Str.Parse.{IsDigitsTest, FoldsDigits, IsNumeralModel, numerals_by_fold, digits_value_short}
 use Rattle.std.proofs.lemmas.Fmt.{decimal-digits_value, decimal_nonempty, decimal_digit, first_decimal, length-decimal-le}
-use Rattle.dcc_c.specs.Token.{Token, Decimal, Suffix, is_digit, hex_value, hex_from, same_bytes}
+use Rattle.dcc_c.specs.Token.{Token, Decimal, is_digit, hex_value, hex_from, same_bytes}
 use Rattle.dcc_c.specs.Pieces.{decimal_from, is_hex_digit, decimal_of, suffix_of, behind_while}
 use Rattle.std.proofs.lemmas.List.{at_drop_more}
 use Rattle.dcc_lex.proofs.Runs.{all_at}
@@ -63,8 +63,8 @@ short_parts [] short = absurd cc
 short_parts (b ∷ bytes) short =
     ⊎_elim (λ lone. let one = eqb-true (length (b ∷ bytes)) 1 lone in (omega arith, omega arith, λ zero. one))
     (λ many. let (few, first) = and_parts (nat_le (length (b ∷ bytes)) 10) (not (b == 48)) many in
-      let none : b ≡ 48 → ⊥ = eqb-false b 48 (not-true (b == 48) first) in
-      (omega arith, leb-true (length (b ∷ bytes)) 10 few, λ zero. absurd (none zero)))
+    let none : b ≡ 48 → ⊥ = eqb-false b 48 (not-true (b == 48) first) in
+    (omega arith, leb-true (length (b ∷ bytes)) 10 few, λ zero. absurd (none zero)))
     (or_cases (length (b ∷ bytes) == 1) (nat_le (length (b ∷ bytes)) 10 && not (b == 48)) short)
 
 -- what is written of a number has no needless zero
@@ -74,13 +74,13 @@ decimal_short n [] small is =
 decimal_short n (b ∷ bytes) small is =
     let few = length-decimal-le 10 n (omega arith) (omega arith) (omega arith) in
     ⊎_elim (λ none.
-      let lone : length (b ∷ bytes) ≡ 1 = ap length is ∙ ap (λ m. length (decimal m)) none ∙ ap length (decimal_digit 0 (omega arith)) in
-      or_left (length (b ∷ bytes) == 1) (nat_le (length (b ∷ bytes)) 10 && not (b == 48)) (eq-eqb (length (b ∷ bytes)) 1 lone))
+    let lone : length (b ∷ bytes) ≡ 1 = ap length is ∙ ap (λ m. length (decimal m)) none ∙ ap length (decimal_digit 0 (omega arith)) in
+    or_left (length (b ∷ bytes) == 1) (nat_le (length (b ∷ bytes)) 10 && not (b == 48)) (eq-eqb (length (b ∷ bytes)) 1 lone))
     (λ some.
-      let first = first_decimal n (omega arith) (omega arith) in
-      let other : b ≡ 48 → ⊥ = λ zero. omega (arith, ap (λ (ds : List ℕ). get_or ds 0 0) is) in
-      let few' : length (b ∷ bytes) ≤ 10 = omega (arith, ap length is) in
-      or_right (length (b ∷ bytes) == 1) (nat_le (length (b ∷ bytes)) 10 && not (b == 48)) (and_from (nat_le (length (b ∷ bytes)) 10) (not (b == 48)) (le-leb (length (b ∷ bytes)) 10 few') (not_from_false (b == 48) (ne_eqb b 48 other))))
+    let first = first_decimal n (omega arith) (omega arith) in
+    let other : b ≡ 48 → ⊥ = λ zero. omega (arith, ap (λ (ds : List ℕ). get_or ds 0 0) is) in
+    let few' : length (b ∷ bytes) ≤ 10 = omega (arith, ap length is) in
+    or_right (length (b ∷ bytes) == 1) (nat_le (length (b ∷ bytes)) 10 && not (b == 48)) (and_from (nat_le (length (b ∷ bytes)) 10) (not (b == 48)) (le-leb (length (b ∷ bytes)) 10 few') (not_from_false (b == 48) (ne_eqb b 48 other))))
     (cases_eq n 0)
 
 short_same : (digits : List ℕ) → AreDigits digits → is_short digits ≡ true → same_bytes digits (decimal (decimal_from 0 digits)) ≡ true
@@ -96,9 +96,9 @@ unfolding decimal_value
 decimal_value_none digits long =
     let n = decimal_from 0 digits in
     cond-false (same_bytes digits (decimal n) && nat_le n 4294967295) (Some n) None (false_from_ne_true (same_bytes digits (decimal n) && nat_le n 4294967295) (λ are.
-      let (same, small) = and_parts (same_bytes digits (decimal n)) (nat_le n 4294967295) are in
-      let short = decimal_short n digits (leb-true n 4294967295 small) (same_bytes-true digits (decimal n) same) in
-      cc))
+    let (same, small) = and_parts (same_bytes digits (decimal n)) (nat_le n 4294967295) are in
+    let short = decimal_short n digits (leb-true n 4294967295 small) (same_bytes-true digits (decimal n) same) in
+    cc))
 
 -- the value of digits that are not too great
 pub decimal_value_some : (digits : List ℕ) → list_all is_digit digits ≡ true → is_short digits ≡ true → decimal_from 0 digits ≤ 4294967295 → decimal_value digits ≡ Some (decimal_from 0 digits)

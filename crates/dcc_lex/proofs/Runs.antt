@@ -1,5 +1,5 @@
 -- How many bytes of a kind a list begins with, and what stands behind some bytes.
-use Rattle.std.proofs.Common.{◌≡◌, ℕ, ◌<◌, ◌≤◌, Bool, true, false, List, [], ◌∷◌, length, get_or, take, drop, ap, zero, suc, ◌&&◌, Some, None, refl, sym, cond, ⊎_elim, ◌∙◌, subst, arith}
+use Rattle.std.proofs.Common.{◌≡◌, ℕ, ◌<◌, ◌≤◌, Bool, true, false, List, [], ◌∷◌, length, get_or, take, drop, ap, None, refl, sym, cond, ⊎_elim, ◌∙◌, subst, arith}
 use Rattle.std.proofs.lemmas.List.Sums.{prefix_len_is, take_while-cons}
 use Rattle.std.proofs.lemmas.List.Folds.{list_all_at, length-prefix_len}
 use Rattle.std.proofs.lemmas.Bool.{true_from_ne_false, and_from, cases_Bool}

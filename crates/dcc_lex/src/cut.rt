@@ -1,18 +1,17 @@
 //! The first bytes of a text: a piece or none, and where the text goes on.
 
-use std::alloc::{AllocError, Global};
+ghost use Rattle.std.specs.Prelude.{◌≡◌, ◌+◌, ◌<◌, ◌≤◌, length, true, false, [], ◌∷◌, IfOk, MatchOption, option_map};
+ghost use Rattle.dcc_c.specs.Pieces as spec;
+ghost use Rattle.dcc_lex.specs.TokenViews as views;
+ghost use Rattle.dcc_lex.specs.HeadViews.{found_of};
+ghost use Rattle.dcc_lex.specs.CutViews as cuts;
 
 use crate::bytes::{is_blank, is_line_end, split_blanks, split_word_bytes};
 use crate::mark::first_mark;
 use crate::pragma::{FoundHead, head_of};
 use crate::token::{Head, Piece, Suffix, Token};
 use crate::word::{plain_number, token_of_word};
-
-ghost use Rattle.std.specs.Prelude.{◌≡◌, ◌+◌, ◌<◌, ◌≤◌, length, true, false, [], ◌∷◌, IfOk, MatchOption, option_map};
-ghost use Rattle.dcc_c.specs.Pieces as spec;
-ghost use Rattle.dcc_lex.specs.TokenViews as views;
-ghost use Rattle.dcc_lex.specs.HeadViews.{found_of};
-ghost use Rattle.dcc_lex.specs.CutViews as cuts;
+use std::alloc::{AllocError, Global};
 
 /// Where in a line bytes begin.
 #[derive(Clone, Copy, PartialEq, Eq, Debug)]
@@ -144,7 +143,12 @@ fn blank_cut(spot: Spot, line: u32, bytes: &[u8]) -> Cut<'_>
 {
     let (_blanks, rest) = split_blanks(bytes);
     if !is_of_pragma(spot) {
-        Cut { piece: None, spot: Spot::InLine, line, rest }
+        Cut {
+            piece: None,
+            spot: Spot::InLine,
+            line,
+            rest,
+        }
     } else if is_line_end(rest) {
         Cut {
             piece: Some(Piece {
@@ -156,7 +160,12 @@ fn blank_cut(spot: Spot, line: u32, bytes: &[u8]) -> Cut<'_>
             rest,
         }
     } else {
-        Cut { piece: None, spot: Spot::InBlanks, line, rest }
+        Cut {
+            piece: None,
+            spot: Spot::InBlanks,
+            line,
+            rest,
+        }
     }
 }
 
@@ -164,7 +173,7 @@ fn blank_cut(spot: Spot, line: u32, bytes: &[u8]) -> Cut<'_>
 fn number_cut(spot: Spot, line: u32, bytes: &[u8]) -> Option<Cut<'_>>
     ensures { MatchOption result (cuts.has_number (cuts.spot_of spot) bytes.now ≡ false)
         (λ c. (cuts.has_number (cuts.spot_of spot) bytes.now ≡ true)
-            × (cuts.cut_of c ≡ cuts.number_cut line bytes.now)) }
+        × (cuts.cut_of c ≡ cuts.number_cut line bytes.now)) }
 {
     if spot != Spot::InPragma {
         return None;

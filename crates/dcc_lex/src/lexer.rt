@@ -1,14 +1,13 @@
 //! From the bytes behind the version line to pieces.
 
-use std::alloc::{AllocError, Global};
-
-use crate::cut::{Cut, Spot, next_cut};
-use crate::token::Piece;
-
 ghost use Rattle.std.specs.Prelude.{◌≡◌, ◌≤◌, ◌++◌, length, option_to_list, IfOk, OnOk};
 ghost use Rattle.dcc_c.specs.Pieces as spec;
 ghost use Rattle.dcc_c.specs.Numbered.{rows};
 ghost use Rattle.dcc_lex.specs.TokenViews as views;
+
+use crate::cut::{Cut, Spot, next_cut};
+use crate::token::Piece;
+use std::alloc::{AllocError, Global};
 
 /// Puts a piece, if there is one, behind others.
 fn push_piece(pieces: &mut Vec<Piece>, piece: Option<Piece>) -> Result<(), AllocError>

@@ -13,3 +13,6 @@ mod word;
 pub use lexer::{line_feeds, pieces};
 pub use pragma::behind_version;
 pub use token::{Head, Mark, Piece, Suffix, Token};
+
+#[cfg(test)]
+mod tests;

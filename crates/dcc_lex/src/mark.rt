@@ -1,10 +1,10 @@
 //! Operators, brackets and separators.
 
-use crate::token::Mark;
-
 ghost use Rattle.std.specs.Prelude.{[], ◌∷◌};
 ghost use Rattle.std.specs.Prelude.{◌<◌, length};
 ghost use Rattle.dcc_lex.specs.MarkViews.{IsMarkOf, IsFirstMark};
+
+use crate::token::Mark;
 
 /// A mark of one byte.
 fn short_mark(byte: u8) -> Option<Mark>

@@ -1,14 +1,14 @@
 //! Numbers: decimal and hexadecimal, each with its suffix.
 
-use crate::bytes::{behind, hex_value, same_bytes, split_digits, split_hex_digits};
-use crate::token::{Suffix, Token};
-
 ghost use Rattle.std.specs.Prelude.{◌≡◌, ◌≤◌, length, true, option_map};
 ghost use Rattle.std.specs.List.{list_all};
 ghost use Rattle.dcc_c.specs.Token as tokens;
 ghost use Rattle.dcc_c.specs.Pieces as spec;
 ghost use Rattle.dcc_lex.specs.TokenViews as views;
 ghost use Rattle.dcc_lex.specs.NumberViews.{is_short, decimal_value};
+
+use crate::bytes::{behind, hex_value, same_bytes, split_digits, split_hex_digits};
+use crate::token::{Suffix, Token};
 
 /// The suffix that these bytes are.
 fn suffix_of(bytes: &[u8]) -> Option<Suffix>

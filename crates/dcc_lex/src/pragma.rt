@@ -1,12 +1,12 @@
 //! The words of pragmas.
 
-use crate::bytes::{behind, is_line_end, is_word_end};
-use crate::token::Head;
-
 ghost use Rattle.std.specs.Prelude.{◌≡◌, None, option_map};
 ghost use Rattle.dcc_c.specs.Pieces as spec;
 ghost use Rattle.dcc_lex.specs.TokenViews as views;
 ghost use Rattle.dcc_lex.specs.HeadViews.{found_of};
+
+use crate::bytes::{behind, is_line_end, is_word_end};
+use crate::token::Head;
 
 /// A pragma whose words bytes begin with, and the bytes behind them.
 #[derive(Drop)]

@@ -1,18 +1,17 @@
 //! Words, and the tokens that runs of letters, digits and `_` are.
 
-use std::alloc::{AllocError, Global};
-use std::str;
-
-use crate::bytes::{is_digit, is_letter, is_word_byte, same_bytes};
-use crate::number::number_of;
-use crate::token::{Suffix, Token};
-
 ghost use Rattle.std.specs.Prelude.{◌≡◌, true, false, IfOk, MatchOption, Some, option_map, string_bytes};
 ghost use Rattle.std.specs.List.{list_all};
 ghost use Rattle.dcc_c.specs.Token as tokens;
 ghost use Rattle.dcc_c.specs.Pieces as spec;
 ghost use Rattle.dcc_c.specs.Grammar as grammar;
 ghost use Rattle.dcc_lex.specs.TokenViews as views;
+
+use crate::bytes::{is_digit, is_letter, is_word_byte, same_bytes};
+use crate::number::number_of;
+use crate::token::{Suffix, Token};
+use std::alloc::{AllocError, Global};
+use std::str;
 
 /// Whether each of the bytes is a letter, a digit or `_`.
 fn are_word_bytes(bytes: &[u8]) -> bool

@@ -1,4 +1,4 @@
-use Rattle.std.proofs.Common.{◌≡◌, ◌≤◌, ◌<◌, false, get_or, length, sym, ◌∙◌, arith}
+use Rattle.std.proofs.Common.{◌≡◌, false, get_or, arith}
 use Rattle.dcc_c.specs.Token.{is_digit}
 use Rattle.dcc_lex.proofs.Runs.{run_stops, run_whole}
 use Rattle.dcc_lex.proofs.bytes.digit_count.Goals as goal

@@ -1,6 +1,5 @@
 use Rattle.std.proofs.Common.{subst, sym}
-use Rattle.std.proofs.Common.{◌≤◌, ◌≡◌, ap, drop, take, length, true, ◌∙◌}
-use Rattle.std.specs.List.{prefix_len, list_all}
+use Rattle.std.proofs.Common.{◌≤◌, length}
 use Rattle.std.proofs.lemmas.List.Sums.{prefix_len-le-length}
 use Rattle.dcc_c.specs.Token.{is_digit}
 use Rattle.dcc_lex.proofs.Runs.{run_front, run_back, run_all}

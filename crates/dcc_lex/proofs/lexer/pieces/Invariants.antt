@@ -9,7 +9,7 @@ abbrev pub invariant-loop-bytes : goal.invariant-loop-bytes
 invariant-loop-bytes l = record {
   same : pieces_of l.pieces.items ++ remaining (spot_of l.spot) l.line l.bytes ≡ remaining in_line 1 l.rest;
   few : length l.pieces.items + length l.bytes ≤ length l.rest;
-  lines : l.line + length l.bytes ≤ length l.rest + 1
+  lines : l.line + length l.bytes ≤ length l.rest + 1;
 }
 
 abbrev pub decreases-loop-bytes : goal.decreases-loop-bytes

@@ -1,4 +1,4 @@
-use Rattle.std.proofs.Common.{◌≡◌, ◌<◌, ◌≤◌, true, false, sym, ap, Some, ◌∙◌, arith}
+use Rattle.std.proofs.Common.{◌≡◌, ◌<◌, ◌≤◌, true, false, sym, arith}
 use Rattle.dcc_c.specs.Pieces.{decimal_from}
 use Rattle.dcc_lex.specs.NumberViews.{is_short}
 use Rattle.dcc_lex.proofs.Numbers.{decimal_value_none, decimal_value_some, decimal_value_great}
