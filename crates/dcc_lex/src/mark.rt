@@ -1,7 +1,6 @@
 //! Operators, brackets and separators.
 
 ghost use Rattle.std.specs.Prelude.{[], ◌∷◌};
-ghost use Rattle.std.specs.Prelude.{◌<◌, length};
 ghost use Rattle.dcc_lex.specs.MarkViews.{IsMarkOf, IsFirstMark};
 
 use crate::token::Mark;
