@@ -2,6 +2,8 @@
 #![tactic(auto)]
 
 mod expression;
+#[cfg(test)]
+mod expression_tests;
 pub mod offence;
 mod operator;
 pub mod partial;
