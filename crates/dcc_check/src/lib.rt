@@ -1,0 +1,5 @@
+//! The first offence of what has been read of a text.
+#![tactic(auto)]
+
+mod first;
+mod scene;
