@@ -2,4 +2,6 @@
 #![tactic(auto)]
 
 mod first;
+mod operand;
 mod scene;
+mod typing;
