@@ -1,7 +1,7 @@
 //! Expressions as operands: what offends in their types.
 
-ghost use Rattle.std.specs.Prelude.{◌≡◌, ◌++◌};
-ghost use Rattle.dcc_c.specs.Kinds.{first_behind};
+ghost use Rattle.std.specs.Prelude.{◌≡◌, is_some};
+ghost use Rattle.dcc_c.specs.Kinds.{of_type, offence, only_if, first_behind};
 ghost use Rattle.dcc_c.specs.Offences as offences;
 ghost use Rattle.dcc_c.specs.Offences.{wants_number, unary_offences, binary_offences, arms_offences, conversion, becomes, switch_offences, told_type};
 ghost use Rattle.dcc_c.specs.Partial as partial;
@@ -40,6 +40,14 @@ fn want_pointer(a: Operand, first: &mut First)
     if let Some(ty) = a.ty {
         first.tell_if(!ty.pointer, ParseKind::Type_, a.at);
     }
+}
+
+/// The operand of `&` is no variable: it offends where it has a type.
+pub(crate) fn tell_typed(a: Operand, first: &mut First)
+    ensures { (s : offences.Scene) (e : partial.PartialExpr) → a ≡ operand s e →
+        told first.new ≡ first_behind (told first.old) (only_if (is_some (told_type s.names e)) (offence of_type (partial.place_of e))) }
+{
+    first.tell_if(a.ty.is_some(), ParseKind::Type_, a.at);
 }
 
 /// The operand of a unary operator but `&`.
