@@ -1,6 +1,6 @@
 -- Offences that are told one after the other.
-use Rattle.std.proofs.Common.{◌≡◌, ℕ, Bool, String, Global, List, ◌++◌, Option, Some, None, refl, sym, ap, ◌∙◌}
-use Rattle.std.specs.Prelude.{option_map, option_and_then, is_some, is_none}
+use Rattle.std.proofs.Common.{◌≡◌, ℕ, Bool, true, false, String, Global, List, ◌++◌, Option, Some, None, refl, sym, ap, ◌∙◌}
+use Rattle.std.specs.Prelude.{◌&&◌, not, if◌then◌else◌, option_map, option_and_then, is_some, is_none}
 use Rattle.dcc_c.specs.declared.syntax.CUn.{CUn}
 use Rattle.dcc_c.specs.declared.syntax.CUn.TheVariants.{Minus, Complement, Not, Deref, AddressOf}
 use Rattle.dcc_c.specs.Kinds.{of_type, Offence, offence, only_if, first_behind}
@@ -57,3 +57,27 @@ place-other scene (Unary' at operator _ a) other = (refl, refl)
 place-other scene (Binary' operator _ a _ b) other = (refl, refl)
 place-other scene (Conditional' _ a _ b _ c) other = (refl, refl)
 place-other scene (Cast' at type _ a) other = (refl, refl)
+
+-- some offences are told, and others where a test holds
+pub then-if : (old middle new : Option Offence) (xs ys zs : List Offence) (test : Bool) → test ≡ true → middle ≡ first_behind old xs → new ≡ first_behind middle ys →
+    new ≡ first_behind old (xs ++ (if test then ys else zs))
+then-if old middle new xs ys zs test holds first second =
+    then-told old middle new xs ys first second ∙ ap (λ t. first_behind old (xs ++ (if t then ys else zs))) (sym holds)
+
+pub then-if_not : (old middle new : Option Offence) (xs ys zs : List Offence) (test : Bool) → test ≡ false → middle ≡ first_behind old xs → new ≡ first_behind middle zs →
+    new ≡ first_behind old (xs ++ (if test then ys else zs))
+then-if_not old middle new xs ys zs test fails first second =
+    then-told old middle new xs zs first second ∙ ap (λ t. first_behind old (xs ++ (if t then ys else zs))) (sym fails)
+
+-- some of the offences that are left are told
+pub step-told : (old new end : Option Offence) (xs rest whole : List Offence) → new ≡ first_behind old xs → whole ≡ xs ++ rest → first_behind old whole ≡ end →
+    first_behind new rest ≡ end
+step-told old new end xs rest whole told parts behind =
+    ap (λ o. first_behind o rest) told ∙ sym (first-append old xs rest) ∙ ap (first_behind old) (sym parts) ∙ behind
+
+pub not-alone : (a b : Bool) → b ≡ true → (a && not b) ≡ false
+not-alone true b holds = ap not holds
+not-alone false b holds = refl
+
+pub alone-not : (a b : Bool) → a ≡ false → (a && not b) ≡ false
+alone-not a b fails = ap (λ x. x && not b) fails

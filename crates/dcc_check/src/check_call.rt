@@ -1,6 +1,6 @@
 //! What offends in calls.
 
-ghost use Rattle.std.specs.Prelude.{◌≡◌, Option, Some, map, option_map};
+ghost use Rattle.std.specs.Prelude.{◌≡◌, ◌+◌, ◌<◌, ◌||◌, nat_lt, Option, Some, map, option_map};
 ghost use Rattle.dcc_c.specs.Kinds.{first_behind};
 ghost use Rattle.dcc_c.specs.Offences as offences;
 ghost use Rattle.dcc_c.specs.Offences.{arguments_inner, arguments_become, count_read, count_offends, result_offences, signature_offences, callee_offences, place_if, call_offences};
@@ -40,6 +40,14 @@ fn count_read(arguments: &[PartialExpr]) -> usize
     count
 }
 
+/// Whether an argument has been read to its end: another one follows, or the closing parenthesis does.
+fn is_done(closed: bool, i: usize, count: usize) -> bool
+    requires { i < count }
+    ensures { result ≡ closed || nat_lt (i + 1) count }
+{
+    closed || i + 1 < count
+}
+
 /// Tells which arguments do not become values of the parameters' types. The last one has been read to its end where the
 /// closing parenthesis has.
 fn check_arguments_become(
@@ -53,7 +61,7 @@ fn check_arguments_become(
         told first.new ≡ first_behind (told first.old) (arguments_become s closed params.now (map expr_of arguments.now)) }
 {
     for i in 0..params.len().min(arguments.len()) {
-        let done = closed || i + 1 < arguments.len();
+        let done = is_done(closed, i, arguments.len());
         let argument = operand_of(scene, &arguments[i]);
         check_becomes(argument, done, Some(params[i]), first);
     }

@@ -11,9 +11,8 @@ ghost use Rattle.dcc_check.specs.Scenes.{IsScene};
 use crate::check_call::check_call;
 use crate::check_expression::{check_expr, check_place, is_missing, is_name};
 use crate::first::First;
-use crate::operand::{check_becomes, want_number};
+use crate::operand::{check_becomes, check_selector, want_number};
 use crate::scene::Scene;
-use crate::typing::is_switch_type;
 use dcc_read::{ParseKind, PartialExpr, PartialStmt, WordAt};
 
 /// Tells what offends in an assignment: a name alone that is not read to its end may be called.
@@ -60,9 +59,7 @@ fn check_switch(scene: &Scene<'_>, e: &PartialExpr, done: bool, first: &mut Firs
         told first.new ≡ first_behind (told first.old) (switch_offences s (expr_of e.now) done) }
 {
     let a = check_expr(scene, e, first);
-    if let Some(ty) = a.ty {
-        first.tell_if(done && !is_switch_type(ty), ParseKind::Type_, a.at);
-    }
+    check_selector(a, done, first);
 }
 
 /// Tells what offends in a `return`: a value stands where the function has a result, and there alone.

@@ -6,7 +6,7 @@ ghost use Rattle.dcc_c.specs.Offences as offences;
 ghost use Rattle.dcc_c.specs.Offences.{wants_number, unary_offences, binary_offences, arms_offences, conversion, becomes, switch_offences, told_type};
 ghost use Rattle.dcc_c.specs.Partial as partial;
 ghost use Rattle.dcc_check.specs.Views.{told};
-ghost use Rattle.dcc_check.specs.Operands.{operand};
+ghost use Rattle.dcc_check.specs.Operands.{operand, selector_offences};
 
 use crate::first::First;
 use crate::typing::{
@@ -91,6 +91,17 @@ pub(crate) fn check_choice(b: Operand, c: Operand, first: &mut First)
         ParseKind::Type_,
         c.at,
     );
+}
+
+/// The value of a `switch`, read to its parenthesis or not: an int or an unsigned int after promotion.
+pub(crate) fn check_selector(a: Operand, done: bool, first: &mut First)
+    ensures { (s : offences.Scene) (e : partial.PartialExpr) → a ≡ operand s e →
+        told first.new ≡ first_behind (told first.old) (selector_offences s e done) }
+{
+    if let Some(ty) = a.ty {
+        let is_other = done && !is_switch_type(ty);
+        first.tell_if(is_other, ParseKind::Type_, a.at);
+    }
 }
 
 /// A value of the first type goes where one of the second is wanted, and offends at a place.
