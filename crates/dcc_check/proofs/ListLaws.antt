@@ -1,7 +1,7 @@
 -- What is left of lists, one step on, and arguments that are left.
-use Rattle.std.proofs.Common.{◌≡◌, ℕ, suc, ◌+◌, ◌-◌, ◌<◌, ◌≤◌, Bool, true, false, ◌||◌, List, [], ◌∷◌, ◌++◌, length, map, drop, get_or, Some, refl, sym, ap, ◌∙◌, arith}
-use Rattle.std.specs.Prelude.{nat_lt}
-use Rattle.std.proofs.lemmas.Bool.{lt-ltb, le-ltb, ltb-true, ltb-false}
+use Rattle.std.proofs.Common.{◌≡◌, ℕ, suc, ◌+◌, ◌-◌, ◌<◌, ◌≤◌, Bool, true, false, ◌||◌, List, [], ◌∷◌, ◌++◌, length, map, drop, get_or, Some, refl, sym, ap, ◌∙◌, append_assoc, arith}
+use Rattle.std.specs.Prelude.{nat_lt, nat_eq}
+use Rattle.std.proofs.lemmas.Bool.{lt-ltb, le-ltb, ltb-true, ltb-false, eq-eqb, ne_eqb}
 use Rattle.std.proofs.lemmas.List.{at_drop_more, append-nil, length-drop, length-map}
 use Rattle.dcc_c.specs.declared.syntax.CType.{CType}
 use Rattle.dcc_c.specs.Partial.{PartialExpr}
@@ -49,3 +49,16 @@ pub more-left : {X Y : Type 0} (f : X → Y) (xs : List X) (i : ℕ) → nat_lt 
 more-left f xs i =
     ap (nat_lt 0) (length-map (drop (i + 1) xs) f ∙ length-drop (i + 1) xs)
     ∙ ltb-left (i + 1) (length xs) (nat_lt (i + 1) (length xs)) refl
+
+-- some of what is left is put behind
+pub step-listed : {X : Type 0} (old new end xs rest whole : List X) → new ≡ old ++ xs → whole ≡ xs ++ rest → old ++ whole ≡ end → new ++ rest ≡ end
+step-listed old new end xs rest whole listed parts behind =
+    ap (λ l. l ++ rest) listed ∙ append_assoc old xs rest ∙ ap (λ l. old ++ l) (sym parts) ∙ behind
+
+room-is : (room blocks : ℕ) (t : Bool) → nat_lt 200 blocks ≡ t → room ≡ 201 - blocks → nat_eq room 0 ≡ t
+room-is room blocks true e is = eq-eqb room 0 (let l = ltb-true 200 blocks e in omega arith)
+room-is room blocks false e is = ne_eqb room 0 (λ none. let l = ltb-false 200 blocks e in omega arith)
+
+-- no block more may stand: there are more than 200
+pub room-out : (room blocks : ℕ) → room ≡ 201 - blocks → nat_eq room 0 ≡ nat_lt 200 blocks
+room-out room blocks is = room-is room blocks (nat_lt 200 blocks) refl is

@@ -13,6 +13,5 @@ loop-e-preserved c = λ s is.
     let i = c.loop-e.e-index in
     let within : i < length xs = omega arith in
     let e = c.e-item.result in
-    let inner = λ l. arguments_inner s (map expr_of l) in
-    step-told (told c.loop-e.first) (told c.check_expr.new.first) (first_behind (told c.args.first.now) (inner xs)) (expr_offences s (expr_of e)) (inner (drop (i + 1) xs)) (inner (drop i xs))
-    (c.check_expr.ensures.told s is) (next-left inner xs i e within c.e-item.is) (c.loop-e.invariant s is)
+    step-told (told c.loop-e.first) (told c.check_expr.new.first) (first_behind (told c.args.first.now) (arguments_inner s (map expr_of xs))) (expr_offences s (expr_of e)) (arguments_inner s (map expr_of (drop (i + 1) xs))) (arguments_inner s (map expr_of (drop i xs)))
+    (c.check_expr.ensures.told s is) (next-left (λ l. arguments_inner s (map expr_of l)) xs i e within c.e-item.is) (c.loop-e.invariant s is)

@@ -1,6 +1,8 @@
-use Rattle.std.proofs.Common.{◌≡◌, ◌+◌, ◌-◌, ◌<◌, ◌≤◌, ◌||◌, ◌∷◌, Some, length, map, drop, sym, ap, ◌∙◌, arith}
+use Rattle.std.proofs.Common.{◌≡◌, ◌+◌, ◌-◌, ◌<◌, ◌≤◌, ◌||◌, ◌∷◌, Some, false, length, map, get_or, drop, sym, ap, ◌∙◌, arith}
 use Rattle.std.specs.Prelude.{nat_lt}
-use Rattle.std.proofs.lemmas.List.{length-drop, length-map}
+use Rattle.std.proofs.lemmas.List.{at_drop_more, length-drop, length-map}
+use Rattle.dcc_c.specs.declared.syntax.Base.TheVariants.{Schar}
+use Rattle.dcc_c.specs.declared.syntax.CType.{CType}
 use Rattle.dcc_c.specs.Kinds.{first_behind}
 use Rattle.dcc_c.specs.Offences.{becomes, arguments_become}
 use Rattle.dcc_read.specs.PartialViews.{expr_of}
@@ -17,9 +19,21 @@ loop-i-preserved c = λ s is.
     let closed = c.args.closed in
     let within : i < length xs = omega arith in
     let within_params : i < length params = omega arith in
-    let e = c.index-arguments-i.result in
-    let type = c.check_becomes.ensures in
-    ?
+    let e = expr_of c.index-arguments-i.result in
+    let none : CType = record { base = Schar; pointer = false } in
+    let type = get_or params i none in
+    let rest = arguments_become s closed (drop (i + 1) params) (map expr_of (drop (i + 1) xs)) in
+    let done = closed || nat_lt 0 (length (map expr_of (drop (i + 1) xs))) in
+    let parts =
+    at_drop_more (λ l. arguments_become s closed l (map expr_of (drop i xs))) params i none within_params
+    ∙ next-left (λ l. arguments_become s closed (type ∷ drop (i + 1) params) (map expr_of l)) xs i c.index-arguments-i.result within c.index-arguments-i.is
+    ∙ become-more s closed type (drop (i + 1) params) e (map expr_of (drop (i + 1) xs)) in
+    let done_is = c.is_done-done.ensures ∙ sym (ap (λ more. closed || more) (more-left expr_of xs i)) in
+    let become_told =
+    c.check_becomes.ensures s e (c.operand_of-argument.ensures s is)
+    ∙ ap (λ d. first_behind (told c.loop-i.first) (becomes s e d (Some type))) done_is in
+    step-told (told c.loop-i.first) (told c.check_becomes.new.first) (first_behind (told c.args.first.now) (arguments_become s closed params (map expr_of xs)))
+    (becomes s e done (Some type)) rest (arguments_become s closed (drop i params) (map expr_of (drop i xs))) become_told parts (c.loop-i.invariant s is)
 
 pub returns : goal.returns
 returns c = λ s is.
