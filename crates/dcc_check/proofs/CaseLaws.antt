@@ -1,6 +1,6 @@
 -- The numbers of cases that are known.
-use Rattle.std.proofs.Common.{◌≡◌, ℕ, Bool, true, false, cond, List, ◌∷◌, refl, sym, ap, ◌∙◌}
-use Rattle.std.specs.Prelude.{◌==◌, ◌||◌}
+use Rattle.std.proofs.Common.{◌≡◌, ℕ, Bool, true, false, cond, List, ◌∷◌, refl, ap, ◌∙◌}
+use Rattle.std.specs.Prelude.{◌==◌, ◌||◌, not}
 use Rattle.std.specs.List.{list_any}
 use Rattle.std.specs.Ordering.{nat_cmp}
 use Rattle.std.specs.Cmp.{unsigned_tied}
@@ -21,3 +21,7 @@ known-more old new earlier n known updates = λ m.
     updates.0 m
     ∙ ap (λ t. cond (is_at (nat_cmp n) m) true t) (known m)
     ∙ either (is_at (nat_cmp n) m) (n == m) (list_any (λ k. k == m) earlier) (unsigned_tied n m)
+
+pub not-not : (a : Bool) → not (not a) ≡ a
+not-not true = refl
+not-not false = refl

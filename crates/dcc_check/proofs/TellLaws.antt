@@ -81,3 +81,7 @@ not-alone false b holds = refl
 
 pub alone-not : (a b : Bool) → a ≡ false → (a && not b) ≡ false
 alone-not a b fails = ap (λ x. x && not b) fails
+
+pub no-some : {A : Type 0} (o : Option A) → ((x : A) → o ≡ Some x → ⊥) → o ≡ None
+no-some None none = refl
+no-some (Some x) none = absurd (none x refl)

@@ -27,10 +27,7 @@ pub(crate) fn push_labels<'a>(
 
 /// Appends the labels of a statement and of those inside it.
 #[cycle(labels)]
-fn push_labels_of<'a>(
-    stmt: &'a PartialStmt,
-    found: &mut Vec<&'a WordAt>,
-) -> Result<(), AllocError>
+fn push_labels_of<'a>(stmt: &'a PartialStmt, found: &mut Vec<&'a WordAt>) -> Result<(), AllocError>
     ensures { OnOk result (map lent_word found.new.items ≡ map lent_word found.old.items ++ labels_of (stmt_of stmt.now)) }
 {
     match stmt {

@@ -105,12 +105,7 @@ pub(crate) fn check_selector(a: Operand, done: bool, first: &mut First)
 }
 
 /// A value of the first type goes where one of the second is wanted, and offends at a place.
-pub(crate) fn check_conversion(
-    from: Option<CType>,
-    to: Option<CType>,
-    at: usize,
-    first: &mut First,
-)
+pub(crate) fn check_conversion(from: Option<CType>, to: Option<CType>, at: usize, first: &mut First)
     ensures { told first.new ≡ first_behind (told first.old) (conversion from to at) }
 {
     if let (Some(from), Some(to)) = (from, to) {

@@ -1,9 +1,8 @@
-use Rattle.std.proofs.Common.{◌≡◌, suc, ◌+◌, ◌-◌, ◌<◌, ◌++◌, [], false, length, drop, OnOk, refl, sym, ap, subst, ◌∙◌, arith}
+use Rattle.std.proofs.Common.{◌≡◌, suc, ◌+◌, ◌-◌, ◌<◌, ◌++◌, [], false, length, drop, OnOk, refl, sym, ap, subst, ◌∙◌, append_assoc, arith}
 use Rattle.std.specs.Prelude.{nat_lt}
 use Rattle.dcc_c.specs.Kinds.{of_depth, offence, only_if, first_behind}
 use Rattle.dcc_c.specs.Offences.{own_offences, lines_offences, inner_offences, arms_inner, case_offences, case_numbers, default_offences}
 use Rattle.dcc_c.proofs.refusals.FirstRules.{first-append}
-use Rattle.dcc_read.specs.declared.partial.PartialArm.{out-PartialArm}
 use Rattle.dcc_read.specs.PartialViews.{stmt_of, lines_of, arms_of}
 use Rattle.dcc_read.proofs.RowLaws.{arm-parts, if-tree, while-tree, do_while-tree, forever-tree, switch-tree}
 use Rattle.dcc_check.specs.Views.{told}
@@ -89,4 +88,23 @@ check_inner-returns-in-Forever t c = λ s blocks is room.
     subst (λ l. OnOk c.check_lines-in-Forever.result (told c.check_lines-in-Forever.new.first ≡ first_behind (told c.args.first.now) l)) tree (c.check_lines-in-Forever.ensures s blocks is room)
 
 pub check_inner-returns-in_ok-check_cases-in-Switch : goal.check_inner-returns-in_ok-check_cases-in-Switch
-check_inner-returns-in_ok-check_cases-in-Switch t c = λ s blocks is room. ?
+check_inner-returns-in_ok-check_cases-in-Switch t c = λ s blocks is room.
+    let start = told c.args.first.now in
+    let after_cases = told c.check_cases.new.first in
+    let arms = arms_of c.in-Switch.arms.items in
+    let repeated = case_offences [] (case_numbers arms) in
+    let defaults = default_offences false arms in
+    let inner = arms_inner s blocks arms in
+    let cases_told = c.in_ok-check_cases-in-Switch.ensures ∙ ap (λ l. first_behind start (case_offences [] (case_numbers (arms_of l)))) c.deref-in-Switch.ensures.value in
+    let defaults_told = c.check_defaults.ensures ∙ ap (λ l. first_behind after_cases (default_offences false (arms_of l))) c.deref-in-Switch-2.ensures.value in
+    let both_told = then-told start after_cases (told c.check_defaults.new.first) repeated defaults cases_told defaults_told in
+    let tree =
+    append_assoc repeated defaults inner
+    ∙ sym (ap (inner_offences s blocks) (switch-tree c.in-Switch.field-0 c.in-Switch.field-1 c.in-Switch.arms))
+    ∙ ap (λ stmt. inner_offences s blocks (stmt_of stmt)) (sym c.in-Switch.is) in
+    subst (λ o. OnOk c.check_arms.result (told c.check_arms.new.first ≡ o))
+    (ap (λ l. first_behind (told c.check_defaults.new.first) (arms_inner s blocks (arms_of l))) c.deref-in-Switch-3.ensures.value
+    ∙ ap (λ o. first_behind o inner) both_told
+    ∙ sym (first-append start (repeated ++ defaults) inner)
+    ∙ ap (first_behind start) tree)
+    (c.check_arms.ensures s blocks is room)

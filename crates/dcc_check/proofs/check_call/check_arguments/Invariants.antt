@@ -10,4 +10,4 @@ use Rattle.dcc_check.proofs.check_call.check_arguments.Given as goal
 abbrev pub invariant-loop-e : goal.invariant-loop-e
 invariant-loop-e l = (s : Scene) → IsScene l.scene s →
     first_behind (told l.first) (arguments_inner s (map expr_of (drop l.e-index l.arguments)))
-      ≡ first_behind (told l.initial.first) (arguments_inner s (map expr_of l.arguments))
+    ≡ first_behind (told l.initial.first) (arguments_inner s (map expr_of l.arguments))

@@ -1,4 +1,4 @@
-use Rattle.std.proofs.Common.{◌≡◌, ◌+◌, ◌-◌, ◌<◌, ◌≤◌, ◌||◌, ◌∷◌, Some, false, length, map, get_or, drop, sym, ap, ◌∙◌, arith}
+use Rattle.std.proofs.Common.{◌+◌, ◌<◌, ◌||◌, ◌∷◌, Some, false, length, map, get_or, drop, sym, ap, ◌∙◌, arith}
 use Rattle.std.specs.Prelude.{nat_lt}
 use Rattle.std.proofs.lemmas.List.{at_drop_more, length-drop, length-map}
 use Rattle.dcc_c.specs.declared.syntax.Base.TheVariants.{Schar}

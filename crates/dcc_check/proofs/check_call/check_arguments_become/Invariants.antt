@@ -10,4 +10,4 @@ use Rattle.dcc_check.proofs.check_call.check_arguments_become.Given as goal
 abbrev pub invariant-loop-i : goal.invariant-loop-i
 invariant-loop-i l = (s : Scene) → IsScene l.scene s →
     first_behind (told l.first) (arguments_become s l.closed (drop l.i l.params) (map expr_of (drop l.i l.arguments)))
-      ≡ first_behind (told l.initial.first) (arguments_become s l.closed l.params (map expr_of l.arguments))
+    ≡ first_behind (told l.initial.first) (arguments_become s l.closed l.params (map expr_of l.arguments))

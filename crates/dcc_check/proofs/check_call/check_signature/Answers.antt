@@ -1,4 +1,4 @@
-use Rattle.std.proofs.Common.{◌++◌, Some, map, ap, ◌∙◌}
+use Rattle.std.proofs.Common.{◌++◌, map, ap, ◌∙◌}
 use Rattle.dcc_c.specs.Kinds.{of_type, offence, only_if, first_behind}
 use Rattle.dcc_c.specs.Offences.{result_offences, count_offends, arguments_become}
 use Rattle.dcc_read.specs.PartialViews.{expr_of, word_of, call_of}

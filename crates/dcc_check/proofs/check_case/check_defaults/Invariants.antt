@@ -9,4 +9,4 @@ use Rattle.dcc_check.proofs.check_case.check_defaults.Given as goal
 abbrev pub invariant-loop-arm : goal.invariant-loop-arm
 invariant-loop-arm l =
     first_behind (told l.first) (default_offences l.is_known (arms_of (drop l.arm-index l.arms)))
-      ≡ first_behind (told l.initial.first) (default_offences false (arms_of l.arms))
+    ≡ first_behind (told l.initial.first) (default_offences false (arms_of l.arms))

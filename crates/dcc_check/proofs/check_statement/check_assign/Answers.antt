@@ -1,5 +1,5 @@
-use Rattle.std.proofs.Common.{◌≡◌, ◌∙◌, ◌&&◌, ◌++◌, [], true, false, not, rules, sym, ap}
-use Rattle.std.specs.Prelude.{option_map, if◌then◌else◌}
+use Rattle.std.proofs.Common.{◌≡◌, ◌∙◌, ◌&&◌, ◌++◌, [], false, not, rules, sym, ap}
+use Rattle.std.specs.Prelude.{option_map}
 use Rattle.dcc_c.specs.Kinds.{first_behind}
 use Rattle.dcc_c.specs.Partial.{is_name_here}
 use Rattle.dcc_c.specs.Offences.{expr_offences, place_offences, assigned_offences, becomes, told_place}

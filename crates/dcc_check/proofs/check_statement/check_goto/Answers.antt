@@ -1,4 +1,4 @@
-use Rattle.std.proofs.Common.{◌≡◌, Some, not, sym, ap, ◌∙◌, string_bytes}
+use Rattle.std.proofs.Common.{not, sym, ap, ◌∙◌}
 use Rattle.std.specs.Prelude.{option_map}
 use Rattle.dcc_c.specs.Kinds.{of_name, offence, only_if, first_behind}
 use Rattle.dcc_c.specs.Grammar.{is_among}
