@@ -24,7 +24,7 @@ const MOST_BLOCKS: usize = 201;
 /// Where memory runs out.
 pub(crate) fn check_body(
     alloc: Global,
-    scene: &Scene<'_>,
+    scene: &Scene<'_, '_>,
     body: &[Row],
     first: &mut First,
 ) -> Result<(), AllocError>
@@ -38,7 +38,7 @@ pub(crate) fn check_body(
 #[cycle(block)]
 fn check_lines(
     alloc: Global,
-    scene: &Scene<'_>,
+    scene: &Scene<'_, '_>,
     room: usize,
     rows: &[Row],
     first: &mut First,
@@ -58,7 +58,7 @@ fn check_lines(
 #[cycle(block)]
 fn check_inner(
     alloc: Global,
-    scene: &Scene<'_>,
+    scene: &Scene<'_, '_>,
     room: usize,
     stmt: &PartialStmt,
     first: &mut First,
@@ -94,7 +94,7 @@ fn check_inner(
 #[cycle(block)]
 fn check_arms(
     alloc: Global,
-    scene: &Scene<'_>,
+    scene: &Scene<'_, '_>,
     room: usize,
     arms: &[PartialArm],
     first: &mut First,

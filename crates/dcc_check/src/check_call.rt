@@ -18,7 +18,7 @@ use dcc_c::CType;
 use dcc_read::{ParseKind, PartialCall, PartialExpr, WordAt};
 
 /// Tells what offends in the arguments, each by itself.
-fn check_arguments(scene: &Scene<'_>, arguments: &[PartialExpr], first: &mut First)
+fn check_arguments(scene: &Scene<'_, '_>, arguments: &[PartialExpr], first: &mut First)
     ensures { (s : offences.Scene) → IsScene scene.now s →
         told first.new ≡ first_behind (told first.old) (arguments_inner s (map expr_of arguments.now)) }
 {
@@ -51,7 +51,7 @@ fn is_done(closed: bool, i: usize, count: usize) -> bool
 /// Tells which arguments do not become values of the parameters' types. The last one has been read to its end where the
 /// closing parenthesis has.
 fn check_arguments_become(
-    scene: &Scene<'_>,
+    scene: &Scene<'_, '_>,
     closed: bool,
     params: &[CType],
     arguments: &[PartialExpr],
@@ -95,7 +95,7 @@ fn check_result(
 
 /// Tells what offends in the call of a function with the signature, which begins at a place.
 fn check_signature(
-    scene: &Scene<'_>,
+    scene: &Scene<'_, '_>,
     at: usize,
     place: Option<Operand>,
     call: &PartialCall,
@@ -119,7 +119,7 @@ fn check_signature(
 
 /// Tells what offends in the function that is called: it is no variable, and known.
 fn check_callee(
-    scene: &Scene<'_>,
+    scene: &Scene<'_, '_>,
     at: usize,
     place: Option<Operand>,
     call: &PartialCall,
@@ -142,7 +142,7 @@ fn check_callee(
 
 /// Tells what offends in the place of a result, where there is one.
 fn check_place_if(
-    scene: &Scene<'_>,
+    scene: &Scene<'_, '_>,
     place: &Option<PartialExpr>,
     first: &mut First,
 ) -> Option<Operand>
@@ -158,7 +158,7 @@ fn check_place_if(
 
 /// Tells what offends in a call, which begins at a place.
 pub(crate) fn check_call(
-    scene: &Scene<'_>,
+    scene: &Scene<'_, '_>,
     at: usize,
     place: &Option<PartialExpr>,
     call: &PartialCall,

@@ -37,7 +37,7 @@ pub(crate) fn is_name(e: &PartialExpr) -> bool
 }
 
 /// A name that is no variable: a function's offends as an operand, but not before a parenthesis.
-fn tell_no_variable(scene: &Scene<'_>, at: usize, word: &str, called: bool, first: &mut First)
+fn tell_no_variable(scene: &Scene<'_, '_>, at: usize, word: &str, called: bool, first: &mut First)
     ensures { (s : offences.Scene) → IsScene scene.now s →
         told first.new ≡ first_behind (told first.old) (no_variable s at word.now called) }
 {
@@ -48,7 +48,13 @@ fn tell_no_variable(scene: &Scene<'_>, at: usize, word: &str, called: bool, firs
 }
 
 /// A name as a value: that of an array of pointers has no type.
-fn check_name(scene: &Scene<'_>, at: usize, word: &str, called: bool, first: &mut First) -> Operand
+fn check_name(
+    scene: &Scene<'_, '_>,
+    at: usize,
+    word: &str,
+    called: bool,
+    first: &mut First,
+) -> Operand
     ensures operand { (s : offences.Scene) → IsScene scene.now s →
         result ≡ operand s (partial.NameHere at word.now called) }
     ensures told { (s : offences.Scene) → IsScene scene.now s →
@@ -68,7 +74,7 @@ fn check_name(scene: &Scene<'_>, at: usize, word: &str, called: bool, first: &mu
 }
 
 /// The operand of `&`, where it is the name of a variable.
-fn operand_of_address(scene: &Scene<'_>, a: &PartialExpr) -> Option<Declared>
+fn operand_of_address(scene: &Scene<'_, '_>, a: &PartialExpr) -> Option<Declared>
     ensures { (s : offences.Scene) → IsScene scene.now s →
         result ≡ option_map unnamed (operand_of_address s.names (expr_of a.now)) }
 {
@@ -90,7 +96,7 @@ fn place_of_name(a: &PartialExpr) -> usize
 
 /// Tells what offends in an expression.
 #[cycle(expression)]
-pub(crate) fn check_expr(scene: &Scene<'_>, e: &PartialExpr, first: &mut First) -> Operand
+pub(crate) fn check_expr(scene: &Scene<'_, '_>, e: &PartialExpr, first: &mut First) -> Operand
     ensures operand { (s : offences.Scene) → IsScene scene.now s → result ≡ operand s (expr_of e.now) }
     ensures told { (s : offences.Scene) → IsScene scene.now s →
         told first.new ≡ first_behind (told first.old) (expr_offences s (expr_of e.now)) }
@@ -138,7 +144,7 @@ pub(crate) fn check_expr(scene: &Scene<'_>, e: &PartialExpr, first: &mut First) 
 /// Tells what offends in a unary operator and its operand.
 #[cycle(expression)]
 fn check_operator(
-    scene: &Scene<'_>,
+    scene: &Scene<'_, '_>,
     at: usize,
     operator: CUn,
     a: &PartialExpr,
@@ -162,7 +168,7 @@ fn check_operator(
 
 /// Tells what offends in `&` and its operand: a variable that has an address, and is no array and no pointer.
 #[cycle(expression)]
-fn check_address(scene: &Scene<'_>, at: usize, a: &PartialExpr, first: &mut First) -> Operand
+fn check_address(scene: &Scene<'_, '_>, at: usize, a: &PartialExpr, first: &mut First) -> Operand
     ensures operand { (s : offences.Scene) → IsScene scene.now s →
         result ≡ operand s (partial.UnaryHere at AddressOf (expr_of a.now)) }
     ensures told { (s : offences.Scene) → IsScene scene.now s →
@@ -183,7 +189,7 @@ fn check_address(scene: &Scene<'_>, at: usize, a: &PartialExpr, first: &mut Firs
 }
 
 /// The expression as an operand.
-pub(crate) fn operand_of(scene: &Scene<'_>, e: &PartialExpr) -> Operand
+pub(crate) fn operand_of(scene: &Scene<'_, '_>, e: &PartialExpr) -> Operand
     ensures { (s : offences.Scene) → IsScene scene.now s → result ≡ operand s (expr_of e.now) }
 {
     let mut unheard = First::new();
@@ -191,7 +197,7 @@ pub(crate) fn operand_of(scene: &Scene<'_>, e: &PartialExpr) -> Operand
 }
 
 /// Tells what offends in the place of an assignment: an array's name is none.
-pub(crate) fn check_place(scene: &Scene<'_>, e: &PartialExpr, first: &mut First) -> Operand
+pub(crate) fn check_place(scene: &Scene<'_, '_>, e: &PartialExpr, first: &mut First) -> Operand
     ensures place { (s : offences.Scene) → IsScene scene.now s → result ≡ target s (expr_of e.now) }
     ensures told { (s : offences.Scene) → IsScene scene.now s →
         told first.new ≡ first_behind (told first.old) (place_offences s (expr_of e.now)) }

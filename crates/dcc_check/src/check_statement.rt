@@ -17,7 +17,7 @@ use dcc_read::{ParseKind, PartialExpr, PartialStmt, WordAt};
 
 /// Tells what offends in an assignment: a name alone that is not read to its end may be called.
 fn check_assign(
-    scene: &Scene<'_>,
+    scene: &Scene<'_, '_>,
     place: &PartialExpr,
     e: &Option<PartialExpr>,
     done: bool,
@@ -43,7 +43,7 @@ fn check_assign(
 }
 
 /// Tells what offends in a test, read to its parenthesis or not.
-fn check_test(scene: &Scene<'_>, e: &PartialExpr, done: bool, first: &mut First)
+fn check_test(scene: &Scene<'_, '_>, e: &PartialExpr, done: bool, first: &mut First)
     ensures { (s : offences.Scene) → IsScene scene.now s →
         told first.new ≡ first_behind (told first.old) (test_offences s (expr_of e.now) done) }
 {
@@ -54,7 +54,7 @@ fn check_test(scene: &Scene<'_>, e: &PartialExpr, done: bool, first: &mut First)
 }
 
 /// Tells what offends in the value of a `switch`: it is an int or an unsigned int after promotion.
-fn check_switch(scene: &Scene<'_>, e: &PartialExpr, done: bool, first: &mut First)
+fn check_switch(scene: &Scene<'_, '_>, e: &PartialExpr, done: bool, first: &mut First)
     ensures { (s : offences.Scene) → IsScene scene.now s →
         told first.new ≡ first_behind (told first.old) (switch_offences s (expr_of e.now) done) }
 {
@@ -64,7 +64,7 @@ fn check_switch(scene: &Scene<'_>, e: &PartialExpr, done: bool, first: &mut Firs
 
 /// Tells what offends in a `return`: a value stands where the function has a result, and there alone.
 fn check_return(
-    scene: &Scene<'_>,
+    scene: &Scene<'_, '_>,
     at: usize,
     e: &Option<PartialExpr>,
     done: bool,
@@ -87,7 +87,7 @@ fn check_return(
 }
 
 /// Tells whether a `goto` names no label of the function.
-fn check_goto(scene: &Scene<'_>, name: &Option<WordAt>, first: &mut First)
+fn check_goto(scene: &Scene<'_, '_>, name: &Option<WordAt>, first: &mut First)
     ensures { (s : offences.Scene) → IsScene scene.now s →
         told first.new ≡ first_behind (told first.old) (goto_offences s (option_map word_of name.now)) }
 {
@@ -101,7 +101,7 @@ fn check_goto(scene: &Scene<'_>, name: &Option<WordAt>, first: &mut First)
 }
 
 /// Tells what offends in a statement that begins at a place, without the statements inside it.
-pub(crate) fn check_own(scene: &Scene<'_>, at: usize, stmt: &PartialStmt, first: &mut First)
+pub(crate) fn check_own(scene: &Scene<'_, '_>, at: usize, stmt: &PartialStmt, first: &mut First)
     ensures { (s : offences.Scene) → IsScene scene.now s →
         told first.new ≡ first_behind (told first.old) (own_offences s at (stmt_of stmt.now)) }
 {
