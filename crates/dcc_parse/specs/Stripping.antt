@@ -1,0 +1,10 @@
+-- Parts of trees.
+use Rattle.std.specs.Prelude.{Option, Some, None}
+use Rattle.dcc_c.specs.declared.syntax.Arm.{Arm}
+use Rattle.dcc_c.specs.Tree.{Arms, no_arms}
+use Rattle.dcc_c.specs.Views.{arm_before}
+
+-- the arms of a `switch` that has at most one
+abbrev pub arms_if : Option Arm → Arms
+arms_if None = no_arms
+arms_if (Some a) = arm_before a no_arms
