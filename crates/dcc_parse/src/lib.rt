@@ -2,3 +2,4 @@
 #![tactic(auto)]
 
 mod strip;
+mod strip_text;

@@ -12,7 +12,6 @@ use dcc_c::{Arm, Base, CExpr, CStmt, CType, Line};
 use dcc_read::{CaseAt, NumberAt, PartialArm, PartialExpr, PartialStmt, Row, WordAt};
 use std::alloc::{AllocError, Global};
 
-
 /// An expression.
 fn strip_expr(alloc: Global, e: &PartialExpr) -> Result<CExpr, AllocError>
     ensures { IfOk result (λ r. tree.expr_of r ≡ stripped.plain_expr (partial.expr_of e.now)) }
@@ -75,7 +74,7 @@ fn strip_arguments(alloc: Global, arguments: &[PartialExpr]) -> Result<Vec<CExpr
 }
 
 /// A name.
-fn strip_name(alloc: Global, name: &Option<WordAt>) -> Result<String, AllocError>
+pub(crate) fn strip_name(alloc: Global, name: &Option<WordAt>) -> Result<String, AllocError>
     ensures { IfOk result (λ r. string_bytes r ≡ stripped.plain_name (option_map partial.word_of name.now)) }
 {
     match name {
@@ -143,7 +142,7 @@ fn strip_stmt(alloc: Global, stmt: &PartialStmt) -> Result<CStmt, AllocError>
 
 /// Statements.
 #[cycle(strip)]
-fn strip_lines(alloc: Global, rows: &[Row]) -> Result<Vec<Line>, AllocError>
+pub(crate) fn strip_lines(alloc: Global, rows: &[Row]) -> Result<Vec<Line>, AllocError>
     ensures { (scene : Scene) (blocks : ℕ) → lines_offences scene blocks (partial.lines_of rows.now) ≡ [] →
         IfOk result (λ r. tree.lines_of r.items ≡ stripped.plain_lines (partial.lines_of rows.now)) }
 {
