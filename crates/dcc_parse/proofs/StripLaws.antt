@@ -9,11 +9,11 @@ use Rattle.dcc_c.specs.declared.syntax.Arm.{Arm, roll-Arm, out-roll-Arm}
 use Rattle.dcc_c.specs.Tree as plain
 use Rattle.dcc_c.specs.Tree.{Lines, no_lines, line, Arms, no_arms, arm}
 use Rattle.dcc_c.specs.Views.{expr_of, stmt_of, lines_of, arms_of, arm_before}
-use Rattle.dcc_c.specs.Kinds.{of_name, of_depth, offence, Offence, only_if}
+use Rattle.dcc_c.specs.Kinds.{of_depth, offence, only_if}
 use Rattle.dcc_c.specs.Partial.{NumberAt, PartialLines, PartialArms, no_cases, cases, row}
 use Rattle.dcc_c.specs.Offences.{Scene, default_offences, lines_offences, own_offences, inner_offences, arms_inner, case_offences, case_numbers}
 use Rattle.dcc_c.specs.Stripped.{plain_numbers, plain_expr, plain_stmt, plain_lines, case_arms, default_arms}
-use Rattle.dcc_c.proofs.refusals.ExprRules.{none-both, none-only}
+use Rattle.dcc_c.proofs.refusals.ExprRules.{none-both}
 use Rattle.dcc_read.specs.declared.partial.PartialExpr.{PartialExpr}
 use Rattle.dcc_read.specs.declared.partial.PartialStmt.{PartialStmt, If, While, DoWhile, Forever, Switch}
 use Rattle.dcc_read.specs.declared.partial.Row.{Row}
@@ -94,15 +94,14 @@ lines-step scene blocks rows i r lines l within is pushed stripped at before =
     let tree = first_row rows i r within is in
     let one = none-both (only_if (nat_lt 200 blocks) (offence of_depth r.at)) _ (sym (ap (lines_offences scene blocks) tree) ∙ before.0) in
     let two = none-both (own_offences scene r.at (partial.stmt_of r.stmt)) _ one.1 in
-    let three = none-both (inner_offences scene (suc blocks) (partial.stmt_of r.stmt)) (lines_offences scene blocks rest) two.1 in
-    (
+    let three = none-both (inner_offences scene (suc blocks) (partial.stmt_of r.stmt)) (lines_offences scene blocks rest) two.1 in (
       three.1,
       ap (λ ls. lines_then ls (plain_lines rest)) pushed
-      ∙ lines-more lines l (plain_lines rest)
-      ∙ ap (λ s. lines_then lines (line s l.line (plain_lines rest))) (stripped three.0)
-      ∙ ap (λ n. lines_then lines (line (plain_stmt (partial.stmt_of r.stmt)) n (plain_lines rest))) at
-      ∙ ap (λ ls. lines_then lines (plain_lines ls)) (sym tree)
-      ∙ before.1,
+          ∙ lines-more lines l (plain_lines rest)
+          ∙ ap (λ s. lines_then lines (line s l.line (plain_lines rest))) (stripped three.0)
+          ∙ ap (λ n. lines_then lines (line (plain_stmt (partial.stmt_of r.stmt)) n (plain_lines rest))) at
+          ∙ ap (λ ls. lines_then lines (plain_lines ls)) (sym tree)
+          ∙ before.1,
     )
 
 -- Arms with and without `default`.
@@ -153,17 +152,16 @@ module _ (scene : Scene) (blocks : ℕ) (arms : List PartialArm) (i : ℕ) (a : 
   arms-step found numbers body pushed none stripped same before =
       let rest = partial.arms_of (drop (i + 1) arms) in
       let own = own-clean before.0 in
-      let own_body = partial.lines_of (out-PartialArm a).body.items in
-      (
+      let own_body = partial.lines_of (out-PartialArm a).body.items in (
         own.1,
         ap (λ l. arms_then l (case_arms rest)) pushed
-        ∙ arms-more found (roll-Arm (record { cases = numbers; body = body })) (case_arms rest)
-        ∙ ap (arms_then found) (made-arm numbers body (case_arms rest))
-        ∙ ap (λ ls. arms_then found (arm numbers.items ls (case_arms rest))) (stripped own.0)
-        ∙ ap (λ ns. arms_then found (arm ns (plain_lines own_body) (case_arms rest))) same
-        ∙ ap (arms_then found) (sym (cases-kept (map partial.case_of (out-PartialArm a).numbers.items) own_body rest (out-PartialArm a).default none))
-        ∙ ap (λ l. arms_then found (case_arms l)) (sym (first_arm arms i a within is))
-        ∙ before.1,
+            ∙ arms-more found (roll-Arm (record { cases = numbers; body = body })) (case_arms rest)
+            ∙ ap (arms_then found) (made-arm numbers body (case_arms rest))
+            ∙ ap (λ ls. arms_then found (arm numbers.items ls (case_arms rest))) (stripped own.0)
+            ∙ ap (λ ns. arms_then found (arm ns (plain_lines own_body) (case_arms rest))) same
+            ∙ ap (arms_then found) (sym (cases-kept (map partial.case_of (out-PartialArm a).numbers.items) own_body rest (out-PartialArm a).default none))
+            ∙ ap (λ l. arms_then found (case_arms l)) (sym (first_arm arms i a within is))
+            ∙ before.1,
       )
 
   pub arms-skip : (found : List Arm) {whole : Arms} → is_some (out-PartialArm a).default ≡ true →
@@ -171,12 +169,11 @@ module _ (scene : Scene) (blocks : ℕ) (arms : List PartialArm) (i : ℕ) (a : 
       (arms_inner scene blocks (partial.arms_of (drop (i + 1) arms)) ≡ [])
       × (arms_then found (case_arms (partial.arms_of (drop (i + 1) arms))) ≡ whole)
   arms-skip found some before =
-      let rest = partial.arms_of (drop (i + 1) arms) in
-      (
+      let rest = partial.arms_of (drop (i + 1) arms) in (
         (own-clean before.0).1,
         ap (arms_then found) (sym (cases-dropped (map partial.case_of (out-PartialArm a).numbers.items) (partial.lines_of (out-PartialArm a).body.items) rest (out-PartialArm a).default some))
-        ∙ ap (λ l. arms_then found (case_arms l)) (sym (first_arm arms i a within is))
-        ∙ before.1,
+            ∙ ap (λ l. arms_then found (case_arms l)) (sym (first_arm arms i a within is))
+            ∙ before.1,
       )
 
   pub default-skip : {whole : Arms} → is_some (out-PartialArm a).default ≡ false →
@@ -186,8 +183,7 @@ module _ (scene : Scene) (blocks : ℕ) (arms : List PartialArm) (i : ℕ) (a : 
       let numbers = map partial.case_of (out-PartialArm a).numbers.items in
       let body = partial.lines_of (out-PartialArm a).body.items in
       let rest = partial.arms_of (drop (i + 1) arms) in
-      let tree = first_arm arms i a within is in
-      (
+      let tree = first_arm arms i a within is in (
         (own-clean before.0).1,
         sym (ap (default_offences false) tree ∙ default-later numbers body rest (out-PartialArm a).default none) ∙ before.1,
         before.2 ∙ ap default_arms tree ∙ default-dropped numbers body rest (out-PartialArm a).default none,

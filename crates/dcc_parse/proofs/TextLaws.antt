@@ -64,13 +64,12 @@ pub functions-step : (whole : Whole) (fs : List PartialFunction) (i : ℕ) (f : 
 functions-step whole fs i f found g within is pushed stripped before =
     let rest = map partial.function_of (drop (i + 1) fs) in
     let first = first_function fs i f within is in
-    let parts = functions-split whole (partial.function_of f) rest (sym (ap (functions_offences whole) first) ∙ before.0) in
-    (
+    let parts = functions-split whole (partial.function_of f) rest (sym (ap (functions_offences whole) first) ∙ before.0) in (
       parts.1,
       ap (λ l. map function_of l ++ map plain_function rest) pushed
-      ∙ moved function_of plain_function found g (partial.function_of f) rest (stripped parts.0.0 parts.0.1)
-      ∙ ap (λ l. map function_of found ++ map plain_function l) (sym first)
-      ∙ before.1,
+          ∙ moved function_of plain_function found g (partial.function_of f) rest (stripped parts.0.0 parts.0.1)
+          ∙ ap (λ l. map function_of found ++ map plain_function l) (sym first)
+          ∙ before.1,
     )
 
 -- Whole texts.

@@ -1,4 +1,4 @@
-use Rattle.std.proofs.Common.{◌≡◌, ℕ, suc, ◌+◌, [], not, map, drop, refl, sym, ap, ◌∙◌}
+use Rattle.std.proofs.Common.{suc, ◌+◌, not, map, drop, refl, sym, ap, ◌∙◌}
 use Rattle.dcc_c.specs.Stripped.{plain_numbers, case_arms}
 use Rattle.dcc_read.specs.PartialViews as partial
 use Rattle.dcc_parse.proofs.StripLaws.{arms_then, lines-end, arms-end, lines-step, arms-step, arms-skip, default-skip, default-found, lines-behind, arms-behind, default-behind, if-strip, while-strip, do-strip, forever-strip, switch-strip}
@@ -12,14 +12,14 @@ strip_arms-loop-arm-preserved t c scene blocks none =
     let i = c.loop-arm.arm-index in
     elim c.if-is_none.branch [
       | strip_arms-then-is_none+in_ok-cases+in_ok-body+in_ok-push w ↦
-        arms-step scene blocks arms i c.arm-item.result c.loop-arm-test.true c.arm-item.is c.loop-arm.found.items w.in_ok-cases.cases w.in_ok-body.body
-        (ap (λ v. v.items) w.found-is ∙ w.in_ok-push.ensures.items) (c.is_none.ensures ∙ ap not w.if-is_none.true)
-        (lines-behind scene blocks w.deref-then-is_none.ensures.value (w.in_ok-body.ensures scene blocks))
-        (w.in_ok-cases.ensures ∙ ap (λ l. plain_numbers (map partial.case_of l)) w.deref.ensures.value) before
+          arms-step scene blocks arms i c.arm-item.result c.loop-arm-test.true c.arm-item.is c.loop-arm.found.items w.in_ok-cases.cases w.in_ok-body.body
+          (ap (λ v. v.items) w.found-is ∙ w.in_ok-push.ensures.items) (c.is_none.ensures ∙ ap not w.if-is_none.true)
+          (lines-behind scene blocks w.deref-then-is_none.ensures.value (w.in_ok-body.ensures scene blocks))
+          (w.in_ok-cases.ensures ∙ ap (λ l. plain_numbers (map partial.case_of l)) w.deref.ensures.value) before
       | strip_arms-else-is_none w ↦
-        let step = arms-skip scene blocks arms i c.arm-item.result c.loop-arm-test.true c.arm-item.is c.loop-arm.found.items
-        (c.is_none.ensures ∙ ap not w.if-is_none.false) before in
-        (step.0, ap (λ v. arms_then v.items (case_arms (partial.arms_of (drop (i + 1) arms)))) w.found-is ∙ step.1)
+          let step = arms-skip scene blocks arms i c.arm-item.result c.loop-arm-test.true c.arm-item.is c.loop-arm.found.items
+          (c.is_none.ensures ∙ ap not w.if-is_none.false) before in
+          (step.0, ap (λ v. arms_then v.items (case_arms (partial.arms_of (drop (i + 1) arms)))) w.found-is ∙ step.1)
     ]
 
 pub strip_arms-returns : goal.strip_arms-returns
