@@ -1,2 +1,2 @@
-pub mod OffenceViews
 pub mod Fault
+pub mod Stripping

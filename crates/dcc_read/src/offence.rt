@@ -1,4 +1,4 @@
-//! Why a text is refused.
+//! What offends in a text.
 
 /// Why a text is refused.
 #[derive(Clone, Copy, PartialEq, Eq, Debug)]
@@ -21,11 +21,11 @@ pub enum ParseKind {
     Depth,
 }
 
-/// Why a text is not parsed.
+/// An offence, at a place: the number of pieces behind the version line and before it.
 #[derive(Clone, Copy, PartialEq, Eq, Debug)]
-pub enum ParseFault {
-    /// This offends in the line, and nothing does before it.
-    At { line: u32, kind: ParseKind },
-    /// Memory ran out.
-    Memory,
+pub struct Offence {
+    /// The place.
+    pub at: usize,
+    /// What offends.
+    pub kind: ParseKind,
 }

@@ -1,0 +1,3 @@
+pub mod TellLaws
+pub mod ListLaws
+pub mod CaseLaws

@@ -1,0 +1,4 @@
+pub mod ExpressionViews
+pub mod OffenceViews
+pub mod PartialViews
+pub mod ReaderViews
