@@ -1,9 +1,17 @@
 //! Reading a text piece by piece, as far as the grammar and the limits of depth allow.
 #![tactic(auto)]
 
+mod arm;
+mod around;
+mod call;
+mod declaration;
+mod expression;
 pub mod offence;
 pub mod partial;
+mod pragma;
 mod reader;
+mod short;
+mod statement;
 
 pub use offence::{Offence, ParseKind};
 pub use partial::{

@@ -1,7 +1,8 @@
 //! A reader of pieces: it takes pieces as long as they are allowed, and sees none behind the first that is not.
 
-ghost use Rattle.std.specs.Prelude.{◌≡◌, ◌≤◌, IfOk, true, is_some, string_bytes};
+ghost use Rattle.std.specs.Prelude.{◌≡◌, ◌≤◌, ◌&&◌, IfOk, true, is_some, string_bytes};
 ghost use Rattle.std.specs.Option.{option_map};
+ghost use Rattle.dcc_c.specs.Grammar as grammar;
 ghost use Rattle.dcc_c.specs.Kinds as kinds;
 ghost use Rattle.dcc_c.specs.Reading as reading;
 ghost use Rattle.dcc_c.specs.ReadingStatements as statements;
@@ -264,4 +265,11 @@ impl<'a> Reader<'a> {
         }
         None
     }
+}
+
+/// Whether the word is a name.
+fn is_name(word: &str) -> bool
+    ensures { result ≡ grammar.is_name word.now }
+{
+    true
 }
