@@ -6,15 +6,19 @@ mod around;
 mod call;
 mod declaration;
 mod expression;
+mod function;
 pub mod offence;
 pub mod partial;
 mod pragma;
 mod reader;
 mod short;
 mod statement;
+mod text;
 
 pub use offence::{Offence, ParseKind};
 pub use partial::{
     CaseAt, NumberAt, PartialArm, PartialCall, PartialExpr, PartialFunction, PartialStmt, PartialText,
     PartialVariable, Row, WordAt,
 };
+pub use reader::Reader;
+pub use text::{Reading, head_at, read};

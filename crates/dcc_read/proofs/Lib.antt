@@ -1,0 +1,5 @@
+pub mod LineLaws
+pub mod LoopLaws
+pub mod RowLaws
+pub mod SeenLaws
+pub mod StatementLaws
