@@ -1,9 +1,11 @@
 -- There is a next token where a test of it holds.
-use Rattle.std.proofs.Common.{◌≡◌, ℕ, Bool, true, false, ◌&&◌, ◌||◌, List, codes, Option, Some, None, is_some, refl}
+use Rattle.std.proofs.Common.{◌≡◌, ℕ, Bool, true, false, ◌&&◌, List, codes, Option, Some, None, is_some, refl, sym, ap, ◌∙◌}
 use Rattle.std.proofs.lemmas.Bool.{false≢true}
 use Rattle.dcc_c.specs.Token.{Token, WordToken, Decimal, Hex, Mark, Pragma, Head, version_line, stack_line, place_line, depth_line}
-use Rattle.dcc_c.specs.Reading.{Reader, next_token, second_token, skip, is_stopped, first_token, is_the_mark, is_the_word, name_of, sees_mark, sees_word, begins_type}
-use Rattle.dcc_c.specs.ReadingStatements.{is_the_head, sees_head, begins_call, begins_label}
+use Rattle.dcc_c.specs.Tree.{Word}
+use Rattle.dcc_c.specs.Partial.{WordAt}
+use Rattle.dcc_c.specs.Reading.{Reader, Got, got, fail, take_name, next_token, second_token, skip, is_the_mark, is_the_word, name_of, sees_mark, sees_word}
+use Rattle.dcc_c.specs.ReadingStatements.{is_the_head, sees_head}
 
 token-mark : (bytes : List ℕ) (token : Option Token) → is_the_mark bytes token ≡ true → is_some token ≡ true
 token-mark bytes None e = absurd (false≢true e)
@@ -45,6 +47,19 @@ pub both-second : (a b : Bool) → (a && b) ≡ true → b ≡ true
 both-second true b e = e
 both-second false b e = absurd (false≢true e)
 
--- the next token behind the next piece
-skipped : (r : Reader) → next_token (skip r) ≡ second_token r
-skipped r = refl
+-- a name that was taken, or none
+abbrev name_taken : Reader → Option Word → Got (Option WordAt)
+name_taken r name = elim name [ Some word ↦ got (Some (record { word = word; at = r.at })) (skip r) | None ↦ got None (fail r) ]
+
+named : (r : Reader) (name : Option Word) → is_some name ≡ true → (name_taken r name).behind ≡ skip r
+named r (Some word) e = refl
+named r None e = absurd (false≢true e)
+
+-- behind a name that a mark stands behind
+pub mark-behind : (bytes : List ℕ) (r behind : Reader) (name : Option WordAt) →
+    (is_some (name_of (next_token r)) && is_the_mark bytes (second_token r)) ≡ true → got name behind ≡ take_name r → is_some (next_token behind) ≡ true
+mark-behind bytes r behind name e is =
+    let here = is_some (name_of (next_token r)) in
+    let mark = is_the_mark bytes (second_token r) in
+    let same : behind ≡ skip r = ap (λ (g : Got (Option WordAt)). g.behind) is ∙ named r (name_of (next_token r)) (both-first here mark e) in
+    ap (λ k. is_some (next_token k)) same ∙ token-mark bytes (second_token r) (both-second here mark e)

@@ -9,6 +9,7 @@ use Rattle.dcc_c.specs.Reading.{Reader, Got, got, is_stopped, next_token, line_o
 use Rattle.dcc_c.specs.ReadingStatements as s
 use Rattle.dcc_read.specs.Lines.{begins_loop, take_forever, while_stmt, do_while_stmt, forever_stmt, loop_stmt, switch_stmt, short_stmt, depth_line, label_line, arm_read}
 use Rattle.dcc_read.proofs.LoopLaws.{counted, if-true, if-false}
+use Rattle.dcc_read.proofs.SeenLaws.{word-seen}
 
 -- a loop among the statements
 loop-true : {A : Type 0} (w d f : Bool) (a b c e : A) → ((w || d) || f) ≡ true →
@@ -44,30 +45,38 @@ stmt-others n around r within e =
 
 pub stmt-loop : (n : ℕ) (around : Around) (r : Reader) → 0 < n → sees_word (codes "if") r ≡ false → begins_loop r ≡ true →
     s.read_stmt n around r ≡ loop_stmt (n - 1) around r
-stmt-loop n around r within no yes =
-    stmt-others n around r within no
-    ∙ loop-true (sees_word (codes "while") r) (sees_word (codes "do") r) (sees_word (codes "for") r) _ _ _ _ yes
+stmt-loop n around r within other here =
+    stmt-others n around r within other
+    ∙ loop-true (sees_word (codes "while") r) (sees_word (codes "do") r) (sees_word (codes "for") r) _ _ _ _ here
 
 pub stmt-switch : (n : ℕ) (around : Around) (r : Reader) → 0 < n → sees_word (codes "if") r ≡ false → begins_loop r ≡ false →
     sees_word (codes "switch") r ≡ true → s.read_stmt n around r ≡ switch_stmt (n - 1) around r
-stmt-switch n around r within no loop yes =
-    stmt-others n around r within no
+stmt-switch n around r within other loop here =
+    stmt-others n around r within other
     ∙ loop-false (sees_word (codes "while") r) (sees_word (codes "do") r) (sees_word (codes "for") r) _ _ _ _ loop
-    ∙ if-true (sees_word (codes "switch") r) _ _ yes
+    ∙ if-true (sees_word (codes "switch") r) _ _ here
 
 pub stmt-short : (n : ℕ) (around : Around) (r : Reader) → 0 < n → sees_word (codes "if") r ≡ false → begins_loop r ≡ false →
     sees_word (codes "switch") r ≡ false → s.read_stmt n around r ≡ short_stmt (n - 1) around r
-stmt-short n around r within no loop yes =
-    stmt-others n around r within no
+stmt-short n around r within other loop here =
+    stmt-others n around r within other
     ∙ loop-false (sees_word (codes "while") r) (sees_word (codes "do") r) (sees_word (codes "for") r) _ _ _ _ loop
-    ∙ if-false (sees_word (codes "switch") r) _ _ yes
+    ∙ if-false (sees_word (codes "switch") r) _ _ here
 
-pub loop-begins : (w d f : Bool) (x : Bool) → (w ≡ true → x ≡ true) → (d ≡ true → x ≡ true) → (f ≡ true → x ≡ true) →
-    ((w || d) || f) ≡ true → x ≡ true
-loop-begins true d f x one two three h = one refl
-loop-begins false true f x one two three h = two refl
-loop-begins false false true x one two three h = three refl
-loop-begins false false false x one two three h = absurd (false≢true h)
+pub stmt-end : (n : ℕ) (around : Around) (r : Reader) → n ≡ 0 → got EmptyOf r ≡ s.read_stmt n around r
+stmt-end n around r none = ap (λ k. s.read_stmt k around r) (sym none)
+
+any-of : (w d f x : Bool) → (w ≡ true → x ≡ true) → (d ≡ true → x ≡ true) → (f ≡ true → x ≡ true) → ((w || d) || f) ≡ true → x ≡ true
+any-of true d f x one two three h = one refl
+any-of false true f x one two three h = two refl
+any-of false false true x one two three h = three refl
+any-of false false false x one two three h = absurd (false≢true h)
+
+-- there is a next token where a loop begins
+pub loop-seen : (r : Reader) → begins_loop r ≡ true → is_some (next_token r) ≡ true
+loop-seen r begins =
+    any-of (sees_word (codes "while") r) (sees_word (codes "do") r) (sees_word (codes "for") r) _
+    (word-seen (codes "while") r) (word-seen (codes "do") r) (word-seen (codes "for") r) begins
 
 -- Loops.
 
@@ -86,22 +95,22 @@ pub do-read : (calls : ℕ) (around inside : Around) (r behind blocked worded te
     got body blocked ≡ s.read_block calls inside behind → worded ≡ take_word (codes "while") blocked →
     got test tested ≡ s.read_test calls worded → stopped ≡ is_stopped tested → end ≡ take_mark (codes ";") tested →
     got (DoWhileOf body test (not stopped)) end ≡ loop_stmt calls around r
-do-read calls around inside r behind blocked worded tested end test stopped body no yes skips is blocks words tests stops ends =
+do-read calls around inside r behind blocked worded tested end test stopped body other here skips is blocks words tests stops ends =
     ap (λ b. got (DoWhileOf body test (not b)) end) stops
     ∙ ap (λ e. got (DoWhileOf body test (not (is_stopped tested))) e) ends
     ∙ ap (s.do_while_of (got body blocked)) (tests ∙ ap (s.read_test calls) words)
     ∙ ap (λ (g : Got PartialLines). s.do_while_of g (s.read_test calls (take_word (codes "while") g.behind)))
     (blocks ∙ ap (λ i. s.read_block calls i behind) is ∙ ap (s.read_block calls (in_loop around)) skips)
-    ∙ sym (if-false (sees_word (codes "while") r) _ _ no ∙ if-true (sees_word (codes "do") r) _ _ yes)
+    ∙ sym (if-false (sees_word (codes "while") r) _ _ other ∙ if-true (sees_word (codes "do") r) _ _ here)
 
 pub forever-read : (calls : ℕ) (around inside : Around) (r behind marked end : Reader) (body : PartialLines) →
     sees_word (codes "while") r ≡ false → sees_word (codes "do") r ≡ false → behind ≡ skip r → marked ≡ take_forever behind →
     inside ≡ in_loop around → got body end ≡ s.read_block calls inside marked →
     got (ForeverOf body) end ≡ loop_stmt calls around r
-forever-read calls around inside r behind marked end body no neither skips marks is blocks =
+forever-read calls around inside r behind marked end body other neither skips marks is blocks =
     ap (λ (g : Got PartialLines). got (ForeverOf g.value) g.behind)
     (blocks ∙ ap (λ i. s.read_block calls i marked) is ∙ ap (s.read_block calls (in_loop around)) (marks ∙ ap take_forever skips))
-    ∙ sym (if-false (sees_word (codes "while") r) _ _ no ∙ if-false (sees_word (codes "do") r) _ _ neither)
+    ∙ sym (if-false (sees_word (codes "while") r) _ _ other ∙ if-false (sees_word (codes "do") r) _ _ neither)
 
 -- `switch`
 

@@ -7,11 +7,6 @@ use Rattle.dcc_c.specs.Partial.{PartialExpr, UnaryHere, NumberAt}
 use Rattle.dcc_c.specs.Reading.{Reader, Got, got, next_token, skip, sees_word, begins_type, take_mark, take_plain, in_operator, read_unary}
 use Rattle.dcc_c.specs.ReadingStatements.{whole, list_of, more_values}
 
--- the item, where there is one
-abbrev pub listed : {A : Type 0} → Option A → List A
-listed None = []
-listed (Some item) = item ∷ []
-
 -- a star, which must stand here, and its operand
 abbrev pub behind_star : ℕ → Reader → Got PartialExpr
 behind_star calls r =

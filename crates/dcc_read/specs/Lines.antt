@@ -1,11 +1,10 @@
 -- What is read of statements, by what was read before.
-use Rattle.std.specs.Prelude.{ℕ, codes, Bool, true, false, ◌||◌, not, if◌then◌else◌, List, [], ◌∷◌, Option, Some, None}
+use Rattle.std.specs.Prelude.{ℕ, codes, option_to_list, Bool, true, false, ◌||◌, not, if◌then◌else◌, List, [], ◌∷◌, Option, Some, None}
 use Rattle.dcc_c.specs.Grammar.{Around, in_loop, in_switch}
 use Rattle.dcc_c.specs.Kinds.{of_depth}
 use Rattle.dcc_c.specs.Partial.{PartialStmt, ForeverOf, BreakOf, ContinueOf, EmptyOf, LabelOf, no_rows, PartialArms, cases}
 use Rattle.dcc_c.specs.Reading.{Reader, Got, got, line_of, skip, stop_at, fail, sees_mark, sees_word, take_mark, take_word, take_name}
 use Rattle.dcc_c.specs.ReadingStatements as statements
-use Rattle.dcc_read.specs.Behind.{listed}
 use Rattle.dcc_read.specs.PartialViews.{stmt_of, lines_of}
 use Rattle.dcc_read.specs.declared.partial.Row.{Row}
 use Rattle.dcc_read.specs.declared.statement.Block.{Block}
@@ -22,7 +21,7 @@ before_lines (r ∷ rows) others = statements.before_others (stmt_of r.stmt) r.a
 -- what was read where a statement may begin, and the statements behind it
 abbrev pub behind_line : LineRead → ℕ → Around → Reader → Got statements.Block
 behind_line l calls around r =
-    before_lines (listed l.row)
+    before_lines (option_to_list l.row)
     (if l.is_last then got (statements.block_of no_rows l.leaves) r else statements.read_lines calls around l.labelled l.leaves r)
 
 -- a depth line that stands here, and the statements behind it

@@ -1,11 +1,10 @@
 //! Reading what the arms of a `switch` begin with.
 
-ghost use Rattle.std.specs.Prelude.{◌≡◌, IfOk, OnOk, true, is_some, map, List, ◌++◌};
+ghost use Rattle.std.specs.Prelude.{◌≡◌, IfOk, OnOk, true, is_some, map, ◌++◌, option_to_list};
 ghost use Rattle.std.specs.Option.{option_map};
 ghost use Rattle.dcc_c.specs.Reading as reading;
 ghost use Rattle.dcc_c.specs.ReadingStatements as statements;
 ghost use Rattle.dcc_lex.specs.TokenViews.{token_of, suffix_of};
-ghost use Rattle.dcc_read.specs.Behind.{listed};
 ghost use Rattle.dcc_read.specs.ArmViews.{arm_head_of};
 ghost use Rattle.dcc_read.specs.PartialViews.{case_of};
 ghost use Rattle.dcc_read.specs.ReaderViews.{reader_of};
@@ -26,7 +25,7 @@ pub(crate) struct ArmHead {
 
 /// Appends an item, where there is one.
 pub(crate) fn push_some<T: Drop>(list: &mut Vec<T>, item: Option<T>) -> Result<(), AllocError>
-    ensures { OnOk result (list.new.items ≡ list.old.items ++ listed item) }
+    ensures { OnOk result (list.new.items ≡ list.old.items ++ option_to_list item) }
 {
     if let Some(item) = item {
         list.push(item)?;
@@ -68,7 +67,7 @@ fn case_here(r: &Reader<'_>) -> Option<u16>
 /// Reads a `case`, the word of which stands here, with its number and the colon.
 fn read_case(r: &mut Reader<'_>) -> Option<CaseAt>
     requires seen { is_some (reading.next_token (reader_of r.old)) ≡ true }
-    ensures { reading.got (listed (option_map case_of result)) (reader_of r.new) ≡ statements.read_case (reader_of r.old) }
+    ensures { reading.got (option_to_list (option_map case_of result)) (reader_of r.new) ≡ statements.read_case (reader_of r.old) }
 {
     r.skip();
     let at = r.at;

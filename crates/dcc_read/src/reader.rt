@@ -60,7 +60,8 @@ impl<'a> Reader<'a> {
     }
 
     /// The token behind the next piece, where there is a next token.
-    pub fn second(&self) -> Option<&'a Token>
+    #[tactic(none)]
+pub fn second(&self) -> Option<&'a Token>
         requires seen { is_some (reading.next_token (reader_of self.now)) ≡ true }
         ensures { option_map (λ t. token_of t.now) result ≡ reading.second_token (reader_of self.now) }
     {
@@ -88,7 +89,8 @@ impl<'a> Reader<'a> {
     }
 
     /// Whether the next token is the word.
-    pub fn sees_word(&self, word: &str) -> bool
+    #[tactic(none)]
+pub fn sees_word(&self, word: &str) -> bool
         ensures { result ≡ reading.sees_word word.now (reader_of self.now) }
     {
         match self.next() {
@@ -132,7 +134,8 @@ impl<'a> Reader<'a> {
     }
 
     /// Whether a type begins with the next token.
-    pub fn sees_type(&self) -> bool
+    #[tactic(none)]
+pub fn sees_type(&self) -> bool
         ensures { result ≡ reading.begins_type (reading.next_token (reader_of self.now)) }
     {
         match self.next() {
@@ -144,7 +147,8 @@ impl<'a> Reader<'a> {
     }
 
     /// Goes behind the next piece.
-    pub fn skip(&mut self)
+    #[tactic(none)]
+pub fn skip(&mut self)
         requires seen { is_some (reading.next_token (reader_of self.now)) ≡ true }
         ensures { reader_of self.new ≡ reading.skip (reader_of self.old) }
     {
@@ -244,7 +248,8 @@ impl<'a> Reader<'a> {
     }
 
     /// Takes a type, which must stand here.
-    pub fn take_type(&mut self) -> Option<CType>
+    #[tactic(none)]
+pub fn take_type(&mut self) -> Option<CType>
         ensures { reading.got result (reader_of self.new) ≡ reading.take_type (reader_of self.old) }
     {
         let base = self.take_base()?;
@@ -256,7 +261,8 @@ impl<'a> Reader<'a> {
     }
 
     /// Takes a number type, which must stand here.
-    fn take_base(&mut self) -> Option<Base>
+    #[tactic(none)]
+fn take_base(&mut self) -> Option<Base>
         ensures { reading.got result (reader_of self.new) ≡ reading.take_base (reader_of self.old) }
     {
         if self.sees_word("int") {
@@ -268,6 +274,7 @@ impl<'a> Reader<'a> {
 }
 
 /// Whether the word is a name.
+#[tactic(none)]
 fn is_name(word: &str) -> bool
     ensures { result ≡ grammar.is_name word.now }
 {

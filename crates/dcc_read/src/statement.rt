@@ -1,6 +1,6 @@
 //! Reading statements.
 
-ghost use Rattle.std.specs.Prelude.{◌≡◌, ◌+◌, ◌≤◌, ◌<◌, ℕ, if◌then◌else◌, suc, IfOk, true, false, is_some, map, Bool};
+ghost use Rattle.std.specs.Prelude.{◌≡◌, ◌&&◌, not, ◌+◌, ◌≤◌, ◌<◌, ℕ, if◌then◌else◌, suc, IfOk, true, false, is_some, map, Bool};
 ghost use Rattle.dcc_c.specs.Grammar as grammar;
 ghost use Rattle.dcc_c.specs.Partial as partial;
 ghost use Rattle.dcc_c.specs.Reading as reading;
@@ -64,6 +64,13 @@ fn begins_block_stmt(r: &Reader<'_>) -> bool
     ((r.sees_word("if") || r.sees_word("while")) || (r.sees_word("do") || r.sees_word("for"))) || r.sees_word("switch")
 }
 
+/// Whether a statement that holds blocks begins here, and more than 200 blocks stand around it.
+fn begins_nested_block(r: &Reader<'_>, around: Around) -> bool
+    ensures { result ≡ statements.is_nested (around_of around) && statements.is_block_word (reading.next_token (reader_of r.now)) }
+{
+    around.is_nested() && begins_block_stmt(r)
+}
+
 /// Whether a statement begins here with a keyword.
 fn sees_statement_word(r: &Reader<'_>) -> bool
     ensures { result ≡ statements.is_statement_word (reading.next_token (reader_of r.now)) }
@@ -103,6 +110,13 @@ fn is_break(stmt: &PartialStmt) -> bool
     ensures { result ≡ statements.is_break (stmt_of stmt.now) }
 {
     matches!(stmt, PartialStmt::Break)
+}
+
+/// Whether the statement is a `break` that no label stands before.
+fn is_leaving(stmt: &PartialStmt, labelled: bool) -> bool
+    ensures { result ≡ statements.is_break (stmt_of stmt.now) && not labelled }
+{
+    is_break(stmt) && !labelled
 }
 
 /// Stops at the next piece where it is not allowed.
@@ -412,7 +426,7 @@ fn read_line(
     if r.sees_name_and(Mark::Colon) {
         return read_label(r, alloc, around);
     }
-    if around.is_nested() && begins_block_stmt(r) {
+    if begins_nested_block(r, around) {
         r.stop_at(ParseKind::Depth, r.at);
         return Ok(last_line());
     }
@@ -420,7 +434,7 @@ fn read_line(
     let line = r.line();
     let stmt = read_stmt(r, alloc, calls, around)?;
     around.stop_if_nested(r, at);
-    let leaves = is_break(&stmt) && !labelled;
+    let leaves = is_leaving(&stmt, labelled);
     let row = Some(Row { stmt, at, line });
     Ok(LineRead {
         row,

@@ -147,6 +147,7 @@ fn read_declared(
     alloc: Global,
     calls: usize,
 ) -> Result<Declared, AllocError>
+    requires few { calls ≤ 1073741824 }
     ensures { IfOk result (λ d. reading.got (declared_of d) (reader_of r.new)
         ≡ texts.read_declared calls None (reader_of r.old)) }
 {
@@ -165,7 +166,7 @@ fn read_declared(
             return Ok(Declared { globals, functions });
         };
         let global = read_global(r, alloc, left, here, begun)?;
-        address = Some(here.checked_add(size_in_bytes(&global)).ok_or(AllocError)?);
+        address = Some(here + size_in_bytes(&global));
         globals.push(global)?;
     }
     let functions = Vec::new(alloc);
@@ -174,6 +175,7 @@ fn read_declared(
 
 /// Reads a text behind its version line, where reading may nest so deep.
 fn read_text(r: &mut Reader<'_>, alloc: Global, calls: usize) -> Result<PartialText, AllocError>
+    requires few { calls ≤ 1073741824 }
     ensures { IfOk result (λ t. reading.got (text_of t) (reader_of r.new) ≡ texts.read_text calls (reader_of r.old)) }
 {
     let line = r.line();
@@ -214,7 +216,7 @@ fn enough_calls(pieces: &[Piece]) -> usize
 /// # Errors
 /// Where memory runs out.
 pub fn read<'a>(alloc: Global, pieces: &'a [Piece]) -> Result<Reading<'a>, AllocError>
-    requires few { length pieces.now ≤ 67108864 }
+    requires few { length pieces.now < 67108864 }
     ensures { IfOk result (λ r. reading.got (text_of r.text) (reader_of r.behind) ≡ texts.reading_of (pieces_of pieces.now)) }
 {
     let mut behind = reader_at(pieces);
