@@ -1,5 +1,7 @@
+pub mod ExpressionSteps
 pub mod LineLaws
 pub mod LoopLaws
+pub mod ReaderLaws
 pub mod RowLaws
 pub mod SeenLaws
 pub mod StatementLaws

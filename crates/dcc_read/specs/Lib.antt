@@ -1,6 +1,7 @@
 pub mod ArmViews
 pub mod AroundViews
 pub mod Behind
+pub mod ExpressionViews
 pub mod FunctionViews
 pub mod Lines
 pub mod OffenceViews

@@ -8,7 +8,7 @@ ghost use Rattle.dcc_read.specs.Behind.{behind_star};
 ghost use Rattle.dcc_read.specs.PartialViews.{expr_of, stmt_of, word_of};
 ghost use Rattle.dcc_read.specs.ReaderViews.{reader_of};
 
-use crate::expression::{read_enclosed, read_unary, read_value};
+use crate::expression::{name_here, read_enclosed, read_unary, read_value};
 use crate::partial::{PartialCall, PartialExpr, PartialStmt, WordAt};
 use crate::reader::{Inside, Reader};
 use dcc_c::CUn;
@@ -85,18 +85,6 @@ fn read_call(
     }
 }
 
-/// Reads a name that stands here as an expression.
-fn read_name(r: &mut Reader<'_>, alloc: Global, word: &str) -> Result<PartialExpr, AllocError>
-    requires seen { is_some (reading.next_token (reader_of r.old)) ≡ true }
-    ensures { IfOk result (λ e. reading.got (expr_of e) (reader_of r.new) ≡ reading.name_here word.now (reader_of r.old)) }
-{
-    let at = r.at;
-    r.skip();
-    let called = r.sees_mark(Mark::OpenParenthesis);
-    let word = String::from_str(alloc, word)?;
-    Ok(PartialExpr::Name(at, word, called))
-}
-
 /// Reads a place that a value is assigned to: a name, or a star with an operand.
 fn read_place(
     r: &mut Reader<'_>,
@@ -106,7 +94,7 @@ fn read_place(
     ensures { IfOk result (λ e. reading.got (expr_of e) (reader_of r.new) ≡ statements.read_place calls (reader_of r.old)) }
 {
     match r.name() {
-        Some(word) => read_name(r, alloc, word),
+        Some(word) => name_here(r, alloc, word),
         None => read_behind_star(r, alloc, calls),
     }
 }

@@ -1,20 +1,20 @@
 //! A reader of pieces: it takes pieces as long as they are allowed, and sees none behind the first that is not.
 
-ghost use Rattle.std.specs.Prelude.{◌≡◌, ◌≤◌, ◌&&◌, IfOk, true, is_some, string_bytes};
+ghost use Rattle.std.specs.Prelude.{◌≡◌, ◌&&◌, IfOk, true, is_some, Some, None, map, drop};
 ghost use Rattle.std.specs.Option.{option_map};
-ghost use Rattle.dcc_c.specs.Grammar as grammar;
 ghost use Rattle.dcc_c.specs.Kinds as kinds;
 ghost use Rattle.dcc_c.specs.Reading as reading;
 ghost use Rattle.dcc_c.specs.ReadingStatements as statements;
-ghost use Rattle.dcc_lex.specs.TokenViews.{mark_of, head_of, token_of};
+ghost use Rattle.dcc_lex.specs.TokenViews.{mark_of, head_of, token_of, piece_of};
 ghost use Rattle.dcc_read.specs.OffenceViews.{kind_of};
 ghost use Rattle.dcc_read.specs.PartialViews.{number_of, word_of};
 ghost use Rattle.dcc_read.specs.ReaderViews.{reader_of};
 
 use crate::offence::{Offence, ParseKind};
 use crate::partial::{NumberAt, WordAt};
+use crate::token::{begins_type, is_the_head, is_the_mark, is_the_word, name_of, plain_of};
 use dcc_c::{Base, CType};
-use dcc_lex::{Head, Mark, Piece, Suffix, Token};
+use dcc_lex::{Head, Mark, Piece, Token};
 use std::alloc::{AllocError, Global};
 
 /// A reader of pieces.
@@ -56,16 +56,22 @@ impl<'a> Reader<'a> {
         if self.stop.is_some() {
             return None;
         }
-        self.pieces.get(self.at)?.token.as_ref()
+        self.token_at(self.at)
+    }
+
+    /// The token of the piece at a place.
+    fn token_at(&self, at: usize) -> Option<&'a Token>
+        ensures { option_map (λ t. token_of t.now) result ≡ reading.first_token (map piece_of (drop at self.now.pieces.now)) }
+    {
+        self.pieces.get(at)?.token.as_ref()
     }
 
     /// The token behind the next piece, where there is a next token.
-    #[tactic(none)]
-pub fn second(&self) -> Option<&'a Token>
+    pub fn second(&self) -> Option<&'a Token>
         requires seen { is_some (reading.next_token (reader_of self.now)) ≡ true }
         ensures { option_map (λ t. token_of t.now) result ≡ reading.second_token (reader_of self.now) }
     {
-        self.pieces.get(self.at + 1)?.token.as_ref()
+        self.token_at(self.at + 1)
     }
 
     /// The line of the next piece; 0 at the end.
@@ -82,41 +88,28 @@ pub fn second(&self) -> Option<&'a Token>
     pub fn sees_mark(&self, mark: Mark) -> bool
         ensures { result ≡ reading.sees_mark (mark_of mark) (reader_of self.now) }
     {
-        match self.next() {
-            Some(Token::Mark(seen)) => *seen == mark,
-            _ => false,
-        }
+        is_the_mark(self.next(), mark)
     }
 
     /// Whether the next token is the word.
-    #[tactic(none)]
-pub fn sees_word(&self, word: &str) -> bool
+    pub fn sees_word(&self, word: &str) -> bool
         ensures { result ≡ reading.sees_word word.now (reader_of self.now) }
     {
-        match self.next() {
-            Some(Token::Word(seen)) => seen.as_str() == word,
-            _ => false,
-        }
+        is_the_word(self.next(), word)
     }
 
     /// Whether the next token is the words of the pragma.
     pub fn sees_head(&self, head: Head) -> bool
         ensures { result ≡ statements.sees_head (head_of head) (reader_of self.now) }
     {
-        match self.next() {
-            Some(Token::Pragma(seen)) => *seen == head,
-            _ => false,
-        }
+        is_the_head(self.next(), head)
     }
 
     /// The name that the next token is: a word that is no keyword.
     pub fn name(&self) -> Option<&'a str>
         ensures { option_map (λ word. word.now) result ≡ reading.name_of (reading.next_token (reader_of self.now)) }
     {
-        match self.next() {
-            Some(Token::Word(word)) if is_name(word) => Some(word),
-            _ => None,
-        }
+        name_of(self.next())
     }
 
     /// Whether the next token is a name, and the one behind it the mark.
@@ -124,31 +117,18 @@ pub fn sees_word(&self, word: &str) -> bool
         ensures { result ≡ is_some (reading.name_of (reading.next_token (reader_of self.now)))
             && reading.is_the_mark (mark_of mark) (reading.second_token (reader_of self.now)) }
     {
-        if self.name().is_none() {
-            return false;
-        }
-        match self.second() {
-            Some(Token::Mark(seen)) => *seen == mark,
-            _ => false,
-        }
+        self.name().is_some() && is_the_mark(self.second(), mark)
     }
 
     /// Whether a type begins with the next token.
-    #[tactic(none)]
-pub fn sees_type(&self) -> bool
+    pub fn sees_type(&self) -> bool
         ensures { result ≡ reading.begins_type (reading.next_token (reader_of self.now)) }
     {
-        match self.next() {
-            Some(Token::Word(word)) => {
-                matches!(word.as_str(), "signed" | "unsigned" | "int" | "long")
-            }
-            _ => false,
-        }
+        begins_type(self.next())
     }
 
     /// Goes behind the next piece.
-    #[tactic(none)]
-pub fn skip(&mut self)
+    pub fn skip(&mut self)
         requires seen { is_some (reading.next_token (reader_of self.now)) ≡ true }
         ensures { reader_of self.new ≡ reading.skip (reader_of self.old) }
     {
@@ -164,15 +144,27 @@ pub fn skip(&mut self)
         }
     }
 
+    /// The kind of the next piece, which is not allowed, or of the end.
+    fn stop_kind(&self) -> ParseKind
+        ensures { kind_of result ≡ reading.stop_kind (reader_of self.now).left }
+    {
+        match self.pieces.get(self.at) {
+            Some(piece) => {
+                if piece.token.is_some() {
+                    ParseKind::Grammar
+                } else {
+                    ParseKind::Token
+                }
+            }
+            None => ParseKind::Grammar,
+        }
+    }
+
     /// Stops at the next piece, which is not allowed.
     pub fn fail(&mut self)
         ensures { reader_of self.new ≡ reading.fail (reader_of self.old) }
     {
-        let kind = match self.pieces.get(self.at) {
-            Some(piece) if piece.token.is_none() => ParseKind::Token,
-            _ => ParseKind::Grammar,
-        };
-        self.stop_at(kind, self.at);
+        self.stop_at(self.stop_kind(), self.at);
     }
 
     /// Takes the mark, which must stand here.
@@ -231,16 +223,13 @@ pub fn skip(&mut self)
     pub fn take_plain(&mut self) -> Option<NumberAt>
         ensures { reading.got (option_map number_of result) (reader_of self.new) ≡ reading.take_plain (reader_of self.old) }
     {
-        match self.next() {
-            Some(Token::Decimal(value, Suffix::Plain)) => {
-                let number = NumberAt {
-                    value: *value,
-                    at: self.at,
-                };
+        match plain_of(self.next()) {
+            Some(value) => {
+                let at = self.at;
                 self.skip();
-                Some(number)
+                Some(NumberAt { value, at })
             }
-            _ => {
+            None => {
                 self.fail();
                 None
             }
@@ -248,35 +237,78 @@ pub fn skip(&mut self)
     }
 
     /// Takes a type, which must stand here.
-    #[tactic(none)]
-pub fn take_type(&mut self) -> Option<CType>
+    pub fn take_type(&mut self) -> Option<CType>
         ensures { reading.got result (reader_of self.new) ≡ reading.take_type (reader_of self.old) }
     {
         let base = self.take_base()?;
+        Some(self.with_star(base))
+    }
+
+    /// A pointer to the base where a star stands here, else the base.
+    fn with_star(&mut self, base: Base) -> CType
+        ensures { reading.got (Some result) (reader_of self.new) ≡ reading.with_star base (reader_of self.old) }
+    {
         let pointer = self.sees_mark(Mark::Star);
         if pointer {
             self.skip();
         }
-        Some(CType { base, pointer })
+        CType { base, pointer }
     }
 
     /// Takes a number type, which must stand here.
-    #[tactic(none)]
-fn take_base(&mut self) -> Option<Base>
+    fn take_base(&mut self) -> Option<Base>
         ensures { reading.got result (reader_of self.new) ≡ reading.take_base (reader_of self.old) }
     {
         if self.sees_word("int") {
+            self.base_behind(Base::Int)
+        } else if self.sees_word("long") {
+            self.base_behind(Base::Long)
+        } else if self.sees_word("signed") {
             self.skip();
-            return Some(Base::Int);
+            self.signed_base()
+        } else if self.sees_word("unsigned") {
+            self.skip();
+            self.unsigned_base()
+        } else {
+            self.fail();
+            None
         }
-        None
     }
-}
 
-/// Whether the word is a name.
-#[tactic(none)]
-fn is_name(word: &str) -> bool
-    ensures { result ≡ grammar.is_name word.now }
-{
-    true
+    /// The base behind `signed`.
+    fn signed_base(&mut self) -> Option<Base>
+        ensures { reading.got result (reader_of self.new) ≡ reading.signed_base (reader_of self.old) }
+    {
+        if self.sees_word("char") {
+            self.base_behind(Base::Schar)
+        } else {
+            self.fail();
+            None
+        }
+    }
+
+    /// The base behind `unsigned`.
+    fn unsigned_base(&mut self) -> Option<Base>
+        ensures { reading.got result (reader_of self.new) ≡ reading.unsigned_base (reader_of self.old) }
+    {
+        if self.sees_word("char") {
+            self.base_behind(Base::Uchar)
+        } else if self.sees_word("int") {
+            self.base_behind(Base::Uint)
+        } else if self.sees_word("long") {
+            self.base_behind(Base::Ulong)
+        } else {
+            self.fail();
+            None
+        }
+    }
+
+    /// The base, behind its last word.
+    fn base_behind(&mut self, base: Base) -> Option<Base>
+        requires seen { is_some (reading.next_token (reader_of self.now)) ≡ true }
+        ensures { reading.got result (reader_of self.new) ≡ reading.base_behind base (reader_of self.old) }
+    {
+        self.skip();
+        Some(base)
+    }
 }
