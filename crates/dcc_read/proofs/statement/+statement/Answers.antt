@@ -8,7 +8,7 @@ use Rattle.dcc_read.specs.declared.partial.PartialArm.{out-roll-PartialArm}
 use Rattle.dcc_read.specs.declared.statement.LineRead.{LineRead}
 use Rattle.dcc_read.specs.ArmViews.{arm_head_of}
 use Rattle.dcc_read.specs.AroundViews.{around_of}
-use Rattle.dcc_read.specs.Lines.{block_of, behind_line, label_line}
+use Rattle.dcc_read.specs.Lines.{block_of, before_lines, behind_line, label_line}
 use Rattle.dcc_read.specs.PartialViews.{case_of, expr_of, stmt_of, lines_of, arms_of}
 use Rattle.dcc_read.specs.ReaderViews.{reader_of}
 use Rattle.dcc_read.proofs.RowLaws.{arm-parts, if-tree, while-tree, do_while-tree, forever-tree, switch-tree}
@@ -136,7 +136,7 @@ read_line-returns t c =
 pub read_lines-loop-left-init : goal.read_lines-loop-left-init
 read_lines-loop-left-init t c = record {
   within = omega arith;
-  read = ap (λ l. lines.before_lines l (s.read_lines c.args.calls (around_of c.args.around) false false (reader_of c.args.r.now))) c.new-lines.ensures.items;
+  read = ap (λ l. before_lines l (s.read_lines c.args.calls (around_of c.args.around) false false (reader_of c.args.r.now))) c.new-lines.ensures.items;
 }
 
 pub read_lines-returns-then-not-begins_stmt : goal.read_lines-returns-then-not-begins_stmt
