@@ -1,12 +1,12 @@
 -- Reading statements one after the other, and the arms of a `switch`.
-use Rattle.std.proofs.Common.{◌≡◌, ℕ, option_to_list, length, IsSome, ◌↔◌, zero, suc, ◌+◌, ◌-◌, ◌<◌, Bool, true, false, ◌&&◌, if◌then◌else◌, not, List, [], ◌∷◌, ◌++◌, codes, Option, Some, None, is_some, refl, sym, ap, ◌∙◌, add-one, arith}
+use Rattle.std.proofs.Common.{◌≡◌, ℕ, option_to_list, length, IsSome, ◌↔◌, zero, suc, ◌+◌, ◌-◌, ◌<◌, Bool, true, false, ◌&&◌, if◌then◌else◌, not, List, [], ◌∷◌, ◌++◌, Option, Some, None, refl, sym, ap, ◌∙◌, add-one, arith}
 use Rattle.std.proofs.lemmas.List.{append-nil}
 use Rattle.std.proofs.lemmas.Bool.{false≢true}
 use Rattle.dcc_c.specs.Grammar.{Around}
 use Rattle.dcc_c.specs.Kinds.{of_depth}
 use Rattle.dcc_c.specs.Token.{depth_line as depth_words}
-use Rattle.dcc_c.specs.Partial.{WordAt, PartialStmt, LabelOf, PartialLines, no_rows, row, PartialArms, no_cases, cases}
-use Rattle.dcc_c.specs.Reading.{Reader, Got, got, is_stopped, next_token, line_of, skip, stop_at, fail, sees_mark, sees_word, take_name}
+use Rattle.dcc_c.specs.Partial.{PartialStmt, PartialLines, no_rows, row, PartialArms, no_cases, cases}
+use Rattle.dcc_c.specs.Reading.{Reader, Got, got, next_token, line_of, stop_at, fail}
 use Rattle.dcc_c.specs.ReadingStatements as s
 use Rattle.dcc_read.specs.declared.partial.Row.{Row}
 use Rattle.dcc_read.specs.declared.partial.PartialArm.{PartialArm}
@@ -109,7 +109,7 @@ line-stmt calls number around labelled r behind end stmt leaves other neither fl
     ∙ ap (λ e. s.before_others stmt r.at (line_of r.left) (s.read_lines calls around false (s.is_break stmt && not labelled) e)) ends
     ∙ ap (λ (g : Got PartialStmt). s.before_others g.value r.at (line_of r.left) (s.read_lines calls around false (s.is_break g.value && not labelled) (s.stop_if_nested around r.at g.behind))) reads
     ∙ sym (if-false (s.sees_head depth_words r) _ _ other ∙ if-false (s.begins_label r) _ _ neither
-      ∙ if-false (s.is_nested around && s.is_block_word (next_token r)) _ _ flat)
+    ∙ if-false (s.is_nested around && s.is_block_word (next_token r)) _ _ flat)
 
 -- Arms.
 
@@ -146,10 +146,10 @@ arms-step n around r behind a arms now target within begins reads grown had =
     ap (λ l. before_arms l (f behind)) grown
     ∙ arms-append arms (a ∷ []) (f behind)
     ∙ ap (before_arms arms) (
-      ap (λ (g : Got PartialArms). got g.value (f behind).behind) same
-      ∙ ap (λ (g : Got PartialArms). got (cases head.value.numbers head.value.default body.value (f g.behind).value) (f g.behind).behind) same
-      ∙ sym (if-true (s.begins_arm r) _ (got no_cases r) begins)
-      ∙ ap (λ k. s.read_more_arms k around r) (counted n within))
+    ap (λ (g : Got PartialArms). got g.value (f behind).behind) same
+    ∙ ap (λ (g : Got PartialArms). got (cases head.value.numbers head.value.default body.value (f g.behind).value) (f g.behind).behind) same
+    ∙ sym (if-true (s.begins_arm r) _ (got no_cases r) begins)
+    ∙ ap (λ k. s.read_more_arms k around r) (counted n within))
     ∙ had
 
 pub arms-first : (n : ℕ) (around : Around) (r : Reader) → 0 < n → s.begins_arm r ≡ true → s.read_more_arms (n - 1) around r ≡ s.read_arms n around r
@@ -168,8 +168,8 @@ pub arm-read : (calls : ℕ) (around : Around) (r headed lined end : Reader) (he
 arm-read calls around r headed lined end head block body others heads lines ends =
     ap (λ (g : Got PartialLines). got (cases head.numbers head.default g.value others) g.behind) (ends ∙ ap s.end_arm lines)
     ∙ ap (λ (g : Got s.ArmHead).
-      let body = s.end_arm (s.read_lines calls around false false g.behind) in
-      got (cases g.value.numbers g.value.default body.value others) body.behind) heads
+    let body = s.end_arm (s.read_lines calls around false false g.behind) in
+    got (cases g.value.numbers g.value.default body.value others) body.behind) heads
 
 -- all statements but the last
 pub last-dropped : (rows : List Row) (x : Row) → s.without_last (lines_of (rows ++ x ∷ [])) ≡ lines_of rows

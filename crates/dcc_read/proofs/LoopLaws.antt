@@ -1,9 +1,9 @@
 -- Reading one part after the other: what was read so far, put before what is read from here on.
-use Rattle.std.proofs.Common.{◌≡◌, ℕ, option_to_list, zero, suc, ◌+◌, ◌-◌, ◌<◌, Bool, true, false, if◌then◌else◌, not, List, [], ◌∷◌, ◌++◌, map, codes, Option, Some, None, refl, sym, ap, ◌∙◌, append_assoc, add-one, arith}
+use Rattle.std.proofs.Common.{◌≡◌, ℕ, option_to_list, zero, suc, ◌-◌, ◌<◌, Bool, true, false, if◌then◌else◌, List, [], ◌∷◌, ◌++◌, map, codes, Option, Some, None, refl, sym, ap, ◌∙◌, append_assoc, add-one, arith}
 use Rattle.std.specs.Option.{option_map}
 use Rattle.std.proofs.lemmas.List.{map-append, append-nil}
 use Rattle.dcc_c.specs.Partial.{NumberAt, PartialExpr, PartialVariable}
-use Rattle.dcc_c.specs.Reading.{Reader, Got, got, next_token, skip, sees_mark, sees_word, take_plain, begins_type}
+use Rattle.dcc_c.specs.Reading.{Reader, Got, got, skip, sees_mark, sees_word, take_plain}
 use Rattle.dcc_c.specs.ReadingStatements.{more_arguments, read_arguments, read_enclosed, read_case, read_cases, more_values, list_of, read_local, read_locals, read_param, more_params, read_params}
 use Rattle.dcc_read.specs.Behind.{before_list, begins_local}
 

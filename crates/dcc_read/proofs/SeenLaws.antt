@@ -1,7 +1,7 @@
 -- There is a next token where a test of it holds.
-use Rattle.std.proofs.Common.{◌≡◌, ℕ, Bool, true, false, ◌&&◌, List, codes, Option, Some, None, is_some, refl, sym, ap, ◌∙◌}
+use Rattle.std.proofs.Common.{◌≡◌, ℕ, Bool, true, false, ◌&&◌, List, Option, Some, None, is_some, refl, ap, ◌∙◌}
 use Rattle.std.proofs.lemmas.Bool.{false≢true}
-use Rattle.dcc_c.specs.Token.{Token, WordToken, Decimal, Hex, Mark, Pragma, Head, version_line, stack_line, place_line, depth_line}
+use Rattle.dcc_c.specs.Token.{Token, Head, version_line, stack_line, place_line, depth_line}
 use Rattle.dcc_c.specs.Tree.{Word}
 use Rattle.dcc_c.specs.Partial.{WordAt}
 use Rattle.dcc_c.specs.Reading.{Reader, Got, got, fail, take_name, next_token, second_token, skip, is_the_mark, is_the_word, name_of, sees_mark, sees_word}

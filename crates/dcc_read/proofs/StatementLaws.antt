@@ -1,13 +1,11 @@
 -- Reading statements, step by step.
-use Rattle.std.proofs.Common.{◌≡◌, ℕ, suc, ◌+◌, ◌-◌, ◌<◌, Bool, true, false, ◌&&◌, ◌||◌, if◌then◌else◌, not, List, [], ◌∷◌, ◌++◌, codes, Option, Some, None, is_some, refl, sym, ap, ◌∙◌}
+use Rattle.std.proofs.Common.{◌≡◌, ℕ, ◌-◌, ◌<◌, Bool, true, false, ◌||◌, if◌then◌else◌, not, codes, is_some, refl, sym, ap, ◌∙◌}
 use Rattle.std.proofs.lemmas.Bool.{false≢true}
 use Rattle.dcc_c.specs.Grammar.{Around, in_block, in_loop, in_switch}
-use Rattle.dcc_c.specs.Kinds.{of_depth}
-use Rattle.dcc_c.specs.Token.{depth_line as depth_words}
-use Rattle.dcc_c.specs.Partial.{NumberAt, WordAt, PartialExpr, PartialStmt, IfOf, WhileOf, DoWhileOf, ForeverOf, SwitchOf, GotoOf, ReturnOf, LabelOf, EmptyOf, PartialLines, no_rows, row, PartialArms, no_cases, cases}
-use Rattle.dcc_c.specs.Reading.{Reader, Got, got, is_stopped, next_token, line_of, skip, stop_at, fail, sees_mark, sees_word, take_mark, take_word, take_name}
+use Rattle.dcc_c.specs.Partial.{PartialExpr, IfOf, WhileOf, DoWhileOf, ForeverOf, SwitchOf, EmptyOf, PartialLines, no_rows, PartialArms}
+use Rattle.dcc_c.specs.Reading.{Reader, Got, got, is_stopped, next_token, skip, sees_word, take_mark, take_word}
 use Rattle.dcc_c.specs.ReadingStatements as s
-use Rattle.dcc_read.specs.Lines.{begins_loop, take_forever, while_stmt, do_while_stmt, forever_stmt, loop_stmt, switch_stmt, short_stmt, depth_line, label_line, arm_read}
+use Rattle.dcc_read.specs.Lines.{begins_loop, take_forever, while_stmt, do_while_stmt, forever_stmt, loop_stmt, switch_stmt, short_stmt}
 use Rattle.dcc_read.proofs.LoopLaws.{counted, if-true, if-false}
 use Rattle.dcc_read.proofs.SeenLaws.{word-seen}
 
@@ -139,8 +137,8 @@ else-read calls around inside inner r behind tested blocked skipped end test sto
     ∙ ap (s.if_of (got test tested) body) (others ∙ ap (λ i. s.read_block (calls - 1) i skipped) also ∙ ap (s.read_block (calls - 1) (in_block around)) jumps)
     ∙ sym (if-true (sees_word (codes "else") blocked) _ _ sees)
     ∙ ap (λ (g : Got PartialLines). if sees_word (codes "else") g.behind
-      then s.if_of (got test tested) g.value (s.read_block (calls - 1) (in_block around) (skip g.behind))
-      else s.if_of (got test tested) g.value (got no_rows g.behind)) (blocks ∙ ap (λ i. s.read_block (calls - 1) i tested) is)
+    then s.if_of (got test tested) g.value (s.read_block (calls - 1) (in_block around) (skip g.behind))
+    else s.if_of (got test tested) g.value (got no_rows g.behind)) (blocks ∙ ap (λ i. s.read_block (calls - 1) i tested) is)
     ∙ ap (λ n. s.read_if n around (got test tested)) (counted calls within)
     ∙ ap (s.read_if calls around) (tests ∙ ap (s.read_test calls) skips)
 
@@ -152,8 +150,8 @@ if-read calls around inside r behind tested blocked test stopped body within ski
     ap (λ b. got (IfOf test (not b) body no_rows) blocked) stops
     ∙ sym (if-false (sees_word (codes "else") blocked) _ _ sees)
     ∙ ap (λ (g : Got PartialLines). if sees_word (codes "else") g.behind
-      then s.if_of (got test tested) g.value (s.read_block (calls - 1) (in_block around) (skip g.behind))
-      else s.if_of (got test tested) g.value (got no_rows g.behind)) (blocks ∙ ap (λ i. s.read_block (calls - 1) i tested) is)
+    then s.if_of (got test tested) g.value (s.read_block (calls - 1) (in_block around) (skip g.behind))
+    else s.if_of (got test tested) g.value (got no_rows g.behind)) (blocks ∙ ap (λ i. s.read_block (calls - 1) i tested) is)
     ∙ ap (λ n. s.read_if n around (got test tested)) (counted calls within)
     ∙ ap (s.read_if calls around) (tests ∙ ap (s.read_test calls) skips)
 

@@ -64,11 +64,11 @@ declared-others n address r begun within e begins =
     ap (λ k. read_declared k address r) (sym (counted n within))
     ∙ if-false (sees_head place_words r) _ _ e
     ∙ ap (λ (g : Got Begun). elim address [
-        | Some here ↦ if is_global g
-            then (let v = read_global (n - 1) here g in before_declared v.value (read_declared (n - 1) (Some (here + size_in_bytes v.value)) v.behind))
-            else declared [] (with_functions (n - 1) g)
-        | None ↦ declared [] (with_functions (n - 1) g)
-      ]) (sym begins)
+      | Some here ↦ if is_global g
+          then (let v = read_global (n - 1) here g in before_declared v.value (read_declared (n - 1) (Some (here + size_in_bytes v.value)) v.behind))
+          else declared [] (with_functions (n - 1) g)
+      | None ↦ declared [] (with_functions (n - 1) g)
+    ]) (sym begins)
 
 pub declared-global : (n : ℕ) (address : Option ℕ) (r : Reader) (begun : Got Begun) (here : ℕ) (v : Got PartialVariable) → 0 < n →
     sees_head place_words r ≡ false → begun ≡ read_begun r → Some here ≡ global_address address begun → v ≡ read_global (n - 1) here begun →
@@ -205,5 +205,5 @@ pub head-at : (calls : ℕ) (pieces : List Piece) (begun : Got Begun) (r behind 
     f ≡ (read_head (enough_calls pieces) (read_begun (reader_of pieces))).value
 head-at calls pieces begun r behind f reads begins starts enough =
     ap (λ (g : Got PartialFunction). g.value) (reads
-      ∙ ap (read_head calls) (begins ∙ ap read_begun starts)
-      ∙ ap (λ n. read_head n (read_begun (reader_of pieces))) enough)
+    ∙ ap (read_head calls) (begins ∙ ap read_begun starts)
+    ∙ ap (λ n. read_head n (read_begun (reader_of pieces))) enough)

@@ -1,5 +1,5 @@
 -- Parts of what is read, by what stands before them.
-use Rattle.std.specs.Prelude.{ℕ, codes, Bool, ◌||◌, if◌then◌else◌, List, [], ◌∷◌, ◌++◌, Option, Some, None}
+use Rattle.std.specs.Prelude.{ℕ, codes, Bool, ◌||◌, if◌then◌else◌, List, ◌++◌}
 use Rattle.dcc_c.specs.declared.syntax.CUn.TheVariants.{Deref}
 use Rattle.dcc_c.specs.declared.syntax.Class.{Class}
 use Rattle.dcc_c.specs.declared.syntax.Class.TheVariants.{Plain, Auto}

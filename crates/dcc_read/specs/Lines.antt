@@ -1,5 +1,5 @@
 -- What is read of statements, by what was read before.
-use Rattle.std.specs.Prelude.{ℕ, codes, option_to_list, Bool, true, false, ◌||◌, not, if◌then◌else◌, List, [], ◌∷◌, Option, Some, None}
+use Rattle.std.specs.Prelude.{ℕ, codes, option_to_list, Bool, true, false, ◌||◌, if◌then◌else◌, List, [], ◌∷◌, Some, None}
 use Rattle.dcc_c.specs.Grammar.{Around, in_loop, in_switch}
 use Rattle.dcc_c.specs.Kinds.{of_depth}
 use Rattle.dcc_c.specs.Partial.{PartialStmt, ForeverOf, BreakOf, ContinueOf, EmptyOf, LabelOf, no_rows, PartialArms, cases}

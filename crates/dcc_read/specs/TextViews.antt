@@ -1,5 +1,5 @@
 -- What the declared types that a text is read with stand for.
-use Rattle.std.specs.Prelude.{ℕ, codes, Bool, ◌&&◌, not, if◌then◌else◌, List, ◌++◌, map, Option, Some, None}
+use Rattle.std.specs.Prelude.{ℕ, codes, Bool, ◌&&◌, not, if◌then◌else◌, List, ◌++◌, map, Option, None}
 use Rattle.dcc_c.specs.Partial.{PartialVariable}
 use Rattle.dcc_c.specs.Reading.{Reader, Got, got, line_of, skip, sees_mark}
 use Rattle.dcc_c.specs.ReadingStatements.{take_number_of_line}

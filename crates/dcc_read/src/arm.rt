@@ -85,11 +85,7 @@ fn read_case(r: &mut Reader<'_>) -> Option<CaseAt>
 }
 
 /// Reads one case after the other.
-fn read_cases(
-    r: &mut Reader<'_>,
-    alloc: Global,
-    calls: usize,
-) -> Result<Vec<CaseAt>, AllocError>
+fn read_cases(r: &mut Reader<'_>, alloc: Global, calls: usize) -> Result<Vec<CaseAt>, AllocError>
     ensures { IfOk result (λ numbers.
         reading.got (map case_of numbers.items) (reader_of r.new) ≡ statements.read_cases calls (reader_of r.old)) }
 {

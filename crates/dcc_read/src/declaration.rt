@@ -51,11 +51,7 @@ fn more_values(
 }
 
 /// Reads initial values in braces, the opening one of which stands here.
-fn read_list(
-    r: &mut Reader<'_>,
-    alloc: Global,
-    calls: usize,
-) -> Result<Vec<NumberAt>, AllocError>
+fn read_list(r: &mut Reader<'_>, alloc: Global, calls: usize) -> Result<Vec<NumberAt>, AllocError>
     requires seen { is_some (reading.next_token (reader_of r.old)) ≡ true }
     ensures { IfOk result (λ values.
         reading.got (map number_of values.items) (reader_of r.new) ≡ values_in_braces calls (reader_of r.old)) }
@@ -70,11 +66,7 @@ fn read_list(
 }
 
 /// Reads initial values: some in braces, or one.
-fn read_values(
-    r: &mut Reader<'_>,
-    alloc: Global,
-    calls: usize,
-) -> Result<Vec<NumberAt>, AllocError>
+fn read_values(r: &mut Reader<'_>, alloc: Global, calls: usize) -> Result<Vec<NumberAt>, AllocError>
     ensures { IfOk result (λ values.
         reading.got (map number_of values.items) (reader_of r.new) ≡ statements.read_values calls (reader_of r.old)) }
 {

@@ -61,7 +61,8 @@ fn last_line() -> LineRead
 fn begins_block_stmt(r: &Reader<'_>) -> bool
     ensures { result ≡ statements.is_block_word (reading.next_token (reader_of r.now)) }
 {
-    ((r.sees_word("if") || r.sees_word("while")) || (r.sees_word("do") || r.sees_word("for"))) || r.sees_word("switch")
+    ((r.sees_word("if") || r.sees_word("while")) || (r.sees_word("do") || r.sees_word("for")))
+        || r.sees_word("switch")
 }
 
 /// Whether a statement that holds blocks begins here, and more than 200 blocks stand around it.
@@ -76,7 +77,8 @@ fn sees_statement_word(r: &Reader<'_>) -> bool
     ensures { result ≡ statements.is_statement_word (reading.next_token (reader_of r.now)) }
 {
     ((r.sees_word("if") || r.sees_word("while")) || (r.sees_word("do") || r.sees_word("for")))
-        || (((r.sees_word("switch") || r.sees_word("break")) || (r.sees_word("continue") || r.sees_word("goto")))
+        || (((r.sees_word("switch") || r.sees_word("break"))
+            || (r.sees_word("continue") || r.sees_word("goto")))
             || r.sees_word("return"))
 }
 

@@ -142,11 +142,7 @@ fn global_address(r: &Reader<'_>, address: Option<u64>, begun: &Begun) -> Option
 }
 
 /// Reads place lines and global variables up to the first function, and the functions behind them.
-fn read_declared(
-    r: &mut Reader<'_>,
-    alloc: Global,
-    calls: usize,
-) -> Result<Declared, AllocError>
+fn read_declared(r: &mut Reader<'_>, alloc: Global, calls: usize) -> Result<Declared, AllocError>
     requires few { calls ≤ 1073741824 }
     ensures { IfOk result (λ d. reading.got (declared_of d) (reader_of r.new)
         ≡ texts.read_declared calls None (reader_of r.old)) }

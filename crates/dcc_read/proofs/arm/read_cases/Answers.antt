@@ -1,6 +1,4 @@
-use Rattle.std.proofs.Common.{codes, ◌++◌, [], refl, sym, ap, ◌∙◌, arith, map}
-use Rattle.dcc_c.specs.ReadingStatements.{read_cases}
-use Rattle.dcc_read.specs.Behind.{before_list}
+use Rattle.std.proofs.Common.{codes, sym, ◌∙◌, arith}
 use Rattle.dcc_read.specs.PartialViews.{case_of}
 use Rattle.dcc_read.specs.ReaderViews.{reader_of}
 use Rattle.dcc_read.proofs.LoopLaws.{before-step, before-done, before-none, map-listed, cases-none, cases-some, cases-end}

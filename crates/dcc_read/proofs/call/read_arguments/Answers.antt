@@ -1,5 +1,5 @@
 use Rattle.std.proofs.Common.{codes, sym, ap, ◌∙◌, ◌-◌, arith}
-use Rattle.dcc_c.specs.ReadingStatements.{more_arguments, read_enclosed}
+use Rattle.dcc_c.specs.ReadingStatements.{read_enclosed}
 use Rattle.dcc_read.specs.PartialViews.{expr_of}
 use Rattle.dcc_read.specs.ReaderViews.{reader_of}
 use Rattle.dcc_read.proofs.LoopLaws.{before-step, before-done, map-pushed, map-first, arguments-first, arguments-none, arguments-some, arguments-end}

@@ -1,4 +1,4 @@
-use Rattle.std.proofs.Common.{codes, refl, sym, ap, ◌∙◌, arith, ◌-◌}
+use Rattle.std.proofs.Common.{codes, refl, sym, ap, ◌∙◌, arith}
 use Rattle.dcc_c.specs.Reading.{take_plain}
 use Rattle.dcc_read.specs.PartialViews.{number_of}
 use Rattle.dcc_read.specs.ReaderViews.{reader_of}

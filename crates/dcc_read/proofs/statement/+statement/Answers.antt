@@ -25,7 +25,7 @@ pub read_arm-returns : goal.read_arm-returns
 read_arm-returns t c others =
     ap (λ arms. got arms (reader_of c.end_arm-body.new.r))
     (arm-parts _ others
-      ∙ ap (λ a. cases (map case_of a.numbers.items) a.default (lines_of a.body.items) others) (out-roll-PartialArm _))
+    ∙ ap (λ a. cases (map case_of a.numbers.items) a.default (lines_of a.body.items) others) (out-roll-PartialArm _))
     ∙ lines.arm-read c.args.calls (around_of c.args.around) (reader_of c.args.r.now) (reader_of c.read_arm_head.new.r) (reader_of c.read_lines.new.r)
     (reader_of c.end_arm-body.new.r) (arm_head_of c.in_ok-head.head) (block_of c.in_ok-block.block) (lines_of c.end_arm-body.result.items) others c.in_ok-head.ensures c.in_ok-block.ensures c.end_arm-body.ensures
 
@@ -94,7 +94,7 @@ read_if-returns-then-sees_word t c =
 pub read_if-returns : goal.read_if-returns
 read_if-returns t c =
     ap (λ stmt. got stmt (reader_of c.read_block.new.r)) (if-tree c.in_ok-test.test (not c.is_stopped-done.result) c.in_ok-body.body c.new.result
-      ∙ ap (λ l. IfOf (expr_of c.in_ok-test.test) (not c.is_stopped-done.result) (lines_of c.in_ok-body.body.items) (lines_of l)) c.new.ensures.items)
+    ∙ ap (λ l. IfOf (expr_of c.in_ok-test.test) (not c.is_stopped-done.result) (lines_of c.in_ok-body.body.items) (lines_of l)) c.new.ensures.items)
     ∙ laws.if-read c.args.calls (around_of c.args.around) (around_of c.in_block.result) (reader_of c.args.r.now) (reader_of c.skip.new.self) (reader_of c.read_test.new.r) (reader_of c.read_block.new.r)
     (expr_of c.in_ok-test.test) c.is_stopped-done.result (lines_of c.in_ok-body.body.items) (omega arith) c.skip.ensures c.in_ok-test.ensures c.is_stopped-done.ensures c.in_block.ensures
     c.in_ok-body.ensures (sym c.sees_word.ensures ∙ c.if-sees_word.false)
@@ -116,7 +116,7 @@ read_line-returns-then-sees_name_and t c =
     ok-map c.read_label.result
     (λ (l : LineRead). (calls : ℕ) → behind_line l calls (around_of c.args.around) (reader_of c.read_label.new.r) ≡ label_line calls (around_of c.args.around) (reader_of c.args.r.now)) _
     (λ l h. h c.args.calls
-      ∙ sym (lines.line-label c.args.calls (around_of c.args.around) c.args.labelled (reader_of c.args.r.now) (sym c.sees_head.ensures ∙ c.if-sees_head.false) (sym c.sees_name_and.ensures ∙ c.if-sees_name_and.true)))
+    ∙ sym (lines.line-label c.args.calls (around_of c.args.around) c.args.labelled (reader_of c.args.r.now) (sym c.sees_head.ensures ∙ c.if-sees_head.false) (sym c.sees_name_and.ensures ∙ c.if-sees_name_and.true)))
     c.read_label.ensures
 
 pub read_line-returns-then-begins_nested_block : goal.read_line-returns-then-begins_nested_block
@@ -124,7 +124,7 @@ read_line-returns-then-begins_nested_block t c =
     c.last_line.ensures c.args.calls (around_of c.args.around) (reader_of c.stop_at.new.self)
     ∙ ap (got (s.block_of no_rows false)) c.stop_at.ensures
     ∙ sym (lines.line-deep c.args.calls (around_of c.args.around) c.args.labelled (reader_of c.args.r.now) (sym c.sees_head.ensures ∙ c.if-sees_head.false) (sym c.sees_name_and.ensures ∙ c.if-sees_name_and.false)
-      (sym c.begins_nested_block.ensures ∙ c.if-begins_nested_block.true))
+    (sym c.begins_nested_block.ensures ∙ c.if-begins_nested_block.true))
 
 pub read_line-returns : goal.read_line-returns
 read_line-returns t c =
@@ -227,14 +227,14 @@ pub read_stmt-returns-then-sees_word-2 : goal.read_stmt-returns-then-sees_word-2
 read_stmt-returns-then-sees_word-2 t c =
     subst (λ (g : Got partial.PartialStmt). IfOk c.read_switch.result (λ stmt. got (stmt_of stmt) (reader_of c.read_switch.new.r) ≡ g))
     (sym (laws.stmt-switch c.args.calls (around_of c.args.around) (reader_of c.args.r.now) (omega arith) (sym c.sees_word.ensures ∙ c.if-sees_word.false) (sym c.begins_loop.ensures ∙ c.if-begins_loop.false)
-      (sym c.sees_word-2.ensures ∙ c.if-sees_word-2.true)))
+    (sym c.sees_word-2.ensures ∙ c.if-sees_word-2.true)))
     c.read_switch.ensures
 
 pub read_stmt-returns : goal.read_stmt-returns
 read_stmt-returns t c =
     subst (λ (g : Got partial.PartialStmt). IfOk c.read_short.result (λ stmt. got (stmt_of stmt) (reader_of c.read_short.new.r) ≡ g))
     (sym (laws.stmt-short c.args.calls (around_of c.args.around) (reader_of c.args.r.now) (omega arith) (sym c.sees_word.ensures ∙ c.if-sees_word.false) (sym c.begins_loop.ensures ∙ c.if-begins_loop.false)
-      (sym c.sees_word-2.ensures ∙ c.if-sees_word-2.false)))
+    (sym c.sees_word-2.ensures ∙ c.if-sees_word-2.false)))
     c.read_short.ensures
 
 -- `switch`

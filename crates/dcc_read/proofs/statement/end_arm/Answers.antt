@@ -1,4 +1,4 @@
-use Rattle.std.proofs.Common.{◌≡◌, Bool, true, false, if◌then◌else◌, sym, ap, ◌∙◌}
+use Rattle.std.proofs.Common.{sym, ap, ◌∙◌}
 use Rattle.dcc_c.specs.Reading.{got}
 use Rattle.dcc_read.specs.ReaderViews.{reader_of}
 use Rattle.dcc_read.proofs.LineLaws.{popped}

@@ -1,6 +1,6 @@
-use Rattle.std.proofs.Common.{◌≡◌, ◌≤◌, ◌+◌, ◌*◌, ◌-◌, Some, None, map, refl, sym, ap, ◌∙◌, arith}
+use Rattle.std.proofs.Common.{◌≤◌, ◌+◌, ◌*◌, ◌-◌, Some, map, sym, ap, ◌∙◌, arith}
 use Rattle.dcc_c.specs.Reading.{got}
-use Rattle.dcc_c.specs.ReadingText.{Declared, read_declared}
+use Rattle.dcc_c.specs.ReadingText.{read_declared}
 use Rattle.dcc_read.specs.TextViews.{before_globals}
 use Rattle.dcc_read.specs.PartialViews.{variable_of, function_of}
 use Rattle.dcc_read.specs.ReaderViews.{reader_of}
