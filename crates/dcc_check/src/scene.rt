@@ -32,22 +32,22 @@ pub struct Signature {
 
 /// What is known in the body of a function.
 #[derive(Clone, Copy)]
-pub struct Scene<'a> {
+pub struct Scene<'s, 'n> {
     /// The parameters and the local variables.
-    pub locals: &'a BTreeMap<&'a str, Declared>,
+    pub locals: &'s BTreeMap<&'n str, Declared>,
     /// The global variables.
-    pub globals: &'a BTreeMap<&'a str, Declared>,
+    pub globals: &'s BTreeMap<&'n str, Declared>,
     /// The functions, with their signatures where their heads could be read.
-    pub functions: &'a BTreeMap<&'a str, Option<Signature>>,
+    pub functions: &'s BTreeMap<&'n str, Option<Signature>>,
     /// The labels of the function.
-    pub labels: &'a BTreeSet<&'a str>,
+    pub labels: &'s BTreeSet<&'n str>,
     /// Whether the result of the function is a type.
     pub has_result: bool,
     /// Which type.
     pub result: Option<CType>,
 }
 
-impl Scene<'_> {
+impl Scene<'_, '_> {
     /// What the name of a variable is declared as.
     pub fn variable(&self, word: &str) -> Option<Declared>
         ensures { (s : offences.Scene) → IsScene self.now s → result ≡ option_map unnamed (declared_as s.names word.now) }
