@@ -5,3 +5,6 @@ pub mod MapLaws
 pub mod UnreadLaws
 pub mod WholeLaws
 pub mod ToldLaws
+pub mod TellLaws
+pub mod ListLaws
+pub mod CaseLaws

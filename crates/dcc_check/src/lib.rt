@@ -1,12 +1,16 @@
 //! The first offence of what has been read of a text.
 #![tactic(auto)]
 
-mod first;
-mod operand;
 mod check_block;
+mod check_call;
+mod check_case;
+mod check_expression;
+mod check_statement;
 mod declarations;
+mod first;
 mod labels;
 mod names;
+mod operand;
 mod places;
 mod scene;
 mod text;

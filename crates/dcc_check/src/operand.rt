@@ -1,12 +1,12 @@
 //! Expressions as operands: what offends in their types.
 
-ghost use Rattle.std.specs.Prelude.{◌≡◌, ◌++◌};
-ghost use Rattle.dcc_c.specs.Kinds.{first_behind};
+ghost use Rattle.std.specs.Prelude.{◌≡◌, is_some};
+ghost use Rattle.dcc_c.specs.Kinds.{of_type, offence, only_if, first_behind};
 ghost use Rattle.dcc_c.specs.Offences as offences;
 ghost use Rattle.dcc_c.specs.Offences.{wants_number, unary_offences, binary_offences, arms_offences, conversion, becomes, switch_offences, told_type};
 ghost use Rattle.dcc_c.specs.Partial as partial;
 ghost use Rattle.dcc_check.specs.Views.{told};
-ghost use Rattle.dcc_check.specs.Operands.{operand};
+ghost use Rattle.dcc_check.specs.Operands.{operand, selector_offences};
 
 use crate::first::First;
 use crate::typing::{
@@ -40,6 +40,14 @@ fn want_pointer(a: Operand, first: &mut First)
     if let Some(ty) = a.ty {
         first.tell_if(!ty.pointer, ParseKind::Type_, a.at);
     }
+}
+
+/// The operand of `&` is no variable: it offends where it has a type.
+pub(crate) fn tell_typed(a: Operand, first: &mut First)
+    ensures { (s : offences.Scene) (e : partial.PartialExpr) → a ≡ operand s e →
+        told first.new ≡ first_behind (told first.old) (only_if (is_some (told_type s.names e)) (offence of_type (partial.place_of e))) }
+{
+    first.tell_if(a.ty.is_some(), ParseKind::Type_, a.at);
 }
 
 /// The operand of a unary operator but `&`.
@@ -85,13 +93,19 @@ pub(crate) fn check_choice(b: Operand, c: Operand, first: &mut First)
     );
 }
 
+/// The value of a `switch`, read to its parenthesis or not: an int or an unsigned int after promotion.
+pub(crate) fn check_selector(a: Operand, done: bool, first: &mut First)
+    ensures { (s : offences.Scene) (e : partial.PartialExpr) → a ≡ operand s e →
+        told first.new ≡ first_behind (told first.old) (selector_offences s e done) }
+{
+    if let Some(ty) = a.ty {
+        let is_other = done && !is_switch_type(ty);
+        first.tell_if(is_other, ParseKind::Type_, a.at);
+    }
+}
+
 /// A value of the first type goes where one of the second is wanted, and offends at a place.
-pub(crate) fn check_conversion(
-    from: Option<CType>,
-    to: Option<CType>,
-    at: usize,
-    first: &mut First,
-)
+pub(crate) fn check_conversion(from: Option<CType>, to: Option<CType>, at: usize, first: &mut First)
     ensures { told first.new ≡ first_behind (told first.old) (conversion from to at) }
 {
     if let (Some(from), Some(to)) = (from, to) {
