@@ -59,12 +59,12 @@ pub head-step : (o n : Option (Option Signature)) (b : Bool) (v : Option Signatu
     ≡ first_found (option_map (λ head. option_map signature_of head) o) (option_map head_of (if b then Some (known name s) else others))
 head-step o n b v s name others n_is s_is =
     ap (λ m. first_found (option_map (λ head. option_map signature_of head) m) (option_map head_of others)) n_is ∙ step o b where
-  step : (o : Option (Option Signature)) (b : Bool) →
-      first_found (option_map (λ head. option_map signature_of head) (first_found o (if b then Some v else None))) (option_map head_of others)
-      ≡ first_found (option_map (λ head. option_map signature_of head) o) (option_map head_of (if b then Some (known name s) else others))
-  step (Some x) b = refl
-  step None true = ap Some s_is
-  step None false = refl
+      step : (o : Option (Option Signature)) (b : Bool) →
+          first_found (option_map (λ head. option_map signature_of head) (first_found o (if b then Some v else None))) (option_map head_of others)
+          ≡ first_found (option_map (λ head. option_map signature_of head) o) (option_map head_of (if b then Some (known name s) else others))
+      step (Some x) b = refl
+      step None true = ap Some s_is
+      step None false = refl
 
 -- an answer more, before others
 pub found-step : {X Y : Type 0} (f : Y → X) (o n : Option X) (b : Bool) (v : X) (y : Y) (others : Option Y) →

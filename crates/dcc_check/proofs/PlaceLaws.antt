@@ -50,9 +50,9 @@ takes-behind : (es variables : List PartialVariable) → list_all takes_bytes es
 takes-behind es [] all = all
 takes-behind es (u ∷ variables) all =
     takes-behind (earlier_with u es) variables (all-with takes_bytes u es (takes_bytes u) ∙ either (takes_bytes u) (list_all takes_bytes es) all) where
-  either : (t r : Bool) → r ≡ true → (not t || t) && r ≡ true
-  either true r e = e
-  either false r e = e
+      either : (t r : Bool) → r ≡ true → (not t || t) && r ≡ true
+      either true r e = e
+      either false r e = e
 
 pub takes-earlier : (variables : List PartialVariable) → list_all takes_bytes (earlier_of variables) ≡ true
 takes-earlier variables = takes-behind [] variables refl
@@ -87,8 +87,8 @@ apart-if_free v [] takes some free = refl
 apart-if_free v (u ∷ es) takes some free =
     let parts = both (takes_bytes u) (list_all takes_bytes es) takes in
     let here : stand_apart v u ≡ true =
-        apart-here u.done v.address (size_in_bytes v) u.address (size_in_bytes u)
-        (λ k from to. (neither (is_covered k u) (list_any (is_covered k) es) (free k from to)).0) some parts.0 in
+    apart-here u.done v.address (size_in_bytes v) u.address (size_in_bytes u)
+    (λ k from to. (neither (is_covered k u) (list_any (is_covered k) es) (free k from to)).0) some parts.0 in
     let others = apart-if_free v es parts.1 some (λ k from to. (neither (is_covered k u) (list_any (is_covered k) es) (free k from to)).1) in
     ap (λ b. b && list_all (stand_apart v) es) here ∙ others
 
@@ -138,9 +138,9 @@ module _ (v : PartialVariable) (xs : List declared.PartialVariable) (i : ℕ) (x
   apart-passed apart =
       sym (next-apart ∙ ap (λ a. (not (takes_bytes (variable_of x)) || a) && all_apart v (map variable_of (drop (i + 1) xs))) apart
       ∙ either (takes_bytes (variable_of x)) (all_apart v (map variable_of (drop (i + 1) xs)))) where
-    either : (t r : Bool) → (not t || true) && r ≡ r
-    either true r = refl
-    either false r = refl
+        either : (t r : Bool) → (not t || true) && r ≡ r
+        either true r = refl
+        either false r = refl
 
   pub empty-passed : takes_bytes (variable_of x) ≡ false → all_apart v (map variable_of (drop (i + 1) xs)) ≡ all_apart v (map variable_of (drop i xs))
   empty-passed none = sym (next-apart ∙ ap (λ t. (not t || stand_apart v (variable_of x)) && all_apart v (map variable_of (drop (i + 1) xs))) none)

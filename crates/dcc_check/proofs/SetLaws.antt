@@ -32,6 +32,6 @@ set-inserted s n k h word =
     h.0 (record { ref_ptr = (0, 0); now = word })
     ∙ either (is_eq (slice_cmp nat_cmp k.now word)) (same_bytes word k.now) (holds s word)
     (is_eq-slice_cmp k.now word ∙ sym (same_bytes-bytes_eq k.now word) ∙ bytes-symmetric k.now word) where
-  either : (b c r : Bool) → b ≡ c → cond b true r ≡ c || r
-  either true c r e = subst (λ d. true ≡ d || r) e refl
-  either false c r e = subst (λ d. r ≡ d || r) e refl
+      either : (b c r : Bool) → b ≡ c → cond b true r ≡ c || r
+      either true c r e = subst (λ d. true ≡ d || r) e refl
+      either false c r e = subst (λ d. r ≡ d || r) e refl

@@ -47,7 +47,7 @@ function-step w xs i x old new within here new_is =
     let last = nat_eq (i + 1) (length xs) in
     let empty : rest ≡ [] → last ≡ true = λ none. last-of (length xs) i (omega (arith, length-drop (i + 1) xs, ap length none)) within in
     let more : (g : PartialFunction) (gs : List PartialFunction) → rest ≡ g ∷ gs → last ≡ false =
-        λ g gs some. not-last (length xs) i (omega (arith, length-drop (i + 1) xs, ap length some)) in
+    λ g gs some. not-last (length xs) i (omega (arith, length-drop (i + 1) xs, ap length some)) in
     let own = function_offences w (if last then w.labels else []) (function_of x) in
     ap (λ f. first_behind f (functions_offences w (map function_of rest))) new_is
     ∙ sym (first-append old own (functions_offences w (map function_of rest)))

@@ -39,10 +39,10 @@ heads-next rest i within =
     ap (λ l. heads_in (pieces_of l)) n.1 ∙ ap (λ l. head_at (pieces_of l) ++ heads_in (pieces_of (drop (i + 1) rest))) (sym n.1)
 
 labels-plain : (p : pieces.Piece) (ps : List pieces.Piece) → head_at (p ∷ ps) ≡ [] → labels_before_head (p ∷ ps) ≡ label_at p.token (first_token ps) ++ labels_before_head ps
-labels-plain p ps none = ap (λ (hs : List Known). elim hs [ | k ∷ ks ↦ [] | [] ↦ label_at p.token (first_token ps) ++ labels_before_head ps ]) none
+labels-plain p ps none = ap (λ (hs : List Known). elim hs [ k ∷ ks ↦ [] | [] ↦ label_at p.token (first_token ps) ++ labels_before_head ps ]) none
 
 labels-end : (p : pieces.Piece) (ps : List pieces.Piece) (k : Known) → head_at (p ∷ ps) ≡ k ∷ [] → labels_before_head (p ∷ ps) ≡ []
-labels-end p ps k one = ap (λ (hs : List Known). elim hs [ | k ∷ ks ↦ [] | [] ↦ label_at p.token (first_token ps) ++ labels_before_head ps ]) one
+labels-end p ps k one = ap (λ (hs : List Known). elim hs [ k ∷ ks ↦ [] | [] ↦ label_at p.token (first_token ps) ++ labels_before_head ps ]) one
 
 -- a piece with which no head begins
 labels-next : (rest : List Piece) (i : ℕ) → i < length rest → head_at (pieces_of (drop i rest)) ≡ [] →
@@ -100,6 +100,6 @@ pub head-read : (f : PartialFunction) (g : partial.PartialFunction) (begins : Bo
 head-read f g begins does same opened has =
     let n = named (option_map word_of f.name) (signature_of (function_of f)) (mapped word_of f.name ∙ has) in
     let own : known_of (function_of f) ≡ n.0 ∷ [] =
-        ap (λ b. if b then known_named (option_map word_of f.name) (signature_of (function_of f)) else []) opened ∙ n.1 in
+    ap (λ b. if b then known_named (option_map word_of f.name) (signature_of (function_of f)) else []) opened ∙ n.1 in
     let all : known_of (function_of f) ≡ (if begins then known_of g else []) = ap known_of same ∙ ap (λ b. if b then known_of g else []) (sym does) in
     (n.0, sym all ∙ own, all)

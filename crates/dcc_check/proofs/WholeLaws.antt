@@ -52,6 +52,6 @@ locals-first a b g word own outer own_is outer_is =
     (ap (λ o. first_found o G) (declared-append a b word) ∙ found-group A B G
     ∙ ap (λ o. first_found A o) (sym (declared-append b g word)) ∙ sym (declared-append a (b ++ g) word))
 
-pub variable-found : (own outer : Option Declared) → (elim own [ | Some d ↦ Some d | None ↦ outer ]) ≡ first_found own outer
+pub variable-found : (own outer : Option Declared) → (elim own [ Some d ↦ Some d | None ↦ outer ]) ≡ first_found own outer
 variable-found (Some d) outer = refl
 variable-found None outer = refl

@@ -25,7 +25,9 @@ use crate::check_block::check_body;
 use crate::declarations::{Scope, add_dos, add_functions, declare};
 use crate::first::First;
 use crate::labels::push_labels;
-use crate::names::{add_words, dos_words, function_names, known_names, tell_repeated, variable_names};
+use crate::names::{
+    add_words, dos_words, function_names, known_names, tell_repeated, variable_names,
+};
 use crate::places::{Stack, tell_globals, tell_sizes};
 use crate::scene::{Declared, Scene, Signature};
 use crate::unread::{add_labels, heads_in};
@@ -72,7 +74,7 @@ fn functions_of<'a>(
 ) -> Result<BTreeMap<&'a str, Option<Signature>>, AllocError>
     ensures { (rest : List pieces.Piece) → known.known_functions (map function_of heads.now) ≡ known.heads_in rest →
         IfOk result (λ functions. (word : Word) → held_head functions word
-            ≡ option_map head_of (known.known_as (offences.known_in (text_of text.now) rest).functions word)) }
+        ≡ option_map head_of (known.known_as (offences.known_in (text_of text.now) rest).functions word)) }
 {
     let mut functions = BTreeMap::new(alloc);
     add_dos(alloc, &mut functions)?;
@@ -173,11 +175,7 @@ fn tell_variables(
 }
 
 /// Tells labels that stand twice.
-fn tell_labels(
-    alloc: Global,
-    labels: &[&WordAt],
-    first: &mut First,
-) -> Result<(), AllocError>
+fn tell_labels(alloc: Global, labels: &[&WordAt], first: &mut First) -> Result<(), AllocError>
     ensures { OnOk result (told first.new ≡ first_behind (told first.old) (repeated [] (lent_names labels.now))) }
 {
     let none = BTreeSet::new(alloc);

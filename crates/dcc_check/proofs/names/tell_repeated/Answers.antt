@@ -14,13 +14,14 @@ loop-name-init c = λ before all. (before, λ word. none-held c.args.taken.now c
 pub loop-name-preserved : goal.loop-name-preserved
 loop-name-preserved c = λ before all.
     let inv = c.loop-name.invariant before all in
-    let x = c.name-item.result in
-    (string_bytes x.now.word ∷ inv.0,
-    known-step c.args.names.now c.loop-name.name-index x c.loop-name-test.true c.name-item.is
-    c.loop-name.own c.add_word.new.words c.as_str-word.result.now c.as_str-word.ensures.value c.in_ok-add_word.ensures c.args.taken.now inv.0 inv.1,
-    told-step c.args.names.now c.loop-name.name-index x c.loop-name-test.true c.name-item.is inv.0 (told c.loop-name.first) (told c.tell_if.new.self) c.is_among.result
-    (c.is_among.ensures ∙ inv.1 c.as_str-word.result.now ∙ ap (is_among inv.0) c.as_str-word.ensures.value) c.tell_if.ensures
-    ∙ inv.2)
+    let x = c.name-item.result in (
+      string_bytes x.now.word ∷ inv.0,
+      known-step c.args.names.now c.loop-name.name-index x c.loop-name-test.true c.name-item.is
+          c.loop-name.own c.add_word.new.words c.as_str-word.result.now c.as_str-word.ensures.value c.in_ok-add_word.ensures c.args.taken.now inv.0 inv.1,
+      told-step c.args.names.now c.loop-name.name-index x c.loop-name-test.true c.name-item.is inv.0 (told c.loop-name.first) (told c.tell_if.new.self) c.is_among.result
+          (c.is_among.ensures ∙ inv.1 c.as_str-word.result.now ∙ ap (is_among inv.0) c.as_str-word.ensures.value) c.tell_if.ensures
+          ∙ inv.2,
+    )
 
 pub returns : goal.returns
 returns c = λ known all.

@@ -16,8 +16,8 @@ returns c = λ w is_whole.
     let f = function_of c.args.function.now in
     let more = labels_if c.args.is_last (pieces_of c.args.rest.now) in
     let labels_are : lent_names c.push_labels.new.found.items ≡ label_list f.body =
-        c.in_ok-push_labels.ensures ∙ ap (λ l. lent_names l ++ label_list (lines_of c.deref-2.result.now)) c.new-labels.ensures.items
-        ∙ ap (λ l. label_list (lines_of l)) c.deref-2.ensures.value in
+    c.in_ok-push_labels.ensures ∙ ap (λ l. lent_names l ++ label_list (lines_of c.deref-2.result.now)) c.new-labels.ensures.items
+    ∙ ap (λ l. label_list (lines_of l)) c.deref-2.ensures.value in
     told-four (told c.args.first.now) (told c.tell_variables.new.first) (told c.tell_sizes.new.first) (told c.tell_labels.new.first) (told c.check_statements.new.first)
     (repeated w.words (name_list f.params ++ name_list f.locals)) (sizes_of f.locals) (repeated [] (label_list f.body)) (lines_offences (scene_of w more f) 0 f.body)
     (c.in_ok-tell_variables.ensures w.words is_whole.words)

@@ -24,7 +24,7 @@ loop-i-preserved c = λ word.
     let i = c.loop-i.i in
     let within : i < length rest = omega arith in
     let none : head_at (pieces_of (drop i rest)) ≡ [] =
-        ap (λ l. head_at (pieces_of l)) (sym (take_rest rest i)) ∙ head-none c.in_ok-head_here.field-0 _ c.in_ok-head_here.ensures (sym c.is_some.ensures ∙ c.if-is_some.false) in
+    ap (λ l. head_at (pieces_of l)) (sym (take_rest rest i)) ∙ head-none c.in_ok-head_here.field-0 _ c.in_ok-head_here.ensures (sym c.is_some.ensures ∙ c.if-is_some.false) in
     label-step rest i word (holds c.loop-i.words word) (holds c.add_label.new.words word) within none
     (c.in_ok-add_label.ensures word
     ∙ ap (λ l. is_among (label_at (first_token (pieces_of l)) (first_token (drop 1 (pieces_of l)))) word || holds c.loop-i.words word) (take_rest rest i))
