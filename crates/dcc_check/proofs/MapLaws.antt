@@ -3,7 +3,6 @@ use Rattle.std.proofs.Common.{◌≡◌, ℕ, Bool, true, false, cond, List, [],
 use Rattle.std.specs.Prelude.{is_some, option_map, if◌then◌else◌}
 use Rattle.std.specs.BTreeMap as tree
 use Rattle.std.specs.Map.{lookup}
-use Rattle.std.specs.Str.{bytes_eq}
 use Rattle.std.specs.Cmp.Lexicographic.{slice_cmp}
 use Rattle.std.specs.Ordering.{nat_cmp}
 use Rattle.std.proofs.lemmas.Map.Text.{btree_map_updates_str}
@@ -15,7 +14,7 @@ use Rattle.dcc_c.specs.Typing.{Declared, declared_as}
 use Rattle.dcc_c.specs.Known.{Known, known, known_as}
 use Rattle.dcc_c.proofs.reading.Passing.{same_bytes-equal}
 use Rattle.dcc_check.specs.declared.scene.Signature.{Signature}
-use Rattle.dcc_check.specs.Declarations.{first_found, held_head}
+use Rattle.dcc_check.specs.Declarations.{first_found}
 use Rattle.dcc_check.specs.Scenes.{held, head_of, signature_of}
 use Rattle.dcc_check.proofs.SetLaws.{same_bytes-bytes_eq}
 

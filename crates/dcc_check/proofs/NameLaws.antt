@@ -1,5 +1,5 @@
 -- How names are seen one after another.
-use Rattle.std.proofs.Common.{◌≡◌, ℕ, ◌+◌, ◌<◌, Bool, true, false, List, [], ◌∷◌, ◌++◌, length, get_or, drop, map, string_bytes, Option, refl, sym, ap, ◌∙◌, subst}
+use Rattle.std.proofs.Common.{◌≡◌, ℕ, ◌+◌, ◌<◌, Bool, true, false, List, [], ◌∷◌, length, get_or, drop, string_bytes, Option, refl, sym, ap, ◌∙◌}
 use Rattle.std.specs.Prelude.{◌||◌}
 use Rattle.std.specs.BTreeSet as set
 use Rattle.std.specs.BTreeMap.{is_at}
@@ -16,7 +16,6 @@ use Rattle.dcc_c.specs.Offences.{repeated}
 use Rattle.dcc_c.specs.TextOffences.{words_of}
 use Rattle.dcc_c.proofs.refusals.FirstRules.{first-append}
 use Rattle.dcc_read.specs.declared.partial.WordAt.{WordAt}
-use Rattle.dcc_read.specs.PartialViews.{word_of}
 use Rattle.dcc_check.specs.Names.{lent_names}
 use Rattle.dcc_check.specs.Scenes.{holds}
 

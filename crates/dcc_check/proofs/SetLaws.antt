@@ -1,8 +1,7 @@
 -- Sets and lists of words.
-use Rattle.std.proofs.Common.{◌≡◌, ℕ, Bool, true, false, cond, List, [], ◌∷◌, ◌++◌, refl, sym, ap, ◌∙◌, subst}
+use Rattle.std.proofs.Common.{◌≡◌, ℕ, Bool, true, false, cond, List, [], ◌∷◌, ◌++◌, refl, sym, ◌∙◌, subst}
 use Rattle.std.specs.Prelude.{◌||◌}
 use Rattle.std.specs.BTreeSet as set
-use Rattle.std.specs.BTreeMap as tree
 use Rattle.std.specs.Str.{bytes_eq}
 use Rattle.std.specs.Cmp.Lexicographic.{slice_cmp}
 use Rattle.std.specs.Ordering.{nat_cmp, is_eq}
@@ -13,7 +12,7 @@ use Rattle.dcc_c.specs.Tree.{Word}
 use Rattle.dcc_c.specs.Grammar.{is_among}
 use Rattle.dcc_c.proofs.NameLaws.{same_bytes-pointwise}
 use Rattle.dcc_c.proofs.refusals.ListRules.{bytes-symmetric}
-use Rattle.dcc_check.specs.Scenes.{holds, held}
+use Rattle.dcc_check.specs.Scenes.{holds}
 
 pub same_bytes-bytes_eq : (xs ys : List ℕ) → same_bytes xs ys ≡ bytes_eq xs ys
 same_bytes-bytes_eq xs ys = same_bytes-pointwise xs ys

@@ -131,7 +131,8 @@ fn is_in_stack(stack: Stack, variable: &PartialVariable) -> bool
 struct Occupied {
     /// Whether each byte of memory is taken.
     marks: Vec<bool>,
-    /// Whether the marks are those of all variables so far. They are, up to the first variable that is misplaced.
+    /// Whether the marks are those of all variables so far. They are up to the first one that is misplaced or whose
+    /// place needs no test.
     complete: bool,
 }
 
@@ -254,7 +255,7 @@ fn tell_place(
         occupied.complete = false;
         return;
     };
-    // An offence that cannot be the first needs no test, and the marks are of no use any more.
+    // Names of later variables stand at later places, so that none of them needs a test either, nor marks.
     if !may_be_first(first, name.at) {
         occupied.complete = false;
         return;

@@ -1,4 +1,4 @@
-use Rattle.std.proofs.Common.{◌≡◌, ◌+◌, refl, sym, ap, subst, map}
+use Rattle.std.proofs.Common.{◌+◌, refl, sym, ap, subst, map}
 use Rattle.dcc_read.specs.PartialViews.{variable_of}
 use Rattle.dcc_check.specs.Places.{earlier_of, IsOccupied}
 use Rattle.dcc_check.proofs.PlaceLaws.{free-tells, takes-earlier, le-of}
