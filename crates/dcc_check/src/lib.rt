@@ -6,8 +6,15 @@ mod check_call;
 mod check_case;
 mod check_expression;
 mod check_statement;
+mod declarations;
 mod first;
 mod labels;
+mod names;
 mod operand;
+mod places;
 mod scene;
+mod text;
 mod typing;
+mod unread;
+
+pub use text::first_offence;
