@@ -17,7 +17,7 @@ mod reader;
 mod short;
 mod statement;
 mod text;
-mod token;
+pub mod token;
 
 pub use offence::{Offence, ParseKind};
 pub use partial::{
