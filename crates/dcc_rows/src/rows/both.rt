@@ -1,6 +1,6 @@
 //! Both sides of a program: the run of an executable, and that of its text.
 
-use super::files::{Answer, NO_FAULTS, PRINTS_A, answered, answered_on, program};
+use super::files::{Answer, Faults, NO_FAULTS, PRINTS_A, answered, answered_on, program};
 use std::alloc::Global;
 use std::process::Abort;
 use std::test::Fail;
@@ -213,6 +213,27 @@ fn a_text_runs_on_as_its_program_does(rt: HostRuntime) -> Result<(), Fail> {
             b"running after 1000 steps\n".as_slice()
         );
         assert!(rt; given.out.is_empty());
+    }
+    Ok(())
+}
+
+#[test]
+fn a_failing_read_ends_both_sides(rt: HostRuntime) -> Result<(), Fail> {
+    let alloc = rt.alloc();
+    // Takes two keys, and leaves with the last one.
+    let code = b"\xB4\x01\xCD\x21\xB4\x01\xCD\x21\xB4\x4C\xCD\x21";
+    let file = program(&rt, alloc, code)?;
+    let text = text_of(&rt, alloc, &file)?;
+    let first_read = Faults {
+        read: 1,
+        ..NO_FAULTS
+    };
+    for (command, bytes) in [("run", &file), ("runc", &text)] {
+        let words = [command, "ROW1.EXE"];
+        let given = answered_on(alloc, &words, bytes, b"ab", first_read)?;
+        assert_eq!(rt; given.status, 5);
+        assert!(rt; given.out.is_empty());
+        assert_eq!(rt; given.err.as_slice(), b"dcc: input fault\n");
     }
     Ok(())
 }

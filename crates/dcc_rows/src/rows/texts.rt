@@ -84,26 +84,55 @@ fn another_version_is_refused(rt: HostRuntime) -> Result<(), Fail> {
     Ok(())
 }
 
+/// A part so many times, what stands inside, and another part as often.
+fn nested(
+    alloc: Global,
+    count: usize,
+    opening: &str,
+    inside: &str,
+    closing: &str,
+) -> Result<String, AllocError> {
+    let mut text = String::new(alloc);
+    for _ in 0..count {
+        text.push_str(opening)?;
+    }
+    text.push_str(inside)?;
+    for _ in 0..count {
+        text.push_str(closing)?;
+    }
+    Ok(text)
+}
+
 #[test]
 fn a_deep_expression_is_refused(rt: HostRuntime) -> Result<(), Fail> {
     let alloc = rt.alloc();
-    // 65 inside so many pairs of parentheses.
-    for (pairs, status, line) in [
-        (199, 0, "exit 65\n"),
-        (201, 11, "dcc: text depth at line 5\n"),
+    // 65 inside so many pairs of parentheses, those of the call among them.
+    for (pairs, output, status, line) in [
+        (200, b"A".as_slice(), 0, "exit 3\n"),
+        (201, b"".as_slice(), 11, "dcc: text depth at line 5\n"),
+        (202, b"".as_slice(), 11, "dcc: text depth at line 5\n"),
     ] {
-        let mut call = String::from_str(alloc, "dos_exit(")?;
-        for _ in 0..pairs {
-            call.push('(')?;
-        }
-        call.push_str("65")?;
-        for _ in 0..pairs {
-            call.push(')')?;
-        }
-        call.push_str(");")?;
-        let text = text(alloc, &[call.as_str()])?;
+        let argument = nested(alloc, pairs, "(", "65", ")")?;
+        let call = format!(in alloc; "dos_putc{argument};")?;
+        let text = text(alloc, &[call.as_str(), "dos_exit(3);"])?;
         let given = answered(alloc, &["runc", "ROW1.EXE"], text.as_bytes(), NO_FAULTS)?;
-        check(&rt, &given, status, b"", line);
+        check(&rt, &given, status, output, line);
+    }
+    Ok(())
+}
+
+#[test]
+fn a_statement_in_too_many_blocks_is_refused(rt: HostRuntime) -> Result<(), Fail> {
+    let alloc = rt.alloc();
+    // The call inside so many blocks, each opened in a line of its own.
+    for (blocks, output, status, line) in [
+        (200, b"A".as_slice(), 0, "exit 3\n"),
+        (201, b"".as_slice(), 11, "dcc: text depth at line 206\n"),
+    ] {
+        let call = nested(alloc, blocks, "if (1) {\n", "dos_putc(65);\n", "}\n")?;
+        let text = text(alloc, &[call.as_str(), "dos_exit(3);"])?;
+        let given = answered(alloc, &["runc", "ROW1.EXE"], text.as_bytes(), NO_FAULTS)?;
+        check(&rt, &given, status, output, line);
     }
     Ok(())
 }
