@@ -27,3 +27,7 @@ pub mod FineBlocks
 pub mod WritableText
 pub mod PipeLaws
 pub mod UncountedLaws
+pub mod CountedRows
+pub mod CountedTrees
+pub mod UnbrokenText
+pub mod CountedSimple

@@ -18,6 +18,7 @@ use Rattle.dcc_c.specs.Written.{written_form}
 use Rattle.dcc_c.specs.Numbered.{numbered}
 use Rattle.dcc_c.specs.Text.{StandsFor}
 use Rattle.dcc_c.proofs.Writable.{IsWritable}
+use Rattle.dcc_c.proofs.NumberedForm.{written_numbered}
 use Rattle.dcc_c.proofs.PrintLaws.{writable_stands}
 use Rattle.dcc_pipe.specs.GotoText.{goto_tree}
 use Rattle.dcc_pipe.specs.Agreement.{IsTextOf}
@@ -31,7 +32,7 @@ module _ (image : Image) (layout : Layout) (procs : List Proc) (p : inner.Progra
   lifted = of.lifted
 
   -- the text is writable
-  lifted-writable : IsWritable (goto_tree p)
+  pub lifted-writable : IsWritable (goto_tree p)
   lifted-writable =
       let g = lifted.framed.graph in
       let low : IsShallow 7 g = All-head (IsShallow 7) g [] (subst (All (IsShallow 7)) lifted.framed.one lifted.shallow) in
@@ -48,8 +49,11 @@ module _ (image : Image) (layout : Layout) (procs : List Proc) (p : inner.Progra
     runs = λ input fill bytes fits. text-agrees image layout procs p loaded has are of (written_form (goto_tree p)) lifted-stands input fill bytes fits;
   }
 
--- what is told of a unit whose tree is that text's
+-- what is told of a unit whose tree is that text's, with its lines counted
 pub text-is : (image : Image) (layout : Layout) (procs : List Proc) (p : inner.Program) → IsLoaded image → HasLayout image layout → AreFound image layout procs → IsLiftOf image layout procs p
-    → (result : Result TextUnit AllocError) → IfOk result (λ unit. tree_of unit ≡ goto_tree p) → IfOk result (λ unit. IsTextOf image (written_form (tree_of unit)) (numbered (tree_of unit)))
-text-is image layout procs p loaded has are of (Ok unit) is = subst (λ t. IsTextOf image (written_form t) (numbered t)) (sym is) (lifted-text image layout procs p loaded has are of)
+    → (result : Result TextUnit AllocError) → IfOk result (λ unit. tree_of unit ≡ numbered (goto_tree p)) → IfOk result (λ unit. IsTextOf image (written_form (tree_of unit)) (tree_of unit))
+text-is image layout procs p loaded has are of (Ok unit) is =
+    let tree = numbered (goto_tree p) in
+    subst (λ t. IsTextOf image (written_form t) t) (sym is)
+    (subst (λ text. IsTextOf image text tree) (sym (written_numbered (goto_tree p))) (lifted-text image layout procs p loaded has are of))
 text-is image layout procs p loaded has are of (Err fault) is = tt

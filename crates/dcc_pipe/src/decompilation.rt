@@ -6,11 +6,11 @@ ghost use Rattle.dcc_prog.specs.Layout.{HasLayout};
 ghost use Rattle.dcc_prog.specs.Found.{AreFound};
 ghost use Rattle.dcc_c.specs.Views.{tree_of};
 ghost use Rattle.dcc_c.specs.Written.{written_form};
-ghost use Rattle.dcc_c.specs.Numbered.{numbered};
 ghost use Rattle.dcc_pipe.specs.Agreement.{IsTextOf};
 ghost use Rattle.dcc_pipe.specs.Answer.{IsAccepted, IsRefusal};
 
 use crate::goto_text::goto_text;
+use crate::number::number;
 use dcc_c::Unit;
 use dcc_layout::layout;
 use dcc_lift::lift;
@@ -28,20 +28,21 @@ fn text_of(
     requires loaded { IsLoaded image.now }
     requires layout { HasLayout image.now layout.now }
     requires found { AreFound image.now layout.now procs.now.items }
-    ensures { IfOk result (λ unit. IsTextOf image.now (written_form (tree_of unit)) (numbered (tree_of unit))) }
+    ensures { IfOk result (λ unit. IsTextOf image.now (written_form (tree_of unit)) (tree_of unit)) }
 {
     let program = lift(alloc, image, layout, procs)?;
-    goto_text(alloc, &program)
+    let unit = goto_text(alloc, &program)?;
+    number(alloc, unit)
 }
 
 /// The text of a loaded program: a variable for each half of a word register, each flag and each temporary, a label
-/// before each block, and jumps. Its written form stands for its tree with the lines counted, whose run on every input
-/// and from every fill agrees with that of the program. The lines of the unit itself are not counted yet.
+/// before each block, and jumps, with the lines where statements stand in the written form. The written form stands for
+/// the unit's tree, whose run on every input and from every fill agrees with that of the program.
 ///
 /// A program is refused where it has no layout, and where its procedures are refused.
 pub fn decompile(alloc: Global, image: &Image) -> Result<Unit, Refusal>
     requires { IsLoaded image.now }
-    ensures text { IfOk result (λ unit. IsTextOf image.now (written_form (tree_of unit)) (numbered (tree_of unit))) }
+    ensures text { IfOk result (λ unit. IsTextOf image.now (written_form (tree_of unit)) (tree_of unit)) }
     ensures accepted { IfOk result (λ unit. IsAccepted image.now) }
     ensures refused { IfErr result (IsRefusal image.now) }
 {

@@ -4,6 +4,7 @@
 mod decompilation;
 mod goto_expr;
 mod goto_text;
+mod number;
 #[cfg(test)]
 mod tests;
 mod variables;

@@ -8,7 +8,7 @@ pub mod rows;
 mod statement;
 pub mod unit;
 
-pub use rows::{Rows, arms_rows, globals_rows, lines_rows, stmt_rows};
+pub use rows::globals_rows;
 pub use statement::next_depth;
 pub use unit::{PrintFault, print};
 

@@ -9,8 +9,8 @@ use Rattle.dcc_prog.specs.MzImage.{IsImageOf}
 use Rattle.dcc_pipe.specs.Agreement.{IsTextOf}
 use Rattle.dcc_top.specs.declared.reply.Reply.{Reply}
 use Rattle.dcc_top.specs.declared.reply.Reply.TheVariants.{Usage}
-use Rattle.dcc_top.specs.Words.{Job, Decompile, Execute}
-use Rattle.dcc_top.specs.Answer.{Files, OfFile, HasNoImage, IsTextOfImage, AllowsImage, image_decompiled, image_refused, Decompiles, AllowsText, decompiled, refused, no_image, Allows, no_job, for_text, ran_no_file, IsDue, due_text}
+use Rattle.dcc_top.specs.Words.{Job, Decompile, Execute, ExecuteText}
+use Rattle.dcc_top.specs.Answer.{Files, OfFile, HasNoImage, HasNoUnit, IsTextOfImage, AllowsImage, image_decompiled, image_refused, Decompiles, AllowsText, decompiled, refused, no_image, Allows, no_job, for_text, ran_no_file, ran_no_text, IsDue, due_text}
 use Rattle.dcc_top.specs.Delivery.{Answers, CutsShort}
 
 -- two images of one file begin in the same state
@@ -68,6 +68,11 @@ text-of_no_image told name out reply h = answers-nothing (AllowsText told name) 
 pub run-of_no_image : (told : Files) (name : List ℕ) (steps : ℕ) (left out : Option (List ℕ)) (reply : Reply) → HasNoImage told name reply → Answers (Allows told left left (Some (Execute name steps))) out out reply
 run-of_no_image told name steps left out reply h =
     answers-nothing (Allows told left left (Some (Execute name steps))) out reply (ran_no_file h refl)
+
+-- why there is no unit of the file is an answer for its run
+pub run-of_no_unit : (told : Files) (name : List ℕ) (steps fill : ℕ) (left out : Option (List ℕ)) (reply : Reply) → HasNoUnit told name reply → Answers (Allows told left left (Some (ExecuteText name steps fill))) out out reply
+run-of_no_unit told name steps fill left out reply h =
+    answers-nothing (Allows told left left (Some (ExecuteText name steps fill))) out reply (ran_no_text h refl)
 
 -- the answer of words that are no command
 pub usage-reply : (told : Files) (job : Option Job) (left out : Option (List ℕ)) → job ≡ None → Answers (Allows told left left job) out out Usage

@@ -10,14 +10,16 @@ use Rattle.dcc_run.specs.End.{End}
 use Rattle.dcc_prog.specs.declared.refusal.Refusal.{Refusal}
 use Rattle.dcc_prog.specs.MzImage.{FormatFault, IsFirstFault}
 use Rattle.dcc_top.specs.Program.{IsAcceptedProgram, IsRefusedImage}
+use Rattle.dcc_read.specs.declared.offence.ParseKind.{ParseKind}
+use Rattle.dcc_parse.specs.Fault.{IsRefusal as IsTextRefusal}
 use Rattle.dcc_top.specs.declared.reply.Reply.{Reply}
-use Rattle.dcc_top.specs.declared.reply.Reply.TheVariants.{Done, Format}
-use Rattle.dcc_top.specs.Words.{Job, Decompile, Execute, name_of, file_of, IsExecution}
-use Rattle.dcc_top.specs.Answer.{Files, OfFile, HasNoFile, no_file, file_fault, no_memory, HasNoImage, no_executable, misshapen, AllowsText, decompiled, refused, no_image, Decompiles, IsRefusedAs, OfImages, Runs, Allows, no_job, for_text, ran_file, ran_no_file, ShelfLacks, status_of, line_of, refusal_reply}
+use Rattle.dcc_top.specs.declared.reply.Reply.TheVariants.{Done, Format, TextFault}
+use Rattle.dcc_top.specs.Words.{Job, Decompile, Execute, ExecuteText, name_of, file_of, IsExecution, LoadsImage}
+use Rattle.dcc_top.specs.Answer.{Files, OfFile, HasNoFile, no_file, file_fault, no_memory, HasNoImage, no_executable, misshapen, HasNoUnit, no_text, offends, AllowsText, decompiled, refused, no_image, Decompiles, IsRefusedAs, OfImages, Runs, Allows, no_job, for_text, ran_file, ran_no_file, ran_text, ran_no_text, ShelfLacks, status_of, line_of, refusal_reply}
 use Rattle.dcc_top.specs.Delivery.{Streams}
-use Rattle.dcc_top.specs.Causes.{IsAnswered, answered, found_no_memory, broke_off, HasText, HasRunFile, IsAbsent, IsUnreadable, HasFormatFault, HasRefusal, Names, IsMissing, EndsSo, IsOneOf, end_status, IsOutOfMemory, IsCutOff}
-use Rattle.dcc_top.proofs.StatusLaws.{apart, text_statuses, text-status, status-not_six, reply-at_7, no_file-status, no_image-status, refusal-status, run_statuses, run-status}
-use Rattle.dcc_top.proofs.NamedLaws.{name-of, file-name, accepted-one, refused-always as always-refused, job-misshapen, job-missing, job-ended}
+use Rattle.dcc_top.specs.Causes.{IsAnswered, answered, found_no_memory, broke_off, HasText, HasRunFile, IsAbsent, IsUnreadable, HasFormatFault, HasRefusal, HasTextFault, Names, IsMissing, IsNoText, EndsSo, IsOneOf, end_status, IsOutOfMemory, IsCutOff}
+use Rattle.dcc_top.proofs.StatusLaws.{apart, text_statuses, text-status, status-not_six, reply-at_7, no_file-status, no_image-status, no_unit-status, refusal-status, run_statuses, run-status, text_run-status}
+use Rattle.dcc_top.proofs.NamedLaws.{name-of, file-name, accepted-one, refused-always as always-refused, job-misshapen, job-missing, text-refused, job-ended}
 
 -- lists of statuses
 
@@ -28,7 +30,10 @@ abbrev refusals : List ℕ
 refusals = 7 ∷ (9 ∷ (10 ∷ (12 ∷ [])))
 
 abbrev ended_statuses : List ℕ
-ended_statuses = 5 ∷ (20 ∷ (21 ∷ (22 ∷ [])))
+ended_statuses = 5 ∷ (20 ∷ (21 ∷ (22 ∷ (24 ∷ []))))
+
+abbrev text_faults : List ℕ
+text_faults = 11 ∷ (3 ∷ (4 ∷ (7 ∷ [])))
 
 module _ (told : Files) (job : Option Job) (before left : Option (List ℕ)) (caused : Reply → Type 0) (status : ℕ) (out_failed err_failed : Type 0) (s : Streams) where
   abbrev Allowed : Option Job → Reply → List ℕ → Type 0
@@ -72,6 +77,8 @@ module _ (told : Files) (job : Option Job) (before left : Option (List ℕ)) (ca
   runs-status : (j : Job) (file : List ℕ) (reply : Reply) (output : List ℕ) → Runs j file before left reply output → IsOneOf (status_of reply) run_statuses
   runs-status (Decompile name) file reply output h = absurd h
   runs-status (Execute name steps) file reply output h = run-status _ steps before left reply output h.finishes
+  runs-status (ExecuteText name steps fill) file reply output h =
+      text_run-status _ steps before left reply output (h.runs file h.is_read.stands)
 
   -- The words are no command.
 
@@ -83,6 +90,10 @@ module _ (told : Files) (job : Option Job) (before left : Option (List ℕ)) (ca
       absurd (apart (status_of reply) (2 ∷ []) run_statuses refl is (runs-status (Execute name steps) f.file reply output f.holds))
   usage-of _ reply _ (ran_no_file {name = name} h same) is =
       absurd (apart (status_of reply) (2 ∷ []) image_faults refl is (no_image-status told name reply h))
+  usage-of _ reply output (ran_text {name = name} {steps = steps} {fill = fill} f) is =
+      absurd (apart (status_of reply) (2 ∷ []) run_statuses refl is (runs-status (ExecuteText name steps fill) f.file reply output f.holds))
+  usage-of _ reply _ (ran_no_text {name = name} h same) is =
+      absurd (apart (status_of reply) (2 ∷ []) text_faults refl is (no_unit-status told name reply h))
 
   pub usage : Comes → status ≡ 2 → job ≡ None
   usage a is =
@@ -146,6 +157,10 @@ module _ (told : Files) (job : Option Job) (before left : Option (List ℕ)) (ca
       record { asked = Execute name steps; named = refl; ran = f }
   ended-of _ reply _ (ran_no_file {name = name} h same) is =
       absurd (apart (status_of reply) ended_statuses image_faults refl is (no_image-status told name reply h))
+  ended-of _ reply output (ran_text {name = name} {steps = steps} {fill = fill} f) is =
+      record { asked = ExecuteText name steps fill; named = refl; ran = f }
+  ended-of _ reply _ (ran_no_text {name = name} h same) is =
+      absurd (apart (status_of reply) ended_statuses text_faults refl is (no_unit-status told name reply h))
 
   pub ran : Comes → IsOneOf status ended_statuses → HasRunFile told job before left status s
   ran a is =
@@ -160,6 +175,10 @@ module _ (told : Files) (job : Option Job) (before left : Option (List ℕ)) (ca
       record { asked = Execute name steps; named = refl; ran = f }
   exited-of _ reply _ (ran_no_file {name = name} h same) execution is =
       absurd (apart (status_of reply) (0 ∷ []) image_faults refl is (no_image-status told name reply h))
+  exited-of _ reply output (ran_text {name = name} {steps = steps} {fill = fill} f) execution is =
+      record { asked = ExecuteText name steps fill; named = refl; ran = f }
+  exited-of _ reply _ (ran_no_text {name = name} h same) execution is =
+      absurd (apart (status_of reply) (0 ∷ []) text_faults refl is (no_unit-status told name reply h))
 
   pub exited : Comes → IsExecution job → status ≡ 0 → HasRunFile told job before left status s
   exited a execution is =
@@ -203,6 +222,10 @@ module _ (told : Files) (job : Option Job) (before left : Option (List ℕ)) (ca
       absurd (apart (status_of reply) (8 ∷ []) run_statuses refl (inl is) (runs-status (Execute name steps) f.file reply output f.holds))
   format-of _ reply _ (ran_no_file {name = name} {steps = steps} h same) is =
       misshapen-of (Some (Execute name steps)) name reply refl h is
+  format-of _ reply output (ran_text {name = name} {steps = steps} {fill = fill} f) is =
+      absurd (apart (status_of reply) (8 ∷ []) run_statuses refl (inl is) (runs-status (ExecuteText name steps fill) f.file reply output f.holds))
+  format-of _ reply _ (ran_no_text {name = name} h same) is =
+      absurd (apart (status_of reply) (8 ∷ []) text_faults refl (inl is) (no_unit-status told name reply h))
 
   pub format : Comes → status ≡ 8 → HasFormatFault told job s
   format a is =
@@ -219,14 +242,14 @@ module _ (told : Files) (job : Option Job) (before left : Option (List ℕ)) (ca
       }
 
   -- what holds of every job whose file is named
-  format-always_of : (j : Option Job) (file : List ℕ) (fault : FormatFault) → Names told j file → IsFirstFault file fault → (reply : Reply) (output : List ℕ) → Allowed j reply output → IsOneOf (status_of reply) (8 ∷ (4 ∷ (6 ∷ (7 ∷ []))))
-  format-always_of None file fault n first reply output h = let bad = n.named in cc
-  format-always_of (Some j) file fault n first reply output h =
-      job-misshapen told before left n.files n.tells j file fault (ap n.files (name-of (name_of j) n.name n.named) ∙ n.has) first reply output h
+  format-always_of : (j : Option Job) (file : List ℕ) (fault : FormatFault) → Names told j file → LoadsImage j → IsFirstFault file fault → (reply : Reply) (output : List ℕ) → Allowed j reply output → IsOneOf (status_of reply) (8 ∷ (4 ∷ (6 ∷ (7 ∷ []))))
+  format-always_of None file fault n loads first reply output h = absurd loads
+  format-always_of (Some j) file fault n loads first reply output h =
+      job-misshapen told before left n.files n.tells j file fault (ap n.files (name-of (name_of j) n.name n.named) ∙ n.has) loads first reply output h
 
-  pub format-always : Comes → (file : List ℕ) (fault : FormatFault) → Names told job file → IsFirstFault file fault → IsOneOf status (8 ∷ (4 ∷ (6 ∷ (7 ∷ []))))
-  format-always a file fault n first =
-      one-of (8 ∷ (4 ∷ (6 ∷ (7 ∷ [])))) (inr (inr (inl refl))) (inr (inr (inr (inl refl)))) (format-always_of job file fault n first) a
+  pub format-always : Comes → (file : List ℕ) (fault : FormatFault) → LoadsImage job → Names told job file → IsFirstFault file fault → IsOneOf status (8 ∷ (4 ∷ (6 ∷ (7 ∷ []))))
+  format-always a file fault loads n first =
+      one-of (8 ∷ (4 ∷ (6 ∷ (7 ∷ [])))) (inr (inr (inl refl))) (inr (inr (inr (inl refl)))) (format-always_of job file fault n loads first) a
 
   absent-always_of : (j : Option Job) → IsMissing told j → (reply : Reply) (output : List ℕ) → Allowed j reply output → IsOneOf (status_of reply) (3 ∷ (4 ∷ (6 ∷ (7 ∷ []))))
   absent-always_of None m reply output h = let bad = m.named in cc
@@ -261,6 +284,10 @@ module _ (told : Files) (job : Option Job) (before left : Option (List ℕ)) (ca
       absurd (apart (status_of reply) (9 ∷ (10 ∷ (12 ∷ []))) run_statuses refl is (runs-status (Execute name steps) f.file reply output f.holds))
   refusal-of _ reply _ (ran_no_file {name = name} h same) is =
       absurd (apart (status_of reply) (9 ∷ (10 ∷ (12 ∷ []))) image_faults refl is (no_image-status told name reply h))
+  refusal-of _ reply output (ran_text {name = name} {steps = steps} {fill = fill} f) is =
+      absurd (apart (status_of reply) (9 ∷ (10 ∷ (12 ∷ []))) run_statuses refl is (runs-status (ExecuteText name steps fill) f.file reply output f.holds))
+  refusal-of _ reply _ (ran_no_text {name = name} h same) is =
+      absurd (apart (status_of reply) (9 ∷ (10 ∷ (12 ∷ []))) text_faults refl is (no_unit-status told name reply h))
 
   pub program-refused : Comes → IsOneOf status (9 ∷ (10 ∷ (12 ∷ []))) → HasRefusal told job status s
   program-refused a is =
@@ -286,22 +313,78 @@ module _ (told : Files) (job : Option Job) (before left : Option (List ℕ)) (ca
   text-always a name file named n each =
       one-of (0 ∷ (4 ∷ (6 ∷ (7 ∷ [])))) (inr (inr (inl refl))) (inr (inr (inr (inl refl)))) (λ reply output h. accepted-one told name n.files n.tells file (named-file (Decompile name) file named n) each reply output (for-text name reply output (subst (λ j. Allowed j reply output) named h))) a
 
+  -- The text is refused.
+
+  -- the answer names what offends in the text
+  record IsOffended (j : Option Job) (reply : Reply) : Type 0 where
+    name : List ℕ
+    steps : ℕ
+    fill : ℕ
+    at : ℕ
+    kind : ParseKind
+    named : j ≡ Some (ExecuteText name steps fill)
+    reply_is : reply ≡ TextFault at kind
+    offending : OfFile told name (λ text. IsTextRefusal text at kind)
+
+  unit-offended : (name : List ℕ) (steps fill : ℕ) (reply : Reply) → HasNoUnit told name reply → status_of reply ≡ 11 → IsOffended (Some (ExecuteText name steps fill)) reply
+  unit-offended name steps fill reply (no_text h) is =
+      absurd (apart (status_of reply) (11 ∷ []) (3 ∷ (4 ∷ (7 ∷ []))) refl (inl is) (no_file-status told name reply h))
+  unit-offended name steps fill _ (offends {line = at} {kind = kind} f) is =
+      record { name = name; steps = steps; fill = fill; at = at; kind = kind; named = refl; reply_is = refl; offending = f }
+
+  offended-of : (j : Option Job) (reply : Reply) (output : List ℕ) → Allowed j reply output → status_of reply ≡ 11 → IsOffended j reply
+  offended-of _ _ _ (no_job same) is = absurd (omega (arith, is))
+  offended-of _ reply output (for_text {name = name} h same) is =
+      absurd (apart (status_of reply) (11 ∷ []) text_statuses refl (inl is) (text-status told name reply output h))
+  offended-of _ reply output (ran_file {name = name} {steps = steps} f) is =
+      absurd (apart (status_of reply) (11 ∷ []) run_statuses refl (inl is) (runs-status (Execute name steps) f.file reply output f.holds))
+  offended-of _ reply _ (ran_no_file {name = name} h same) is =
+      absurd (apart (status_of reply) (11 ∷ []) image_faults refl (inl is) (no_image-status told name reply h))
+  offended-of _ reply output (ran_text {name = name} {steps = steps} {fill = fill} f) is =
+      absurd (apart (status_of reply) (11 ∷ []) run_statuses refl (inl is) (runs-status (ExecuteText name steps fill) f.file reply output f.holds))
+  offended-of _ reply _ (ran_no_text {name = name} {steps = steps} {fill = fill} h same) is =
+      unit-offended name steps fill reply h is
+
+  pub text-fault : Comes → status ≡ 11 → HasTextFault told job s
+  text-fault a is =
+      let t = told-at 11 is (λ e. omega (arith, e)) (λ e. omega (arith, e)) a in
+      let o = offended-of job t.reply t.output t.allowed (sym t.status_is ∙ is) in
+      record {
+        name = o.name;
+        steps = o.steps;
+        fill = o.fill;
+        text = o.offending.file;
+        line = o.at;
+        kind = o.kind;
+        named = o.named;
+        has = o.offending.has;
+        refused = o.offending.holds;
+        line_is = t.line ∙ ap (λ x. append_told s.err_before (line_of x)) o.reply_is;
+      }
+
+  pub text_fault-always : Comes → (name file : List ℕ) (steps fill : ℕ) → job ≡ Some (ExecuteText name steps fill) → Names told job file → IsNoText file → IsOneOf status (11 ∷ (4 ∷ (6 ∷ (7 ∷ []))))
+  text_fault-always a name file steps fill named n none =
+      one-of (11 ∷ (4 ∷ (6 ∷ (7 ∷ [])))) (inr (inr (inl refl))) (inr (inr (inr (inl refl)))) (λ reply output h. text-refused told before left n.files n.tells name steps fill file (named-file (ExecuteText name steps fill) file named n) none reply output (subst (λ j. Allowed j reply output) named h)) a
+
   -- What is written.
 
   -- no job has put anything out at a refusal
-  output-none : (j : Option Job) (reply : Reply) (output : List ℕ) → Allowed j reply output → IsOneOf (status_of reply) (2 ∷ (3 ∷ (4 ∷ (8 ∷ (9 ∷ (10 ∷ (12 ∷ []))))))) → output ≡ []
+  output-none : (j : Option Job) (reply : Reply) (output : List ℕ) → Allowed j reply output → IsOneOf (status_of reply) (2 ∷ (3 ∷ (4 ∷ (8 ∷ (9 ∷ (10 ∷ (11 ∷ (12 ∷ [])))))))) → output ≡ []
   output-none _ _ _ (no_job same) is = refl
   output-none _ _ output (for_text (decompiled f) same) is =
-      absurd (apart 0 (0 ∷ []) (2 ∷ (3 ∷ (4 ∷ (8 ∷ (9 ∷ (10 ∷ (12 ∷ []))))))) refl (inl refl) is)
+      absurd (apart 0 (0 ∷ []) (2 ∷ (3 ∷ (4 ∷ (8 ∷ (9 ∷ (10 ∷ (11 ∷ (12 ∷ [])))))))) refl (inl refl) is)
   output-none _ _ _ (for_text (refused refusal f) same) is = refl
   output-none _ _ _ (for_text (no_image h) same) is = refl
   output-none _ reply output (ran_file {name = name} {steps = steps} f) is =
-      absurd (apart (status_of reply) (2 ∷ (3 ∷ (4 ∷ (8 ∷ (9 ∷ (10 ∷ (12 ∷ []))))))) run_statuses refl is (runs-status (Execute name steps) f.file reply output f.holds))
+      absurd (apart (status_of reply) (2 ∷ (3 ∷ (4 ∷ (8 ∷ (9 ∷ (10 ∷ (11 ∷ (12 ∷ [])))))))) run_statuses refl is (runs-status (Execute name steps) f.file reply output f.holds))
   output-none _ _ _ (ran_no_file h same) is = refl
+  output-none _ reply output (ran_text {name = name} {steps = steps} {fill = fill} f) is =
+      absurd (apart (status_of reply) (2 ∷ (3 ∷ (4 ∷ (8 ∷ (9 ∷ (10 ∷ (11 ∷ (12 ∷ [])))))))) run_statuses refl is (runs-status (ExecuteText name steps fill) f.file reply output f.holds))
+  output-none _ _ _ (ran_no_text h same) is = refl
 
-  pub nothing : Comes → IsOneOf status (2 ∷ (3 ∷ (4 ∷ (8 ∷ (9 ∷ (10 ∷ (12 ∷ []))))))) → s.out_after ≡ s.out_before
+  pub nothing : Comes → IsOneOf status (2 ∷ (3 ∷ (4 ∷ (8 ∷ (9 ∷ (10 ∷ (11 ∷ (12 ∷ [])))))))) → s.out_after ≡ s.out_before
   nothing a is =
-      let ns = 2 ∷ (3 ∷ (4 ∷ (8 ∷ (9 ∷ (10 ∷ (12 ∷ [])))))) in
+      let ns = 2 ∷ (3 ∷ (4 ∷ (8 ∷ (9 ∷ (10 ∷ (11 ∷ (12 ∷ []))))))) in
       let t = is-told a (λ six. apart status (6 ∷ []) ns refl (inl six) is) (λ seven. apart status (7 ∷ []) ns refl (inl seven) is) in
       let none = output-none job t.reply t.output t.allowed (subst (λ n. IsOneOf n ns) t.status_is is) in
       t.out ∙ ap (λ l. append_told s.out_before l) none ∙ append_told-nil s.out_before
@@ -359,6 +442,11 @@ module _ (told : Files) (job : Option Job) (before left : Option (List ℕ)) (ca
   absent-of _ reply output (ran_file {name = name} {steps = steps} f) is =
       absurd (apart (status_of reply) (3 ∷ []) run_statuses refl (inl is) (runs-status (Execute name steps) f.file reply output f.holds))
   absent-of _ reply _ (ran_no_file {name = name} h same) is = (name, refl, lacks-of_no_image name reply h is)
+  absent-of _ reply output (ran_text {name = name} {steps = steps} {fill = fill} f) is =
+      absurd (apart (status_of reply) (3 ∷ []) run_statuses refl (inl is) (runs-status (ExecuteText name steps fill) f.file reply output f.holds))
+  absent-of _ reply _ (ran_no_text {name = name} (no_text h) same) is =
+      (name, refl, lacks-of_no_file name reply h is)
+  absent-of _ _ _ (ran_no_text (offends f) same) is = absurd (omega (arith, is))
 
   pub absent : (a b : ℕ) → Comes → status ≡ 3 → Rose a b → IsAbsent told job a b
   absent low high a is rose =

@@ -20,7 +20,7 @@ use Rattle.dcc_top.specs.declared.reply.Reply.TheVariants.{Memory, InputFault}
 use Rattle.dcc_top.specs.Words.{Execute}
 use Rattle.dcc_top.specs.Answer.{Files, OfFile, Allows, ran_file, IsDue, due_output}
 use Rattle.dcc_top.specs.Delivery.{Answers, CutsShort}
-use Rattle.dcc_top.specs.Execution.{Subject, machine_of, HasRun, StopsAtRead, TellsEnd, Finishes, ended, stopped_at_read, not_begun, PutsOut}
+use Rattle.dcc_top.specs.Execution.{Subject, machine_of, HasRun, StopsAtRead, end_reply, Finishes, ended, stopped_at_read, not_begun, PutsOut}
 
 -- the machine, with any input and nothing put out yet, is at the start of the image
 abbrev pub BeginsAt : Core → Image → Type 0
@@ -91,11 +91,11 @@ ran-to_read image steps core before taken now start s = record {
 }
 
 -- a run that has ended, or goes on
-pub ran-ended : (image : Image) (steps : ℕ) (core : Core) (before taken : Option (List ℕ)) (now : Scene) (end : End) (reply : Reply) → TellsEnd steps end reply → BeginsAt core image → MakesSteps steps (scene core before taken) now → now.core.end ≡ end → Answers (Finishes (machine_of image) steps before now.left) taken now.taken reply
-ran-ended image steps core before taken now end reply tells start m is = record {
+pub ran-ended : (image : Image) (steps : ℕ) (core : Core) (before taken : Option (List ℕ)) (now : Scene) (end : End) → BeginsAt core image → MakesSteps steps (scene core before taken) now → now.core.end ≡ end → Answers (Finishes (machine_of image) steps before now.left) taken now.taken (end_reply steps end)
+ran-ended image steps core before taken now end start m is = record {
   output = m.written;
   wrote = m.wrote;
-  is_answer = ended tells (has_run-when_told image steps core before taken now end start m is);
+  is_answer = ended end (has_run-when_told image steps core before taken now end start m is);
 }
 
 -- a write that failed behind the steps that were made: a part of the whole run's output is there

@@ -2,6 +2,7 @@ pub mod StatusLaws
 pub mod FetchedLaws
 pub mod ProgramLaws
 pub mod ExecuteLaws
+pub mod TextRunLaws
 pub mod AnswerLaws
 pub mod DeliveredLaws
 pub mod NamedLaws

@@ -12,11 +12,11 @@ use Rattle.dcc_prog.specs.MzImage.{IsImageOf, FormatFault, IsFirstFault, too_lar
 use Rattle.dcc_prog.specs.Step.{machine_system}
 use Rattle.dcc_prog.proofs.MzImageLaws.{not_both}
 use Rattle.dcc_top.specs.declared.reply.Reply.{Reply}
-use Rattle.dcc_top.specs.Words.{Job, Decompile, Execute, name_of, file_of}
+use Rattle.dcc_top.specs.Words.{Job, Decompile, Execute, ExecuteText, name_of, file_of, LoadsImage}
 use Rattle.dcc_top.specs.Program.{IsRefusedFor, IsAcceptedProgram, IsRefusedImage}
-use Rattle.dcc_top.specs.Execution.{Subject, machine_of, Finishes, ended, stopped_at_read, not_begun}
-use Rattle.dcc_top.specs.Answer.{Files, OfFile, HasNoFile, no_file, file_fault, no_memory, HasNoImage, no_executable, misshapen, AllowsText, decompiled, refused, no_image, Decompiles, IsRefusedAs, OfImages, RunsFile, Allows, for_text, ran_file, ran_no_file, ShelfLacks, status_of, refusal_reply}
-use Rattle.dcc_top.specs.Causes.{Names, EndsSo, file_ends, IsOneOf, end_status}
+use Rattle.dcc_top.specs.Execution.{Subject, machine_of, text_of, Finishes, ended, stopped_at_read, not_begun, FinishesOrStops, finishes, found_none}
+use Rattle.dcc_top.specs.Answer.{Files, OfFile, HasNoFile, no_file, file_fault, no_memory, HasNoImage, no_executable, misshapen, HasNoUnit, no_text, offends, AllowsText, decompiled, refused, no_image, Decompiles, IsRefusedAs, OfImages, RunsFile, RunsText, RunsUnit, Allows, for_text, ran_file, ran_no_file, ran_text, ran_no_text, ShelfLacks, status_of, refusal_reply}
+use Rattle.dcc_top.specs.Causes.{Names, IsNoText, EndsSo, file_ends, text_ends, IsOneOf, end_status}
 use Rattle.dcc_top.proofs.AnswerLaws.{same-start}
 use Rattle.dcc_top.proofs.StatusLaws.{end-status}
 
@@ -53,10 +53,15 @@ refused-one MemoryRefused = inr (inr (inr (inr (inr (inl refl)))))
 
 -- the status of a run on an input that is told
 run-ended : {S : Type 0} (subject : Subject S) (steps : ℕ) (before left : Option (List ℕ)) (reply : Reply) (output bytes : List ℕ) → before ≡ Some bytes → Finishes subject steps before left reply output → IsOneOf (status_of reply) (end_status (end_after subject.system steps (subject.start bytes)) ∷ (4 ∷ (5 ∷ (6 ∷ (7 ∷ [])))))
-run-ended subject steps before left reply output bytes told (ended {end = end} tells h) =
-    inl (end-status steps end reply tells ∙ ap end_status (sym (h bytes told).end_is))
+run-ended subject steps before left _ output bytes told (ended end h) =
+    inl (end-status steps end ∙ ap end_status (sym (h bytes told).end_is))
 run-ended subject steps before left _ output bytes told (stopped_at_read h) = inr (inr (inl refl))
 run-ended subject steps before left _ _ bytes told (not_begun same) = inr (inr (inr (inr (inl refl))))
+
+text-run-ended : {S : Type 0} (subject : Subject S) (steps : ℕ) (before left : Option (List ℕ)) (reply : Reply) (output bytes : List ℕ) → before ≡ Some bytes → FinishesOrStops subject steps before left reply output → IsOneOf (status_of reply) (end_status (end_after subject.system steps (subject.start bytes)) ∷ (4 ∷ (5 ∷ (6 ∷ (7 ∷ [])))))
+text-run-ended subject steps before left reply output bytes told (finishes h) =
+    run-ended subject steps before left reply output bytes told h
+text-run-ended subject steps before left _ output bytes told (found_none h) = inr (inr (inr (inr (inl refl))))
 
 -- What is known of the file of a name that the shelf tells.
 
@@ -97,6 +102,11 @@ module _ (told : Files) (name : List ℕ) (files : List ℕ → Option (List ℕ
   no_image-faulty file has image is reply (no_executable h) = faulty file has reply h
   no_image-faulty file has image is _ (misshapen {fault = fault} f) =
       absurd (refusal-not_image file image fault is (held file (λ x. IsRefusal x fault) has f))
+
+  -- a file that is not refused as a text neither
+  no_unit-faulty : (file : List ℕ) → files name ≡ Some file → (reply : Reply) → HasNoUnit told name reply → IsOneOf (status_of reply) (11 ∷ (4 ∷ (6 ∷ (7 ∷ []))))
+  no_unit-faulty file has reply (no_text h) = faulty-one 11 (status_of reply) (faulty file has reply h)
+  no_unit-faulty file has _ (offends f) = inl refl
 
   misshapen-one : (file : List ℕ) → files name ≡ Some file → (reply : Reply) → HasNoImage told name reply → IsOneOf (status_of reply) (8 ∷ (4 ∷ (6 ∷ (7 ∷ []))))
   misshapen-one file has reply (no_executable h) = faulty-one 8 (status_of reply) (faulty file has reply h)
@@ -154,14 +164,16 @@ module _ (told : Files) (name : List ℕ) (files : List ℕ → Option (List ℕ
 -- What is allowed for a job, where the shelf tells the file of its name.
 
 module _ (told : Files) (before left : Option (List ℕ)) (files : List ℕ → Option (List ℕ)) (tells : told ≡ Some files) where
-  pub job-misshapen : (job : Job) (file : List ℕ) (fault : FormatFault) → files (name_of job) ≡ Some file → IsFirstFault file fault → (reply : Reply) (output : List ℕ) → Allows told before left (Some job) reply output → IsOneOf (status_of reply) (8 ∷ (4 ∷ (6 ∷ (7 ∷ []))))
-  job-misshapen _ file fault has first reply output (for_text {name = name} h same) =
+  pub job-misshapen : (job : Job) (file : List ℕ) (fault : FormatFault) → files (name_of job) ≡ Some file → LoadsImage (Some job) → IsFirstFault file fault → (reply : Reply) (output : List ℕ) → Allows told before left (Some job) reply output → IsOneOf (status_of reply) (8 ∷ (4 ∷ (6 ∷ (7 ∷ []))))
+  job-misshapen _ file fault has loads first reply output (for_text {name = name} h same) =
       text-misshapen told name files tells file fault has first reply output h
-  job-misshapen _ file fault has first reply output (ran_file {name = name} {steps = steps} f) =
+  job-misshapen _ file fault has loads first reply output (ran_file {name = name} {steps = steps} f) =
       let r = held told name files tells file (λ x. RunsFile x steps before left reply output) has f in
       absurd (not_both file r.image fault r.is_image first)
-  job-misshapen _ file fault has first reply _ (ran_no_file {name = name} h same) =
+  job-misshapen _ file fault has loads first reply _ (ran_no_file {name = name} h same) =
       misshapen-one told name files tells file has reply h
+  job-misshapen _ file fault has loads first reply output (ran_text f) = absurd loads
+  job-misshapen _ file fault has loads first reply _ (ran_no_text h same) = absurd loads
 
   pub job-missing : (job : Job) → files (name_of job) ≡ None → (reply : Reply) (output : List ℕ) → Allows told before left (Some job) reply output → IsOneOf (status_of reply) (3 ∷ (4 ∷ (6 ∷ (7 ∷ []))))
   job-missing _ lacks reply output (for_text {name = name} h same) =
@@ -169,6 +181,36 @@ module _ (told : Files) (before left : Option (List ℕ)) (files : List ℕ → 
   job-missing _ lacks reply output (ran_file {name = name} {steps = steps} f) =
       absurd (not-held told name files tells (λ x. RunsFile x steps before left reply output) lacks f)
   job-missing _ lacks reply _ (ran_no_file {name = name} h same) = missing-image told name files tells lacks reply h
+  job-missing _ lacks reply output (ran_text {name = name} {steps = steps} {fill = fill} f) =
+      absurd (not-held told name files tells (λ x. RunsText x steps fill before left reply output) lacks f)
+  job-missing _ lacks reply _ (ran_no_text {name = name} (no_text h) same) =
+      missing told name files tells lacks reply h
+  job-missing _ lacks _ _ (ran_no_text {name = name} (offends f) same) =
+      absurd (not-held told name files tells _ lacks f)
+
+  -- the text is refused
+  pub text-refused : (name : List ℕ) (steps fill : ℕ) (file : List ℕ) → files name ≡ Some file → IsNoText file → (reply : Reply) (output : List ℕ) → Allows told before left (Some (ExecuteText name steps fill)) reply output → IsOneOf (status_of reply) (11 ∷ (4 ∷ (6 ∷ (7 ∷ []))))
+  text-refused name steps fill file has none reply output (ran_text f) =
+      let r = held told name files tells file (λ x. RunsText x steps fill before left reply output) has f in
+      elim none [
+        | inl no_tree ↦ absurd (no_tree r.tree r.is_read.stands)
+        | inr long ↦ absurd (omega (arith, long, r.is_read.length))
+      ]
+  text-refused name steps fill file has none reply _ (ran_no_text h same) =
+      no_unit-faulty told name files tells file has reply h
+
+  -- what the run of a text ends with
+  text-ended : (name : List ℕ) (steps fill : ℕ) (file bytes : List ℕ) (end : End) → files name ≡ Some file → before ≡ Some bytes → EndsSo file bytes (ExecuteText name steps fill) end → (reply : Reply) (output : List ℕ) → OfFile told name (λ x. RunsText x steps fill before left reply output) → IsOneOf (status_of reply) (end_status end ∷ (4 ∷ (5 ∷ (6 ∷ (7 ∷ [])))))
+  text-ended name steps fill file bytes _ has told_left (text_ends {tree = tree} stands within) reply output f =
+      let r = held told name files tells file (λ x. RunsText x steps fill before left reply output) has f in
+      let runs = subst (λ t. RunsUnit t steps fill before left reply output) (sym (r.is_read.alone tree stands)) r.runs in
+      text-run-ended (text_of tree stands.allowed.start fill) steps before left reply output bytes told_left (runs file stands)
+
+  no_unit-ended : (name : List ℕ) (steps fill : ℕ) (file bytes : List ℕ) (end : End) → files name ≡ Some file → EndsSo file bytes (ExecuteText name steps fill) end → (reply : Reply) → HasNoUnit told name reply → IsOneOf (status_of reply) (end_status end ∷ (4 ∷ (5 ∷ (6 ∷ (7 ∷ [])))))
+  no_unit-ended name steps fill file bytes end has e reply (no_text h) =
+      faulty-run told name files tells (end_status end) (status_of reply) (faulty told name files tells file has reply h)
+  no_unit-ended name steps fill file bytes _ has (text_ends {tree = tree} stands within) _ (offends f) =
+      absurd ((held told name files tells file _ has f).no_tree within tree stands)
 
   run-of_file : (name : List ℕ) (steps : ℕ) (file bytes : List ℕ) (end : End) → files name ≡ Some file → before ≡ Some bytes → EndsSo file bytes (Execute name steps) end → (reply : Reply) (output : List ℕ) → OfFile told name (λ x. RunsFile x steps before left reply output) → IsOneOf (status_of reply) (end_status end ∷ (4 ∷ (5 ∷ (6 ∷ (7 ∷ [])))))
   run-of_file name steps file bytes _ has told_left (file_ends {image = image} is) reply output f =
@@ -189,3 +231,7 @@ module _ (told : Files) (before left : Option (List ℕ)) (files : List ℕ → 
       run-of_file name steps file bytes end has told_left e reply output f
   job-ended _ file bytes end has told_left e reply _ (ran_no_file {name = name} {steps = steps} h same) =
       no_image-ended name steps file bytes end has e reply h
+  job-ended _ file bytes end has told_left e reply output (ran_text {name = name} {steps = steps} {fill = fill} f) =
+      text-ended name steps fill file bytes end has told_left e reply output f
+  job-ended _ file bytes end has told_left e reply _ (ran_no_text {name = name} {steps = steps} {fill = fill} h same) =
+      no_unit-ended name steps fill file bytes end has e reply h

@@ -5,14 +5,14 @@ use Rattle.std.specs.Prelude.{◌&&◌, ◌||◌, not, eqb}
 use Rattle.std.specs.Prelude.{Result, Ok, Err, IfOk}
 use Rattle.dcc_io.specs.declared.outside.Failed.{Failed}
 use Rattle.dcc_prog.specs.declared.image.Image.{Image}
-use Rattle.dcc_run.specs.End.{End}
+use Rattle.dcc_run.specs.End.{End, Running, Exit, Divide, Outside as outside, Stuck as stuck}
 use Rattle.dcc_prog.specs.declared.refusal.Refusal.{Refusal}
 use Rattle.dcc_prog.specs.declared.refusal.Refusal.TheVariants.{Construct as ConstructRefused, Limit as LimitRefused, NotYet as NotYetRefused, Memory as MemoryRefused}
 use Rattle.dcc_prog.proofs.TableLaws.{and_right}
 use Rattle.dcc_top.specs.declared.reply.Reply.{Reply}
 use Rattle.dcc_top.specs.declared.reply.Reply.TheVariants.{Done, NoFile, FileFault, InputFault, Memory}
-use Rattle.dcc_top.specs.Execution.{Subject, TellsEnd, goes_on, has_exited, has_divided, is_outside, Finishes, ended, stopped_at_read, not_begun}
-use Rattle.dcc_top.specs.Answer.{Files, HasNoFile, no_file, file_fault, no_memory, HasNoImage, no_executable, misshapen, AllowsImage, image_decompiled, image_refused, AllowsText, decompiled, refused, no_image, status_of, refusal_reply}
+use Rattle.dcc_top.specs.Execution.{Subject, end_reply, Finishes, ended, stopped_at_read, not_begun, FinishesOrStops, finishes, found_none}
+use Rattle.dcc_top.specs.Answer.{Files, HasNoFile, no_file, file_fault, no_memory, HasNoImage, no_executable, misshapen, HasNoUnit, no_text, offends, AllowsImage, image_decompiled, image_refused, AllowsText, decompiled, refused, no_image, status_of, refusal_reply}
 use Rattle.dcc_top.specs.Causes.{IsOneOf, end_status}
 use Rattle.dcc_top.specs.Delivery.{Answers}
 
@@ -76,6 +76,10 @@ pub no_image-status : (told : Files) (name : List ℕ) (reply : Reply) → HasNo
 no_image-status told name reply (no_executable h) = inr (no_file-status told name reply h)
 no_image-status told name _ (misshapen f) = inl refl
 
+pub no_unit-status : (told : Files) (name : List ℕ) (reply : Reply) → HasNoUnit told name reply → IsOneOf (status_of reply) (11 ∷ (3 ∷ (4 ∷ (7 ∷ []))))
+no_unit-status told name reply (no_text h) = inr (no_file-status told name reply h)
+no_unit-status told name _ (offends f) = inl refl
+
 -- the statuses of a refusal
 pub refusal-status : (refusal : Refusal) → IsOneOf (status_of (refusal_reply refusal)) (7 ∷ (9 ∷ (10 ∷ (12 ∷ []))))
 refusal-status (ConstructRefused kind at) = inr (inl refl)
@@ -103,27 +107,34 @@ text-status told name _ _ (refused refusal f) = among-text refusal
 text-status told name reply _ (no_image h) = inr (inr (inr (inr (no_image-status told name reply h))))
 
 -- the status of a run that has ended
-pub end-status : (steps : ℕ) (end : End) (reply : Reply) → TellsEnd steps end reply → status_of reply ≡ end_status end
-end-status steps _ _ goes_on = refl
-end-status steps _ _ has_exited = refl
-end-status steps _ _ has_divided = refl
-end-status steps _ _ is_outside = refl
+pub end-status : (steps : ℕ) (end : End) → status_of (end_reply steps end) ≡ end_status end
+end-status steps Running = refl
+end-status steps (Exit code) = refl
+end-status steps Divide = refl
+end-status steps (outside at) = refl
+end-status steps (stuck line) = refl
 
 -- the statuses of a run
-end_status-one : (steps : ℕ) (end : End) (reply : Reply) → TellsEnd steps end reply → IsOneOf (status_of reply) (0 ∷ (20 ∷ (21 ∷ (22 ∷ []))))
-end_status-one steps _ _ goes_on = inr (inl refl)
-end_status-one steps _ _ has_exited = inl refl
-end_status-one steps _ _ has_divided = inr (inr (inl refl))
-end_status-one steps _ _ is_outside = inr (inr (inr (inl refl)))
+pub end_status-one : (end : End) → IsOneOf (end_status end) (0 ∷ (20 ∷ (21 ∷ (22 ∷ (24 ∷ [])))))
+end_status-one Running = inr (inl refl)
+end_status-one (Exit code) = inl refl
+end_status-one Divide = inr (inr (inl refl))
+end_status-one (outside at) = inr (inr (inr (inl refl)))
+end_status-one (stuck line) = inr (inr (inr (inr (inl refl))))
 
 abbrev pub run_statuses : List ℕ
-run_statuses = 5 ∷ (7 ∷ (0 ∷ (20 ∷ (21 ∷ (22 ∷ [])))))
+run_statuses = 5 ∷ (7 ∷ (0 ∷ (20 ∷ (21 ∷ (22 ∷ (24 ∷ []))))))
 
 pub run-status : {S : Type 0} (subject : Subject S) (steps : ℕ) (before left : Option (List ℕ)) (reply : Reply) (output : List ℕ) → Finishes subject steps before left reply output → IsOneOf (status_of reply) run_statuses
-run-status subject steps before left reply output (ended {end = end} tells h) =
-    inr (inr (end_status-one steps end reply tells))
+run-status subject steps before left _ output (ended end h) =
+    inr (inr (subst (λ n. IsOneOf n (0 ∷ (20 ∷ (21 ∷ (22 ∷ (24 ∷ [])))))) (sym (end-status steps end)) (end_status-one end)))
 run-status subject steps before left _ output (stopped_at_read h) = inl refl
 run-status subject steps before left _ _ (not_begun same) = inr (inl refl)
+
+pub text_run-status : {S : Type 0} (subject : Subject S) (steps : ℕ) (before left : Option (List ℕ)) (reply : Reply) (output : List ℕ) → FinishesOrStops subject steps before left reply output → IsOneOf (status_of reply) run_statuses
+text_run-status subject steps before left reply output (finishes h) =
+    run-status subject steps before left reply output h
+text_run-status subject steps before left _ output (found_none h) = inr (inl refl)
 
 -- an answer that has none of these statuses is not given
 pub never : (P : Reply → List ℕ → Type 0) (ns : List ℕ) → ((reply : Reply) (output : List ℕ) → P reply output → IsOneOf (status_of reply) ns) → (other : Reply) → are_apart (status_of other ∷ []) ns ≡ true → (A : Type 0) (out now : Option (List ℕ)) (result : Result Reply Failed) → IfOk result (Answers P out now) → IfOk result (λ reply. reply ≡ other → A)

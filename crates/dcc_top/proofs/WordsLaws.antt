@@ -1,25 +1,32 @@
 -- The parts of the words, as they are found one after another.
 use Rattle.std.proofs.Common.{◌≡◌, ℕ, ◌≤◌, List, [], ◌∷◌, ◌++◌, length, Option, Some, None, refl, sym, ap, ◌∙◌, subst, Bor, length-append, append-nil, arith}
-use Rattle.std.proofs.Common.{◌≡◌, ℕ, ◌≤◌, List, [], ◌∷◌, ◌++◌, length, Option, Some, None, refl, sym, ap, ◌∙◌, subst, Bor, length-append, append-nil, arith}
 use Rattle.std.specs.Prelude.{is_some, IsSome, MatchOption, if◌then◌else◌}
 use Rattle.std.specs.Option.{option_map, option_and_then, option_copied, option_to_list}
 use Rattle.dcc_top.specs.Words.{Parts, only_positional, with_word, with_value, set_value, value_in, Kind, Positional, End, Names, Gives, Unknown, kind_of, parts_after, parts_of, job_for}
 use Rattle.dcc_top.specs.WordsRead.{HasTwoFiles, parts_read}
 use Rattle.dcc_top.specs.declared.words.Found.{Found}
 use Rattle.dcc_top.specs.declared.words.Command.{Command}
-use Rattle.dcc_top.specs.declared.words.Command.TheVariants.{C, Run}
+use Rattle.dcc_top.specs.declared.words.Command.TheVariants.{C, Run, RunC}
 use Rattle.dcc_top.specs.declared.words.OptionName.{OptionName}
-use Rattle.dcc_top.specs.declared.words.OptionName.TheVariants.{Steps}
+use Rattle.dcc_top.specs.declared.words.OptionName.TheVariants.{Steps, Fill}
+
+-- one of two values of an option, where not both stand
+abbrev merged : Option (List ℕ) → Option (List ℕ) → Option (Option (List ℕ))
+merged None other = Some other
+merged (Some value) None = Some (Some value)
+merged (Some value) (Some other) = None
+
+-- parts of these positional words and these values, where no option stands twice
+abbrev built : List (List ℕ) → Option (Option (List ℕ)) → Option (Option (List ℕ)) → Option Parts
+built words None fill = None
+built words (Some steps) None = None
+built words (Some steps) (Some fill) = Some (record { positional = words; steps = steps; fill = fill })
 
 -- parts with others in front, where no option stands in both
-abbrev pub merged : List (List ℕ) → Option (List ℕ) → List (List ℕ) → Option (List ℕ) → Option Parts
-merged front None back steps = Some (record { positional = front ++ back; steps = steps })
-merged front (Some value) back None = Some (record { positional = front ++ back; steps = Some value })
-merged front (Some value) back (Some other) = None
-
 abbrev pub joined : Parts → Option Parts → Option Parts
 joined front None = None
-joined front (Some parts) = merged front.positional front.steps parts.positional parts.steps
+joined front (Some parts) =
+    built (front.positional ++ parts.positional) (merged front.steps parts.steps) (merged front.fill parts.fill)
 
 -- what the parts are by the kind of the first word
 unfoldable pub by_kind : List ℕ → List (List ℕ) → Kind → Option Parts
@@ -42,50 +49,71 @@ parts-by_kind word words = elim (kind_of word) as (λ k. (elim k [
 pub parts-at_kind : (word : List ℕ) (words : List (List ℕ)) (kind : Kind) → kind ≡ kind_of word → parts_of (word ∷ words) ≡ by_kind word words kind
 parts-at_kind word words kind is = parts-by_kind word words ∙ ap (λ k. by_kind word words k) (sym is)
 
-merged-word : (front : List (List ℕ)) (steps : Option (List ℕ)) (word : List ℕ) (back : List (List ℕ)) (other : Option (List ℕ)) → front ≡ [] →
-    merged front steps (word ∷ back) other ≡ merged (word ∷ []) steps back other
-merged-word front None word back other h = ap (λ l. Some (record { positional = l ++ (word ∷ back); steps = other })) h
-merged-word front (Some value) word back None h = ap (λ l. Some (record { positional = l ++ (word ∷ back); steps = Some value })) h
-merged-word front (Some value) word back (Some other) h = refl
+built-none : (words : List (List ℕ)) (steps : Option (Option (List ℕ))) → built words steps None ≡ None
+built-none words None = refl
+built-none words (Some steps) = refl
 
-merged-two : (front : List (List ℕ)) (steps : Option (List ℕ)) (word : List ℕ) (back : List (List ℕ)) (other : Option (List ℕ)) → 1 ≤ length front →
-    HasTwoFiles (merged front steps (word ∷ back) other)
-merged-two front None word back other h = simp length-append (omega arith)
-merged-two front (Some value) word back None h = simp length-append (omega arith)
-merged-two front (Some value) word back (Some other) h = tt
+built-two : (words : List (List ℕ)) (steps fill : Option (Option (List ℕ))) → 2 ≤ length words → HasTwoFiles (built words steps fill)
+built-two words None fill h = tt
+built-two words (Some steps) None h = tt
+built-two words (Some steps) (Some fill) h = h
 
 -- one more positional word
 joined-word : (front : Parts) (word : List ℕ) (others : Option Parts) → front.positional ≡ [] →
-    joined front (option_map (with_word word) others) ≡ joined (record { positional = word ∷ []; steps = front.steps }) others
+    joined front (option_map (with_word word) others) ≡ joined (record front { positional = word ∷ [] }) others
 joined-word front word None h = refl
-joined-word front word (Some parts) h = merged-word front.positional front.steps word parts.positional parts.steps h
+joined-word front word (Some parts) h =
+    ap (λ l. built (l ++ (word ∷ parts.positional)) (merged front.steps parts.steps) (merged front.fill parts.fill)) h
+
+two-words : (front : List (List ℕ)) (word : List ℕ) (back : List (List ℕ)) → 1 ≤ length front → 2 ≤ length (front ++ (word ∷ back))
+two-words front word back h = simp length-append (omega arith)
 
 joined-two : (front : Parts) (word : List ℕ) (others : Option Parts) → 1 ≤ length front.positional → HasTwoFiles (joined front (option_map (with_word word) others))
 joined-two front word None h = tt
-joined-two front word (Some parts) h = merged-two front.positional front.steps word parts.positional parts.steps h
+joined-two front word (Some parts) h =
+    built-two (front.positional ++ (word ∷ parts.positional)) (merged front.steps parts.steps) (merged front.fill parts.fill) (two-words front.positional word parts.positional h)
 
 -- one more option
-fresh-value : (front : Parts) (value : List ℕ) (back : List (List ℕ)) (other : Option (List ℕ)) →
-    joined (record { positional = front.positional; steps = None }) (if is_some other then None else Some (record { positional = back; steps = Some value })) ≡ merged front.positional (Some value) back other
-fresh-value front value back None = refl
-fresh-value front value back (Some other) = refl
+fresh-steps : (front : Parts) (value : List ℕ) (back : List (List ℕ)) (other fill : Option (List ℕ)) →
+    joined (record front { steps = None }) (if is_some other then None else Some (record { positional = back; steps = Some value; fill = fill })) ≡ built (front.positional ++ back) (merged (Some value) other) (merged front.fill fill)
+fresh-steps front value back None fill = refl
+fresh-steps front value back (Some other) fill = refl
+
+fresh-fill : (front : Parts) (value : List ℕ) (back : List (List ℕ)) (steps other : Option (List ℕ)) →
+    joined (record front { fill = None }) (if is_some other then None else Some (record { positional = back; steps = steps; fill = Some value })) ≡ built (front.positional ++ back) (merged front.steps steps) (merged (Some value) other)
+fresh-fill front value back steps None = refl
+fresh-fill front value back steps (Some other) = sym (built-none (front.positional ++ back) (merged front.steps steps))
 
 joined-value : (front : Parts) (name : OptionName) (value : List ℕ) (others : Option Parts) → value_in name front ≡ None →
     joined front (with_value name value others) ≡ joined (set_value name value front) others
 joined-value front Steps value None h = refl
+joined-value front Fill value None h = refl
 joined-value front Steps value (Some parts) h =
-    ap (λ s. joined (record { positional = front.positional; steps = s }) (with_value Steps value (Some parts))) h
-    ∙ fresh-value front value parts.positional parts.steps
+    ap (λ s. joined (record front { steps = s }) (with_value Steps value (Some parts))) h
+    ∙ fresh-steps front value parts.positional parts.steps parts.fill
+joined-value front Fill value (Some parts) h =
+    ap (λ s. joined (record front { fill = s }) (with_value Fill value (Some parts))) h
+    ∙ fresh-fill front value parts.positional parts.steps parts.fill
 
-taken-value : (front : List (List ℕ)) (steps : Option (List ℕ)) (value : List ℕ) (back : List (List ℕ)) (other : Option (List ℕ)) → IsSome steps →
-    joined (record { positional = front; steps = steps }) (if is_some other then None else Some (record { positional = back; steps = Some value })) ≡ None
-taken-value front None value back other h = absurd (let f : ⊥ = cc in f)
-taken-value front (Some old) value back None h = refl
-taken-value front (Some old) value back (Some other) h = refl
+taken-steps : (words : List (List ℕ)) (standing fill : Option (List ℕ)) (value : List ℕ) (back : List (List ℕ)) (other other_fill : Option (List ℕ)) → IsSome standing →
+    joined (record { positional = words; steps = standing; fill = fill }) (if is_some other then None else Some (record { positional = back; steps = Some value; fill = other_fill })) ≡ None
+taken-steps words None fill value back other other_fill h = absurd (let f : ⊥ = cc in f)
+taken-steps words (Some old) fill value back None other_fill h = refl
+taken-steps words (Some old) fill value back (Some other) other_fill h = refl
+
+taken-fill : (words : List (List ℕ)) (steps standing : Option (List ℕ)) (value : List ℕ) (back : List (List ℕ)) (other_steps other : Option (List ℕ)) → IsSome standing →
+    joined (record { positional = words; steps = steps; fill = standing }) (if is_some other then None else Some (record { positional = back; steps = other_steps; fill = Some value })) ≡ None
+taken-fill words steps None value back other_steps other h = absurd (let f : ⊥ = cc in f)
+taken-fill words steps (Some old) value back other_steps None h = built-none (words ++ back) (merged steps other_steps)
+taken-fill words steps (Some old) value back other_steps (Some other) h = refl
 
 joined-taken : (front : Parts) (name : OptionName) (value : List ℕ) (others : Option Parts) → IsSome (value_in name front) → joined front (with_value name value others) ≡ None
 joined-taken front Steps value None h = refl
-joined-taken front Steps value (Some parts) h = taken-value front.positional front.steps value parts.positional parts.steps h
+joined-taken front Fill value None h = refl
+joined-taken front Steps value (Some parts) h =
+    taken-steps front.positional front.steps front.fill value parts.positional parts.steps parts.fill h
+joined-taken front Fill value (Some parts) h =
+    taken-fill front.positional front.steps front.fill value parts.positional parts.steps parts.fill h
 
 -- The steps of the reader, from what was found so far, with the first word of those that are left.
 
@@ -94,7 +122,7 @@ pub none-when : (parts : Option Parts) → parts ≡ None → HasTwoFiles parts
 none-when parts h = subst HasTwoFiles (sym h) tt
 
 pub step-word : (found next : Parts) (all : Option Parts) (word : List ℕ) (words : List (List ℕ)) → joined found (parts_of (word ∷ words)) ≡ all → Positional ≡ kind_of word →
-    found.positional ≡ [] → next ≡ record { positional = word ∷ []; steps = found.steps } → joined next (parts_of words) ≡ all
+    found.positional ≡ [] → next ≡ record found { positional = word ∷ [] } → joined next (parts_of words) ≡ all
 unfolding by_kind
 step-word found next all word words inv kind none is =
     ap (λ p. joined p (parts_of words)) is ∙ sym (joined-word found word (parts_of words) none) ∙ ap (joined found) (sym (parts-at_kind word words Positional kind)) ∙ inv
@@ -140,24 +168,30 @@ pub stop-unknown : (found : Parts) (all : Option Parts) (word : List ℕ) (words
 unfolding by_kind
 stop-unknown found all word words inv kind = none-when all (sym inv ∙ ap (joined found) (parts-at_kind word words Unknown kind))
 
-merged-only : (front : List (List ℕ)) (steps : Option (List ℕ)) (words : List (List ℕ)) → merged front steps words None ≡ Some (record { positional = front ++ words; steps = steps })
-merged-only front None words = refl
-merged-only front (Some value) words = refl
+merged-none : (value : Option (List ℕ)) → merged value None ≡ Some value
+merged-none None = refl
+merged-none (Some value) = refl
+
+joined-only : (front : Parts) (words : List (List ℕ)) → joined front (Some (only_positional words)) ≡ Some (record front { positional = front.positional ++ words })
+joined-only front words =
+    ap (λ m. built (front.positional ++ words) m (merged front.fill None)) (merged-none front.steps)
+    ∙ ap (λ m. built (front.positional ++ words) (Some front.steps) m) (merged-none front.fill)
 
 -- after `--`
 all-end : (found : Parts) (all : Option Parts) (word : List ℕ) (words : List (List ℕ)) → joined found (parts_of (word ∷ words)) ≡ all → End ≡ kind_of word →
-    all ≡ Some (record { positional = found.positional ++ words; steps = found.steps })
+    all ≡ Some (record found { positional = found.positional ++ words })
 unfolding by_kind
 all-end found all word words inv kind =
-    sym inv ∙ ap (joined found) (parts-at_kind word words End kind) ∙ merged-only found.positional found.steps words
+    sym inv ∙ ap (joined found) (parts-at_kind word words End kind) ∙ joined-only found words
 
 -- at the end of the words
 pub all-read : (found : Parts) (all : Option Parts) → joined found (parts_of []) ≡ all → all ≡ Some found
-all-read found all inv = sym inv ∙ merged-only found.positional found.steps [] ∙ ap (λ l. Some (record { positional = l; steps = found.steps })) (append-nil found.positional)
+all-read found all inv =
+    sym inv ∙ joined-only found [] ∙ ap (λ l. Some (record found { positional = l })) (append-nil found.positional)
 
 -- what is answered after `--`
 pub all-answer : (found : Parts) (all : Option Parts) (word : List ℕ) (words : List (List ℕ)) (answer : Option Found) → joined found (parts_of (word ∷ words)) ≡ all → End ≡ kind_of word →
-    MatchOption answer (2 ≤ length (found.positional ++ words)) (λ f. parts_read f ≡ record { positional = found.positional ++ words; steps = found.steps }) →
+    MatchOption answer (2 ≤ length (found.positional ++ words)) (λ f. parts_read f ≡ record found { positional = found.positional ++ words }) →
     MatchOption answer (HasTwoFiles all) (λ f. all ≡ Some (parts_read f))
 all-answer found all word words None inv kind h = subst HasTwoFiles (sym (all-end found all word words inv kind)) h
 all-answer found all word words (Some f) inv kind h = all-end found all word words inv kind ∙ ap (λ p. Some p) (sym h)
@@ -168,16 +202,15 @@ some-file None h = absurd (let f : ⊥ = cc in f)
 some-file (Some name) h = omega arith
 
 -- no command takes two positional words
-two-no_job : (command : Command) (words : List (List ℕ)) (steps : Option (List ℕ)) → 2 ≤ length words → job_for command words steps ≡ None
-two-no_job command [] steps h = absurd (omega arith)
-two-no_job command (a ∷ []) steps h = absurd (omega arith)
-two-no_job C (a ∷ (b ∷ ws)) None h = refl
-two-no_job C (a ∷ (b ∷ ws)) (Some value) h = refl
-two-no_job Run (a ∷ (b ∷ ws)) None h = refl
-two-no_job Run (a ∷ (b ∷ ws)) (Some value) h = refl
+two-no_job : (command : Command) (words : List (List ℕ)) (steps fill : Option (List ℕ)) → 2 ≤ length words → job_for command words steps fill ≡ None
+two-no_job command [] steps fill h = absurd (omega arith)
+two-no_job command (a ∷ []) steps fill h = absurd (omega arith)
+two-no_job C (a ∷ (b ∷ ws)) steps fill h = refl
+two-no_job Run (a ∷ (b ∷ ws)) steps fill h = refl
+two-no_job RunC (a ∷ (b ∷ ws)) steps fill h = refl
 
 pub two-no_command : (command : Option Command) (parts : Option Parts) → HasTwoFiles parts →
-    option_and_then (λ c. option_and_then (λ p. job_for c p.positional p.steps) parts) command ≡ None
+    option_and_then (λ c. option_and_then (λ p. job_for c p.positional p.steps p.fill) parts) command ≡ None
 two-no_command None parts h = refl
 two-no_command (Some command) None h = refl
-two-no_command (Some command) (Some parts) h = two-no_job command parts.positional parts.steps h
+two-no_command (Some command) (Some parts) h = two-no_job command parts.positional parts.steps parts.fill h

@@ -1,5 +1,5 @@
 -- The program's answers: the status, the line on the error stream, and which answers are allowed for a job.
-use Rattle.std.specs.Prelude.{◌≡◌, ℕ, ◌+◌, ◌/◌, ◌%◌, nat_lt, if◌then◌else◌, List, [], ◌∷◌, ◌++◌, codes, Option, Some, None}
+use Rattle.std.specs.Prelude.{◌≡◌, ◌≤◌, ℕ, ◌+◌, ◌/◌, ◌%◌, nat_lt, if◌then◌else◌, List, [], ◌∷◌, ◌++◌, length, codes, Option, Some, None}
 use Rattle.std.specs.Fmt.{decimal}
 use Rattle.dcc_mz.specs.Fault.{number_of, place_of, IsRefusal as IsFormatRefusal}
 use Rattle.dcc_mz.specs.declared.fault.MzFault.{MzFault}
@@ -11,15 +11,19 @@ use Rattle.dcc_prog.specs.declared.refusal.LimitName.TheVariants.{Procedures, In
 use Rattle.dcc_prog.specs.declared.refusal.Refusal.{Refusal}
 use Rattle.dcc_prog.specs.declared.refusal.Refusal.TheVariants.{Construct as ConstructRefused, Limit as LimitRefused, NotYet as NotYetRefused, Memory as MemoryRefused}
 use Rattle.dcc_prog.specs.MzImage.{IsImageOf}
+use Rattle.dcc_c.specs.Text.{StandsFor}
 use Rattle.dcc_c.specs.Tree.{Tree}
 use Rattle.dcc_c.specs.Written.{written_form}
+use Rattle.dcc_read.specs.declared.offence.ParseKind.{ParseKind}
+use Rattle.dcc_read.specs.declared.offence.ParseKind.TheVariants.{Length, Version, Token, Grammar, Name, Type_, Place, Depth}
+use Rattle.dcc_parse.specs.Fault.{IsRefusal as IsTextRefusal}
 use Rattle.dcc_pipe.specs.Agreement.{IsTextOf}
 use Rattle.dcc_top.specs.declared.reply.Reply.{Reply}
-use Rattle.dcc_top.specs.declared.reply.Reply.TheVariants.{Done, Exited, Usage, NoFile, FileFault, InputFault, Memory, Format, Construct, Limit, NotYet, Unfinished, Divided, Outside}
+use Rattle.dcc_top.specs.declared.reply.Reply.TheVariants.{Done, Exited, Usage, NoFile, FileFault, InputFault, Memory, Format, Construct, Limit, NotYet, TextFault, Unfinished, Divided, Outside, Stuck}
 use Rattle.dcc_top.specs.Agreement.{Agrees}
 use Rattle.dcc_top.specs.Program.{IsRefusedFor, IsAcceptedProgram}
-use Rattle.dcc_top.specs.Execution.{machine_of, Finishes, PutsOut}
-use Rattle.dcc_top.specs.Words.{Job, Decompile, Execute}
+use Rattle.dcc_top.specs.Execution.{machine_of, text_of, Finishes, FinishesOrStops, PutsOut}
+use Rattle.dcc_top.specs.Words.{Job, Decompile, Execute, ExecuteText, greatest_text}
 
 -- a hexadecimal digit, in upper case
 abbrev pub hex_digit : ℕ → ℕ
@@ -39,6 +43,17 @@ limit_word Cells = codes "cells"
 limit_word Entries = codes "entries"
 limit_word Arguments = codes "arguments"
 
+-- the kind of what offends in a text, as it is told
+abbrev pub kind_word : ParseKind → List ℕ
+kind_word Length = codes "length"
+kind_word Version = codes "version"
+kind_word Token = codes "token"
+kind_word Grammar = codes "grammar"
+kind_word Name = codes "name"
+kind_word Type_ = codes "type"
+kind_word Place = codes "place"
+kind_word Depth = codes "depth"
+
 -- the exit status
 abbrev pub status_of : Reply → ℕ
 status_of Done = 0
@@ -51,10 +66,12 @@ status_of Memory = 7
 status_of (Format fault) = 8
 status_of (Construct kind at) = 9
 status_of (Limit what count) = 10
+status_of (TextFault line kind) = 11
 status_of (NotYet at) = 12
 status_of (Unfinished steps) = 20
 status_of Divided = 21
 status_of (Outside at) = 22
+status_of (Stuck line) = 24
 
 -- the line on the error stream; none where a text is done
 abbrev pub line_of : Reply → List ℕ
@@ -71,10 +88,13 @@ line_of (Construct kind at) =
     codes "dcc: construct " ++ (decimal kind ++ (codes " at " ++ (hex_offset at ++ codes "\n")))
 line_of (Limit what count) =
     codes "dcc: limit " ++ (limit_word what ++ (codes " " ++ (decimal count ++ codes "\n")))
+line_of (TextFault line kind) =
+    codes "dcc: text " ++ (kind_word kind ++ (codes " at line " ++ (decimal line ++ codes "\n")))
 line_of (NotYet at) = codes "dcc: not yet at " ++ (hex_offset at ++ codes "\n")
 line_of (Unfinished steps) = codes "running after " ++ (decimal steps ++ codes " steps\n")
 line_of Divided = codes "divide\n"
 line_of (Outside at) = codes "outside at " ++ (hex_offset at ++ codes "\n")
+line_of (Stuck line) = codes "stuck at line " ++ (decimal line ++ codes "\n")
 
 -- the answer where a file is not loaded
 abbrev pub fault_reply : MzFault → Reply
@@ -123,6 +143,16 @@ pub data FailsCheck (file : List ℕ) : Reply → Type 0 where
 pub data HasNoImage (told : Files) (name : List ℕ) : Reply → Type 0 where
   no_executable : {reply : Reply} → HasNoFile told name reply → HasNoImage told name reply
   misshapen : {fault : MzFault} → OfFile told name (λ file. IsFormatRefusal file fault) → HasNoImage told name (Format fault)
+
+-- The answer says why there is no unit of the file of this name: it could not be had, or it is refused as a text.
+pub data HasNoUnit (told : Files) (name : List ℕ) : Reply → Type 0 where
+  no_text : {reply : Reply} → HasNoFile told name reply → HasNoUnit told name reply
+  offends : {line : ℕ} {kind : ParseKind} → OfFile told name (λ text. IsTextRefusal text line kind) → HasNoUnit told name (TextFault line kind)
+
+-- the answer says what offends in the text, or that memory ran out
+pub data FailsToRead (text : List ℕ) : Reply → Type 0 where
+  fails_to_read : {line : ℕ} {kind : ParseKind} → IsTextRefusal text line kind → FailsToRead text (TextFault line kind)
+  no_memory_to_read : FailsToRead text Memory
 
 -- The text of an executable.
 
@@ -176,10 +206,44 @@ pub record FilePutsOut (file : List ℕ) (steps : ℕ) (before : Option (List �
   pub is_image : IsImageOf file image
   pub puts : PutsOut (machine_of image) steps before output
 
+-- the text stands for this tree alone, and is not too long
+pub record IsReadAs (text : List ℕ) (tree : Tree) : Type 0 where
+  pub stands : StandsFor text tree
+  pub alone : (other : Tree) → StandsFor text other → other ≡ tree
+  pub length : length text ≤ greatest_text
+
+-- some text stands for the tree
+pub record HasSomeText (tree : Tree) : Type 0 where
+  pub text : List ℕ
+  pub stands : StandsFor text tree
+
+-- from the start of a text for this tree, the answer is one for its run
+abbrev pub RunsUnit : Tree → ℕ → ℕ → Option (List ℕ) → Option (List ℕ) → Reply → List ℕ → Type 0
+RunsUnit tree steps fill before left reply output =
+    (text : List ℕ) (stands : StandsFor text tree) → FinishesOrStops (text_of tree stands.allowed.start fill) steps before left reply output
+
+-- from the start of a text for this tree, its run puts this out
+abbrev pub UnitPutsOut : Tree → ℕ → ℕ → Option (List ℕ) → List ℕ → Type 0
+UnitPutsOut tree steps fill before output =
+    (text : List ℕ) (stands : StandsFor text tree) → PutsOut (text_of tree stands.allowed.start fill) steps before output
+
+-- the answer is one for a run of the text
+pub record RunsText (text : List ℕ) (steps fill : ℕ) (before left : Option (List ℕ)) (reply : Reply) (output : List ℕ) : Type 0 where
+  pub tree : Tree
+  pub is_read : IsReadAs text tree
+  pub runs : RunsUnit tree steps fill before left reply output
+
+-- the run of the text puts this out
+pub record TextPutsOut (text : List ℕ) (steps fill : ℕ) (before : Option (List ℕ)) (output : List ℕ) : Type 0 where
+  pub tree : Tree
+  pub is_read : IsReadAs text tree
+  pub puts : UnitPutsOut tree steps fill before output
+
 -- the answer is one for the run that the job asks for, on the file with these bytes
 abbrev pub Runs : Job → List ℕ → Option (List ℕ) → Option (List ℕ) → Reply → List ℕ → Type 0
 Runs (Decompile name) file before left reply output = ⊥
 Runs (Execute name steps) file before left reply output = RunsFile file steps before left reply output
+Runs (ExecuteText name steps fill) file before left reply output = RunsText file steps fill before left reply output
 
 -- All jobs.
 
@@ -189,8 +253,11 @@ pub data Allows (told : Files) (before left : Option (List ℕ)) : Option Job �
   for_text : {name : List ℕ} {reply : Reply} {output : List ℕ} → AllowsText told name reply output → left ≡ before → Allows told before left (Some (Decompile name)) reply output
   ran_file : {name : List ℕ} {steps : ℕ} {reply : Reply} {output : List ℕ} → OfFile told name (λ file. RunsFile file steps before left reply output) → Allows told before left (Some (Execute name steps)) reply output
   ran_no_file : {name : List ℕ} {steps : ℕ} {reply : Reply} → HasNoImage told name reply → left ≡ before → Allows told before left (Some (Execute name steps)) reply []
+  ran_text : {name : List ℕ} {steps fill : ℕ} {reply : Reply} {output : List ℕ} → OfFile told name (λ text. RunsText text steps fill before left reply output) → Allows told before left (Some (ExecuteText name steps fill)) reply output
+  ran_no_text : {name : List ℕ} {steps fill : ℕ} {reply : Reply} → HasNoUnit told name reply → left ≡ before → Allows told before left (Some (ExecuteText name steps fill)) reply []
 
 -- These bytes are due on the output, where the job comes to its end: the text of the file, or what a run puts out.
 pub data IsDue (told : Files) (before : Option (List ℕ)) : Option Job → List ℕ → Type 0 where
   due_text : {name due : List ℕ} → OfFile told name (λ file. Decompiles file due) → IsDue told before (Some (Decompile name)) due
   due_output : {name due : List ℕ} {steps : ℕ} → OfFile told name (λ file. FilePutsOut file steps before due) → IsDue told before (Some (Execute name steps)) due
+  due_text_output : {name due : List ℕ} {steps fill : ℕ} → OfFile told name (λ text. TextPutsOut text steps fill before due) → IsDue told before (Some (ExecuteText name steps fill)) due

@@ -1,5 +1,5 @@
 -- When each status comes, and what it says.
-use Rattle.std.specs.Prelude.{◌≡◌, ◌≢◌, ◌⊎◌, ℕ, List, [], ◌∷◌, ◌++◌, Option, Some, None}
+use Rattle.std.specs.Prelude.{◌≡◌, ◌≢◌, ◌⊎◌, ◌<◌, ◌≤◌, ℕ, List, [], ◌∷◌, ◌++◌, length, Option, Some, None}
 use Rattle.dcc_io.specs.Count.{Rose}
 use Rattle.dcc_io.specs.Told.{append_told, AppendsProperPrefix}
 use Rattle.dcc_mz.specs.declared.fault.MzFault.{MzFault}
@@ -12,9 +12,14 @@ use Rattle.dcc_prog.specs.declared.refusal.Refusal.{Refusal}
 use Rattle.dcc_prog.specs.Machine.{start_state}
 use Rattle.dcc_prog.specs.MzImage.{IsImageOf}
 use Rattle.dcc_prog.specs.Step.{machine_system}
+use Rattle.dcc_c.specs.Run.{text_system, first_state}
+use Rattle.dcc_c.specs.Text.{StandsFor}
+use Rattle.dcc_c.specs.Tree.{Tree}
+use Rattle.dcc_read.specs.declared.offence.ParseKind.{ParseKind}
+use Rattle.dcc_parse.specs.Fault.{IsRefusal as IsTextRefusal}
 use Rattle.dcc_top.specs.declared.reply.Reply.{Reply}
-use Rattle.dcc_top.specs.declared.reply.Reply.TheVariants.{Done, NoFile, FileFault, InputFault, Memory, Format}
-use Rattle.dcc_top.specs.Words.{Job, Decompile, Execute, name_of, file_of, requests_of}
+use Rattle.dcc_top.specs.declared.reply.Reply.TheVariants.{Done, NoFile, FileFault, InputFault, Memory, Format, TextFault}
+use Rattle.dcc_top.specs.Words.{Job, Decompile, Execute, ExecuteText, name_of, file_of, requests_of, greatest_text}
 use Rattle.dcc_top.specs.Answer.{Files, Allows, IsDue, Decompiles, IsRefusedAs, Runs, ShelfHas, ShelfLacks, status_of, line_of, refusal_reply}
 use Rattle.dcc_top.specs.Delivery.{Streams, TellsLine, BreaksOff}
 
@@ -89,6 +94,19 @@ pub record HasRefusal (told : Files) (job : Option Job) (status : ℕ) (s : Stre
   pub status_is : status ≡ status_of (refusal_reply refusal)
   pub line : s.err_after ≡ append_told s.err_before (line_of (refusal_reply refusal))
 
+-- the text that the words name is refused, and the line tells what offends in it first, with its line
+pub record HasTextFault (told : Files) (words_job : Option Job) (s : Streams) : Type 0 where
+  pub name : List ℕ
+  pub steps : ℕ
+  pub fill : ℕ
+  pub text : List ℕ
+  pub line : ℕ
+  pub kind : ParseKind
+  pub named : words_job ≡ Some (ExecuteText name steps fill)
+  pub has : ShelfHas told name text
+  pub refused : IsTextRefusal text line kind
+  pub line_is : s.err_after ≡ append_told s.err_before (line_of (TextFault line kind))
+
 -- the shelf tells that it has this file under the name of the words
 pub record Names (told : Files) (job : Option Job) (file : List ℕ) : Type 0 where
   pub name : List ℕ
@@ -105,16 +123,21 @@ pub record IsMissing (told : Files) (job : Option Job) : Type 0 where
   pub tells : told ≡ Some files
   pub lacks : files name ≡ None
 
+-- no tree stands for the text, or it is too long
+abbrev pub IsNoText : List ℕ → Type 0
+IsNoText text = ((tree : Tree) → ¬ StandsFor text tree) ⊎ (greatest_text < length text)
+
 -- the run that the job asks for on the file and the input ends so, after the steps that are asked for
 pub data EndsSo (file input : List ℕ) : Job → End → Type 0 where
   file_ends : {name : List ℕ} {steps : ℕ} {image : Image} → IsImageOf file image → EndsSo file input (Execute name steps) (end_after machine_system steps (start_state image input))
+  text_ends : {name : List ℕ} {steps fill : ℕ} {tree : Tree} → (stands : StandsFor file tree) → length file ≤ greatest_text → EndsSo file input (ExecuteText name steps fill) (end_after (text_system tree) steps (first_state tree stands.allowed.start fill input))
 
 -- the status is one of these
 abbrev pub IsOneOf : ℕ → List ℕ → Type 0
 IsOneOf status [] = ⊥
 IsOneOf status (n ∷ ns) = (status ≡ n) ⊎ IsOneOf status ns
 
--- the status of a run that has ended so; no run of an executable is stuck
+-- the status of a run that has ended so
 abbrev pub end_status : End → ℕ
 end_status Running = 20
 end_status (Exit code) = 0

@@ -1,13 +1,15 @@
 -- Runs: what they put out and take, and how they end.
 use Rattle.std.specs.Prelude.{◌≡◌, ℕ, ◌<◌, List, [], ◌∷◌, Option, Some}
 use Rattle.dcc_io.specs.Told.{WhenTold}
-use Rattle.dcc_run.specs.End.{End, Running as running, Exit as exited, Divide as divided, Outside as outside}
+use Rattle.dcc_run.specs.End.{End, Running as running, Exit as exited, Divide as divided, Outside as outside, Stuck as stuck}
 use Rattle.dcc_run.specs.System.{System, after, out_after, end_after}
 use Rattle.dcc_prog.specs.declared.image.Image.{Image}
 use Rattle.dcc_prog.specs.Machine.{State as MachineState, start_state}
 use Rattle.dcc_prog.specs.Step.{machine_system}
+use Rattle.dcc_c.specs.Tree.{Tree, Function}
+use Rattle.dcc_c.specs.Run.{State as TextState, text_system, first_state}
 use Rattle.dcc_top.specs.declared.reply.Reply.{Reply}
-use Rattle.dcc_top.specs.declared.reply.Reply.TheVariants.{Exited, InputFault, Memory, Unfinished, Divided, Outside}
+use Rattle.dcc_top.specs.declared.reply.Reply.TheVariants.{Exited, InputFault, Memory, Unfinished, Divided, Outside, Stuck}
 
 -- What is run: a system, the state in which it starts on an input, the input that a state has left, and a state with
 -- another input.
@@ -22,6 +24,15 @@ abbrev pub machine_of : Image → Subject MachineState
 machine_of image = record {
   system = machine_system;
   start = start_state image;
+  left = λ s. s.input;
+  with_left = λ input s. record s { input = input };
+}
+
+-- a text, from its function `start`
+abbrev pub text_of : Tree → Function → ℕ → Subject TextState
+text_of tree start fill = record {
+  system = text_system tree;
+  start = first_state tree start fill;
   left = λ s. s.input;
   with_left = λ input s. record s { input = input };
 }
@@ -58,18 +69,24 @@ pub record StopsAtRead {S : Type 0} (subject : Subject S) (steps : ℕ) (left : 
   pub takes : TakesInput subject (state_after subject stops.made input)
 
 -- the answer where a run of so many steps has ended so, or goes on
-pub data TellsEnd (steps : ℕ) : End → Reply → Type 0 where
-  goes_on : TellsEnd steps running (Unfinished steps)
-  has_exited : {code : ℕ} → TellsEnd steps (exited code) (Exited code)
-  has_divided : TellsEnd steps divided Divided
-  is_outside : {at : ℕ} → TellsEnd steps (outside at) (Outside at)
+abbrev pub end_reply : ℕ → End → Reply
+end_reply steps running = Unfinished steps
+end_reply steps (exited code) = Exited code
+end_reply steps divided = Divided
+end_reply steps (outside at) = Outside at
+end_reply steps (stuck line) = Stuck line
 
 -- What an answer says of a run of so many steps: from the input that was left before, where that is told, these bytes were
 -- put out, and this input is left. Where no memory was found for the run, nothing was.
 pub data Finishes {S : Type 0} (subject : Subject S) (steps : ℕ) (before left : Option (List ℕ)) : Reply → List ℕ → Type 0 where
-  ended : {reply : Reply} {output : List ℕ} {end : End} → TellsEnd steps end reply → WhenTold before (HasRun subject steps left output end) → Finishes subject steps before left reply output
+  ended : {output : List ℕ} (end : End) → WhenTold before (HasRun subject steps left output end) → Finishes subject steps before left (end_reply steps end) output
   stopped_at_read : {output : List ℕ} → WhenTold before (StopsAtRead subject steps left output) → Finishes subject steps before left InputFault output
   not_begun : left ≡ before → Finishes subject steps before left Memory []
+
+-- the same for a run whose steps take memory, of which there may be none for the next step
+pub data FinishesOrStops {S : Type 0} (subject : Subject S) (steps : ℕ) (before left : Option (List ℕ)) : Reply → List ℕ → Type 0 where
+  finishes : {reply : Reply} {output : List ℕ} → Finishes subject steps before left reply output → FinishesOrStops subject steps before left reply output
+  found_none : {output : List ℕ} → WhenTold before (Stops subject steps left output) → FinishesOrStops subject steps before left Memory output
 
 -- the output that a run of so many steps puts out from the input, where that is told
 abbrev pub PutsOut : {S : Type 0} → Subject S → ℕ → Option (List ℕ) → List ℕ → Type 0

@@ -7,9 +7,9 @@ use Rattle.std.specs.Char.{is_ascii_digit}
 use Rattle.std.specs.Str.{bytes_eq}
 use Rattle.std.specs.Str.Parse.{digits_value}
 use Rattle.dcc_top.specs.declared.words.Command.{Command}
-use Rattle.dcc_top.specs.declared.words.Command.TheVariants.{C, Run}
+use Rattle.dcc_top.specs.declared.words.Command.TheVariants.{C, Run, RunC}
 use Rattle.dcc_top.specs.declared.words.OptionName.{OptionName}
-use Rattle.dcc_top.specs.declared.words.OptionName.TheVariants.{Steps}
+use Rattle.dcc_top.specs.declared.words.OptionName.TheVariants.{Steps, Fill}
 
 -- what the program is to do
 pub data Job : Type 0 where
@@ -17,37 +17,44 @@ pub data Job : Type 0 where
   Decompile : List ℕ → Job
   -- run the executable with this name, for at most so many steps
   Execute : List ℕ → ℕ → Job
+  -- run the text with this name, for at most so many steps, with this fill
+  ExecuteText : List ℕ → ℕ → ℕ → Job
 
 -- the first word, as a command
 abbrev pub command_word : Command → List ℕ
 command_word C = codes "c"
 command_word Run = codes "run"
+command_word RunC = codes "runc"
 
 -- an option's name, as it is written
 abbrev pub option_word : OptionName → List ℕ
 option_word Steps = codes "--steps"
+option_word Fill = codes "--fill"
 
 -- The words after the command are of three sorts: positional words in their order, options, and the first `--` that isn't an
 -- option's value, after which every word is positional. These are the positional words, and the value of each option that stands.
 pub record Parts : Type 0 where
   pub positional : List (List ℕ)
   pub steps : Option (List ℕ)
+  pub fill : Option (List ℕ)
 
 -- positional words alone
 abbrev pub only_positional : List (List ℕ) → Parts
-only_positional words = record { positional = words; steps = None }
+only_positional words = record { positional = words; steps = None; fill = None }
 
 -- one more positional word in front
 abbrev pub with_word : List ℕ → Parts → Parts
-with_word word parts = record { positional = word ∷ parts.positional; steps = parts.steps }
+with_word word parts = record parts { positional = word ∷ parts.positional }
 
 -- the value of an option, where it stands
 abbrev pub value_in : OptionName → Parts → Option (List ℕ)
 value_in Steps parts = parts.steps
+value_in Fill parts = parts.fill
 
 -- the same with this value of the option
 abbrev pub set_value : OptionName → List ℕ → Parts → Parts
-set_value Steps value parts = record { positional = parts.positional; steps = Some value }
+set_value Steps value parts = record parts { steps = Some value }
+set_value Fill value parts = record parts { fill = Some value }
 
 -- the word doesn't begin with `-`, byte 45, or is `-` alone
 abbrev pub is_positional : List ℕ → Bool
@@ -78,10 +85,17 @@ abbrev pub steps_of : Option (List ℕ) → Option ℕ
 steps_of None = Some 1000000
 steps_of (Some word) = number_of 10 1000000000 word
 
+-- what the variables of a text hold before they have a value: 0 to 65535 in at most 5 digits, or 0 where the option doesn't
+-- stand
+abbrev pub fill_of : Option (List ℕ) → Option ℕ
+fill_of None = Some 0
+fill_of (Some word) = number_of 5 65535 word
+
 -- the words ask for this job
 pub data AskFor : List (List ℕ) → Job → Type 0 where
-  decompile : {words : List (List ℕ)} {file : List ℕ} → HasParts words (record { positional = file ∷ []; steps = None }) → AskFor (command_word C ∷ words) (Decompile file)
-  execute : {words : List (List ℕ)} {file : List ℕ} {value : Option (List ℕ)} {steps : ℕ} → HasParts words (record { positional = file ∷ []; steps = value }) → steps_of value ≡ Some steps → AskFor (command_word Run ∷ words) (Execute file steps)
+  decompile : {words : List (List ℕ)} {file : List ℕ} → HasParts words (only_positional (file ∷ [])) → AskFor (command_word C ∷ words) (Decompile file)
+  execute : {words : List (List ℕ)} {file : List ℕ} {value : Option (List ℕ)} {steps : ℕ} → HasParts words (record { positional = file ∷ []; steps = value; fill = None }) → steps_of value ≡ Some steps → AskFor (command_word Run ∷ words) (Execute file steps)
+  execute_text : {words : List (List ℕ)} {file : List ℕ} {value other : Option (List ℕ)} {steps fill : ℕ} → HasParts words (record { positional = file ∷ []; steps = value; fill = other }) → steps_of value ≡ Some steps → fill_of other ≡ Some fill → AskFor (command_word RunC ∷ words) (ExecuteText file steps fill)
 
 -- The same as functions: the one job that the words ask for, if any.
 
@@ -97,11 +111,18 @@ pub data Kind : Type 0 where
 
 -- the option of this name
 abbrev pub option_of : List ℕ → Option OptionName
-option_of word = if bytes_eq word (codes "--steps") then Some Steps else None
+option_of word =
+    if bytes_eq word (codes "--steps") then Some Steps
+    else if bytes_eq word (codes "--fill") then Some Fill
+    else None
 
 -- the command of this name
 abbrev pub command_of : List ℕ → Option Command
-command_of word = if bytes_eq word (codes "c") then Some C else (if bytes_eq word (codes "run") then Some Run else None)
+command_of word =
+    if bytes_eq word (codes "c") then Some C
+    else if bytes_eq word (codes "run") then Some Run
+    else if bytes_eq word (codes "runc") then Some RunC
+    else None
 
 -- the kind of a word that begins with an option's name
 abbrev pub named : Option OptionName → Kind
@@ -147,17 +168,23 @@ parts_after (Some name) (value ∷ words) = with_value name value (parts_after N
 abbrev pub parts_of : List (List ℕ) → Option Parts
 parts_of words = parts_after None words
 
--- the job of a command with these parts
-abbrev pub job_for : Command → List (List ℕ) → Option (List ℕ) → Option Job
-job_for C (file ∷ []) None = Some (Decompile file)
-job_for Run (file ∷ []) value = option_map (Execute file) (steps_of value)
-job_for _ _ _ = None
+-- the job of `runc` for a file
+abbrev pub text_job : List ℕ → Option (List ℕ) → Option (List ℕ) → Option Job
+text_job file value other =
+    option_and_then (λ steps. option_map (ExecuteText file steps) (fill_of other)) (steps_of value)
+
+-- the job of a command with these positional words, and these values of `--steps` and `--fill`
+abbrev pub job_for : Command → List (List ℕ) → Option (List ℕ) → Option (List ℕ) → Option Job
+job_for C (file ∷ []) None None = Some (Decompile file)
+job_for Run (file ∷ []) value None = option_map (Execute file) (steps_of value)
+job_for RunC (file ∷ []) value other = text_job file value other
+job_for _ _ _ _ = None
 
 -- the job of the words after the program's name, or none where they are no command
 unfoldable pub job_of : List (List ℕ) → Option Job
 job_of [] = None
 job_of (word ∷ words) =
-    option_and_then (λ command. option_and_then (λ parts. job_for command parts.positional parts.steps) (parts_of words)) (command_of word)
+    option_and_then (λ command. option_and_then (λ parts. job_for command parts.positional parts.steps parts.fill) (parts_of words)) (command_of word)
 
 -- a job is that of the words exactly where they ask for it
 abbrev pub AskForOneJob : Type 0
@@ -171,21 +198,38 @@ job_in words = job_of (map string_bytes words)
 abbrev pub name_of : Job → List ℕ
 name_of (Decompile file) = file
 name_of (Execute file steps) = file
+name_of (ExecuteText file steps fill) = file
 
 abbrev pub file_of : Option Job → Option (List ℕ)
 file_of job = option_map name_of job
 
--- the job is to run an executable
+-- the job is to run an executable or a text
 abbrev pub IsExecution : Option Job → Type 0
 IsExecution None = ⊥
 IsExecution (Some (Decompile file)) = ⊥
 IsExecution (Some (Execute file steps)) = Unit {0}
+IsExecution (Some (ExecuteText file steps fill)) = Unit {0}
 
--- the greatest length of an executable that is fetched, in bytes
+-- the file of the job is an executable
+abbrev pub LoadsImage : Option Job → Type 0
+LoadsImage None = ⊥
+LoadsImage (Some (Decompile file)) = Unit {0}
+LoadsImage (Some (Execute file steps)) = Unit {0}
+LoadsImage (Some (ExecuteText file steps fill)) = ⊥
+
+-- the greatest length of an executable that is fetched, and that of a text, in bytes
 abbrev pub greatest_file : ℕ
 greatest_file = 262144
+
+abbrev pub greatest_text : ℕ
+greatest_text = 67108864
+
+abbrev pub greatest_of : Job → ℕ
+greatest_of (Decompile file) = greatest_file
+greatest_of (Execute file steps) = greatest_file
+greatest_of (ExecuteText file steps fill) = greatest_text
 
 -- what a job asks the shelf for: names, each with the greatest number of bytes
 abbrev pub requests_of : Option Job → List (List ℕ × ℕ)
 requests_of None = []
-requests_of (Some job) = (name_of job, greatest_file) ∷ []
+requests_of (Some job) = (name_of job, greatest_of job) ∷ []

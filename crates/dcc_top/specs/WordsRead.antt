@@ -2,16 +2,17 @@
 use Rattle.std.specs.Prelude.{◌≤◌, length, Option, IfSome}
 use Rattle.std.specs.Option.{option_copied, option_to_list}
 use Rattle.dcc_top.specs.declared.words.Job.{Job as ReadJob}
-use Rattle.dcc_top.specs.declared.words.Job.TheVariants.{Decompile as ReadDecompile, Execute as ReadExecute}
+use Rattle.dcc_top.specs.declared.words.Job.TheVariants.{Decompile as ReadDecompile, Execute as ReadExecute, ExecuteText as ReadExecuteText}
 use Rattle.dcc_top.specs.declared.words.Kind.{Kind as ReadKind}
 use Rattle.dcc_top.specs.declared.words.Kind.TheVariants.{Positional as ReadPositional, End as ReadEnd, Names as ReadNames, Gives as ReadGives, Unknown as ReadUnknown}
 use Rattle.dcc_top.specs.declared.words.Found.{Found}
-use Rattle.dcc_top.specs.Words.{Job, Decompile, Execute, Kind, Positional, End, Names, Gives, Unknown, Parts}
+use Rattle.dcc_top.specs.Words.{Job, Decompile, Execute, ExecuteText, Kind, Positional, End, Names, Gives, Unknown, Parts}
 
 -- the job that a value of the program names
 abbrev pub job_read : ReadJob → Job
 job_read (ReadDecompile file) = Decompile file.now
 job_read (ReadExecute file steps) = Execute file.now steps
+job_read (ReadExecuteText file steps fill) = ExecuteText file.now steps fill
 
 abbrev pub kind_read : ReadKind → Kind
 kind_read ReadPositional = Positional
@@ -22,7 +23,11 @@ kind_read ReadUnknown = Unknown
 
 -- the parts that were found
 abbrev pub parts_read : Found → Parts
-parts_read found = record { positional = option_to_list (option_copied found.file); steps = option_copied found.steps }
+parts_read found = record {
+  positional = option_to_list (option_copied found.file);
+  steps = option_copied found.steps;
+  fill = option_copied found.fill;
+}
 
 -- there are two positional words or more, which no command takes
 abbrev pub HasTwoFiles : Option Parts → Type 0

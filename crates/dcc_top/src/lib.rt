@@ -6,5 +6,6 @@ pub mod deliver;
 pub mod execute;
 pub mod fetch;
 pub mod reply;
+pub mod text_job;
 pub mod top;
 pub mod words;

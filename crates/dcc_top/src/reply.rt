@@ -1,9 +1,10 @@
 //! What the program answers: a status, and a line on the error stream.
 
 ghost use Rattle.std.specs.Prelude.{◌≡◌, ◌<◌, ◌++◌, IfOk, OnOk, IsOk, codes, string_bytes};
-ghost use Rattle.dcc_top.specs.Answer.{status_of, line_of, limit_word, hex_digit, hex_offset, fault_reply, refusal_reply};
+ghost use Rattle.dcc_top.specs.Answer.{status_of, line_of, limit_word, kind_word, hex_digit, hex_offset, fault_reply, refusal_reply};
 
 use dcc_mz::MzFault;
+use dcc_parse::ParseKind;
 use dcc_prog::{LimitName, Refusal};
 use std::alloc::{AllocError, Global};
 
@@ -32,12 +33,16 @@ pub enum Reply {
     Limit { what: LimitName, count: u32 },
     /// The instruction at this offset in the code segment is of a form that is not built yet.
     NotYet(u16),
+    /// The text is refused for what offends first, in this line.
+    TextFault { line: u32, kind: ParseKind },
     /// The run goes on after this number of steps.
     Unfinished(u64),
     /// The run ended by a divide fault.
     Divided,
     /// The run came to what is no instruction of the machine, at this offset in the code segment.
     Outside(u16),
+    /// The run of the text came to where it has no step, in this line.
+    Stuck(u32),
 }
 
 impl Reply {
@@ -77,10 +82,12 @@ impl Reply {
             Reply::Format(_) => 8,
             Reply::Construct { .. } => 9,
             Reply::Limit { .. } => 10,
+            Reply::TextFault { .. } => 11,
             Reply::NotYet(_) => 12,
             Reply::Unfinished(_) => 20,
             Reply::Divided => 21,
             Reply::Outside(_) => 22,
+            Reply::Stuck(_) => 24,
         }
     }
 
@@ -100,6 +107,7 @@ impl Reply {
             Reply::Unfinished(steps) => format!(in alloc; "running after {steps} steps\n"),
             Reply::Divided => String::from_str(alloc, "divide\n"),
             Reply::Outside(at) => line_at(alloc, "outside at ", *at),
+            Reply::Stuck(line) => format!(in alloc; "stuck at line {line}\n"),
             Reply::Format(fault) => {
                 let number = fault.number();
                 let place = fault.place();
@@ -109,6 +117,10 @@ impl Reply {
             Reply::Limit { what, count } => {
                 let name = limit_word(*what);
                 format!(in alloc; "dcc: limit {name} {count}\n")
+            }
+            Reply::TextFault { line, kind } => {
+                let word = kind_word(*kind);
+                format!(in alloc; "dcc: text {word} at line {line}\n")
             }
             Reply::NotYet(at) => line_at(alloc, "dcc: not yet at ", *at),
         }
@@ -126,6 +138,22 @@ fn limit_word(what: LimitName) -> &'static str
         LimitName::Cells => "cells",
         LimitName::Entries => "entries",
         LimitName::Arguments => "arguments",
+    }
+}
+
+// The word for what offends in a text.
+fn kind_word(kind: ParseKind) -> &'static str
+    ensures { result.now ≡ kind_word kind }
+{
+    match kind {
+        ParseKind::Length => "length",
+        ParseKind::Version => "version",
+        ParseKind::Token => "token",
+        ParseKind::Grammar => "grammar",
+        ParseKind::Name => "name",
+        ParseKind::Type_ => "type",
+        ParseKind::Place => "place",
+        ParseKind::Depth => "depth",
     }
 }
 

@@ -6,17 +6,18 @@ ghost use Rattle.dcc_io.specs.Told.{AppendsProperPrefix};
 ghost use Rattle.dcc_run.specs.End.{End};
 ghost use Rattle.dcc_prog.specs.MzImage.{FormatFault, IsFirstFault};
 ghost use Rattle.dcc_top.specs.declared.reply.Reply.TheVariants.{NoFile, FileFault, InputFault, Memory};
-ghost use Rattle.dcc_top.specs.Words.{Job as AskedJob, Decompile, Execute, IsExecution, job_in};
+ghost use Rattle.dcc_top.specs.Words.{Job as AskedJob, Decompile, Execute, ExecuteText, IsExecution, LoadsImage, job_in};
 ghost use Rattle.dcc_top.specs.Answer.{Allows, IsDue, OfImages, line_of};
 ghost use Rattle.dcc_top.specs.Program.{IsAcceptedProgram, IsRefusedImage};
 ghost use Rattle.dcc_top.specs.Delivery.{Answers, CutsShort, streams};
-ghost use Rattle.dcc_top.specs.Causes.{IsAnswered, IsCaused, HasText, HasRunFile, IsAbsent, IsUnreadable, HasFormatFault, HasRefusal, Names, IsMissing, EndsSo, IsOneOf, end_status, AsksPrefix, AsksAll, IsOutOfMemory, IsCutOff};
+ghost use Rattle.dcc_top.specs.Causes.{IsAnswered, IsCaused, HasText, HasRunFile, IsAbsent, IsUnreadable, HasFormatFault, HasRefusal, HasTextFault, Names, IsMissing, IsNoText, EndsSo, IsOneOf, end_status, AsksPrefix, AsksAll, IsOutOfMemory, IsCutOff};
 
 use crate::decompile_job::text_reply;
 use crate::deliver::{WRITE_FAULT, answer};
 use crate::execute::execute;
 use crate::fetch::fetch_image;
 use crate::reply::Reply;
+use crate::text_job::{execute_unit, fetch_unit};
 use crate::words::{Job, job_of};
 use dcc_io::{Failed, Shelf, Sink, Source};
 use std::alloc::Global;
@@ -56,6 +57,42 @@ fn run_reply<H: Shelf, I: Source, O: Sink>(
     }
 }
 
+// The answer of `runc` for the text of this name. The error is a failed write of what the text puts out.
+fn runc_reply<H: Shelf, I: Source, O: Sink>(
+    alloc: Global,
+    name: &str,
+    steps: u64,
+    fill: u16,
+    shelf: &mut H,
+    input: &mut I,
+    out: &mut O,
+) -> Result<Reply, Failed>
+    ensures allowed { IfOk result (
+        Answers (Allows (H.files shelf.old) (I.left input.old) (I.left input.new) (Some (ExecuteText name.now steps fill)))
+        (O.taken out.old) (O.taken out.new)) }
+    ensures broke_off { OnErr result (
+        CutsShort (IsDue (H.files shelf.old) (I.left input.old) (Some (ExecuteText name.now steps fill)))
+        (O.taken out.old) (O.taken out.new)) }
+    ensures asked { MatchResult result (λ reply. (reply ≡ Memory) ⊎
+        AsksAll (Some (ExecuteText name.now steps fill)) (H.asked shelf.old) (H.asked shelf.new))
+        (λ _. AsksAll (Some (ExecuteText name.now steps fill)) (H.asked shelf.old) (H.asked shelf.new)) }
+    ensures asked_prefix { AsksPrefix (Some (ExecuteText name.now steps fill))
+        (H.asked shelf.old) (H.asked shelf.new) }
+    ensures absent { IfOk result (λ reply. reply ≡ NoFile → Rose
+        (H.absences shelf.old) (H.absences shelf.new)) }
+    ensures failed { IfOk result (λ reply. reply ≡ FileFault → Rose (H.faults shelf.old) (H.faults
+        shelf.new)) }
+    ensures read_failed { IfOk result (λ reply. reply ≡ InputFault → Rose (I.faults input.old)
+        (I.faults input.new)) }
+    ensures output_faults { O.faults out.old ≤ O.faults out.new }
+    ensures write_failed { OnErr result (Rose (O.faults out.old) (O.faults out.new)) }
+{
+    match fetch_unit(alloc, name, shelf) {
+        Ok(unit) => execute_unit(alloc, &unit, steps, fill, input, out),
+        Err(reply) => Ok(reply),
+    }
+}
+
 // The answer for the words. The error is a failed write of a text or of what is put out by what is run.
 fn reply_for<H: Shelf, I: Source, O: Sink>(
     alloc: Global,
@@ -89,19 +126,24 @@ fn reply_for<H: Shelf, I: Source, O: Sink>(
         None => Ok(Reply::Usage),
         Some(Job::Decompile(name)) => text_reply(alloc, name, shelf, out),
         Some(Job::Execute { file, steps }) => run_reply(alloc, file, steps, shelf, input, out),
+        Some(Job::ExecuteText { file, steps, fill }) => {
+            runc_reply(alloc, file, steps, fill, shelf, input, out)
+        }
     }
 }
 
 /// Does what the words after the program's name say, and answers the exit status.
 ///
 /// `c FILE` writes the text of the executable FILE to `out`. `run FILE` runs it, on the input and to the output, for at
-/// most the steps of `--steps N`. No other words are a command.
+/// most the steps of `--steps N`. `runc FILE` runs the text FILE so, with the fill of `--fill N`. No other words are a
+/// command.
 ///
 /// Statuses: 0 where the text is written or the run has ended by its exit; 2 usage, 3 no file, 4 the file could not be
 /// read, 5 the input could not, 6 a write failed, 7 memory ran out, 8 the file is no executable, 9 a construct stands in
-/// the program for which no text is written, 10 a count of the program is too great, 12 an instruction that the program
-/// reaches is not built yet, 20 the run goes on after the steps that were asked for, 21 it ended by a divide fault, 22 it
-/// came to what is no instruction. A status other than 0 and 6 has its line on `err`, and the exit of a run too.
+/// the program for which no text is written, 10 a count of the program is too great, 11 the file is no text, 12 an
+/// instruction that the program reaches is not built yet, 20 the run goes on after the steps that were asked for, 21 it
+/// ended by a divide fault, 22 it came to what is no instruction, 24 the text has no step there. A status other than 0
+/// and 6 has its line on `err`, and the exit of a run too.
 pub fn dcc<H: Shelf, I: Source, O: Sink, E: Sink>(
     alloc: Global,
     words: &Vec<String>,
@@ -124,12 +166,12 @@ pub fn dcc<H: Shelf, I: Source, O: Sink, E: Sink>(
         → HasText (H.files shelf.old) name
         (streams (O.taken out.old) (O.taken out.new) (E.taken err.old) (E.taken err.new)) }
 
-    // What `run` puts out and takes, and how the run has ended, are those of the file.
+    // What `run` and `runc` put out and take, and how the run has ended, are those of the file.
     ensures exited { IsExecution (job_in words.now.items) → result ≡ 0
         → HasRunFile (H.files shelf.old) (job_in words.now.items)
         (I.left input.old) (I.left input.new) result
         (streams (O.taken out.old) (O.taken out.new) (E.taken err.old) (E.taken err.new)) }
-    ensures ran { IsOneOf result (5 ∷ (20 ∷ (21 ∷ (22 ∷ []))))
+    ensures ran { IsOneOf result (5 ∷ (20 ∷ (21 ∷ (22 ∷ (24 ∷ [])))))
         → HasRunFile (H.files shelf.old) (job_in words.now.items)
         (I.left input.old) (I.left input.new) result
         (streams (O.taken out.old) (O.taken out.new) (E.taken err.old) (E.taken err.new)) }
@@ -155,7 +197,7 @@ pub fn dcc<H: Shelf, I: Source, O: Sink, E: Sink>(
     // The file has no image.
     ensures format { result ≡ 8 → HasFormatFault (H.files shelf.old) (job_in words.now.items)
         (streams (O.taken out.old) (O.taken out.new) (E.taken err.old) (E.taken err.new)) }
-    ensures format_always { (file : List ℕ) (fault : FormatFault)
+    ensures format_always { (file : List ℕ) (fault : FormatFault) → LoadsImage (job_in words.now.items)
         → Names (H.files shelf.old) (job_in words.now.items) file → IsFirstFault file fault
         → IsOneOf result (8 ∷ (4 ∷ (6 ∷ (7 ∷ [])))) }
 
@@ -174,13 +216,21 @@ pub fn dcc<H: Shelf, I: Source, O: Sink, E: Sink>(
         → Names (H.files shelf.old) (job_in words.now.items) file → OfImages file IsAcceptedProgram
         → IsOneOf result (0 ∷ (4 ∷ (6 ∷ (7 ∷ [])))) }
 
+    // The text is refused: no tree stands for it, or it is too long.
+    ensures text_fault { result ≡ 11 → HasTextFault (H.files shelf.old) (job_in words.now.items)
+        (streams (O.taken out.old) (O.taken out.new) (E.taken err.old) (E.taken err.new)) }
+    ensures text_fault_always { (name file : List ℕ) (steps fill : ℕ)
+        → job_in words.now.items ≡ Some (ExecuteText name steps fill)
+        → Names (H.files shelf.old) (job_in words.now.items) file → IsNoText file
+        → IsOneOf result (11 ∷ (4 ∷ (6 ∷ (7 ∷ [])))) }
+
     // A write failed.
     ensures write_failed { result ≡ 6
         → Rose (O.faults out.old) (O.faults out.new) ⊎ Rose (E.faults err.old) (E.faults err.new) }
 
     // What is written: nothing at a refusal; where memory ran out, what a run had put out by then;
     // where a write failed, a part of an answer.
-    ensures nothing { IsOneOf result (2 ∷ (3 ∷ (4 ∷ (8 ∷ (9 ∷ (10 ∷ (12 ∷ [])))))))
+    ensures nothing { IsOneOf result (2 ∷ (3 ∷ (4 ∷ (8 ∷ (9 ∷ (10 ∷ (11 ∷ (12 ∷ []))))))))
         → O.taken out.new ≡ O.taken out.old }
     ensures out_of_memory { result ≡ 7 → IsOutOfMemory (H.files shelf.old) (job_in words.now.items)
         (I.left input.old) (I.left input.new)

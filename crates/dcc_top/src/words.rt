@@ -8,7 +8,7 @@ ghost use Rattle.std.specs.Prelude.{◌≡◌, ◌≤◌, ◌+◌, ◌++◌, ◌
 ghost use Rattle.std.specs.Char.{is_ascii_digit};
 ghost use Rattle.std.specs.List.{list_all};
 ghost use Rattle.std.specs.Option.{option_copied};
-ghost use Rattle.dcc_top.specs.Words.{AskForOneJob, Parts, command_of, is_number, is_positional, job_of, kind_of, number_of, option_of, parts_of, set_value, value_in, steps_of};
+ghost use Rattle.dcc_top.specs.Words.{AskForOneJob, Parts, command_of, is_number, is_positional, job_of, kind_of, number_of, option_of, parts_of, set_value, value_in, steps_of, fill_of};
 ghost use Rattle.dcc_top.specs.WordsRead.{HasTwoFiles, job_read, kind_read, parts_read};
 
 /// What the program is to do.
@@ -17,7 +17,16 @@ pub enum Job<'a> {
     /// Write the text of the executable of this name.
     Decompile(&'a str),
     /// Run the executable of this name for at most so many steps.
-    Execute { file: &'a str, steps: u64 },
+    Execute {
+        file: &'a str,
+        steps: u64,
+    },
+    /// Run the text of this name for at most so many steps, with this fill.
+    ExecuteText {
+        file: &'a str,
+        steps: u64,
+        fill: u16,
+    },
 }
 
 /// A command, by its first word.
@@ -27,6 +36,8 @@ pub enum Command {
     C,
     /// `run`
     Run,
+    /// `runc`
+    RunC,
 }
 
 /// An option, by its name.
@@ -34,6 +45,8 @@ pub enum Command {
 pub enum OptionName {
     /// `--steps`
     Steps,
+    /// `--fill`
+    Fill,
 }
 
 /// What a word is that isn't an option's value and stands before any `--`.
@@ -54,6 +67,7 @@ pub enum Kind<'a> {
 pub struct Found<'a> {
     pub file: Option<&'a str>,
     pub steps: Option<&'a str>,
+    pub fill: Option<&'a str>,
 }
 
 /// The steps of a run where no option gives them.
@@ -63,6 +77,13 @@ const GREATEST_STEPS: u64 = 1_000_000_000;
 
 const STEPS_DIGITS: usize = 10;
 
+/// The fill of a text's run where no option gives it.
+const FILL: u16 = 0;
+
+const GREATEST_FILL: u64 = 65_535;
+
+const FILL_DIGITS: usize = 5;
+
 // The command of this name.
 fn command_of(word: &str) -> Option<Command>
     ensures { result ≡ command_of word.now }
@@ -71,6 +92,8 @@ fn command_of(word: &str) -> Option<Command>
         Some(Command::C)
     } else if word == "run" {
         Some(Command::Run)
+    } else if word == "runc" {
+        Some(Command::RunC)
     } else {
         None
     }
@@ -82,6 +105,8 @@ fn option_of(word: &str) -> Option<OptionName>
 {
     if word == "--steps" {
         Some(OptionName::Steps)
+    } else if word == "--fill" {
+        Some(OptionName::Fill)
     } else {
         None
     }
@@ -154,17 +179,30 @@ fn steps_of(value: Option<&str>) -> Option<u64>
     }
 }
 
+// What the variables of a text hold before they have a value.
+fn fill_of(value: Option<&str>) -> Option<u16>
+    ensures { result ≡ fill_of (option_copied value.entry) }
+{
+    match value {
+        Some(word) => {
+            let number = number_of(FILL_DIGITS, GREATEST_FILL, word)?;
+            Some(number as u16)
+        }
+        None => Some(FILL),
+    }
+}
+
 impl<'a> Found<'a> {
     // One more positional word: no command takes two.
     fn with_word(self, word: &'a str) -> Option<Found<'a>>
         ensures { MatchOption result (IsSome self.entry.file)
-            (λ found. (self.entry.file ≡ None) × (parts_read found ≡ record { positional = word.now ∷ []; steps = (parts_read self.entry).steps })) }
+            (λ found. (self.entry.file ≡ None) × (parts_read found ≡ record (parts_read self.entry) { positional = word.now ∷ [] })) }
     {
         match self.file {
             Some(_) => None,
             None => Some(Found {
                 file: Some(word),
-                steps: self.steps,
+                ..self
             }),
         }
     }
@@ -178,8 +216,15 @@ impl<'a> Found<'a> {
             OptionName::Steps => match self.steps {
                 Some(_) => None,
                 None => Some(Found {
-                    file: self.file,
                     steps: Some(value),
+                    ..self
+                }),
+            },
+            OptionName::Fill => match self.fill {
+                Some(_) => None,
+                None => Some(Found {
+                    fill: Some(value),
+                    ..self
                 }),
             },
         }
@@ -188,7 +233,7 @@ impl<'a> Found<'a> {
     // The words after `--`, all positional.
     fn with_all(self, words: &'a [String]) -> Option<Found<'a>>
         ensures { MatchOption result (2 ≤ length ((parts_read self.entry).positional ++ map string_bytes words.now))
-            (λ found. parts_read found ≡ record { positional = (parts_read self.entry).positional ++ map string_bytes words.now; steps = (parts_read self.entry).steps }) }
+            (λ found. parts_read found ≡ record (parts_read self.entry) { positional = (parts_read self.entry).positional ++ map string_bytes words.now }) }
     {
         match words {
             [] => Some(self),
@@ -206,6 +251,7 @@ fn found_in(words: &[String]) -> Option<Found<'_>>
     let mut found = Found {
         file: None,
         steps: None,
+        fill: None,
     };
     let mut left = words;
     while let Some((word, rest)) = left.split_first() {
@@ -228,8 +274,9 @@ fn found_in(words: &[String]) -> Option<Found<'_>>
 
 /// The job of the words after the program's name; none where the words are no command.
 ///
-/// `c FILE` writes a text. `run FILE` runs, for at most the steps of `--steps N`: 0 to 1000000000 in at most
-/// 10 digits, and 1000000 where the option doesn't stand.
+/// `c FILE` writes a text. `run FILE` runs an executable, for at most the steps of `--steps N`: 0 to 1000000000 in
+/// at most 10 digits, and 1000000 where the option doesn't stand. `runc FILE` runs a text so, with the fill of
+/// `--fill N`: 0 to 65535 in at most 5 digits, and 0 where the option doesn't stand.
 #[tactic(auto, unfolding(crate::specs::Words::job_of))]
 pub fn job_of(words: &[String]) -> Option<Job<'_>>
     ensures { MatchOption result (job_of (map string_bytes words.now) ≡ None)
@@ -238,15 +285,18 @@ pub fn job_of(words: &[String]) -> Option<Job<'_>>
     let (command, rest) = words.split_first()?;
     let found = found_in(rest)?;
     let file = found.file?;
-    match command_of(command.as_str())? {
-        Command::C => match found.steps {
-            Some(_) => None,
-            None => Some(Job::Decompile(file)),
-        },
-        Command::Run => Some(Job::Execute {
+    match (command_of(command.as_str())?, found.steps, found.fill) {
+        (Command::C, None, None) => Some(Job::Decompile(file)),
+        (Command::Run, steps, None) => Some(Job::Execute {
             file,
-            steps: steps_of(found.steps)?,
+            steps: steps_of(steps)?,
         }),
+        (Command::RunC, steps, fill) => Some(Job::ExecuteText {
+            file,
+            steps: steps_of(steps)?,
+            fill: fill_of(fill)?,
+        }),
+        _ => None,
     }
 }
 

@@ -15,7 +15,7 @@ fn check_refused(rt: &impl Abort, given: &Answer, status: u8, line: &str) {
 // Words, the number of the fetch that fails, the status and the line.
 type WordsRow = (&'static [&'static str], u64, u8, &'static str);
 
-static WORDS: [WordsRow; 14] = [
+static WORDS: [WordsRow; 15] = [
     (&[], 0, 2, "dcc: usage\n"),
     (&["c"], 0, 2, "dcc: usage\n"),
     (&["help"], 0, 2, "dcc: usage\n"),
@@ -33,7 +33,8 @@ static WORDS: [WordsRow; 14] = [
     (&["c", "ROW1.EXE"], 1, 4, "dcc: file fault\n"),
     (&["run", "ROW1.EXE"], 1, 4, "dcc: file fault\n"),
     (&["runc"], 0, 2, "dcc: usage\n"),
-    (&["runc", "ROW1.EXE"], 0, 2, "dcc: usage\n"),
+    (&["runc", "ROW2.C"], 0, 3, "dcc: no file\n"),
+    (&["runc", "ROW1.EXE"], 1, 4, "dcc: file fault\n"),
     (&["run", "ROW1.EXE", "--fill", "1"], 0, 2, "dcc: usage\n"),
 ];
 

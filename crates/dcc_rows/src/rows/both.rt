@@ -1,4 +1,4 @@
-//! Both commands on a program: its run, and its text.
+//! Both sides of a program: the run of an executable, and that of its text.
 
 use super::files::{Answer, NO_FAULTS, PRINTS_A, answered, answered_on, program};
 use std::alloc::Global;
@@ -150,8 +150,8 @@ fn check(rt: &impl Abort, given: &Answer, output: &[u8], line: &str) {
     assert_eq!(rt; given.status, 0, "{line}");
 }
 
-/// A text is written for the program of this file.
-fn check_text(rt: &impl Abort, alloc: Global, file: &[u8]) -> Result<(), Fail> {
+/// The text of the program of this file.
+fn text_of(rt: &impl Abort, alloc: Global, file: &[u8]) -> Result<Vec<u8>, Fail> {
     let given = answered(alloc, &["c", "ROW1.EXE"], file, NO_FAULTS)?;
     assert_eq!(rt; given.status, 0);
     assert!(rt; given.err.is_empty());
@@ -160,19 +160,29 @@ fn check_text(rt: &impl Abort, alloc: Global, file: &[u8]) -> Result<(), Fail> {
             .out
             .starts_with(b"#pragma dcc text 1\n#pragma dcc stack ")
     );
-    Ok(())
+    Ok(given.out.clone()?)
 }
 
-/// The file puts this out and ends so, and has a text.
-fn check_both(rt: &impl Abort, alloc: Global, file: &[u8], program: &Program) -> Result<(), Fail> {
+/// The file and its text put out the same and end alike, the text with this fill.
+fn check_both(
+    rt: &impl Abort,
+    alloc: Global,
+    file: &[u8],
+    program: &Program,
+    fill: &str,
+) -> Result<(), Fail> {
     let words = ["run", "ROW1.EXE"];
     let given = answered_on(alloc, &words, file, program.input, NO_FAULTS)?;
     check(rt, &given, program.output, program.line);
-    check_text(rt, alloc, file)
+    let text = text_of(rt, alloc, file)?;
+    let words = ["runc", "ROW1.EXE", "--fill", fill];
+    let given = answered_on(alloc, &words, &text, program.input, NO_FAULTS)?;
+    check(rt, &given, program.output, program.line);
+    Ok(())
 }
 
 #[test]
-fn programs_run_and_have_texts(rt: HostRuntime) -> Result<(), Fail> {
+fn texts_put_out_and_end_as_their_programs_do(rt: HostRuntime) -> Result<(), Fail> {
     let alloc = rt.alloc();
     let prints_a = Program {
         code: b"",
@@ -180,10 +190,29 @@ fn programs_run_and_have_texts(rt: HostRuntime) -> Result<(), Fail> {
         output: b"A",
         line: "exit 3\n",
     };
-    check_both(&rt, alloc, &PRINTS_A, &prints_a)?;
+    check_both(&rt, alloc, &PRINTS_A, &prints_a, "0")?;
     for program_row in programs() {
         let file = program(&rt, alloc, program_row.code)?;
-        check_both(&rt, alloc, &file, program_row)?;
+        check_both(&rt, alloc, &file, program_row, "0")?;
+        check_both(&rt, alloc, &file, program_row, "43690")?;
+    }
+    Ok(())
+}
+
+#[test]
+fn a_text_runs_on_as_its_program_does(rt: HostRuntime) -> Result<(), Fail> {
+    let alloc = rt.alloc();
+    let file = program(&rt, alloc, b"\xEB\xFE")?;
+    let text = text_of(&rt, alloc, &file)?;
+    for (command, bytes) in [("run", &file), ("runc", &text)] {
+        let words = [command, "ROW1.EXE", "--steps", "1000"];
+        let given = answered(alloc, &words, bytes, NO_FAULTS)?;
+        assert_eq!(rt; given.status, 20);
+        assert_eq!(rt;
+            given.err.as_slice(),
+            b"running after 1000 steps\n".as_slice()
+        );
+        assert!(rt; given.out.is_empty());
     }
     Ok(())
 }

@@ -17,6 +17,10 @@ fn run(file: &str, steps: u64) -> Option<Job<'_>> {
     Some(Job::Execute { file, steps })
 }
 
+fn runc(file: &str, steps: u64, fill: u16) -> Option<Job<'_>> {
+    Some(Job::ExecuteText { file, steps, fill })
+}
+
 #[test]
 fn commands_have_a_job(rt: HostRuntime) -> Result<(), Fail> {
     let rows = [
@@ -35,6 +39,12 @@ fn commands_have_a_job(rt: HostRuntime) -> Result<(), Fail> {
         ("run F --steps 0", run("F", 0)),
         ("run F --steps 0000000007", run("F", 7)),
         ("run F --steps 1000000000", run("F", 1_000_000_000)),
+        ("runc F", runc("F", 1_000_000, 0)),
+        ("runc -- --fill", runc("--fill", 1_000_000, 0)),
+        ("runc F --fill 65535", runc("F", 1_000_000, 65_535)),
+        ("runc --fill=00007 F", runc("F", 1_000_000, 7)),
+        ("runc F --fill 0 --steps 7", runc("F", 7, 0)),
+        ("runc --steps=0 F --fill=1", runc("F", 0, 1)),
     ];
     for (line, job) in rows {
         let words = words_of(rt.alloc(), line)?;
@@ -73,6 +83,16 @@ fn other_words_are_no_command(rt: HostRuntime) -> Result<(), Fail> {
         "run F --steps 00000000007",
         "run a --steps 1 --steps 2",
         "run a --steps 1 --steps=1",
+        "run F --fill 1",
+        "c F --fill 1",
+        "runc",
+        "runc a b",
+        "runc F --fill",
+        "runc F --fill -1",
+        "runc F --fill 65536",
+        "runc F --fill 000007",
+        "runc F --fill 1 --fill 1",
+        "runc F --fills 1",
     ];
     for line in lines {
         let words = words_of(rt.alloc(), line)?;

@@ -1,8 +1,6 @@
 use Rattle.std.proofs.Common.{ap, refl, subst, sym}
 use Rattle.dcc_c.specs.Views.{tree_of}
 use Rattle.dcc_c.specs.Written.{written_form}
-use Rattle.dcc_c.specs.Numbered.{numbered}
-use Rattle.dcc_c.proofs.NumberedForm.{written_numbered}
 use Rattle.dcc_prog.specs.declared.refusal.Refusal.TheVariants.{Memory as MemoryRefused}
 use Rattle.dcc_top.specs.declared.reply.Reply.TheVariants.{Memory}
 use Rattle.dcc_top.specs.Answer.{AllowsImage, image_decompiled, image_refused}
@@ -18,7 +16,7 @@ pub returns-in-Ok-print-clause-answers : goal.returns-in-Ok-print-clause-answers
 returns-in-Ok-print-clause-answers g c = record {
   output = written_form (tree_of c.in-Ok.unit);
   wrote = c.in-Ok-print.ensures.whole;
-  is_answer = image_decompiled (record { accepted = is-accepted c.args.image.now c.in-Ok.ensures.accepted; tree = numbered (tree_of c.in-Ok.unit); is_text = c.in-Ok.ensures.text; written_is = sym (written_numbered (tree_of c.in-Ok.unit)) });
+  is_answer = image_decompiled (record { accepted = is-accepted c.args.image.now c.in-Ok.ensures.accepted; tree = tree_of c.in-Ok.unit; is_text = c.in-Ok.ensures.text; written_is = refl });
 }
 
 pub returns-clause-answers : goal.returns-clause-answers
@@ -28,6 +26,6 @@ returns-clause-answers g c =
 pub returns-in-Err-Failed-clause-cut_short : goal.returns-in-Err-Failed-clause-cut_short
 returns-in-Err-Failed-clause-cut_short g c = record {
   due = written_form (tree_of c.in-Ok.unit);
-  is_due = record { accepted = is-accepted c.args.image.now c.in-Ok.ensures.accepted; tree = numbered (tree_of c.in-Ok.unit); is_text = c.in-Ok.ensures.text; written_is = sym (written_numbered (tree_of c.in-Ok.unit)) };
+  is_due = record { accepted = is-accepted c.args.image.now c.in-Ok.ensures.accepted; tree = tree_of c.in-Ok.unit; is_text = c.in-Ok.ensures.text; written_is = refl };
   part = rw c.in-Err-Failed.field-0-is at c.in-Err-Failed.ensures.part refl;
 }

@@ -2,7 +2,7 @@ use Rattle.std.proofs.Common.{arith}
 use Rattle.dcc_run.specs.End.{Running, Exit, Divide, Outside}
 use Rattle.dcc_prog.proofs.MzImageLaws.{length-loaded}
 use Rattle.dcc_step.specs.Stepped.{scene}
-use Rattle.dcc_top.specs.Execution.{machine_of, goes_on, has_exited, has_divided, is_outside}
+use Rattle.dcc_top.specs.Execution.{machine_of}
 use Rattle.dcc_top.proofs.ExecuteLaws.{ran-nothing, ran-ended, ran-to_read, broke-off}
 use Rattle.dcc_top.proofs.execute.execute.Goals as goal
 
@@ -14,19 +14,19 @@ returns-in_default-clause-ran g c = ran-nothing (machine_of c.args.image.now) c.
 
 pub returns-in-Running-clause-ran : goal.returns-in-Running-clause-ran
 returns-in-Running-clause-ran g c =
-    ran-ended c.args.image.now c.args.steps c.in-Ok.machine _ _ (scene c.run.new.self _ _) Running _ goes_on c.in-Ok.ensures c.in-Running.ensures.run c.in-Running.ensures.answer
+    ran-ended c.args.image.now c.args.steps c.in-Ok.machine _ _ (scene c.run.new.self _ _) Running c.in-Ok.ensures c.in-Running.ensures.run c.in-Running.ensures.answer
 
 pub returns-in-Exit-clause-ran : goal.returns-in-Exit-clause-ran
 returns-in-Exit-clause-ran g c =
-    ran-ended c.args.image.now c.args.steps c.in-Ok.machine _ _ (scene c.run.new.self _ _) (Exit c.in-Exit.code) _ has_exited c.in-Ok.ensures c.in-Exit.ensures.run c.in-Exit.ensures.answer
+    ran-ended c.args.image.now c.args.steps c.in-Ok.machine _ _ (scene c.run.new.self _ _) (Exit c.in-Exit.code) c.in-Ok.ensures c.in-Exit.ensures.run c.in-Exit.ensures.answer
 
 pub returns-in-Divide-clause-ran : goal.returns-in-Divide-clause-ran
 returns-in-Divide-clause-ran g c =
-    ran-ended c.args.image.now c.args.steps c.in-Ok.machine _ _ (scene c.run.new.self _ _) Divide _ has_divided c.in-Ok.ensures c.in-Divide.ensures.run c.in-Divide.ensures.answer
+    ran-ended c.args.image.now c.args.steps c.in-Ok.machine _ _ (scene c.run.new.self _ _) Divide c.in-Ok.ensures c.in-Divide.ensures.run c.in-Divide.ensures.answer
 
 pub returns-in-Outside-clause-ran : goal.returns-in-Outside-clause-ran
 returns-in-Outside-clause-ran g c =
-    ran-ended c.args.image.now c.args.steps c.in-Ok.machine _ _ (scene c.run.new.self _ _) (Outside c.in-Outside.at) _ is_outside c.in-Ok.ensures c.in-Outside.ensures.run c.in-Outside.ensures.answer
+    ran-ended c.args.image.now c.args.steps c.in-Ok.machine _ _ (scene c.run.new.self _ _) (Outside c.in-Outside.at) c.in-Ok.ensures c.in-Outside.ensures.run c.in-Outside.ensures.answer
 
 pub returns-in-InFault-clause-ran : goal.returns-in-InFault-clause-ran
 returns-in-InFault-clause-ran g c =

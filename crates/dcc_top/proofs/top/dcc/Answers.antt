@@ -5,7 +5,7 @@ use Rattle.dcc_top.specs.Words.{job_in}
 use Rattle.dcc_top.specs.Delivery.{streams}
 use Rattle.dcc_top.specs.Causes.{IsAnswered, IsCaused, broke_off}
 use Rattle.dcc_top.specs.declared.reply.Reply.{Reply}
-use Rattle.dcc_top.proofs.CauseLaws.{usage, usage-always, text, exited, ran, ran-always, format, format-always, absent, absent-always, unreadable, program-refused, refused-always, text-always, nothing, out-of_memory, cut-off, write-failed}
+use Rattle.dcc_top.proofs.CauseLaws.{usage, usage-always, text, exited, ran, ran-always, format, format-always, absent, absent-always, unreadable, program-refused, refused-always, text-always, text-fault, text_fault-always, nothing, out-of_memory, cut-off, write-failed}
 use Rattle.dcc_top.proofs.DeliveredLaws.{answered-by, status-by, asked-by, asked-cut}
 use Rattle.dcc_top.proofs.StatusLaws.{reply-at_3, reply-at_4, reply-at_5}
 use Rattle.dcc_top.specs.Answer.{status_of}
@@ -42,6 +42,12 @@ returns-in-Ok-clause-refused g c = program-refused _ _ _ _ _ _ _ _ _ (what g c)
 
 pub returns-in-Ok-clause-refused_always : goal.returns-in-Ok-clause-refused_always
 returns-in-Ok-clause-refused_always g c = refused-always _ _ _ _ _ _ _ _ _ (what g c)
+
+pub returns-in-Ok-clause-text_fault : goal.returns-in-Ok-clause-text_fault
+returns-in-Ok-clause-text_fault g c = text-fault _ _ _ _ _ _ _ _ _ (what g c)
+
+pub returns-in-Ok-clause-text_fault_always : goal.returns-in-Ok-clause-text_fault_always
+returns-in-Ok-clause-text_fault_always g c = text_fault-always _ _ _ _ _ _ _ _ _ (what g c)
 
 pub returns-in-Ok-clause-text_always : goal.returns-in-Ok-clause-text_always
 returns-in-Ok-clause-text_always g c = text-always _ _ _ _ _ _ _ _ _ (what g c)

@@ -1,11 +1,9 @@
 use Rattle.std.proofs.Common.{map, string_bytes, ap, ◌∙◌, arith}
-use Rattle.std.proofs.Common.{map, string_bytes, ap, ◌∙◌, arith}
 use Rattle.std.proofs.lemmas.List.{length-map, nil_from_length}
 use Rattle.std.specs.Option.{option_copied, option_to_list}
 use Rattle.dcc_top.specs.Words.{kind_of}
 use Rattle.dcc_top.specs.WordsRead.{parts_read}
-use Rattle.dcc_top.proofs.WordsLaws.{step-word, stop-word, step-given, step-named, stop-missing, stop-unknown, all-answer, all-read, some-file, stop-named}
-use Rattle.dcc_top.proofs.WordsLaws.{step-word, stop-word, step-given, step-named, stop-missing, stop-unknown, all-answer, all-read, some-file, stop-named}
+use Rattle.dcc_top.proofs.WordsLaws.{step-word, stop-word, step-given, step-named, stop-missing, stop-unknown, all-answer, all-read, some-file, stop-named, stop-given}
 use Rattle.dcc_top.proofs.words.found_in.Goals as goal
 
 pub loop-word-smaller-in-Names : goal.loop-word-smaller-in-Names
@@ -67,3 +65,10 @@ returns-in_err-found-in-Names c =
     let two = stop-named (parts_read c.loop-word.found) _ c.in-Names.option (string_bytes c.in-Some.word.now) (string_bytes c.in_ok-value-in-Names.value.now) (map string_bytes c.in_ok-value-in-Names.rest.now) inv
     (c.in-Names.ensures ∙ ap kind_of c.as_str-word.ensures.value) c.in_err-found-in-Names.ensures in
     rw c.from_residual-in_err-found-in-Names.ensures two
+
+pub returns-in_err-found-in-Gives : goal.returns-in_err-found-in-Gives
+returns-in_err-found-in-Gives c =
+    let inv = rw c.in-Some.ensures.cases.0 at c.loop-word.invariant in
+    let two = stop-given (parts_read c.loop-word.found) _ c.in-Gives.option (string_bytes c.in-Some.word.now) c.in-Gives.value.now (map string_bytes c.in-Some.rest.now) inv
+    (c.in-Gives.ensures ∙ ap kind_of c.as_str-word.ensures.value) c.in_err-found-in-Gives.ensures in
+    rw c.from_residual-in_err-found-in-Gives.ensures two

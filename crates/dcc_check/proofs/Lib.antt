@@ -1,0 +1,10 @@
+pub mod SetLaws
+pub mod PlaceLaws
+pub mod NameLaws
+pub mod MapLaws
+pub mod UnreadLaws
+pub mod WholeLaws
+pub mod ToldLaws
+pub mod TellLaws
+pub mod ListLaws
+pub mod CaseLaws

@@ -1,0 +1,29 @@
+use Rattle.std.proofs.Common.{◌∷◌, string_bytes, refl, sym, ap, ◌∙◌}
+use Rattle.std.proofs.lemmas.List.{drop_all}
+use Rattle.dcc_c.specs.Grammar.{is_among}
+use Rattle.dcc_c.specs.Kinds.{first_behind}
+use Rattle.dcc_c.specs.Offences.{repeated}
+use Rattle.dcc_check.specs.Names.{lent_names}
+use Rattle.dcc_check.specs.Views.{told}
+use Rattle.dcc_check.proofs.NameLaws.{known-step, told-step, none-held}
+use Rattle.dcc_check.proofs.names.tell_repeated.Goals as goal
+
+pub loop-name-init : goal.loop-name-init
+loop-name-init c = λ before all. (before, λ word. none-held c.args.taken.now c.new-own.result word (is_among before word) c.new-own.ensures.empty (all word), refl)
+
+pub loop-name-preserved : goal.loop-name-preserved
+loop-name-preserved c = λ before all.
+    let inv = c.loop-name.invariant before all in
+    let x = c.name-item.result in (
+      string_bytes x.now.word ∷ inv.0,
+      known-step c.args.names.now c.loop-name.name-index x c.loop-name-test.true c.name-item.is
+          c.loop-name.own c.add_word.new.words c.as_str-word.result.now c.as_str-word.ensures.value c.in_ok-add_word.ensures c.args.taken.now inv.0 inv.1,
+      told-step c.args.names.now c.loop-name.name-index x c.loop-name-test.true c.name-item.is inv.0 (told c.loop-name.first) (told c.tell_if.new.self) c.is_among.result
+          (c.is_among.ensures ∙ inv.1 c.as_str-word.result.now ∙ ap (is_among inv.0) c.as_str-word.ensures.value) c.tell_if.ensures
+          ∙ inv.2,
+    )
+
+pub returns : goal.returns
+returns c = λ known all.
+    let inv = c.loop-name.invariant known all in
+    sym (ap (λ l. first_behind (told c.loop-name.first) (repeated inv.0 (lent_names l))) (drop_all c.loop-name.name-index c.args.names.now c.loop-name-test.false)) ∙ inv.2

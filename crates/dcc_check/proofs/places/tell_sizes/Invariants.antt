@@ -1,0 +1,12 @@
+use Rattle.std.proofs.Common.{◌≡◌, map, drop}
+use Rattle.dcc_c.specs.Kinds.{first_behind}
+use Rattle.dcc_c.specs.TextOffences.{sizes_of}
+use Rattle.dcc_read.specs.PartialViews.{variable_of}
+use Rattle.dcc_check.specs.Views.{told}
+use Rattle.dcc_check.proofs.places.tell_sizes.Given as goal
+
+-- the sizes that are left tell what all sizes do
+abbrev pub invariant-loop-variable : goal.invariant-loop-variable
+invariant-loop-variable l =
+    first_behind (told l.first) (sizes_of (map variable_of (drop l.variable-index l.variables)))
+    ≡ first_behind (told l.initial.first) (sizes_of (map variable_of l.variables))

@@ -1,0 +1,10 @@
+-- The function whose head some pieces begin with.
+use Rattle.std.specs.Prelude.{◌≡◌, List, [], ◌∷◌, Option, Some, None}
+use Rattle.dcc_c.specs.Known.{Known, known_of}
+use Rattle.dcc_read.specs.declared.partial.PartialFunction.{PartialFunction}
+use Rattle.dcc_read.specs.PartialViews.{function_of}
+
+-- there is none, or the whole text knows this one
+abbrev pub IsHead : Option PartialFunction → List Known → Type 0
+IsHead None heads = heads ≡ []
+IsHead (Some f) heads = (k : Known) × (heads ≡ k ∷ []) × (known_of (function_of f) ≡ heads)

@@ -1,0 +1,10 @@
+-- Lists of names.
+use Rattle.std.specs.Prelude.{List, map}
+use denote.Ref.{Bor}
+use Rattle.dcc_c.specs.Partial as partial
+use Rattle.dcc_read.specs.declared.partial.WordAt.{WordAt}
+use Rattle.dcc_check.specs.Views.{lent_word}
+
+-- the names that a list of references stands for
+abbrev pub lent_names : List (Bor WordAt) → List partial.WordAt
+lent_names names = map lent_word names

@@ -1,0 +1,109 @@
+//! What offends in the statements of a function, at every depth.
+
+ghost use Rattle.std.specs.Prelude.{◌≡◌, ℕ, ◌-◌, OnOk};
+ghost use Rattle.dcc_c.specs.Kinds.{first_behind};
+ghost use Rattle.dcc_c.specs.Offences as offences;
+ghost use Rattle.dcc_c.specs.Offences.{lines_offences, inner_offences, arms_inner};
+ghost use Rattle.dcc_read.specs.PartialViews.{stmt_of, lines_of, arms_of};
+ghost use Rattle.dcc_check.specs.Views.{told};
+ghost use Rattle.dcc_check.specs.Scenes.{IsScene};
+
+use crate::check_case::{check_cases, check_defaults};
+use crate::check_statement::check_own;
+use crate::first::First;
+use crate::scene::Scene;
+use dcc_read::{ParseKind, PartialArm, PartialStmt, Row};
+use std::alloc::{AllocError, Global};
+
+/// How many blocks may stand one inside the other, with the body of the function.
+const MOST_BLOCKS: usize = 201;
+
+/// Tells what offends in the statements of a function, but for labels that stand twice.
+///
+/// # Errors
+/// Where memory runs out.
+pub(crate) fn check_body(
+    alloc: Global,
+    scene: &Scene<'_, '_>,
+    body: &[Row],
+    first: &mut First,
+) -> Result<(), AllocError>
+    ensures { (s : offences.Scene) → IsScene scene.now s →
+        OnOk result (told first.new ≡ first_behind (told first.old) (lines_offences s 0 (lines_of body.now))) }
+{
+    check_lines(alloc, scene, MOST_BLOCKS, body, first)
+}
+
+/// Tells what offends in statements, where so many blocks more may stand, that of these statements among them.
+#[cycle(block)]
+fn check_lines(
+    alloc: Global,
+    scene: &Scene<'_, '_>,
+    room: usize,
+    rows: &[Row],
+    first: &mut First,
+) -> Result<(), AllocError>
+    ensures { (s : offences.Scene) (blocks : ℕ) → IsScene scene.now s → room ≡ 201 - blocks →
+        OnOk result (told first.new ≡ first_behind (told first.old) (lines_offences s blocks (lines_of rows.now))) }
+{
+    for row in rows {
+        first.tell_if(room == 0, ParseKind::Depth, row.at);
+        check_own(scene, row.at, &row.stmt, first);
+        check_inner(alloc, scene, room.saturating_sub(1), &row.stmt, first)?;
+    }
+    Ok(())
+}
+
+/// Tells what offends in the statements inside a statement, where so many blocks more may stand.
+#[cycle(block)]
+fn check_inner(
+    alloc: Global,
+    scene: &Scene<'_, '_>,
+    room: usize,
+    stmt: &PartialStmt,
+    first: &mut First,
+) -> Result<(), AllocError>
+    ensures { (s : offences.Scene) (blocks : ℕ) → IsScene scene.now s → room ≡ 201 - blocks →
+        OnOk result (told first.new ≡ first_behind (told first.old) (inner_offences s blocks (stmt_of stmt.now))) }
+{
+    match stmt {
+        PartialStmt::If(_, _, body, otherwise) => {
+            check_lines(alloc, scene, room, body, first)?;
+            check_lines(alloc, scene, room, otherwise, first)
+        }
+        PartialStmt::While(_, _, body) => check_lines(alloc, scene, room, body, first),
+        PartialStmt::DoWhile(body, _, _) => check_lines(alloc, scene, room, body, first),
+        PartialStmt::Forever(body) => check_lines(alloc, scene, room, body, first),
+        PartialStmt::Switch(_, _, arms) => {
+            check_cases(alloc, arms, first)?;
+            check_defaults(arms, first);
+            check_arms(alloc, scene, room, arms, first)
+        }
+        PartialStmt::Assign(_, _, _)
+        | PartialStmt::Call(_, _)
+        | PartialStmt::Break
+        | PartialStmt::Continue
+        | PartialStmt::Goto(_)
+        | PartialStmt::Label(_)
+        | PartialStmt::Empty
+        | PartialStmt::Return(_, _) => Ok(()),
+    }
+}
+
+/// Tells what offends in the statements of arms, where so many blocks more may stand.
+#[cycle(block)]
+fn check_arms(
+    alloc: Global,
+    scene: &Scene<'_, '_>,
+    room: usize,
+    arms: &[PartialArm],
+    first: &mut First,
+) -> Result<(), AllocError>
+    ensures { (s : offences.Scene) (blocks : ℕ) → IsScene scene.now s → room ≡ 201 - blocks →
+        OnOk result (told first.new ≡ first_behind (told first.old) (arms_inner s blocks (arms_of arms.now))) }
+{
+    for arm in arms {
+        check_lines(alloc, scene, room, &arm.body, first)?;
+    }
+    Ok(())
+}

@@ -1,0 +1,221 @@
+//! What offends in expressions.
+
+ghost use Rattle.std.specs.Prelude.{◌≡◌, true, option_map};
+ghost use Rattle.dcc_c.specs.declared.syntax.CUn.TheVariants.{AddressOf};
+ghost use Rattle.dcc_c.specs.Kinds.{first_behind};
+ghost use Rattle.dcc_c.specs.Offences as offences;
+ghost use Rattle.dcc_c.specs.Offences.{operand_of_address, no_variable, expr_offences, place_offences};
+ghost use Rattle.dcc_c.specs.Partial as partial;
+ghost use Rattle.dcc_c.specs.Partial.{is_missing, is_name_here};
+ghost use Rattle.dcc_read.specs.PartialViews.{expr_of};
+ghost use Rattle.dcc_check.specs.Views.{told};
+ghost use Rattle.dcc_check.specs.Scenes.{unnamed, IsScene};
+ghost use Rattle.dcc_check.specs.Operands.{operand, target};
+
+use crate::first::First;
+use crate::operand::{Operand, check_binary, check_choice, check_unary, tell_typed, want_number};
+use crate::scene::{Declared, Scene};
+use crate::typing::{
+    both_arms_type, both_types, plain, type_of_address, type_of_name, type_of_unary,
+    type_of_variable,
+};
+use dcc_c::CUn;
+use dcc_read::{ParseKind, PartialExpr};
+
+/// Whether nothing has been read of the expression.
+pub(crate) fn is_missing(e: &PartialExpr) -> bool
+    ensures { result ≡ is_missing (expr_of e.now) }
+{
+    matches!(e, PartialExpr::Missing)
+}
+
+/// Whether the expression is a name.
+pub(crate) fn is_name(e: &PartialExpr) -> bool
+    ensures { result ≡ is_name_here (expr_of e.now) }
+{
+    matches!(e, PartialExpr::Name(_, _, _))
+}
+
+/// A name that is no variable: a function's offends as an operand, but not before a parenthesis.
+fn tell_no_variable(scene: &Scene<'_, '_>, at: usize, word: &str, called: bool, first: &mut First)
+    ensures { (s : offences.Scene) → IsScene scene.now s →
+        told first.new ≡ first_behind (told first.old) (no_variable s at word.now called) }
+{
+    match scene.function(word) {
+        Some(_) => first.tell_if(!called, ParseKind::Type_, at),
+        None => first.tell(ParseKind::Name, at),
+    }
+}
+
+/// A name as a value: that of an array of pointers has no type.
+fn check_name(
+    scene: &Scene<'_, '_>,
+    at: usize,
+    word: &str,
+    called: bool,
+    first: &mut First,
+) -> Operand
+    ensures operand { (s : offences.Scene) → IsScene scene.now s →
+        result ≡ operand s (partial.NameHere at word.now called) }
+    ensures told { (s : offences.Scene) → IsScene scene.now s →
+        told first.new ≡ first_behind (told first.old) (expr_offences s (partial.NameHere at word.now called)) }
+{
+    match scene.variable(word) {
+        Some(declared) => {
+            let ty = type_of_name(declared);
+            first.tell_if(ty.is_none(), ParseKind::Type_, at);
+            Operand { ty, at }
+        }
+        None => {
+            tell_no_variable(scene, at, word, called, first);
+            Operand { ty: None, at }
+        }
+    }
+}
+
+/// The operand of `&`, where it is the name of a variable.
+fn operand_of_address(scene: &Scene<'_, '_>, a: &PartialExpr) -> Option<Declared>
+    ensures { (s : offences.Scene) → IsScene scene.now s →
+        result ≡ option_map unnamed (operand_of_address s.names (expr_of a.now)) }
+{
+    match a {
+        PartialExpr::Name(_, word, _) => scene.variable(word.as_str()),
+        _ => None,
+    }
+}
+
+/// The place where a name stands, and 0 for another expression.
+fn place_of_name(a: &PartialExpr) -> usize
+    ensures { is_name_here (expr_of a.now) ≡ true → result ≡ partial.place_of (expr_of a.now) }
+{
+    match a {
+        PartialExpr::Name(at, _, _) => *at,
+        _ => 0,
+    }
+}
+
+/// Tells what offends in an expression.
+#[cycle(expression)]
+pub(crate) fn check_expr(scene: &Scene<'_, '_>, e: &PartialExpr, first: &mut First) -> Operand
+    ensures operand { (s : offences.Scene) → IsScene scene.now s → result ≡ operand s (expr_of e.now) }
+    ensures told { (s : offences.Scene) → IsScene scene.now s →
+        told first.new ≡ first_behind (told first.old) (expr_offences s (expr_of e.now)) }
+{
+    match e {
+        PartialExpr::Missing => Operand { ty: None, at: 0 },
+        PartialExpr::Number(at, _, base) => Operand {
+            ty: Some(plain(*base)),
+            at: *at,
+        },
+        PartialExpr::Name(at, word, called) => {
+            check_name(scene, *at, word.as_str(), *called, first)
+        }
+        PartialExpr::Unary(at, operator, a) => check_operator(scene, *at, *operator, a, first),
+        PartialExpr::Binary(operator, a, b) => {
+            let a = check_expr(scene, a, first);
+            let b = check_expr(scene, b, first);
+            check_binary(*operator, a, b, first);
+            Operand {
+                ty: both_types(*operator, a.ty, b.ty),
+                at: a.at,
+            }
+        }
+        PartialExpr::Conditional(a, b, c) => {
+            let a = check_expr(scene, a, first);
+            let b = check_expr(scene, b, first);
+            let c = check_expr(scene, c, first);
+            want_number(a, first);
+            check_choice(b, c, first);
+            Operand {
+                ty: both_arms_type(b.ty, c.ty),
+                at: a.at,
+            }
+        }
+        PartialExpr::Cast(at, ty, a) => {
+            check_expr(scene, a, first);
+            Operand {
+                ty: Some(*ty),
+                at: *at,
+            }
+        }
+    }
+}
+
+/// Tells what offends in a unary operator and its operand.
+#[cycle(expression)]
+fn check_operator(
+    scene: &Scene<'_, '_>,
+    at: usize,
+    operator: CUn,
+    a: &PartialExpr,
+    first: &mut First,
+) -> Operand
+    ensures operand { (s : offences.Scene) → IsScene scene.now s →
+        result ≡ operand s (partial.UnaryHere at operator (expr_of a.now)) }
+    ensures told { (s : offences.Scene) → IsScene scene.now s →
+        told first.new ≡ first_behind (told first.old) (expr_offences s (partial.UnaryHere at operator (expr_of a.now))) }
+{
+    if operator == CUn::AddressOf {
+        return check_address(scene, at, a, first);
+    }
+    let a = check_expr(scene, a, first);
+    check_unary(operator, a, first);
+    Operand {
+        ty: type_of_unary(operator, a.ty),
+        at,
+    }
+}
+
+/// Tells what offends in `&` and its operand: a variable that has an address, and is no array and no pointer.
+#[cycle(expression)]
+fn check_address(scene: &Scene<'_, '_>, at: usize, a: &PartialExpr, first: &mut First) -> Operand
+    ensures operand { (s : offences.Scene) → IsScene scene.now s →
+        result ≡ operand s (partial.UnaryHere at AddressOf (expr_of a.now)) }
+    ensures told { (s : offences.Scene) → IsScene scene.now s →
+        told first.new ≡ first_behind (told first.old) (expr_offences s (partial.UnaryHere at AddressOf (expr_of a.now))) }
+{
+    match operand_of_address(scene, a) {
+        Some(declared) => {
+            let ty = type_of_address(declared);
+            first.tell_if(ty.is_none(), ParseKind::Type_, place_of_name(a));
+            Operand { ty, at }
+        }
+        None => {
+            let inner = check_expr(scene, a, first);
+            tell_typed(inner, first);
+            Operand { ty: None, at }
+        }
+    }
+}
+
+/// The expression as an operand.
+pub(crate) fn operand_of(scene: &Scene<'_, '_>, e: &PartialExpr) -> Operand
+    ensures { (s : offences.Scene) → IsScene scene.now s → result ≡ operand s (expr_of e.now) }
+{
+    let mut unheard = First::new();
+    check_expr(scene, e, &mut unheard)
+}
+
+/// Tells what offends in the place of an assignment: an array's name is none.
+pub(crate) fn check_place(scene: &Scene<'_, '_>, e: &PartialExpr, first: &mut First) -> Operand
+    ensures place { (s : offences.Scene) → IsScene scene.now s → result ≡ target s (expr_of e.now) }
+    ensures told { (s : offences.Scene) → IsScene scene.now s →
+        told first.new ≡ first_behind (told first.old) (place_offences s (expr_of e.now)) }
+{
+    match e {
+        PartialExpr::Name(at, word, called) => match scene.variable(word.as_str()) {
+            Some(declared) => {
+                first.tell_if(declared.is_array, ParseKind::Type_, *at);
+                Operand {
+                    ty: type_of_variable(declared),
+                    at: *at,
+                }
+            }
+            None => {
+                tell_no_variable(scene, *at, word.as_str(), *called, first);
+                Operand { ty: None, at: *at }
+            }
+        },
+        _ => check_expr(scene, e, first),
+    }
+}

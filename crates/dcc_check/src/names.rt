@@ -1,0 +1,128 @@
+//! Names, and those that are taken.
+
+ghost use Rattle.std.specs.Prelude.{◌≡◌, ◌++◌, ◌||◌, List, map, IfOk, OnOk};
+ghost use Rattle.dcc_c.specs.Dos.{dos_names};
+ghost use Rattle.dcc_c.specs.Grammar as grammar;
+ghost use Rattle.dcc_c.specs.Kinds.{first_behind};
+ghost use Rattle.dcc_c.specs.Known.{known_functions};
+ghost use Rattle.dcc_c.specs.Offences.{repeated};
+ghost use Rattle.dcc_c.specs.TextOffences as offences;
+ghost use Rattle.dcc_c.specs.Token.{same_bytes};
+ghost use Rattle.dcc_c.specs.Tree.{Word};
+ghost use Rattle.dcc_read.specs.PartialViews.{variable_of, function_of};
+ghost use Rattle.dcc_check.specs.Names.{lent_names};
+ghost use Rattle.dcc_check.specs.Scenes.{holds};
+ghost use Rattle.dcc_check.specs.Views.{told};
+
+use crate::first::First;
+use dcc_read::{ParseKind, PartialFunction, PartialVariable, WordAt};
+use std::alloc::{AllocError, Global};
+use std::collections::BTreeSet;
+
+/// Adds the names of variables to the list.
+pub fn variable_names<'a>(
+    variables: &'a [PartialVariable],
+    names: &mut Vec<&'a WordAt>,
+) -> Result<(), AllocError>
+    ensures { OnOk result (lent_names names.new.items
+        ≡ lent_names names.old.items ++ offences.name_list (map variable_of variables.now)) }
+{
+    for variable in variables {
+        if let Some(name) = &variable.name {
+            names.push(name)?;
+        }
+    }
+    Ok(())
+}
+
+/// Adds the names of functions to the list.
+pub fn function_names<'a>(
+    functions: &'a [PartialFunction],
+    names: &mut Vec<&'a WordAt>,
+) -> Result<(), AllocError>
+    ensures { OnOk result (lent_names names.new.items
+        ≡ lent_names names.old.items ++ offences.function_names (map function_of functions.now)) }
+{
+    for function in functions {
+        if let Some(name) = &function.name {
+            names.push(name)?;
+        }
+    }
+    Ok(())
+}
+
+/// Adds the names of those functions to the list whose opening parenthesis was read.
+pub fn known_names<'a>(
+    functions: &'a [PartialFunction],
+    names: &mut Vec<&'a WordAt>,
+) -> Result<(), AllocError>
+    ensures { OnOk result (offences.words_of (lent_names names.new.items)
+        ≡ offences.words_of (lent_names names.old.items) ++ map (λ k. k.name) (known_functions (map function_of functions.now))) }
+{
+    for function in functions {
+        if function.opened.is_some() {
+            if let Some(name) = &function.name {
+                names.push(name)?;
+            }
+        }
+    }
+    Ok(())
+}
+
+/// Adds the words of names to the set.
+pub fn add_words<'a>(words: &mut BTreeSet<&'a str>, names: &[&'a WordAt]) -> Result<(), AllocError>
+    ensures { OnOk result ((word : Word) → holds words.new word
+        ≡ grammar.is_among (offences.words_of (lent_names names.now)) word || holds words.old word) }
+{
+    for name in names {
+        add_word(words, name.word.as_str())?;
+    }
+    Ok(())
+}
+
+/// Tells each name that is taken, or that stands twice.
+pub fn tell_repeated(
+    alloc: Global,
+    taken: &BTreeSet<&str>,
+    names: &[&WordAt],
+    first: &mut First,
+) -> Result<(), AllocError>
+    ensures { (known : List Word) → ((word : Word) → holds taken.now word ≡ grammar.is_among known word) →
+        OnOk result (told first.new ≡ first_behind (told first.old) (repeated known (lent_names names.now))) }
+{
+    let mut own = BTreeSet::new(alloc);
+    for name in names {
+        let word = name.word.as_str();
+        first.tell_if(is_among(taken, &own, word), ParseKind::Name, name.at);
+        add_word(&mut own, word)?;
+    }
+    Ok(())
+}
+
+/// Whether one of the sets has the word.
+fn is_among(taken: &BTreeSet<&str>, own: &BTreeSet<&str>, word: &str) -> bool
+    ensures { result ≡ holds taken.now word.now || holds own.now word.now }
+{
+    taken.contains(word) || own.contains(word)
+}
+
+/// The names of the DOS calls.
+pub fn dos_words<'a>(alloc: Global) -> Result<BTreeSet<&'a str>, AllocError>
+    ensures { IfOk result (λ words. (word : Word) → holds words word ≡ grammar.is_among dos_names word) }
+{
+    let mut words = BTreeSet::new(alloc);
+    add_word(&mut words, "dos_exit")?;
+    add_word(&mut words, "dos_puts")?;
+    add_word(&mut words, "dos_getch")?;
+    add_word(&mut words, "dos_getche")?;
+    add_word(&mut words, "dos_putc")?;
+    Ok(words)
+}
+
+/// Adds a word to the set.
+pub fn add_word<'a>(words: &mut BTreeSet<&'a str>, word: &'a str) -> Result<(), AllocError>
+    ensures { OnOk result ((other : Word) → holds words.new other ≡ same_bytes other word.now || holds words.old other) }
+{
+    words.insert(word)?;
+    Ok(())
+}

@@ -1,0 +1,13 @@
+pub mod CutsLex
+pub mod Enough
+pub mod LexesCut
+pub mod Marks
+pub mod Numbers
+pub mod Pieces
+pub mod Runs
+pub mod TextParsed
+pub mod TokensCut
+pub mod Used
+pub mod UsedDeclarations
+pub mod Version
+pub mod Words

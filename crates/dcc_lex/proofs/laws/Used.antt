@@ -1,0 +1,139 @@
+-- The grammar allows neither the version line behind the first line nor a keyword that it does not have: expressions
+-- and statements.
+use Rattle.std.proofs.Common.{◌≡◌, ℕ, Bool, true, false, not, ◌&&◌, if◌then◌else◌, List, [], ◌∷◌, ◌++◌, map, refl, ap, ◌∙◌, inl, inr}
+use Rattle.std.specs.Prelude.{codes}
+use Rattle.std.specs.List.{list_all, list_any}
+use Rattle.std.proofs.lemmas.Bool.{and_parts, and_from, or_cases, cases_Bool, not_from_false, both_ways}
+use Rattle.dcc_c.specs.declared.syntax.Base.{Base}
+use Rattle.dcc_c.specs.declared.syntax.Base.TheVariants.{Schar, Uchar, Int, Uint, Long, Ulong}
+use Rattle.dcc_c.specs.declared.syntax.CType.{CType}
+use Rattle.dcc_c.specs.Token.{Token, WordToken, Mark, same_bytes, is_word}
+use Rattle.dcc_c.specs.Lexing.{Placed}
+use Rattle.dcc_c.specs.Tree.{Word, Expr, Stmt, Lines, Arms}
+use Rattle.dcc_c.specs.Grammar.{keywords, is_among, is_name, base_words, type_tokens, Begins, none, one, IsNumber, decimal, hex, IsExpr, number, name, parentheses, unary, cast, binary, conditional, stronger, IsPlace, name_place, deref_place, AreArguments, no_argument, last_argument, more_arguments, IsCall, call, Around, IsCaseNumber, plain_decimal, unsigned_decimal, plain_hex, unsigned_hex, AreCases, last_case, more_cases, IsStmt, assign, call_alone, call_into, if_alone, if_else, while, do_while, for_ever, switch, break, continue, goto, empty, return_nothing, return_value, IsBlock, block, AreLines, no_more, depth_pragma, label, statement, AreArms, no_arm, case_arm, default_arm}
+use Rattle.dcc_c.specs.Pieces.{unused_keywords}
+use Rattle.dcc_c.proofs.reading.Passing.{same_bytes-equal}
+use Rattle.dcc_lex.proofs.laws.Words.{is_used}
+
+-- each of the tokens may stand behind the version line
+abbrev pub all_used : List Placed → Bool
+all_used [] = true
+all_used (t ∷ tokens) = is_used t.token && all_used tokens
+
+-- what holds of all words of a list holds of a word among them
+pub among_all : (P : List ℕ → Bool) (words : List Word) (word : Word) → list_all P words ≡ true → is_among words word ≡ true → P word ≡ true
+among_all P [] word all is = absurd cc
+among_all P (w ∷ words) word all is =
+    let (here, others) = and_parts (P w) (list_all P words) all in
+    elim (or_cases (same_bytes word w) (list_any (same_bytes word) words) is) [
+      | inl same ↦ ap P (same_bytes-equal word w same) ∙ here
+      | inr later ↦ among_all P words word others later
+    ]
+
+-- a name is no keyword
+pub name_used : (word : Word) → is_name word ≡ true → is_used (WordToken word) ≡ true
+name_used word is =
+    elim (cases_Bool (is_among unused_keywords word)) [
+      | inl among ↦ absurd (both_ways (is_among keywords word) (no_keyword (is_among keywords word) (and_parts (is_word word) (not (is_among keywords word)) is).1) (among_all (is_among keywords) unused_keywords word refl among))
+      | inr other ↦ not_from_false (is_among unused_keywords word) other
+    ]
+  where
+    no_keyword : (t : Bool) → not t ≡ true → t ≡ false
+    no_keyword true is = absurd cc
+    no_keyword false is = refl
+
+-- the words of a type may stand there
+type_used_at : (base : Base) (pointer : Bool) → list_all is_used (map WordToken (base_words base) ++ (if pointer then Mark (codes "*") ∷ [] else [])) ≡ true
+type_used_at Schar true = refl
+type_used_at Schar false = refl
+type_used_at Uchar true = refl
+type_used_at Uchar false = refl
+type_used_at Int true = refl
+type_used_at Int false = refl
+type_used_at Uint true = refl
+type_used_at Uint false = refl
+type_used_at Long true = refl
+type_used_at Long false = refl
+type_used_at Ulong true = refl
+type_used_at Ulong false = refl
+
+pub type_used : (type : CType) → list_all is_used (type_tokens type) ≡ true
+type_used type = type_used_at type.base type.pointer
+
+pub begins_used : {all rest : List Placed} {tokens : List Token} → Begins all tokens rest → list_all is_used tokens ≡ true → all_used rest ≡ true → all_used all ≡ true
+begins_used none good behind = behind
+begins_used (one {token} {tokens} others) good behind =
+    let (here, later) = and_parts (is_used token) (list_all is_used tokens) good in
+    and_from _ _ here (begins_used others later behind)
+
+-- Expressions.
+
+number_used : {token : Token} {n : ℕ} {base : Base} → IsNumber token n base → is_used token ≡ true
+number_used (decimal n suffix) = refl
+number_used (hex n suffix) = refl
+
+pub expr_used : {strength : ℕ} {tokens rest : List Placed} {e : Expr} → IsExpr strength tokens e rest → all_used rest ≡ true → all_used tokens ≡ true
+expr_used (number is) behind = and_from _ _ (number_used is) behind
+expr_used (name bytes is) behind = and_from _ _ (name_used bytes is) behind
+expr_used (parentheses inner) behind = expr_used inner behind
+expr_used (unary operator inner) behind = expr_used inner behind
+expr_used (cast type begins inner) behind = begins_used begins (type_used type) (expr_used inner behind)
+expr_used (binary operator left right) behind = expr_used left (expr_used right behind)
+expr_used (conditional test left right) behind = expr_used test (expr_used left (expr_used right behind))
+expr_used (stronger inner) behind = expr_used inner behind
+
+place_used : {tokens rest : List Placed} {place : Expr} → IsPlace tokens place rest → all_used rest ≡ true → all_used tokens ≡ true
+place_used (name_place bytes is) behind = and_from _ _ (name_used bytes is) behind
+place_used (deref_place inner) behind = expr_used inner behind
+
+arguments_used : {tokens rest : List Placed} {es : List Expr} → AreArguments tokens es rest → all_used rest ≡ true → all_used tokens ≡ true
+arguments_used no_argument behind = behind
+arguments_used (last_argument is) behind = expr_used is behind
+arguments_used (more_arguments is others) behind = expr_used is (arguments_used others behind)
+
+call_used : {tokens rest : List Placed} {function : Word} {arguments : List Expr} → IsCall tokens function arguments rest → all_used rest ≡ true → all_used tokens ≡ true
+call_used (call function is arguments) behind = and_from _ _ (name_used function is) (arguments_used arguments behind)
+
+-- Statements.
+
+case_used : {token : Token} {n : ℕ} → IsCaseNumber token n → is_used token ≡ true
+case_used (plain_decimal small) = refl
+case_used (unsigned_decimal small) = refl
+case_used (plain_hex small) = refl
+case_used (unsigned_hex small) = refl
+
+cases_used : {tokens rest : List Placed} {cases : List ℕ} → AreCases tokens cases rest → all_used rest ≡ true → all_used tokens ≡ true
+cases_used (last_case is) behind = and_from _ _ (case_used is) behind
+cases_used (more_cases is others) behind = and_from _ _ (case_used is) (cases_used others behind)
+
+mutual
+  stmt_used : {limit : ℕ} {around : Around} {depth after : ℕ} {tokens rest : List Placed} {stmt : Stmt} → IsStmt limit around depth tokens stmt after rest → all_used rest ≡ true → all_used tokens ≡ true
+  stmt_used (assign to from) behind = place_used to (expr_used from behind)
+  stmt_used (call_alone is) behind = call_used is behind
+  stmt_used (call_into to is) behind = place_used to (call_used is behind)
+  stmt_used (if_alone test inner) behind = expr_used test (block_used inner behind)
+  stmt_used (if_else test inner other) behind = expr_used test (block_used inner (block_used other behind))
+  stmt_used (while test inner) behind = expr_used test (block_used inner behind)
+  stmt_used (do_while inner test) behind = block_used inner (expr_used test behind)
+  stmt_used (for_ever begins inner) behind = begins_used begins refl (block_used inner behind)
+  stmt_used (switch test inner some) behind = expr_used test (arms_used inner behind)
+  stmt_used (break inside) behind = behind
+  stmt_used (continue inside) behind = behind
+  stmt_used (goto bytes is) behind = and_from _ _ (name_used bytes is) behind
+  stmt_used empty behind = behind
+  stmt_used return_nothing behind = behind
+  stmt_used (return_value is) behind = expr_used is behind
+
+  block_used : {limit : ℕ} {around : Around} {depth after : ℕ} {tokens rest : List Placed} {lines : Lines} → IsBlock limit around depth tokens lines after rest → all_used rest ≡ true → all_used tokens ≡ true
+  block_used (block inner) behind = lines_used inner behind
+
+  pub lines_used : {limit : ℕ} {around : Around} {labelled : Bool} {depth after : ℕ} {tokens rest : List Placed} {lines : Lines} → AreLines limit around labelled depth tokens lines after rest → all_used rest ≡ true → all_used tokens ≡ true
+  lines_used no_more behind = behind
+  lines_used (depth_pragma blocks inner) behind = lines_used inner behind
+  lines_used (label bytes is blocks inner) behind = and_from _ _ (name_used bytes is) (lines_used inner behind)
+  lines_used (statement blocks first inner) behind = stmt_used first (lines_used inner behind)
+
+  arms_used : {limit : ℕ} {around : Around} {depth after : ℕ} {tokens rest : List Placed} {arms last : Arms} → AreArms limit around depth tokens arms last after rest → all_used rest ≡ true → all_used tokens ≡ true
+  arms_used no_arm behind = behind
+  arms_used (case_arm numbers few inner others) behind = cases_used numbers (lines_used inner (arms_used others behind))
+  arms_used (default_arm few inner others) behind = lines_used inner (arms_used others behind)

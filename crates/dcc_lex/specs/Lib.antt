@@ -1,0 +1,5 @@
+pub mod CutViews
+pub mod HeadViews
+pub mod MarkViews
+pub mod NumberViews
+pub mod TokenViews

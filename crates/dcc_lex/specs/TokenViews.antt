@@ -1,0 +1,73 @@
+-- The tokens and pieces that the declared types stand for.
+use Rattle.std.specs.Prelude.{ℕ, List, map, codes, string_bytes}
+use Rattle.std.specs.Option.{option_map}
+use Rattle.dcc_c.specs.Token as tokens
+use Rattle.dcc_c.specs.Pieces as pieces
+use Rattle.dcc_lex.specs.declared.token.Suffix.{Suffix}
+use Rattle.dcc_lex.specs.declared.token.Suffix.TheVariants.{Plain, Unsigned, Long, UnsignedLong}
+use Rattle.dcc_lex.specs.declared.token.Head.{Head}
+use Rattle.dcc_lex.specs.declared.token.Head.TheVariants.{Version, Stack, Place, Depth}
+use Rattle.dcc_lex.specs.declared.token.Mark.{Mark}
+use Rattle.dcc_lex.specs.declared.token.Mark.TheVariants as m
+use Rattle.dcc_lex.specs.declared.token.Token.{Token}
+use Rattle.dcc_lex.specs.declared.token.Token.TheVariants.{Word, Decimal, Hex, Mark as MarkToken, Pragma}
+use Rattle.dcc_lex.specs.declared.token.Piece.{Piece}
+
+abbrev pub suffix_of : Suffix → tokens.Suffix
+suffix_of Plain = tokens.plain_number
+suffix_of Unsigned = tokens.unsigned_suffix
+suffix_of Long = tokens.long_suffix
+suffix_of UnsignedLong = tokens.unsigned_long_suffix
+
+abbrev pub head_of : Head → tokens.Head
+head_of Version = tokens.version_line
+head_of Stack = tokens.stack_line
+head_of Place = tokens.place_line
+head_of Depth = tokens.depth_line
+
+-- the bytes of a mark
+abbrev pub mark_of : Mark → List ℕ
+mark_of m.OpenParenthesis = codes "("
+mark_of m.CloseParenthesis = codes ")"
+mark_of m.OpenBrace = codes "{"
+mark_of m.CloseBrace = codes "}"
+mark_of m.OpenBracket = codes "["
+mark_of m.CloseBracket = codes "]"
+mark_of m.Semicolon = codes ";"
+mark_of m.Colon = codes ":"
+mark_of m.Comma = codes ","
+mark_of m.Equals = codes "="
+mark_of m.Question = codes "?"
+mark_of m.OrOr = codes "||"
+mark_of m.AndAnd = codes "&&"
+mark_of m.Or = codes "|"
+mark_of m.Xor = codes "^"
+mark_of m.And = codes "&"
+mark_of m.EqualsEquals = codes "=="
+mark_of m.NotEquals = codes "!="
+mark_of m.Less = codes "<"
+mark_of m.LessEquals = codes "<="
+mark_of m.Greater = codes ">"
+mark_of m.GreaterEquals = codes ">="
+mark_of m.ShiftLeft = codes "<<"
+mark_of m.ShiftRight = codes ">>"
+mark_of m.Plus = codes "+"
+mark_of m.Minus = codes "-"
+mark_of m.Star = codes "*"
+mark_of m.Slash = codes "/"
+mark_of m.Percent = codes "%"
+mark_of m.Tilde = codes "~"
+mark_of m.Exclamation = codes "!"
+
+abbrev pub token_of : Token → tokens.Token
+token_of (Word word) = tokens.WordToken (string_bytes word)
+token_of (Decimal n suffix) = tokens.Decimal n (suffix_of suffix)
+token_of (Hex n suffix) = tokens.Hex n (suffix_of suffix)
+token_of (MarkToken mark) = tokens.Mark (mark_of mark)
+token_of (Pragma head) = tokens.Pragma (head_of head)
+
+abbrev pub piece_of : Piece → pieces.Piece
+piece_of p = pieces.piece p.line (option_map token_of p.token)
+
+abbrev pub pieces_of : List Piece → List pieces.Piece
+pieces_of ps = map piece_of ps

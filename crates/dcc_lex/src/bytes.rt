@@ -1,0 +1,183 @@
+//! Kinds of bytes, and how many bytes of a kind a text begins with.
+
+ghost use Rattle.std.specs.Prelude.{◌≡◌, true, option_map};
+ghost use Rattle.std.specs.List.{prefix_len, take_while, list_all};
+ghost use Rattle.dcc_c.specs.Token as tokens;
+ghost use Rattle.dcc_c.specs.Lexing as lexing;
+ghost use Rattle.dcc_c.specs.Pieces as spec;
+
+/// Whether this is a decimal digit.
+pub fn is_digit(byte: u8) -> bool
+    ensures { result ≡ tokens.is_digit byte }
+{
+    b'0' <= byte && byte <= b'9'
+}
+
+/// Whether this is a letter or `_`.
+pub fn is_letter(byte: u8) -> bool
+    ensures { result ≡ tokens.is_letter byte }
+{
+    (b'A' <= byte && byte <= b'Z') || (b'a' <= byte && byte <= b'z') || byte == b'_'
+}
+
+/// Whether a word or a number goes on with this byte.
+pub fn is_word_byte(byte: u8) -> bool
+    ensures { result ≡ tokens.is_word_byte byte }
+{
+    is_letter(byte) || is_digit(byte)
+}
+
+/// Whether this is a space or a tab.
+pub fn is_blank(byte: u8) -> bool
+    ensures { result ≡ lexing.is_blank byte }
+{
+    byte == b' ' || byte == b'\t'
+}
+
+/// The value of a hexadecimal digit, or 16 for another byte.
+pub fn hex_value(byte: u8) -> u8
+    ensures { result ≡ tokens.hex_value byte }
+{
+    if b'0' <= byte && byte <= b'9' {
+        byte - b'0'
+    } else if b'A' <= byte && byte <= b'F' {
+        byte - (b'A' - 10)
+    } else if b'a' <= byte && byte <= b'f' {
+        byte - (b'a' - 10)
+    } else {
+        16
+    }
+}
+
+/// Whether this is a hexadecimal digit.
+pub fn is_hex_digit(byte: u8) -> bool
+    ensures { result ≡ spec.is_hex_digit byte }
+{
+    hex_value(byte) <= 15
+}
+
+/// How many decimal digits the bytes begin with.
+fn digit_count(bytes: &[u8]) -> usize
+    ensures { result ≡ prefix_len tokens.is_digit bytes.now }
+{
+    for (at, byte) in bytes.iter().enumerate() {
+        if !is_digit(*byte) {
+            return at;
+        }
+    }
+    bytes.len()
+}
+
+/// How many hexadecimal digits the bytes begin with.
+fn hex_digit_count(bytes: &[u8]) -> usize
+    ensures { result ≡ prefix_len spec.is_hex_digit bytes.now }
+{
+    for (at, byte) in bytes.iter().enumerate() {
+        if !is_hex_digit(*byte) {
+            return at;
+        }
+    }
+    bytes.len()
+}
+
+/// How many letters, digits and `_` the bytes begin with.
+fn word_byte_count(bytes: &[u8]) -> usize
+    ensures { result ≡ prefix_len tokens.is_word_byte bytes.now }
+{
+    for (at, byte) in bytes.iter().enumerate() {
+        if !is_word_byte(*byte) {
+            return at;
+        }
+    }
+    bytes.len()
+}
+
+/// How many spaces and tabs the bytes begin with.
+fn blank_count(bytes: &[u8]) -> usize
+    ensures { result ≡ prefix_len lexing.is_blank bytes.now }
+{
+    for (at, byte) in bytes.iter().enumerate() {
+        if !is_blank(*byte) {
+            return at;
+        }
+    }
+    bytes.len()
+}
+
+/// The decimal digits that the bytes begin with, and the bytes behind them.
+pub fn split_digits(bytes: &[u8]) -> (&[u8], &[u8])
+    ensures front { result.0.now ≡ take_while tokens.is_digit bytes.now }
+    ensures back { result.1.now ≡ spec.behind_while tokens.is_digit bytes.now }
+    ensures all { list_all tokens.is_digit result.0.now ≡ true }
+{
+    bytes.split_at(digit_count(bytes))
+}
+
+/// The hexadecimal digits that the bytes begin with, and the bytes behind them.
+pub fn split_hex_digits(bytes: &[u8]) -> (&[u8], &[u8])
+    ensures front { result.0.now ≡ take_while spec.is_hex_digit bytes.now }
+    ensures back { result.1.now ≡ spec.behind_while spec.is_hex_digit bytes.now }
+    ensures all { list_all spec.is_hex_digit result.0.now ≡ true }
+{
+    bytes.split_at(hex_digit_count(bytes))
+}
+
+/// The letters, digits and `_` that the bytes begin with, and the bytes behind them.
+pub fn split_word_bytes(bytes: &[u8]) -> (&[u8], &[u8])
+    ensures front { result.0.now ≡ take_while tokens.is_word_byte bytes.now }
+    ensures back { result.1.now ≡ spec.behind_while tokens.is_word_byte bytes.now }
+    ensures all { list_all tokens.is_word_byte result.0.now ≡ true }
+{
+    bytes.split_at(word_byte_count(bytes))
+}
+
+/// The spaces and tabs that the bytes begin with, and the bytes behind them.
+pub fn split_blanks(bytes: &[u8]) -> (&[u8], &[u8])
+    ensures front { result.0.now ≡ take_while lexing.is_blank bytes.now }
+    ensures back { result.1.now ≡ spec.behind_while lexing.is_blank bytes.now }
+    ensures all { list_all lexing.is_blank result.0.now ≡ true }
+{
+    bytes.split_at(blank_count(bytes))
+}
+
+/// Whether the line ends before these bytes.
+pub fn is_line_end(bytes: &[u8]) -> bool
+    ensures { result ≡ spec.is_line_end bytes.now }
+{
+    match bytes.first() {
+        None => true,
+        Some(first) => *first == b'\n',
+    }
+}
+
+/// Whether no word or number goes on with these bytes.
+pub fn is_word_end(bytes: &[u8]) -> bool
+    ensures { result ≡ spec.is_word_end bytes.now }
+{
+    match bytes.first() {
+        None => true,
+        Some(first) => !is_word_byte(*first),
+    }
+}
+
+/// Whether the bytes are the same.
+pub fn same_bytes(left: &[u8], right: &[u8]) -> bool
+    ensures { result ≡ tokens.same_bytes left.now right.now }
+{
+    left == right
+}
+
+/// The bytes behind some, where they begin with these.
+pub fn behind<'a>(words: &[u8], bytes: &'a [u8]) -> Option<&'a [u8]>
+    ensures { option_map (λ rest. rest.now) result ≡ spec.behind words.now bytes.now }
+{
+    let mut rest = bytes;
+    for word in words {
+        let (first, others) = rest.split_first()?;
+        if *first != *word {
+            return None;
+        }
+        rest = others;
+    }
+    Some(rest)
+}

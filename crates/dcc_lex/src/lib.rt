@@ -1,0 +1,18 @@
+//! From the bytes of a text to its pieces: tokens, and bytes that are none.
+#![tactic(auto)]
+
+mod bytes;
+mod cut;
+mod lexer;
+mod mark;
+mod number;
+mod pragma;
+pub mod token;
+mod word;
+
+pub use lexer::{line_feeds, pieces};
+pub use pragma::behind_version;
+pub use token::{Head, Mark, Piece, Suffix, Token};
+
+#[cfg(test)]
+mod tests;

@@ -1,0 +1,4 @@
+pub mod Exprs
+pub mod Stmts
+pub mod Texts
+pub mod Tokens

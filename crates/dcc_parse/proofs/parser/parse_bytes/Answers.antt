@@ -1,0 +1,35 @@
+use Rattle.std.proofs.Common.{◌≡◌, ◌+◌, Some, IfOk, IfErr, sym, ap, ◌∙◌, subst, arith}
+use Rattle.dcc_c.specs.Kinds.{first_of}
+use Rattle.dcc_c.specs.Numbered.{rows}
+use Rattle.dcc_c.specs.Pieces.{line_at}
+use Rattle.dcc_c.specs.TextOffences.{offences_of}
+use Rattle.dcc_c.specs.Views.{tree_of}
+use Rattle.dcc_lex.specs.TokenViews.{pieces_of}
+use Rattle.dcc_read.specs.OffenceViews.{offence_of}
+use Rattle.dcc_parse.specs.Fault.{IsTreeOf}
+use Rattle.dcc_parse.proofs.ParseRules.{tree-stands, long-refused, version-refused, offence-refused, rows-few}
+use Rattle.dcc_parse.proofs.parser.parse_bytes.Goals as goal
+
+pub returns-then-bytes-gt67108864-clause-refused :
+    goal.returns-then-bytes-gt67108864-clause-refused
+returns-then-bytes-gt67108864-clause-refused c = long-refused c.args.bytes.now c.if-bytes-gt67108864.true
+
+pub returns-in_default-clause-refused : goal.returns-in_default-clause-refused
+returns-in_default-clause-refused c = version-refused c.args.bytes.now c.if-bytes-gt67108864.false (sym c.in_default.ensures)
+
+pub returns-in-Ok-clause-stands : goal.returns-in-Ok-clause-stands
+returns-in-Ok-clause-stands c =
+    tree-stands c.args.bytes.now c.in-Some.rest.now c.deref.result.now (tree_of c.in-Ok.unit) (sym c.in-Some.ensures)
+    (ap pieces_of c.deref.ensures.value ∙ c.in_ok-pieces.ensures.pieces)
+    (subst (λ found. IfOk found (λ unit. IsTreeOf (pieces_of c.deref.result.now) (tree_of unit))) c.in-Ok.is c.in_ok-unit.ensures.unit)
+
+pub overflow_add-last : goal.overflow_add-last
+overflow_add-last c = omega (arith, rows-few c.args.bytes.now, c.line_feeds-last.ensures, c.if-bytes-gt67108864.false)
+
+pub returns-clause-refused : goal.returns-clause-refused
+returns-clause-refused c =
+    offence-refused c.args.bytes.now c.in-Some.rest.now c.deref.result.now c.in-Err.offence c.line_at.result c.if-bytes-gt67108864.false (sym c.in-Some.ensures)
+    (ap pieces_of c.deref.ensures.value ∙ c.in_ok-pieces.ensures.pieces)
+    (subst (λ found. IfErr found (λ offence. first_of (offences_of (pieces_of c.deref.result.now)) ≡ Some (offence_of offence))) c.in-Err.is c.in_ok-unit.ensures.offence)
+    (c.line_at.ensures ∙ ap (λ n. line_at (pieces_of c.deref-in-Err.result.now) (1 + n) c.in-Err.offence.at) c.line_feeds-last.ensures
+    ∙ ap (λ l. line_at (pieces_of l) (1 + rows c.args.bytes.now) c.in-Err.offence.at) (c.deref-in-Err.ensures.value ∙ sym c.deref.ensures.value))

@@ -1,0 +1,12 @@
+use Rattle.std.proofs.Common.{map}
+use Rattle.dcc_c.specs.Views.{global_of, function_of}
+use Rattle.dcc_read.specs.PartialViews.{text_of}
+use Rattle.dcc_parse.proofs.TextLaws.{clean-text, text-stripped}
+use Rattle.dcc_parse.proofs.strip_text.strip.Goals as goal
+
+pub returns : goal.returns
+returns c complete none =
+    text-stripped c.args.text.now c.strip_offset.result c.strip_offset-2.result
+    (map global_of c.in_ok-strip_globals.field-0.items) (map function_of c.in_ok-strip_functions.field-0.items) c.deref.result.now c.deref-2.result.now
+    c.deref.ensures.value c.deref-2.ensures.value (clean-text (text_of c.args.text.now) complete none)
+    c.strip_offset.ensures c.strip_offset-2.ensures c.in_ok-strip_globals.ensures c.in_ok-strip_functions.ensures

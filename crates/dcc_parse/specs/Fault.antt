@@ -1,0 +1,28 @@
+-- Why a text is not parsed.
+use Rattle.std.specs.Prelude.{◌≡◌, ℕ, ◌≤◌, List, [], length}
+use Rattle.dcc_c.specs.Pieces.{Piece}
+use Rattle.dcc_c.specs.ReadingText.{reading_of}
+use Rattle.dcc_c.specs.Refusals.{IsRefused}
+use Rattle.dcc_c.specs.Stripped.{plain_text}
+use Rattle.dcc_c.specs.Text.{StandsFor}
+use Rattle.dcc_c.specs.TextOffences.{offences_of}
+use Rattle.dcc_c.specs.Tree.{Tree}
+use Rattle.dcc_read.specs.OffenceViews.{kind_of}
+use Rattle.dcc_read.specs.declared.offence.ParseKind.{ParseKind}
+use Rattle.dcc_parse.specs.declared.fault.ParseFault.{ParseFault}
+use Rattle.dcc_parse.specs.declared.fault.ParseFault.TheVariants.{At, Memory}
+
+-- The text is refused for what offends first, in this line. No tree stands for it, or it is too long.
+pub record IsRefusal (text : List ℕ) (line : ℕ) (kind : ParseKind) : Type 0 where
+  pub refused : IsRefused text line (kind_of kind)
+  pub no_tree : length text ≤ 67108864 → (tree : Tree) → ¬ StandsFor text tree
+
+-- the fault says why the text is refused; want of memory has no cause
+abbrev pub IsFaultOf : List ℕ → ParseFault → Type 0
+IsFaultOf text (At line kind) = IsRefusal text line kind
+IsFaultOf text Memory = Unit {0}
+
+-- Nothing offends in the pieces, and they are read as the tree.
+pub record IsTreeOf (pieces : List Piece) (tree : Tree) : Type 0 where
+  pub clean : offences_of pieces ≡ []
+  pub same : plain_text (reading_of pieces).value ≡ tree

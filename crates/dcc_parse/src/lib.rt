@@ -1,0 +1,11 @@
+//! The parser of the dialect: from the bytes of a text to its unit, or to the first offence in it.
+#![tactic(auto)]
+
+mod fault;
+mod parser;
+mod strip;
+mod strip_text;
+
+pub use dcc_read::ParseKind;
+pub use fault::ParseFault;
+pub use parser::parse;

@@ -1,0 +1,105 @@
+//! From the bytes of a text to its unit, or to what offends in it first.
+
+ghost use Rattle.std.specs.Prelude.{◌≡◌, ◌≤◌, ◌<◌, length, IfOk, IfErr, OnOk, Some};
+ghost use Rattle.dcc_c.specs.Kinds.{first_of};
+ghost use Rattle.dcc_c.specs.Pieces as spec;
+ghost use Rattle.dcc_c.specs.Text.{StandsFor};
+ghost use Rattle.dcc_c.specs.TextOffences as offences;
+ghost use Rattle.dcc_c.specs.Tree.{Tree};
+ghost use Rattle.dcc_c.specs.Views.{tree_of};
+ghost use Rattle.dcc_lex.specs.TokenViews.{pieces_of};
+ghost use Rattle.dcc_parse.specs.Fault.{IsFaultOf, IsTreeOf};
+ghost use Rattle.dcc_read.specs.OffenceViews.{offence_of};
+ghost use Rattle.dcc_read.specs.ReaderViews.{reader_of};
+
+use crate::fault::ParseFault;
+use crate::strip_text::strip;
+use dcc_c::Unit;
+use dcc_check::first_offence;
+use dcc_lex::{Piece, behind_version, line_feeds, pieces};
+use dcc_read::{Offence, ParseKind, Reader, read};
+use std::alloc::{AllocError, Global};
+
+/// The pieces that have not been read, where reading stopped.
+fn unread<'a>(reader: &Reader<'a>) -> &'a [Piece]
+    ensures { pieces_of result.now ≡ offences.unread (reader_of reader.now) }
+{
+    let all = reader.pieces;
+    if reader.stop.is_none() || reader.at >= all.len() {
+        return &all[all.len()..];
+    }
+    &all[reader.at..]
+}
+
+/// The unit of the pieces behind the version line, or what offends in them first. It fails only for want of memory.
+fn parse_pieces(alloc: Global, pieces: &[Piece]) -> Result<Result<Unit, Offence>, AllocError>
+    requires few { length pieces.now < 67108864 }
+    ensures unit { IfOk result (λ found. IfOk found (λ unit. IsTreeOf (pieces_of pieces.now) (tree_of unit))) }
+    ensures offence { IfOk result (λ found. IfErr found (λ offence.
+        first_of (offences.offences_of (pieces_of pieces.now)) ≡ Some (offence_of offence))) }
+{
+    let reading = read(alloc, pieces)?;
+    let rest = unread(&reading.behind);
+    match first_offence(alloc, &reading.text, reading.behind.stop, rest)? {
+        Some(offence) => Ok(Err(offence)),
+        None => Ok(Ok(strip(alloc, &reading.text)?)),
+    }
+}
+
+/// The line of the piece at a place, or the last line.
+fn line_at(pieces: &[Piece], last: u32, at: usize) -> u32
+    ensures { result ≡ spec.line_at (pieces_of pieces.now) last at }
+{
+    match pieces.get(at) {
+        Some(piece) => piece.line,
+        None => last,
+    }
+}
+
+/// The unit of a text, or what offends in it first. It fails only for want of memory.
+fn parse_bytes(alloc: Global, bytes: &[u8]) -> Result<Result<Unit, ParseFault>, AllocError>
+    ensures stands { IfOk result (λ parsed. IfOk parsed (λ unit. StandsFor bytes.now (tree_of unit))) }
+    ensures length { IfOk result (λ parsed. OnOk parsed (length bytes.now ≤ 67108864)) }
+    ensures refused { IfOk result (λ parsed. IfErr parsed (IsFaultOf bytes.now)) }
+{
+    if bytes.len() > 67_108_864 {
+        return Ok(Err(ParseFault::At {
+            line: 0,
+            kind: ParseKind::Length,
+        }));
+    }
+    let Some(rest) = behind_version(bytes) else {
+        return Ok(Err(ParseFault::At {
+            line: 1,
+            kind: ParseKind::Version,
+        }));
+    };
+    let pieces = pieces(alloc, rest)?;
+    match parse_pieces(alloc, &pieces)? {
+        Ok(unit) => Ok(Ok(unit)),
+        Err(offence) => {
+            let last = 1 + line_feeds(bytes);
+            Ok(Err(ParseFault::At {
+                line: line_at(&pieces, last, offence.at),
+                kind: offence.kind,
+            }))
+        }
+    }
+}
+
+/// The unit of a text. One of more than 67,108,864 bytes is refused.
+///
+/// # Errors
+///
+/// What offends in the text first, and in which line; or that memory ran out.
+pub fn parse(alloc: Global, bytes: &Vec<u8>) -> Result<Unit, ParseFault>
+    ensures stands { IfOk result (λ unit. StandsFor bytes.now.items (tree_of unit)) }
+    ensures alone { IfOk result (λ unit. (tree : Tree) → StandsFor bytes.now.items tree → tree ≡ tree_of unit) }
+    ensures length { OnOk result (length bytes.now.items ≤ 67108864) }
+    ensures refused { IfErr result (IsFaultOf bytes.now.items) }
+{
+    match parse_bytes(alloc, bytes) {
+        Ok(parsed) => parsed,
+        Err(_) => Err(ParseFault::Memory),
+    }
+}

@@ -1,0 +1,192 @@
+//! From what has been read of a text to its unit. A text in which nothing offends has been read whole.
+
+ghost use Rattle.std.specs.Prelude.{◌≡◌, ℕ, [], false, IfOk, map, string_bytes};
+ghost use Rattle.std.specs.Option.{option_map};
+ghost use Rattle.dcc_c.specs.Views as tree;
+ghost use Rattle.dcc_c.specs.Stripped as stripped;
+ghost use Rattle.dcc_c.specs.Offences.{Scene, default_offences, lines_offences, inner_offences, arms_inner};
+ghost use Rattle.dcc_read.specs.PartialViews as partial;
+ghost use Rattle.dcc_parse.specs.Stripping.{arms_if};
+
+use dcc_c::{Arm, Base, CExpr, CStmt, CType, Line};
+use dcc_read::{CaseAt, NumberAt, PartialArm, PartialExpr, PartialStmt, Row, WordAt};
+use std::alloc::{AllocError, Global};
+
+/// An expression.
+fn strip_expr(alloc: Global, e: &PartialExpr) -> Result<CExpr, AllocError>
+    ensures { IfOk result (λ r. tree.expr_of r ≡ stripped.plain_expr (partial.expr_of e.now)) }
+{
+    match e {
+        PartialExpr::Missing => Ok(CExpr::Num(0, Base::Int)),
+        PartialExpr::Number(_, n, base) => Ok(CExpr::Num(*n, *base)),
+        PartialExpr::Name(_, word, _) => Ok(CExpr::Name(word.clone()?)),
+        PartialExpr::Unary(_, operator, a) => {
+            let a = Box::new(alloc, strip_expr(alloc, a)?)?;
+            Ok(CExpr::Un(*operator, a))
+        }
+        PartialExpr::Binary(operator, a, b) => {
+            let a = Box::new(alloc, strip_expr(alloc, a)?)?;
+            let b = Box::new(alloc, strip_expr(alloc, b)?)?;
+            Ok(CExpr::Bin(*operator, a, b))
+        }
+        PartialExpr::Conditional(a, b, c) => {
+            let a = Box::new(alloc, strip_expr(alloc, a)?)?;
+            let b = Box::new(alloc, strip_expr(alloc, b)?)?;
+            let c = Box::new(alloc, strip_expr(alloc, c)?)?;
+            Ok(CExpr::Cond(a, b, c))
+        }
+        PartialExpr::Cast(_, ty, a) => {
+            let a = Box::new(alloc, strip_expr(alloc, a)?)?;
+            Ok(CExpr::Cast(*ty, a))
+        }
+    }
+}
+
+/// An expression, where there is one.
+fn strip_if(alloc: Global, e: &Option<PartialExpr>) -> Result<Option<CExpr>, AllocError>
+    ensures { IfOk result (λ r. option_map tree.expr_of r ≡ option_map stripped.plain_expr (option_map partial.expr_of e.now)) }
+{
+    match e {
+        Some(e) => Ok(Some(strip_expr(alloc, e)?)),
+        None => Ok(None),
+    }
+}
+
+/// The value of an assignment.
+fn strip_value(alloc: Global, e: &Option<PartialExpr>) -> Result<CExpr, AllocError>
+    ensures { IfOk result (λ r. tree.expr_of r ≡ stripped.plain_value (option_map partial.expr_of e.now)) }
+{
+    match e {
+        Some(e) => strip_expr(alloc, e),
+        None => Ok(CExpr::Num(0, Base::Int)),
+    }
+}
+
+/// The arguments of a call.
+fn strip_arguments(alloc: Global, arguments: &[PartialExpr]) -> Result<Vec<CExpr>, AllocError>
+    ensures { IfOk result (λ r. map tree.expr_of r.items ≡ map stripped.plain_expr (map partial.expr_of arguments.now)) }
+{
+    let mut found = Vec::new(alloc);
+    for e in arguments {
+        found.push(strip_expr(alloc, e)?)?;
+    }
+    Ok(found)
+}
+
+/// A name.
+pub(crate) fn strip_name(alloc: Global, name: &Option<WordAt>) -> Result<String, AllocError>
+    ensures { IfOk result (λ r. string_bytes r ≡ stripped.plain_name (option_map partial.word_of name.now)) }
+{
+    match name {
+        Some(name) => name.word.clone(),
+        None => Ok(String::new(alloc)),
+    }
+}
+
+/// The numbers of cases.
+fn strip_numbers(alloc: Global, numbers: &[CaseAt]) -> Result<Vec<u16>, AllocError>
+    ensures { IfOk result (λ r. r.items ≡ stripped.plain_numbers (map partial.case_of numbers.now)) }
+{
+    let mut found = Vec::new(alloc);
+    for n in numbers {
+        found.push(n.value)?;
+    }
+    Ok(found)
+}
+
+/// A statement.
+#[cycle(strip)]
+fn strip_stmt(alloc: Global, stmt: &PartialStmt) -> Result<CStmt, AllocError>
+    ensures { (scene : Scene) (blocks : ℕ) → inner_offences scene blocks (partial.stmt_of stmt.now) ≡ [] →
+        IfOk result (λ r. tree.stmt_of r ≡ stripped.plain_stmt (partial.stmt_of stmt.now)) }
+{
+    match stmt {
+        PartialStmt::Assign(place, e, _) => {
+            let place = strip_expr(alloc, place)?;
+            Ok(CStmt::Assign(place, strip_value(alloc, e)?))
+        }
+        PartialStmt::Call(place, call) => {
+            let place = strip_if(alloc, place)?;
+            let name = call.function.word.clone()?;
+            let arguments = strip_arguments(alloc, &call.arguments)?;
+            Ok(CStmt::Call(place, name, arguments, call.depth))
+        }
+        PartialStmt::If(e, _, body, otherwise) => {
+            let e = strip_expr(alloc, e)?;
+            let body = strip_lines(alloc, body)?;
+            let otherwise = strip_lines(alloc, otherwise)?;
+            Ok(CStmt::If(e, body, otherwise))
+        }
+        PartialStmt::While(e, _, body) => {
+            let e = strip_expr(alloc, e)?;
+            Ok(CStmt::While(e, strip_lines(alloc, body)?))
+        }
+        PartialStmt::DoWhile(body, e, _) => {
+            let e = strip_expr(alloc, e)?;
+            Ok(CStmt::DoWhile(strip_lines(alloc, body)?, e))
+        }
+        PartialStmt::Forever(body) => Ok(CStmt::Forever(strip_lines(alloc, body)?)),
+        PartialStmt::Switch(e, _, arms) => {
+            let e = strip_expr(alloc, e)?;
+            let with_cases = strip_arms(alloc, arms)?;
+            Ok(CStmt::Switch(e, with_cases, strip_default(alloc, arms)?))
+        }
+        PartialStmt::Break => Ok(CStmt::Break),
+        PartialStmt::Continue => Ok(CStmt::Continue),
+        PartialStmt::Goto(name) => Ok(CStmt::Goto(strip_name(alloc, name)?)),
+        PartialStmt::Label(name) => Ok(CStmt::Label(name.word.clone()?)),
+        PartialStmt::Empty => Ok(CStmt::Empty),
+        PartialStmt::Return(e, _) => Ok(CStmt::Return(strip_if(alloc, e)?)),
+    }
+}
+
+/// Statements.
+#[cycle(strip)]
+pub(crate) fn strip_lines(alloc: Global, rows: &[Row]) -> Result<Vec<Line>, AllocError>
+    ensures { (scene : Scene) (blocks : ℕ) → lines_offences scene blocks (partial.lines_of rows.now) ≡ [] →
+        IfOk result (λ r. tree.lines_of r.items ≡ stripped.plain_lines (partial.lines_of rows.now)) }
+{
+    let mut lines = Vec::new(alloc);
+    for row in rows {
+        let stmt = strip_stmt(alloc, &row.stmt)?;
+        lines.push(Line {
+            stmt,
+            line: row.line,
+        })?;
+    }
+    Ok(lines)
+}
+
+/// The arms with cases.
+#[cycle(strip)]
+fn strip_arms(alloc: Global, arms: &[PartialArm]) -> Result<Vec<Arm>, AllocError>
+    ensures { (scene : Scene) (blocks : ℕ) → arms_inner scene blocks (partial.arms_of arms.now) ≡ [] →
+        IfOk result (λ r. tree.arms_of r.items ≡ stripped.case_arms (partial.arms_of arms.now)) }
+{
+    let mut found = Vec::new(alloc);
+    for arm in arms {
+        if arm.default.is_none() {
+            let cases = strip_numbers(alloc, &arm.numbers)?;
+            let body = strip_lines(alloc, &arm.body)?;
+            found.push(Arm { cases, body })?;
+        }
+    }
+    Ok(found)
+}
+
+/// The arm with `default`, of which there is at most one.
+#[cycle(strip)]
+fn strip_default(alloc: Global, arms: &[PartialArm]) -> Result<Option<Arm>, AllocError>
+    ensures { (scene : Scene) (blocks : ℕ) → arms_inner scene blocks (partial.arms_of arms.now) ≡ [] →
+        default_offences false (partial.arms_of arms.now) ≡ [] →
+        IfOk result (λ r. arms_if r ≡ stripped.default_arms (partial.arms_of arms.now)) }
+{
+    for arm in arms {
+        if arm.default.is_some() {
+            let cases = Vec::new(alloc);
+            let body = strip_lines(alloc, &arm.body)?;
+            return Ok(Some(Arm { cases, body }));
+        }
+    }
+    Ok(None)
+}

@@ -1,0 +1,209 @@
+-- Reading functions and global variables one after the other.
+use Rattle.std.proofs.Common.{◌≡◌, ℕ, zero, suc, ◌+◌, ◌-◌, ◌<◌, ◌==◌, Bool, true, false, ◌||◌, if◌then◌else◌, not, codes, Result, Ok, Err, IfOk, List, [], ◌∷◌, ◌++◌, length, Option, Some, None, refl, sym, ap, ◌∙◌, subst, append_assoc}
+use Rattle.std.specs.Prelude.{IfSome}
+use Rattle.std.proofs.lemmas.List.{append-nil}
+use Rattle.dcc_c.specs.Token.{place_line as place_words}
+use Rattle.dcc_c.specs.declared.syntax.Class.TheVariants.{Plain}
+use Rattle.dcc_c.specs.Pieces.{Piece}
+use Rattle.dcc_c.specs.Partial.{NumberAt, PartialVariable, PartialFunction, PartialLines, no_rows}
+use Rattle.dcc_c.specs.Reading.{Reader, Got, got, is_stopped, sees_word, take_mark}
+use Rattle.dcc_c.specs.ReadingStatements.{sees_head, read_size, read_init, read_params}
+use Rattle.dcc_c.specs.ReadingText.{Begun, read_begun, read_head, read_function, read_functions, with_functions, read_global, size_in_bytes, Declared, declared, before_declared, read_declared, reader_of, enough_calls}
+use Rattle.dcc_read.specs.Behind.{before_list}
+use Rattle.dcc_read.specs.FunctionViews.{opened_at}
+use Rattle.dcc_read.specs.TextViews.{place_line, is_global, global_address, before_globals}
+use Rattle.dcc_read.proofs.LoopLaws.{counted, if-true, if-false}
+
+-- Functions.
+
+pub functions-none : (n : ℕ) (r : Reader) → (is_stopped r || (length r.left == 0)) ≡ true → read_functions n r ≡ got [] r
+functions-none zero r e = refl
+functions-none (suc n) r e = if-true (is_stopped r || (length r.left == 0)) _ _ e
+
+pub functions-some : (n : ℕ) (r : Reader) (begun : Got Begun) (first : Got PartialFunction) → 0 < n → (is_stopped r || (length r.left == 0)) ≡ false →
+    begun ≡ read_begun r → first ≡ read_function (n - 1) begun →
+    read_functions n r ≡ before_list (first.value ∷ []) (read_functions (n - 1) first.behind)
+functions-some n r begun first within e begins reads =
+    ap (λ k. read_functions k r) (sym (counted n within))
+    ∙ if-false (is_stopped r || (length r.left == 0)) _ _ e
+    ∙ ap (λ (g : Got PartialFunction). before_list (g.value ∷ []) (read_functions (n - 1) g.behind)) (sym (reads ∙ ap (read_function (n - 1)) begins))
+
+-- Global variables.
+
+-- the choice between a variable and a function
+chosen-some : {A : Type 0} (address : Option ℕ) (b : Bool) (f : ℕ → A) (other : A) (here : ℕ) → (if b then address else None) ≡ Some here →
+    (elim address [ Some at ↦ if b then f at else other | None ↦ other ]) ≡ f here
+chosen-some (Some at) true f other here e = let same : at ≡ here = cc in ap f same
+chosen-some (Some at) false f other here e = absurd (cc)
+chosen-some None true f other here e = absurd (cc)
+chosen-some None false f other here e = absurd (cc)
+
+chosen-none : {A : Type 0} (address : Option ℕ) (b : Bool) (f : ℕ → A) (other : A) → (if b then address else None) ≡ None →
+    (elim address [ Some at ↦ if b then f at else other | None ↦ other ]) ≡ other
+chosen-none (Some at) true f other e = absurd (cc)
+chosen-none (Some at) false f other e = refl
+chosen-none None b f other e = refl
+
+pub declared-place : (n : ℕ) (address : Option ℕ) (r : Reader) (place : Got ℕ) → 0 < n → sees_head place_words r ≡ true → place ≡ place_line r →
+    read_declared n address r ≡ read_declared (n - 1) (Some place.value) place.behind
+declared-place n address r place within e is =
+    ap (λ k. read_declared k address r) (sym (counted n within))
+    ∙ if-true (sees_head place_words r) _ _ e
+    ∙ ap (λ (g : Got ℕ). read_declared (n - 1) (Some g.value) g.behind) (sym is)
+
+-- what is declared behind the test for a place line
+declared-others : (n : ℕ) (address : Option ℕ) (r : Reader) (begun : Got Begun) → 0 < n → sees_head place_words r ≡ false → begun ≡ read_begun r →
+    read_declared n address r
+    ≡ (elim address [
+      | Some here ↦ if is_global begun
+          then (let v = read_global (n - 1) here begun in before_declared v.value (read_declared (n - 1) (Some (here + size_in_bytes v.value)) v.behind))
+          else declared [] (with_functions (n - 1) begun)
+      | None ↦ declared [] (with_functions (n - 1) begun)
+    ])
+declared-others n address r begun within e begins =
+    ap (λ k. read_declared k address r) (sym (counted n within))
+    ∙ if-false (sees_head place_words r) _ _ e
+    ∙ ap (λ (g : Got Begun). elim address [
+      | Some here ↦ if is_global g
+          then (let v = read_global (n - 1) here g in before_declared v.value (read_declared (n - 1) (Some (here + size_in_bytes v.value)) v.behind))
+          else declared [] (with_functions (n - 1) g)
+      | None ↦ declared [] (with_functions (n - 1) g)
+    ]) (sym begins)
+
+pub declared-global : (n : ℕ) (address : Option ℕ) (r : Reader) (begun : Got Begun) (here : ℕ) (v : Got PartialVariable) → 0 < n →
+    sees_head place_words r ≡ false → begun ≡ read_begun r → Some here ≡ global_address address begun → v ≡ read_global (n - 1) here begun →
+    read_declared n address r ≡ before_declared v.value (read_declared (n - 1) (Some (here + size_in_bytes v.value)) v.behind)
+declared-global n address r begun here v within e begins stands reads =
+    declared-others n address r begun within e begins
+    ∙ chosen-some address (is_global begun)
+    (λ at. let w = read_global (n - 1) at begun in before_declared w.value (read_declared (n - 1) (Some (at + size_in_bytes w.value)) w.behind))
+    (declared [] (with_functions (n - 1) begun)) here (sym stands)
+    ∙ ap (λ (g : Got PartialVariable). before_declared g.value (read_declared (n - 1) (Some (here + size_in_bytes g.value)) g.behind)) (sym reads)
+
+pub declared-functions : (n : ℕ) (address : Option ℕ) (r : Reader) (begun : Got Begun) (functions : Got (List PartialFunction)) → 0 < n →
+    sees_head place_words r ≡ false → begun ≡ read_begun r → None ≡ global_address address begun → functions ≡ with_functions (n - 1) begun →
+    read_declared n address r ≡ declared [] functions
+declared-functions n address r begun functions within e begins stands reads =
+    declared-others n address r begun within e begins
+    ∙ chosen-none address (is_global begun)
+    (λ at. let w = read_global (n - 1) at begun in before_declared w.value (read_declared (n - 1) (Some (at + size_in_bytes w.value)) w.behind))
+    (declared [] (with_functions (n - 1) begun)) (sym stands)
+    ∙ ap (declared []) (sym reads)
+
+pub globals-step : (before now : List PartialVariable) (v : PartialVariable) (whole others target : Got Declared) → now ≡ before ++ v ∷ [] →
+    whole ≡ before_declared v others → before_globals before whole ≡ target → before_globals now others ≡ target
+globals-step before now v whole others target is step had =
+    ap (λ l. before_globals l others) is
+    ∙ ap (λ l. got (record { globals = l; functions = others.value.functions }) others.behind) (append_assoc before (v ∷ []) others.value.globals)
+    ∙ sym (ap (before_globals before) step) ∙ had
+
+pub globals-done : (before : List PartialVariable) (functions : Got (List PartialFunction)) (whole target : Got Declared) → whole ≡ declared [] functions →
+    before_globals before whole ≡ target → declared before functions ≡ target
+globals-done before functions whole target end had =
+    sym (ap (λ l. declared l functions) (append-nil before)) ∙ sym (ap (before_globals before) end) ∙ had
+
+pub functions-first : (n : ℕ) (begun : Got Begun) (first : Got PartialFunction) (now : List PartialFunction) →
+    first ≡ read_function n begun → now ≡ first.value ∷ [] → before_list now (read_functions n first.behind) ≡ with_functions n begun
+functions-first n begun first now is grown =
+    ap (λ l. before_list l (read_functions n first.behind)) grown
+    ∙ ap (λ (g : Got PartialFunction). before_list (g.value ∷ []) (read_functions n g.behind)) is
+
+-- What holds of a result that was read.
+pub ok-map : {A E : Type 0} (r : Result A E) (P Q : A → Type 0) → ((x : A) → P x → Q x) → IfOk r P → IfOk r Q
+ok-map (Ok x) P Q f h = f x h
+ok-map (Err e) P Q f h = h
+
+-- The head of a function.
+
+abbrev pub with_body : List PartialVariable → PartialLines → Begun → Option ℕ → Bool → List PartialVariable → Bool → PartialFunction
+with_body locals body begun opened without params headed = record {
+  at = begun.at;
+  has_result = begun.has_result;
+  result = begun.result;
+  name = begun.name;
+  opened = opened;
+  without_params = without;
+  params = params;
+  headed = headed;
+  locals = locals;
+  body = body;
+  last = 0;
+}
+
+abbrev head : Begun → Option ℕ → Bool → List PartialVariable → Bool → PartialFunction
+head begun opened without params headed = with_body [] no_rows begun opened without params headed
+
+-- from the parameters on
+abbrev head_filled : Begun → Reader → Got (List PartialVariable) → Got PartialFunction
+head_filled begun inside params =
+    let end = take_mark (codes ")") params.behind in
+    got (head begun (opened_at inside) (sees_word (codes "void") inside) params.value (not (is_stopped end))) end
+
+pub head-read : (calls : ℕ) (begun : Got Begun) (inside filled end : Reader) (opened : Option ℕ) (without : Bool) (params locals : List PartialVariable) (body : PartialLines) (stopped : Bool) → locals ≡ [] → body ≡ no_rows →
+    inside ≡ take_mark (codes "(") begun.behind → opened ≡ opened_at inside → without ≡ sees_word (codes "void") inside →
+    got params filled ≡ read_params calls inside → end ≡ take_mark (codes ")") filled → stopped ≡ is_stopped end →
+    got (with_body locals body begun.value opened without params (not stopped)) end ≡ read_head calls begun
+head-read calls begun inside filled end opened without params locals body stopped none empty marks opens voids fills ends stops =
+    ap (λ l. got (with_body l body begun.value opened without params (not stopped)) end) none
+    ∙ ap (λ b. got (with_body [] b begun.value opened without params (not stopped)) end) empty
+    ∙ ap (λ o. got (head begun.value o without params (not stopped)) end) opens
+    ∙ ap (λ w. got (head begun.value (opened_at inside) w params (not stopped)) end) voids
+    ∙ ap (λ b. got (head begun.value (opened_at inside) (sees_word (codes "void") inside) params (not b)) end) stops
+    ∙ ap (λ e. got (head begun.value (opened_at inside) (sees_word (codes "void") inside) params (not (is_stopped e))) e) ends
+    ∙ ap (head_filled begun.value inside) fills
+    ∙ ap (λ i. head_filled begun.value i (read_params calls i)) marks
+
+-- A global variable.
+
+abbrev global : Begun → ℕ → Option NumberAt → List NumberAt → Bool → PartialVariable
+global begun address size init done =
+    record { name = begun.name; type = begun.result; class = Plain; size = size; init = init; address = address; done = done }
+
+-- from the initial values on, and from the size on
+abbrev global_filled : Begun → ℕ → Option NumberAt → Got (List NumberAt) → Got PartialVariable
+global_filled begun address size init =
+    let end = take_mark (codes ";") init.behind in got (global begun address size init.value (not (is_stopped end))) end
+
+abbrev global_sized : ℕ → Begun → ℕ → Got (Option NumberAt) → Got PartialVariable
+global_sized calls begun address size = global_filled begun address size.value (read_init calls size.behind)
+
+pub global-read : (calls address : ℕ) (begun : Got Begun) (bounded filled end : Reader) (size : Option NumberAt) (init : List NumberAt) (stopped : Bool) →
+    got size bounded ≡ read_size begun.behind → got init filled ≡ read_init calls bounded → end ≡ take_mark (codes ";") filled → stopped ≡ is_stopped end →
+    got (global begun.value address size init (not stopped)) end ≡ read_global calls address begun
+global-read calls address begun bounded filled end size init stopped sizes fills ends stops =
+    ap (λ b. got (global begun.value address size init (not b)) end) stops
+    ∙ ap (λ e. got (global begun.value address size init (not (is_stopped e))) e) ends
+    ∙ ap (global_filled begun.value address size) fills
+    ∙ ap (global_sized calls begun.value address) sizes
+
+kept : (P : ℕ → Type 0) (address : Option ℕ) (b : Bool) (here : ℕ) → (if b then address else None) ≡ Some here → IfSome address P → P here
+kept P (Some at) true here e had = let same : at ≡ here = cc in subst P same had
+kept P (Some at) false here e had = absurd (cc)
+kept P None true here e had = absurd (cc)
+kept P None false here e had = absurd (cc)
+
+-- A variable that begins has the address in force.
+pub address-kept : (P : ℕ → Type 0) (address : Option ℕ) (begun : Got Begun) (here : ℕ) → Some here ≡ global_address address begun → IfSome address P → P here
+address-kept P address begun here stands had = kept P address (is_global begun) here (sym stands) had
+
+pub functions-end : (n : ℕ) (r : Reader) → n ≡ 0 → read_functions n r ≡ got [] r
+functions-end n r none = ap (λ k. read_functions k r) none
+
+pub globals-none : (before : List PartialVariable) (whole : Got Declared) → before ≡ [] → before_globals before whole ≡ whole
+globals-none before whole none = ap (λ l. before_globals l whole) none
+
+pub declared-end : (n : ℕ) (address : Option ℕ) (r : Reader) → n ≡ 0 → read_declared n address r ≡ declared [] (got [] r)
+declared-end n address r none = ap (λ k. read_declared k address r) none
+
+pub globals-parts : (globals : List PartialVariable) (functions : List PartialFunction) (r : Reader) → functions ≡ [] →
+    got (record { globals = globals; functions = functions }) r ≡ declared globals (got [] r)
+globals-parts globals functions r none = ap (λ l. declared globals (got l r)) none
+
+-- the head of a function that begins with the first of the pieces
+pub head-at : (calls : ℕ) (pieces : List Piece) (begun : Got Begun) (r behind : Reader) (f : PartialFunction) → got f behind ≡ read_head calls begun →
+    begun ≡ read_begun r → r ≡ reader_of pieces → calls ≡ enough_calls pieces →
+    f ≡ (read_head (enough_calls pieces) (read_begun (reader_of pieces))).value
+head-at calls pieces begun r behind f reads begins starts enough =
+    ap (λ (g : Got PartialFunction). g.value) (reads
+    ∙ ap (read_head calls) (begins ∙ ap read_begun starts)
+    ∙ ap (λ n. read_head n (read_begun (reader_of pieces))) enough)

@@ -1,0 +1,168 @@
+//! Reading calls and assignments.
+
+ghost use Rattle.std.specs.Prelude.{◌≡◌, ◌∷◌, [], IfOk, true, is_some, map};
+ghost use Rattle.std.specs.Option.{option_map};
+ghost use Rattle.dcc_c.specs.Reading as reading;
+ghost use Rattle.dcc_c.specs.ReadingStatements as statements;
+ghost use Rattle.dcc_read.specs.Behind.{behind_star};
+ghost use Rattle.dcc_read.specs.PartialViews.{expr_of, stmt_of, word_of};
+ghost use Rattle.dcc_read.specs.ReaderViews.{reader_of};
+
+use crate::expression::{name_here, read_enclosed, read_unary, read_value};
+use crate::partial::{PartialCall, PartialExpr, PartialStmt, WordAt};
+use crate::reader::{Inside, Reader};
+use dcc_c::CUn;
+use dcc_lex::Mark;
+use std::alloc::{AllocError, Global};
+
+/// Reads the arguments of a call behind its opening parenthesis. The closing one is left.
+fn read_arguments(
+    r: &mut Reader<'_>,
+    alloc: Global,
+    calls: usize,
+) -> Result<Vec<PartialExpr>, AllocError>
+    ensures { IfOk result (λ arguments.
+        reading.got (map expr_of arguments.items) (reader_of r.new) ≡ statements.read_arguments calls (reader_of r.old)) }
+{
+    let mut arguments = Vec::new(alloc);
+    if r.sees_mark(Mark::CloseParenthesis) {
+        return Ok(arguments);
+    }
+    arguments.push(read_enclosed(r, alloc, calls)?)?;
+    let mut left = calls;
+    while left > 0 {
+        if !r.sees_mark(Mark::Comma) {
+            return Ok(arguments);
+        }
+        left -= 1;
+        r.skip();
+        arguments.push(read_enclosed(r, alloc, left)?)?;
+    }
+    Ok(arguments)
+}
+
+/// Reads a call behind its name, with a place for its result or none.
+fn read_call_behind(
+    r: &mut Reader<'_>,
+    alloc: Global,
+    calls: usize,
+    place: Option<PartialExpr>,
+    function: WordAt,
+) -> Result<PartialStmt, AllocError>
+    requires seen { is_some (reading.next_token (reader_of r.old)) ≡ true }
+    ensures { IfOk result (λ stmt. reading.got (stmt_of stmt) (reader_of r.new)
+        ≡ statements.call_of calls (option_map expr_of place) (word_of function) (reader_of r.old)) }
+{
+    let depth = r.depth;
+    r.skip();
+    let arguments = read_arguments(r, alloc, calls)?;
+    r.take_mark(Mark::CloseParenthesis);
+    let closed = !r.is_stopped();
+    r.take_mark(Mark::Semicolon);
+    let call = PartialCall {
+        function,
+        arguments,
+        closed,
+        depth,
+    };
+    Ok(PartialStmt::Call(place, call))
+}
+
+/// Reads a call with a place for its result or none.
+fn read_call(
+    r: &mut Reader<'_>,
+    alloc: Global,
+    calls: usize,
+    place: Option<PartialExpr>,
+) -> Result<PartialStmt, AllocError>
+    requires begins { statements.begins_call (reader_of r.old) ≡ true }
+    ensures { IfOk result (λ stmt. reading.got (stmt_of stmt) (reader_of r.new)
+        ≡ statements.read_call calls (option_map expr_of place) (reader_of r.old)) }
+{
+    match r.take_name(alloc)? {
+        Some(function) => read_call_behind(r, alloc, calls, place, function),
+        None => Ok(PartialStmt::Empty),
+    }
+}
+
+/// Reads a place that a value is assigned to: a name, or a star with an operand.
+fn read_place(r: &mut Reader<'_>, alloc: Global, calls: usize) -> Result<PartialExpr, AllocError>
+    ensures { IfOk result (λ e. reading.got (expr_of e) (reader_of r.new) ≡ statements.read_place calls (reader_of r.old)) }
+{
+    match r.name() {
+        Some(word) => name_here(r, alloc, word),
+        None => read_behind_star(r, alloc, calls),
+    }
+}
+
+/// Reads a star, which must stand here, and its operand.
+fn read_behind_star(
+    r: &mut Reader<'_>,
+    alloc: Global,
+    calls: usize,
+) -> Result<PartialExpr, AllocError>
+    ensures { IfOk result (λ e. reading.got (expr_of e) (reader_of r.new) ≡ behind_star calls (reader_of r.old)) }
+{
+    let at = r.at;
+    let inside = Inside {
+        start: at,
+        operators: 1,
+        opened: 0,
+    };
+    r.take_mark(Mark::Star);
+    let operand = read_unary(r, alloc, calls, inside)?;
+    Ok(PartialExpr::Unary(at, CUn::Deref, Box::new(alloc, operand)?))
+}
+
+/// Reads the value of an assignment behind its `=`.
+fn read_assignment(
+    r: &mut Reader<'_>,
+    alloc: Global,
+    calls: usize,
+    place: PartialExpr,
+) -> Result<PartialStmt, AllocError>
+    ensures { IfOk result (λ stmt. reading.got (stmt_of stmt) (reader_of r.new)
+        ≡ statements.assignment_of calls (expr_of place) (reader_of r.old)) }
+{
+    let e = read_value(r, alloc, calls)?;
+    r.take_mark(Mark::Semicolon);
+    let done = !r.is_stopped();
+    Ok(PartialStmt::Assign(place, Some(e), done))
+}
+
+/// Reads what takes a value at a place: an assignment, or a call with a result.
+fn read_assigned(
+    r: &mut Reader<'_>,
+    alloc: Global,
+    calls: usize,
+    place: PartialExpr,
+) -> Result<PartialStmt, AllocError>
+    ensures { IfOk result (λ stmt. reading.got (stmt_of stmt) (reader_of r.new)
+        ≡ statements.read_assigned calls (reading.got (expr_of place) (reader_of r.old))) }
+{
+    if !r.sees_mark(Mark::Equals) {
+        r.fail();
+        return Ok(PartialStmt::Assign(place, None, false));
+    }
+    r.skip();
+    if r.sees_name_and(Mark::OpenParenthesis) {
+        return read_call(r, alloc, calls, Some(place));
+    }
+    read_assignment(r, alloc, calls, place)
+}
+
+/// Reads an assignment or a call.
+pub(crate) fn read_simple(
+    r: &mut Reader<'_>,
+    alloc: Global,
+    calls: usize,
+) -> Result<PartialStmt, AllocError>
+    ensures { IfOk result (λ stmt. reading.got (stmt_of stmt) (reader_of r.new)
+        ≡ statements.read_simple calls (reader_of r.old)) }
+{
+    if r.sees_name_and(Mark::OpenParenthesis) {
+        return read_call(r, alloc, calls, None);
+    }
+    let place = read_place(r, alloc, calls)?;
+    read_assigned(r, alloc, calls, place)
+}

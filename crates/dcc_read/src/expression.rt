@@ -1,0 +1,510 @@
+//! Reading expressions.
+
+ghost use Rattle.std.specs.Prelude.{◌≡◌, ◌+◌, ◌^◌, ◌<◌, ◌≤◌, IfOk, Some, true, is_some, min, nat_le};
+ghost use Rattle.dcc_c.specs.Partial as partial;
+ghost use Rattle.dcc_c.specs.Reading as reading;
+ghost use Rattle.dcc_c.specs.ReadingStatements as statements;
+ghost use Rattle.dcc_lex.specs.TokenViews.{token_of};
+ghost use Rattle.dcc_read.specs.ExpressionViews.{measure, strong_enough, stopped_deep};
+ghost use Rattle.dcc_read.specs.PartialViews.{expr_of};
+ghost use Rattle.dcc_read.specs.ReaderViews.{reader_of, inside_of};
+
+use crate::offence::ParseKind;
+use crate::operator::{binary_of, number_of, strength, unary_of};
+use crate::partial::PartialExpr;
+use crate::reader::{Inside, Reader};
+use crate::token::begins_type;
+use dcc_c::{CBin, CType, CUn};
+use dcc_lex::Mark;
+use std::alloc::{AllocError, Global};
+
+/// How deep an expression may be, and how many parentheses may stand around a part of it.
+const MOST: usize = 200;
+
+/// A part of an expression, and how deep it is.
+#[derive(Drop)]
+struct Measured {
+    /// The part.
+    expr: PartialExpr,
+    /// Its depth, or 201 where it is deeper.
+    depth: usize,
+    ghost measured: { depth ≡ measure (expr_of expr) },
+}
+
+impl Inside {
+    /// What stands around an operand.
+    fn in_operator(self) -> Inside
+        requires fits { self.operators + 1 < 2 ^ 64 }
+        ensures { inside_of result ≡ reading.in_operator (inside_of self) }
+    {
+        Inside {
+            start: self.start,
+            operators: self.operators + 1,
+            opened: self.opened,
+        }
+    }
+
+    /// What stands around the content of parentheses.
+    fn in_parentheses(self) -> Inside
+        requires fits { self.opened + 1 < 2 ^ 64 }
+        ensures { inside_of result ≡ reading.in_parentheses (inside_of self) }
+    {
+        Inside {
+            start: self.start,
+            operators: self.operators,
+            opened: self.opened + 1,
+        }
+    }
+}
+
+/// The depth of what stands above a part of this depth, up to 201.
+fn deeper(depth: usize) -> usize
+    requires measured { depth ≤ 201 }
+    ensures { result ≡ min 201 (depth + 1) }
+{
+    if depth <= MOST { depth + 1 } else { depth }
+}
+
+/// What was not read.
+fn missing() -> Measured
+    ensures { expr_of result.expr ≡ partial.Missing }
+{
+    Measured {
+        expr: PartialExpr::Missing,
+        depth: 1,
+    }
+}
+
+/// The unary operator on an operand.
+fn unary_at(
+    alloc: Global,
+    at: usize,
+    operator: CUn,
+    operand: Measured,
+) -> Result<Measured, AllocError>
+    ensures { IfOk result (λ e. expr_of e.expr ≡ partial.UnaryHere at operator (expr_of operand.expr)) }
+{
+    let depth = deeper(operand.depth);
+    let operand = Box::new(alloc, operand.expr)?;
+    Ok(Measured {
+        expr: PartialExpr::Unary(at, operator, operand),
+        depth,
+    })
+}
+
+/// The cast of an operand.
+fn cast_at(alloc: Global, at: usize, ty: CType, operand: Measured) -> Result<Measured, AllocError>
+    ensures { IfOk result (λ e. expr_of e.expr ≡ partial.CastHere at ty (expr_of operand.expr)) }
+{
+    let depth = deeper(operand.depth);
+    let operand = Box::new(alloc, operand.expr)?;
+    Ok(Measured {
+        expr: PartialExpr::Cast(at, ty, operand),
+        depth,
+    })
+}
+
+/// Two operands and their operator.
+fn binary_of_two(
+    alloc: Global,
+    operator: CBin,
+    left: Measured,
+    right: Measured,
+) -> Result<Measured, AllocError>
+    ensures { IfOk result (λ e. expr_of e.expr ≡ partial.BinaryOf operator (expr_of left.expr) (expr_of right.expr)) }
+{
+    let depth = deeper(left.depth.max(right.depth));
+    let left = Box::new(alloc, left.expr)?;
+    let right = Box::new(alloc, right.expr)?;
+    Ok(Measured {
+        expr: PartialExpr::Binary(operator, left, right),
+        depth,
+    })
+}
+
+/// A conditional.
+fn conditional_of(
+    alloc: Global,
+    test: Measured,
+    first: Measured,
+    second: Measured,
+) -> Result<Measured, AllocError>
+    ensures { IfOk result (λ e. expr_of e.expr ≡ partial.ConditionalOf (expr_of test.expr) (expr_of first.expr) (expr_of second.expr)) }
+{
+    let depth = deeper(test.depth.max(first.depth.max(second.depth)));
+    let test = Box::new(alloc, test.expr)?;
+    let first = Box::new(alloc, first.expr)?;
+    let second = Box::new(alloc, second.expr)?;
+    Ok(Measured {
+        expr: PartialExpr::Conditional(test, first, second),
+        depth,
+    })
+}
+
+/// Stops where the expression that this is a part of gets too deep.
+fn stop_if_deep(r: &mut Reader<'_>, inside: Inside, part: &Measured)
+    ensures { reader_of r.new ≡ reading.stop_if_deep (inside_of inside) (expr_of part.now.expr) (reader_of r.old) }
+{
+    if inside.operators.saturating_add(part.depth) > MOST {
+        r.stop_at(ParseKind::Depth, inside.start);
+    }
+}
+
+/// Whether an expression may begin with the next token.
+fn begins_expr(r: &Reader<'_>) -> bool
+    ensures { result ≡ reading.begins_expr (reading.next_token (reader_of r.now)) }
+{
+    let token = r.next();
+    unary_of(token).is_some()
+        || r.sees_mark(Mark::OpenParenthesis)
+        || number_of(token).is_some()
+        || r.name().is_some()
+}
+
+/// Stops at what is the first in too many parentheses.
+fn stop_if_enclosed(r: &mut Reader<'_>, inside: Inside)
+    ensures { reader_of r.new ≡ reading.stop_if_enclosed (inside_of inside) (reader_of r.old) }
+{
+    if inside.opened > MOST {
+        stop_enclosed(r);
+    }
+}
+
+/// Stops at the next piece, where too many parentheses are open.
+fn stop_enclosed(r: &mut Reader<'_>)
+    ensures { reader_of r.new ≡ stopped_deep (reader_of r.old) }
+{
+    if begins_expr(r) || r.sees_type() {
+        r.stop_at(ParseKind::Depth, r.at);
+    } else {
+        r.fail();
+    }
+}
+
+/// The next token, if it is a binary operator of this strength at least.
+fn operator_of(r: &Reader<'_>, weakest: u8) -> Option<CBin>
+    ensures { result ≡ strong_enough weakest (reading.binary_of (reading.next_token (reader_of r.now))) }
+{
+    match binary_of(r.next()) {
+        Some(operator) => {
+            if weakest <= strength(operator) {
+                Some(operator)
+            } else {
+                None
+            }
+        }
+        None => None,
+    }
+}
+
+/// A name, and whether a parenthesis follows.
+pub fn name_here(r: &mut Reader<'_>, alloc: Global, word: &str) -> Result<PartialExpr, AllocError>
+    requires seen { is_some (reading.next_token (reader_of r.now)) ≡ true }
+    ensures { IfOk result (λ e. reading.got (expr_of e) (reader_of r.new) ≡ reading.name_here word.now (reader_of r.old)) }
+{
+    let at = r.at;
+    r.skip();
+    let word = String::from_str(alloc, word)?;
+    Ok(PartialExpr::Name(at, word, r.sees_mark(Mark::OpenParenthesis)))
+}
+
+/// Reads a number or a name.
+fn read_leaf(r: &mut Reader<'_>, alloc: Global) -> Result<Measured, AllocError>
+    ensures { IfOk result (λ e. reading.got (expr_of e.expr) (reader_of r.new) ≡ reading.read_leaf (reader_of r.old)) }
+{
+    let at = r.at;
+    if let Some(number) = number_of(r.next()) {
+        r.skip();
+        return Ok(Measured {
+            expr: PartialExpr::Number(at, number.value, number.base),
+            depth: 1,
+        });
+    }
+    match r.name() {
+        Some(word) => {
+            let expr = name_here(r, alloc, word)?;
+            Ok(Measured { expr, depth: 1 })
+        }
+        None => {
+            r.fail();
+            Ok(missing())
+        }
+    }
+}
+
+/// Reads a unary part.
+#[cycle(expression)]
+fn measured_unary(
+    r: &mut Reader<'_>,
+    alloc: Global,
+    calls: usize,
+    inside: Inside,
+) -> Result<Measured, AllocError>
+    requires operators { inside.operators + calls ≤ 2 ^ 64 }
+    requires opened { inside.opened + calls ≤ 2 ^ 64 }
+    ensures { IfOk result (λ e. reading.got (expr_of e.expr) (reader_of r.new) ≡ reading.read_unary calls (inside_of inside) (reader_of r.old)) }
+{
+    match calls.checked_sub(1) {
+        None => Ok(missing()),
+        Some(calls) => {
+            if inside.operators >= MOST {
+                r.stop_at(ParseKind::Depth, inside.start);
+                return Ok(missing());
+            }
+            let at = r.at;
+            match unary_of(r.next()) {
+                Some(operator) => {
+                    r.skip();
+                    let operand = measured_unary(r, alloc, calls, inside.in_operator())?;
+                    unary_at(alloc, at, operator, operand)
+                }
+                None => {
+                    if r.sees_mark(Mark::OpenParenthesis) {
+                        r.skip();
+                        read_parentheses(r, alloc, calls, inside, at)
+                    } else {
+                        read_leaf(r, alloc)
+                    }
+                }
+            }
+        }
+    }
+}
+
+/// Reads what stands behind an opening parenthesis at a place: the rest of a cast, or an expression and the closing
+/// parenthesis.
+#[cycle(expression)]
+fn read_parentheses(
+    r: &mut Reader<'_>,
+    alloc: Global,
+    calls: usize,
+    inside: Inside,
+    at: usize,
+) -> Result<Measured, AllocError>
+    requires operators { inside.operators + calls < 2 ^ 64 }
+    requires opened { inside.opened + calls < 2 ^ 64 }
+    ensures { IfOk result (λ e. reading.got (expr_of e.expr) (reader_of r.new) ≡ reading.read_parentheses calls (inside_of inside) at (reader_of r.old)) }
+{
+    match calls.checked_sub(1) {
+        None => Ok(missing()),
+        Some(calls) => {
+            let content = inside.in_parentheses();
+            stop_if_enclosed(r, content);
+            if r.sees_type() {
+                let ty = r.take_type();
+                read_cast(r, alloc, calls, inside, at, ty)
+            } else {
+                let whole = measured_expr(r, alloc, calls, content)?;
+                r.take_mark(Mark::CloseParenthesis);
+                Ok(whole)
+            }
+        }
+    }
+}
+
+/// Reads the rest of a cast behind its type.
+#[cycle(expression)]
+fn read_cast(
+    r: &mut Reader<'_>,
+    alloc: Global,
+    calls: usize,
+    inside: Inside,
+    at: usize,
+    ty: Option<CType>,
+) -> Result<Measured, AllocError>
+    requires operators { inside.operators + calls < 2 ^ 64 }
+    requires opened { inside.opened + calls < 2 ^ 64 }
+    ensures { IfOk result (λ e. reading.got (expr_of e.expr) (reader_of r.new) ≡ reading.read_cast calls (inside_of inside) at (reading.got ty (reader_of r.old))) }
+{
+    match calls.checked_sub(1) {
+        None => Ok(missing()),
+        Some(calls) => match ty {
+            Some(ty) => {
+                r.take_mark(Mark::CloseParenthesis);
+                let operand = measured_unary(r, alloc, calls, inside.in_operator())?;
+                cast_at(alloc, at, ty, operand)
+            }
+            None => Ok(missing()),
+        },
+    }
+}
+
+/// Reads operands that are joined by binary operators of this strength at least.
+#[cycle(expression)]
+fn read_binary(
+    r: &mut Reader<'_>,
+    alloc: Global,
+    calls: usize,
+    inside: Inside,
+    weakest: u8,
+) -> Result<Measured, AllocError>
+    requires operators { inside.operators + calls ≤ 2 ^ 64 }
+    requires opened { inside.opened + calls ≤ 2 ^ 64 }
+    ensures { IfOk result (λ e. reading.got (expr_of e.expr) (reader_of r.new) ≡ reading.read_binary calls (inside_of inside) weakest (reader_of r.old)) }
+{
+    match calls.checked_sub(1) {
+        None => Ok(missing()),
+        Some(calls) => {
+            let first = measured_unary(r, alloc, calls, inside)?;
+            read_more(r, alloc, calls, inside, weakest, first)
+        }
+    }
+}
+
+/// Reads the same behind the first operand.
+#[cycle(expression)]
+fn read_more(
+    r: &mut Reader<'_>,
+    alloc: Global,
+    calls: usize,
+    inside: Inside,
+    weakest: u8,
+    first: Measured,
+) -> Result<Measured, AllocError>
+    requires operators { inside.operators + calls < 2 ^ 64 }
+    requires opened { inside.opened + calls < 2 ^ 64 }
+    ensures { IfOk result (λ e. reading.got (expr_of e.expr) (reader_of r.new) ≡ reading.read_more calls (inside_of inside) weakest (reading.got (expr_of first.expr) (reader_of r.old))) }
+{
+    let mut left = first;
+    let mut calls = calls;
+    while let Some(fewer) = calls.checked_sub(1) {
+        match operator_of(r, weakest) {
+            Some(operator) => {
+                r.skip();
+                let right = read_binary(
+                    r,
+                    alloc,
+                    fewer,
+                    inside.in_operator(),
+                    strength(operator) + 1,
+                )?;
+                left = binary_of_two(alloc, operator, left, right)?;
+                stop_if_deep(r, inside, &left);
+                calls = fewer;
+            }
+            None => return Ok(left),
+        }
+    }
+    Ok(left)
+}
+
+/// Reads an expression.
+#[cycle(expression)]
+fn measured_expr(
+    r: &mut Reader<'_>,
+    alloc: Global,
+    calls: usize,
+    inside: Inside,
+) -> Result<Measured, AllocError>
+    requires operators { inside.operators + calls ≤ 2 ^ 64 }
+    requires opened { inside.opened + calls ≤ 2 ^ 64 }
+    ensures { IfOk result (λ e. reading.got (expr_of e.expr) (reader_of r.new) ≡ reading.read_expr calls (inside_of inside) (reader_of r.old)) }
+{
+    match calls.checked_sub(1) {
+        None => Ok(missing()),
+        Some(calls) => {
+            let test = read_binary(r, alloc, calls, inside, 1)?;
+            read_rest(r, alloc, calls, inside, test)
+        }
+    }
+}
+
+/// Reads the rest of a conditional behind its test, where there is one.
+#[cycle(expression)]
+fn read_rest(
+    r: &mut Reader<'_>,
+    alloc: Global,
+    calls: usize,
+    inside: Inside,
+    test: Measured,
+) -> Result<Measured, AllocError>
+    requires operators { inside.operators + calls < 2 ^ 64 }
+    requires opened { inside.opened + calls < 2 ^ 64 }
+    ensures { IfOk result (λ e. reading.got (expr_of e.expr) (reader_of r.new) ≡ reading.read_rest calls (inside_of inside) (reading.got (expr_of test.expr) (reader_of r.old))) }
+{
+    match calls.checked_sub(1) {
+        None => Ok(test),
+        Some(calls) => {
+            if !r.sees_mark(Mark::Question) {
+                return Ok(test);
+            }
+            r.skip();
+            let first = measured_expr(r, alloc, calls, inside.in_operator())?;
+            r.take_mark(Mark::Colon);
+            let second = measured_expr(r, alloc, calls, inside.in_operator())?;
+            let whole = conditional_of(alloc, test, first, second)?;
+            stop_if_deep(r, inside, &whole);
+            Ok(whole)
+        }
+    }
+}
+
+/// Reads a unary part, which must stand here.
+pub fn read_unary(
+    r: &mut Reader<'_>,
+    alloc: Global,
+    calls: usize,
+    inside: Inside,
+) -> Result<PartialExpr, AllocError>
+    requires operators { inside.operators + calls ≤ 2 ^ 64 }
+    requires opened { inside.opened + calls ≤ 2 ^ 64 }
+    ensures { IfOk result (λ e. reading.got (expr_of e) (reader_of r.new) ≡ reading.read_unary calls (inside_of inside) (reader_of r.old)) }
+{
+    Ok(measured_unary(r, alloc, calls, inside)?.expr)
+}
+
+/// Reads an expression, which must stand here.
+pub fn read_expr(
+    r: &mut Reader<'_>,
+    alloc: Global,
+    calls: usize,
+    inside: Inside,
+) -> Result<PartialExpr, AllocError>
+    requires operators { inside.operators + calls ≤ 2 ^ 64 }
+    requires opened { inside.opened + calls ≤ 2 ^ 64 }
+    ensures { IfOk result (λ e. reading.got (expr_of e) (reader_of r.new) ≡ reading.read_expr calls (inside_of inside) (reader_of r.old)) }
+{
+    Ok(measured_expr(r, alloc, calls, inside)?.expr)
+}
+
+/// Reads a whole expression.
+pub fn read_value(
+    r: &mut Reader<'_>,
+    alloc: Global,
+    calls: usize,
+) -> Result<PartialExpr, AllocError>
+    ensures { IfOk result (λ e. reading.got (expr_of e) (reader_of r.new) ≡ statements.read_value calls (reader_of r.old)) }
+{
+    let inside = Inside {
+        start: r.at,
+        operators: 0,
+        opened: 0,
+    };
+    read_expr(r, alloc, calls, inside)
+}
+
+/// Reads a whole expression inside the parentheses of a statement.
+pub fn read_enclosed(
+    r: &mut Reader<'_>,
+    alloc: Global,
+    calls: usize,
+) -> Result<PartialExpr, AllocError>
+    ensures { IfOk result (λ e. reading.got (expr_of e) (reader_of r.new) ≡ statements.read_enclosed calls (reader_of r.old)) }
+{
+    let inside = Inside {
+        start: r.at,
+        operators: 0,
+        opened: 1,
+    };
+    read_expr(r, alloc, calls, inside)
+}
+
+/// Reads an expression in parentheses.
+pub fn read_test(r: &mut Reader<'_>, alloc: Global, calls: usize) -> Result<PartialExpr, AllocError>
+    ensures { IfOk result (λ e. reading.got (expr_of e) (reader_of r.new) ≡ statements.read_test calls (reader_of r.old)) }
+{
+    r.take_mark(Mark::OpenParenthesis);
+    let e = read_enclosed(r, alloc, calls)?;
+    r.take_mark(Mark::CloseParenthesis);
+    Ok(e)
+}

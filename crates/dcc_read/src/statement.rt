@@ -1,0 +1,501 @@
+//! Reading statements.
+
+ghost use Rattle.std.specs.Prelude.{◌≡◌, ◌&&◌, not, ◌+◌, ◌≤◌, ◌<◌, ℕ, if◌then◌else◌, suc, IfOk, true, false, is_some, map, Bool};
+ghost use Rattle.dcc_c.specs.Grammar as grammar;
+ghost use Rattle.dcc_c.specs.Partial as partial;
+ghost use Rattle.dcc_c.specs.Reading as reading;
+ghost use Rattle.dcc_c.specs.ReadingStatements as statements;
+ghost use Rattle.dcc_read.specs.AroundViews.{around_of};
+ghost use Rattle.dcc_read.specs.Lines.{block_of, behind_line, begins_loop, take_forever, short_stmt, loop_stmt, switch_stmt, depth_line, label_line, arm_read};
+ghost use Rattle.dcc_read.specs.PartialViews.{expr_of, stmt_of, lines_of, arm_before, arms_of};
+ghost use Rattle.dcc_read.specs.ReaderViews.{reader_of};
+
+use crate::arm::{begins_arm, push_some, read_arm_head};
+use crate::around::Around;
+use crate::call::read_simple;
+use crate::expression::read_test;
+use crate::offence::ParseKind;
+use crate::partial::{PartialArm, PartialStmt, Row};
+use crate::pragma::read_depth;
+use crate::reader::Reader;
+use crate::short::{read_goto, read_leave, read_return};
+use dcc_lex::{Head, Mark};
+use std::alloc::{AllocError, Global};
+
+/// Statements one after the other.
+#[derive(Drop)]
+pub(crate) struct Block {
+    /// The statements.
+    pub(crate) lines: Vec<Row>,
+    /// Whether the last of them is a `break` that no label stands before.
+    pub(crate) leaves: bool,
+}
+
+/// What was read where a statement may begin.
+#[derive(Drop)]
+struct LineRead {
+    /// The label or the statement, where there is one.
+    row: Option<Row>,
+    /// Whether no statement may follow.
+    is_last: bool,
+    /// Whether it is a label.
+    labelled: bool,
+    /// Whether it is a `break` that no label stands before.
+    leaves: bool,
+}
+
+/// What was read where nothing that begins here is allowed.
+fn last_line() -> LineRead
+    ensures { (calls : ℕ) (around : grammar.Around) (r : reading.Reader) →
+        behind_line result calls around r ≡ reading.got (statements.block_of partial.no_rows false) r }
+{
+    LineRead {
+        row: None,
+        is_last: true,
+        labelled: false,
+        leaves: false,
+    }
+}
+
+/// Whether a statement that holds blocks begins here.
+fn begins_block_stmt(r: &Reader<'_>) -> bool
+    ensures { result ≡ statements.is_block_word (reading.next_token (reader_of r.now)) }
+{
+    ((r.sees_word("if") || r.sees_word("while")) || (r.sees_word("do") || r.sees_word("for")))
+        || r.sees_word("switch")
+}
+
+/// Whether a statement that holds blocks begins here, and more than 200 blocks stand around it.
+fn begins_nested_block(r: &Reader<'_>, around: Around) -> bool
+    ensures { result ≡ statements.is_nested (around_of around) && statements.is_block_word (reading.next_token (reader_of r.now)) }
+{
+    around.is_nested() && begins_block_stmt(r)
+}
+
+/// Whether a statement begins here with a keyword.
+fn sees_statement_word(r: &Reader<'_>) -> bool
+    ensures { result ≡ statements.is_statement_word (reading.next_token (reader_of r.now)) }
+{
+    ((r.sees_word("if") || r.sees_word("while")) || (r.sees_word("do") || r.sees_word("for")))
+        || (((r.sees_word("switch") || r.sees_word("break"))
+            || (r.sees_word("continue") || r.sees_word("goto")))
+            || r.sees_word("return"))
+}
+
+/// Whether a statement, a label or a depth line begins here.
+fn begins_stmt(r: &Reader<'_>) -> bool
+    ensures { result ≡ statements.begins_stmt (reading.next_token (reader_of r.now)) }
+{
+    (sees_statement_word(r) || r.name().is_some())
+        || ((r.sees_mark(Mark::Star) || r.sees_mark(Mark::Semicolon)) || r.sees_head(Head::Depth))
+}
+
+/// Whether a loop begins here.
+fn begins_loop(r: &Reader<'_>) -> bool
+    ensures { result ≡ begins_loop (reader_of r.now) }
+{
+    (r.sees_word("while") || r.sees_word("do")) || r.sees_word("for")
+}
+
+/// Takes `(;;)`, which must stand here.
+fn take_forever(r: &mut Reader<'_>)
+    ensures { reader_of r.new ≡ take_forever (reader_of r.old) }
+{
+    r.take_mark(Mark::OpenParenthesis);
+    r.take_mark(Mark::Semicolon);
+    r.take_mark(Mark::Semicolon);
+    r.take_mark(Mark::CloseParenthesis);
+}
+
+/// Whether the statement is a `break`.
+fn is_break(stmt: &PartialStmt) -> bool
+    ensures { result ≡ statements.is_break (stmt_of stmt.now) }
+{
+    matches!(stmt, PartialStmt::Break)
+}
+
+/// Whether the statement is a `break` that no label stands before.
+fn is_leaving(stmt: &PartialStmt, labelled: bool) -> bool
+    ensures { result ≡ statements.is_break (stmt_of stmt.now) && not labelled }
+{
+    is_break(stmt) && !labelled
+}
+
+/// Stops at the next piece where it is not allowed.
+fn fail_if(r: &mut Reader<'_>, is_offence: bool)
+    ensures { reader_of r.new ≡ (if is_offence then reading.fail (reader_of r.old) else reader_of r.old) }
+{
+    if is_offence {
+        r.fail();
+    }
+}
+
+/// The end of statements where reading may nest at most once more. The answer is whether the last statement is a `break`
+/// that no label stands before.
+fn end_lines(r: &mut Reader<'_>, calls: usize, labelled: bool, leaves: bool) -> bool
+    requires { calls < 2 }
+    ensures { (around : grammar.Around) → reading.got (statements.block_of partial.no_rows result) (reader_of r.new)
+        ≡ statements.read_lines calls around labelled leaves (reader_of r.old) }
+{
+    if calls == 0 {
+        return leaves;
+    }
+    if begins_stmt(r) {
+        return false;
+    }
+    fail_if(r, labelled);
+    leaves
+}
+
+/// The statements of an arm, the last of which must be a `break`, without that.
+fn end_arm(r: &mut Reader<'_>, block: Block) -> Vec<Row>
+    ensures { reading.got (lines_of result.items) (reader_of r.new)
+        ≡ statements.end_arm (reading.got (block_of block) (reader_of r.old)) }
+{
+    let mut lines = block.lines;
+    if r.is_stopped() {
+        return lines;
+    }
+    if block.leaves {
+        lines.pop();
+        return lines;
+    }
+    r.fail();
+    lines
+}
+
+/// Reads a depth line, the words of which stand here and which may not stand behind a label.
+fn read_depth_line(r: &mut Reader<'_>, around: Around, labelled: bool) -> LineRead
+    requires seen { is_some (reading.next_token (reader_of r.old)) ≡ true }
+    ensures { (calls : ℕ) → behind_line result calls (around_of around) (reader_of r.new)
+        ≡ depth_line calls (around_of around) labelled (reader_of r.old) }
+{
+    if labelled {
+        r.fail();
+        return last_line();
+    }
+    if around.is_nested() {
+        r.stop_at(ParseKind::Depth, r.at);
+        return last_line();
+    }
+    read_depth(r);
+    LineRead {
+        row: None,
+        is_last: false,
+        labelled: false,
+        leaves: false,
+    }
+}
+
+/// Reads a label, which stands here.
+fn read_label(r: &mut Reader<'_>, alloc: Global, around: Around) -> Result<LineRead, AllocError>
+    requires begins { statements.begins_label (reader_of r.old) ≡ true }
+    ensures { IfOk result (λ line. (calls : ℕ) → behind_line line calls (around_of around) (reader_of r.new)
+        ≡ label_line calls (around_of around) (reader_of r.old)) }
+{
+    let at = r.at;
+    let line = r.line();
+    match r.take_name(alloc)? {
+        Some(word) => {
+            r.skip();
+            around.stop_if_nested(r, at);
+            let stmt = PartialStmt::Label(word);
+            let row = Some(Row { stmt, at, line });
+            Ok(LineRead {
+                row,
+                is_last: false,
+                labelled: true,
+                leaves: false,
+            })
+        }
+        None => Ok(last_line()),
+    }
+}
+
+/// Reads a statement that holds no others.
+fn read_short(
+    r: &mut Reader<'_>,
+    alloc: Global,
+    calls: usize,
+    around: Around,
+) -> Result<PartialStmt, AllocError>
+    ensures { IfOk result (λ stmt. reading.got (stmt_of stmt) (reader_of r.new) ≡ short_stmt calls (around_of around) (reader_of r.old)) }
+{
+    if r.sees_word("break") {
+        read_leave(r, around.breaks);
+        return Ok(PartialStmt::Break);
+    }
+    if r.sees_word("continue") {
+        read_leave(r, around.continues);
+        return Ok(PartialStmt::Continue);
+    }
+    if r.sees_word("goto") {
+        return read_goto(r, alloc);
+    }
+    if r.sees_word("return") {
+        return read_return(r, alloc, calls);
+    }
+    if r.sees_mark(Mark::Semicolon) {
+        r.skip();
+        return Ok(PartialStmt::Empty);
+    }
+    read_simple(r, alloc, calls)
+}
+
+/// Reads a statement that is no label.
+#[cycle(statement)]
+fn read_stmt(
+    r: &mut Reader<'_>,
+    alloc: Global,
+    calls: usize,
+    around: Around,
+) -> Result<PartialStmt, AllocError>
+    requires room { around.blocks + calls ≤ usize.MAX }
+    ensures { IfOk result (λ stmt. reading.got (stmt_of stmt) (reader_of r.new) ≡ statements.read_stmt calls (around_of around) (reader_of r.old)) }
+{
+    if calls == 0 {
+        return Ok(PartialStmt::Empty);
+    }
+    let fewer = calls - 1;
+    if r.sees_word("if") {
+        return read_if(r, alloc, fewer, around);
+    }
+    if begins_loop(r) {
+        return read_loop(r, alloc, fewer, around);
+    }
+    if r.sees_word("switch") {
+        return read_switch(r, alloc, fewer, around);
+    }
+    read_short(r, alloc, fewer, around)
+}
+
+/// Reads an `if`, the word of which stands here.
+#[cycle(statement)]
+fn read_if(
+    r: &mut Reader<'_>,
+    alloc: Global,
+    calls: usize,
+    around: Around,
+) -> Result<PartialStmt, AllocError>
+    requires seen { is_some (reading.next_token (reader_of r.old)) ≡ true }
+    requires room { around.blocks + calls < usize.MAX }
+    ensures { IfOk result (λ stmt. reading.got (stmt_of stmt) (reader_of r.new)
+        ≡ statements.read_if calls (around_of around) (statements.read_test calls (reading.skip (reader_of r.old)))) }
+{
+    r.skip();
+    let test = read_test(r, alloc, calls)?;
+    if calls == 0 {
+        return Ok(PartialStmt::Empty);
+    }
+    let fewer = calls - 1;
+    let done = !r.is_stopped();
+    let body = read_block(r, alloc, fewer, around.in_block())?;
+    if r.sees_word("else") {
+        r.skip();
+        let otherwise = read_block(r, alloc, fewer, around.in_block())?;
+        return Ok(PartialStmt::If(test, done, body, otherwise));
+    }
+    Ok(PartialStmt::If(test, done, body, Vec::new(alloc)))
+}
+
+/// Reads a loop, the word of which stands here.
+#[cycle(statement)]
+fn read_loop(
+    r: &mut Reader<'_>,
+    alloc: Global,
+    calls: usize,
+    around: Around,
+) -> Result<PartialStmt, AllocError>
+    requires seen { is_some (reading.next_token (reader_of r.old)) ≡ true }
+    requires room { around.blocks + calls < usize.MAX }
+    ensures { IfOk result (λ stmt. reading.got (stmt_of stmt) (reader_of r.new) ≡ loop_stmt calls (around_of around) (reader_of r.old)) }
+{
+    let inside = around.in_loop();
+    if r.sees_word("while") {
+        r.skip();
+        let test = read_test(r, alloc, calls)?;
+        let done = !r.is_stopped();
+        let body = read_block(r, alloc, calls, inside)?;
+        return Ok(PartialStmt::While(test, done, body));
+    }
+    if r.sees_word("do") {
+        r.skip();
+        let body = read_block(r, alloc, calls, inside)?;
+        r.take_word("while");
+        let test = read_test(r, alloc, calls)?;
+        let done = !r.is_stopped();
+        r.take_mark(Mark::Semicolon);
+        return Ok(PartialStmt::DoWhile(body, test, done));
+    }
+    r.skip();
+    take_forever(r);
+    let body = read_block(r, alloc, calls, inside)?;
+    Ok(PartialStmt::Forever(body))
+}
+
+/// Reads a `switch`, the word of which stands here.
+#[cycle(statement)]
+fn read_switch(
+    r: &mut Reader<'_>,
+    alloc: Global,
+    calls: usize,
+    around: Around,
+) -> Result<PartialStmt, AllocError>
+    requires seen { is_some (reading.next_token (reader_of r.old)) ≡ true }
+    requires room { around.blocks + calls < usize.MAX }
+    ensures { IfOk result (λ stmt. reading.got (stmt_of stmt) (reader_of r.new) ≡ switch_stmt calls (around_of around) (reader_of r.old)) }
+{
+    r.skip();
+    let test = read_test(r, alloc, calls)?;
+    let done = !r.is_stopped();
+    r.take_mark(Mark::OpenBrace);
+    let arms = read_arms(r, alloc, calls, around.in_switch())?;
+    r.take_mark(Mark::CloseBrace);
+    Ok(PartialStmt::Switch(test, done, arms))
+}
+
+/// Reads a block, which must stand here.
+#[cycle(statement)]
+fn read_block(
+    r: &mut Reader<'_>,
+    alloc: Global,
+    calls: usize,
+    around: Around,
+) -> Result<Vec<Row>, AllocError>
+    requires room { around.blocks + calls ≤ usize.MAX }
+    ensures { IfOk result (λ lines. reading.got (lines_of lines.items) (reader_of r.new)
+        ≡ statements.read_block calls (around_of around) (reader_of r.old)) }
+{
+    if calls == 0 {
+        return Ok(Vec::new(alloc));
+    }
+    r.take_mark(Mark::OpenBrace);
+    let block = read_lines(r, alloc, calls - 1, around)?;
+    r.take_mark(Mark::CloseBrace);
+    Ok(block.lines)
+}
+
+/// Reads statements as long as they come.
+#[cycle(statement)]
+pub(crate) fn read_lines(
+    r: &mut Reader<'_>,
+    alloc: Global,
+    calls: usize,
+    around: Around,
+) -> Result<Block, AllocError>
+    requires room { around.blocks + calls ≤ usize.MAX }
+    ensures { IfOk result (λ block. reading.got (block_of block) (reader_of r.new)
+        ≡ statements.read_lines calls (around_of around) false false (reader_of r.old)) }
+{
+    let mut lines = Vec::new(alloc);
+    let mut labelled = false;
+    let mut leaves = false;
+    let mut left = calls;
+    while left > 1 {
+        if !begins_stmt(r) {
+            fail_if(r, labelled);
+            return Ok(Block { lines, leaves });
+        }
+        left -= 2;
+        let line = read_line(r, alloc, left, around, labelled)?;
+        push_some(&mut lines, line.row)?;
+        labelled = line.labelled;
+        leaves = line.leaves;
+        if line.is_last {
+            return Ok(Block { lines, leaves });
+        }
+    }
+    let leaves = end_lines(r, left, labelled, leaves);
+    Ok(Block { lines, leaves })
+}
+
+/// Reads a label, a depth line or a statement, one of which begins here.
+#[cycle(statement)]
+fn read_line(
+    r: &mut Reader<'_>,
+    alloc: Global,
+    calls: usize,
+    around: Around,
+    labelled: bool,
+) -> Result<LineRead, AllocError>
+    requires room { around.blocks + calls ≤ usize.MAX }
+    ensures { IfOk result (λ line. behind_line line calls (around_of around) (reader_of r.new)
+        ≡ statements.read_line (suc calls) (around_of around) labelled (reader_of r.old)) }
+{
+    if r.sees_head(Head::Depth) {
+        return Ok(read_depth_line(r, around, labelled));
+    }
+    if r.sees_name_and(Mark::Colon) {
+        return read_label(r, alloc, around);
+    }
+    if begins_nested_block(r, around) {
+        r.stop_at(ParseKind::Depth, r.at);
+        return Ok(last_line());
+    }
+    let at = r.at;
+    let line = r.line();
+    let stmt = read_stmt(r, alloc, calls, around)?;
+    around.stop_if_nested(r, at);
+    let leaves = is_leaving(&stmt, labelled);
+    let row = Some(Row { stmt, at, line });
+    Ok(LineRead {
+        row,
+        is_last: false,
+        labelled: false,
+        leaves,
+    })
+}
+
+/// Reads the arms of a `switch`, of which there must be one.
+#[cycle(statement)]
+fn read_arms(
+    r: &mut Reader<'_>,
+    alloc: Global,
+    calls: usize,
+    around: Around,
+) -> Result<Vec<PartialArm>, AllocError>
+    requires room { around.blocks + calls ≤ usize.MAX }
+    ensures { IfOk result (λ arms. reading.got (arms_of arms.items) (reader_of r.new)
+        ≡ statements.read_arms calls (around_of around) (reader_of r.old)) }
+{
+    let mut arms = Vec::new(alloc);
+    if calls == 0 {
+        return Ok(arms);
+    }
+    if !begins_arm(r) {
+        r.fail();
+        return Ok(arms);
+    }
+    let mut left = calls - 1;
+    while left > 0 {
+        if !begins_arm(r) {
+            return Ok(arms);
+        }
+        left -= 1;
+        let arm = read_arm(r, alloc, left, around)?;
+        arms.push(arm)?;
+    }
+    Ok(arms)
+}
+
+/// Reads an arm of a `switch`.
+#[cycle(statement)]
+fn read_arm(
+    r: &mut Reader<'_>,
+    alloc: Global,
+    calls: usize,
+    around: Around,
+) -> Result<PartialArm, AllocError>
+    requires room { around.blocks + calls ≤ usize.MAX }
+    ensures { IfOk result (λ arm. (others : partial.PartialArms) → reading.got (arm_before arm others) (reader_of r.new)
+        ≡ arm_read calls (around_of around) others (reader_of r.old)) }
+{
+    let head = read_arm_head(r, alloc, calls)?;
+    let block = read_lines(r, alloc, calls, around)?;
+    let body = end_arm(r, block);
+    Ok(PartialArm {
+        numbers: head.numbers,
+        default: head.default,
+        body,
+    })
+}

@@ -1,0 +1,235 @@
+//! Reading whole texts.
+
+ghost use Rattle.std.specs.Prelude.{◌≡◌, ◌≤◌, ◌+◌, ◌*◌, ◌<◌, ℕ, IfOk, map, length, Option, Some, None, true, is_some};
+ghost use Rattle.std.specs.Option.{option_map};
+ghost use Rattle.dcc_c.specs.Placement as placement;
+ghost use Rattle.dcc_c.specs.Reading as reading;
+ghost use Rattle.dcc_c.specs.ReadingText as texts;
+ghost use Rattle.dcc_c.specs.Types as types;
+ghost use Rattle.dcc_lex.specs.TokenViews.{pieces_of};
+ghost use Rattle.dcc_read.specs.FunctionViews.{begun_of};
+ghost use Rattle.dcc_read.specs.PartialViews.{number_of, variable_of, function_of, text_of};
+ghost use Rattle.dcc_read.specs.ReaderViews.{reader_of};
+ghost use Rattle.dcc_read.specs.TextViews.{declared_of, is_global, global_address, place_line};
+
+use crate::declaration::{read_init, read_size};
+use crate::function::{Begun, read_begun, read_functions, read_head};
+use crate::partial::{NumberAt, PartialFunction, PartialText, PartialVariable};
+use crate::pragma::take_number_of_line;
+use crate::reader::Reader;
+use dcc_c::{Base, CType, Class};
+use dcc_lex::{Head, Mark, Piece};
+use std::alloc::{AllocError, Global};
+
+/// What was read of a text, and the reader behind it.
+#[derive(Drop)]
+pub struct Reading<'a> {
+    /// What was read.
+    pub text: PartialText,
+    /// The reader behind it.
+    pub behind: Reader<'a>,
+}
+
+/// Global variables, and the functions behind them.
+#[derive(Drop)]
+struct Declared {
+    /// The variables.
+    globals: Vec<PartialVariable>,
+    /// The functions.
+    functions: Vec<PartialFunction>,
+}
+
+/// Reads a global variable behind its name, at an address.
+fn read_global(
+    r: &mut Reader<'_>,
+    alloc: Global,
+    calls: usize,
+    address: u64,
+    begun: Begun,
+) -> Result<PartialVariable, AllocError>
+    ensures { IfOk result (λ v. reading.got (variable_of v) (reader_of r.new)
+        ≡ texts.read_global calls address (reading.got (begun_of begun) (reader_of r.old))) }
+{
+    let size = read_size(r);
+    let init = read_init(r, alloc, calls)?;
+    r.take_mark(Mark::Semicolon);
+    let done = !r.is_stopped();
+    Ok(PartialVariable {
+        name: begun.name,
+        ty: begun.result,
+        class: Class::Plain,
+        size,
+        init,
+        address,
+        done,
+    })
+}
+
+/// How many bytes a value of the type takes.
+fn size_of(ty: CType) -> u64
+    ensures exact { result ≡ types.size_of ty }
+    ensures few { result ≤ 4 }
+{
+    if ty.pointer {
+        return 2;
+    }
+    match ty.base {
+        Base::Schar | Base::Uchar => 1,
+        Base::Int | Base::Uint => 2,
+        Base::Long | Base::Ulong => 4,
+    }
+}
+
+/// How many elements a variable with the size has.
+fn elements(size: &Option<NumberAt>) -> u64
+    ensures exact { result ≡ placement.elements (option_map (λ n. n.value) size.now) }
+    ensures few { result < 4294967296 }
+{
+    match size {
+        Some(number) => u64::from(number.value),
+        None => 1,
+    }
+}
+
+/// How many bytes a variable takes.
+fn size_in_bytes(v: &PartialVariable) -> u64
+    ensures exact { result ≡ texts.size_in_bytes (variable_of v.now) }
+    ensures few { result ≤ 17179869180 }
+{
+    match v.ty {
+        Some(ty) => size_of(ty) * elements(&v.size),
+        None => 0,
+    }
+}
+
+/// The address that the number of a place line gives.
+fn address_of(number: Option<NumberAt>) -> u64
+    ensures exact { result ≡ texts.address_of (option_map number_of number) }
+    ensures few { result < 4294967296 }
+{
+    match number {
+        Some(number) => u64::from(number.value),
+        None => 0,
+    }
+}
+
+/// Reads a place line, the words of which stand here. The answer is its address.
+fn read_place_line(r: &mut Reader<'_>) -> u64
+    requires seen { is_some (reading.next_token (reader_of r.old)) ≡ true }
+    ensures exact { reading.got result (reader_of r.new) ≡ place_line (reader_of r.old) }
+    ensures few { result < 4294967296 }
+{
+    let line = r.line();
+    r.skip();
+    address_of(take_number_of_line(r, line))
+}
+
+/// Whether what has begun is a global variable, where one may stand.
+fn is_global(r: &Reader<'_>, begun: &Begun) -> bool
+    ensures { result ≡ is_global (reading.got (begun_of begun.now) (reader_of r.now)) }
+{
+    begun.has_result && !r.sees_mark(Mark::OpenParenthesis)
+}
+
+/// The address of a global variable that has begun; None for a function.
+fn global_address(r: &Reader<'_>, address: Option<u64>, begun: &Begun) -> Option<u64>
+    ensures { result ≡ global_address address (reading.got (begun_of begun.now) (reader_of r.now)) }
+{
+    if is_global(r, begun) {
+        return address;
+    }
+    None
+}
+
+/// Reads place lines and global variables up to the first function, and the functions behind them.
+fn read_declared(r: &mut Reader<'_>, alloc: Global, calls: usize) -> Result<Declared, AllocError>
+    requires few { calls ≤ 1073741824 }
+    ensures { IfOk result (λ d. reading.got (declared_of d) (reader_of r.new)
+        ≡ texts.read_declared calls None (reader_of r.old)) }
+{
+    let mut globals = Vec::new(alloc);
+    let mut address = None;
+    let mut left = calls;
+    while left > 0 {
+        left -= 1;
+        if r.sees_head(Head::Place) {
+            address = Some(read_place_line(r));
+            continue;
+        }
+        let begun = read_begun(r, alloc)?;
+        let Some(here) = global_address(r, address, &begun) else {
+            let functions = read_functions(r, alloc, left, begun)?;
+            return Ok(Declared { globals, functions });
+        };
+        let global = read_global(r, alloc, left, here, begun)?;
+        address = Some(here + size_in_bytes(&global));
+        globals.push(global)?;
+    }
+    let functions = Vec::new(alloc);
+    Ok(Declared { globals, functions })
+}
+
+/// Reads a text behind its version line, where reading may nest so deep.
+fn read_text(r: &mut Reader<'_>, alloc: Global, calls: usize) -> Result<PartialText, AllocError>
+    requires few { calls ≤ 1073741824 }
+    ensures { IfOk result (λ t. reading.got (text_of t) (reader_of r.new) ≡ texts.read_text calls (reader_of r.old)) }
+{
+    let line = r.line();
+    r.take_head(Head::Stack);
+    let lo = take_number_of_line(r, line);
+    let hi = take_number_of_line(r, line);
+    let declared = read_declared(r, alloc, calls)?;
+    Ok(PartialText {
+        lo,
+        hi,
+        globals: declared.globals,
+        functions: declared.functions,
+    })
+}
+
+/// A reader at the first of the pieces.
+fn reader_at(pieces: &[Piece]) -> Reader<'_>
+    ensures { reader_of result ≡ texts.reader_of (pieces_of pieces.now) }
+{
+    Reader {
+        pieces,
+        at: 0,
+        stop: None,
+        depth: 2,
+    }
+}
+
+/// How deep reading of the pieces may nest.
+fn enough_calls(pieces: &[Piece]) -> usize
+    requires few { length pieces.now ≤ 67108864 }
+    ensures { result ≡ texts.enough_calls (pieces_of pieces.now) }
+{
+    16 * pieces.len() + 16
+}
+
+/// Reads the pieces of a text behind its version line, as far as they are allowed.
+///
+/// # Errors
+/// Where memory runs out.
+pub fn read<'a>(alloc: Global, pieces: &'a [Piece]) -> Result<Reading<'a>, AllocError>
+    requires few { length pieces.now < 67108864 }
+    ensures { IfOk result (λ r. reading.got (text_of r.text) (reader_of r.behind) ≡ texts.reading_of (pieces_of pieces.now)) }
+{
+    let mut behind = reader_at(pieces);
+    let text = read_text(&mut behind, alloc, enough_calls(pieces))?;
+    Ok(Reading { text, behind })
+}
+
+/// Reads the head of a function that begins with the first of the pieces.
+///
+/// # Errors
+/// Where memory runs out.
+pub fn head_at(alloc: Global, pieces: &[Piece]) -> Result<PartialFunction, AllocError>
+    requires few { length pieces.now ≤ 67108864 }
+    ensures { IfOk result (λ f. function_of f ≡ (texts.read_head (texts.enough_calls (pieces_of pieces.now))
+        (texts.read_begun (texts.reader_of (pieces_of pieces.now)))).value) }
+{
+    let mut r = reader_at(pieces);
+    let begun = read_begun(&mut r, alloc)?;
+    read_head(&mut r, alloc, enough_calls(pieces), begun)
+}
