@@ -19,12 +19,12 @@ ghost use Rattle.dcc_crun.specs.Doing.{scene_in, names_at, AreGlobals, single, A
 use crate::call::{Call, Waiting};
 use crate::dos::{END_OF_INPUT, echo_key, next_key, put_string};
 use crate::ending::{Ending, Fault, Stop};
-use dcc_value::expression::{Resolved, Target, take};
-use dcc_prepare::program::{Action, CallRow, Callee, Case, Dos, Label, Procedure, Program, Row};
-use dcc_value::value::{NoValue, Value, converted, is_zero, number, plain};
-use dcc_value::variable::{Binding, Scene};
 use dcc_c::{Base, CType};
 use dcc_io::{Sink, Source, put_all};
+use dcc_prepare::program::{Action, CallRow, Callee, Case, Dos, Label, Procedure, Program, Row};
+use dcc_value::expression::{Resolved, Target, take};
+use dcc_value::value::{NoValue, Value, converted, is_zero, number, plain};
+use dcc_value::variable::{Binding, Scene};
 use std::alloc::{AllocError, Global};
 use std::mem;
 

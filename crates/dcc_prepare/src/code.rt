@@ -8,11 +8,11 @@ ghost use Rattle.dcc_value.specs.Resolved.{names_of};
 ghost use Rattle.dcc_prepare.specs.Points.{StandsIf, StandAll, label_named, point_named};
 ghost use Rattle.dcc_prepare.specs.Emission.{KeepNumbers};
 
-use dcc_value::expression::Resolved;
 use crate::program::{Action, Label, Row};
+use dcc_c::{CExpr, Func};
+use dcc_value::expression::Resolved;
 use dcc_value::resolve::resolve;
 use dcc_value::variable::Names;
-use dcc_c::{CExpr, Func};
 use std::alloc::{AllocError, Global};
 
 /// The points of a function that are made so far.
@@ -94,12 +94,7 @@ impl Code {
     }
 
     /// The label with the name stands at this point.
-    pub fn place_label(
-        &mut self,
-        alloc: Global,
-        name: &str,
-        point: usize,
-    ) -> Result<(), AllocError>
+    pub fn place_label(&mut self, alloc: Global, name: &str, point: usize) -> Result<(), AllocError>
         ensures numbers { KeepNumbers self.old.labels.items self.new.labels.items }
         ensures points { (word : Word) → OnOk result (point_named self.new.labels.items word
             ≡ (if same_bytes name.now word then Some point else point_named self.old.labels.items word)) }

@@ -11,8 +11,8 @@ ghost use Rattle.dcc_prepare.specs.Emission.{Emits, EmitsArms, Leads, IsContext,
 
 use crate::code::{Code, Context, resolve_all, resolve_option};
 use crate::program::{Action, CallRow, Callee, Case, Dos};
-use dcc_value::resolve::resolve;
 use dcc_c::{Arm, CExpr, CStmt, Func, Line};
+use dcc_value::resolve::resolve;
 use std::alloc::{AllocError, Global};
 
 /// The points behind a statement.

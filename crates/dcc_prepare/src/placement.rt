@@ -12,8 +12,8 @@ ghost use Rattle.dcc_prepare.specs.Placing.{IsNextParam};
 ghost use Rattle.dcc_prepare.specs.Takes.{expr_takes, option_takes, stmt_takes, lines_take, arms_take};
 
 use crate::program::Variable;
-use dcc_value::value::size_of;
 use dcc_c::{Arm, CExpr, CStmt, CUn, Class, Line, Var};
+use dcc_value::value::size_of;
 use std::alloc::{AllocError, Global};
 
 /// Whether the address of the name is taken in the expression.
@@ -120,11 +120,7 @@ fn default_takes(last: &Option<Arm>, name: &str) -> bool
 }
 
 /// The parameters of a function with this body. A stack argument is in memory where it, or one before it, has to be.
-pub fn params_of(
-    alloc: Global,
-    body: &[Line],
-    params: &[Var],
-) -> Result<Vec<Variable>, AllocError>
+pub fn params_of(alloc: Global, body: &[Line], params: &[Var]) -> Result<Vec<Variable>, AllocError>
     ensures { IfOk result (λ variables. AreVariables (map variable_of params.now)
         (λ base. param_places (lines_of body.now) base 0 false (map variable_of params.now)) variables.items) }
 {

@@ -15,8 +15,8 @@ use crate::code::{Code, Context};
 use crate::emit::{Behind, emit_lines};
 use crate::placement::{locals_of, params_of};
 use crate::program::{Action, Procedure, Program, Variable};
-use dcc_value::variable::{Binding, Declared, Names, Storage};
 use dcc_c::{Func, Global_, Unit, Var};
+use dcc_value::variable::{Binding, Declared, Names, Storage};
 use std::alloc::{AllocError, Global};
 
 /// The program of a text.

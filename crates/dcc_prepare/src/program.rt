@@ -1,8 +1,8 @@
 //! A text that is made ready to run: for each function its points, and what is executed at each of them.
 
+use dcc_c::CType;
 use dcc_value::expression::Resolved;
 use dcc_value::variable::Binding;
-use dcc_c::CType;
 
 /// The DOS calls.
 #[derive(Clone, Copy, PartialEq, Eq, Debug)]

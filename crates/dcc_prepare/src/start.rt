@@ -6,9 +6,9 @@ ghost use Rattle.dcc_c.specs.Run.{stack_byte, stack_memory, with_values, with_gl
 ghost use Rattle.dcc_c.specs.Run as text;
 ghost use Rattle.dcc_c.specs.Views.{global_of, tree_of};
 
+use dcc_c::{Global_, Unit};
 use dcc_value::value::memory::store;
 use dcc_value::value::size_of;
-use dcc_c::{Global_, Unit};
 use std::alloc::{AllocError, Global};
 
 /// The memory at the start: the stack holds the low byte of the fill, global variables hold their initial values, and
