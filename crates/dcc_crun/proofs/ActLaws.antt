@@ -8,21 +8,22 @@ use Rattle.dcc_c.specs.Types.{plain}
 use Rattle.dcc_c.specs.Tree.{Expr, Assign, Return, Tree}
 use Rattle.dcc_c.specs.Value.{Value, Outcome, Gives, Divides, Undefined, and_then, given, is_zero, converted, value_of}
 use Rattle.dcc_c.specs.Run.{Continuation, State, goes_on, on, scope_of, after_goto, jump_step, stmt_step}
-use Rattle.dcc_crun.specs.declared.value.NoValue.{NoValue}
-use Rattle.dcc_crun.specs.declared.value.NoValue.TheVariants.{Divides as Faults, Undefined as Meaningless}
-use Rattle.dcc_crun.specs.declared.expression.Resolved.{Resolved}
-use Rattle.dcc_crun.specs.declared.program.Case.{Case}
-use Rattle.dcc_crun.specs.declared.program.Action.{Action}
-use Rattle.dcc_crun.specs.declared.program.Action.TheVariants.{Assign as Assigns, Test, Switch, Goto, Return as Returns}
-use Rattle.dcc_crun.specs.declared.program.Procedure.{Procedure}
-use Rattle.dcc_crun.specs.declared.program.Program.{Program}
+use Rattle.dcc_value.specs.declared.value.NoValue.{NoValue}
+use Rattle.dcc_value.specs.declared.value.NoValue.TheVariants.{Divides as Faults, Undefined as Meaningless}
+use Rattle.dcc_value.specs.declared.expression.Resolved.{Resolved}
+use Rattle.dcc_prepare.specs.declared.program.Case.{Case}
+use Rattle.dcc_prepare.specs.declared.program.Action.{Action}
+use Rattle.dcc_prepare.specs.declared.program.Action.TheVariants.{Assign as Assigns, Test, Switch, Goto, Return as Returns}
+use Rattle.dcc_prepare.specs.declared.program.Procedure.{Procedure}
+use Rattle.dcc_prepare.specs.declared.program.Program.{Program}
 use Rattle.dcc_crun.specs.declared.moment.Moment.{Moment}
-use Rattle.dcc_crun.specs.Evaluation.{nothing_of, outcome_of, itself}
-use Rattle.dcc_crun.specs.Resolved.{Stands, evaluated}
-use Rattle.dcc_crun.specs.Points.{Goes, MayGo, StandsIf, label_point, point_named, case_point, IsAssign, IsTest, IsSwitch, IsGoto, IsReturn, Acts}
-use Rattle.dcc_crun.specs.Standing.{IsProcedure, IsRunning}
+use Rattle.dcc_value.specs.Evaluation.{nothing_of, outcome_of, itself}
+use Rattle.dcc_value.specs.Resolved.{Stands, evaluated}
+use Rattle.dcc_prepare.specs.Points.{Goes, MayGo, StandsIf, label_point, point_named, case_point, IsAssign, IsTest, IsSwitch, IsGoto, IsReturn, Acts}
+use Rattle.dcc_prepare.specs.Programs.{IsProcedure}
+use Rattle.dcc_crun.specs.Standing.{IsRunning}
 use Rattle.dcc_crun.specs.Doing.{scene_in, AreGlobals, names_at, IsQuiet, end_at, IsLed, IsEnded, IsStood, Keeps, Stays, StepsAside, Performs}
-use Rattle.dcc_crun.proofs.LabelLaws.{label_point-named}
+use Rattle.dcc_prepare.proofs.LabelLaws.{label_point-named}
 use Rattle.dcc_crun.proofs.MomentLaws.{value_here, ended, goes_further}
 
 -- the moment, where it goes on at another point

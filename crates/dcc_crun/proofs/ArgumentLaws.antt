@@ -8,16 +8,16 @@ use Rattle.dcc_c.specs.declared.syntax.CType.{CType}
 use Rattle.dcc_c.specs.Tree.{Expr}
 use Rattle.dcc_c.specs.Value.{Value, converted, Outcome, Gives, Divides, Undefined, and_then, value_of, Scope}
 use Rattle.dcc_c.specs.Run.{arguments_of}
-use Rattle.dcc_crun.specs.declared.value.Value.{Value as Held}
-use Rattle.dcc_crun.specs.declared.value.NoValue.{NoValue}
-use Rattle.dcc_crun.specs.declared.value.NoValue.TheVariants.{Divides as Faults, Undefined as Meaningless}
+use Rattle.dcc_value.specs.declared.value.Value.{Value as Held}
+use Rattle.dcc_value.specs.declared.value.NoValue.{NoValue}
+use Rattle.dcc_value.specs.declared.value.NoValue.TheVariants.{Divides as Faults, Undefined as Meaningless}
 use Rattle.dcc_crun.specs.declared.ending.Stop.{Stop}
-use Rattle.dcc_crun.specs.declared.expression.Resolved.{Resolved}
-use Rattle.dcc_crun.specs.declared.program.Variable.{Variable}
-use Rattle.dcc_crun.specs.Evaluation.{nothing_of}
+use Rattle.dcc_value.specs.declared.expression.Resolved.{Resolved}
+use Rattle.dcc_prepare.specs.declared.program.Variable.{Variable}
+use Rattle.dcc_value.specs.Evaluation.{nothing_of}
 use Rattle.dcc_crun.specs.Ending.{stop_of}
-use Rattle.dcc_crun.specs.Resolved.{Names, Scene, Fits, scope_over, evaluated}
-use Rattle.dcc_crun.specs.Points.{StandAll}
+use Rattle.dcc_value.specs.Resolved.{Names, Scene, Fits, scope_over, evaluated}
+use Rattle.dcc_prepare.specs.Points.{StandAll}
 use Rattle.dcc_crun.specs.Doing.{resolved_arguments, ArgumentsAre}
 
 -- what the resolved arguments come to is what the arguments do

@@ -10,14 +10,14 @@ use Rattle.dcc_c.specs.Typing.{Declared}
 use Rattle.dcc_c.specs.Placement.{params_of_call, locals_of_call}
 use Rattle.dcc_c.specs.Value.{Value, number, converted, Storage, Binding, declared_by}
 use Rattle.dcc_c.specs.Run.{storage_of as run_storage, variable_binding, first_binding, param_bindings, local_bindings, frame_of, with_arguments}
-use Rattle.dcc_crun.specs.declared.value.Value.{Value as Held}
-use Rattle.dcc_crun.specs.declared.variable.Binding.{Binding as Bound}
-use Rattle.dcc_crun.specs.declared.variable.Storage.TheVariants.{Unplaced, PlacedAt}
-use Rattle.dcc_crun.specs.declared.program.Variable.{Variable}
-use Rattle.dcc_crun.specs.Evaluation.{typed, bindings_named, binding_named, storage_of as kept_as}
-use Rattle.dcc_crun.specs.Points.{declared_with, locals_declared}
-use Rattle.dcc_crun.specs.Standing.{place_in, kind_of, declared_kind, Kind, AreVariables}
-use Rattle.dcc_crun.specs.Frames.{holding, params_holding, locals_holding, with_argument, arguments_put}
+use Rattle.dcc_value.specs.declared.value.Value.{Value as Held}
+use Rattle.dcc_value.specs.declared.variable.Binding.{Binding as Bound}
+use Rattle.dcc_value.specs.declared.variable.Storage.TheVariants.{Unplaced, PlacedAt}
+use Rattle.dcc_prepare.specs.declared.program.Variable.{Variable}
+use Rattle.dcc_value.specs.Evaluation.{typed, bindings_named, binding_named, storage_of as kept_as}
+use Rattle.dcc_prepare.specs.Points.{declared_with, locals_declared}
+use Rattle.dcc_prepare.specs.Programs.{place_in, kind_of, declared_kind, Kind, AreVariables}
+use Rattle.dcc_prepare.specs.Frames.{holding, params_holding, locals_holding, with_argument, arguments_put}
 
 -- One variable.
 

@@ -7,23 +7,23 @@ use Rattle.dcc_c.specs.Tree.{Expr, Function, Tree}
 use Rattle.dcc_c.specs.Value.{Gives, Target}
 use Rattle.dcc_c.specs.Dos.{Dos, dos_of}
 use Rattle.dcc_c.specs.Run.{Continuation, State, scope_of, result_target, call_step, dos_or_call_step}
-use Rattle.dcc_crun.specs.declared.value.NoValue.{NoValue}
-use Rattle.dcc_crun.specs.declared.expression.Target.{Target as Place}
+use Rattle.dcc_value.specs.declared.value.NoValue.{NoValue}
+use Rattle.dcc_value.specs.declared.expression.Target.{Target as Place}
 use Rattle.dcc_crun.specs.declared.ending.Stop.{Stop}
 use Rattle.dcc_crun.specs.declared.ending.Stop.TheVariants.{Divides as HaltsDividing, Undefined as HaltsUndefined, Refused}
-use Rattle.dcc_crun.specs.declared.variable.Binding.{Binding as Bound}
-use Rattle.dcc_crun.specs.declared.expression.Resolved.{Resolved}
-use Rattle.dcc_crun.specs.declared.program.Dos.{Dos as DosCall}
-use Rattle.dcc_crun.specs.declared.program.Callee.{Callee}
-use Rattle.dcc_crun.specs.declared.program.Callee.TheVariants.{Dos as CallsDosOf, Function as CallsFunctionOf, Unknown as CallsNothing}
-use Rattle.dcc_crun.specs.declared.program.CallRow.{CallRow}
-use Rattle.dcc_crun.specs.declared.program.Action.{Action}
-use Rattle.dcc_crun.specs.declared.program.Action.TheVariants.{Pass, Assign, Call as Calls, Test, Switch, Goto, Return, Close, Stuck}
-use Rattle.dcc_crun.specs.declared.program.Program.{Program}
+use Rattle.dcc_value.specs.declared.variable.Binding.{Binding as Bound}
+use Rattle.dcc_value.specs.declared.expression.Resolved.{Resolved}
+use Rattle.dcc_prepare.specs.declared.program.Dos.{Dos as DosCall}
+use Rattle.dcc_prepare.specs.declared.program.Callee.{Callee}
+use Rattle.dcc_prepare.specs.declared.program.Callee.TheVariants.{Dos as CallsDosOf, Function as CallsFunctionOf, Unknown as CallsNothing}
+use Rattle.dcc_prepare.specs.declared.program.CallRow.{CallRow}
+use Rattle.dcc_prepare.specs.declared.program.Action.{Action}
+use Rattle.dcc_prepare.specs.declared.program.Action.TheVariants.{Pass, Assign, Call as Calls, Test, Switch, Goto, Return, Close, Stuck}
+use Rattle.dcc_prepare.specs.declared.program.Program.{Program}
 use Rattle.dcc_crun.specs.declared.moment.Moment.{Moment}
-use Rattle.dcc_crun.specs.Evaluation.{nothing_of, outcome_of}
-use Rattle.dcc_crun.specs.Resolved.{Names, Scene, Fits, scope_over, target_named}
-use Rattle.dcc_crun.specs.Points.{Goes, locals_declared, StandsIf, StandAll, IsCallee, dos_call}
+use Rattle.dcc_value.specs.Evaluation.{nothing_of, outcome_of}
+use Rattle.dcc_value.specs.Resolved.{Names, Scene, Fits, scope_over, target_named}
+use Rattle.dcc_prepare.specs.Points.{Goes, locals_declared, StandsIf, StandAll, IsCallee, dos_call}
 use Rattle.dcc_crun.specs.Standing.{IsTargetIf}
 use Rattle.dcc_crun.specs.Doing.{Operation, AreGlobals, scene_in, names_at, end_at, IsEnded, StepsAside, Halts, ComesTo, Kept, Stood, CallsDos, CallsFunction, CallsAny, IsNoCall}
 use Rattle.dcc_crun.proofs.MomentLaws.{fits_here, scope_here, ended, goes_further}

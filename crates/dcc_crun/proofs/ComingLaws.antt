@@ -6,25 +6,25 @@ use Rattle.dcc_run.specs.End.{End, Running as running, Divide as divided, Stuck 
 use Rattle.dcc_c.specs.Tree.{Expr, Tree}
 use Rattle.dcc_c.specs.Dos.{Getche, Getch}
 use Rattle.dcc_c.specs.Run.{Continuation, State, goes_on, on, scope_of, arguments_of, dos_step}
-use Rattle.dcc_crun.specs.declared.variable.Binding.{Binding as Bound}
-use Rattle.dcc_crun.specs.declared.expression.Resolved.{Resolved}
-use Rattle.dcc_crun.specs.declared.expression.Target.{Target as Place}
+use Rattle.dcc_value.specs.declared.variable.Binding.{Binding as Bound}
+use Rattle.dcc_value.specs.declared.expression.Resolved.{Resolved}
+use Rattle.dcc_value.specs.declared.expression.Target.{Target as Place}
 use Rattle.dcc_crun.specs.declared.ending.Fault.{Fault}
 use Rattle.dcc_crun.specs.declared.ending.Fault.TheVariants.{Input, Output, Memory}
 use Rattle.dcc_crun.specs.declared.ending.Stop.{Stop}
 use Rattle.dcc_crun.specs.declared.ending.Stop.TheVariants.{Divides as HaltsDividing, Undefined as HaltsUndefined, Refused}
-use Rattle.dcc_crun.specs.declared.program.Dos.TheVariants.{Getche as calls_getche, Getch as calls_getch}
-use Rattle.dcc_crun.specs.declared.program.CallRow.{CallRow}
-use Rattle.dcc_crun.specs.declared.program.Action.{Action}
-use Rattle.dcc_crun.specs.declared.program.Action.TheVariants.{Call as Calls}
-use Rattle.dcc_crun.specs.declared.program.Row.{Row}
-use Rattle.dcc_crun.specs.declared.program.Procedure.{Procedure}
-use Rattle.dcc_crun.specs.declared.program.Program.{Program}
+use Rattle.dcc_prepare.specs.declared.program.Dos.TheVariants.{Getche as calls_getche, Getch as calls_getch}
+use Rattle.dcc_prepare.specs.declared.program.CallRow.{CallRow}
+use Rattle.dcc_prepare.specs.declared.program.Action.{Action}
+use Rattle.dcc_prepare.specs.declared.program.Action.TheVariants.{Call as Calls}
+use Rattle.dcc_prepare.specs.declared.program.Row.{Row}
+use Rattle.dcc_prepare.specs.declared.program.Procedure.{Procedure}
+use Rattle.dcc_prepare.specs.declared.program.Program.{Program}
 use Rattle.dcc_crun.specs.declared.moment.Moment.{Moment}
 use Rattle.dcc_crun.specs.Ending.{end_of}
-use Rattle.dcc_crun.specs.Resolved.{Names, target_named}
-use Rattle.dcc_crun.specs.Points.{locals_declared, StandAll, IsCall, Acts}
-use Rattle.dcc_crun.specs.Standing.{IsProcedure, HasProcedure}
+use Rattle.dcc_value.specs.Resolved.{Names, target_named}
+use Rattle.dcc_prepare.specs.Points.{locals_declared, StandAll, IsCall, Acts}
+use Rattle.dcc_prepare.specs.Programs.{IsProcedure, HasProcedure}
 use Rattle.dcc_crun.specs.Doing.{Operation, names_at, IsKept, IsStood, IsEnded, Does, Halts, Refuses, ComesTo, Kept, Stood, TakesKey, CallsDos, CallsAny, Performs, Steps}
 use Rattle.dcc_crun.proofs.ActLaws.{running_on}
 use Rattle.dcc_crun.proofs.Scenes.{does_quiet}

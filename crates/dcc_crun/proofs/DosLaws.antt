@@ -11,16 +11,16 @@ use Rattle.dcc_c.specs.Tree.{Expr, Tree}
 use Rattle.dcc_c.specs.Value.{Value, number, converted, Outcome, Gives, Divides, Undefined, and_then, Target, Scope, value_of}
 use Rattle.dcc_c.specs.Dos.{dos_signature}
 use Rattle.dcc_c.specs.Run.{Continuation, State, scope_of, result_step, key_step, dos_step, arguments_of}
-use Rattle.dcc_crun.specs.declared.value.Value.{Value as Held}
-use Rattle.dcc_crun.specs.declared.value.NoValue.{NoValue}
-use Rattle.dcc_crun.specs.declared.variable.Binding.{Binding as Bound}
-use Rattle.dcc_crun.specs.declared.expression.Resolved.{Resolved}
-use Rattle.dcc_crun.specs.declared.expression.Target.{Target as Place}
-use Rattle.dcc_crun.specs.declared.program.Dos.{Dos as DosCall}
+use Rattle.dcc_value.specs.declared.value.Value.{Value as Held}
+use Rattle.dcc_value.specs.declared.value.NoValue.{NoValue}
+use Rattle.dcc_value.specs.declared.variable.Binding.{Binding as Bound}
+use Rattle.dcc_value.specs.declared.expression.Resolved.{Resolved}
+use Rattle.dcc_value.specs.declared.expression.Target.{Target as Place}
+use Rattle.dcc_prepare.specs.declared.program.Dos.{Dos as DosCall}
 use Rattle.dcc_crun.specs.declared.moment.Moment.{Moment}
-use Rattle.dcc_crun.specs.Evaluation.{nothing_of, outcome_of}
-use Rattle.dcc_crun.specs.Resolved.{Names, Scene, Fits, scope_over, target_named}
-use Rattle.dcc_crun.specs.Points.{locals_declared, StandAll, dos_call}
+use Rattle.dcc_value.specs.Evaluation.{nothing_of, outcome_of}
+use Rattle.dcc_value.specs.Resolved.{Names, Scene, Fits, scope_over, target_named}
+use Rattle.dcc_prepare.specs.Points.{locals_declared, StandAll, dos_call}
 use Rattle.dcc_crun.specs.Standing.{IsTargetIf, IsRunning}
 use Rattle.dcc_crun.specs.Stepped.{told_bytes}
 use Rattle.dcc_crun.specs.Doing.{scene_in, names_at, IsEnded, end_at, single, Kept, TakesKey, CallsDos, Does, CannotRead, CannotWrite}

@@ -6,16 +6,17 @@ use Rattle.dcc_c.specs.Tree.{Function, Tree}
 use Rattle.dcc_c.specs.Placement.{below, params_of_call}
 use Rattle.dcc_c.specs.Value.{Binding}
 use Rattle.dcc_c.specs.Run.{Continuation, State, runs, ends_function, frame_of, with_arguments, enter_step}
-use Rattle.dcc_crun.specs.declared.value.Value.{Value as Held}
-use Rattle.dcc_crun.specs.declared.expression.Target.{Target as Place}
-use Rattle.dcc_crun.specs.declared.program.Procedure.{Procedure}
+use Rattle.dcc_value.specs.declared.value.Value.{Value as Held}
+use Rattle.dcc_value.specs.declared.expression.Target.{Target as Place}
+use Rattle.dcc_prepare.specs.declared.program.Procedure.{Procedure}
 use Rattle.dcc_crun.specs.declared.moment.Moment.{Moment}
-use Rattle.dcc_crun.specs.Evaluation.{typed, bindings_named}
-use Rattle.dcc_crun.specs.Resolved.{target_named}
-use Rattle.dcc_crun.specs.Points.{locals_declared, Goes}
+use Rattle.dcc_value.specs.Evaluation.{typed, bindings_named}
+use Rattle.dcc_value.specs.Resolved.{target_named}
+use Rattle.dcc_prepare.specs.Points.{locals_declared, Goes}
 use Rattle.dcc_crun.specs.Ending.{end_of}
-use Rattle.dcc_crun.specs.Standing.{IsProcedure, IsTargetIf, IsRunning}
-use Rattle.dcc_crun.specs.Frames.{params_holding, locals_holding, arguments_put}
+use Rattle.dcc_prepare.specs.Programs.{IsProcedure}
+use Rattle.dcc_crun.specs.Standing.{IsTargetIf, IsRunning}
+use Rattle.dcc_prepare.specs.Frames.{params_holding, locals_holding, arguments_put}
 use Rattle.dcc_crun.specs.Doing.{IsLed}
 use Rattle.dcc_crun.proofs.CallLaws.{call_variables, call_declared, arguments_in}
 

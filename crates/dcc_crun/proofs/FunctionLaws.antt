@@ -9,20 +9,20 @@ use Rattle.dcc_run.specs.End.{Divide as divided, Stuck as stuck}
 use Rattle.dcc_c.specs.Tree.{Variable as DeclaredVariable, Tree}
 use Rattle.dcc_c.specs.Value.{Value, Outcome, Gives}
 use Rattle.dcc_c.specs.Run.{Continuation, State, on, scope_of, arguments_of, param_types, enter_step}
-use Rattle.dcc_crun.specs.declared.value.Value.{Value as Held}
-use Rattle.dcc_crun.specs.declared.expression.Target.{Target as Place}
+use Rattle.dcc_value.specs.declared.value.Value.{Value as Held}
+use Rattle.dcc_value.specs.declared.expression.Target.{Target as Place}
 use Rattle.dcc_crun.specs.declared.ending.Fault.TheVariants.{Input, Output, Memory}
 use Rattle.dcc_crun.specs.declared.ending.Stop.{Stop}
 use Rattle.dcc_crun.specs.declared.ending.Stop.TheVariants.{Divides as HaltsDividing, Undefined as HaltsUndefined, Refused}
-use Rattle.dcc_crun.specs.declared.program.Variable.{Variable}
-use Rattle.dcc_crun.specs.declared.program.CallRow.{CallRow}
-use Rattle.dcc_crun.specs.declared.program.Procedure.{Procedure}
-use Rattle.dcc_crun.specs.declared.program.Program.{Program}
+use Rattle.dcc_prepare.specs.declared.program.Variable.{Variable}
+use Rattle.dcc_prepare.specs.declared.program.CallRow.{CallRow}
+use Rattle.dcc_prepare.specs.declared.program.Procedure.{Procedure}
+use Rattle.dcc_prepare.specs.declared.program.Program.{Program}
 use Rattle.dcc_crun.specs.declared.moment.Moment.{Moment}
-use Rattle.dcc_crun.specs.Evaluation.{typed}
-use Rattle.dcc_crun.specs.Resolved.{target_named}
-use Rattle.dcc_crun.specs.Points.{locals_declared}
-use Rattle.dcc_crun.specs.Standing.{kind_of, declared_kind, Kind, IsProcedure, HasProcedure}
+use Rattle.dcc_value.specs.Evaluation.{typed}
+use Rattle.dcc_value.specs.Resolved.{target_named}
+use Rattle.dcc_prepare.specs.Points.{locals_declared}
+use Rattle.dcc_prepare.specs.Programs.{kind_of, declared_kind, Kind, IsProcedure, HasProcedure}
 use Rattle.dcc_crun.specs.Doing.{Operation, scene_in, names_at, resolved_arguments, ArgumentsAre, IsEnded, IsLed, IsStood, ComesTo, CallsFunction}
 use Rattle.dcc_crun.proofs.MomentLaws.{fits_here, scope_here, goes_further}
 use Rattle.dcc_crun.proofs.ArgumentLaws.{arguments_are, arguments_length}

@@ -8,16 +8,16 @@ use Rattle.dcc_c.specs.Typing.{Declared}
 use Rattle.dcc_c.specs.Rules.{declared_global}
 use Rattle.dcc_c.specs.Value.{Value, Outcome, Gives, and_then, Binding, declared_by, Scope, value_of, target_of, Target, ToVariable, ToMemory}
 use Rattle.dcc_c.specs.Run.{Continuation, State, on, global_binding, scope_of, takes}
-use Rattle.dcc_crun.specs.declared.value.NoValue.{NoValue}
-use Rattle.dcc_crun.specs.declared.value.NoValue.TheVariants.{Divides as Faults, Undefined as Meaningless}
-use Rattle.dcc_crun.specs.declared.variable.Binding.{Binding as Bound}
-use Rattle.dcc_crun.specs.declared.expression.Resolved.{Resolved}
-use Rattle.dcc_crun.specs.declared.expression.Target.{Target as Place}
-use Rattle.dcc_crun.specs.declared.expression.Target.TheVariants.{Local as ToLocal, Memory as Into}
+use Rattle.dcc_value.specs.declared.value.NoValue.{NoValue}
+use Rattle.dcc_value.specs.declared.value.NoValue.TheVariants.{Divides as Faults, Undefined as Meaningless}
+use Rattle.dcc_value.specs.declared.variable.Binding.{Binding as Bound}
+use Rattle.dcc_value.specs.declared.expression.Resolved.{Resolved}
+use Rattle.dcc_value.specs.declared.expression.Target.{Target as Place}
+use Rattle.dcc_value.specs.declared.expression.Target.TheVariants.{Local as ToLocal, Memory as Into}
 use Rattle.dcc_crun.specs.declared.moment.Moment.{Moment}
-use Rattle.dcc_crun.specs.Evaluation.{nothing_of, bindings_named}
-use Rattle.dcc_crun.specs.Resolved.{Fits, Stands, scope_over, evaluated, targeted, target_named, variables_after, memory_after}
-use Rattle.dcc_crun.specs.Points.{locals_declared}
+use Rattle.dcc_value.specs.Evaluation.{nothing_of, bindings_named}
+use Rattle.dcc_value.specs.Resolved.{Fits, Stands, scope_over, evaluated, targeted, target_named, variables_after, memory_after}
+use Rattle.dcc_prepare.specs.Points.{locals_declared}
 use Rattle.dcc_crun.specs.Ending.{end_of}
 use Rattle.dcc_crun.specs.Standing.{AreWaiting, IsRunning}
 use Rattle.dcc_crun.specs.Doing.{scene_in, AreGlobals, names_at, IsQuiet, end_at, IsEnded}

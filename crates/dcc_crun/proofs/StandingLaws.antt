@@ -10,7 +10,7 @@ use Rattle.dcc_crun.specs.declared.moment.Moment.{Moment}
 use Rattle.dcc_crun.specs.declared.run.CRun.{CRun}
 use Rattle.dcc_crun.specs.Ending.{end_of, fault_answer_of}
 use Rattle.dcc_crun.specs.Standing.{IsCallOf, AreWaiting, IsMoment, StandsAt}
-use Rattle.dcc_crun.specs.Points.{Goes}
+use Rattle.dcc_prepare.specs.Points.{Goes}
 use Rattle.dcc_crun.specs.Stepped.{scene, Makes, TellsEnd}
 use Rattle.dcc_crun.specs.Stepped.{Steps as StepsTo}
 use Rattle.dcc_crun.specs.Doing.{Does, Refuses, IsSame, StaysAt, Stood, Steps}

@@ -8,16 +8,16 @@ use Rattle.dcc_c.specs.declared.syntax.CType.{CType}
 use Rattle.dcc_c.specs.Tree.{Expr, Assign, Return, Tree}
 use Rattle.dcc_c.specs.Value.{Value, Outcome, Gives, and_then, converted, value_of, target_of}
 use Rattle.dcc_c.specs.Run.{Continuation, State, with_end, Waiting as WaitingCall, on, scope_of, takes, result_step, back_step, is_start, give_step, stmt_step}
-use Rattle.dcc_crun.specs.declared.value.NoValue.{NoValue}
-use Rattle.dcc_crun.specs.declared.value.NoValue.TheVariants.{Divides as Faults, Undefined as Meaningless}
-use Rattle.dcc_crun.specs.declared.variable.Binding.{Binding as Bound}
-use Rattle.dcc_crun.specs.declared.expression.Resolved.{Resolved}
-use Rattle.dcc_crun.specs.declared.expression.Target.{Target as Place}
+use Rattle.dcc_value.specs.declared.value.NoValue.{NoValue}
+use Rattle.dcc_value.specs.declared.value.NoValue.TheVariants.{Divides as Faults, Undefined as Meaningless}
+use Rattle.dcc_value.specs.declared.variable.Binding.{Binding as Bound}
+use Rattle.dcc_value.specs.declared.expression.Resolved.{Resolved}
+use Rattle.dcc_value.specs.declared.expression.Target.{Target as Place}
 use Rattle.dcc_crun.specs.declared.call.Waiting.{Waiting}
 use Rattle.dcc_crun.specs.declared.moment.Moment.{Moment}
-use Rattle.dcc_crun.specs.Evaluation.{nothing_of}
-use Rattle.dcc_crun.specs.Resolved.{Stands, evaluated, targeted, target_named, IsTargetIn, LandsIn}
-use Rattle.dcc_crun.specs.Points.{locals_declared, Goes, StandsIf}
+use Rattle.dcc_value.specs.Evaluation.{nothing_of}
+use Rattle.dcc_value.specs.Resolved.{Stands, evaluated, targeted, target_named, IsTargetIn, LandsIn}
+use Rattle.dcc_prepare.specs.Points.{locals_declared, Goes, StandsIf}
 use Rattle.dcc_crun.specs.declared.ending.Fault.{Fault}
 use Rattle.dcc_crun.specs.declared.ending.Stop.{Stop}
 use Rattle.dcc_crun.specs.declared.ending.Stop.TheVariants.{Refused}

@@ -9,27 +9,28 @@ use Rattle.dcc_c.specs.Rules.{declared_global}
 use Rattle.dcc_c.specs.Value.{Value, converted, Outcome, Gives, Divides, Undefined, and_then}
 use Rattle.dcc_c.specs.Dos.{dos_signature}
 use Rattle.dcc_c.specs.Run.{Continuation, State, global_binding, on, step_at, scope_of, key_step, dos_step, arguments_of, enter_step, param_types, stmt_step}
-use Rattle.dcc_crun.specs.declared.value.Value.{Value as Held}
-use Rattle.dcc_crun.specs.declared.value.NoValue.{NoValue}
-use Rattle.dcc_crun.specs.declared.value.NoValue.TheVariants.{Divides as Faults, Undefined as Meaningless}
-use Rattle.dcc_crun.specs.declared.variable.Binding.{Binding as Bound}
-use Rattle.dcc_crun.specs.declared.expression.Resolved.{Resolved}
+use Rattle.dcc_value.specs.declared.value.Value.{Value as Held}
+use Rattle.dcc_value.specs.declared.value.NoValue.{NoValue}
+use Rattle.dcc_value.specs.declared.value.NoValue.TheVariants.{Divides as Faults, Undefined as Meaningless}
+use Rattle.dcc_value.specs.declared.variable.Binding.{Binding as Bound}
+use Rattle.dcc_value.specs.declared.expression.Resolved.{Resolved}
 use Rattle.dcc_crun.specs.declared.ending.Fault.{Fault}
 use Rattle.dcc_crun.specs.declared.ending.Fault.TheVariants.{Input, Output, Memory}
 use Rattle.dcc_crun.specs.declared.ending.Stop.{Stop}
 use Rattle.dcc_crun.specs.declared.ending.Stop.TheVariants.{Divides as HaltsDividing, Undefined as HaltsUndefined, Refused}
-use Rattle.dcc_crun.specs.declared.expression.Target.{Target as Place}
-use Rattle.dcc_crun.specs.declared.program.Dos.{Dos as DosCall}
-use Rattle.dcc_crun.specs.declared.program.CallRow.{CallRow}
-use Rattle.dcc_crun.specs.declared.program.Action.{Action}
-use Rattle.dcc_crun.specs.declared.program.Action.TheVariants.{Call}
-use Rattle.dcc_crun.specs.declared.program.Procedure.{Procedure}
-use Rattle.dcc_crun.specs.declared.program.Program.{Program}
+use Rattle.dcc_value.specs.declared.expression.Target.{Target as Place}
+use Rattle.dcc_prepare.specs.declared.program.Dos.{Dos as DosCall}
+use Rattle.dcc_prepare.specs.declared.program.CallRow.{CallRow}
+use Rattle.dcc_prepare.specs.declared.program.Action.{Action}
+use Rattle.dcc_prepare.specs.declared.program.Action.TheVariants.{Call}
+use Rattle.dcc_prepare.specs.declared.program.Procedure.{Procedure}
+use Rattle.dcc_prepare.specs.declared.program.Program.{Program}
 use Rattle.dcc_crun.specs.declared.moment.Moment.{Moment}
-use Rattle.dcc_crun.specs.Evaluation.{typed, bindings_named}
-use Rattle.dcc_crun.specs.Resolved.{Names, Scene, evaluated, target_named}
-use Rattle.dcc_crun.specs.Points.{names_in, locals_declared, Goes, Acts, StandsIf, StandAll, IsCallee, dos_call}
-use Rattle.dcc_crun.specs.Standing.{IsProgram, IsProcedure, IsTargetIf, IsRunning, IsGoing, IsMoment}
+use Rattle.dcc_value.specs.Evaluation.{typed, bindings_named}
+use Rattle.dcc_value.specs.Resolved.{Names, Scene, evaluated, target_named}
+use Rattle.dcc_prepare.specs.Points.{names_in, locals_declared, Goes, Acts, StandsIf, StandAll, IsCallee, dos_call}
+use Rattle.dcc_prepare.specs.Programs.{IsProgram, IsProcedure}
+use Rattle.dcc_crun.specs.Standing.{IsTargetIf, IsRunning, IsGoing, IsMoment}
 use Rattle.dcc_crun.specs.Stepped.{told_bytes}
 
 -- what the expressions of the call are evaluated over

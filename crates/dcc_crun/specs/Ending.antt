@@ -1,7 +1,7 @@
 -- How a run has ended, and what steps answer.
 use Rattle.dcc_run.specs.End.{End, Running as running, Exit as exited, Divide as divided, Stuck as stuck}
-use Rattle.dcc_crun.specs.declared.value.NoValue.{NoValue}
-use Rattle.dcc_crun.specs.declared.value.NoValue.TheVariants.{Divides as Faults, Undefined as Meaningless}
+use Rattle.dcc_value.specs.declared.value.NoValue.{NoValue}
+use Rattle.dcc_value.specs.declared.value.NoValue.TheVariants.{Divides as Faults, Undefined as Meaningless}
 use Rattle.dcc_crun.specs.declared.ending.CStepped.{CStepped}
 use Rattle.dcc_crun.specs.declared.ending.CStepped.TheVariants.{Running as still_running, Exit as exit_answered, Divide as divide_answered, Stuck as stuck_answered, InFault, OutFault, Memory as memory_answered}
 use Rattle.dcc_crun.specs.declared.ending.Ending.{Ending}

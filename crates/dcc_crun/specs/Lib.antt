@@ -1,12 +1,4 @@
-pub mod Evaluation
-pub mod Resolved
+pub mod Doing
 pub mod Ending
-pub mod Points
-pub mod Emission
 pub mod Standing
 pub mod Stepped
-pub mod Doing
-pub mod Frames
-pub mod Takes
-pub mod Placing
-pub mod Prepared

@@ -7,8 +7,8 @@ ghost use Rattle.dcc_io.specs.Told.{append_told, prepend_told, AppendsProperPref
 ghost use Rattle.dcc_c.specs.Dos.{string_at};
 ghost use Rattle.dcc_crun.specs.Stepped.{told_bytes};
 
-use crate::value::memory::byte_at;
 use dcc_io::{Failed, Sink, Source, put_all};
+use dcc_value::value::memory::byte_at;
 
 /// The value of a key at the end of the input.
 pub(crate) const END_OF_INPUT: u8 = 0x1A;

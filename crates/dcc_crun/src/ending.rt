@@ -3,7 +3,7 @@
 ghost use Rattle.std.specs.Prelude.{◌≡◌};
 ghost use Rattle.dcc_crun.specs.Ending.{answer_of, fault_answer_of};
 
-use crate::value::NoValue;
+use dcc_value::value::NoValue;
 use std::alloc::{AllocError, AllocFailed};
 
 /// How a step or a run came out.

@@ -12,11 +12,11 @@ ghost use Rattle.dcc_crun.specs.Stepped.{scene, Steps, TellsEnd, Runs};
 use crate::call::Call;
 use crate::ending::{CStepped, Ending};
 use crate::moment::Moment;
-use crate::prepare::prepare;
-use crate::program::Program;
-use crate::start::first_memory;
 use dcc_c::Unit;
 use dcc_io::{Sink, Source};
+use dcc_prepare::prepare::prepare;
+use dcc_prepare::program::Program;
+use dcc_prepare::start::first_memory;
 use std::alloc::{AllocError, Global};
 
 /// A run of a text.

@@ -2,9 +2,9 @@ use Rattle.std.proofs.Common.{◌≡◌, ◌+◌, ◌<◌, List, [], ◌∷◌, 
 use Rattle.std.proofs.lemmas.List.{length-map, map-append}
 use Rattle.dcc_c.specs.declared.syntax.CType.{CType}
 use Rattle.dcc_c.specs.Value.{Value, Gives, and_then, converted}
-use Rattle.dcc_crun.specs.declared.program.Variable.{Variable}
-use Rattle.dcc_crun.specs.Evaluation.{typed}
-use Rattle.dcc_crun.specs.Resolved.{scene_of}
+use Rattle.dcc_prepare.specs.declared.program.Variable.{Variable}
+use Rattle.dcc_value.specs.Evaluation.{typed}
+use Rattle.dcc_value.specs.Resolved.{scene_of}
 use Rattle.dcc_crun.specs.Doing.{resolved_arguments}
 use Rattle.dcc_crun.proofs.ArgumentLaws.{argument_step, argument_fails, arguments_wanting, arguments_err, type_at}
 use Rattle.dcc_crun.proofs.moment.argument_values.Goals as goal

@@ -1,7 +1,7 @@
 use Rattle.std.proofs.Common.{◌≡◌, ◌++◌, ◌≤◌, length, map, drop}
 use Rattle.dcc_c.specs.Value.{Gives, and_then}
-use Rattle.dcc_crun.specs.Evaluation.{typed}
-use Rattle.dcc_crun.specs.Resolved.{scene_of}
+use Rattle.dcc_value.specs.Evaluation.{typed}
+use Rattle.dcc_value.specs.Resolved.{scene_of}
 use Rattle.dcc_crun.specs.Doing.{resolved_arguments}
 use Rattle.dcc_crun.proofs.moment.argument_values.Given as goal
 

@@ -1,6 +1,6 @@
 use Rattle.std.proofs.Common.{◌+◌, ◌<◌, ◌∷◌, length, drop, sym, ap, ◌∙◌, arith}
 use Rattle.std.proofs.lemmas.List.{at_drop_more}
-use Rattle.dcc_crun.specs.Points.{case_point}
+use Rattle.dcc_prepare.specs.Points.{case_point}
 use Rattle.dcc_crun.proofs.moment.case_point.Goals as goal
 
 pub loop-case-preserved : goal.loop-case-preserved

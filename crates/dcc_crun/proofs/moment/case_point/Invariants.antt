@@ -1,5 +1,5 @@
 use Rattle.std.proofs.Common.{◌≡◌, drop}
-use Rattle.dcc_crun.specs.Points.{case_point}
+use Rattle.dcc_prepare.specs.Points.{case_point}
 use Rattle.dcc_crun.proofs.moment.case_point.Given as goal
 
 -- with the cases that are left, the point is found

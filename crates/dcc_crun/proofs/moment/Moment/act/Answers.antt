@@ -3,11 +3,11 @@ use Rattle.std.specs.Prelude.{if◌then◌else◌}
 use Rattle.dcc_c.specs.declared.syntax.Base.TheVariants.{Uint}
 use Rattle.dcc_c.specs.Types.{plain}
 use Rattle.dcc_c.specs.Value.{Gives, and_then, given, is_zero, converted}
-use Rattle.dcc_crun.specs.declared.program.Label.{Label}
-use Rattle.dcc_crun.specs.declared.program.Case.{Case}
-use Rattle.dcc_crun.specs.declared.variable.Binding.{Binding as Bound}
-use Rattle.dcc_crun.specs.Resolved.{evaluated}
-use Rattle.dcc_crun.specs.Points.{label_point, case_point}
+use Rattle.dcc_prepare.specs.declared.program.Label.{Label}
+use Rattle.dcc_prepare.specs.declared.program.Case.{Case}
+use Rattle.dcc_value.specs.declared.variable.Binding.{Binding as Bound}
+use Rattle.dcc_value.specs.Resolved.{evaluated}
+use Rattle.dcc_prepare.specs.Points.{label_point, case_point}
 use Rattle.dcc_crun.specs.Doing.{scene_in, AreGlobals}
 use Rattle.dcc_crun.proofs.StepLaws.{stays_err}
 use Rattle.dcc_crun.proofs.ActLaws.{assigned, tested, switched, went, returned}

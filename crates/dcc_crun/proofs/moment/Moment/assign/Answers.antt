@@ -1,8 +1,8 @@
 use Rattle.std.proofs.Common.{ap, ◌∙◌}
 use Rattle.dcc_c.specs.Tree.{Assign}
 use Rattle.dcc_c.specs.Run.{stmt_step}
-use Rattle.dcc_crun.specs.Evaluation.{typed}
-use Rattle.dcc_crun.specs.Resolved.{evaluated, targeted}
+use Rattle.dcc_value.specs.Evaluation.{typed}
+use Rattle.dcc_value.specs.Resolved.{evaluated, targeted}
 use Rattle.dcc_crun.proofs.StepLaws.{kept_err, assign_ended, assign_untargeted, assign_made}
 use Rattle.dcc_crun.proofs.moment.Moment.assign.Goals as goal
 

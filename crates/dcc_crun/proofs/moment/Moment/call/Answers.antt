@@ -1,7 +1,7 @@
 use Rattle.std.proofs.Common.{Ok, Err, ap, ◌∙◌}
 use Rattle.std.specs.Prelude.{Result}
 use Rattle.dcc_crun.specs.declared.ending.Stop.{Stop}
-use Rattle.dcc_crun.specs.Resolved.{scene_of}
+use Rattle.dcc_value.specs.Resolved.{scene_of}
 use Rattle.dcc_crun.specs.Doing.{scene_in, Kept, Stood, CallsDos, CallsFunction, CallsAny}
 use Rattle.dcc_crun.proofs.StepLaws.{comes_err}
 use Rattle.dcc_crun.proofs.ActLaws.{moved}

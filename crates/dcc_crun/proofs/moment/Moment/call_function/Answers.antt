@@ -2,13 +2,13 @@ use Rattle.std.proofs.Common.{◌≡◌, ◌<◌, List, length, map, refl, sym, 
 use Rattle.std.specs.Prelude.{option_map}
 use Rattle.dcc_c.specs.Value.{Value, Outcome, Gives}
 use Rattle.dcc_c.specs.Run.{State, on, enter_step}
-use Rattle.dcc_crun.specs.declared.value.Value.{Value as Held}
-use Rattle.dcc_crun.specs.declared.variable.Binding.{Binding as Bound}
-use Rattle.dcc_crun.specs.declared.expression.Resolved.{Resolved}
-use Rattle.dcc_crun.specs.declared.program.Variable.{Variable}
-use Rattle.dcc_crun.specs.Evaluation.{typed}
-use Rattle.dcc_crun.specs.Resolved.{Scene, scene_of, target_named}
-use Rattle.dcc_crun.specs.Points.{locals_declared}
+use Rattle.dcc_value.specs.declared.value.Value.{Value as Held}
+use Rattle.dcc_value.specs.declared.variable.Binding.{Binding as Bound}
+use Rattle.dcc_value.specs.declared.expression.Resolved.{Resolved}
+use Rattle.dcc_prepare.specs.declared.program.Variable.{Variable}
+use Rattle.dcc_value.specs.Evaluation.{typed}
+use Rattle.dcc_value.specs.Resolved.{Scene, scene_of, target_named}
+use Rattle.dcc_prepare.specs.Points.{locals_declared}
 use Rattle.dcc_crun.specs.Doing.{scene_in, resolved_arguments, IsLed}
 use Rattle.dcc_crun.proofs.FunctionLaws.{called, not_called, function_arguments, values_stop, begins}
 use Rattle.dcc_crun.proofs.ComingLaws.{does_stood}

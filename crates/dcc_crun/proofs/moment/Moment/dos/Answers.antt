@@ -1,5 +1,5 @@
 use Rattle.std.proofs.Common.{◌≡◌, ◌==◌, true, false, length, subst}
-use Rattle.dcc_crun.specs.declared.program.Dos.{Dos as DosCall}
+use Rattle.dcc_prepare.specs.declared.program.Dos.{Dos as DosCall}
 use Rattle.dcc_crun.specs.Doing.{Kept, TakesKey, CallsDos}
 use Rattle.dcc_crun.proofs.StepLaws.{comes_err}
 use Rattle.dcc_crun.proofs.FunctionLaws.{empty_list}

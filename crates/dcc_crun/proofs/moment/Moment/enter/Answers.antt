@@ -3,7 +3,7 @@ use Rattle.std.specs.Vec.{with_items}
 use Rattle.std.proofs.lemmas.List.{with_items_is}
 use Rattle.dcc_crun.specs.declared.call.Call.{Call}
 use Rattle.dcc_crun.specs.declared.call.Waiting.{Waiting}
-use Rattle.dcc_crun.specs.Frames.{arguments_put}
+use Rattle.dcc_prepare.specs.Frames.{arguments_put}
 use Rattle.dcc_crun.proofs.EnterLaws.{entered}
 use Rattle.dcc_crun.proofs.moment.Moment.enter.Goals as goal
 

@@ -2,8 +2,8 @@ use Rattle.std.proofs.Common.{Some, sym, ap, ◌∙◌, subst}
 use Rattle.dcc_c.specs.Tree.{Return}
 use Rattle.dcc_c.specs.Value.{value_of}
 use Rattle.dcc_c.specs.Run.{State, back_step, stmt_step, scope_of}
-use Rattle.dcc_crun.specs.Evaluation.{typed}
-use Rattle.dcc_crun.specs.Resolved.{evaluated}
+use Rattle.dcc_value.specs.Evaluation.{typed}
+use Rattle.dcc_value.specs.Resolved.{evaluated}
 use Rattle.dcc_crun.specs.Doing.{Led, IsEnded, end_at}
 use Rattle.dcc_crun.proofs.MomentLaws.{value_here, ended, goes_further}
 use Rattle.dcc_crun.proofs.StepLaws.{led_err, give_is}

@@ -1,6 +1,6 @@
 use Rattle.std.proofs.Common.{refl}
 use Rattle.std.specs.Prelude.{option_map}
-use Rattle.dcc_crun.specs.Evaluation.{typed}
+use Rattle.dcc_value.specs.Evaluation.{typed}
 use Rattle.dcc_crun.proofs.StepLaws.{back_made}
 use Rattle.dcc_crun.proofs.moment.Moment.go_back.Goals as goal
 

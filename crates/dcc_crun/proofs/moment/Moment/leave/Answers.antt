@@ -4,11 +4,11 @@ use Rattle.dcc_run.specs.End.{Exit, Stuck}
 use Rattle.dcc_c.specs.declared.syntax.CType.{CType}
 use Rattle.dcc_c.specs.Dos.{Leave as spec_Leave}
 use Rattle.dcc_c.specs.Run.{State, dos_step, arguments_of, scope_of}
-use Rattle.dcc_crun.specs.declared.program.Dos.TheVariants.{Leave}
+use Rattle.dcc_prepare.specs.declared.program.Dos.TheVariants.{Leave}
 use Rattle.dcc_crun.specs.declared.ending.Ending.TheVariants.{Exit as KeptExit}
-use Rattle.dcc_crun.specs.Evaluation.{typed}
-use Rattle.dcc_crun.specs.Resolved.{target_named}
-use Rattle.dcc_crun.specs.Points.{locals_declared}
+use Rattle.dcc_value.specs.Evaluation.{typed}
+use Rattle.dcc_value.specs.Resolved.{target_named}
+use Rattle.dcc_prepare.specs.Points.{locals_declared}
 use Rattle.dcc_crun.specs.Doing.{IsEnded, IsKept}
 use Rattle.dcc_crun.proofs.StepLaws.{kept_err}
 use Rattle.dcc_crun.proofs.DosLaws.{some_of, not_some, argument_is, call_ended, call_goes, byte_argument}

@@ -5,10 +5,10 @@ use Rattle.dcc_c.specs.declared.syntax.CType.{CType}
 use Rattle.dcc_c.specs.Tree.{Tree}
 use Rattle.dcc_c.specs.Dos.{Putc as spec_Putc}
 use Rattle.dcc_c.specs.Run.{Continuation, State, dos_step, arguments_of, scope_of}
-use Rattle.dcc_crun.specs.declared.program.Dos.TheVariants.{Putc}
-use Rattle.dcc_crun.specs.Evaluation.{typed}
-use Rattle.dcc_crun.specs.Resolved.{target_named}
-use Rattle.dcc_crun.specs.Points.{locals_declared}
+use Rattle.dcc_prepare.specs.declared.program.Dos.TheVariants.{Putc}
+use Rattle.dcc_value.specs.Evaluation.{typed}
+use Rattle.dcc_value.specs.Resolved.{target_named}
+use Rattle.dcc_prepare.specs.Points.{locals_declared}
 use Rattle.dcc_crun.specs.Doing.{IsEnded, CallsDos}
 use Rattle.dcc_crun.proofs.StepLaws.{comes_err}
 use Rattle.dcc_crun.proofs.DosLaws.{some_of, not_some, argument_is, call_ended, call_goes, byte_argument, dos_writes, dos_unwritten}

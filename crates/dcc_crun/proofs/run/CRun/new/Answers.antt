@@ -4,12 +4,12 @@ use Rattle.dcc_c.specs.Tree.{Tree}
 use Rattle.dcc_c.specs.Run.{Continuation}
 use Rattle.dcc_c.specs.Views.{tree_of}
 use Rattle.dcc_crun.specs.declared.ending.Ending.{Ending}
-use Rattle.dcc_crun.specs.declared.program.Procedure.{Procedure}
-use Rattle.dcc_crun.specs.declared.program.Program.{Program}
-use Rattle.dcc_crun.specs.declared.variable.Binding.{Binding as Bound}
+use Rattle.dcc_prepare.specs.declared.program.Procedure.{Procedure}
+use Rattle.dcc_prepare.specs.declared.program.Program.{Program}
+use Rattle.dcc_value.specs.declared.variable.Binding.{Binding as Bound}
 use Rattle.dcc_crun.specs.declared.moment.Moment.{Moment}
-use Rattle.dcc_crun.specs.Standing.{IsProgram}
-use Rattle.dcc_crun.proofs.ProgramLaws.{opened, no_first}
+use Rattle.dcc_prepare.specs.Programs.{IsProgram}
+use Rattle.dcc_crun.proofs.OpenLaws.{opened, no_first}
 use Rattle.dcc_crun.proofs.run.CRun.new.Goals.{in-Some+in_ok-variables-in-Some, in-None}
 use Rattle.dcc_crun.proofs.run.CRun.new.Goals as goal
 

@@ -1,7 +1,0 @@
-use Rattle.std.proofs.Common.{◌≡◌, map, take}
-use Rattle.dcc_crun.specs.Prepared.{global_bound}
-use Rattle.dcc_crun.proofs.prepare.global_bindings.Given as goal
-
--- the variables so far
-abbrev pub invariant-loop-global : goal.invariant-loop-global
-invariant-loop-global l = l.bindings.items ≡ map global_bound (take l.global-index l.globals)

@@ -1,0 +1,11 @@
+pub mod EmissionLaws
+pub mod FrameLaws
+pub mod LabelLaws
+pub mod PlacementLaws
+pub mod PointLaws
+pub mod PrepareLaws
+pub mod ProgramLaws
+pub mod RowLaws
+pub mod StartLaws
+pub mod StatementLaws
+pub mod TakesLaws

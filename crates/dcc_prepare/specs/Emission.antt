@@ -1,0 +1,66 @@
+-- How the points of a function grow while its statements are gone through.
+use Rattle.std.specs.Prelude.{◌≡◌, ℕ, Bool, List, map, Option, Some, None, slice_get}
+use Rattle.dcc_c.specs.declared.syntax.Arm.{Arm}
+use Rattle.dcc_c.specs.Tree.{Word, Lines, Arms, no_arms, Function, Tree}
+use Rattle.dcc_c.specs.Run.{Continuation, runs, arm_for, after_break, after_continue}
+use Rattle.dcc_c.specs.Views.{arm_before, function_of}
+use Rattle.dcc_prepare.specs.declared.program.Label.{Label}
+use Rattle.dcc_prepare.specs.declared.program.Case.{Case}
+use Rattle.dcc_prepare.specs.declared.code.Code.{Code}
+use Rattle.dcc_prepare.specs.declared.code.Context.{Context}
+use Rattle.dcc_prepare.specs.declared.emit.Behind.{Behind}
+use Rattle.dcc_value.specs.Resolved.{names_of}
+use Rattle.dcc_prepare.specs.Points.{names_in, Goes, MayGo, label_named, point_named, case_point, AreRows}
+
+-- the arms of a `switch` that has at most one
+abbrev pub arms_if : Option Arm → Arms
+arms_if None = no_arms
+arms_if (Some a) = arm_before a no_arms
+
+-- the points of the first list stay
+abbrev pub Stay : List Continuation → List Continuation → Type 0
+Stay before now = (at : ℕ) (rest : Continuation) → slice_get before at ≡ Some rest → slice_get now at ≡ Some rest
+
+-- the labels of the first list keep their numbers
+abbrev pub KeepNumbers : List Label → List Label → Type 0
+KeepNumbers before now =
+    (word : Word) (number : ℕ) → label_named before word ≡ Some number → label_named now word ≡ Some number
+
+-- the label with the name stands where the text goes on so, or as before where the text goes on nowhere
+abbrev pub Relabels : Tree → List Continuation → List Label → List Label → Word → Option Continuation → Type 0
+Relabels tree points before now word (Some rest) =
+    (at : ℕ) × (point_named now word ≡ Some at) × Goes tree points at rest
+Relabels tree points before now word None = point_named now word ≡ point_named before word
+
+-- the points and the labels have grown, with these labels found
+pub record Grows (tree : Tree) (f : Function) (is_open : ℕ → Bool) (points : List Continuation) (before now : Code)
+    (found : Word → Option Continuation) : Type 0 where
+  pub grown : List Continuation
+  pub stay : Stay points grown
+  pub rows : AreRows tree f is_open grown now.rows.items now.labels.items
+  pub numbers : KeepNumbers before.labels.items now.labels.items
+  pub labels : (word : Word) → Relabels tree grown before.labels.items now.labels.items word (found word)
+
+-- and the text goes on so from this point
+pub record Emits (tree : Tree) (f : Function) (is_open : ℕ → Bool) (points : List Continuation) (before now : Code)
+    (found : Word → Option Continuation) (at : ℕ) (rest : Continuation) : Type 0 where
+  pub grows : Grows tree f is_open points before now found
+  pub goes : Goes tree grows.grown at rest
+
+-- and from the points of these cases the bodies of the arms begin
+pub record EmitsArms (tree : Tree) (f : Function) (is_open : ℕ → Bool) (points : List Continuation) (before now : Code)
+    (found : Word → Option Continuation) (cases : List Case) (arms : Arms) (rest : Continuation) : Type 0 where
+  pub grows : Grows tree f is_open points before now found
+  pub goes : (later : List Continuation) (n at : ℕ) (otherwise : Lines) → Stay grows.grown later →
+      Goes tree later at (runs otherwise rest) → Goes tree later (case_point cases n at) (runs (arm_for n arms otherwise) rest)
+
+-- the points behind a statement lead where the continuation does
+pub record Leads (tree : Tree) (points : List Continuation) (behind : Behind) (rest : Continuation) : Type 0 where
+  pub next : Goes tree points behind.next rest
+  pub on_break : MayGo tree points behind.on_break (after_break rest)
+  pub on_continue : MayGo tree points behind.on_continue (after_continue rest)
+
+-- the names that statements are read with are those of the text and the function
+pub record IsContext (context : Context) (tree : Tree) (f : Function) : Type 0 where
+  pub names : names_of context.names.now ≡ names_in tree f
+  pub functions : map function_of context.functions.now ≡ tree.functions

@@ -1,0 +1,150 @@
+//! The points of a function while they are made.
+
+ghost use Rattle.std.specs.Prelude.{◌≡◌, ◌++◌, ◌∷◌, [], length, map, option_map, string_bytes, Option, Some, None, IfOk, OnOk, slice_set, if◌then◌else◌};
+ghost use Rattle.dcc_c.specs.Token.{same_bytes};
+ghost use Rattle.dcc_c.specs.Tree.{Word};
+ghost use Rattle.dcc_c.specs.Views.{expr_of};
+ghost use Rattle.dcc_value.specs.Resolved.{names_of};
+ghost use Rattle.dcc_prepare.specs.Points.{StandsIf, StandAll, label_named, point_named};
+ghost use Rattle.dcc_prepare.specs.Emission.{KeepNumbers};
+
+use crate::program::{Action, Label, Row};
+use dcc_c::{CExpr, Func};
+use dcc_value::expression::Resolved;
+use dcc_value::resolve::resolve;
+use dcc_value::variable::Names;
+use std::alloc::{AllocError, Global};
+
+/// The points of a function that are made so far.
+#[derive(Drop)]
+pub struct Code {
+    /// The points.
+    pub rows: Vec<Row>,
+    /// The labels.
+    pub labels: Vec<Label>,
+}
+
+/// What the statements of a function may name.
+#[derive(Clone, Copy)]
+pub struct Context<'a> {
+    /// The variables.
+    pub names: &'a Names<'a>,
+    /// The functions of the text.
+    pub functions: &'a [Func],
+}
+
+impl Code {
+    /// No point.
+    pub fn new(alloc: Global) -> Code
+        ensures rows { result.rows.items ≡ [] }
+        ensures labels { result.labels.items ≡ [] }
+    {
+        Code {
+            rows: Vec::new(alloc),
+            labels: Vec::new(alloc),
+        }
+    }
+
+    /// A further point.
+    pub fn push(&mut self, line: u32, action: Action) -> Result<usize, AllocError>
+        ensures point { IfOk result (λ at. at ≡ length self.old.rows.items) }
+        ensures rows { OnOk result (self.new.rows.items ≡ self.old.rows.items ++ record { action = action; line = line } ∷ []) }
+        ensures labels { self.new.labels ≡ self.old.labels }
+    {
+        let point = self.rows.len();
+        self.rows.push(Row { action, line })?;
+        Ok(point)
+    }
+
+    /// Puts another action at a point.
+    pub fn set(&mut self, point: usize, line: u32, action: Action)
+        ensures rows { self.new.rows.items ≡ slice_set self.old.rows.items point (record { action = action; line = line }) }
+        ensures labels { self.new.labels ≡ self.old.labels }
+    {
+        if point < self.rows.len() {
+            self.rows[point] = Row { action, line };
+        }
+    }
+
+    /// The number of the label with the name, which may be a new one.
+    pub fn label(&mut self, alloc: Global, name: &str) -> Result<usize, AllocError>
+        ensures number { IfOk result (λ number. label_named self.new.labels.items name.now ≡ Some number) }
+        ensures numbers { KeepNumbers self.old.labels.items self.new.labels.items }
+        ensures points { (word : Word) → point_named self.new.labels.items word ≡ point_named self.old.labels.items word }
+        ensures rows { self.new.rows ≡ self.old.rows }
+    {
+        match label_named(&self.labels, name) {
+            Some(number) => Ok(number),
+            None => self.add_label(alloc, name),
+        }
+    }
+
+    /// A new label, whose number is the answer.
+    fn add_label(&mut self, alloc: Global, name: &str) -> Result<usize, AllocError>
+        ensures number { label_named self.old.labels.items name.now ≡ None →
+            IfOk result (λ number. label_named self.new.labels.items name.now ≡ Some number) }
+        ensures numbers { KeepNumbers self.old.labels.items self.new.labels.items }
+        ensures points { (word : Word) → point_named self.new.labels.items word ≡ point_named self.old.labels.items word }
+        ensures rows { self.new.rows ≡ self.old.rows }
+    {
+        let number = self.labels.len();
+        let name = String::from_str(alloc, name)?;
+        self.labels.push(Label { name, point: None })?;
+        Ok(number)
+    }
+
+    /// The label with the name stands at this point.
+    pub fn place_label(&mut self, alloc: Global, name: &str, point: usize) -> Result<(), AllocError>
+        ensures numbers { KeepNumbers self.old.labels.items self.new.labels.items }
+        ensures points { (word : Word) → OnOk result (point_named self.new.labels.items word
+            ≡ (if same_bytes name.now word then Some point else point_named self.old.labels.items word)) }
+        ensures rows { self.new.rows ≡ self.old.rows }
+    {
+        let number = self.label(alloc, name)?;
+        if number < self.labels.len() {
+            self.labels[number].point = Some(point);
+        }
+        Ok(())
+    }
+}
+
+/// The number of the label with the name.
+fn label_named(labels: &[Label], name: &str) -> Option<usize>
+    ensures { result ≡ label_named labels.now name.now }
+{
+    for (i, label) in labels.iter().enumerate() {
+        if label.name.as_str() == name {
+            return Some(i);
+        }
+    }
+    None
+}
+
+/// Resolves an expression, where there is one.
+pub fn resolve_option(
+    alloc: Global,
+    names: &Names<'_>,
+    e: &Option<CExpr>,
+) -> Result<Option<Resolved>, AllocError>
+    ensures { IfOk result (λ r. StandsIf (names_of names.now) (option_map expr_of e.now) r) }
+{
+    match e {
+        Some(e) => Ok(Some(resolve(alloc, names, e)?)),
+        None => Ok(None),
+    }
+}
+
+/// Resolves expressions.
+pub fn resolve_all(
+    alloc: Global,
+    names: &Names<'_>,
+    list: &[CExpr],
+) -> Result<Vec<Resolved>, AllocError>
+    ensures { IfOk result (λ rs. StandAll (names_of names.now) (map expr_of list.now) rs.items) }
+{
+    let mut resolved = Vec::new(alloc);
+    for e in list {
+        resolved.push(resolve(alloc, names, e)?)?;
+    }
+    Ok(resolved)
+}

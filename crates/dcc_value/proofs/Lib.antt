@@ -1,0 +1,4 @@
+pub mod MemoryLaws
+pub mod NameLaws
+pub mod PlaceLaws
+pub mod StandLaws

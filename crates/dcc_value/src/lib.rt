@@ -1,0 +1,7 @@
+//! Values of a text, and expressions whose names are resolved to places of variables.
+#![tactic(auto)]
+
+pub mod expression;
+pub mod resolve;
+pub mod value;
+pub mod variable;

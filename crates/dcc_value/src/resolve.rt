@@ -1,0 +1,254 @@
+//! From the expressions of a text to resolved ones.
+
+ghost use Rattle.std.specs.Prelude.{◌≡◌, map, option_map, slice_get, IfOk};
+ghost use Rattle.dcc_c.specs.declared.syntax.CUn.TheVariants.{AddressOf};
+ghost use Rattle.dcc_c.specs.Tree.{Expr, Name, Unary, Binary};
+ghost use Rattle.dcc_c.specs.Typing.{unary_number_type, unary_type, is_comparison, is_sum, numbers_type, binary_type, arms_type, both_arms_type, type_of, type_of_name, type_of_address, declared_as};
+ghost use Rattle.dcc_c.specs.Views.{expr_of};
+ghost use Rattle.dcc_value.specs.Evaluation.{declared_of};
+ghost use Rattle.dcc_value.specs.Resolved.{Names as NamesOf, names_of, all_names, index_named, slot_named, lent_declared, Stands};
+
+use crate::expression::{Resolved, Slot};
+use crate::value::{number, plain, pointer_to, same_type, wrapped_bits};
+use crate::variable::{Declared, Names};
+use dcc_c::plain::{common_type, promoted_type};
+use dcc_c::{Base, CBin, CExpr, CType, CUn};
+use std::alloc::{AllocError, Global};
+
+/// The place of the first with the name.
+fn index_named(names: &[Declared], name: &str) -> Option<usize>
+    ensures { result ≡ index_named (map declared_of names.now) name.now }
+{
+    for (i, declared) in names.iter().enumerate() {
+        if declared.name.as_str() == name {
+            return Some(i);
+        }
+    }
+    None
+}
+
+/// The place of the variable with the name.
+fn slot_named(names: &Names<'_>, name: &str) -> Option<Slot>
+    ensures { result ≡ slot_named (names_of names.now) name.now }
+{
+    match index_named(names.locals, name) {
+        Some(i) => Some(Slot::Local(i)),
+        None => index_named(names.globals, name).map(Slot::Global),
+    }
+}
+
+/// The declaration at a place.
+fn declared_at(declared: &[Declared], i: usize) -> Option<&Declared>
+    ensures { option_map lent_declared result ≡ slice_get (map declared_of declared.now) i }
+{
+    declared.get(i)
+}
+
+/// What the name is declared as.
+fn declared_as<'a>(names: &Names<'a>, name: &str) -> Option<&'a Declared>
+    ensures { option_map lent_declared result ≡ declared_as (all_names (names_of names.now)) name.now }
+{
+    match slot_named(names, name)? {
+        Slot::Local(i) => declared_at(names.locals, i),
+        Slot::Global(i) => declared_at(names.globals, i),
+    }
+}
+
+/// The type of a name's value: that of an array is its first element's address.
+fn type_of_name(declared: &Declared) -> Option<CType>
+    ensures { result ≡ type_of_name (declared_of declared.now) }
+{
+    if !declared.is_array {
+        Some(declared.ty)
+    } else if declared.ty.pointer {
+        None
+    } else {
+        Some(pointer_to(declared.ty.base))
+    }
+}
+
+/// The type of a name's address: the name has one, and is no array and no pointer.
+fn type_of_address(declared: &Declared) -> Option<CType>
+    ensures { result ≡ type_of_address (declared_of declared.now) }
+{
+    if declared.is_placed && !declared.is_array && !declared.ty.pointer {
+        Some(pointer_to(declared.ty.base))
+    } else {
+        None
+    }
+}
+
+/// The type of a unary operator: `*` takes a pointer, and the others a number.
+fn unary_type(operator: CUn, a: CType) -> Option<CType>
+    ensures { result ≡ unary_type operator a }
+{
+    match operator {
+        CUn::Deref if a.pointer => Some(plain(a.base)),
+        CUn::Minus | CUn::Complement if !a.pointer => Some(plain(promoted_type(a.base))),
+        CUn::Not if !a.pointer => Some(plain(Base::Int)),
+        _ => None,
+    }
+}
+
+/// Whether the operator compares.
+fn is_comparison(operator: CBin) -> bool
+    ensures { result ≡ is_comparison operator }
+{
+    matches!(
+        operator,
+        CBin::Eq | CBin::Ne | CBin::Lt | CBin::Le | CBin::Gt | CBin::Ge
+    )
+}
+
+/// Whether the operator is a sum or a difference.
+fn is_sum(operator: CBin) -> bool
+    ensures { result ≡ is_sum operator }
+{
+    matches!(operator, CBin::Add | CBin::Sub)
+}
+
+/// The type of an operator on two numbers: a truth value, the promoted left type, or the common type.
+fn numbers_type(operator: CBin, a: Base, b: Base) -> Base
+    ensures { result ≡ numbers_type operator a b }
+{
+    match operator {
+        CBin::OrOr | CBin::AndAnd => Base::Int,
+        CBin::Shl | CBin::Shr => promoted_type(a),
+        _ if is_comparison(operator) => Base::Int,
+        _ => common_type(a, b),
+    }
+}
+
+/// The type of a binary operator: on two numbers, on a pointer and a number that moves it, or on two pointers of one
+/// type that are compared.
+fn binary_type(operator: CBin, a: CType, b: CType) -> Option<CType>
+    ensures { result ≡ binary_type operator a b }
+{
+    match (a.pointer, b.pointer) {
+        (false, false) => Some(plain(numbers_type(operator, a.base, b.base))),
+        (false, true) => None,
+        (true, false) if is_sum(operator) => Some(a),
+        (true, true) if is_comparison(operator) && same_type(a, b) => Some(plain(Base::Int)),
+        _ => None,
+    }
+}
+
+/// The type of `?:`, by those of its last two operands: the common type of two numbers, or one type of pointers.
+fn arms_type(a: CType, b: CType) -> Option<CType>
+    ensures { result ≡ arms_type a b }
+{
+    match (a.pointer, b.pointer) {
+        (false, false) => Some(plain(common_type(a.base, b.base))),
+        (true, _) if same_type(a, b) => Some(a),
+        _ => None,
+    }
+}
+
+/// The type of an expression, or none where a name is not declared or an operand not allowed.
+pub fn type_of(names: &Names<'_>, e: &CExpr) -> Option<CType>
+    ensures { result ≡ type_of (all_names (names_of names.now)) (expr_of e.now) }
+{
+    match e {
+        CExpr::Num(_, base) => Some(plain(*base)),
+        CExpr::Name(name) => type_of_name(declared_as(names, name.as_str())?),
+        CExpr::Un(CUn::AddressOf, a) => match &**a {
+            CExpr::Name(name) => type_of_address(declared_as(names, name.as_str())?),
+            _ => None,
+        },
+        CExpr::Un(operator, a) => unary_type(*operator, type_of(names, a)?),
+        CExpr::Bin(operator, a, b) => {
+            binary_type(*operator, type_of(names, a)?, type_of(names, b)?)
+        }
+        CExpr::Cond(a, b, c) => {
+            let test = type_of(names, a)?;
+            if test.pointer {
+                return None;
+            }
+            arms_type(type_of(names, b)?, type_of(names, c)?)
+        }
+        CExpr::Cast(ty, a) => {
+            type_of(names, a)?;
+            Some(*ty)
+        }
+    }
+}
+
+/// The type of `?:` by its last two operands, where they have one.
+fn type_of_arms(names: &Names<'_>, b: &CExpr, c: &CExpr) -> Option<CType>
+    ensures { result ≡ both_arms_type (type_of (all_names (names_of names.now)) (expr_of b.now)) (type_of (all_names (names_of names.now)) (expr_of c.now)) }
+{
+    arms_type(type_of(names, b)?, type_of(names, c)?)
+}
+
+/// The value of a variable.
+fn resolve_name(names: &Names<'_>, name: &str) -> Resolved
+    ensures { Stands (names_of names.now) (Name name.now) result }
+{
+    match slot_named(names, name) {
+        Some(slot) => Resolved::Variable(slot),
+        None => Resolved::Meaningless,
+    }
+}
+
+/// `&` of an expression: only a variable has an address.
+fn resolve_address(names: &Names<'_>, a: &CExpr) -> Resolved
+    ensures { Stands (names_of names.now) (Unary AddressOf (expr_of a.now)) result }
+{
+    match a {
+        CExpr::Name(name) => match slot_named(names, name.as_str()) {
+            Some(slot) => Resolved::AddressOf(slot),
+            None => Resolved::Meaningless,
+        },
+        _ => Resolved::Meaningless,
+    }
+}
+
+/// A binary operator on resolved operands.
+fn resolve_binary(operator: CBin, left: Box<Resolved>, right: Box<Resolved>) -> Resolved
+    ensures { (names : NamesOf) (a b : Expr) → Stands names a left.value → Stands names b right.value →
+        Stands names (Binary operator a b) result }
+{
+    match operator {
+        CBin::OrOr => Resolved::Either(left, right),
+        CBin::AndAnd => Resolved::Both(left, right),
+        _ => Resolved::Binary(operator, left, right),
+    }
+}
+
+/// The expression with its names resolved; one that is not declared has no meaning.
+pub fn resolve(alloc: Global, names: &Names<'_>, e: &CExpr) -> Result<Resolved, AllocError>
+    ensures { IfOk result (λ r. Stands (names_of names.now) (expr_of e.now) r) }
+{
+    match e {
+        CExpr::Num(n, base) => Ok(Resolved::Constant(number(
+            *base,
+            wrapped_bits(*base, u64::from(*n)),
+        ))),
+        CExpr::Name(name) => Ok(resolve_name(names, name.as_str())),
+        CExpr::Un(CUn::AddressOf, a) => Ok(resolve_address(names, a)),
+        CExpr::Un(CUn::Deref, a) => {
+            let address = Box::new(alloc, resolve(alloc, names, a)?)?;
+            Ok(Resolved::Load(address))
+        }
+        CExpr::Un(operator, a) => {
+            let operand = Box::new(alloc, resolve(alloc, names, a)?)?;
+            Ok(Resolved::Unary(*operator, operand))
+        }
+        CExpr::Bin(operator, a, b) => {
+            let left = Box::new(alloc, resolve(alloc, names, a)?)?;
+            let right = Box::new(alloc, resolve(alloc, names, b)?)?;
+            Ok(resolve_binary(*operator, left, right))
+        }
+        CExpr::Cond(a, b, c) => {
+            let ty = type_of_arms(names, b, c);
+            let test = Box::new(alloc, resolve(alloc, names, a)?)?;
+            let first = Box::new(alloc, resolve(alloc, names, b)?)?;
+            let second = Box::new(alloc, resolve(alloc, names, c)?)?;
+            Ok(Resolved::Choose(ty, test, first, second))
+        }
+        CExpr::Cast(ty, a) => {
+            let operand = Box::new(alloc, resolve(alloc, names, a)?)?;
+            Ok(Resolved::Cast(*ty, operand))
+        }
+    }
+}

@@ -1,0 +1,244 @@
+//! Values of expressions, and the operators on them.
+
+ghost use Rattle.std.specs.Prelude.{◌≡◌, ◌^◌, ◌<◌};
+ghost use Rattle.dcc_c.specs.Types.{bits_of, plain, same_type, number_of_type, size_of};
+ghost use Rattle.dcc_c.specs.Value.{number, truth, is_zero, converted, unary_number, unary_value, compared, binary_value, numbers_value, moved, both_values, truth_value};
+ghost use Rattle.dcc_value.specs.Evaluation.{typed, outcome_of};
+
+use dcc_c::plain::{bits_of, common_type, convert, promoted_type};
+use dcc_c::{Base, CBin, CType, CUn};
+
+pub mod memory;
+mod patterns;
+
+pub use patterns::wrapped_bits;
+use patterns::{
+    complement, difference, division_faults, extended_bits, is_less, negated, quotient, remainder,
+    shifted_left, shifted_right,
+};
+
+/// A number or an address with its type; `bits` is its pattern in two's complement.
+#[derive(Clone, Copy, PartialEq, Eq, Debug)]
+pub struct Value {
+    /// Its type.
+    pub ty: CType,
+    /// Its bits.
+    pub bits: u32,
+}
+
+/// Why an evaluation gives nothing.
+#[derive(Clone, Copy, PartialEq, Eq, Debug)]
+pub enum NoValue {
+    /// A division faults.
+    Divides,
+    /// A name or an operand is not allowed.
+    Undefined,
+}
+
+/// A number type as the type of a value.
+pub fn plain(base: Base) -> CType
+    ensures { result ≡ plain base }
+{
+    CType {
+        base,
+        pointer: false,
+    }
+}
+
+/// The type of addresses of numbers of this type.
+pub fn pointer_to(base: Base) -> CType
+    ensures { result ≡ Rattle.dcc_c.specs.Types.pointer_to base }
+{
+    CType {
+        base,
+        pointer: true,
+    }
+}
+
+/// The place of a number type in their list.
+fn place_of(base: Base) -> u8
+    ensures { result ≡ Rattle.dcc_c.specs.Types.place_of base }
+{
+    match base {
+        Base::Schar => 0,
+        Base::Uchar => 1,
+        Base::Int => 2,
+        Base::Uint => 3,
+        Base::Long => 4,
+        Base::Ulong => 5,
+    }
+}
+
+/// Whether the two are one type.
+pub fn same_type(a: CType, b: CType) -> bool
+    ensures { result ≡ same_type a b }
+{
+    place_of(a.base) == place_of(b.base) && a.pointer == b.pointer
+}
+
+/// The number type whose bits a value of the type has.
+fn number_of_type(ty: CType) -> Base
+    ensures { result ≡ number_of_type ty }
+{
+    if ty.pointer { Base::Uint } else { ty.base }
+}
+
+/// How many bytes of memory a value of the type takes.
+pub fn size_of(ty: CType) -> u32
+    ensures value { result ≡ size_of ty }
+    ensures within { result < 5 }
+{
+    bits_of(number_of_type(ty)) / 8
+}
+
+/// A number with its type.
+pub fn number(base: Base, bits: u32) -> Value
+    ensures { typed result ≡ number base bits }
+{
+    Value {
+        ty: plain(base),
+        bits,
+    }
+}
+
+/// 0 or 1.
+fn truth(b: bool) -> Value
+    ensures { typed result ≡ truth b }
+{
+    number(Base::Int, u32::from(b))
+}
+
+/// Whether the value is 0.
+pub fn is_zero(v: Value) -> bool
+    ensures { result ≡ is_zero (typed v) }
+{
+    v.bits == 0
+}
+
+/// The value converted to the type.
+pub fn converted(ty: CType, v: Value) -> Value
+    ensures { typed result ≡ converted ty (typed v) }
+{
+    Value {
+        ty,
+        bits: convert(number_of_type(v.ty), number_of_type(ty), v.bits),
+    }
+}
+
+/// A unary operator on a number of a promoted type.
+fn unary_number(operator: CUn, base: Base, n: u32) -> Result<Value, NoValue>
+    ensures { outcome_of typed result ≡ unary_number operator base n }
+{
+    match operator {
+        CUn::Minus => Ok(number(base, negated(base, n))),
+        CUn::Complement => Ok(number(base, complement(base, n))),
+        CUn::Not => Ok(truth(n == 0)),
+        CUn::Deref | CUn::AddressOf => Err(NoValue::Undefined),
+    }
+}
+
+/// A unary operator on a number, which is promoted.
+pub fn unary_value(operator: CUn, v: Value) -> Result<Value, NoValue>
+    ensures { outcome_of typed result ≡ unary_value operator (typed v) }
+{
+    if v.ty.pointer {
+        return Err(NoValue::Undefined);
+    }
+    let base = promoted_type(v.ty.base);
+    unary_number(operator, base, convert(v.ty.base, base, v.bits))
+}
+
+/// The truth of a comparison of two numbers of one type.
+fn compared(operator: CBin, base: Base, a: u32, b: u32) -> Result<Value, NoValue>
+    ensures { outcome_of typed result ≡ compared operator base a b }
+{
+    let holds = match operator {
+        CBin::Eq => a == b,
+        CBin::Ne => a != b,
+        CBin::Lt => is_less(base, a, b),
+        CBin::Le => !is_less(base, b, a),
+        CBin::Gt => is_less(base, b, a),
+        CBin::Ge => !is_less(base, a, b),
+        _ => return Err(NoValue::Undefined),
+    };
+    Ok(truth(holds))
+}
+
+/// An operator on two numbers of one type.
+fn binary_value(operator: CBin, base: Base, a: u32, b: u32) -> Result<Value, NoValue>
+    requires { b < 2 ^ bits_of base }
+    ensures { outcome_of typed result ≡ binary_value operator base a b }
+{
+    let bits = match operator {
+        CBin::Or => a | b,
+        CBin::Xor => a ^ b,
+        CBin::And => a & b,
+        CBin::Add => wrapped_bits(base, u64::from(a) + u64::from(b)),
+        CBin::Sub => difference(base, a, b),
+        CBin::Mul => wrapped_bits(base, u64::from(a) * u64::from(b)),
+        CBin::Div | CBin::Rem if division_faults(base, a, b) => return Err(NoValue::Divides),
+        CBin::Div => quotient(base, a, b),
+        CBin::Rem => remainder(base, a, b),
+        _ => return compared(operator, base, a, b),
+    };
+    Ok(number(base, bits))
+}
+
+/// An operator on two numbers: both are converted to their common type, but for a shift, whose left one is promoted.
+fn numbers_value(operator: CBin, a: Base, m: u32, b: Base, n: u32) -> Result<Value, NoValue>
+    ensures { outcome_of typed result ≡ numbers_value operator a m b n }
+{
+    let promoted = promoted_type(a);
+    let left = convert(a, promoted, m);
+    match operator {
+        CBin::Shl => Ok(number(promoted, shifted_left(promoted, left, b, n))),
+        CBin::Shr => Ok(number(promoted, shifted_right(promoted, left, b, n))),
+        _ => {
+            let common = common_type(a, b);
+            binary_value(
+                operator,
+                common,
+                convert(a, common, m),
+                convert(b, common, n),
+            )
+        }
+    }
+}
+
+/// A pointer moved by so many elements, modulo 65536.
+fn moved(operator: CBin, ty: CType, at: u32, b: Base, n: u32) -> Result<Value, NoValue>
+    ensures { outcome_of typed result ≡ moved operator ty at b n }
+{
+    let elements = match operator {
+        CBin::Add => extended_bits(b, n),
+        CBin::Sub => 0x1_0000_0000_u64.saturating_sub(extended_bits(b, n)),
+        _ => return Err(NoValue::Undefined),
+    };
+    let size = u64::from(size_of(plain(ty.base)));
+    Ok(Value {
+        ty,
+        bits: ((u64::from(at) + size * elements) % 65_536) as u32,
+    })
+}
+
+/// An operator on two values: a pointer is moved by a number, or compared with a pointer of its type.
+pub fn both_values(operator: CBin, a: Value, b: Value) -> Result<Value, NoValue>
+    ensures { outcome_of typed result ≡ both_values operator (typed a) (typed b) }
+{
+    match (a.ty.pointer, b.ty.pointer) {
+        (false, false) => numbers_value(operator, a.ty.base, a.bits, b.ty.base, b.bits),
+        (true, false) => moved(operator, a.ty, a.bits, b.ty.base, b.bits),
+        (true, true) if same_type(a.ty, b.ty) => compared(operator, Base::Uint, a.bits, b.bits),
+        _ => Err(NoValue::Undefined),
+    }
+}
+
+/// The truth of a number.
+pub fn truth_value(v: Value) -> Result<Value, NoValue>
+    ensures { outcome_of typed result ≡ truth_value (typed v) }
+{
+    if v.ty.pointer {
+        return Err(NoValue::Undefined);
+    }
+    Ok(truth(v.bits != 0))
+}

@@ -1,0 +1,107 @@
+//! Variables, and what expressions are evaluated over.
+
+ghost use Rattle.std.specs.Prelude.{◌≡◌};
+ghost use Rattle.dcc_c.specs.Types.{pointer_to};
+ghost use Rattle.dcc_c.specs.Value.{variable_value, address_value, pointed_value};
+ghost use Rattle.dcc_value.specs.Evaluation.{typed, outcome_of, unnamed};
+
+use crate::value::memory::loaded;
+use crate::value::{NoValue, Value, plain, pointer_to};
+use dcc_c::CType;
+
+/// How a variable is kept.
+#[derive(Clone, Copy, PartialEq, Eq, Debug)]
+pub enum Storage {
+    /// By itself, with these bits.
+    Unplaced(u32),
+    /// In memory, from this address on.
+    PlacedAt(u32),
+}
+
+/// A variable with its storage; the type is that of its elements where it is an array.
+#[derive(Clone, Copy, PartialEq, Eq, Debug)]
+pub struct Binding {
+    /// Its type.
+    pub ty: CType,
+    /// Whether it is an array.
+    pub is_array: bool,
+    /// How it is kept.
+    pub storage: Storage,
+}
+
+/// What a name is declared as.
+#[derive(Drop)]
+pub struct Declared {
+    /// The name.
+    pub name: String,
+    /// Its type, or that of its elements where it is an array.
+    pub ty: CType,
+    /// Whether it is an array.
+    pub is_array: bool,
+    /// Whether it has an address.
+    pub is_placed: bool,
+}
+
+/// The names that the expressions of a function may use.
+#[derive(Clone, Copy)]
+pub struct Names<'a> {
+    /// Its parameters and then its local variables, the first of which with a name counts.
+    pub locals: &'a [Declared],
+    /// The global variables.
+    pub globals: &'a [Declared],
+}
+
+/// What expressions are evaluated over.
+#[derive(Clone, Copy)]
+pub struct Scene<'a> {
+    /// The variables of the call: its parameters and then its local variables.
+    pub frame: &'a [Binding],
+    /// The global variables.
+    pub globals: &'a [Binding],
+    /// 65,536 bytes.
+    pub memory: &'a [u8],
+}
+
+/// The value of a variable: for an array the address of its first element.
+pub fn variable_value(memory: &[u8], b: Binding) -> Result<Value, NoValue>
+    ensures { outcome_of typed result ≡ variable_value memory.now (unnamed b) }
+{
+    match b.storage {
+        Storage::PlacedAt(at) if b.is_array => {
+            if b.ty.pointer {
+                Err(NoValue::Undefined)
+            } else {
+                Ok(Value {
+                    ty: pointer_to(b.ty.base),
+                    bits: at,
+                })
+            }
+        }
+        Storage::PlacedAt(at) => Ok(loaded(memory, b.ty, at)),
+        Storage::Unplaced(_) if b.is_array => Err(NoValue::Undefined),
+        Storage::Unplaced(bits) => Ok(Value { ty: b.ty, bits }),
+    }
+}
+
+/// The address of a variable that is no array and no pointer.
+pub fn address_value(b: Binding) -> Result<Value, NoValue>
+    ensures { outcome_of typed result ≡ address_value (unnamed b) }
+{
+    match b.storage {
+        Storage::PlacedAt(at) if !b.is_array && !b.ty.pointer => Ok(Value {
+            ty: pointer_to(b.ty.base),
+            bits: at,
+        }),
+        _ => Err(NoValue::Undefined),
+    }
+}
+
+/// What stands at an address.
+pub fn pointed_value(memory: &[u8], v: Value) -> Result<Value, NoValue>
+    ensures { outcome_of typed result ≡ pointed_value memory.now (typed v) }
+{
+    if !v.ty.pointer {
+        return Err(NoValue::Undefined);
+    }
+    Ok(loaded(memory, plain(v.ty.base), v.bits))
+}
