@@ -72,10 +72,6 @@ lines-none n around labelled leaves r failed within begins fails =
     ∙ sym (if-false (s.begins_stmt (next_token r)) _ _ begins)
     ∙ ap (λ k. s.read_lines k around labelled leaves r) (counted n within)
 
-pub lines-zero : (n : ℕ) (around : Around) (labelled leaves : Bool) (r : Reader) → n ≡ 0 →
-    got (s.block_of no_rows leaves) r ≡ s.read_lines n around labelled leaves r
-lines-zero n around labelled leaves r none = ap (λ k. s.read_lines k around labelled leaves r) (sym none)
-
 pub lines-one : (n : ℕ) (around : Around) (labelled leaves : Bool) (r : Reader) → n ≡ 1 → s.begins_stmt (next_token r) ≡ true →
     got (s.block_of no_rows false) r ≡ s.read_lines n around labelled leaves r
 lines-one n around labelled leaves r one begins =

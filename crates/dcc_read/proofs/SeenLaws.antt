@@ -22,10 +22,6 @@ token-head place_line None e = absurd (false≢true e)
 token-head depth_line None e = absurd (false≢true e)
 token-head head (Some t) e = refl
 
-token-name : (token : Option Token) → is_some (name_of token) ≡ true → is_some token ≡ true
-token-name None e = absurd (false≢true e)
-token-name (Some t) e = refl
-
 pub mark-seen : (bytes : List ℕ) (r : Reader) → sees_mark bytes r ≡ true → is_some (next_token r) ≡ true
 mark-seen bytes r e = token-mark bytes (next_token r) e
 
@@ -34,9 +30,6 @@ word-seen bytes r e = token-word bytes (next_token r) e
 
 pub head-seen : (head : Head) (r : Reader) → sees_head head r ≡ true → is_some (next_token r) ≡ true
 head-seen head r e = token-head head (next_token r) e
-
-pub name-seen : (r : Reader) → is_some (name_of (next_token r)) ≡ true → is_some (next_token r) ≡ true
-name-seen r e = token-name (next_token r) e
 
 -- both tests hold
 pub both-first : (a b : Bool) → (a && b) ≡ true → a ≡ true
