@@ -3,10 +3,11 @@
 
 bench/both_sides.py [COUNT [SEED]]
 
-Each random program has the built forms, with jumps to their instructions; about a third have other forms too, and are
-refused. The commands are called in one program, run unproved by `rt try` from a copy of the crates, on a random input
-and with the fills 0 and 65535. The one output begins the other; where the executable ends, the text ends alike, and
-where it goes on, the text has put out as much in forty times as many steps.
+Random programs are drawn until COUNT have a text. Each has the built forms, with jumps to their instructions; about a
+third have other forms too, and are refused. The commands are called in one program, run unproved by `rt try` from a copy
+of the crates, on a random input and with the fills 0 and 65535. Where the executable ends, the text ends alike behind the
+same output; where it goes on after 3,000 steps, the text has put out as much after 120,000, and where the text has ended
+by then, the executable ends alike in 10,000,000 steps.
 Prints each program whose text differs; the status is 1 if there is one.
 """
 import pathlib
@@ -58,12 +59,21 @@ fn answer(alloc: Global, words: &[&str], file: &[u8], input: &[u8]) -> Result<An
     })
 }
 
-fn agree(machine: &Answer, text: &Answer) -> bool {
-    let (a, b) = (machine.out.as_slice(), text.out.as_slice());
-    if machine.status == 20 {
-        return b.starts_with(a);
+fn same(machine: &Answer, text: &Answer) -> bool {
+    machine.status == text.status
+        && machine.out.as_slice() == text.out.as_slice()
+        && machine.err.as_slice() == text.err.as_slice()
+}
+
+fn agree(alloc: Global, file: &[u8], input: &[u8], machine: &Answer, text: &Answer) -> Result<bool, Error> {
+    if machine.status != 20 {
+        return Ok(same(machine, text));
     }
-    machine.status == text.status && a == b && machine.err.as_slice() == text.err.as_slice()
+    if text.status == 20 {
+        return Ok(text.out.as_slice().starts_with(machine.out.as_slice()));
+    }
+    let longer = answer(alloc, &["run", "F", "--steps", "10000000"], file, input)?;
+    Ok(same(&longer, text))
 }
 
 fn main(rt: HostRuntime) -> Result<(), Error> {
@@ -84,7 +94,7 @@ fn main(rt: HostRuntime) -> Result<(), Error> {
             &text.out,
             &input,
         )?;
-        if agree(&machine, &zeros) && agree(&machine, &ones) {
+        if agree(alloc, &file, &input, &machine, &zeros)? && agree(alloc, &file, &input, &machine, &ones)? {
             println!(rt; "agree {}", machine.status)?;
         } else {
             println!(rt; "differ {} {} {}", machine.status, zeros.status, ones.status)?;
@@ -95,9 +105,8 @@ fn main(rt: HostRuntime) -> Result<(), Error> {
 """
 
 
-def main():
-    count = int(sys.argv[1]) if len(sys.argv) > 1 else 1000
-    draw = random.Random(int(sys.argv[2]) if len(sys.argv) > 2 else 1)
+def compared(draw, count):
+    """The codes of so many random programs, and the line of each."""
     programs = [code_of(draw) for _ in range(count)]
     with tempfile.TemporaryDirectory() as name:
         folder = pathlib.Path(name)
@@ -106,12 +115,22 @@ def main():
             path.write_bytes(file_of(code))
             pathlib.Path(f"{path}.in").write_bytes(bytes(draw.randrange(256) for _ in range(draw.randrange(12))))
         lines = tried(folder, "both_show", SHOW, DEPENDENCIES, paths, ("agree", "differ", "refused"))
+    return list(zip(programs, lines))
+
+
+def main():
+    count = int(sys.argv[1]) if len(sys.argv) > 1 else 1000
+    draw = random.Random(int(sys.argv[2]) if len(sys.argv) > 2 else 1)
+    pairs = []
+    while sum(not line.startswith("refused") for _, line in pairs) < count:
+        pairs += compared(draw, count)
     faults = 0
-    for code, line in zip(programs, lines):
+    for code, line in pairs:
         if line.startswith("differ"):
             faults += 1
             print(f"{code.hex(' ')}: {line}")
-    print(f"{count} programs, {faults} faults;", ", ".join(f"{n} {k}" for k, n in sorted(Counter(lines).items())))
+    counts = Counter(line for _, line in pairs)
+    print(f"{len(pairs)} programs, {faults} faults;", ", ".join(f"{n} {k}" for k, n in sorted(counts.items())))
     sys.exit(1 if faults else 0)
 
 
