@@ -1,4 +1,4 @@
-//! From what has been read of a text to its unit. A text in which nothing offends has been read whole.
+//! From what has been read of expressions and statements to their trees, without places.
 
 ghost use Rattle.std.specs.Prelude.{◌≡◌, ℕ, [], false, IfOk, map, string_bytes};
 ghost use Rattle.std.specs.Option.{option_map};

@@ -1,4 +1,4 @@
-//! From what has been read of declarations and of a whole text to the text's unit.
+//! From what has been read of declarations and of a whole text to the unit of the text.
 
 ghost use Rattle.std.specs.Prelude.{◌≡◌, ◌≤◌, ℕ, [], true, IfOk, map};
 ghost use Rattle.std.specs.Option.{option_map};
