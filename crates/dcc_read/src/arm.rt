@@ -1,6 +1,6 @@
 //! Reading what the arms of a `switch` begin with.
 
-ghost use Rattle.std.specs.Prelude.{◌≡◌, IfOk, true, is_some, map};
+ghost use Rattle.std.specs.Prelude.{◌≡◌, IfOk, true, is_some, map, option_to_list};
 ghost use Rattle.std.specs.Option.{option_map};
 ghost use Rattle.dcc_c.specs.Reading as reading;
 ghost use Rattle.dcc_c.specs.ReadingStatements as statements;
