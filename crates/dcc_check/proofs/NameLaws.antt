@@ -15,7 +15,7 @@ use Rattle.dcc_c.specs.Grammar.{is_among}
 use Rattle.dcc_c.specs.Offences.{repeated}
 use Rattle.dcc_c.specs.TextOffences.{words_of}
 use Rattle.dcc_c.proofs.refusals.FirstRules.{first-append}
-use Rattle.dcc_read.specs.declared.partial.WordAt.{WordAt}
+use Rattle.dcc_reader.specs.declared.partial.WordAt.{WordAt}
 use Rattle.dcc_check.specs.Names.{lent_names}
 use Rattle.dcc_check.specs.Scenes.{holds}
 

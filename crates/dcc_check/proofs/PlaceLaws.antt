@@ -5,9 +5,9 @@ use Rattle.std.specs.List.{list_all, list_any}
 use Rattle.std.proofs.lemmas.List.{at_drop_more, drop-map, take_more, map-append}
 use Rattle.dcc_c.specs.Kinds.{Offence, of_place, offence, first_behind}
 use Rattle.dcc_c.proofs.refusals.FirstRules.{first-append}
-use Rattle.dcc_read.specs.declared.partial.PartialVariable as declared
-use Rattle.dcc_read.specs.declared.partial.NumberAt as declared-number
-use Rattle.dcc_read.specs.PartialViews.{variable_of, number_of}
+use Rattle.dcc_reader.specs.declared.partial.PartialVariable as declared
+use Rattle.dcc_reader.specs.declared.partial.NumberAt as declared-number
+use Rattle.dcc_reader.specs.PartialViews.{variable_of, number_of}
 use Rattle.std.proofs.lemmas.Bool.Decides.{nat_tests}
 use Rattle.dcc_c.specs.Partial.{PartialVariable}
 use Rattle.dcc_c.specs.ReadingText.{size_in_bytes}

@@ -7,8 +7,8 @@ use Rattle.dcc_c.specs.Kinds.{of_type, Offence, offence, only_if, first_behind}
 use Rattle.dcc_c.specs.Partial.{PartialExpr, UnaryHere, place_of}
 use Rattle.dcc_c.specs.Typing.{Declared, unary_type, type_of_address}
 use Rattle.dcc_c.specs.Offences.{Scene, told_type, operand_of_address, expr_offences, unary_offences, address_offences, place_offences}
-use Rattle.dcc_read.specs.declared.partial.PartialExpr.{PartialExpr as Read, Missing, Number, Name, Unary', Binary', Conditional', Cast'}
-use Rattle.dcc_read.specs.PartialViews.{expr_of}
+use Rattle.dcc_reader.specs.declared.partial.PartialExpr.{PartialExpr as Read, Missing, Number, Name, Unary', Binary', Conditional', Cast'}
+use Rattle.dcc_reader.specs.PartialViews.{expr_of}
 use Rattle.dcc_check.specs.Operands.{operand, target}
 use Rattle.dcc_c.proofs.refusals.FirstRules.{first-append}
 

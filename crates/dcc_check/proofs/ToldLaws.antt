@@ -4,8 +4,8 @@ use Rattle.std.specs.Prelude.{if◌then◌else◌}
 use Rattle.std.proofs.lemmas.Bool.Decides.{nat_tests}
 use Rattle.std.proofs.lemmas.List.{at_drop_more, append-nil}
 use Rattle.dcc_c.specs.TextOffences.{Whole, stop_offences, function_offences, functions_offences}
-use Rattle.dcc_read.specs.declared.partial.PartialFunction.{PartialFunction}
-use Rattle.dcc_read.specs.PartialViews.{function_of}
+use Rattle.dcc_reader.specs.declared.partial.PartialFunction.{PartialFunction}
+use Rattle.dcc_reader.specs.PartialViews.{function_of}
 use Rattle.dcc_c.specs.Kinds.{Offence, first_behind}
 use Rattle.dcc_c.proofs.refusals.FirstRules.{first-append}
 

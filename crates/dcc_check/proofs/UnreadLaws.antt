@@ -12,8 +12,8 @@ use Rattle.dcc_c.specs.Reading.{first_token}
 use Rattle.dcc_c.specs.Tree.{Word}
 use Rattle.dcc_lex.specs.declared.token.Piece.{Piece}
 use Rattle.dcc_lex.specs.TokenViews.{piece_of, pieces_of}
-use Rattle.dcc_read.specs.declared.partial.PartialFunction.{PartialFunction}
-use Rattle.dcc_read.specs.PartialViews.{function_of, word_of}
+use Rattle.dcc_reader.specs.declared.partial.PartialFunction.{PartialFunction}
+use Rattle.dcc_reader.specs.PartialViews.{function_of, word_of}
 use Rattle.dcc_check.proofs.SetLaws.{among-append}
 
 known_functions-append : (xs ys : List partial.PartialFunction) → known_functions (xs ++ ys) ≡ known_functions xs ++ known_functions ys

@@ -1,8 +1,8 @@
 -- The function whose head some pieces begin with.
 use Rattle.std.specs.Prelude.{◌≡◌, List, [], ◌∷◌, Option, Some, None}
 use Rattle.dcc_c.specs.Known.{Known, known_of}
-use Rattle.dcc_read.specs.declared.partial.PartialFunction.{PartialFunction}
-use Rattle.dcc_read.specs.PartialViews.{function_of}
+use Rattle.dcc_reader.specs.declared.partial.PartialFunction.{PartialFunction}
+use Rattle.dcc_reader.specs.PartialViews.{function_of}
 
 -- there is none, or the whole text knows this one
 abbrev pub IsHead : Option PartialFunction → List Known → Type 0

@@ -1,5 +1,5 @@
 -- What the declared scene says of a function's body.
-use Rattle.std.specs.Prelude.{◌≡◌, ℕ, Bool, List, [], Option, Some, None, option_map}
+use Rattle.std.specs.Prelude.{◌≡◌, ℕ, Bool, List, Option, Some, None, option_map}
 use Rattle.std.specs.BTreeMap.{BTreeMap, get_by}
 use Rattle.std.specs.BTreeSet as set
 use Rattle.std.specs.Cmp.Lexicographic.{slice_cmp}
@@ -11,17 +11,10 @@ use Rattle.dcc_c.specs.Dos as dos
 use Rattle.dcc_c.specs.Known.{Known, known_as}
 use Rattle.dcc_c.specs.Grammar.{is_among}
 use Rattle.dcc_c.specs.Offences as offences
-use Rattle.dcc_check.specs.declared.scene.Declared.{Declared}
+use Rattle.dcc_types.specs.declared.names.Declared.{Declared}
+use Rattle.dcc_types.specs.NameViews.{unnamed}
 use Rattle.dcc_check.specs.declared.scene.Signature.{Signature}
 use Rattle.dcc_check.specs.declared.scene.Scene.{Scene}
-
--- a declaration without its name
-abbrev pub unnamed : typing.Declared → Declared
-unnamed d = record { ty = d.type; is_array = d.is_array; is_placed = d.is_placed }
-
--- a declaration of no name
-abbrev pub nameless : Declared → typing.Declared
-nameless d = record { name = []; type = d.ty; is_array = d.is_array; is_placed = d.is_placed }
 
 abbrev pub signature_of : Signature → dos.Signature
 signature_of s = record { result = s.result; params = s.params.items }

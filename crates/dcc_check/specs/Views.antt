@@ -4,9 +4,9 @@ use Rattle.std.specs.Option.{option_map}
 use denote.Ref.{Bor}
 use Rattle.dcc_c.specs.Kinds as kinds
 use Rattle.dcc_c.specs.Partial as partial
-use Rattle.dcc_read.specs.declared.partial.WordAt.{WordAt}
-use Rattle.dcc_read.specs.OffenceViews.{offence_of}
-use Rattle.dcc_read.specs.PartialViews.{word_of}
+use Rattle.dcc_reader.specs.declared.partial.WordAt.{WordAt}
+use Rattle.dcc_reader.specs.OffenceViews.{offence_of}
+use Rattle.dcc_reader.specs.PartialViews.{word_of}
 use Rattle.dcc_check.specs.declared.first.First.{First}
 
 -- the first of the offences that have been told

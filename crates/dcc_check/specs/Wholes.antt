@@ -10,7 +10,8 @@ use Rattle.dcc_c.specs.Tree.{Word}
 use Rattle.dcc_c.specs.Typing as typing
 use Rattle.dcc_check.specs.declared.text.Whole.{Whole}
 use Rattle.dcc_check.specs.Declarations.{held_head}
-use Rattle.dcc_check.specs.Scenes.{holds, held, unnamed, head_of}
+use Rattle.dcc_types.specs.NameViews.{unnamed}
+use Rattle.dcc_check.specs.Scenes.{holds, held, head_of}
 
 -- the declared knowledge is what the whole text knows, but for the labels
 pub record IsWhole (whole : Whole) (w : offences.Whole) : Type 0 where

@@ -4,7 +4,7 @@ ghost use Rattle.std.specs.Prelude.{◌≡◌, ℕ, ◌-◌, OnOk};
 ghost use Rattle.dcc_c.specs.Kinds.{first_behind};
 ghost use Rattle.dcc_c.specs.Offences as offences;
 ghost use Rattle.dcc_c.specs.Offences.{lines_offences, inner_offences, arms_inner};
-ghost use Rattle.dcc_read.specs.PartialViews.{stmt_of, lines_of, arms_of};
+ghost use Rattle.dcc_reader.specs.PartialViews.{stmt_of, lines_of, arms_of};
 ghost use Rattle.dcc_check.specs.Views.{told};
 ghost use Rattle.dcc_check.specs.Scenes.{IsScene};
 
@@ -12,7 +12,7 @@ use crate::check_case::{check_cases, check_defaults};
 use crate::check_statement::check_own;
 use crate::first::First;
 use crate::scene::Scene;
-use dcc_read::{ParseKind, PartialArm, PartialStmt, Row};
+use dcc_reader::{ParseKind, PartialArm, PartialStmt, Row};
 use std::alloc::{AllocError, Global};
 
 /// How many blocks may stand one inside the other, with the body of the function.

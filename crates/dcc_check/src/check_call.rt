@@ -5,7 +5,7 @@ ghost use Rattle.dcc_c.specs.Kinds.{first_behind};
 ghost use Rattle.dcc_c.specs.Offences as offences;
 ghost use Rattle.dcc_c.specs.Offences.{arguments_inner, arguments_become, count_read, count_offends, result_offences, signature_offences, callee_offences, place_if, call_offences};
 ghost use Rattle.dcc_c.specs.Partial as partial;
-ghost use Rattle.dcc_read.specs.PartialViews.{expr_of, word_of, call_of};
+ghost use Rattle.dcc_reader.specs.PartialViews.{expr_of, word_of, call_of};
 ghost use Rattle.dcc_check.specs.Views.{told};
 ghost use Rattle.dcc_check.specs.Scenes.{signature_of, IsScene};
 ghost use Rattle.dcc_check.specs.Operands.{target};
@@ -15,7 +15,7 @@ use crate::first::First;
 use crate::operand::{Operand, check_becomes, check_conversion};
 use crate::scene::{Scene, Signature};
 use dcc_c::CType;
-use dcc_read::{ParseKind, PartialCall, PartialExpr, WordAt};
+use dcc_reader::{ParseKind, PartialCall, PartialExpr, WordAt};
 
 /// Tells what offends in the arguments, each by itself.
 fn check_arguments(scene: &Scene<'_, '_>, arguments: &[PartialExpr], first: &mut First)

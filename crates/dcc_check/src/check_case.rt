@@ -3,11 +3,11 @@
 ghost use Rattle.std.specs.Prelude.{◌≡◌, [], false, OnOk};
 ghost use Rattle.dcc_c.specs.Kinds.{first_behind};
 ghost use Rattle.dcc_c.specs.Offences.{case_offences, case_numbers, default_offences};
-ghost use Rattle.dcc_read.specs.PartialViews.{arms_of};
+ghost use Rattle.dcc_reader.specs.PartialViews.{arms_of};
 ghost use Rattle.dcc_check.specs.Views.{told};
 
 use crate::first::First;
-use dcc_read::{ParseKind, PartialArm};
+use dcc_reader::{ParseKind, PartialArm};
 use std::alloc::{AllocError, Global};
 use std::collections::BTreeSet;
 

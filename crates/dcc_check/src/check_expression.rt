@@ -7,20 +7,20 @@ ghost use Rattle.dcc_c.specs.Offences as offences;
 ghost use Rattle.dcc_c.specs.Offences.{operand_of_address, no_variable, expr_offences, place_offences};
 ghost use Rattle.dcc_c.specs.Partial as partial;
 ghost use Rattle.dcc_c.specs.Partial.{is_missing, is_name_here};
-ghost use Rattle.dcc_read.specs.PartialViews.{expr_of};
+ghost use Rattle.dcc_reader.specs.PartialViews.{expr_of};
 ghost use Rattle.dcc_check.specs.Views.{told};
-ghost use Rattle.dcc_check.specs.Scenes.{unnamed, IsScene};
+ghost use Rattle.dcc_types.specs.NameViews.{unnamed};
+ghost use Rattle.dcc_check.specs.Scenes.{IsScene};
 ghost use Rattle.dcc_check.specs.Operands.{operand, target};
 
 use crate::first::First;
 use crate::operand::{Operand, check_binary, check_choice, check_unary, tell_typed, want_number};
-use crate::scene::{Declared, Scene};
-use crate::typing::{
-    both_arms_type, both_types, plain, type_of_address, type_of_name, type_of_unary,
-    type_of_variable,
-};
+use crate::scene::Scene;
 use dcc_c::CUn;
-use dcc_read::{ParseKind, PartialExpr};
+use dcc_reader::{ParseKind, PartialExpr};
+use dcc_types::Declared;
+use dcc_types::names::{type_of_address, type_of_name, type_of_variable};
+use dcc_types::operators::{both_arms_type, both_types, plain, type_of_unary};
 
 /// Whether nothing has been read of the expression.
 pub(crate) fn is_missing(e: &PartialExpr) -> bool

@@ -4,7 +4,7 @@ ghost use Rattle.std.specs.Prelude.{◌≡◌, option_map};
 ghost use Rattle.dcc_c.specs.Kinds.{first_behind};
 ghost use Rattle.dcc_c.specs.Offences as offences;
 ghost use Rattle.dcc_c.specs.Offences.{assigned_offences, test_offences, switch_offences, return_offences, goto_offences, own_offences};
-ghost use Rattle.dcc_read.specs.PartialViews.{expr_of, word_of, stmt_of};
+ghost use Rattle.dcc_reader.specs.PartialViews.{expr_of, word_of, stmt_of};
 ghost use Rattle.dcc_check.specs.Views.{told};
 ghost use Rattle.dcc_check.specs.Scenes.{IsScene};
 
@@ -13,7 +13,7 @@ use crate::check_expression::{check_expr, check_place, is_missing, is_name};
 use crate::first::First;
 use crate::operand::{check_becomes, check_selector, want_number};
 use crate::scene::Scene;
-use dcc_read::{ParseKind, PartialExpr, PartialStmt, WordAt};
+use dcc_reader::{ParseKind, PartialExpr, PartialStmt, WordAt};
 
 /// Tells what offends in an assignment: a name alone that is not read to its end may be called.
 fn check_assign(

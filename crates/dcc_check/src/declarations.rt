@@ -8,14 +8,16 @@ ghost use Rattle.dcc_c.specs.Token.{same_bytes};
 ghost use Rattle.dcc_c.specs.TextOffences.{declared_of};
 ghost use Rattle.dcc_c.specs.Tree.{Word};
 ghost use Rattle.dcc_c.specs.Typing.{declared_as};
-ghost use Rattle.dcc_read.specs.PartialViews.{variable_of, function_of};
+ghost use Rattle.dcc_reader.specs.PartialViews.{variable_of, function_of};
 ghost use Rattle.dcc_check.specs.Declarations.{placed_in, first_found, held_head, taking, giving};
-ghost use Rattle.dcc_check.specs.Scenes.{held, unnamed, head_of, signature_of};
+ghost use Rattle.dcc_types.specs.NameViews.{unnamed};
+ghost use Rattle.dcc_check.specs.Scenes.{held, head_of, signature_of};
 
-use crate::scene::{Declared, Signature};
-use crate::typing::plain;
+use crate::scene::Signature;
 use dcc_c::{Base, CType, Class};
-use dcc_read::{PartialFunction, PartialVariable};
+use dcc_reader::{PartialFunction, PartialVariable};
+use dcc_types::Declared;
+use dcc_types::operators::plain;
 use std::alloc::{AllocError, Global};
 use std::collections::BTreeMap;
 

@@ -2,10 +2,10 @@
 
 ghost use Rattle.std.specs.Prelude.{◌≡◌, None, Some, option_map};
 ghost use Rattle.dcc_c.specs.Kinds.{rank, is_before, offence, earlier, first_behind, only_if};
-ghost use Rattle.dcc_read.specs.OffenceViews.{kind_of, offence_of};
+ghost use Rattle.dcc_reader.specs.OffenceViews.{kind_of, offence_of};
 ghost use Rattle.dcc_check.specs.Views.{told};
 
-use dcc_read::{Offence, ParseKind};
+use dcc_reader::{Offence, ParseKind};
 
 /// The first of the offences that have been told.
 #[derive(Clone, Copy)]

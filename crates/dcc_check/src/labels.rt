@@ -2,10 +2,10 @@
 
 ghost use Rattle.std.specs.Prelude.{◌≡◌, ◌++◌, map, OnOk};
 ghost use Rattle.dcc_c.specs.Offences.{label_list, labels_of, labels_in_arms};
-ghost use Rattle.dcc_read.specs.PartialViews.{stmt_of, lines_of, arms_of};
+ghost use Rattle.dcc_reader.specs.PartialViews.{stmt_of, lines_of, arms_of};
 ghost use Rattle.dcc_check.specs.Views.{lent_word};
 
-use dcc_read::{PartialArm, PartialStmt, Row, WordAt};
+use dcc_reader::{PartialArm, PartialStmt, Row, WordAt};
 use std::alloc::AllocError;
 
 /// Appends the labels of statements, at every depth, in the order of the text.

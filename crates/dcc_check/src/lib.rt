@@ -14,7 +14,6 @@ mod operand;
 mod places;
 mod scene;
 mod text;
-mod typing;
 mod unread;
 
 pub use text::first_offence;

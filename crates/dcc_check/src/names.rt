@@ -9,13 +9,13 @@ ghost use Rattle.dcc_c.specs.Offences.{repeated};
 ghost use Rattle.dcc_c.specs.TextOffences as offences;
 ghost use Rattle.dcc_c.specs.Token.{same_bytes};
 ghost use Rattle.dcc_c.specs.Tree.{Word};
-ghost use Rattle.dcc_read.specs.PartialViews.{variable_of, function_of};
+ghost use Rattle.dcc_reader.specs.PartialViews.{variable_of, function_of};
 ghost use Rattle.dcc_check.specs.Names.{lent_names};
 ghost use Rattle.dcc_check.specs.Scenes.{holds};
 ghost use Rattle.dcc_check.specs.Views.{told};
 
 use crate::first::First;
-use dcc_read::{ParseKind, PartialFunction, PartialVariable, WordAt};
+use dcc_reader::{ParseKind, PartialFunction, PartialVariable, WordAt};
 use std::alloc::{AllocError, Global};
 use std::collections::BTreeSet;
 

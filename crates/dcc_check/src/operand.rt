@@ -9,11 +9,11 @@ ghost use Rattle.dcc_check.specs.Views.{told};
 ghost use Rattle.dcc_check.specs.Operands.{operand, selector_offences};
 
 use crate::first::First;
-use crate::typing::{
+use dcc_c::{CBin, CType, CUn};
+use dcc_reader::ParseKind;
+use dcc_types::operators::{
     both_arms_type, both_types, converts, is_comparison, is_pointer, is_sum, is_switch_type,
 };
-use dcc_c::{CBin, CType, CUn};
-use dcc_read::ParseKind;
 
 /// An expression as an operand.
 #[derive(Clone, Copy)]

@@ -8,13 +8,13 @@ ghost use Rattle.dcc_c.specs.Partial as partial;
 ghost use Rattle.dcc_c.specs.ReadingText as reading;
 ghost use Rattle.dcc_c.specs.TextOffences as offences;
 ghost use Rattle.dcc_c.specs.Types as types;
-ghost use Rattle.dcc_read.specs.PartialViews.{number_of, variable_of};
+ghost use Rattle.dcc_reader.specs.PartialViews.{number_of, variable_of};
 ghost use Rattle.dcc_check.specs.Places.{earlier_of, in_stack, IsOccupied, misplaced_here, earlier_with, is_covered};
 ghost use Rattle.dcc_check.specs.Views.{told};
 
 use crate::first::First;
 use dcc_c::{Base, CType};
-use dcc_read::{NumberAt, ParseKind, PartialVariable};
+use dcc_reader::{NumberAt, ParseKind, PartialVariable};
 use std::alloc::{AllocError, Global};
 
 /// How many bytes a memory has.

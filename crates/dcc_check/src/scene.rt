@@ -5,21 +5,12 @@ ghost use Rattle.dcc_c.specs.Grammar.{is_among};
 ghost use Rattle.dcc_c.specs.Known.{known_as};
 ghost use Rattle.dcc_c.specs.Offences as offences;
 ghost use Rattle.dcc_c.specs.Typing.{declared_as};
-ghost use Rattle.dcc_check.specs.Scenes.{unnamed, lent_head, head_of, IsScene};
+ghost use Rattle.dcc_types.specs.NameViews.{unnamed};
+ghost use Rattle.dcc_check.specs.Scenes.{lent_head, head_of, IsScene};
 
 use dcc_c::CType;
+use dcc_types::Declared;
 use std::collections::{BTreeMap, BTreeSet};
-
-/// What a name is declared as.
-#[derive(Clone, Copy)]
-pub struct Declared {
-    /// Its type, or that of its elements where it is an array.
-    pub ty: CType,
-    /// Whether it is an array.
-    pub is_array: bool,
-    /// Whether it has an address.
-    pub is_placed: bool,
-}
 
 /// The result of a function and the types of its parameters.
 #[derive(Drop)]

@@ -11,13 +11,14 @@ ghost use Rattle.dcc_c.specs.Pieces as pieces;
 ghost use Rattle.dcc_c.specs.TextOffences as offences;
 ghost use Rattle.dcc_c.specs.Tree.{Word};
 ghost use Rattle.dcc_lex.specs.TokenViews.{pieces_of};
-ghost use Rattle.dcc_read.specs.OffenceViews.{offence_of};
-ghost use Rattle.dcc_read.specs.PartialViews.{number_of, word_of, function_of, lines_of, text_of};
+ghost use Rattle.dcc_reader.specs.OffenceViews.{offence_of};
+ghost use Rattle.dcc_reader.specs.PartialViews.{number_of, word_of, function_of, lines_of, text_of};
 ghost use Rattle.dcc_c.specs.Offences.{lines_offences};
 ghost use Rattle.dcc_c.specs.Typing.{declared_as};
 ghost use Rattle.dcc_check.specs.Declarations.{held_head};
 ghost use Rattle.dcc_check.specs.Names.{lent_names};
-ghost use Rattle.dcc_check.specs.Scenes.{holds, held, unnamed, head_of};
+ghost use Rattle.dcc_types.specs.NameViews.{unnamed};
+ghost use Rattle.dcc_check.specs.Scenes.{holds, held, head_of};
 ghost use Rattle.dcc_check.specs.Wholes.{IsWhole, labels_if, own_names};
 ghost use Rattle.dcc_check.specs.Views.{told};
 
@@ -29,11 +30,12 @@ use crate::names::{
     add_words, dos_words, function_names, known_names, tell_repeated, variable_names,
 };
 use crate::places::{Stack, tell_globals, tell_sizes};
-use crate::scene::{Declared, Scene, Signature};
+use crate::scene::{Scene, Signature};
 use crate::unread::{add_labels, heads_in};
 use dcc_lex::Piece;
-use dcc_read::token::same_text;
-use dcc_read::{NumberAt, Offence, ParseKind, PartialFunction, PartialText, WordAt};
+use dcc_reader::token::same_text;
+use dcc_reader::{NumberAt, Offence, ParseKind, PartialFunction, PartialText, WordAt};
+use dcc_types::Declared;
 use std::alloc::{AllocError, Global};
 use std::collections::{BTreeMap, BTreeSet};
 

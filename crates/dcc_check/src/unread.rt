@@ -7,14 +7,14 @@ ghost use Rattle.dcc_c.specs.Known as known;
 ghost use Rattle.dcc_c.specs.Reading as reading;
 ghost use Rattle.dcc_c.specs.Tree.{Word};
 ghost use Rattle.dcc_lex.specs.TokenViews.{token_of, pieces_of};
-ghost use Rattle.dcc_read.specs.PartialViews.{function_of};
+ghost use Rattle.dcc_reader.specs.PartialViews.{function_of};
 ghost use Rattle.dcc_check.specs.Heads.{IsHead};
 ghost use Rattle.dcc_check.specs.Scenes.{holds};
 
 use crate::names::add_word;
 use dcc_lex::{Mark, Piece, Token};
-use dcc_read::token::{begins_type, is_the_mark, is_the_word, name_of};
-use dcc_read::{PartialFunction, head_at};
+use dcc_reader::token::{begins_type, is_the_mark, is_the_word, name_of};
+use dcc_reader::{PartialFunction, head_at};
 use std::alloc::{AllocError, Global};
 use std::collections::BTreeSet;
 

@@ -13,6 +13,7 @@ mod word;
 pub use lexer::{line_feeds, pieces};
 pub use pragma::behind_version;
 pub use token::{Head, Mark, Piece, Suffix, Token};
+pub use word::is_word;
 
 #[cfg(test)]
 mod tests;

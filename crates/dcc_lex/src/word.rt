@@ -26,7 +26,7 @@ fn are_word_bytes(bytes: &[u8]) -> bool
 }
 
 /// Whether these bytes are a word: at most 31 letters, digits and `_`, not beginning with a digit.
-fn is_word(bytes: &[u8]) -> bool
+pub fn is_word(bytes: &[u8]) -> bool
     ensures { result ≡ tokens.is_word bytes.now }
 {
     match bytes.split_first() {

@@ -25,9 +25,9 @@ use Rattle.dcc_c.proofs.refusals.FirstRules.{first-none, first-some}
 use Rattle.dcc_lex.specs.declared.token.Piece.{Piece as Read}
 use Rattle.dcc_lex.specs.TokenViews.{pieces_of}
 use Rattle.dcc_lex.proofs.laws.TextParsed.{parsed-stands, stands-parsed, stands-one}
-use Rattle.dcc_read.specs.declared.offence.Offence.{Offence as Found}
-use Rattle.dcc_read.specs.declared.offence.ParseKind.TheVariants.{Length, Version}
-use Rattle.dcc_read.specs.OffenceViews.{offence_of}
+use Rattle.dcc_reader.specs.declared.offence.Offence.{Offence as Found}
+use Rattle.dcc_reader.specs.declared.offence.ParseKind.TheVariants.{Length, Version}
+use Rattle.dcc_reader.specs.OffenceViews.{offence_of}
 use Rattle.dcc_parse.specs.Fault.{IsRefusal, IsTreeOf}
 use Rattle.dcc_parse.proofs.left.Texts.{left-short}
 

@@ -14,12 +14,12 @@ use Rattle.dcc_c.specs.Partial.{NumberAt, PartialLines, PartialArms, no_cases, c
 use Rattle.dcc_c.specs.Offences.{Scene, default_offences, lines_offences, own_offences, inner_offences, arms_inner, case_offences, case_numbers}
 use Rattle.dcc_c.specs.Stripped.{plain_numbers, plain_expr, plain_stmt, plain_lines, case_arms, default_arms}
 use Rattle.dcc_c.proofs.refusals.ExprRules.{none-both}
-use Rattle.dcc_read.specs.declared.partial.PartialExpr.{PartialExpr}
-use Rattle.dcc_read.specs.declared.partial.PartialStmt.{PartialStmt, If, While, DoWhile, Forever, Switch}
-use Rattle.dcc_read.specs.declared.partial.Row.{Row}
-use Rattle.dcc_read.specs.declared.partial.PartialArm.{PartialArm, out-PartialArm}
-use Rattle.dcc_read.specs.PartialViews as partial
-use Rattle.dcc_read.proofs.RowLaws.{arm-parts, if-tree as if-rows, while-tree as while-rows, do_while-tree as do-rows, forever-tree as forever-rows, switch-tree as switch-rows}
+use Rattle.dcc_reader.specs.declared.partial.PartialExpr.{PartialExpr}
+use Rattle.dcc_reader.specs.declared.partial.PartialStmt.{PartialStmt, If, While, DoWhile, Forever, Switch}
+use Rattle.dcc_reader.specs.declared.partial.Row.{Row}
+use Rattle.dcc_reader.specs.declared.partial.PartialArm.{PartialArm, out-PartialArm}
+use Rattle.dcc_reader.specs.PartialViews as partial
+use Rattle.dcc_reader.proofs.RowLaws.{arm-parts, if-tree as if-rows, while-tree as while-rows, do_while-tree as do-rows, forever-tree as forever-rows, switch-tree as switch-rows}
 use Rattle.dcc_parse.specs.Stripping.{arms_if}
 use Rattle.dcc_parse.proofs.RowLaws.{arm-parts as arm-tree, if-tree, while-tree, do_while-tree, forever-tree, switch-tree}
 

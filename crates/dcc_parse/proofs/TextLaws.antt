@@ -19,10 +19,10 @@ use Rattle.dcc_c.specs.Complete.{is_complete_text}
 use Rattle.dcc_c.proofs.refusals.ExprRules.{none-both, and-both}
 use Rattle.dcc_c.proofs.refusals.GlobalRules.{places-allowed}
 use Rattle.dcc_c.proofs.refusals.TextRules.{complete-text}
-use Rattle.dcc_read.specs.declared.partial.PartialVariable.{PartialVariable}
-use Rattle.dcc_read.specs.declared.partial.PartialFunction.{PartialFunction}
-use Rattle.dcc_read.specs.declared.partial.PartialText.{PartialText}
-use Rattle.dcc_read.specs.PartialViews as partial
+use Rattle.dcc_reader.specs.declared.partial.PartialVariable.{PartialVariable}
+use Rattle.dcc_reader.specs.declared.partial.PartialFunction.{PartialFunction}
+use Rattle.dcc_reader.specs.declared.partial.PartialText.{PartialText}
+use Rattle.dcc_reader.specs.PartialViews as partial
 use Rattle.dcc_parse.specs.Stripping.{is_in_memory}
 
 -- one thing more is stripped

@@ -7,8 +7,8 @@ use Rattle.dcc_c.specs.Stripped.{plain_text}
 use Rattle.dcc_c.specs.Text.{StandsFor}
 use Rattle.dcc_c.specs.TextOffences.{offences_of}
 use Rattle.dcc_c.specs.Tree.{Tree}
-use Rattle.dcc_read.specs.OffenceViews.{kind_of}
-use Rattle.dcc_read.specs.declared.offence.ParseKind.{ParseKind}
+use Rattle.dcc_reader.specs.OffenceViews.{kind_of}
+use Rattle.dcc_reader.specs.declared.offence.ParseKind.{ParseKind}
 use Rattle.dcc_parse.specs.declared.fault.ParseFault.{ParseFault}
 use Rattle.dcc_parse.specs.declared.fault.ParseFault.TheVariants.{At, Memory}
 

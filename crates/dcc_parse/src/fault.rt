@@ -1,6 +1,6 @@
 //! Why a text is not parsed.
 
-use dcc_read::ParseKind;
+use dcc_reader::ParseKind;
 
 /// Why a text is not parsed.
 #[derive(Clone, Copy, PartialEq, Eq, Debug)]

@@ -6,6 +6,6 @@ mod parser;
 mod strip;
 mod strip_text;
 
-pub use dcc_read::ParseKind;
+pub use dcc_reader::ParseKind;
 pub use fault::ParseFault;
 pub use parser::parse;

@@ -9,15 +9,16 @@ ghost use Rattle.dcc_c.specs.Tree.{Tree};
 ghost use Rattle.dcc_c.specs.Views.{tree_of};
 ghost use Rattle.dcc_lex.specs.TokenViews.{pieces_of};
 ghost use Rattle.dcc_parse.specs.Fault.{IsFaultOf, IsTreeOf};
-ghost use Rattle.dcc_read.specs.OffenceViews.{offence_of};
-ghost use Rattle.dcc_read.specs.ReaderViews.{reader_of};
+ghost use Rattle.dcc_reader.specs.OffenceViews.{offence_of};
+ghost use Rattle.dcc_reader.specs.ReaderViews.{reader_of};
 
 use crate::fault::ParseFault;
 use crate::strip_text::strip;
 use dcc_c::Unit;
 use dcc_check::first_offence;
 use dcc_lex::{Piece, behind_version, line_feeds, pieces};
-use dcc_read::{Offence, ParseKind, Reader, read};
+use dcc_read::read;
+use dcc_reader::{Offence, ParseKind, Reader};
 use std::alloc::{AllocError, Global};
 
 /// The pieces that have not been read, where reading stopped.

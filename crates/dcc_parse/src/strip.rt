@@ -5,11 +5,11 @@ ghost use Rattle.std.specs.Option.{option_map};
 ghost use Rattle.dcc_c.specs.Views as tree;
 ghost use Rattle.dcc_c.specs.Stripped as stripped;
 ghost use Rattle.dcc_c.specs.Offences.{Scene, default_offences, lines_offences, inner_offences, arms_inner};
-ghost use Rattle.dcc_read.specs.PartialViews as partial;
+ghost use Rattle.dcc_reader.specs.PartialViews as partial;
 ghost use Rattle.dcc_parse.specs.Stripping.{arms_if};
 
 use dcc_c::{Arm, Base, CExpr, CStmt, CType, Line};
-use dcc_read::{CaseAt, NumberAt, PartialArm, PartialExpr, PartialStmt, Row, WordAt};
+use dcc_reader::{CaseAt, NumberAt, PartialArm, PartialExpr, PartialStmt, Row, WordAt};
 use std::alloc::{AllocError, Global};
 
 /// An expression.

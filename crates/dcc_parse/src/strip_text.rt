@@ -9,11 +9,11 @@ ghost use Rattle.dcc_c.specs.Stripped as stripped;
 ghost use Rattle.dcc_c.specs.TextOffences.{Whole, stack_offences, functions_offences, text_offences};
 ghost use Rattle.dcc_c.specs.Views as tree;
 ghost use Rattle.dcc_parse.specs.Stripping.{is_in_memory};
-ghost use Rattle.dcc_read.specs.PartialViews as partial;
+ghost use Rattle.dcc_reader.specs.PartialViews as partial;
 
 use crate::strip::{strip_lines, strip_name};
 use dcc_c::{Base, CType, Func, Global_, Unit, Var};
-use dcc_read::{NumberAt, PartialFunction, PartialText, PartialVariable};
+use dcc_reader::{NumberAt, PartialFunction, PartialText, PartialVariable};
 use std::alloc::{AllocError, Global};
 
 /// A type.

@@ -14,7 +14,7 @@ use Rattle.dcc_c.specs.Reading.{Reader, Got, got, Inside, in_operator, in_parent
 use Rattle.dcc_c.proofs.reading.Stopping.{if-true, if-false, choice-some, choice-none}
 use Rattle.dcc_read.specs.declared.expression.Measured.{Measured}
 use Rattle.dcc_read.specs.ExpressionViews.{strong_enough}
-use Rattle.dcc_read.specs.PartialViews.{expr_of}
+use Rattle.dcc_reader.specs.PartialViews.{expr_of}
 
 -- With no calls nothing is read.
 

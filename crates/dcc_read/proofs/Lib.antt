@@ -1,9 +1,4 @@
 pub mod ExpressionSteps
 pub mod LineLaws
-pub mod LoopLaws
-pub mod ReaderLaws
-pub mod RowLaws
-pub mod SeenLaws
 pub mod StatementLaws
 pub mod TextLaws
-pub mod VariableLaws

@@ -8,12 +8,12 @@ use Rattle.dcc_c.specs.Token.{depth_line as depth_words}
 use Rattle.dcc_c.specs.Partial.{PartialStmt, PartialLines, no_rows, row, PartialArms, no_cases, cases}
 use Rattle.dcc_c.specs.Reading.{Reader, Got, got, next_token, line_of, stop_at, fail}
 use Rattle.dcc_c.specs.ReadingStatements as s
-use Rattle.dcc_read.specs.declared.partial.Row.{Row}
-use Rattle.dcc_read.specs.declared.partial.PartialArm.{PartialArm}
+use Rattle.dcc_reader.specs.declared.partial.Row.{Row}
+use Rattle.dcc_reader.specs.declared.partial.PartialArm.{PartialArm}
 use Rattle.dcc_read.specs.declared.statement.LineRead.{LineRead}
-use Rattle.dcc_read.specs.PartialViews.{stmt_of, lines_of, arm_before, arms_of}
+use Rattle.dcc_reader.specs.PartialViews.{stmt_of, lines_of, arm_before, arms_of}
 use Rattle.dcc_read.specs.Lines.{before_lines, behind_line, depth_line, label_line, arm_read}
-use Rattle.dcc_read.proofs.LoopLaws.{counted, if-true, if-false}
+use Rattle.dcc_reader.proofs.LoopLaws.{counted, if-true, if-false}
 
 -- two less, and two more again
 pub counted-two : (n : ℕ) → 1 < n → suc (suc (n - 2)) ≡ n

@@ -6,8 +6,8 @@ use Rattle.dcc_c.specs.Partial.{PartialExpr, IfOf, WhileOf, DoWhileOf, ForeverOf
 use Rattle.dcc_c.specs.Reading.{Reader, Got, got, is_stopped, next_token, skip, sees_word, take_mark, take_word}
 use Rattle.dcc_c.specs.ReadingStatements as s
 use Rattle.dcc_read.specs.Lines.{begins_loop, take_forever, while_stmt, do_while_stmt, forever_stmt, loop_stmt, switch_stmt, short_stmt}
-use Rattle.dcc_read.proofs.LoopLaws.{counted, if-true, if-false}
-use Rattle.dcc_read.proofs.SeenLaws.{word-seen}
+use Rattle.dcc_reader.proofs.LoopLaws.{counted, if-true, if-false}
+use Rattle.dcc_reader.proofs.SeenLaws.{word-seen}
 
 -- a loop among the statements
 loop-true : {A : Type 0} (w d f : Bool) (a b c e : A) → ((w || d) || f) ≡ true →

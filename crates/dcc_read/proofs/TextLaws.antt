@@ -1,18 +1,16 @@
 -- Reading functions and global variables one after the other.
-use Rattle.std.proofs.Common.{◌≡◌, ℕ, zero, suc, ◌+◌, ◌-◌, ◌<◌, ◌==◌, Bool, true, false, ◌||◌, if◌then◌else◌, not, codes, Result, Ok, Err, IfOk, List, [], ◌∷◌, ◌++◌, length, Option, Some, None, refl, sym, ap, ◌∙◌, subst, append_assoc}
+use Rattle.std.proofs.Common.{◌≡◌, ℕ, zero, suc, ◌+◌, ◌-◌, ◌<◌, ◌==◌, Bool, true, false, ◌||◌, if◌then◌else◌, not, codes, List, [], ◌∷◌, ◌++◌, length, Option, Some, None, refl, sym, ap, ◌∙◌, subst, append_assoc}
 use Rattle.std.specs.Prelude.{IfSome}
 use Rattle.std.proofs.lemmas.List.{append-nil}
 use Rattle.dcc_c.specs.Token.{place_line as place_words}
 use Rattle.dcc_c.specs.declared.syntax.Class.TheVariants.{Plain}
-use Rattle.dcc_c.specs.Pieces.{Piece}
-use Rattle.dcc_c.specs.Partial.{NumberAt, PartialVariable, PartialFunction, PartialLines, no_rows}
-use Rattle.dcc_c.specs.Reading.{Reader, Got, got, is_stopped, sees_word, take_mark}
-use Rattle.dcc_c.specs.ReadingStatements.{sees_head, read_size, read_init, read_params}
-use Rattle.dcc_c.specs.ReadingText.{Begun, read_begun, read_head, read_function, read_functions, with_functions, read_global, size_in_bytes, Declared, declared, before_declared, read_declared, reader_of, enough_calls}
-use Rattle.dcc_read.specs.Behind.{before_list}
-use Rattle.dcc_read.specs.FunctionViews.{opened_at}
+use Rattle.dcc_c.specs.Partial.{NumberAt, PartialVariable, PartialFunction}
+use Rattle.dcc_c.specs.Reading.{Reader, Got, got, is_stopped, take_mark}
+use Rattle.dcc_c.specs.ReadingStatements.{sees_head, read_size, read_init}
+use Rattle.dcc_c.specs.ReadingText.{Begun, read_begun, read_function, read_functions, with_functions, read_global, size_in_bytes, Declared, declared, before_declared, read_declared}
+use Rattle.dcc_reader.specs.Behind.{before_list}
 use Rattle.dcc_read.specs.TextViews.{place_line, is_global, global_address, before_globals}
-use Rattle.dcc_read.proofs.LoopLaws.{counted, if-true, if-false}
+use Rattle.dcc_reader.proofs.LoopLaws.{counted, if-true, if-false}
 
 -- Functions.
 
@@ -108,51 +106,6 @@ functions-first n begun first now is grown =
     ap (λ l. before_list l (read_functions n first.behind)) grown
     ∙ ap (λ (g : Got PartialFunction). before_list (g.value ∷ []) (read_functions n g.behind)) is
 
--- What holds of a result that was read.
-pub ok-map : {A E : Type 0} (r : Result A E) (P Q : A → Type 0) → ((x : A) → P x → Q x) → IfOk r P → IfOk r Q
-ok-map (Ok x) P Q f h = f x h
-ok-map (Err e) P Q f h = h
-
--- The head of a function.
-
-abbrev pub with_body : List PartialVariable → PartialLines → Begun → Option ℕ → Bool → List PartialVariable → Bool → PartialFunction
-with_body locals body begun opened without params headed = record {
-  at = begun.at;
-  has_result = begun.has_result;
-  result = begun.result;
-  name = begun.name;
-  opened = opened;
-  without_params = without;
-  params = params;
-  headed = headed;
-  locals = locals;
-  body = body;
-  last = 0;
-}
-
-abbrev head : Begun → Option ℕ → Bool → List PartialVariable → Bool → PartialFunction
-head begun opened without params headed = with_body [] no_rows begun opened without params headed
-
--- from the parameters on
-abbrev head_filled : Begun → Reader → Got (List PartialVariable) → Got PartialFunction
-head_filled begun inside params =
-    let end = take_mark (codes ")") params.behind in
-    got (head begun (opened_at inside) (sees_word (codes "void") inside) params.value (not (is_stopped end))) end
-
-pub head-read : (calls : ℕ) (begun : Got Begun) (inside filled end : Reader) (opened : Option ℕ) (without : Bool) (params locals : List PartialVariable) (body : PartialLines) (stopped : Bool) → locals ≡ [] → body ≡ no_rows →
-    inside ≡ take_mark (codes "(") begun.behind → opened ≡ opened_at inside → without ≡ sees_word (codes "void") inside →
-    got params filled ≡ read_params calls inside → end ≡ take_mark (codes ")") filled → stopped ≡ is_stopped end →
-    got (with_body locals body begun.value opened without params (not stopped)) end ≡ read_head calls begun
-head-read calls begun inside filled end opened without params locals body stopped none empty marks opens voids fills ends stops =
-    ap (λ l. got (with_body l body begun.value opened without params (not stopped)) end) none
-    ∙ ap (λ b. got (with_body [] b begun.value opened without params (not stopped)) end) empty
-    ∙ ap (λ o. got (head begun.value o without params (not stopped)) end) opens
-    ∙ ap (λ w. got (head begun.value (opened_at inside) w params (not stopped)) end) voids
-    ∙ ap (λ b. got (head begun.value (opened_at inside) (sees_word (codes "void") inside) params (not b)) end) stops
-    ∙ ap (λ e. got (head begun.value (opened_at inside) (sees_word (codes "void") inside) params (not (is_stopped e))) e) ends
-    ∙ ap (head_filled begun.value inside) fills
-    ∙ ap (λ i. head_filled begun.value i (read_params calls i)) marks
-
 -- A global variable.
 
 abbrev global : Begun → ℕ → Option NumberAt → List NumberAt → Bool → PartialVariable
@@ -198,12 +151,3 @@ declared-end n address r none = ap (λ k. read_declared k address r) none
 pub globals-parts : (globals : List PartialVariable) (functions : List PartialFunction) (r : Reader) → functions ≡ [] →
     got (record { globals = globals; functions = functions }) r ≡ declared globals (got [] r)
 globals-parts globals functions r none = ap (λ l. declared globals (got l r)) none
-
--- the head of a function that begins with the first of the pieces
-pub head-at : (calls : ℕ) (pieces : List Piece) (begun : Got Begun) (r behind : Reader) (f : PartialFunction) → got f behind ≡ read_head calls begun →
-    begun ≡ read_begun r → r ≡ reader_of pieces → calls ≡ enough_calls pieces →
-    f ≡ (read_head (enough_calls pieces) (read_begun (reader_of pieces))).value
-head-at calls pieces begun r behind f reads begins starts enough =
-    ap (λ (g : Got PartialFunction). g.value) (reads
-    ∙ ap (read_head calls) (begins ∙ ap read_begun starts)
-    ∙ ap (λ n. read_head n (read_begun (reader_of pieces))) enough)

@@ -1,10 +1,6 @@
 pub mod ArmViews
 pub mod AroundViews
-pub mod Behind
 pub mod ExpressionViews
-pub mod FunctionViews
 pub mod Lines
-pub mod OffenceViews
-pub mod PartialViews
-pub mod ReaderViews
+pub mod Stars
 pub mod TextViews

@@ -5,8 +5,8 @@ use Rattle.dcc_c.specs.Kinds.{of_depth}
 use Rattle.dcc_c.specs.Partial.{PartialStmt, ForeverOf, BreakOf, ContinueOf, EmptyOf, LabelOf, no_rows, PartialArms, cases}
 use Rattle.dcc_c.specs.Reading.{Reader, Got, got, line_of, skip, stop_at, fail, sees_mark, sees_word, take_mark, take_word, take_name}
 use Rattle.dcc_c.specs.ReadingStatements as statements
-use Rattle.dcc_read.specs.PartialViews.{stmt_of, lines_of}
-use Rattle.dcc_read.specs.declared.partial.Row.{Row}
+use Rattle.dcc_reader.specs.PartialViews.{stmt_of, lines_of}
+use Rattle.dcc_reader.specs.declared.partial.Row.{Row}
 use Rattle.dcc_read.specs.declared.statement.Block.{Block}
 use Rattle.dcc_read.specs.declared.statement.LineRead.{LineRead}
 

@@ -4,7 +4,7 @@ use Rattle.dcc_c.specs.Partial.{PartialVariable}
 use Rattle.dcc_c.specs.Reading.{Reader, Got, got, line_of, skip, sees_mark}
 use Rattle.dcc_c.specs.ReadingStatements.{take_number_of_line}
 use Rattle.dcc_c.specs.ReadingText as texts
-use Rattle.dcc_read.specs.PartialViews.{variable_of, function_of}
+use Rattle.dcc_reader.specs.PartialViews.{variable_of, function_of}
 use Rattle.dcc_read.specs.declared.text.Declared.{Declared}
 
 abbrev pub declared_of : Declared → texts.Declared

@@ -1,17 +1,17 @@
 //! Reading what the arms of a `switch` begin with.
 
-ghost use Rattle.std.specs.Prelude.{◌≡◌, IfOk, OnOk, true, is_some, map, ◌++◌, option_to_list};
+ghost use Rattle.std.specs.Prelude.{◌≡◌, IfOk, true, is_some, map, option_to_list};
 ghost use Rattle.std.specs.Option.{option_map};
 ghost use Rattle.dcc_c.specs.Reading as reading;
 ghost use Rattle.dcc_c.specs.ReadingStatements as statements;
 ghost use Rattle.dcc_lex.specs.TokenViews.{token_of, suffix_of};
 ghost use Rattle.dcc_read.specs.ArmViews.{arm_head_of};
-ghost use Rattle.dcc_read.specs.PartialViews.{case_of};
-ghost use Rattle.dcc_read.specs.ReaderViews.{reader_of};
+ghost use Rattle.dcc_reader.specs.PartialViews.{case_of};
+ghost use Rattle.dcc_reader.specs.ReaderViews.{reader_of};
 
-use crate::partial::CaseAt;
-use crate::reader::Reader;
 use dcc_lex::{Mark, Suffix, Token};
+use dcc_reader::list::push_some;
+use dcc_reader::{CaseAt, Reader};
 use std::alloc::{AllocError, Global};
 
 /// What an arm begins with.
@@ -21,16 +21,6 @@ pub(crate) struct ArmHead {
     pub(crate) numbers: Vec<CaseAt>,
     /// The place of `default`, where the arm has that.
     pub(crate) default: Option<usize>,
-}
-
-/// Appends an item, where there is one.
-pub(crate) fn push_some<T: Drop>(list: &mut Vec<T>, item: Option<T>) -> Result<(), AllocError>
-    ensures { OnOk result (list.new.items ≡ list.old.items ++ option_to_list item) }
-{
-    if let Some(item) = item {
-        list.push(item)?;
-    }
-    Ok(())
 }
 
 /// The number with the suffix, where a case may have it.

@@ -5,10 +5,9 @@ ghost use Rattle.dcc_c.specs.Grammar as grammar;
 ghost use Rattle.dcc_c.specs.Reading as reading;
 ghost use Rattle.dcc_c.specs.ReadingStatements as statements;
 ghost use Rattle.dcc_read.specs.AroundViews.{around_of};
-ghost use Rattle.dcc_read.specs.ReaderViews.{reader_of};
+ghost use Rattle.dcc_reader.specs.ReaderViews.{reader_of};
 
-use crate::offence::ParseKind;
-use crate::reader::Reader;
+use dcc_reader::{ParseKind, Reader};
 
 /// What stands around a statement.
 #[derive(Clone, Copy)]

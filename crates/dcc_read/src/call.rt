@@ -4,15 +4,14 @@ ghost use Rattle.std.specs.Prelude.{◌≡◌, ◌∷◌, [], IfOk, true, is_som
 ghost use Rattle.std.specs.Option.{option_map};
 ghost use Rattle.dcc_c.specs.Reading as reading;
 ghost use Rattle.dcc_c.specs.ReadingStatements as statements;
-ghost use Rattle.dcc_read.specs.Behind.{behind_star};
-ghost use Rattle.dcc_read.specs.PartialViews.{expr_of, stmt_of, word_of};
-ghost use Rattle.dcc_read.specs.ReaderViews.{reader_of};
+ghost use Rattle.dcc_read.specs.Stars.{behind_star};
+ghost use Rattle.dcc_reader.specs.PartialViews.{expr_of, stmt_of, word_of};
+ghost use Rattle.dcc_reader.specs.ReaderViews.{reader_of};
 
-use crate::expression::{name_here, read_enclosed, read_unary, read_value};
-use crate::partial::{PartialCall, PartialExpr, PartialStmt, WordAt};
-use crate::reader::{Inside, Reader};
+use crate::expression::{Inside, name_here, read_enclosed, read_unary, read_value};
 use dcc_c::CUn;
 use dcc_lex::Mark;
+use dcc_reader::{PartialCall, PartialExpr, PartialStmt, Reader, WordAt};
 use std::alloc::{AllocError, Global};
 
 /// Reads the arguments of a call behind its opening parenthesis. The closing one is left.

@@ -5,17 +5,15 @@ ghost use Rattle.dcc_c.specs.Partial as partial;
 ghost use Rattle.dcc_c.specs.Reading as reading;
 ghost use Rattle.dcc_c.specs.ReadingStatements as statements;
 ghost use Rattle.dcc_lex.specs.TokenViews.{token_of};
-ghost use Rattle.dcc_read.specs.ExpressionViews.{measure, strong_enough, stopped_deep};
-ghost use Rattle.dcc_read.specs.PartialViews.{expr_of};
-ghost use Rattle.dcc_read.specs.ReaderViews.{reader_of, inside_of};
+ghost use Rattle.dcc_read.specs.ExpressionViews.{inside_of, measure, strong_enough, stopped_deep};
+ghost use Rattle.dcc_reader.specs.PartialViews.{expr_of};
+ghost use Rattle.dcc_reader.specs.ReaderViews.{reader_of};
 
-use crate::offence::ParseKind;
 use crate::operator::{binary_of, number_of, strength, unary_of};
-use crate::partial::PartialExpr;
-use crate::reader::{Inside, Reader};
-use crate::token::begins_type;
 use dcc_c::{CBin, CType, CUn};
 use dcc_lex::Mark;
+use dcc_reader::token::begins_type;
+use dcc_reader::{ParseKind, PartialExpr, Reader};
 use std::alloc::{AllocError, Global};
 
 /// How deep an expression may be, and how many parentheses may stand around a part of it.
@@ -29,6 +27,17 @@ struct Measured {
     /// Its depth, or 201 where it is deeper.
     depth: usize,
     ghost measured: { depth ≡ measure (expr_of expr) },
+}
+
+/// What stands around a part of an expression.
+#[derive(Clone, Copy)]
+pub struct Inside {
+    /// The place where the whole expression begins.
+    pub start: usize,
+    /// How many operators of it are around the part.
+    pub operators: usize,
+    /// How many parentheses are open.
+    pub opened: usize,
 }
 
 impl Inside {

@@ -1,11 +1,9 @@
 //! Expressions that are read: the strengths of operators, and the limits of depth.
 
 use crate::expression::read_value;
-use crate::partial::PartialExpr;
-use crate::reader::Reader;
-use crate::{Offence, ParseKind};
 use dcc_c::CBin;
 use dcc_lex::{Mark, Piece, Suffix, Token};
+use dcc_reader::{Offence, ParseKind, PartialExpr, Reader};
 use std::alloc::{AllocError, Global};
 use std::process::Abort;
 

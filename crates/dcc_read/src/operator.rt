@@ -6,7 +6,7 @@ ghost use Rattle.dcc_c.specs.Token as tokens;
 ghost use Rattle.dcc_c.specs.Grammar as grammar;
 ghost use Rattle.dcc_c.specs.Reading as reading;
 ghost use Rattle.dcc_lex.specs.TokenViews.{mark_of, suffix_of, token_of};
-ghost use Rattle.dcc_read.specs.ReaderViews.{typed_of};
+ghost use Rattle.dcc_read.specs.ExpressionViews.{typed_of};
 
 use dcc_c::{Base, CBin, CUn};
 use dcc_lex::{Mark, Suffix, Token};

@@ -4,13 +4,12 @@ ghost use Rattle.std.specs.Prelude.{◌≡◌, IfOk, true, is_some, if◌then◌
 ghost use Rattle.dcc_c.specs.Partial as partial;
 ghost use Rattle.dcc_c.specs.Reading as reading;
 ghost use Rattle.dcc_c.specs.ReadingStatements as statements;
-ghost use Rattle.dcc_read.specs.PartialViews.{stmt_of};
-ghost use Rattle.dcc_read.specs.ReaderViews.{reader_of};
+ghost use Rattle.dcc_reader.specs.PartialViews.{stmt_of};
+ghost use Rattle.dcc_reader.specs.ReaderViews.{reader_of};
 
 use crate::expression::read_value;
-use crate::partial::PartialStmt;
-use crate::reader::Reader;
 use dcc_lex::Mark;
+use dcc_reader::{PartialStmt, Reader};
 use std::alloc::{AllocError, Global};
 
 /// Goes behind the next piece where it is allowed, or stops at it.

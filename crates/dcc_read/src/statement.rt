@@ -7,19 +7,18 @@ ghost use Rattle.dcc_c.specs.Reading as reading;
 ghost use Rattle.dcc_c.specs.ReadingStatements as statements;
 ghost use Rattle.dcc_read.specs.AroundViews.{around_of};
 ghost use Rattle.dcc_read.specs.Lines.{block_of, behind_line, begins_loop, take_forever, short_stmt, loop_stmt, switch_stmt, depth_line, label_line, arm_read};
-ghost use Rattle.dcc_read.specs.PartialViews.{expr_of, stmt_of, lines_of, arm_before, arms_of};
-ghost use Rattle.dcc_read.specs.ReaderViews.{reader_of};
+ghost use Rattle.dcc_reader.specs.PartialViews.{expr_of, stmt_of, lines_of, arm_before, arms_of};
+ghost use Rattle.dcc_reader.specs.ReaderViews.{reader_of};
 
-use crate::arm::{begins_arm, push_some, read_arm_head};
+use crate::arm::{begins_arm, read_arm_head};
 use crate::around::Around;
 use crate::call::read_simple;
 use crate::expression::read_test;
-use crate::offence::ParseKind;
-use crate::partial::{PartialArm, PartialStmt, Row};
-use crate::pragma::read_depth;
-use crate::reader::Reader;
 use crate::short::{read_goto, read_leave, read_return};
 use dcc_lex::{Head, Mark};
+use dcc_reader::list::push_some;
+use dcc_reader::pragma::read_depth;
+use dcc_reader::{ParseKind, PartialArm, PartialStmt, Reader, Row};
 use std::alloc::{AllocError, Global};
 
 /// Statements one after the other.

@@ -7,18 +7,19 @@ ghost use Rattle.dcc_c.specs.Reading as reading;
 ghost use Rattle.dcc_c.specs.ReadingText as texts;
 ghost use Rattle.dcc_c.specs.Types as types;
 ghost use Rattle.dcc_lex.specs.TokenViews.{pieces_of};
-ghost use Rattle.dcc_read.specs.FunctionViews.{begun_of};
-ghost use Rattle.dcc_read.specs.PartialViews.{number_of, variable_of, function_of, text_of};
-ghost use Rattle.dcc_read.specs.ReaderViews.{reader_of};
+ghost use Rattle.dcc_reader.specs.BegunViews.{begun_of};
+ghost use Rattle.dcc_reader.specs.PartialViews.{number_of, variable_of, function_of, text_of};
+ghost use Rattle.dcc_reader.specs.ReaderViews.{reader_of};
 ghost use Rattle.dcc_read.specs.TextViews.{declared_of, is_global, global_address, place_line};
 
-use crate::declaration::{read_init, read_size};
-use crate::function::{Begun, read_begun, read_functions, read_head};
-use crate::partial::{NumberAt, PartialFunction, PartialText, PartialVariable};
-use crate::pragma::take_number_of_line;
-use crate::reader::Reader;
+use crate::function::read_functions;
 use dcc_c::{Base, CType, Class};
 use dcc_lex::{Head, Mark, Piece};
+use dcc_reader::declaration::{read_init, read_size};
+use dcc_reader::head::{Begun, read_begun};
+use dcc_reader::pragma::take_number_of_line;
+use dcc_reader::reader::{enough_calls, reader_at};
+use dcc_reader::{NumberAt, PartialFunction, PartialText, PartialVariable, Reader};
 use std::alloc::{AllocError, Global};
 
 /// What was read of a text, and the reader behind it.
@@ -187,26 +188,6 @@ fn read_text(r: &mut Reader<'_>, alloc: Global, calls: usize) -> Result<PartialT
     })
 }
 
-/// A reader at the first of the pieces.
-fn reader_at(pieces: &[Piece]) -> Reader<'_>
-    ensures { reader_of result ≡ texts.reader_of (pieces_of pieces.now) }
-{
-    Reader {
-        pieces,
-        at: 0,
-        stop: None,
-        depth: 2,
-    }
-}
-
-/// How deep reading of the pieces may nest.
-fn enough_calls(pieces: &[Piece]) -> usize
-    requires few { length pieces.now ≤ 67108864 }
-    ensures { result ≡ texts.enough_calls (pieces_of pieces.now) }
-{
-    16 * pieces.len() + 16
-}
-
 /// Reads the pieces of a text behind its version line, as far as they are allowed.
 ///
 /// # Errors
@@ -218,18 +199,4 @@ pub fn read<'a>(alloc: Global, pieces: &'a [Piece]) -> Result<Reading<'a>, Alloc
     let mut behind = reader_at(pieces);
     let text = read_text(&mut behind, alloc, enough_calls(pieces))?;
     Ok(Reading { text, behind })
-}
-
-/// Reads the head of a function that begins with the first of the pieces.
-///
-/// # Errors
-/// Where memory runs out.
-pub fn head_at(alloc: Global, pieces: &[Piece]) -> Result<PartialFunction, AllocError>
-    requires few { length pieces.now ≤ 67108864 }
-    ensures { IfOk result (λ f. function_of f ≡ (texts.read_head (texts.enough_calls (pieces_of pieces.now))
-        (texts.read_begun (texts.reader_of (pieces_of pieces.now)))).value) }
-{
-    let mut r = reader_at(pieces);
-    let begun = read_begun(&mut r, alloc)?;
-    read_head(&mut r, alloc, enough_calls(pieces), begun)
 }

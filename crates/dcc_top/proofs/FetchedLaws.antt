@@ -6,7 +6,7 @@ use Rattle.dcc_mz.specs.declared.fault.MzFault.{MzFault}
 use Rattle.dcc_mz.specs.declared.fault.MzFault.TheVariants.{TooLarge, Memory as NoMemory}
 use Rattle.dcc_mz.specs.Fault.{IsRefusal, IsRefusalOrMemory}
 use Rattle.dcc_c.specs.Refusals.{too_long}
-use Rattle.dcc_read.specs.declared.offence.ParseKind.TheVariants.{Length}
+use Rattle.dcc_reader.specs.declared.offence.ParseKind.TheVariants.{Length}
 use Rattle.dcc_parse.specs.Fault.{IsRefusal as IsTextRefusal}
 use Rattle.dcc_top.specs.declared.reply.Reply.{Reply}
 use Rattle.dcc_top.specs.declared.reply.Reply.TheVariants.{Format, TextFault}

@@ -14,8 +14,8 @@ use Rattle.dcc_prog.specs.MzImage.{IsImageOf}
 use Rattle.dcc_c.specs.Text.{StandsFor}
 use Rattle.dcc_c.specs.Tree.{Tree}
 use Rattle.dcc_c.specs.Written.{written_form}
-use Rattle.dcc_read.specs.declared.offence.ParseKind.{ParseKind}
-use Rattle.dcc_read.specs.declared.offence.ParseKind.TheVariants.{Length, Version, Token, Grammar, Name, Type_, Place, Depth}
+use Rattle.dcc_reader.specs.declared.offence.ParseKind.{ParseKind}
+use Rattle.dcc_reader.specs.declared.offence.ParseKind.TheVariants.{Length, Version, Token, Grammar, Name, Type_, Place, Depth}
 use Rattle.dcc_parse.specs.Fault.{IsRefusal as IsTextRefusal}
 use Rattle.dcc_pipe.specs.Agreement.{IsTextOf}
 use Rattle.dcc_top.specs.declared.reply.Reply.{Reply}

@@ -15,7 +15,7 @@ use Rattle.dcc_prog.specs.Step.{machine_system}
 use Rattle.dcc_c.specs.Run.{text_system, first_state}
 use Rattle.dcc_c.specs.Text.{StandsFor}
 use Rattle.dcc_c.specs.Tree.{Tree}
-use Rattle.dcc_read.specs.declared.offence.ParseKind.{ParseKind}
+use Rattle.dcc_reader.specs.declared.offence.ParseKind.{ParseKind}
 use Rattle.dcc_parse.specs.Fault.{IsRefusal as IsTextRefusal}
 use Rattle.dcc_top.specs.declared.reply.Reply.{Reply}
 use Rattle.dcc_top.specs.declared.reply.Reply.TheVariants.{Done, NoFile, FileFault, InputFault, Memory, Format, TextFault}

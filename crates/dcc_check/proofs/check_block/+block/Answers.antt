@@ -3,8 +3,8 @@ use Rattle.std.specs.Prelude.{nat_lt}
 use Rattle.dcc_c.specs.Kinds.{of_depth, offence, only_if, first_behind}
 use Rattle.dcc_c.specs.Offences.{own_offences, lines_offences, inner_offences, arms_inner, case_offences, case_numbers, default_offences}
 use Rattle.dcc_c.proofs.refusals.FirstRules.{first-append}
-use Rattle.dcc_read.specs.PartialViews.{stmt_of, lines_of, arms_of}
-use Rattle.dcc_read.proofs.RowLaws.{arm-parts, if-tree, while-tree, do_while-tree, forever-tree, switch-tree}
+use Rattle.dcc_reader.specs.PartialViews.{stmt_of, lines_of, arms_of}
+use Rattle.dcc_reader.proofs.RowLaws.{arm-parts, if-tree, while-tree, do_while-tree, forever-tree, switch-tree}
 use Rattle.dcc_check.specs.Views.{told}
 use Rattle.dcc_check.proofs.TellLaws.{step-told, then-told}
 use Rattle.dcc_check.proofs.ListLaws.{next-left, room-out}

@@ -1,7 +1,7 @@
 use Rattle.std.proofs.Common.{◌+◌, ◌<◌, length, map, drop, arith}
 use Rattle.dcc_c.specs.Kinds.{first_behind}
 use Rattle.dcc_c.specs.Offences.{expr_offences, arguments_inner}
-use Rattle.dcc_read.specs.PartialViews.{expr_of}
+use Rattle.dcc_reader.specs.PartialViews.{expr_of}
 use Rattle.dcc_check.specs.Views.{told}
 use Rattle.dcc_check.proofs.TellLaws.{step-told}
 use Rattle.dcc_check.proofs.ListLaws.{next-left}

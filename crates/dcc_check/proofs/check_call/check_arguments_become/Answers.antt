@@ -5,7 +5,7 @@ use Rattle.dcc_c.specs.declared.syntax.Base.TheVariants.{Schar}
 use Rattle.dcc_c.specs.declared.syntax.CType.{CType}
 use Rattle.dcc_c.specs.Kinds.{first_behind}
 use Rattle.dcc_c.specs.Offences.{becomes, arguments_become}
-use Rattle.dcc_read.specs.PartialViews.{expr_of}
+use Rattle.dcc_reader.specs.PartialViews.{expr_of}
 use Rattle.dcc_check.specs.Views.{told}
 use Rattle.dcc_check.proofs.TellLaws.{step-told}
 use Rattle.dcc_check.proofs.ListLaws.{next-left, become-more, become-empty, more-left}

@@ -4,9 +4,9 @@ use Rattle.std.specs.List.{list_any}
 use Rattle.std.proofs.lemmas.List.{at_drop_more}
 use Rattle.dcc_c.specs.Kinds.{of_name, offence, only_if, first_behind}
 use Rattle.dcc_c.specs.Offences.{case_offences, case_numbers}
-use Rattle.dcc_read.specs.declared.partial.CaseAt.{CaseAt}
-use Rattle.dcc_read.specs.PartialViews.{case_of, arms_of}
-use Rattle.dcc_read.proofs.RowLaws.{arm-parts}
+use Rattle.dcc_reader.specs.declared.partial.CaseAt.{CaseAt}
+use Rattle.dcc_reader.specs.PartialViews.{case_of, arms_of}
+use Rattle.dcc_reader.proofs.RowLaws.{arm-parts}
 use Rattle.dcc_check.specs.Views.{told}
 use Rattle.dcc_check.proofs.TellLaws.{step-told}
 use Rattle.dcc_check.proofs.ListLaws.{next-left}

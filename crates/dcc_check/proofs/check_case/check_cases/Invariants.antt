@@ -1,7 +1,7 @@
 use Rattle.std.proofs.Common.{◌≡◌, ℕ, ◌+◌, ◌++◌, List, [], map, drop}
 use Rattle.dcc_c.specs.Kinds.{first_behind}
 use Rattle.dcc_c.specs.Offences.{case_offences, case_numbers}
-use Rattle.dcc_read.specs.PartialViews.{case_of, arms_of}
+use Rattle.dcc_reader.specs.PartialViews.{case_of, arms_of}
 use Rattle.dcc_check.specs.Views.{told}
 use Rattle.dcc_check.proofs.CaseLaws.{IsKnown}
 use Rattle.dcc_check.proofs.check_case.check_cases.Given as goal

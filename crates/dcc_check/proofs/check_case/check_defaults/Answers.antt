@@ -2,9 +2,9 @@ use Rattle.std.proofs.Common.{◌+◌, ◌<◌, false, true, length, map, drop, 
 use Rattle.dcc_c.specs.Kinds.{of_name, offence, only_if, first_behind}
 use Rattle.dcc_c.specs.Offences.{default_offences}
 use Rattle.dcc_c.specs.Partial.{cases}
-use Rattle.dcc_read.specs.declared.partial.PartialArm.{out-PartialArm}
-use Rattle.dcc_read.specs.PartialViews.{case_of, lines_of, arms_of}
-use Rattle.dcc_read.proofs.RowLaws.{arm-parts}
+use Rattle.dcc_reader.specs.declared.partial.PartialArm.{out-PartialArm}
+use Rattle.dcc_reader.specs.PartialViews.{case_of, lines_of, arms_of}
+use Rattle.dcc_reader.proofs.RowLaws.{arm-parts}
 use Rattle.dcc_check.specs.Views.{told}
 use Rattle.dcc_check.proofs.TellLaws.{step-told, no-some}
 use Rattle.dcc_check.proofs.ListLaws.{next-left}

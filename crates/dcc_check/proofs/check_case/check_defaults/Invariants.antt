@@ -1,7 +1,7 @@
 use Rattle.std.proofs.Common.{◌≡◌, false, drop}
 use Rattle.dcc_c.specs.Kinds.{first_behind}
 use Rattle.dcc_c.specs.Offences.{default_offences}
-use Rattle.dcc_read.specs.PartialViews.{arms_of}
+use Rattle.dcc_reader.specs.PartialViews.{arms_of}
 use Rattle.dcc_check.specs.Views.{told}
 use Rattle.dcc_check.proofs.check_case.check_defaults.Given as goal
 

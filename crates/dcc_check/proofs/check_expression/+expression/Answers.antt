@@ -5,7 +5,7 @@ use Rattle.dcc_c.specs.Kinds.{of_type, offence, only_if, first_behind}
 use Rattle.dcc_c.specs.Offences.{expr_offences, told_type, unary_offences, binary_offences, wants_number, arms_offences}
 use Rattle.dcc_c.specs.Partial.{BinaryOf, ConditionalOf, place_of}
 use Rattle.dcc_c.specs.Typing as typing
-use Rattle.dcc_read.specs.PartialViews.{expr_of}
+use Rattle.dcc_reader.specs.PartialViews.{expr_of}
 use Rattle.dcc_check.specs.Views.{told}
 use Rattle.dcc_check.specs.Operands.{operand}
 use Rattle.dcc_check.proofs.TellLaws.{then-told, no-image, operator-told, address-told}

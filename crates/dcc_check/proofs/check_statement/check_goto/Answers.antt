@@ -3,7 +3,7 @@ use Rattle.std.specs.Prelude.{option_map}
 use Rattle.dcc_c.specs.Kinds.{of_name, offence, only_if, first_behind}
 use Rattle.dcc_c.specs.Grammar.{is_among}
 use Rattle.dcc_c.specs.Offences.{goto_offences}
-use Rattle.dcc_read.specs.PartialViews.{word_of}
+use Rattle.dcc_reader.specs.PartialViews.{word_of}
 use Rattle.dcc_check.specs.Views.{told}
 use Rattle.dcc_check.proofs.check_statement.check_goto.Goals as goal
 

@@ -3,7 +3,7 @@ use Rattle.std.specs.Prelude.{option_map}
 use Rattle.dcc_c.specs.Kinds.{of_type, offence, only_if, first_behind}
 use Rattle.dcc_c.specs.Partial.{is_missing}
 use Rattle.dcc_c.specs.Offences.{expr_offences, becomes, return_offences}
-use Rattle.dcc_read.specs.PartialViews.{expr_of}
+use Rattle.dcc_reader.specs.PartialViews.{expr_of}
 use Rattle.dcc_check.specs.Views.{told}
 use Rattle.dcc_check.proofs.TellLaws.{then-if, then-if_not}
 use Rattle.dcc_check.proofs.check_statement.check_return.Goals as goal

@@ -1,5 +1,5 @@
 use Rattle.dcc_c.specs.Offences.{expr_offences}
-use Rattle.dcc_read.specs.PartialViews.{expr_of}
+use Rattle.dcc_reader.specs.PartialViews.{expr_of}
 use Rattle.dcc_check.specs.Views.{told}
 use Rattle.dcc_check.specs.Operands.{selector_offences}
 use Rattle.dcc_check.proofs.TellLaws.{then-told}

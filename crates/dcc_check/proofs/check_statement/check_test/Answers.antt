@@ -1,6 +1,6 @@
 use Rattle.std.proofs.Common.{◌≡◌, true, [], rules}
 use Rattle.dcc_c.specs.Offences.{expr_offences, wants_number}
-use Rattle.dcc_read.specs.PartialViews.{expr_of}
+use Rattle.dcc_reader.specs.PartialViews.{expr_of}
 use Rattle.dcc_check.specs.Views.{told}
 use Rattle.dcc_check.proofs.TellLaws.{then-if}
 use Rattle.dcc_check.proofs.check_statement.check_test.Goals as goal

@@ -2,7 +2,7 @@ use Rattle.std.proofs.Common.{◌≡◌, map, drop}
 use Rattle.std.specs.Prelude.{option_map}
 use Rattle.dcc_c.specs.Known.{known_as, known_functions}
 use Rattle.dcc_c.specs.Tree.{Word}
-use Rattle.dcc_read.specs.PartialViews.{function_of}
+use Rattle.dcc_reader.specs.PartialViews.{function_of}
 use Rattle.dcc_check.specs.Declarations.{first_found, held_head}
 use Rattle.dcc_check.specs.Scenes.{head_of}
 use Rattle.dcc_check.proofs.declarations.add_functions.Given as goal

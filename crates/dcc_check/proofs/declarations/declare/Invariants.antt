@@ -3,9 +3,10 @@ use Rattle.std.specs.Prelude.{option_map}
 use Rattle.dcc_c.specs.TextOffences.{declared_of}
 use Rattle.dcc_c.specs.Tree.{Word}
 use Rattle.dcc_c.specs.Typing.{declared_as}
-use Rattle.dcc_read.specs.PartialViews.{variable_of}
+use Rattle.dcc_reader.specs.PartialViews.{variable_of}
 use Rattle.dcc_check.specs.Declarations.{placed_in, first_found}
-use Rattle.dcc_check.specs.Scenes.{held, unnamed}
+use Rattle.dcc_types.specs.NameViews.{unnamed}
+use Rattle.dcc_check.specs.Scenes.{held}
 use Rattle.dcc_check.proofs.declarations.declare.Given as goal
 
 -- with the variables that are left, all are there

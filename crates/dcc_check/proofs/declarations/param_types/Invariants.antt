@@ -1,6 +1,6 @@
 use Rattle.std.proofs.Common.{◌≡◌, ◌++◌, map, drop}
 use Rattle.dcc_c.specs.Known.{type_list}
-use Rattle.dcc_read.specs.PartialViews.{variable_of}
+use Rattle.dcc_reader.specs.PartialViews.{variable_of}
 use Rattle.dcc_check.proofs.declarations.param_types.Given as goal
 
 -- with the types that are left, all are there

@@ -1,7 +1,7 @@
 use Rattle.std.proofs.Common.{◌≡◌, ◌+◌, ◌<◌, ◌++◌, length, map, drop, OnOk, sym, ap, subst, ◌∙◌, append_assoc, arith}
 use Rattle.dcc_c.specs.Offences.{label_list, labels_of, labels_in_arms}
-use Rattle.dcc_read.specs.PartialViews.{stmt_of, lines_of, arms_of}
-use Rattle.dcc_read.proofs.RowLaws.{arm-parts, if-tree, while-tree, do_while-tree, forever-tree, switch-tree}
+use Rattle.dcc_reader.specs.PartialViews.{stmt_of, lines_of, arms_of}
+use Rattle.dcc_reader.proofs.RowLaws.{arm-parts, if-tree, while-tree, do_while-tree, forever-tree, switch-tree}
 use Rattle.dcc_check.specs.Views.{lent_word}
 use Rattle.dcc_check.proofs.ListLaws.{next-left, step-listed}
 use Rattle.dcc_check.proofs.labels.+labels.Goals as goal

@@ -1,6 +1,6 @@
 use Rattle.std.proofs.Common.{◌≡◌, ◌++◌, map, drop}
 use Rattle.dcc_c.specs.Offences.{label_list, labels_in_arms}
-use Rattle.dcc_read.specs.PartialViews.{lines_of, arms_of}
+use Rattle.dcc_reader.specs.PartialViews.{lines_of, arms_of}
 use Rattle.dcc_check.specs.Views.{lent_word}
 use Rattle.dcc_check.proofs.labels.+labels.Given as goal
 

@@ -1,7 +1,7 @@
 use Rattle.std.proofs.Common.{◌≡◌, ◌++◌, map, drop}
 use Rattle.dcc_c.specs.Known.{known_functions}
 use Rattle.dcc_c.specs.TextOffences.{words_of}
-use Rattle.dcc_read.specs.PartialViews.{function_of}
+use Rattle.dcc_reader.specs.PartialViews.{function_of}
 use Rattle.dcc_check.specs.Names.{lent_names}
 use Rattle.dcc_check.proofs.names.known_names.Given as goal
 

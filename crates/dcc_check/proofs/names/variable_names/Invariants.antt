@@ -1,6 +1,6 @@
 use Rattle.std.proofs.Common.{◌≡◌, ◌++◌, map, drop}
 use Rattle.dcc_c.specs.TextOffences.{name_list}
-use Rattle.dcc_read.specs.PartialViews.{variable_of}
+use Rattle.dcc_reader.specs.PartialViews.{variable_of}
 use Rattle.dcc_check.specs.Names.{lent_names}
 use Rattle.dcc_check.proofs.names.variable_names.Given as goal
 

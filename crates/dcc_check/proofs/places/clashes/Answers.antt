@@ -1,7 +1,7 @@
 use Rattle.std.proofs.Common.{map, sym, ap, ◌∙◌}
 use Rattle.std.specs.Prelude.{not}
 use Rattle.std.proofs.lemmas.List.{drop_all}
-use Rattle.dcc_read.specs.PartialViews.{variable_of}
+use Rattle.dcc_reader.specs.PartialViews.{variable_of}
 use Rattle.dcc_check.proofs.PlaceLaws.{all_apart, all-earlier, clash-found, apart-passed, empty-passed}
 use Rattle.dcc_check.proofs.places.clashes.Goals as goal
 use Rattle.dcc_check.proofs.places.clashes.Goals.{else-takes_bytes-via-then-takes_bytes+else-not-stand_apart, else-takes_bytes-via-else-takes_bytes}

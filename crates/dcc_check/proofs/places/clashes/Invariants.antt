@@ -1,5 +1,5 @@
 use Rattle.std.proofs.Common.{◌≡◌, map, drop}
-use Rattle.dcc_read.specs.PartialViews.{variable_of}
+use Rattle.dcc_reader.specs.PartialViews.{variable_of}
 use Rattle.dcc_check.proofs.PlaceLaws.{all_apart}
 use Rattle.dcc_check.proofs.places.clashes.Given as goal
 

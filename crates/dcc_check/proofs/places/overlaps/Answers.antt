@@ -1,5 +1,5 @@
 use Rattle.std.proofs.Common.{◌+◌, refl, sym, ap, subst, map}
-use Rattle.dcc_read.specs.PartialViews.{variable_of}
+use Rattle.dcc_reader.specs.PartialViews.{variable_of}
 use Rattle.dcc_check.specs.Places.{earlier_of, IsOccupied}
 use Rattle.dcc_check.proofs.PlaceLaws.{free-tells, takes-earlier, le-of}
 use Rattle.dcc_check.proofs.places.overlaps.Goals as goal

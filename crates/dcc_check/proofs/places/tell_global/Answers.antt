@@ -1,6 +1,6 @@
 use Rattle.std.proofs.Common.{map}
 use Rattle.dcc_c.specs.TextOffences.{size_offences, surplus}
-use Rattle.dcc_read.specs.PartialViews.{variable_of}
+use Rattle.dcc_reader.specs.PartialViews.{variable_of}
 use Rattle.dcc_check.specs.Places.{earlier_of, misplaced_here}
 use Rattle.dcc_check.specs.Views.{told}
 use Rattle.dcc_check.proofs.ToldLaws.{told-three}

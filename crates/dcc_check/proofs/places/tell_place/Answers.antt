@@ -1,6 +1,6 @@
 use Rattle.std.proofs.Common.{◌∷◌, map, sym, ◌∙◌, subst}
 use Rattle.std.specs.Prelude.{if◌then◌else◌}
-use Rattle.dcc_read.specs.PartialViews.{variable_of}
+use Rattle.dcc_reader.specs.PartialViews.{variable_of}
 use Rattle.dcc_check.specs.Places.{earlier_of, IsOccupied}
 use Rattle.dcc_check.proofs.places.tell_place.Goals as goal
 

@@ -2,7 +2,7 @@ use Rattle.std.proofs.Common.{◌+◌, [], length, nat_eq, sym, ap, ◌∙◌}
 use Rattle.std.specs.Prelude.{if◌then◌else◌}
 use Rattle.dcc_c.specs.Kinds.{first_behind}
 use Rattle.dcc_c.specs.TextOffences.{function_offences}
-use Rattle.dcc_read.specs.PartialViews.{function_of}
+use Rattle.dcc_reader.specs.PartialViews.{function_of}
 use Rattle.dcc_check.specs.Views.{told}
 use Rattle.dcc_check.proofs.ToldLaws.{function-step}
 use Rattle.dcc_check.proofs.text.check_functions.Goals as goal

@@ -3,7 +3,7 @@ use Rattle.dcc_c.specs.Kinds.{first_behind}
 use Rattle.dcc_c.specs.Known.{labels_before_head}
 use Rattle.dcc_c.specs.TextOffences.{Whole, functions_offences}
 use Rattle.dcc_lex.specs.TokenViews.{pieces_of}
-use Rattle.dcc_read.specs.PartialViews.{function_of}
+use Rattle.dcc_reader.specs.PartialViews.{function_of}
 use Rattle.dcc_check.specs.Wholes.{IsWhole}
 use Rattle.dcc_check.specs.Views.{told}
 use Rattle.dcc_check.proofs.text.check_functions.Given as goal

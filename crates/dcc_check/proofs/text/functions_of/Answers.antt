@@ -1,7 +1,7 @@
 use Rattle.std.proofs.Common.{map, ap, ◌∙◌}
 use Rattle.std.specs.Prelude.{option_map}
 use Rattle.dcc_c.specs.Known.{known_as, known_dos, known_functions, heads_in}
-use Rattle.dcc_read.specs.PartialViews.{function_of}
+use Rattle.dcc_reader.specs.PartialViews.{function_of}
 use Rattle.dcc_check.specs.Declarations.{first_found, held_head}
 use Rattle.dcc_check.specs.Scenes.{head_of, signature_of}
 use Rattle.dcc_check.proofs.MapLaws.{none-held}

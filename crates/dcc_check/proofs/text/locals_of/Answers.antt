@@ -3,9 +3,10 @@ use Rattle.std.specs.Prelude.{option_map, not}
 use Rattle.dcc_c.specs.Placement.{is_auto, is_register}
 use Rattle.dcc_c.specs.TextOffences.{declared_of}
 use Rattle.dcc_c.specs.Typing.{declared_as}
-use Rattle.dcc_read.specs.PartialViews.{variable_of}
+use Rattle.dcc_reader.specs.PartialViews.{variable_of}
 use Rattle.dcc_check.specs.Declarations.{first_found}
-use Rattle.dcc_check.specs.Scenes.{held, unnamed}
+use Rattle.dcc_types.specs.NameViews.{unnamed}
+use Rattle.dcc_check.specs.Scenes.{held}
 use Rattle.dcc_check.proofs.MapLaws.{none-held}
 use Rattle.dcc_check.proofs.WholeLaws.{two-lists}
 use Rattle.dcc_check.proofs.text.locals_of.Goals as goal

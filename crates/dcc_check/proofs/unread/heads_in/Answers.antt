@@ -2,7 +2,7 @@ use Rattle.std.proofs.Common.{◌+◌, ◌<◌, ◌++◌, length, drop, map, sym
 use Rattle.std.proofs.lemmas.List.{take_rest}
 use Rattle.dcc_c.specs.Known.{known_functions, head_at, heads_in}
 use Rattle.dcc_lex.specs.TokenViews.{pieces_of}
-use Rattle.dcc_read.specs.PartialViews.{function_of}
+use Rattle.dcc_reader.specs.PartialViews.{function_of}
 use Rattle.dcc_check.proofs.UnreadLaws.{heads-next}
 use Rattle.dcc_check.proofs.unread.heads_in.Goals as goal
 

@@ -1,7 +1,7 @@
 use Rattle.std.proofs.Common.{◌≡◌, ◌++◌, map, drop}
 use Rattle.dcc_c.specs.Known.{known_functions, heads_in}
 use Rattle.dcc_lex.specs.TokenViews.{pieces_of}
-use Rattle.dcc_read.specs.PartialViews.{function_of}
+use Rattle.dcc_reader.specs.PartialViews.{function_of}
 use Rattle.dcc_check.proofs.unread.heads_in.Given as goal
 
 -- with the heads that are left, all are there

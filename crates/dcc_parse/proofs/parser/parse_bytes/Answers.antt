@@ -5,7 +5,7 @@ use Rattle.dcc_c.specs.Pieces.{line_at}
 use Rattle.dcc_c.specs.TextOffences.{offences_of}
 use Rattle.dcc_c.specs.Views.{tree_of}
 use Rattle.dcc_lex.specs.TokenViews.{pieces_of}
-use Rattle.dcc_read.specs.OffenceViews.{offence_of}
+use Rattle.dcc_reader.specs.OffenceViews.{offence_of}
 use Rattle.dcc_parse.specs.Fault.{IsTreeOf}
 use Rattle.dcc_parse.proofs.ParseRules.{tree-stands, long-refused, version-refused, offence-refused, rows-few}
 use Rattle.dcc_parse.proofs.parser.parse_bytes.Goals as goal

@@ -4,9 +4,9 @@ use Rattle.dcc_c.specs.Kinds.{first_of}
 use Rattle.dcc_c.specs.TextOffences.{stop_offences, text_offences}
 use Rattle.dcc_c.specs.Views.{tree_of}
 use Rattle.dcc_lex.specs.TokenViews.{pieces_of}
-use Rattle.dcc_read.specs.OffenceViews.{offence_of}
-use Rattle.dcc_read.specs.PartialViews.{text_of}
-use Rattle.dcc_read.specs.ReaderViews.{reader_of}
+use Rattle.dcc_reader.specs.OffenceViews.{offence_of}
+use Rattle.dcc_reader.specs.PartialViews.{text_of}
+use Rattle.dcc_reader.specs.ReaderViews.{reader_of}
 use Rattle.dcc_parse.proofs.ParseRules.{few-unread, read-tree}
 use Rattle.dcc_parse.proofs.parser.parse_pieces.Goals as goal
 

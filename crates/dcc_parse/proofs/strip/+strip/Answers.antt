@@ -1,6 +1,6 @@
 use Rattle.std.proofs.Common.{suc, ◌+◌, not, map, drop, refl, sym, ap, ◌∙◌}
 use Rattle.dcc_c.specs.Stripped.{plain_numbers, case_arms}
-use Rattle.dcc_read.specs.PartialViews as partial
+use Rattle.dcc_reader.specs.PartialViews as partial
 use Rattle.dcc_parse.proofs.StripLaws.{arms_then, lines-end, arms-end, lines-step, arms-step, arms-skip, default-skip, default-found, lines-behind, arms-behind, default-behind, if-strip, while-strip, do-strip, forever-strip, switch-strip}
 use Rattle.dcc_parse.proofs.strip.+strip.Goals.{strip_arms-then-is_none+in_ok-cases+in_ok-body+in_ok-push, strip_arms-else-is_none}
 use Rattle.dcc_parse.proofs.strip.+strip.Goals as goal

@@ -1,7 +1,7 @@
 use Rattle.std.proofs.Common.{◌≡◌, ℕ, [], false, drop}
 use Rattle.dcc_c.specs.Offences.{Scene, default_offences, lines_offences, arms_inner}
 use Rattle.dcc_c.specs.Stripped.{plain_lines, case_arms, default_arms}
-use Rattle.dcc_read.specs.PartialViews as partial
+use Rattle.dcc_reader.specs.PartialViews as partial
 use Rattle.dcc_parse.proofs.StripLaws.{lines_then, arms_then}
 use Rattle.dcc_parse.proofs.strip.+strip.Given as goal
 

@@ -1,7 +1,7 @@
 use Rattle.std.proofs.Common.{◌≡◌, ◌++◌, map, drop}
 use Rattle.dcc_c.specs.Stripped.{plain_expr}
 use Rattle.dcc_c.specs.Views as tree
-use Rattle.dcc_read.specs.PartialViews as partial
+use Rattle.dcc_reader.specs.PartialViews as partial
 use Rattle.dcc_parse.proofs.strip.strip_arguments.Given as goal
 
 -- what has been stripped, before the rest

@@ -1,6 +1,6 @@
 use Rattle.std.proofs.Common.{map}
 use Rattle.dcc_c.specs.Views.{global_of, function_of}
-use Rattle.dcc_read.specs.PartialViews.{text_of}
+use Rattle.dcc_reader.specs.PartialViews.{text_of}
 use Rattle.dcc_parse.proofs.TextLaws.{clean-text, text-stripped}
 use Rattle.dcc_parse.proofs.strip_text.strip.Goals as goal
 

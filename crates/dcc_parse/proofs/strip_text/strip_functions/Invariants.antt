@@ -2,7 +2,7 @@ use Rattle.std.proofs.Common.{◌≡◌, ◌++◌, [], map, drop}
 use Rattle.dcc_c.specs.Stripped.{plain_function}
 use Rattle.dcc_c.specs.TextOffences.{Whole, functions_offences}
 use Rattle.dcc_c.specs.Views as tree
-use Rattle.dcc_read.specs.PartialViews as partial
+use Rattle.dcc_reader.specs.PartialViews as partial
 use Rattle.dcc_parse.proofs.strip_text.strip_functions.Given as goal
 
 -- what has been stripped, before the rest, in which nothing offends either

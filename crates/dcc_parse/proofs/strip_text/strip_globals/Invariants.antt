@@ -2,7 +2,7 @@ use Rattle.std.proofs.Common.{◌≡◌, ◌++◌, true, map, drop}
 use Rattle.std.specs.List.{list_all}
 use Rattle.dcc_c.specs.Stripped.{plain_global}
 use Rattle.dcc_c.specs.Views as tree
-use Rattle.dcc_read.specs.PartialViews as partial
+use Rattle.dcc_reader.specs.PartialViews as partial
 use Rattle.dcc_parse.specs.Stripping.{is_in_memory}
 use Rattle.dcc_parse.proofs.strip_text.strip_globals.Given as goal
 

@@ -1,6 +1,6 @@
 use Rattle.std.proofs.Common.{◌≡◌, ◌++◌, map, drop}
 use Rattle.dcc_c.specs.Stripped.{plain_numbers}
-use Rattle.dcc_read.specs.PartialViews as partial
+use Rattle.dcc_reader.specs.PartialViews as partial
 use Rattle.dcc_parse.proofs.strip_text.strip_init.Given as goal
 
 -- what has been stripped, before the rest

@@ -1,8 +1,8 @@
 use Rattle.std.proofs.Common.{codes, sym, ◌∙◌, arith}
-use Rattle.dcc_read.specs.PartialViews.{case_of}
-use Rattle.dcc_read.specs.ReaderViews.{reader_of}
-use Rattle.dcc_read.proofs.LoopLaws.{before-step, before-done, before-none, map-listed, cases-none, cases-some, cases-end}
-use Rattle.dcc_read.proofs.SeenLaws.{word-seen}
+use Rattle.dcc_reader.specs.PartialViews.{case_of}
+use Rattle.dcc_reader.specs.ReaderViews.{reader_of}
+use Rattle.dcc_reader.proofs.LoopLaws.{before-step, before-done, before-none, map-listed, cases-none, cases-some, cases-end}
+use Rattle.dcc_reader.proofs.SeenLaws.{word-seen}
 use Rattle.dcc_read.proofs.arm.read_cases.Goals as goal
 
 pub loop-left-init : goal.loop-left-init

@@ -1,8 +1,8 @@
 use Rattle.std.proofs.Common.{◌≡◌, map}
 use Rattle.dcc_c.specs.ReadingStatements as statements
-use Rattle.dcc_read.specs.Behind.{before_list}
-use Rattle.dcc_read.specs.PartialViews.{case_of}
-use Rattle.dcc_read.specs.ReaderViews.{reader_of}
+use Rattle.dcc_reader.specs.Behind.{before_list}
+use Rattle.dcc_reader.specs.PartialViews.{case_of}
+use Rattle.dcc_reader.specs.ReaderViews.{reader_of}
 use Rattle.dcc_read.proofs.arm.read_cases.Given as goal
 
 -- the cases so far, before those that are read from here on

@@ -1,9 +1,9 @@
 use Rattle.std.proofs.Common.{codes, sym, ap, ◌∙◌, ◌-◌, arith}
 use Rattle.dcc_c.specs.ReadingStatements.{read_enclosed}
-use Rattle.dcc_read.specs.PartialViews.{expr_of}
-use Rattle.dcc_read.specs.ReaderViews.{reader_of}
-use Rattle.dcc_read.proofs.LoopLaws.{before-step, before-done, map-pushed, map-first, arguments-first, arguments-none, arguments-some, arguments-end}
-use Rattle.dcc_read.proofs.SeenLaws.{mark-seen}
+use Rattle.dcc_reader.specs.PartialViews.{expr_of}
+use Rattle.dcc_reader.specs.ReaderViews.{reader_of}
+use Rattle.dcc_reader.proofs.LoopLaws.{before-step, before-done, map-pushed, map-first, arguments-first, arguments-none, arguments-some, arguments-end}
+use Rattle.dcc_reader.proofs.SeenLaws.{mark-seen}
 use Rattle.dcc_read.proofs.call.read_arguments.Goals as goal
 
 pub loop-left-init : goal.loop-left-init

@@ -1,8 +1,8 @@
 use Rattle.std.proofs.Common.{◌≡◌, map}
 use Rattle.dcc_c.specs.ReadingStatements.{more_arguments, read_arguments}
-use Rattle.dcc_read.specs.Behind.{before_list}
-use Rattle.dcc_read.specs.PartialViews.{expr_of}
-use Rattle.dcc_read.specs.ReaderViews.{reader_of}
+use Rattle.dcc_reader.specs.Behind.{before_list}
+use Rattle.dcc_reader.specs.PartialViews.{expr_of}
+use Rattle.dcc_reader.specs.ReaderViews.{reader_of}
 use Rattle.dcc_read.proofs.call.read_arguments.Given as goal
 
 -- the arguments so far, before those that are read from here on

@@ -3,8 +3,9 @@ use Rattle.std.specs.Prelude.{codes}
 use Rattle.dcc_c.specs.Grammar as grammar
 use Rattle.dcc_c.specs.Partial as partial
 use Rattle.dcc_c.specs.Reading as reading
-use Rattle.dcc_read.specs.PartialViews.{expr_of}
-use Rattle.dcc_read.specs.ReaderViews.{reader_of, inside_of}
+use Rattle.dcc_reader.specs.PartialViews.{expr_of}
+use Rattle.dcc_read.specs.ExpressionViews.{inside_of}
+use Rattle.dcc_reader.specs.ReaderViews.{reader_of}
 use Rattle.dcc_read.proofs.expression.+expression.Goals as goal
 use Rattle.dcc_read.proofs.ExpressionSteps as steps
 use Rattle.dcc_read.proofs.ExpressionSteps.{both, along, made}

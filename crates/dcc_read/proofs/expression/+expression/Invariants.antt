@@ -1,7 +1,8 @@
 use Rattle.std.proofs.Common.{◌≡◌, ◌≤◌}
 use Rattle.dcc_c.specs.Reading as reading
-use Rattle.dcc_read.specs.PartialViews.{expr_of}
-use Rattle.dcc_read.specs.ReaderViews.{reader_of, inside_of}
+use Rattle.dcc_reader.specs.PartialViews.{expr_of}
+use Rattle.dcc_read.specs.ExpressionViews.{inside_of}
+use Rattle.dcc_reader.specs.ReaderViews.{reader_of}
 use Rattle.dcc_read.proofs.expression.+expression.Given as goal
 
 abbrev pub decreases-measured_expr : goal.decreases-measured_expr

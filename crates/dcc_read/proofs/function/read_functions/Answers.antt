@@ -1,9 +1,9 @@
 use Rattle.std.proofs.Common.{sym, ◌∙◌, arith}
-use Rattle.dcc_read.specs.PartialViews.{function_of}
-use Rattle.dcc_read.specs.ReaderViews.{reader_of}
-use Rattle.dcc_read.specs.FunctionViews.{begun_of}
+use Rattle.dcc_reader.specs.PartialViews.{function_of}
+use Rattle.dcc_reader.specs.ReaderViews.{reader_of}
+use Rattle.dcc_reader.specs.BegunViews.{begun_of}
 use Rattle.dcc_c.specs.Reading.{got}
-use Rattle.dcc_read.proofs.LoopLaws.{before-step, before-done, map-pushed, map-first}
+use Rattle.dcc_reader.proofs.LoopLaws.{before-step, before-done, map-pushed, map-first}
 use Rattle.dcc_read.proofs.TextLaws.{functions-first, functions-none, functions-some, functions-end}
 use Rattle.dcc_read.proofs.function.read_functions.Goals as goal
 

@@ -1,10 +1,10 @@
 use Rattle.std.proofs.Common.{◌≡◌, map}
 use Rattle.dcc_c.specs.Reading.{got}
 use Rattle.dcc_c.specs.ReadingText as texts
-use Rattle.dcc_read.specs.Behind.{before_list}
-use Rattle.dcc_read.specs.FunctionViews.{begun_of}
-use Rattle.dcc_read.specs.PartialViews.{function_of}
-use Rattle.dcc_read.specs.ReaderViews.{reader_of}
+use Rattle.dcc_reader.specs.Behind.{before_list}
+use Rattle.dcc_reader.specs.BegunViews.{begun_of}
+use Rattle.dcc_reader.specs.PartialViews.{function_of}
+use Rattle.dcc_reader.specs.ReaderViews.{reader_of}
 use Rattle.dcc_read.proofs.function.read_functions.Given as goal
 
 -- the functions so far, before those that are read from here on

@@ -4,16 +4,16 @@ use Rattle.dcc_c.specs.Partial.{IfOf, no_rows, no_cases, cases}
 use Rattle.dcc_c.specs.Reading.{Got, got}
 use Rattle.dcc_c.specs.Token.{depth_line}
 use Rattle.dcc_c.specs.ReadingStatements as s
-use Rattle.dcc_read.specs.declared.partial.PartialArm.{out-roll-PartialArm}
+use Rattle.dcc_reader.specs.declared.partial.PartialArm.{out-roll-PartialArm}
 use Rattle.dcc_read.specs.declared.statement.LineRead.{LineRead}
 use Rattle.dcc_read.specs.ArmViews.{arm_head_of}
 use Rattle.dcc_read.specs.AroundViews.{around_of}
 use Rattle.dcc_read.specs.Lines.{block_of, before_lines, behind_line, label_line}
-use Rattle.dcc_read.specs.PartialViews.{case_of, expr_of, stmt_of, lines_of, arms_of}
-use Rattle.dcc_read.specs.ReaderViews.{reader_of}
-use Rattle.dcc_read.proofs.RowLaws.{arm-parts, if-tree, while-tree, do_while-tree, forever-tree, switch-tree}
-use Rattle.dcc_read.proofs.SeenLaws.{word-seen, head-seen}
-use Rattle.dcc_read.proofs.TextLaws.{ok-map}
+use Rattle.dcc_reader.specs.PartialViews.{case_of, expr_of, stmt_of, lines_of, arms_of}
+use Rattle.dcc_reader.specs.ReaderViews.{reader_of}
+use Rattle.dcc_reader.proofs.RowLaws.{arm-parts, if-tree, while-tree, do_while-tree, forever-tree, switch-tree}
+use Rattle.dcc_reader.proofs.SeenLaws.{word-seen, head-seen}
+use Rattle.dcc_reader.proofs.HeadLaws.{ok-map}
 use Rattle.dcc_read.proofs.StatementLaws.{loop-seen}
 use Rattle.dcc_read.proofs.StatementLaws as laws
 use Rattle.dcc_read.proofs.LineLaws as lines

@@ -2,7 +2,7 @@ use Rattle.std.proofs.Common.{◌≡◌, ◌+◌, ◌*◌, ◌≤◌, false}
 use Rattle.dcc_c.specs.ReadingStatements as statements
 use Rattle.dcc_read.specs.AroundViews.{around_of}
 use Rattle.dcc_read.specs.Lines.{before_lines}
-use Rattle.dcc_read.specs.ReaderViews.{reader_of}
+use Rattle.dcc_reader.specs.ReaderViews.{reader_of}
 use Rattle.dcc_read.proofs.LineLaws.{before_arms}
 use Rattle.dcc_read.proofs.statement.+statement.Given as goal
 

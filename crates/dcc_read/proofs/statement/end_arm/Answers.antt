@@ -1,8 +1,8 @@
 use Rattle.std.proofs.Common.{sym, ap, ◌∙◌}
 use Rattle.dcc_c.specs.Reading.{got}
-use Rattle.dcc_read.specs.ReaderViews.{reader_of}
+use Rattle.dcc_reader.specs.ReaderViews.{reader_of}
 use Rattle.dcc_read.proofs.LineLaws.{popped}
-use Rattle.dcc_read.proofs.LoopLaws.{if-true, if-false}
+use Rattle.dcc_reader.proofs.LoopLaws.{if-true, if-false}
 use Rattle.dcc_read.proofs.statement.end_arm.Goals as goal
 
 pub returns-then-block : goal.returns-then-block

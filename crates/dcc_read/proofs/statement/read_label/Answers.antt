@@ -1,8 +1,8 @@
 use Rattle.std.proofs.Common.{codes}
 use Rattle.std.specs.Option.{option_map}
-use Rattle.dcc_read.specs.PartialViews.{word_of}
-use Rattle.dcc_read.specs.ReaderViews.{reader_of}
-use Rattle.dcc_read.proofs.SeenLaws.{mark-behind}
+use Rattle.dcc_reader.specs.PartialViews.{word_of}
+use Rattle.dcc_reader.specs.ReaderViews.{reader_of}
+use Rattle.dcc_reader.proofs.SeenLaws.{mark-behind}
 use Rattle.dcc_read.proofs.statement.read_label.Goals as goal
 
 pub skip-requires : goal.skip-requires

@@ -1,6 +1,6 @@
 use Rattle.std.proofs.Common.{sym, ◌∙◌}
 use Rattle.dcc_c.specs.Partial.{BreakOf, ContinueOf}
-use Rattle.dcc_read.proofs.LoopLaws.{if-true, if-false}
+use Rattle.dcc_reader.proofs.LoopLaws.{if-true, if-false}
 use Rattle.dcc_read.proofs.statement.read_short.Goals as goal
 
 pub returns-then-sees_word : goal.returns-then-sees_word

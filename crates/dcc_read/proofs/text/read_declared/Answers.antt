@@ -2,12 +2,12 @@ use Rattle.std.proofs.Common.{◌≤◌, ◌+◌, ◌*◌, ◌-◌, Some, map, s
 use Rattle.dcc_c.specs.Reading.{got}
 use Rattle.dcc_c.specs.ReadingText.{read_declared}
 use Rattle.dcc_read.specs.TextViews.{before_globals}
-use Rattle.dcc_read.specs.PartialViews.{variable_of, function_of}
-use Rattle.dcc_read.specs.ReaderViews.{reader_of}
-use Rattle.dcc_read.specs.FunctionViews.{begun_of}
+use Rattle.dcc_reader.specs.PartialViews.{variable_of, function_of}
+use Rattle.dcc_reader.specs.ReaderViews.{reader_of}
+use Rattle.dcc_reader.specs.BegunViews.{begun_of}
 use Rattle.dcc_c.specs.Token.{place_line}
-use Rattle.dcc_read.proofs.LoopLaws.{map-pushed}
-use Rattle.dcc_read.proofs.SeenLaws.{head-seen}
+use Rattle.dcc_reader.proofs.LoopLaws.{map-pushed}
+use Rattle.dcc_reader.proofs.SeenLaws.{head-seen}
 use Rattle.dcc_read.proofs.TextLaws.{globals-none, globals-step, globals-done, globals-parts, declared-place, declared-global, declared-functions, declared-end, address-kept}
 use Rattle.dcc_read.proofs.text.read_declared.Goals as goal
 

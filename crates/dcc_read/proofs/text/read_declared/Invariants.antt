@@ -1,8 +1,8 @@
 use Rattle.std.proofs.Common.{◌≡◌, ◌+◌, ◌*◌, ◌≤◌, map, None}
 use Rattle.std.specs.Prelude.{IfSome}
 use Rattle.dcc_c.specs.ReadingText as texts
-use Rattle.dcc_read.specs.PartialViews.{variable_of}
-use Rattle.dcc_read.specs.ReaderViews.{reader_of}
+use Rattle.dcc_reader.specs.PartialViews.{variable_of}
+use Rattle.dcc_reader.specs.ReaderViews.{reader_of}
 use Rattle.dcc_read.specs.TextViews.{before_globals}
 use Rattle.dcc_read.proofs.text.read_declared.Given as goal
 

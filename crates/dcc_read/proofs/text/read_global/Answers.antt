@@ -1,5 +1,5 @@
-use Rattle.dcc_read.specs.ReaderViews.{reader_of}
-use Rattle.dcc_read.specs.FunctionViews.{begun_of}
+use Rattle.dcc_reader.specs.ReaderViews.{reader_of}
+use Rattle.dcc_reader.specs.BegunViews.{begun_of}
 use Rattle.dcc_c.specs.Reading.{got}
 use Rattle.dcc_read.proofs.TextLaws.{global-read}
 use Rattle.dcc_read.proofs.text.read_global.Goals as goal

@@ -1,6 +1,0 @@
-use Rattle.std.proofs.Common.{refl}
-use Rattle.dcc_read.proofs.reader.Reader.skip.Goals as goal
-use Rattle.dcc_read.proofs.ReaderLaws.{behind_next}
-
-pub returns : goal.returns
-returns c = behind_next c.args.self.now _ refl refl refl refl

@@ -1,6 +1,0 @@
-use Rattle.std.proofs.Common.{ap}
-use Rattle.dcc_read.proofs.reader.Reader.take_type.Goals as goal
-use Rattle.dcc_read.proofs.ReaderLaws.{type_behind}
-
-pub returns-in_err-base : goal.returns-in_err-base
-returns-in_err-base c = rw c.from_residual.ensures (ap type_behind c.in_err-base.ensures)

@@ -1,0 +1,21 @@
+use Rattle.std.proofs.Common.{◌≡◌}
+use Rattle.dcc_c.specs.Reading.{got}
+use Rattle.dcc_c.specs.ReadingText as texts
+use Rattle.dcc_lex.specs.TokenViews.{pieces_of}
+use Rattle.dcc_reader.specs.BegunViews.{begun_of}
+use Rattle.dcc_reader.specs.PartialViews.{function_of}
+use Rattle.dcc_reader.specs.ReaderViews.{reader_of}
+use Rattle.dcc_reader.specs.declared.partial.PartialFunction.{PartialFunction}
+use Rattle.dcc_reader.proofs.HeadLaws.{ok-map, head-at}
+use Rattle.dcc_reader.proofs.head.head_at.Goals as goal
+
+pub returns : goal.returns
+returns c =
+    let begun = got (begun_of c.in_ok-begun.begun) (reader_of c.read_begun.new.r) in
+    let pieces = pieces_of c.args.pieces.now in
+    ok-map c.read_head.result
+    (λ (f : PartialFunction). got (function_of f) (reader_of c.read_head.new.r) ≡ texts.read_head c.enough_calls.result begun)
+    (λ (f : PartialFunction). function_of f ≡ (texts.read_head (texts.enough_calls pieces) (texts.read_begun (texts.reader_of pieces))).value)
+    (λ f h. head-at c.enough_calls.result pieces begun (reader_of c.reader_at-r.result) (reader_of c.read_head.new.r) (function_of f)
+    h c.in_ok-begun.ensures c.reader_at-r.ensures c.enough_calls.ensures)
+    c.read_head.ensures

@@ -1,0 +1,5 @@
+pub mod BegunViews
+pub mod Behind
+pub mod OffenceViews
+pub mod PartialViews
+pub mod ReaderViews

@@ -1,0 +1,116 @@
+//! Reading what functions begin with.
+
+ghost use Rattle.std.specs.Prelude.{◌≡◌, ◌≤◌, IfOk, length};
+ghost use Rattle.dcc_c.specs.Reading as reading;
+ghost use Rattle.dcc_c.specs.ReadingText as texts;
+ghost use Rattle.dcc_lex.specs.TokenViews.{pieces_of};
+ghost use Rattle.dcc_reader.specs.BegunViews.{begun_of, opened_at};
+ghost use Rattle.dcc_reader.specs.PartialViews.{function_of};
+ghost use Rattle.dcc_reader.specs.ReaderViews.{reader_of};
+
+use crate::declaration::read_params;
+use crate::partial::{PartialFunction, WordAt};
+use crate::reader::{Reader, enough_calls, reader_at};
+use dcc_c::CType;
+use dcc_lex::{Mark, Piece};
+use std::alloc::{AllocError, Global};
+
+/// What a declaration begins with.
+#[derive(Drop)]
+pub struct Begun {
+    /// Its place.
+    pub at: usize,
+    /// Whether a type stands there, and not `void`.
+    pub has_result: bool,
+    /// Which type.
+    pub result: Option<CType>,
+    /// The name.
+    pub name: Option<WordAt>,
+}
+
+/// Reads what a declaration begins with: a type or `void`, and a name.
+///
+/// # Errors
+/// Where memory runs out.
+pub fn read_begun(r: &mut Reader<'_>, alloc: Global) -> Result<Begun, AllocError>
+    ensures { IfOk result (λ begun. reading.got (begun_of begun) (reader_of r.new) ≡ texts.read_begun (reader_of r.old)) }
+{
+    let at = r.at;
+    if r.sees_word("void") {
+        r.skip();
+        let name = r.take_name(alloc)?;
+        return Ok(Begun {
+            at,
+            has_result: false,
+            result: None,
+            name,
+        });
+    }
+    let has_result = r.sees_type();
+    let result = r.take_type();
+    let name = r.take_name(alloc)?;
+    Ok(Begun {
+        at,
+        has_result,
+        result,
+        name,
+    })
+}
+
+/// The place behind an opening parenthesis, where that was read.
+fn opened(r: &Reader<'_>) -> Option<usize>
+    ensures { result ≡ opened_at (reader_of r.now) }
+{
+    if r.is_stopped() {
+        return None;
+    }
+    Some(r.at)
+}
+
+/// Reads the head of a function behind its name.
+///
+/// # Errors
+/// Where memory runs out.
+pub fn read_head(
+    r: &mut Reader<'_>,
+    alloc: Global,
+    calls: usize,
+    begun: Begun,
+) -> Result<PartialFunction, AllocError>
+    ensures { IfOk result (λ f. reading.got (function_of f) (reader_of r.new)
+        ≡ texts.read_head calls (reading.got (begun_of begun) (reader_of r.old))) }
+{
+    r.take_mark(Mark::OpenParenthesis);
+    let opened = opened(r);
+    let without_params = r.sees_word("void");
+    let params = read_params(r, alloc, calls)?;
+    r.take_mark(Mark::CloseParenthesis);
+    let headed = !r.is_stopped();
+    Ok(PartialFunction {
+        at: begun.at,
+        has_result: begun.has_result,
+        result: begun.result,
+        name: begun.name,
+        opened,
+        without_params,
+        params,
+        headed,
+        locals: Vec::new(alloc),
+        body: Vec::new(alloc),
+        last: 0,
+    })
+}
+
+/// Reads the head of a function that begins with the first of the pieces.
+///
+/// # Errors
+/// Where memory runs out.
+pub fn head_at(alloc: Global, pieces: &[Piece]) -> Result<PartialFunction, AllocError>
+    requires few { length pieces.now ≤ 67108864 }
+    ensures { IfOk result (λ f. function_of f ≡ (texts.read_head (texts.enough_calls (pieces_of pieces.now))
+        (texts.read_begun (texts.reader_of (pieces_of pieces.now)))).value) }
+{
+    let mut r = reader_at(pieces);
+    let begun = read_begun(&mut r, alloc)?;
+    read_head(&mut r, alloc, enough_calls(pieces), begun)
+}

@@ -1,0 +1,20 @@
+//! A reader of the pieces of a text, the partial trees that reading makes, and the reading of declarations and of the
+//! heads of functions.
+#![tactic(auto)]
+
+pub mod declaration;
+pub mod head;
+pub mod list;
+pub mod offence;
+pub mod partial;
+pub mod pragma;
+pub mod reader;
+pub mod token;
+
+pub use head::head_at;
+pub use offence::{Offence, ParseKind};
+pub use partial::{
+    CaseAt, NumberAt, PartialArm, PartialCall, PartialExpr, PartialFunction, PartialStmt,
+    PartialText, PartialVariable, Row, WordAt,
+};
+pub use reader::Reader;

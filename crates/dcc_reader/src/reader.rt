@@ -1,0 +1,327 @@
+//! A reader of pieces: it takes pieces as long as they are allowed, and sees none behind the first that is not.
+
+ghost use Rattle.std.specs.Prelude.{◌≡◌, ◌≤◌, ◌&&◌, IfOk, true, is_some, Some, None, map, drop, length};
+ghost use Rattle.std.specs.Option.{option_map};
+ghost use Rattle.dcc_c.specs.Kinds as kinds;
+ghost use Rattle.dcc_c.specs.Reading as reading;
+ghost use Rattle.dcc_c.specs.ReadingStatements as statements;
+ghost use Rattle.dcc_c.specs.ReadingText as texts;
+ghost use Rattle.dcc_lex.specs.TokenViews.{mark_of, head_of, token_of, piece_of, pieces_of};
+ghost use Rattle.dcc_reader.specs.OffenceViews.{kind_of};
+ghost use Rattle.dcc_reader.specs.PartialViews.{number_of, word_of};
+ghost use Rattle.dcc_reader.specs.ReaderViews.{reader_of};
+
+use crate::offence::{Offence, ParseKind};
+use crate::partial::{NumberAt, WordAt};
+use crate::token::{begins_type, is_the_head, is_the_mark, is_the_word, name_of, plain_of};
+use dcc_c::{Base, CType};
+use dcc_lex::{Head, Mark, Piece, Token};
+use std::alloc::{AllocError, Global};
+
+/// A reader of pieces.
+#[derive(Clone, Copy)]
+pub struct Reader<'a> {
+    /// The pieces of the text.
+    pub pieces: &'a [Piece],
+    /// How many of them have been read.
+    pub at: usize,
+    /// The offence at which reading stopped.
+    pub stop: Option<Offence>,
+    /// The depth of calls in force, in bytes.
+    pub depth: u32,
+}
+
+impl<'a> Reader<'a> {
+    /// Whether reading has stopped.
+    pub fn is_stopped(&self) -> bool
+        ensures { result ≡ reading.is_stopped (reader_of self.now) }
+    {
+        self.stop.is_some()
+    }
+
+    /// The next token.
+    pub fn next(&self) -> Option<&'a Token>
+        ensures { option_map (λ t. token_of t.now) result ≡ reading.next_token (reader_of self.now) }
+    {
+        if self.stop.is_some() {
+            return None;
+        }
+        self.token_at(self.at)
+    }
+
+    /// The token of the piece at a place.
+    fn token_at(&self, at: usize) -> Option<&'a Token>
+        ensures { option_map (λ t. token_of t.now) result ≡ reading.first_token (map piece_of (drop at self.now.pieces.now)) }
+    {
+        self.pieces.get(at)?.token.as_ref()
+    }
+
+    /// The token behind the next piece, where there is a next token.
+    pub fn second(&self) -> Option<&'a Token>
+        requires seen { is_some (reading.next_token (reader_of self.now)) ≡ true }
+        ensures { option_map (λ t. token_of t.now) result ≡ reading.second_token (reader_of self.now) }
+    {
+        self.token_at(self.at + 1)
+    }
+
+    /// The line of the next piece; 0 at the end.
+    pub fn line(&self) -> u32
+        ensures { result ≡ reading.line_of (reader_of self.now).left }
+    {
+        match self.pieces.get(self.at) {
+            Some(piece) => piece.line,
+            None => 0,
+        }
+    }
+
+    /// Whether the next token is the mark.
+    pub fn sees_mark(&self, mark: Mark) -> bool
+        ensures { result ≡ reading.sees_mark (mark_of mark) (reader_of self.now) }
+    {
+        is_the_mark(self.next(), mark)
+    }
+
+    /// Whether the next token is the word.
+    pub fn sees_word(&self, word: &str) -> bool
+        ensures { result ≡ reading.sees_word word.now (reader_of self.now) }
+    {
+        is_the_word(self.next(), word)
+    }
+
+    /// Whether the next token is the words of the pragma.
+    pub fn sees_head(&self, head: Head) -> bool
+        ensures { result ≡ statements.sees_head (head_of head) (reader_of self.now) }
+    {
+        is_the_head(self.next(), head)
+    }
+
+    /// The name that the next token is: a word that is no keyword.
+    pub fn name(&self) -> Option<&'a str>
+        ensures { option_map (λ word. word.now) result ≡ reading.name_of (reading.next_token (reader_of self.now)) }
+    {
+        name_of(self.next())
+    }
+
+    /// Whether the next token is a name, and the one behind it the mark.
+    pub fn sees_name_and(&self, mark: Mark) -> bool
+        ensures { result ≡ is_some (reading.name_of (reading.next_token (reader_of self.now)))
+            && reading.is_the_mark (mark_of mark) (reading.second_token (reader_of self.now)) }
+    {
+        self.name().is_some() && is_the_mark(self.second(), mark)
+    }
+
+    /// Whether a type begins with the next token.
+    pub fn sees_type(&self) -> bool
+        ensures { result ≡ reading.begins_type (reading.next_token (reader_of self.now)) }
+    {
+        begins_type(self.next())
+    }
+
+    /// Goes behind the next piece.
+    pub fn skip(&mut self)
+        requires seen { is_some (reading.next_token (reader_of self.now)) ≡ true }
+        ensures { reader_of self.new ≡ reading.skip (reader_of self.old) }
+    {
+        self.at += 1;
+    }
+
+    /// Stops, where it has not stopped yet, at an offence.
+    pub fn stop_at(&mut self, kind: ParseKind, at: usize)
+        ensures { reader_of self.new ≡ reading.stop_at (kind_of kind) at (reader_of self.old) }
+    {
+        if self.stop.is_none() {
+            self.stop = Some(Offence { at, kind });
+        }
+    }
+
+    /// The kind of the next piece, which is not allowed, or of the end.
+    fn stop_kind(&self) -> ParseKind
+        ensures { kind_of result ≡ reading.stop_kind (reader_of self.now).left }
+    {
+        match self.pieces.get(self.at) {
+            Some(piece) => {
+                if piece.token.is_some() {
+                    ParseKind::Grammar
+                } else {
+                    ParseKind::Token
+                }
+            }
+            None => ParseKind::Grammar,
+        }
+    }
+
+    /// Stops at the next piece, which is not allowed.
+    pub fn fail(&mut self)
+        ensures { reader_of self.new ≡ reading.fail (reader_of self.old) }
+    {
+        self.stop_at(self.stop_kind(), self.at);
+    }
+
+    /// Takes the mark, which must stand here.
+    pub fn take_mark(&mut self, mark: Mark)
+        ensures { reader_of self.new ≡ reading.take_mark (mark_of mark) (reader_of self.old) }
+    {
+        if self.sees_mark(mark) {
+            self.skip();
+        } else {
+            self.fail();
+        }
+    }
+
+    /// Takes the word, which must stand here.
+    pub fn take_word(&mut self, word: &str)
+        ensures { reader_of self.new ≡ reading.take_word word.now (reader_of self.old) }
+    {
+        if self.sees_word(word) {
+            self.skip();
+        } else {
+            self.fail();
+        }
+    }
+
+    /// Takes the words of the pragma, which must stand here.
+    pub fn take_head(&mut self, head: Head)
+        ensures { reader_of self.new ≡ statements.take_head (head_of head) (reader_of self.old) }
+    {
+        if self.sees_head(head) {
+            self.skip();
+        } else {
+            self.fail();
+        }
+    }
+
+    /// Takes a name, which must stand here.
+    ///
+    /// # Errors
+    /// Where memory runs out.
+    pub fn take_name(&mut self, alloc: Global) -> Result<Option<WordAt>, AllocError>
+        ensures { IfOk result (λ name.
+            reading.got (option_map word_of name) (reader_of self.new) ≡ reading.take_name (reader_of self.old)) }
+    {
+        match self.name() {
+            Some(word) => {
+                let at = self.at;
+                self.skip();
+                let word = String::from_str(alloc, word)?;
+                Ok(Some(WordAt { word, at }))
+            }
+            None => {
+                self.fail();
+                Ok(None)
+            }
+        }
+    }
+
+    /// Takes a decimal number without suffix, which must stand here.
+    pub fn take_plain(&mut self) -> Option<NumberAt>
+        ensures { reading.got (option_map number_of result) (reader_of self.new) ≡ reading.take_plain (reader_of self.old) }
+    {
+        match plain_of(self.next()) {
+            Some(value) => {
+                let at = self.at;
+                self.skip();
+                Some(NumberAt { value, at })
+            }
+            None => {
+                self.fail();
+                None
+            }
+        }
+    }
+
+    /// Takes a type, which must stand here.
+    pub fn take_type(&mut self) -> Option<CType>
+        ensures { reading.got result (reader_of self.new) ≡ reading.take_type (reader_of self.old) }
+    {
+        let base = self.take_base()?;
+        Some(self.with_star(base))
+    }
+
+    /// A pointer to the base where a star stands here, else the base.
+    fn with_star(&mut self, base: Base) -> CType
+        ensures { reading.got (Some result) (reader_of self.new) ≡ reading.with_star base (reader_of self.old) }
+    {
+        let pointer = self.sees_mark(Mark::Star);
+        if pointer {
+            self.skip();
+        }
+        CType { base, pointer }
+    }
+
+    /// Takes a number type, which must stand here.
+    fn take_base(&mut self) -> Option<Base>
+        ensures { reading.got result (reader_of self.new) ≡ reading.take_base (reader_of self.old) }
+    {
+        if self.sees_word("int") {
+            self.base_behind(Base::Int)
+        } else if self.sees_word("long") {
+            self.base_behind(Base::Long)
+        } else if self.sees_word("signed") {
+            self.skip();
+            self.signed_base()
+        } else if self.sees_word("unsigned") {
+            self.skip();
+            self.unsigned_base()
+        } else {
+            self.fail();
+            None
+        }
+    }
+
+    /// The base behind `signed`.
+    fn signed_base(&mut self) -> Option<Base>
+        ensures { reading.got result (reader_of self.new) ≡ reading.signed_base (reader_of self.old) }
+    {
+        if self.sees_word("char") {
+            self.base_behind(Base::Schar)
+        } else {
+            self.fail();
+            None
+        }
+    }
+
+    /// The base behind `unsigned`.
+    fn unsigned_base(&mut self) -> Option<Base>
+        ensures { reading.got result (reader_of self.new) ≡ reading.unsigned_base (reader_of self.old) }
+    {
+        if self.sees_word("char") {
+            self.base_behind(Base::Uchar)
+        } else if self.sees_word("int") {
+            self.base_behind(Base::Uint)
+        } else if self.sees_word("long") {
+            self.base_behind(Base::Ulong)
+        } else {
+            self.fail();
+            None
+        }
+    }
+
+    /// The base, behind its last word.
+    fn base_behind(&mut self, base: Base) -> Option<Base>
+        requires seen { is_some (reading.next_token (reader_of self.now)) ≡ true }
+        ensures { reading.got result (reader_of self.new) ≡ reading.base_behind base (reader_of self.old) }
+    {
+        self.skip();
+        Some(base)
+    }
+}
+
+/// A reader at the first of the pieces.
+pub fn reader_at(pieces: &[Piece]) -> Reader<'_>
+    ensures { reader_of result ≡ texts.reader_of (pieces_of pieces.now) }
+{
+    Reader {
+        pieces,
+        at: 0,
+        stop: None,
+        depth: 2,
+    }
+}
+
+/// How deep reading of the pieces may nest.
+pub fn enough_calls(pieces: &[Piece]) -> usize
+    requires few { length pieces.now ≤ 67108864 }
+    ensures { result ≡ texts.enough_calls (pieces_of pieces.now) }
+{
+    16 * pieces.len() + 16
+}
