@@ -20,7 +20,8 @@ from random_programs import code_of, file_of
 from tried import tried
 
 DEPENDENCIES = ("dcc_run dcc_num dcc_prog dcc_mz dcc_decode dcc_layout dcc_procs dcc_ir dcc_lift dcc_step dcc_c dcc_io "
-                "dcc_print dcc_lex dcc_read dcc_check dcc_parse dcc_value dcc_prepare dcc_crun dcc_pipe dcc_top indexmap smallvec anyhow")
+                "dcc_print dcc_lex dcc_types dcc_reader dcc_read dcc_check dcc_parse dcc_value dcc_prepare dcc_crun dcc_pipe "
+                "dcc_top indexmap smallvec anyhow")
 
 # Prints for each program of a folder whether both sides agree.
 SHOW = """\

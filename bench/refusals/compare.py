@@ -20,7 +20,7 @@ import systematic  # noqa: E402
 import texts  # noqa: E402
 from tried import tried  # noqa: E402
 
-DEPENDENCIES = "dcc_run dcc_c dcc_lex dcc_read dcc_check dcc_parse anyhow"
+DEPENDENCIES = "dcc_run dcc_c dcc_lex dcc_types dcc_reader dcc_read dcc_check dcc_parse anyhow"
 
 SHOW = """\
 //! Prints what the parser answers to each text of a folder.
