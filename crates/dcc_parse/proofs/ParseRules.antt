@@ -71,7 +71,7 @@ read-tree pieces text behind tree same first stripped =
       same = ap plain_text (sym value) ∙ sym (stripped (ap is_complete_text value ∙ whole) (ap (text_offences text) (sym (all-read behind going)) ∙ both.1));
     }
 
-tree-parsed : (pieces : List Piece) (tree : Tree) → IsTreeOf pieces tree → IsParsed pieces tree
+pub tree-parsed : (pieces : List Piece) (tree : Tree) → IsTreeOf pieces tree → IsParsed pieces tree
 tree-parsed pieces tree is =
     let reading = reading_of pieces in
     let both = none-both (stop_offences reading.behind.stop) (text_offences reading.value (unread reading.behind)) is.clean in
@@ -86,10 +86,10 @@ tree-stands text rest ps tree begins same is =
 
 -- Refusals.
 
-rest-same : {rest other : List ℕ} → Some other ≡ Some rest → other ≡ rest
+pub rest-same : {rest other : List ℕ} → Some other ≡ Some rest → other ≡ rest
 rest-same is = cc
 
-no-rest : {rest : List ℕ} → None ≡ Some rest → ⊥
+pub no-rest : {rest : List ℕ} → None ≡ Some rest → ⊥
 no-rest is = absurd cc
 
 clean-parsed : (pieces : List Piece) (tree : Tree) → IsParsed pieces tree → offences_of pieces ≡ []
@@ -99,7 +99,7 @@ clean-parsed pieces tree parsed =
     ∙ ap (text_offences reading.value) (all-read reading.behind parsed.going) ∙ parsed.clean
 
 -- pieces in which something offends stand for no tree
-offends-none : (text rest : List ℕ) (o : Offence) (tree : Tree) → behind_version text ≡ Some rest → first_of (offences_of (spec.pieces_of rest)) ≡ Some o →
+pub offends-none : (text rest : List ℕ) (o : Offence) (tree : Tree) → behind_version text ≡ Some rest → first_of (offences_of (spec.pieces_of rest)) ≡ Some o →
     StandsFor text tree → ⊥
 offends-none text rest o tree begins first stands =
     let (other, begins_other, parsed) = stands-parsed text tree stands in

@@ -2,9 +2,12 @@
 #![tactic(auto)]
 
 mod fault;
+pub mod laws;
 mod parser;
 mod strip;
 mod strip_text;
+#[cfg(test)]
+mod tests;
 
 pub use dcc_reader::ParseKind;
 pub use fault::ParseFault;
