@@ -50,7 +50,7 @@ fn texts_that_go_on_and_on_are_refused(rt: HostRuntime) -> Result<(), Fail> {
         (b"L: ".as_slice(), 5, ParseKind::Name),
         (b"{".as_slice(), 5, ParseKind::Grammar),
     ] {
-        let answer = fault(alloc, bytes, 100_000)?;
+        let answer = fault(alloc, bytes, 20_000)?;
         assert_eq!(rt; answer, Some(ParseFault::At { line, kind }));
     }
     Ok(())
