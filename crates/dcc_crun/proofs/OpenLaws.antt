@@ -1,12 +1,9 @@
 -- How the run of a program begins.
-use Rattle.std.proofs.Common.{◌≡◌, ℕ, zero, suc, List, [], ◌∷◌, ◌++◌, length, map, None, Some, refl, sym, ap, ◌∙◌, subst}
+use Rattle.std.proofs.Common.{◌≡◌, ℕ, List, [], ◌∷◌, ◌++◌, length, None, Some, sym, ap, ◌∙◌, subst}
 use Rattle.std.specs.Prelude.{slice_get}
-use Rattle.dcc_c.specs.declared.syntax.Global_.{Global_}
 use Rattle.dcc_c.specs.Tree.{Function, Tree}
-use Rattle.dcc_c.specs.Rules.{declared_global}
 use Rattle.dcc_c.specs.Placement.{first_base}
-use Rattle.dcc_c.specs.Run.{Continuation, global_binding, runs, ends_function, frame_of, first_memory, first_state}
-use Rattle.dcc_c.specs.Views.{global_of}
+use Rattle.dcc_c.specs.Run.{Continuation, runs, ends_function, frame_of, first_memory, first_state}
 use Rattle.dcc_crun.specs.declared.ending.Ending.TheVariants.{Running}
 use Rattle.dcc_prepare.specs.declared.program.Procedure.{Procedure}
 use Rattle.dcc_prepare.specs.declared.program.Program.{Program}
@@ -17,7 +14,6 @@ use Rattle.dcc_prepare.specs.Points.{Goes, locals_declared}
 use Rattle.dcc_prepare.specs.Frames.{params_holding, locals_holding}
 use Rattle.dcc_prepare.specs.Programs.{IsProcedure, HasProcedure, IsProgram}
 use Rattle.dcc_crun.specs.Standing.{IsMoment}
-use Rattle.dcc_prepare.specs.Prepared.{HasPoints, global_bound, ArePrepared}
 use Rattle.dcc_crun.proofs.CallLaws.{call_variables, call_declared}
 use Rattle.dcc_prepare.proofs.PointLaws.{some_same}
 

@@ -1,18 +1,12 @@
 -- The state of a text's run that a run of the code stands for.
-use Rattle.std.specs.Prelude.{◌≡◌, ℕ, ◌+◌, ◌%◌, Bool, false, List, [], ◌∷◌, ◌++◌, map, Option, Some, None, is_some, slice_get}
+use Rattle.std.specs.Prelude.{◌≡◌, ℕ, List, [], ◌∷◌, ◌++◌, map, Option, Some, None, slice_get}
 use Rattle.std.specs.Option.{option_map}
 use Rattle.dcc_run.specs.End.{Running as running}
-use Rattle.dcc_c.specs.declared.syntax.CType.{CType}
-use Rattle.dcc_c.specs.Tree.{Word, Variable as DeclaredVariable, Function, Tree}
+use Rattle.dcc_c.specs.Tree.{Tree}
 use Rattle.dcc_c.specs.Typing.{Declared}
-use Rattle.dcc_c.specs.Rules.{declared_global}
-use Rattle.dcc_c.specs.Placement.{params_of_call, locals_of_call}
 use Rattle.dcc_c.specs.Value.{declared_by}
-use Rattle.dcc_c.specs.Run.{Continuation, runs, ends_function, Frame, Waiting as WaitingCall, State, global_binding, is_start, after_goto}
+use Rattle.dcc_c.specs.Run.{Continuation, Frame, Waiting as WaitingCall, State}
 use Rattle.dcc_value.specs.declared.expression.Target.{Target}
-use Rattle.dcc_prepare.specs.declared.program.Variable.{Variable}
-use Rattle.dcc_prepare.specs.declared.program.Procedure.{Procedure}
-use Rattle.dcc_prepare.specs.declared.program.Program.{Program}
 use Rattle.dcc_crun.specs.declared.call.Call.{Call}
 use Rattle.dcc_crun.specs.declared.call.Waiting.{Waiting}
 use Rattle.dcc_crun.specs.declared.moment.Moment.{Moment}
@@ -21,7 +15,7 @@ use Rattle.dcc_value.specs.Evaluation.{bindings_named}
 use Rattle.dcc_value.specs.Resolved.{target_named, IsTargetIn}
 use Rattle.dcc_crun.specs.Ending.{end_of}
 use Rattle.dcc_prepare.specs.Programs.{IsProgram}
-use Rattle.dcc_prepare.specs.Points.{Goes, MayGo, point_named, locals_declared, AreRows}
+use Rattle.dcc_prepare.specs.Points.{Goes, locals_declared}
 
 -- Calls.
 
