@@ -8,3 +8,4 @@ pub mod Frames
 pub mod Values
 pub mod Sound
 pub mod Steps
+pub mod StuckLaws

@@ -1,10 +1,9 @@
 -- The ways in which a run of a text gets stuck.
-use Rattle.std.specs.Prelude.{◌≡◌, ◌<◌, ℕ, Bool, true, is_some, List, [], ◌∷◌, Option, None}
-use Rattle.dcc_run.specs.End.{End, Running, Stuck}
+use Rattle.std.specs.Prelude.{◌≡◌, ◌<◌, ℕ, true, is_some, List, ◌∷◌, None}
+use Rattle.dcc_run.specs.End.{Running, Outside, Stuck}
 use Rattle.dcc_run.specs.System.{after, end_after}
 use Rattle.dcc_c.specs.Tree.{Expr, Stmt, If, While, DoWhile, Forever, Switch, Return, Lines, no_lines, line, Arms, arm, Function, Tree}
 use Rattle.dcc_c.specs.Run.{Continuation, ends_function, runs, ends_switch, State, is_start, step, first_state, text_system}
-use Rattle.dcc_c.specs.Text.{StandsFor}
 
 mutual
   -- the statement stands in this line among the statements, at some depth
@@ -79,11 +78,18 @@ pub record GotStuck (tree : Tree) (start : Function) (fill : ℕ) (input : List 
   pub function : IsOneOf state.frame.function tree.functions
   pub stuck : IsStuckAt state.frame.function state.rest at
 
--- Each run of the tree, from every fill and input, that is stuck after some steps got stuck in one of those ways.
+-- The runs of the tree, from every fill and input, are stuck at those places and at no others.
 pub record IsStuckOnlyAtEnds (tree : Tree) : Type 0 where
   pub start : Function
   pub others : List Function
   pub first : tree.functions ≡ start ∷ others
+  -- a run that is stuck after some steps came to one of those places
   pub ways : (fill : ℕ) (input : List ℕ) (n at : ℕ) →
       end_after (text_system tree) n (first_state tree start fill input) ≡ Stuck at →
       GotStuck tree start fill input n at
+  -- a run at one of those places is stuck by the next step
+  pub always : (s : State) (at : ℕ) → s.end ≡ Running → IsStuckAt s.frame.function s.rest at →
+      (step tree s).end ≡ Stuck at
+  -- no run of a text ends as one of a machine does that has no row for its instruction
+  pub no_outside : (fill : ℕ) (input : List ℕ) (n at : ℕ) →
+      end_after (text_system tree) n (first_state tree start fill input) ≡ Outside at → ⊥
