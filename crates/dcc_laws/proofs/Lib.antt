@@ -1,0 +1,11 @@
+pub mod Bodies
+pub mod Jumps
+pub mod Declarations
+pub mod Labels
+pub mod Known
+pub mod Rests
+pub mod Frames
+pub mod Values
+pub mod Sound
+pub mod Steps
+pub mod StuckLaws
