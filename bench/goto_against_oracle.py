@@ -5,7 +5,7 @@ bench/goto_against_oracle.py REFERENCE [COUNT [SEED]]
 
 REFERENCE is a folder with a program dcc_ref.py, which is no part of this repository: `run FILE` runs an executable, and
 `runc TEXT` a text. Each random program has the built forms, with jumps to their instructions. The texts are those of
-decompile, run unproved by `rt try` from a copy of the crates. A text's run is compared with the executable's on a few
+`dcc c`; the program is built. A text's run is compared with the executable's on a few
 inputs and fills: the one output begins the other, and where both end, they end alike.
 Prints each program whose text differs; the status is 1 if there is one.
 """
@@ -15,50 +15,11 @@ import subprocess
 import sys
 import tempfile
 
+from built import build, called
 from random_programs import code_of, file_of
-from tried import tried
-
-DEPENDENCIES = ("dcc_run dcc_num dcc_prog dcc_mz dcc_decode dcc_layout dcc_procs dcc_ir dcc_lift dcc_c dcc_io dcc_print "
-                "dcc_pipe indexmap smallvec anyhow")
-
-# Writes for each program of a folder its text beside it, and prints a line.
-SHOW = """\
-//! Writes the text of each program of a folder.
-#![tactic(auto)]
-
-use anyhow::Error;
-use dcc_io::MemSink;
-use dcc_mz::load;
-use dcc_pipe::decompile;
-use dcc_print::print;
-use std::{env, fs};
-
-fn main(rt: HostRuntime) -> Result<(), Error> {
-    let alloc = rt.alloc();
-    for path in env::args(&rt)?.skip(1) {
-        let bytes = fs::read(&rt, path.clone()?)?;
-        let image = load(alloc, &bytes)?;
-        match decompile(alloc, &image) {
-            Ok(unit) => {
-                let mut sink = MemSink::new(alloc, Vec::new(alloc), 65536);
-                let _ = print(alloc, &mut sink, &unit);
-                fs::write(&rt, format!(in alloc; "{path}.c")?, sink.taken().as_slice())?;
-                println!(rt; "text")?;
-            }
-            Err(_) => println!(rt; "refused")?,
-        }
-    }
-    Ok(())
-}
-"""
 
 STEPS = 3000
 RUNNING, OUTSIDE = 20, 22
-
-
-def texts(folder, paths):
-    """The lines of decompile, which is run on the files."""
-    return tried(folder, "goto_show", SHOW, DEPENDENCIES, paths, ("text", "refused"))
 
 
 def ran(reference, words, keys):
@@ -91,14 +52,16 @@ def main():
     draw = random.Random(int(sys.argv[3]) if len(sys.argv) > 3 else 1)
     programs = [code_of(draw) for _ in range(count)]
     faults, compared = 0, 0
+    build()
     with tempfile.TemporaryDirectory() as name:
         folder = pathlib.Path(name)
-        paths = [folder / f"{place}.EXE" for place in range(count)]
-        for path, code in zip(paths, programs):
+        for place, code in enumerate(programs):
+            path = folder / f"{place}.EXE"
             path.write_bytes(file_of(code))
-        for path, code, line in zip(paths, programs, texts(folder, paths)):
-            if line != "text":
+            status, text, _ = called(["c", path])
+            if status != 0:
                 continue
+            pathlib.Path(f"{path}.c").write_bytes(text)
             compared += 1
             fault = fault_of(reference, path, draw)
             if fault is not None:
