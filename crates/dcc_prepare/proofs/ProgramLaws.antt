@@ -1,18 +1,15 @@
 -- How the functions of a text become those of a program, and how its run begins.
-use Rattle.std.proofs.Common.{◌≡◌, ℕ, zero, suc, List, [], ◌∷◌, ◌++◌, length, map, None, Some, refl, sym, ap, ◌∙◌, subst}
+use Rattle.std.proofs.Common.{◌≡◌, ℕ, zero, suc, List, [], ◌∷◌, ◌++◌, map, Some, refl, ap, subst}
 use Rattle.std.specs.Prelude.{slice_get}
 use Rattle.dcc_c.specs.declared.syntax.Global_.{Global_}
 use Rattle.dcc_c.specs.Tree.{Function, Tree}
 use Rattle.dcc_c.specs.Rules.{declared_global}
-use Rattle.dcc_c.specs.Placement.{first_base}
-use Rattle.dcc_c.specs.Run.{Continuation, global_binding, runs, ends_function, frame_of, first_memory, first_state}
+use Rattle.dcc_c.specs.Run.{Continuation, global_binding}
 use Rattle.dcc_c.specs.Views.{global_of}
 use Rattle.dcc_prepare.specs.declared.program.Procedure.{Procedure}
 use Rattle.dcc_prepare.specs.declared.program.Program.{Program}
 use Rattle.dcc_value.specs.Evaluation.{bindings_named}
-use Rattle.dcc_prepare.specs.Points.{Goes, locals_declared}
-use Rattle.dcc_prepare.specs.Frames.{params_holding, locals_holding}
-use Rattle.dcc_prepare.specs.Programs.{IsProcedure, HasProcedure, IsProgram}
+use Rattle.dcc_prepare.specs.Programs.{IsProcedure, IsProgram}
 use Rattle.dcc_prepare.specs.Prepared.{HasPoints, global_bound, ArePrepared}
 use Rattle.dcc_prepare.proofs.PointLaws.{some_same}
 

@@ -1,21 +1,16 @@
 -- What a program, a text that is made ready to run, stands for.
-use Rattle.std.specs.Prelude.{◌≡◌, ℕ, ◌+◌, ◌%◌, Bool, false, List, [], ◌∷◌, ◌++◌, map, Option, Some, None, is_some, slice_get}
+use Rattle.std.specs.Prelude.{◌≡◌, ℕ, ◌+◌, ◌%◌, Bool, false, List, map, Option, Some, is_some, slice_get}
 use Rattle.std.specs.Option.{option_map}
-use Rattle.dcc_run.specs.End.{Running as running}
 use Rattle.dcc_c.specs.declared.syntax.CType.{CType}
 use Rattle.dcc_c.specs.Tree.{Word, Variable as DeclaredVariable, Function, Tree}
-use Rattle.dcc_c.specs.Typing.{Declared}
 use Rattle.dcc_c.specs.Rules.{declared_global}
 use Rattle.dcc_c.specs.Placement.{params_of_call, locals_of_call}
-use Rattle.dcc_c.specs.Value.{declared_by}
-use Rattle.dcc_c.specs.Run.{Continuation, runs, ends_function, Frame, Waiting as WaitingCall, State, global_binding, is_start, after_goto}
-use Rattle.dcc_value.specs.declared.expression.Target.{Target}
+use Rattle.dcc_c.specs.Run.{Continuation, runs, ends_function, global_binding, is_start, after_goto}
 use Rattle.dcc_prepare.specs.declared.program.Variable.{Variable}
 use Rattle.dcc_prepare.specs.declared.program.Procedure.{Procedure}
 use Rattle.dcc_prepare.specs.declared.program.Program.{Program}
 use Rattle.dcc_value.specs.Evaluation.{bindings_named}
-use Rattle.dcc_value.specs.Resolved.{target_named, IsTargetIn}
-use Rattle.dcc_prepare.specs.Points.{Goes, MayGo, point_named, locals_declared, AreRows}
+use Rattle.dcc_prepare.specs.Points.{Goes, MayGo, point_named, AreRows}
 
 -- The program.
 
