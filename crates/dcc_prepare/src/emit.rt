@@ -2,11 +2,12 @@
 //! are known.
 
 ghost use Rattle.std.specs.Prelude.{◌≡◌, ℕ, Bool, List, map, Option, None, Some, IfOk, MatchOption, string_bytes, slice_get, option_map};
-ghost use Rattle.dcc_c.specs.Tree.{Lines, line as before_lines, Function, Tree};
-ghost use Rattle.dcc_c.specs.Run.{Continuation, runs, tests, turns, from_label, from_label_inside, from_label_in_arms, default_body, State, step_at, jump_step, goes_on, function_in};
+ghost use Rattle.dcc_c.specs.Tree.{Lines, line as before_lines, Arms, Assign, If, While, DoWhile, Switch, Goto, Label, Return, Function, Tree};
+ghost use Rattle.dcc_c.specs.Run.{Continuation, runs, tests, turns, from_label, from_label_inside, from_label_in_arms, default_body, ends_switch, State, step_at, jump_step, goes_on, function_in};
 ghost use Rattle.dcc_c.specs.Dos.{dos_of};
 ghost use Rattle.dcc_c.specs.Views.{expr_of, stmt_of, lines_of, arms_of, function_of};
-ghost use Rattle.dcc_prepare.specs.Points.{Goes, MayGo, AreRows, IsCallee, dos_call};
+ghost use Rattle.dcc_prepare.specs.Points.{Goes, MayGo, AreRows, IsCallee, StandsIf, StandAll, dos_call};
+ghost use Rattle.dcc_value.specs.Resolved.{names_of};
 ghost use Rattle.dcc_prepare.specs.Emission.{Emits, EmitsArms, Leads, IsContext, arms_if};
 
 use crate::code::{Code, Context, resolve_all, resolve_option};
@@ -24,6 +25,18 @@ pub struct Behind {
     pub on_break: Option<usize>,
     /// Where `continue` leads.
     pub on_continue: Option<usize>,
+}
+
+impl Behind {
+    /// The points behind a statement in an arm of a `switch`: `break` leads behind the `switch`.
+    fn inside_switch(self) -> Behind
+        ensures { result ≡ record { next = self.next; on_break = Some self.next; on_continue = self.on_continue } }
+    {
+        Behind {
+            on_break: Some(self.next),
+            ..self
+        }
+    }
 }
 
 /// Makes the points of statements. The answer is the point where they begin.
@@ -64,64 +77,207 @@ fn emit_stmt(
         IfOk result (λ at. Emits tree f is_open points code.old code.new (λ word. from_label_inside word (stmt_of stmt.now) line lines rest) at (runs (before_lines (stmt_of stmt.now) line lines) rest)) }
 {
     match stmt {
-        CStmt::Assign(place, e) => {
-            let place = resolve(alloc, context.names, place)?;
-            let value = resolve(alloc, context.names, e)?;
-            code.push(line, Action::Assign(place, value, behind.next))
-        }
+        CStmt::Assign(place, e) => emit_assign(alloc, context, place, e, line, behind.next, code),
         CStmt::Call(place, function, arguments, depth) => {
-            let row = CallRow {
-                place: resolve_option(alloc, context.names, place)?,
-                callee: callee(context.functions, function.as_str()),
-                arguments: resolve_all(alloc, context.names, arguments)?,
-                depth: *depth,
-                next: behind.next,
-            };
+            let name = function.as_str();
+            let row = call_row(alloc, context, place, name, arguments, *depth, behind.next)?;
             code.push(line, Action::Call(row))
         }
         CStmt::If(e, body, otherwise) => {
             let no = emit_lines(alloc, context, otherwise, behind, code)?;
-            let yes = emit_lines(alloc, context, body, behind, code)?;
-            let value = resolve(alloc, context.names, e)?;
-            code.push(line, Action::Test(value, yes, no))
+            emit_if(alloc, context, body, e, no, line, behind, code)
         }
-        CStmt::While(e, body) => {
-            let yes = emit_repeated(alloc, context, body, e, line, behind.next, code)?;
-            let value = resolve(alloc, context.names, e)?;
-            code.push(line, Action::Test(value, yes, behind.next))
-        }
-        CStmt::DoWhile(body, e) => {
-            let yes = emit_repeated(alloc, context, body, e, line, behind.next, code)?;
-            code.push(line, Action::Pass(yes))
-        }
+        CStmt::While(e, body) => emit_while(alloc, context, body, e, line, behind.next, code),
+        CStmt::DoWhile(body, e) => emit_do_while(alloc, context, body, e, line, behind.next, code),
         CStmt::Forever(body) => emit_forever(alloc, context, body, line, behind.next, code),
         CStmt::Switch(e, arms, last) => {
-            let inside = Behind {
-                on_break: Some(behind.next),
-                ..behind
-            };
+            let inside = behind.inside_switch();
             let otherwise = emit_default(alloc, context, last, inside, code)?;
-            let cases = emit_arms(alloc, context, arms, inside, code)?;
-            let value = resolve(alloc, context.names, e)?;
-            code.push(line, Action::Switch(value, cases, otherwise))
+            emit_switch(alloc, context, arms, e, otherwise, line, inside, code)
         }
         CStmt::Break => emit_jump(line, behind.on_break, code),
         CStmt::Continue => emit_jump(line, behind.on_continue, code),
-        CStmt::Goto(name) => {
-            let label = code.label(alloc, name.as_str())?;
-            code.push(line, Action::Goto(label))
-        }
-        CStmt::Label(name) => {
-            let point = code.push(line, Action::Pass(behind.next))?;
-            code.place_label(alloc, name.as_str(), point)?;
-            Ok(point)
-        }
+        CStmt::Goto(name) => emit_goto(alloc, name.as_str(), line, code),
+        CStmt::Label(name) => emit_label(alloc, name.as_str(), line, behind.next, code),
         CStmt::Empty => code.push(line, Action::Pass(behind.next)),
-        CStmt::Return(e) => {
-            let value = resolve_option(alloc, context.names, e)?;
-            code.push(line, Action::Return(value))
-        }
+        CStmt::Return(e) => emit_return(alloc, context, e, line, code),
     }
+}
+
+/// Makes the point of an assignment.
+fn emit_assign(
+    alloc: Global,
+    context: &Context<'_>,
+    place: &CExpr,
+    e: &CExpr,
+    line: u32,
+    next: usize,
+    code: &mut Code,
+) -> Result<usize, AllocError>
+    ensures { (tree : Tree) (f : Function) (is_open : ℕ → Bool) (points : List Continuation) (lines : Lines) (rest : Continuation) →
+        IsContext context.now tree f → AreRows tree f is_open points code.old.rows.items code.old.labels.items → Goes tree points next (runs lines rest) →
+        IfOk result (λ at. Emits tree f is_open points code.old code.new (λ word. None) at (runs (before_lines (Assign (expr_of place.now) (expr_of e.now)) line lines) rest)) }
+{
+    let place = resolve(alloc, context.names, place)?;
+    let value = resolve(alloc, context.names, e)?;
+    code.push(line, Action::Assign(place, value, next))
+}
+
+/// A call of the function or the DOS call with the name.
+fn call_row(
+    alloc: Global,
+    context: &Context<'_>,
+    place: &Option<CExpr>,
+    name: &str,
+    arguments: &[CExpr],
+    depth: u32,
+    next: usize,
+) -> Result<CallRow, AllocError>
+    ensures place { IfOk result (λ row. StandsIf (names_of context.now.names.now) (option_map expr_of place.now) row.place) }
+    ensures callee { (tree : Tree) → map function_of context.now.functions.now ≡ tree.functions → IfOk result (λ row. IsCallee tree name.now row.callee) }
+    ensures arguments { IfOk result (λ row. StandAll (names_of context.now.names.now) (map expr_of arguments.now) row.arguments.items) }
+    ensures depth { IfOk result (λ row. row.depth ≡ depth) }
+    ensures next { IfOk result (λ row. row.next ≡ next) }
+{
+    Ok(CallRow {
+        place: resolve_option(alloc, context.names, place)?,
+        callee: callee(context.functions, name),
+        arguments: resolve_all(alloc, context.names, arguments)?,
+        depth,
+        next,
+    })
+}
+
+/// Makes the points of the body of an `if`, where the point of its other body is given, and then that of its test. The
+/// answer is the point of the test.
+#[cycle(emit)]
+fn emit_if(
+    alloc: Global,
+    context: &Context<'_>,
+    body: &[Line],
+    e: &CExpr,
+    no: usize,
+    line: u32,
+    behind: Behind,
+    code: &mut Code,
+) -> Result<usize, AllocError>
+    ensures { (tree : Tree) (f : Function) (is_open : ℕ → Bool) (points : List Continuation) (otherwise lines : Lines) (rest : Continuation) →
+        IsContext context.now tree f → AreRows tree f is_open points code.old.rows.items code.old.labels.items → Leads tree points behind (runs lines rest) →
+        Goes tree points no (runs otherwise (runs lines rest)) →
+        IfOk result (λ at. Emits tree f is_open points code.old code.new (λ word. from_label word (lines_of body.now) (runs lines rest)) at
+        (runs (before_lines (If (expr_of e.now) (lines_of body.now) otherwise) line lines) rest)) }
+{
+    let yes = emit_lines(alloc, context, body, behind, code)?;
+    let value = resolve(alloc, context.names, e)?;
+    code.push(line, Action::Test(value, yes, no))
+}
+
+/// Makes the points of a `while`. The answer is the point where it is tested first.
+#[cycle(emit)]
+fn emit_while(
+    alloc: Global,
+    context: &Context<'_>,
+    body: &[Line],
+    e: &CExpr,
+    line: u32,
+    next: usize,
+    code: &mut Code,
+) -> Result<usize, AllocError>
+    ensures { (tree : Tree) (f : Function) (is_open : ℕ → Bool) (points : List Continuation) (lines : Lines) (rest : Continuation) →
+        IsContext context.now tree f → AreRows tree f is_open points code.old.rows.items code.old.labels.items → Goes tree points next (runs lines rest) →
+        IfOk result (λ at. Emits tree f is_open points code.old code.new (λ word. from_label_inside word (While (expr_of e.now) (lines_of body.now)) line lines rest) at
+        (runs (before_lines (While (expr_of e.now) (lines_of body.now)) line lines) rest)) }
+{
+    let yes = emit_repeated(alloc, context, body, e, line, next, code)?;
+    let value = resolve(alloc, context.names, e)?;
+    code.push(line, Action::Test(value, yes, next))
+}
+
+/// Makes the points of a `do`. The answer is the point where it begins.
+#[cycle(emit)]
+fn emit_do_while(
+    alloc: Global,
+    context: &Context<'_>,
+    body: &[Line],
+    e: &CExpr,
+    line: u32,
+    next: usize,
+    code: &mut Code,
+) -> Result<usize, AllocError>
+    ensures { (tree : Tree) (f : Function) (is_open : ℕ → Bool) (points : List Continuation) (lines : Lines) (rest : Continuation) →
+        IsContext context.now tree f → AreRows tree f is_open points code.old.rows.items code.old.labels.items → Goes tree points next (runs lines rest) →
+        IfOk result (λ at. Emits tree f is_open points code.old code.new (λ word. from_label_inside word (DoWhile (lines_of body.now) (expr_of e.now)) line lines rest) at
+        (runs (before_lines (DoWhile (lines_of body.now) (expr_of e.now)) line lines) rest)) }
+{
+    let yes = emit_repeated(alloc, context, body, e, line, next, code)?;
+    code.push(line, Action::Pass(yes))
+}
+
+/// Makes the points of the arms of a `switch`, where the point of its default arm is given, and then that of its value.
+/// The answer is the point of the value.
+#[cycle(emit)]
+fn emit_switch(
+    alloc: Global,
+    context: &Context<'_>,
+    arms: &[Arm],
+    e: &CExpr,
+    otherwise: usize,
+    line: u32,
+    inside: Behind,
+    code: &mut Code,
+) -> Result<usize, AllocError>
+    ensures { (tree : Tree) (f : Function) (is_open : ℕ → Bool) (points : List Continuation) (last : Arms) (lines : Lines) (rest : Continuation) →
+        IsContext context.now tree f → AreRows tree f is_open points code.old.rows.items code.old.labels.items → Leads tree points inside (ends_switch (runs lines rest)) →
+        Goes tree points otherwise (runs (default_body last) (ends_switch (runs lines rest))) →
+        IfOk result (λ at. Emits tree f is_open points code.old code.new (λ word. from_label_in_arms word (arms_of arms.now) (ends_switch (runs lines rest))) at
+        (runs (before_lines (Switch (expr_of e.now) (arms_of arms.now) last) line lines) rest)) }
+{
+    let cases = emit_arms(alloc, context, arms, inside, code)?;
+    let value = resolve(alloc, context.names, e)?;
+    code.push(line, Action::Switch(value, cases, otherwise))
+}
+
+/// Makes the point of a `goto`.
+fn emit_goto(alloc: Global, name: &str, line: u32, code: &mut Code) -> Result<usize, AllocError>
+    ensures { (tree : Tree) (f : Function) (is_open : ℕ → Bool) (points : List Continuation) (lines : Lines) (rest : Continuation) →
+        AreRows tree f is_open points code.old.rows.items code.old.labels.items →
+        IfOk result (λ at. Emits tree f is_open points code.old code.new (λ word. None) at (runs (before_lines (Goto name.now) line lines) rest)) }
+{
+    let label = code.label(alloc, name)?;
+    code.push(line, Action::Goto(label))
+}
+
+/// Makes the point of a label, which then stands there.
+fn emit_label(
+    alloc: Global,
+    name: &str,
+    line: u32,
+    next: usize,
+    code: &mut Code,
+) -> Result<usize, AllocError>
+    ensures { (tree : Tree) (f : Function) (is_open : ℕ → Bool) (points : List Continuation) (lines : Lines) (rest : Continuation) →
+        AreRows tree f is_open points code.old.rows.items code.old.labels.items → Goes tree points next (runs lines rest) →
+        IfOk result (λ at. Emits tree f is_open points code.old code.new (λ word. from_label_inside word (Label name.now) line lines rest) at (runs (before_lines (Label name.now) line lines) rest)) }
+{
+    let point = code.push(line, Action::Pass(next))?;
+    code.place_label(alloc, name, point)?;
+    Ok(point)
+}
+
+/// Makes the point of a `return`.
+fn emit_return(
+    alloc: Global,
+    context: &Context<'_>,
+    e: &Option<CExpr>,
+    line: u32,
+    code: &mut Code,
+) -> Result<usize, AllocError>
+    ensures { (tree : Tree) (f : Function) (is_open : ℕ → Bool) (points : List Continuation) (lines : Lines) (rest : Continuation) →
+        IsContext context.now tree f → AreRows tree f is_open points code.old.rows.items code.old.labels.items →
+        IfOk result (λ at. Emits tree f is_open points code.old code.new (λ word. None) at (runs (before_lines (Return (option_map expr_of e.now)) line lines) rest)) }
+{
+    let value = resolve_option(alloc, context.names, e)?;
+    code.push(line, Action::Return(value))
 }
 
 /// Makes the point of a jump to a point, where there is one.
