@@ -1,11 +1,9 @@
 -- The variables of a call are what its function declares.
 use Rattle.std.proofs.Common.{◌≡◌, ℕ, ◌+◌, ◌*◌, Bool, true, false, ◌||◌, not, ◌%◌, List, [], ◌∷◌, ◌++◌, map, Option, Some, None, refl, sym, ap, ◌∙◌, subst, append_assoc}
 use Rattle.std.specs.Prelude.{is_some, if◌then◌else◌}
-use Rattle.std.proofs.lemmas.Bool.{or_parts, or_right}
+use Rattle.std.proofs.lemmas.Bool.{or_right}
 use Rattle.std.proofs.lemmas.List.{map-append}
-use Rattle.dcc_c.specs.declared.syntax.CType.{CType}
-use Rattle.dcc_c.specs.Token.{same_bytes}
-use Rattle.dcc_c.specs.Tree.{Word, Lines, Global, Variable, Function, Tree}
+use Rattle.dcc_c.specs.Tree.{Lines, Global, Variable, Function, Tree}
 use Rattle.dcc_c.specs.Typing.{Declared}
 use Rattle.dcc_c.specs.Placement.{is_auto, is_register, bytes_of, below, takes_address, wants_place, param_places, local_places, params_of_call, locals_of_call}
 use Rattle.dcc_c.specs.Value.{Value, Binding, declared_by, after_assignment, Target, ToVariable, ToMemory}

@@ -1,7 +1,7 @@
 -- Each `break` and each `continue` of the grammar has something around it that it leaves or goes on with.
 use Rattle.std.proofs.Common.{◌≡◌, ℕ, Bool, true, List, refl, subst}
 use Rattle.dcc_c.specs.Lexing.{Placed}
-use Rattle.dcc_c.specs.Tree.{Stmt, Assign, Call, If, While, DoWhile, Forever, Switch, Break, Continue, Goto, Label, Empty, Return, Lines, no_lines, line, Arms, no_arms, arm}
+use Rattle.dcc_c.specs.Tree.{Stmt, If, While, DoWhile, Forever, Switch, Break, Continue, Lines, no_lines, line, Arms, no_arms, arm}
 use Rattle.dcc_c.specs.Grammar.{Around, IsStmt, assign, call_alone, call_into, if_alone, if_else, while, do_while, for_ever, switch, break, continue, goto, empty, return_nothing, return_value, IsBlock, block, AreLines, no_more, depth_pragma, label, statement, AreArms, no_arm, case_arm, default_arm}
 
 abbrev mutual

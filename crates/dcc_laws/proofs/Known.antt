@@ -1,5 +1,5 @@
 -- What is known of each function of a text.
-use Rattle.std.proofs.Common.{◌≡◌, ℕ, Bool, true, false, ◌&&◌, ◌||◌, not, List, [], ◌∷◌, ◌++◌, map, Option, Some, None, refl, sym, ap, ◌∙◌, subst}
+use Rattle.std.proofs.Common.{◌≡◌, ℕ, Bool, true, false, ◌||◌, not, List, [], ◌∷◌, ◌++◌, map, Option, Some, None, refl, sym, ap, ◌∙◌, subst}
 use Rattle.std.specs.Prelude.{codes, is_some, if◌then◌else◌}
 use Rattle.std.specs.List.{list_any}
 use Rattle.std.proofs.lemmas.Bool.{and_parts, or_left}
@@ -10,7 +10,7 @@ use Rattle.dcc_c.specs.Tree.{Word, Variable, Function, Tree}
 use Rattle.dcc_c.specs.Placement.{is_auto}
 use Rattle.dcc_c.specs.Grammar.{is_among, AreSomeParams, last_param, more_params, AreParams, no_param, some_params, IsLocalClass, plain_local, array_local, auto_local, AreLocals, no_local, one_local, IsFunction, AreFunctions, last_function, more_functions, IsUnit}
 use Rattle.dcc_c.specs.Dos.{dos_names}
-use Rattle.dcc_c.specs.Rules.{all_differ, known_names, IsAllowedFunction, AreAllowed, no_more, one_more, IsAllowed}
+use Rattle.dcc_c.specs.Rules.{all_differ, IsAllowedFunction, AreAllowed, no_more, one_more, IsAllowed}
 use Rattle.dcc_c.specs.Run.{is_start, function_in}
 use Rattle.dcc_laws.specs.Stuck.{IsOneOf, is_first, is_later}
 use Rattle.dcc_laws.proofs.Bodies.{any_left}

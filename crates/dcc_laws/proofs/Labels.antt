@@ -1,11 +1,11 @@
 -- A jump finds its label.
-use Rattle.std.proofs.Common.{◌≡◌, ℕ, Bool, true, false, ◌||◌, List, [], ◌∷◌, ◌++◌, Option, Some, None, refl, sym, ap, ◌∙◌}
+use Rattle.std.proofs.Common.{◌≡◌, ℕ, Bool, true, false, ◌||◌, List, ◌∷◌, ◌++◌, Option, Some, None, refl, sym, ap, ◌∙◌}
 use Rattle.std.specs.Prelude.{is_some, if◌then◌else◌}
 use Rattle.std.specs.List.{list_any, flat_map}
 use Rattle.std.proofs.lemmas.List.Folds.{list_any-append}
 use Rattle.std.proofs.lemmas.Grind.{flat_map-append}
 use Rattle.dcc_c.specs.Token.{same_bytes}
-use Rattle.dcc_c.specs.Tree.{Word, Expr, Stmt, If, While, DoWhile, Forever, Switch, Label, Lines, no_lines, line, Arms, no_arms, arm}
+use Rattle.dcc_c.specs.Tree.{Word, Stmt, If, While, DoWhile, Forever, Switch, Label, Lines, no_lines, line, Arms, no_arms, arm}
 use Rattle.dcc_c.specs.Parts.{stmts_in, inner_stmts, arm_stmts, label_of}
 use Rattle.dcc_c.specs.Run.{Continuation, runs, tests, turns, ends_switch, first_of, from_label, from_label_inside, from_label_in_arms}
 
@@ -38,6 +38,7 @@ stmt-some found behind word stmt others first second = both-some found behind wo
 
 mutual
   unfolding has_label
+
   lines-label : (lines : Lines) (word : Word) (rest : Continuation) → is_some (from_label word lines rest) ≡ has_label word (stmts_in lines)
   lines-label no_lines word rest = refl
   lines-label (line stmt at lines) word rest =

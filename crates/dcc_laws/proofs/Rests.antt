@@ -1,12 +1,12 @@
 -- What is left to be executed in a call consists of parts of its function.
-use Rattle.std.proofs.Common.{◌≡◌, ℕ, Bool, true, false, List, [], Option, Some, None}
+use Rattle.std.proofs.Common.{◌≡◌, ℕ, Bool, true, false, [], Option, Some, None}
 use Rattle.std.specs.Prelude.{is_some, if◌then◌else◌}
 use Rattle.dcc_c.specs.Token.{same_bytes}
 use Rattle.dcc_c.specs.Tree.{Word, Expr, Stmt, If, While, DoWhile, Forever, Switch, Label, Lines, no_lines, line, Arms, no_arms, arm, Function, Tree}
 use Rattle.dcc_c.specs.Parts.{parts_of}
 use Rattle.dcc_c.specs.Rules.{declared_in, is_number, allows_stmt}
 use Rattle.dcc_c.specs.Run.{Continuation, ends_function, runs, tests, turns, ends_switch, after_break, after_continue, first_of, from_label, from_label_inside, from_label_in_arms}
-use Rattle.dcc_laws.specs.Stuck.{StandsIn, here, inside, later, StandsInside, in_then, in_else, in_while, in_do, in_for, in_arm, in_default, StandsInArms, in_body, in_others}
+use Rattle.dcc_laws.specs.Stuck.{StandsIn, here, inside, later, in_then, in_else, in_while, in_do, in_for, in_arm, in_default, StandsInArms, in_body, in_others}
 use Rattle.dcc_laws.proofs.Bodies.{each_stands}
 use Rattle.dcc_laws.proofs.Declarations.{Takes, takes-stmt, takes-first}
 use Rattle.dcc_laws.proofs.Jumps.{Jumps, JumpsInArms}

@@ -1,15 +1,15 @@
 -- States in which a run is stuck only at the end of a function: what is left to be executed, the variables and the
 -- calls that wait are those of functions of the text.
-use Rattle.std.proofs.Common.{◌≡◌, ℕ, Bool, true, false, ◌||◌, List, [], ◌∷◌, ◌++◌, map, Option, Some, None, refl, sym, ap, ◌∙◌, subst}
+use Rattle.std.proofs.Common.{◌≡◌, ℕ, Bool, true, false, ◌||◌, List, [], ◌∷◌, ◌++◌, Option, Some, None, refl, sym, ◌∙◌, subst}
 use Rattle.std.specs.Prelude.{is_some, if◌then◌else◌}
 use Rattle.dcc_run.specs.End.{Running, Exit, Divide, Stuck}
 use Rattle.dcc_c.specs.declared.syntax.Base.TheVariants.{Uchar}
 use Rattle.dcc_c.specs.declared.syntax.CType.{CType}
 use Rattle.dcc_c.specs.Tree.{Function, Tree}
 use Rattle.dcc_c.specs.Dos.{Dos, Putc, Getche, Getch, Puts, Leave, dos_signature}
-use Rattle.dcc_c.specs.Value.{Value, number, Outcome, Gives, Divides, Undefined, converted, declared_by, after_assignment, Target, ToVariable, ToMemory}
+use Rattle.dcc_c.specs.Value.{Value, number, Outcome, Gives, Divides, Undefined, converted, Target, ToVariable, ToMemory}
 use Rattle.dcc_c.specs.Placement.{below}
-use Rattle.dcc_c.specs.Run.{Continuation, ends_function, runs, Frame, Waiting, State, with_end, goes_on, on, takes, frame_of, result_step, back_step, is_start, close_step, return_step, give_step, key_step, dos_step, enter_step}
+use Rattle.dcc_c.specs.Run.{Continuation, Waiting, State, with_end, goes_on, on, takes, result_step, back_step, is_start, close_step, return_step, give_step, key_step, dos_step, enter_step}
 use Rattle.dcc_laws.proofs.Declarations.{AreAs}
 use Rattle.dcc_laws.proofs.Known.{IsKnown}
 use Rattle.dcc_laws.proofs.Rests.{IsRest}

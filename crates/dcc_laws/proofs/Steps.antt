@@ -1,31 +1,30 @@
 -- Each step from a sound state leads to one, or ends the run in one of the known ways.
-use Rattle.std.proofs.Common.{◌≡◌, ℕ, Bool, true, false, ◌&&◌, not, List, [], ◌∷◌, ◌++◌, map, Option, Some, None, refl, sym, ap, ◌∙◌, subst}
+use Rattle.std.proofs.Common.{◌≡◌, ℕ, Bool, true, false, ◌&&◌, not, List, [], ◌∷◌, ◌++◌, Option, Some, None, refl, sym, ap, ◌∙◌, subst}
 use Rattle.std.specs.Prelude.{is_some, if◌then◌else◌, ◌==◌, option_map}
 use Rattle.std.specs.List.{list_all, list_any, flat_map}
 use Rattle.std.proofs.lemmas.Bool.{and_parts}
 use Rattle.dcc_run.specs.End.{Running}
 use Rattle.dcc_c.specs.declared.syntax.Base.TheVariants.{Uint}
 use Rattle.dcc_c.specs.declared.syntax.CType.{CType}
-use Rattle.dcc_c.specs.Token.{same_bytes}
 use Rattle.dcc_c.specs.Types.{plain, promoted_type}
-use Rattle.dcc_c.specs.Tree.{Word, Expr, Stmt, Assign, Call, If, While, DoWhile, Forever, Switch, Break, Continue, Goto, Label, Empty, Return, Lines, no_lines, line, Arms, no_arms, arm, Function, Tree}
+use Rattle.dcc_c.specs.Tree.{Word, Expr, Stmt, Assign, Call, If, While, DoWhile, Forever, Switch, Break, Continue, Goto, Label, Empty, Return, Lines, line, Arms, no_arms, arm, Function, Tree}
 use Rattle.dcc_c.specs.Parts.{stmts_in, parts_of, expr_if, exprs_of, labels_in}
 use Rattle.dcc_c.specs.Typing.{type_of, place_type}
-use Rattle.dcc_c.specs.Dos.{Dos, dos_of, dos_signature, Signature}
-use Rattle.dcc_c.specs.Value.{Value, is_zero, converted, Outcome, given, value_of, Target, target_of}
+use Rattle.dcc_c.specs.Dos.{Dos, dos_of, dos_signature}
+use Rattle.dcc_c.specs.Value.{Value, is_zero, converted, value_of, Target, target_of}
 use Rattle.dcc_c.specs.Grammar.{is_among}
 use Rattle.dcc_c.specs.Rules.{all_differ, goto_of, declared_in, fits, is_word_base, is_switch_value, allows_stmt, signature_in, result_fits, fit_all, call_fits, signature_of, cases_of, differ, at_most_one}
-use Rattle.dcc_c.specs.Run.{Continuation, ends_function, runs, tests, turns, ends_switch, State, goes_on, on, scope_of, takes, after_break, after_continue, after_goto, arm_for, default_body, if_step, test_step, switch_step, jump_step, is_start, return_step, give_step, result_target, dos_step, arguments_of, enter_step, function_in, param_types, call_step, dos_or_call_step, stmt_step, step_at}
-use Rattle.dcc_laws.specs.Stuck.{StandsIn, here, inside, in_then, in_else, in_while, in_do, in_for, in_arm, in_default, StandsInArms, in_body, in_others, IsOneOf, IsStuckAt, start_returns, start_ends, function_ends, ComesToReturn, return_next, behind_block, behind_switch, ComesToBrace, brace_next, past_block, past_switch}
+use Rattle.dcc_c.specs.Run.{Continuation, ends_function, runs, tests, turns, ends_switch, State, on, scope_of, takes, after_break, after_continue, after_goto, arm_for, default_body, if_step, test_step, switch_step, jump_step, is_start, return_step, give_step, result_target, dos_step, arguments_of, enter_step, function_in, param_types, call_step, dos_or_call_step, stmt_step}
+use Rattle.dcc_laws.specs.Stuck.{StandsIn, here, inside, in_then, in_else, in_while, in_do, in_for, in_arm, in_default, in_body, in_others, IsOneOf}
 use Rattle.dcc_laws.proofs.Bodies.{each_stands, all_flat}
-use Rattle.dcc_laws.proofs.Declarations.{Takes, takes-stmt, takes-first, takes-others, takes-right}
-use Rattle.dcc_laws.proofs.Jumps.{JumpsInside, JumpsInArms, Jumps}
+use Rattle.dcc_laws.proofs.Declarations.{Takes, takes-stmt, takes-first, takes-others}
+use Rattle.dcc_laws.proofs.Jumps.{JumpsInside, JumpsInArms}
 use Rattle.dcc_laws.proofs.Labels.{label-found}
 use Rattle.dcc_laws.proofs.Known.{IsKnown, found-one}
-use Rattle.dcc_laws.proofs.Rests.{AreOf, AreArmsOf, IsTest, can_break, can_continue, IsRest, IfRest, behind-rest, break-rest, continue-rest, stands-allowed, while-test, do-test, lines-rest}
+use Rattle.dcc_laws.proofs.Rests.{AreOf, AreArmsOf, can_break, can_continue, IsRest, IfRest, break-rest, continue-rest, stands-allowed, while-test, do-test, lines-rest}
 use Rattle.dcc_laws.proofs.Frames.{SameLength, length-map, IsFrame, Lands, IfLands}
-use Rattle.dcc_laws.proofs.Values.{Holds, Any, has-type, fitting-gives, number-gives, place-gives, result-gives, arguments-give, value-holds, place-result, call-result}
-use Rattle.dcc_laws.proofs.Sound.{AreCalls, IsSound, IsStep, still, on-step, goes-step, takes-step, return-step, give-step, close-step, dos-step, enter-step}
+use Rattle.dcc_laws.proofs.Values.{Any, has-type, fitting-gives, number-gives, place-gives, result-gives, arguments-give, value-holds, place-result, call-result}
+use Rattle.dcc_laws.proofs.Sound.{AreCalls, IsSound, IsStep, still, on-step, goes-step, takes-step, return-step, give-step, dos-step, enter-step}
 
 -- a test of a loop goes on with the loop, or behind it
 pub tested-step : (tree : Tree) (ways : ℕ → Type 0) (v : Value) (e : Expr) (body : Lines) (at : ℕ) (rest : Continuation) (s : State) → s.end ≡ Running → IsFrame tree s.frame → AreCalls tree s.frame.function s.waiting →

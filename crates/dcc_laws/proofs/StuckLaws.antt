@@ -1,17 +1,16 @@
 -- A run of a text is stuck only where `start` returns or ends, or where a function with a result ends.
-use Rattle.std.proofs.Common.{◌≡◌, ℕ, zero, suc, ◌<◌, Bool, true, false, List, [], ◌∷◌, map, Option, Some, None, refl, sym, ap, ◌∙◌, subst, arith}
+use Rattle.std.proofs.Common.{◌≡◌, ℕ, zero, suc, ◌<◌, true, List, [], None, refl, sym, ap, ◌∙◌, subst, arith}
 use Rattle.std.specs.Prelude.{codes, is_some, if◌then◌else◌, ◌||◌}
 use Rattle.std.proofs.lemmas.Bool.{or_left, or_right}
 use Rattle.dcc_run.specs.End.{End, Running, Exit, Divide, Outside, Stuck, is_over}
-use Rattle.dcc_run.specs.System.{after, end_after}
-use Rattle.dcc_c.specs.Tree.{Expr, Stmt, Return, Lines, no_lines, line, Function, Tree}
+use Rattle.dcc_run.specs.System.{after}
+use Rattle.dcc_c.specs.Tree.{no_lines, line, Function, Tree}
 use Rattle.dcc_c.specs.Token.{same_bytes}
 use Rattle.dcc_c.specs.Placement.{first_base}
 use Rattle.dcc_c.specs.Value.{Value, value_of}
-use Rattle.dcc_c.specs.Rules.{IsAllowed}
 use Rattle.dcc_c.specs.Text.{StandsFor}
-use Rattle.dcc_c.specs.Run.{Continuation, ends_function, runs, tests, turns, ends_switch, State, with_end, goes_on, back_step, is_start, scope_of, test_step, step_at, step, first_state, text_system}
-use Rattle.dcc_laws.specs.Stuck.{StandsIn, here, IsOneOf, is_first, IsStuckAt, start_returns, start_ends, function_ends, ComesToReturn, return_next, behind_block, behind_switch, ComesToBrace, brace_next, past_block, past_switch, GotStuck, IsStuckOnlyAtEnds}
+use Rattle.dcc_c.specs.Run.{Continuation, ends_function, runs, tests, turns, ends_switch, State, with_end, goes_on, back_step, is_start, scope_of, test_step, step_at, step, first_state}
+use Rattle.dcc_laws.specs.Stuck.{StandsIn, here, IsOneOf, is_first, IsStuckAt, start_returns, start_ends, function_ends, ComesToReturn, return_next, behind_block, behind_switch, ComesToBrace, brace_next, past_block, past_switch, IsStuckOnlyAtEnds}
 use Rattle.dcc_laws.proofs.Declarations.{same_self}
 use Rattle.dcc_laws.proofs.Known.{IsKnown, all-known}
 use Rattle.dcc_laws.proofs.Rests.{IsRest, behind-rest}
@@ -162,7 +161,7 @@ stuck-only_at_ends text tree is =
       start = rules.start;
       others = rules.others;
       first = rules.first;
-      ways = λ fill input n at ends.
+      only_there = λ fill input n at ends.
           let begin = first_state tree rules.start fill input in
           let found = got-stuck tree known n at begin refl (first-sound tree rules.start fill input (known rules.start own) rules.no_params named) ends in
           record {
@@ -174,7 +173,7 @@ stuck-only_at_ends text tree is =
             function = found.function;
             stuck = found.way;
           };
-      always = always-stuck tree;
-      no_outside = λ fill input n at ends.
+      always_there = always-stuck tree;
+      never_outside = λ fill input n at ends.
           stays-inside tree known n at (first_state tree rules.start fill input) refl (first-sound tree rules.start fill input (known rules.start own) rules.no_params named) ends;
     }

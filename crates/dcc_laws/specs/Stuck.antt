@@ -47,9 +47,12 @@ pub data IsOneOf (f : Function) : List Function → Type 0 where
 
 -- a `return` without a value, in this line
 pub data ComesToReturn : Continuation → ℕ → Type 0 where
-  return_next : {at : ℕ} {lines : Lines} {rest : Continuation} → ComesToReturn (runs (line (Return None) at lines) rest) at
-  behind_block : {at : ℕ} {rest : Continuation} → ComesToReturn rest at → ComesToReturn (runs no_lines rest) at
-  behind_switch : {at : ℕ} {rest : Continuation} → ComesToReturn rest at → ComesToReturn (ends_switch rest) at
+  return_next : {at : ℕ} {lines : Lines} {rest : Continuation} →
+      ComesToReturn (runs (line (Return None) at lines) rest) at
+  behind_block : {at : ℕ} {rest : Continuation} →
+      ComesToReturn rest at → ComesToReturn (runs no_lines rest) at
+  behind_switch : {at : ℕ} {rest : Continuation} →
+      ComesToReturn rest at → ComesToReturn (ends_switch rest) at
 
 -- the closing brace of the function, in this line
 pub data ComesToBrace : Continuation → ℕ → Type 0 where
@@ -60,7 +63,8 @@ pub data ComesToBrace : Continuation → ℕ → Type 0 where
 -- A call of the function, with this still to be executed, has no next step, and the run is stuck in the line.
 pub data IsStuckAt (f : Function) (rest : Continuation) (at : ℕ) : Type 0 where
   -- `start` returns: the line is that of the `return`, which stands in its body
-  start_returns : is_start f ≡ true → ComesToReturn rest at → StandsIn f.body (Return None) at → IsStuckAt f rest at
+  start_returns : is_start f ≡ true → ComesToReturn rest at → StandsIn f.body (Return None) at →
+      IsStuckAt f rest at
   -- `start` reaches its closing brace, in this line
   start_ends : is_start f ≡ true → ComesToBrace rest at → at ≡ f.last → IsStuckAt f rest at
   -- a function with a result reaches its closing brace, in this line, without a `return`
@@ -84,12 +88,12 @@ pub record IsStuckOnlyAtEnds (tree : Tree) : Type 0 where
   pub others : List Function
   pub first : tree.functions ≡ start ∷ others
   -- a run that is stuck after some steps came to one of those places
-  pub ways : (fill : ℕ) (input : List ℕ) (n at : ℕ) →
+  pub only_there : (fill : ℕ) (input : List ℕ) (n at : ℕ) →
       end_after (text_system tree) n (first_state tree start fill input) ≡ Stuck at →
       GotStuck tree start fill input n at
   -- a run at one of those places is stuck by the next step
-  pub always : (s : State) (at : ℕ) → s.end ≡ Running → IsStuckAt s.frame.function s.rest at →
+  pub always_there : (s : State) (at : ℕ) → s.end ≡ Running → IsStuckAt s.frame.function s.rest at →
       (step tree s).end ≡ Stuck at
   -- no run of a text ends as one of a machine does that has no row for its instruction
-  pub no_outside : (fill : ℕ) (input : List ℕ) (n at : ℕ) →
+  pub never_outside : (fill : ℕ) (input : List ℕ) (n at : ℕ) →
       end_after (text_system tree) n (first_state tree start fill input) ≡ Outside at → ⊥

@@ -10,5 +10,4 @@ ghost use Rattle.dcc_laws.specs.Stuck.{IsStuckOnlyAtEnds};
 /// without a `return`. It does nothing.
 pub fn stuck_only_at_ends()
     ensures { (text : List ℕ) (tree : Tree) → StandsFor text tree → IsStuckOnlyAtEnds tree }
-{
-}
+{}
