@@ -60,16 +60,17 @@ void start(void)
 }
 ";
 
-/// The line and the kind of the first offence in a text of three parts, or none.
+/// The line and the kind of the first offence in a part of a text and what stands before and behind it, or none.
 fn offence(
     rt: &impl Abort,
     alloc: Global,
-    parts: [&str; 3],
+    before: &str,
+    part: &str,
+    behind: &str,
 ) -> Result<(u32, Option<ParseKind>), AllocError> {
-    let mut text = Vec::new(alloc);
-    for part in parts {
-        text.extend_from_slice(part.as_bytes())?;
-    }
+    let mut text = before.as_bytes().to_vec(alloc)?;
+    text.extend_from_slice(part.as_bytes())?;
+    text.extend_from_slice(behind.as_bytes())?;
     Ok(match parse(alloc, &text) {
         Ok(_) => (0, None),
         Err(ParseFault::At { line, kind }) => (line, Some(kind)),
@@ -88,9 +89,10 @@ fn each_is_answered(
     cases: &[Case],
     behind: &str,
 ) -> Result<(), AllocError> {
-    for (text, line, kind) in cases {
-        let answer = offence(rt, alloc, [before, text, behind])?;
-        assert_eq!(rt; answer, (*line, *kind));
+    for case in cases {
+        let (text, line, kind) = *case;
+        let answer = offence(rt, alloc, before, text, behind)?;
+        assert_eq!(rt; answer, (line, kind), "{text}");
     }
     Ok(())
 }

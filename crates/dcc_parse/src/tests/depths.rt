@@ -56,9 +56,9 @@ fn parts_may_be_nested_up_to_their_limits(rt: HostRuntime) -> Result<(), Fail> {
     for nest in &NESTS {
         let (_, _, _, _, most, line) = *nest;
         let text = nested(alloc, nest, most)?;
-        assert_eq!(rt; offence(&rt, alloc, [BEFORE, text.as_str(), BEHIND])?, (0, None));
+        assert_eq!(rt; offence(&rt, alloc, BEFORE, text.as_str(), BEHIND)?, (0, None));
         let text = nested(alloc, nest, most + 1)?;
-        let answer = offence(&rt, alloc, [BEFORE, text.as_str(), BEHIND])?;
+        let answer = offence(&rt, alloc, BEFORE, text.as_str(), BEHIND)?;
         assert_eq!(rt; answer, (line, Some(ParseKind::Depth)));
     }
     Ok(())
