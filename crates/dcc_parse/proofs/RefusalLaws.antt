@@ -54,11 +54,10 @@ offence-once : (text : List ℕ) {rest other : List ℕ} {o p : Offence} → beh
     (line_at (pieces_of rest) (suc (rows text)) o.at ≡ line_at (pieces_of other) (suc (rows text)) p.at) × (o.kind ≡ p.kind)
 offence-once text {rest} {other} {o} {p} begins begins_other first last =
     let same : rest ≡ other = sym (rest-same (sym begins_other ∙ begins)) in
-    let alike : o ≡ p = some-same (sym first ∙ ap (λ l. first_of (offences_of (pieces_of l))) same ∙ last) in
-    (
+    let alike : o ≡ p = some-same (sym first ∙ ap (λ l. first_of (offences_of (pieces_of l))) same ∙ last) in (
       ap (λ l. line_at (pieces_of l) (suc (rows text)) o.at) same
-      ∙ ap (λ (x : Offence). line_at (pieces_of other) (suc (rows text)) x.at) alike,
-      ap (λ (x : Offence). x.kind) alike
+          ∙ ap (λ (x : Offence). line_at (pieces_of other) (suc (rows text)) x.at) alike,
+      ap (λ (x : Offence). x.kind) alike,
     )
 
 -- a text is refused in one line for one kind

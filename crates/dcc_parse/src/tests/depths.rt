@@ -29,10 +29,31 @@ static NESTS: [Nest; 15] = [
     ("", ["if (1) {\n", "}\n"], "x = 1;\n", "", 200, 212),
     ("", ["for (;;) { ", "}"], "\nbreak;\n", "", 200, 12),
     ("", ["while (x) { ", "}"], "\nL: ;\n", "", 200, 12),
-    ("", ["if (x) { ", "}"], "\n#pragma dcc depth 4\n", "", 200, 12),
+    (
+        "",
+        ["if (x) { ", "}"],
+        "\n#pragma dcc depth 4\n",
+        "",
+        200,
+        12,
+    ),
     ("", ["if (x) { } else { ", "}"], "\nx = 1;\n", "", 200, 12),
-    ("", ["switch (x) { case 1: ", "break; }"], "\nx = 1;\n", "", 200, 12),
-    ("", ["switch (x) { default: ", "break; }"], "\nx = 1;\n", "", 200, 12),
+    (
+        "",
+        ["switch (x) { case 1: ", "break; }"],
+        "\nx = 1;\n",
+        "",
+        200,
+        12,
+    ),
+    (
+        "",
+        ["switch (x) { default: ", "break; }"],
+        "\nx = 1;\n",
+        "",
+        200,
+        12,
+    ),
 ];
 
 /// The statement with the part repeated so many times.
@@ -56,7 +77,10 @@ fn parts_may_be_nested_up_to_their_limits(rt: HostRuntime) -> Result<(), Fail> {
     for nest in &NESTS {
         let (_, _, _, _, most, line) = *nest;
         let text = nested(alloc, nest, most)?;
-        assert_eq!(rt; offence(&rt, alloc, BEFORE, text.as_str(), BEHIND)?, (0, None));
+        assert_eq!(rt;
+            offence(&rt, alloc, BEFORE, text.as_str(), BEHIND)?,
+            (0, None)
+        );
         let text = nested(alloc, nest, most + 1)?;
         let answer = offence(&rt, alloc, BEFORE, text.as_str(), BEHIND)?;
         assert_eq!(rt; answer, (line, Some(ParseKind::Depth)));

@@ -16,8 +16,16 @@ pub(super) static NAMES_AND_TYPES: [Case; 41] = [
     ("goto f;", 11, Some(ParseKind::Name)),
     ("L: ;\nL: ;", 12, Some(ParseKind::Name)),
     ("x: x = 1;", 0, None),
-    ("switch (x) { case 1: break; case 0x1: break; }", 11, Some(ParseKind::Name)),
-    ("switch (x) { default: break; default: break; }", 11, Some(ParseKind::Name)),
+    (
+        "switch (x) { case 1: break; case 0x1: break; }",
+        11,
+        Some(ParseKind::Name),
+    ),
+    (
+        "switch (x) { default: break; default: break; }",
+        11,
+        Some(ParseKind::Name),
+    ),
     ("dos_puts2(1);", 11, Some(ParseKind::Name)),
     ("dos_putc = 1;", 11, Some(ParseKind::Type_)),
     // Types.

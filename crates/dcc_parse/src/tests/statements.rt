@@ -23,8 +23,16 @@ pub(super) static TOKENS: [Case; 36] = [
     ("x = 12ab;", 11, Some(ParseKind::Token)),
     ("x = 1_;", 11, Some(ParseKind::Token)),
     // Words of 31 and 32 bytes, and keywords.
-    ("goto L234567890123456789012345678901;\nL234567890123456789012345678901: ;", 0, None),
-    ("L2345678901234567890123456789012: ;", 11, Some(ParseKind::Token)),
+    (
+        "goto L234567890123456789012345678901;\nL234567890123456789012345678901: ;",
+        0,
+        None,
+    ),
+    (
+        "L2345678901234567890123456789012: ;",
+        11,
+        Some(ParseKind::Token),
+    ),
     ("const int z;", 11, Some(ParseKind::Token)),
     ("x = sizeof(x);", 11, Some(ParseKind::Token)),
     ("goto if;", 11, Some(ParseKind::Grammar)),
@@ -76,15 +84,35 @@ pub(super) static GRAMMAR: [Case; 53] = [
     // Switches.
     ("switch (x) { }", 11, Some(ParseKind::Grammar)),
     ("switch (x) { x = 1; }", 11, Some(ParseKind::Grammar)),
-    ("switch (x) { case 1: x = 1; }", 11, Some(ParseKind::Grammar)),
-    ("switch (x) { case 1: L: break; }", 11, Some(ParseKind::Grammar)),
+    (
+        "switch (x) { case 1: x = 1; }",
+        11,
+        Some(ParseKind::Grammar),
+    ),
+    (
+        "switch (x) { case 1: L: break; }",
+        11,
+        Some(ParseKind::Grammar),
+    ),
     ("switch (x) { case 1: break; break; }", 0, None),
     ("switch (x) { case 65535: break; }", 0, None),
-    ("switch (x) { case 65536: break; }", 11, Some(ParseKind::Grammar)),
-    ("switch (x) { case 1L: break; }", 11, Some(ParseKind::Grammar)),
+    (
+        "switch (x) { case 65536: break; }",
+        11,
+        Some(ParseKind::Grammar),
+    ),
+    (
+        "switch (x) { case 1L: break; }",
+        11,
+        Some(ParseKind::Grammar),
+    ),
     ("switch (x) { case 0xFFFFU: break; }", 0, None),
     ("switch (x) { default: break; case 1: break; }", 0, None),
-    ("switch (x) { case 1: continue; break; }", 11, Some(ParseKind::Grammar)),
+    (
+        "switch (x) { case 1: continue; break; }",
+        11,
+        Some(ParseKind::Grammar),
+    ),
     // Jumps and labels.
     ("break;", 11, Some(ParseKind::Grammar)),
     ("continue;", 11, Some(ParseKind::Grammar)),
@@ -93,7 +121,11 @@ pub(super) static GRAMMAR: [Case; 53] = [
     ("goto 1;", 11, Some(ParseKind::Grammar)),
     ("L: }", 11, Some(ParseKind::Grammar)),
     ("L: M:", 12, Some(ParseKind::Grammar)),
-    ("L:\n#pragma dcc depth 4\nv();", 12, Some(ParseKind::Grammar)),
+    (
+        "L:\n#pragma dcc depth 4\nv();",
+        12,
+        Some(ParseKind::Grammar),
+    ),
     // Pragmas among statements.
     ("#pragma dcc depth 4\nv();", 0, None),
     ("#pragma dcc depth 4 \nv();", 11, Some(ParseKind::Grammar)),
