@@ -76,6 +76,7 @@ fn parts_may_be_nested_up_to_their_limits(rt: HostRuntime) -> Result<(), Fail> {
     let alloc = rt.alloc();
     for nest in &NESTS {
         let (_, _, _, _, most, line) = *nest;
+        let most = usize::from(most);
         let text = nested(alloc, nest, most)?;
         assert_eq!(rt;
             offence(&rt, alloc, BEFORE, text.as_str(), BEHIND)?,
