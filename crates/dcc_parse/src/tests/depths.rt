@@ -13,7 +13,7 @@ type Nest = (
     [&'static str; 2],
     &'static str,
     &'static str,
-    usize,
+    u8,
     u32,
 );
 
