@@ -233,7 +233,7 @@ fn a_failing_read_ends_both_sides(rt: HostRuntime) -> Result<(), Fail> {
         let given = answered_on(alloc, &words, bytes, b"ab", first_read)?;
         assert_eq!(rt; given.status, 5);
         assert!(rt; given.out.is_empty());
-        assert_eq!(rt; given.err.as_slice(), b"dcc: input fault\n");
+        assert_eq!(rt; given.err.as_slice(), b"dcc: input fault\n".as_slice());
     }
     Ok(())
 }
