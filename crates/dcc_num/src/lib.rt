@@ -1,6 +1,8 @@
 //! Registers, flags and arithmetic of the 8086 (8086 Family User's Manual, chapter 2).
 #![tactic(auto)]
 
+pub mod dos;
+mod halves;
 pub mod laws;
 mod logic;
 mod operand;

@@ -1,17 +1,21 @@
 //! Operands as numbers, and the flags of a result.
 
-ghost use Rattle.std.specs.Prelude.{◌≡◌, ◌<◌, pos, neg_ℤ, ◌≤ℤ◌, ◌<ℤ◌};
+ghost use Rattle.std.specs.Prelude.{◌≡◌, ◌<◌, ◌≤◌, pos, neg_ℤ, ◌≤ℤ◌, ◌<ℤ◌};
 ghost use Rattle.dcc_num.specs.Numbers.{bits_of, wrapped_of, sign_extension_of, limit_of, half_of, has_sign, signed_of, fits_signed, result_flags};
 
 use crate::{Flags, Width};
 
-/// The bits of an operand.
-pub fn bits(w: Width) -> u32
-    ensures { result ≡ bits_of w }
-{
-    match w {
-        Width::Byte => 8,
-        Width::Word => 16,
+impl Width {
+    /// How many bits an operand has.
+    pub fn bits(self) -> u8
+        ensures bits { result ≡ bits_of self }
+        ensures least { 8 ≤ result }
+        ensures most { result ≤ 16 }
+    {
+        match self {
+            Width::Byte => 8,
+            Width::Word => 16,
+        }
     }
 }
 

@@ -4,7 +4,7 @@ ghost use Rattle.std.specs.Prelude.{◌≡◌, ◌<◌};
 ghost use Rattle.dcc_num.specs.Numbers.{limit_of};
 ghost use Rattle.dcc_num.specs.Product.{product_of, signed_product_of, product_flags, extension_of};
 
-use crate::operand::{bits, is_negative, limit, signed, wrapped};
+use crate::operand::{is_negative, limit, signed, wrapped};
 use crate::{Flags, Width};
 
 // CF and OF tell whether the product needs its upper half.
@@ -56,6 +56,6 @@ pub fn imul(w: Width, a: u16, b: u16) -> (u16, u16, Flags)
 {
     let product = signed(w, a) * signed(w, b);
     let low = wrapped(w, product);
-    let high = wrapped(w, product >> bits(w));
+    let high = wrapped(w, product >> w.bits());
     (low, high, flags_of(high != extension(w, low)))
 }

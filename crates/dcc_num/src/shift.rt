@@ -4,7 +4,7 @@ ghost use Rattle.std.specs.Prelude.{◌==◌, ◌≡◌, ◌<◌, ◌≤◌, ◌
 ghost use Rattle.dcc_num.specs.Numbers.{limit_of, bits_of, is_set, signed_of, wrapped_of, residue_of, halved_of};
 ghost use Rattle.dcc_num.specs.Shift.{left_shift_of, right_shift_of, signed_shift_of, left_rotation_of, right_rotation_of, left_turn_of, right_turn_of, turned_of, top_bits_differ};
 
-use crate::operand::{bits, flags_of, half, is_negative, limit, signed, wrapped};
+use crate::operand::{flags_of, half, is_negative, limit, signed, wrapped};
 use crate::{Flags, Width};
 
 // A count at which nothing is left of a word, nor of the bits that it shifts out last.
@@ -88,7 +88,7 @@ pub fn sar(w: Width, a: u16, count: u8, was: Flags) -> (u16, Flags)
 }
 
 // The bits moved up by some places, at most the width: those that leave at the top come in at the bottom.
-fn turned(w: Width, a: u16, places: u32) -> u16
+fn turned(w: Width, a: u16, places: u8) -> u16
     requires operand { a < limit_of w }
     requires places { places ≤ bits_of w }
     ensures turned { result ≡ turned_of w a places }
@@ -117,7 +117,7 @@ pub fn rol(w: Width, a: u16, count: u8, was: Flags) -> (u16, Flags)
     if count == 0 {
         return (a, was);
     }
-    let result = turned(w, a, u32::from(count) % bits(w));
+    let result = turned(w, a, count % w.bits());
     let cf = result % 2 == 1;
     let of = count == 1 && cf != is_negative(w, result);
     (result, Flags { cf, of, ..was })
@@ -133,7 +133,7 @@ pub fn ror(w: Width, a: u16, count: u8, was: Flags) -> (u16, Flags)
     if count == 0 {
         return (a, was);
     }
-    let result = turned(w, a, bits(w) - u32::from(count) % bits(w));
+    let result = turned(w, a, w.bits() - count % w.bits());
     let of = count == 1 && top_bits_differ(w, result);
     (
         result,

@@ -5,10 +5,9 @@ use Rattle.dcc_num.specs.declared.Width.{Width}
 use Rattle.dcc_num.specs.declared.Width.TheVariants.{Byte as byte_width, Word as word_width}
 use Rattle.dcc_num.specs.declared.Reg.{Reg}
 use Rattle.dcc_num.specs.declared.Reg.TheVariants.{Ax, Cx, Dx, Bx, Sp, Bp, Si, Di}
-use Rattle.dcc_num.specs.declared.Half.{Half}
-use Rattle.dcc_num.specs.declared.Half.TheVariants.{Low, High}
 use Rattle.dcc_num.specs.declared.Flags.{Flags}
 use Rattle.dcc_num.specs.Numbers.{no_flags}
+pub use Rattle.dcc_num.specs.Halves.{half_of_word, word_with_half}
 use Rattle.dcc_prog.specs.declared.image.Image.{Image}
 use Rattle.dcc_prog.specs.declared.instr.Ea.{Ea}
 use Rattle.dcc_prog.specs.declared.instr.Operand.{Operand}
@@ -46,16 +45,6 @@ reg_number Di = 7
 -- what a word register holds
 abbrev pub word_in : State → Reg → ℕ
 word_in s r = slice_index s.regs (reg_number r)
-
--- one byte of a word
-abbrev pub half_of_word : Half → ℕ → ℕ
-half_of_word Low word = word % 256
-half_of_word High word = word / 256
-
--- a word after one of its bytes has taken a value
-abbrev pub word_with_half : Half → ℕ → ℕ → ℕ
-word_with_half Low word byte = word / 256 * 256 + byte
-word_with_half High word byte = byte * 256 + word % 256
 
 abbrev pub with_word_in : State → Reg → ℕ → State
 with_word_in s r word = record s { regs = slice_set s.regs (reg_number r) word }
