@@ -95,7 +95,7 @@ table_jump_modrm at (a ∷ b ∷ c ∷ d ∷ rest) l s n m k =
     let same : a ≡ 0xff = s in
     rw same (table_jump_modrm_at at b c d rest (other_byte 0xa4 b n) (other_byte 0xa5 b m) (other_byte 0xa7 b k))
 
--- the jump by a register to the word behind the first two bytes
+-- the jump by a register to the word after the first two bytes
 abbrev jump_by : Reg → List ℕ → Option Instr
 jump_by r rest = Some (record { op = Table r (slice_index rest 2 + 256 * slice_index rest 3); len = 5 })
 

@@ -51,7 +51,7 @@ pub record TellsConstant (opcode modrm : ℕ) (answer : Constant) : Type 0 where
       (row : Row) (rest : List ℕ) → IsOpcodeRow row
       → IsTrue (fits row.pattern (opcode ∷ modrm ∷ rest)) → row.constant_form ≡ form_of answer
 
--- the ModRM byte at index 1, its displacement, and the index behind that
+-- the ModRM byte at index 1, its displacement, and the index after that
 abbrev pub modrm_read : List ℕ → Option (ℕ × ℕ × ℕ)
 modrm_read bytes =
     let modrm = byte_at bytes 1 in
@@ -68,7 +68,7 @@ constant_read form bytes index =
 abbrev pub head_length : Row → List ℕ → ℕ
 head_length row bytes = length row.pattern + row_displacement_size row bytes
 
--- the ModRM byte and the displacement of an instruction of a row, and the index behind them
+-- the ModRM byte and the displacement of an instruction of a row, and the index after them
 abbrev pub head_of : Row → List ℕ → Option (ℕ × ℕ × ℕ)
 head_of row bytes =
     if nat_le (head_length row bytes) (length bytes) then Some (

@@ -305,7 +305,7 @@ fn constant_size(form: Constant) -> u8
     }
 }
 
-// The ModRM byte at index 1, the displacement behind it, and the index behind that.
+// The ModRM byte at index 1, the displacement after it, and the index after that.
 fn read_modrm(bytes: &[u8]) -> Option<(u8, u16, u8)>
     ensures value { result ≡ modrm_read bytes.now }
     ensures small { IfSome result (λ found. found.2 ≤ 4) }
@@ -319,7 +319,7 @@ fn read_modrm(bytes: &[u8]) -> Option<(u8, u16, u8)>
     }
 }
 
-// The ModRM byte and the displacement, 0 where there are none, and the index behind them.
+// The ModRM byte and the displacement, 0 where there are none, and the index after them.
 #[tactic(auto, using(crate::proofs::ReadLaws::head_rules))]
 fn read_head(opcode: u8, bytes: &[u8]) -> Option<(u8, u16, u8)>
     requires there { 0 < length bytes.now }

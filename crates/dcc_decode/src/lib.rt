@@ -66,7 +66,7 @@ fn decode_fields(bytes: &[u8], at: u16) -> Option<Instr>
     })
 }
 
-// INT 21h, by the bytes behind its opcode.
+// INT 21h, by the bytes after its opcode.
 #[tactic(auto, using(crate::proofs::Decoding::interrupt_rules))]
 fn interrupt(rest: &[u8]) -> Option<Instr>
     ensures { (at : ℕ) → result ≡ instruction_at at (0xcd ∷ rest.now) }
@@ -81,7 +81,7 @@ fn interrupt(rest: &[u8]) -> Option<Instr>
     }
 }
 
-// A jump to the word at CS:[SI+iw], CS:[DI+iw] or CS:[BX+iw], by the bytes behind its CS prefix.
+// A jump to the word at CS:[SI+iw], CS:[DI+iw] or CS:[BX+iw], by the bytes after its CS prefix.
 #[tactic(auto, using(crate::proofs::Decoding::table_jump_rules))]
 fn table_jump(rest: &[u8]) -> Option<Instr>
     ensures { (at : ℕ) → result ≡ instruction_at at (0x2e ∷ rest.now) }

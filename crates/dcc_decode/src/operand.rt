@@ -75,7 +75,7 @@ pub fn is_direct(modrm: u8) -> bool
     mod_field(modrm) == 0 && rm_field(modrm) == 6
 }
 
-/// The number of bytes of displacement behind a ModRM byte.
+/// The number of bytes of displacement after a ModRM byte.
 pub fn displacement_size(modrm: u8) -> u8
     ensures { result ≡ displacement_size modrm }
 {

@@ -9,13 +9,13 @@ use Rattle.dcc_prog.specs.Machine.{State, start_state}
 use Rattle.dcc_prog.specs.Step.{op_step}
 use Rattle.dcc_prog.specs.Layout.{is_prelude_form, may_end_prelude, IsFormAt, IsRun, end_of, ends_prelude}
 use Rattle.dcc_prog.proofs.PreludeLaws.{NoFormAt, run-append, run-of_append, end_of-append, none_ends, none_ends-push, ends_prelude-push, prelude-is}
-use Rattle.dcc_prog.proofs.PreludeSteps.{form-step, executed, executed-push, state_behind-is}
+use Rattle.dcc_prog.proofs.PreludeSteps.{form-step, executed, executed-push, state_after-is}
 use Rattle.dcc_layout.specs.declared.registers.Registers.{Registers}
 use Rattle.dcc_layout.specs.declared.prelude.Prelude.{Prelude}
 use Rattle.dcc_layout.specs.Registers.{registers_of, state_of}
 use Rattle.dcc_layout.specs.Prelude.{IsLeft}
 
--- the run so far is cut behind the last instruction behind which a prelude may end, whose values are kept
+-- the run so far is cut after the last instruction after which a prelude may end, whose values are kept
 pub record Scanned (image : Image) (at : ℕ) (registers : Registers) (kept : Prelude) : Type 0 where
   pub front : List Instr
   pub rest : List Instr
@@ -63,7 +63,7 @@ module _ (image : Image) (at next : ℕ) (registers after : Registers) (kept : P
       registers-step instr (executed (start_state image []) (before.front ++ before.rest)) registers after is.form before.registers_are made
       ∙ ap registers_of (sym (executed-push (start_state image []) (before.front ++ before.rest) instr))
 
-  -- an instruction behind which no prelude may end
+  -- an instruction after which no prelude may end
   pub scanned-passed : may_end_prelude instr.op ≡ false → Scanned image next after kept
   scanned-passed stays =
       let joins = append_assoc before.front before.rest (instr ∷ []) in
@@ -79,7 +79,7 @@ module _ (image : Image) (at next : ℕ) (registers after : Registers) (kept : P
         kept_registers = before.kept_registers;
       }
 
-  -- an instruction behind which a prelude may end
+  -- an instruction after which a prelude may end
   pub scanned-kept : (new : Prelude) → may_end_prelude instr.op ≡ true → new.end ≡ next → new.registers ≡ after → Scanned image next after new
   scanned-kept new ends e r =
       let whole = before.front ++ before.rest ++ instr ∷ [] in
@@ -104,6 +104,6 @@ scanned-end image at registers kept loaded s none =
     record {
       prelude = s.front;
       is_prelude = prelude-is (code_of image) image.ip s.front s.rest s.run stop s.ends s.none;
-      registers = s.kept_registers ∙ ap registers_of (sym (state_behind-is image s.front loaded run));
+      registers = s.kept_registers ∙ ap registers_of (sym (state_after-is image s.front loaded run));
       end = s.kept_end;
     }

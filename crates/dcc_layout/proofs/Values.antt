@@ -8,9 +8,9 @@ use Rattle.dcc_prog.specs.declared.instr.Instr.{Instr}
 use Rattle.dcc_prog.specs.MzImage.{IsLoaded}
 use Rattle.dcc_prog.specs.Code.{code_of}
 use Rattle.dcc_prog.specs.Machine.{word_in, stack_segment, data_segment, start_state}
-use Rattle.dcc_prog.specs.Layout.{writes_ds, state_behind, lowest_of_stack, IsLeftBy, IsSmall, HasLayout}
+use Rattle.dcc_prog.specs.Layout.{writes_ds, state_after, lowest_of_stack, IsLeftBy, IsSmall, HasLayout}
 use Rattle.dcc_prog.proofs.MzImageLaws.{cs-loaded}
-use Rattle.dcc_prog.proofs.PreludeSteps.{executed-data, state_behind-is}
+use Rattle.dcc_prog.proofs.PreludeSteps.{executed-data, state_after-is}
 use Rattle.dcc_prog.proofs.LayoutLaws.{left-by}
 use Rattle.dcc_layout.specs.declared.registers.Registers.{Registers}
 use Rattle.dcc_layout.specs.declared.prelude.Prelude.{Prelude}
@@ -29,13 +29,13 @@ pub record AreValues (image : Image) (left : Prelude) (layout : Layout) : Type 0
   pub code_end : layout.code_end ≡ min ((data_segment (state_of left.registers) - image.cs) * 16) image.code_len
 
 module _ (image : Image) (left : Prelude) (layout : Layout) (is : IsLeft image left) where
-  regs-left : (state_behind image is.prelude).regs ≡ left.registers.regs
+  regs-left : (state_after image is.prelude).regs ≡ left.registers.regs
   regs-left = ap (λ (r : Registers). r.regs) (sym is.registers)
 
-  flags-left : (state_behind image is.prelude).flags ≡ left.registers.flags
+  flags-left : (state_after image is.prelude).flags ≡ left.registers.flags
   flags-left = ap (λ (r : Registers). r.flags) (sym is.registers)
 
-  segs-left : (state_behind image is.prelude).segs ≡ left.registers.segs
+  segs-left : (state_after image is.prelude).segs ≡ left.registers.segs
   segs-left = ap (λ (r : Registers). r.segs) (sym is.registers)
 
   -- what a layout that holds has to have
@@ -44,9 +44,9 @@ module _ (image : Image) (left : Prelude) (layout : Layout) (is : IsLeft image l
       let by = left-by image is.prelude layout is.is_prelude h in
       let ds : layout.ds ≡ data_segment (state_of left.registers) =
       by.ds ∙ ap (λ (l : List ℕ). data_segment (state_of (record left.registers { segs = l }))) segs-left in
-      let ss : stack_segment (state_behind image is.prelude) ≡ stack_segment (state_of left.registers) =
+      let ss : stack_segment (state_after image is.prelude) ≡ stack_segment (state_of left.registers) =
       ap (λ (l : List ℕ). stack_segment (state_of (record left.registers { segs = l }))) segs-left in
-      let sp : word_in (state_behind image is.prelude) Sp ≡ word_in (state_of left.registers) Sp =
+      let sp : word_in (state_after image is.prelude) Sp ≡ word_in (state_of left.registers) Sp =
       ap (λ (l : List ℕ). word_in (state_of (record left.registers { regs = l })) Sp) regs-left in
       record {
         regs = by.regs ∙ regs-left;
@@ -62,11 +62,11 @@ module _ (image : Image) (left : Prelude) (layout : Layout) (is : IsLeft image l
   -- and what suffices for it
   left-by_values : AreValues image left layout → IsLeftBy image is.prelude layout
   left-by_values v =
-      let ds : layout.ds ≡ data_segment (state_behind image is.prelude) =
+      let ds : layout.ds ≡ data_segment (state_after image is.prelude) =
       v.ds ∙ ap (λ (l : List ℕ). data_segment (state_of (record left.registers { segs = l }))) (sym segs-left) in
-      let ss : stack_segment (state_of left.registers) ≡ stack_segment (state_behind image is.prelude) =
+      let ss : stack_segment (state_of left.registers) ≡ stack_segment (state_after image is.prelude) =
       ap (λ (l : List ℕ). stack_segment (state_of (record left.registers { segs = l }))) (sym segs-left) in
-      let sp : word_in (state_of left.registers) Sp ≡ word_in (state_behind image is.prelude) Sp =
+      let sp : word_in (state_of left.registers) Sp ≡ word_in (state_after image is.prelude) Sp =
       ap (λ (l : List ℕ). word_in (state_of (record left.registers { regs = l })) Sp) (sym regs-left) in
       record {
         regs = v.regs ∙ sym regs-left;
@@ -80,12 +80,12 @@ module _ (image : Image) (left : Prelude) (layout : Layout) (is : IsLeft image l
       }
 
   -- a prelude that doesn't write DS leaves it below the code
-  data-kept : IsLoaded image → list_any (λ (i : Instr). writes_ds i.op) is.prelude ≡ false → data_segment (state_behind image is.prelude) < image.cs
+  data-kept : IsLoaded image → list_any (λ (i : Instr). writes_ds i.op) is.prelude ≡ false → data_segment (state_after image is.prelude) < image.cs
   data-kept loaded none =
       let run = is.is_prelude.run in
       let same = executed-data (code_of image) image.ip is.prelude (start_state image []) run none in
-      let behind = ap data_segment (state_behind-is image is.prelude loaded run) in
-      omega (arith, cs-loaded image loaded, same, behind)
+      let written = ap data_segment (state_after-is image is.prelude loaded run) in
+      omega (arith, cs-loaded image loaded, same, written)
 
   pub layout-of_values : IsLoaded image → AreValues image left layout → IsSmall image layout → HasLayout image layout
   layout-of_values loaded v small =

@@ -2,6 +2,7 @@
 use Rattle.std.specs.Prelude.{◌≡◌, ◌⊎◌}
 use Rattle.dcc_prog.specs.declared.image.Image.{Image}
 use Rattle.dcc_prog.specs.declared.procedure.Layout.{Layout}
+use Rattle.dcc_prog.specs.declared.refusal.construct.TheConstants.{NO_LAYOUT}
 use Rattle.dcc_prog.specs.Layout.{HasLayout}
 use Rattle.dcc_prog.specs.Construct.{IsConstruct}
 
@@ -15,7 +16,7 @@ pub record HasSomeLayout (image : Image) : Type 0 where
   pub layout : Layout
   pub holds : HasLayout image layout
 
--- a layout holds of an image, or construct 1 stands at its entry, and not both
+-- a layout holds of an image, or the construct of no layout stands at its entry, and not both
 pub record HasLayoutOrConstruct : Type 0 where
-  pub one : (image : Image) → HasSomeLayout image ⊎ IsConstruct 1 image image.ip
-  pub not_both : (image : Image) → HasSomeLayout image → ¬ IsConstruct 1 image image.ip
+  pub one : (image : Image) → HasSomeLayout image ⊎ IsConstruct NO_LAYOUT image image.ip
+  pub not_both : (image : Image) → HasSomeLayout image → ¬ IsConstruct NO_LAYOUT image image.ip

@@ -1,17 +1,10 @@
-//! Which operations may stand in a prelude, and behind which it may end.
+//! Which operations may stand in a prelude, and after which it may end.
 
 ghost use Rattle.std.specs.Prelude.{◌≡◌};
-ghost use Rattle.dcc_prog.specs.Layout.{is_data_segment, is_prelude_move, is_prelude_sum, is_word_register, is_prelude_plain, is_prelude_form, is_segment_or_sp, is_control, may_end_prelude};
+ghost use Rattle.dcc_prog.specs.Layout.{is_data_segment, is_prelude_move, is_prelude_sum, is_word_register, is_prelude_plain, is_prelude_form, is_segment_or_sp, may_end_prelude};
 
 use dcc_num::Reg;
-use dcc_prog::{Alu, Op, Operand, Plain, Shift};
-
-/// The numbers of the segment registers.
-pub const ES: u8 = 0;
-
-pub const SS: u8 = 2;
-
-pub const DS: u8 = 3;
+use dcc_prog::{Alu, DS, ES, Op, Operand, Plain, SS, Shift};
 
 // The number is that of ES, SS or DS.
 fn is_data_segment(number: u8) -> bool
@@ -74,19 +67,13 @@ fn is_segment_or_sp(operand: Operand) -> bool
     matches!(operand, Operand::Seg(_) | Operand::Word(Reg::Sp))
 }
 
-fn is_control(operation: Plain) -> bool
-    ensures { result ≡ is_control operation }
-{
-    matches!(operation, Plain::Cli | Plain::Sti | Plain::Cld)
-}
-
-/// Whether a prelude may end behind the operation: it writes a segment register or SP, or is CLI, STI or CLD.
+/// Whether a prelude may end after the operation: it writes a segment register or SP, or is CLI, STI or CLD.
 pub fn may_end_prelude(op: Op) -> bool
     ensures { result ≡ may_end_prelude op }
 {
     match op {
         Op::Mov(to, _) | Op::Alu(_, to, _) | Op::Shift(_, to, _) => is_segment_or_sp(to),
-        Op::Plain(operation) => is_control(operation),
+        Op::Plain(operation) => operation.is_control(),
         _ => false,
     }
 }

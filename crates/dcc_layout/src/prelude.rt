@@ -15,8 +15,9 @@ use dcc_prog::{Image, Instr};
 /// What a prelude leaves.
 #[derive(Clone, Copy)]
 pub struct Prelude {
+    /// The registers and flags.
     pub registers: Registers,
-    /// The offset behind it in the code segment, at most 65,536.
+    /// The offset after it in the code segment, at most 65,536.
     pub end: usize,
 }
 
@@ -33,7 +34,7 @@ fn form_at(code: &[u8], at: usize) -> Option<Instr>
 }
 
 /// What the prelude of a loaded program leaves, which is the longest run from the entry of
-/// instructions that may stand in one, up to the last behind which it may end.
+/// instructions that may stand in one, up to the last after which it may end.
 pub fn prelude_of(image: &Image) -> Prelude
     requires { IsLoaded image.now }
     ensures { IsLeft image.now result }

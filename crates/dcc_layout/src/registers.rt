@@ -3,18 +3,14 @@
 ghost use Rattle.std.specs.Prelude.{◌≡◌, ◌<◌, true, []};
 ghost use Rattle.dcc_num.specs.Numbers.{limit_of};
 ghost use Rattle.dcc_prog.specs.Layout.{is_prelude_form};
-ghost use Rattle.dcc_prog.specs.Machine.{start_state, half_of_word, word_with_half, word_in, stack_segment, data_segment, operand_value, operand_width, with_operand};
+ghost use Rattle.dcc_prog.specs.Machine.{start_state, word_in, stack_segment, data_segment, operand_value, operand_width, with_operand};
 ghost use Rattle.dcc_prog.specs.Operations.{with_result, count_in};
 ghost use Rattle.dcc_prog.specs.Step.{op_step};
 ghost use Rattle.dcc_prog.specs.WellFormed.{IsOperand, IsOperation};
 ghost use Rattle.dcc_layout.specs.Registers.{has_no_memory, state_of, registers_of};
 
-use crate::form::{DS, SS};
-use dcc_num::{Flags, Half, Reg, Width, add, shl, sub};
-use dcc_prog::{Alu, Image, Op, Operand};
-
-/// The segment of the program prefix, in which DS and ES begin.
-const PREFIX_SEGMENT: u16 = 0x0100;
+use dcc_num::{Flags, Half, NO_FLAGS, Reg, Width, add, shl, sub};
+use dcc_prog::{Alu, DS, Image, Op, Operand, PREFIX_SEGMENT, SS};
 
 /// The registers and flags of a machine.
 #[derive(Clone, Copy)]
@@ -23,27 +19,8 @@ pub struct Registers {
     pub regs: [u16; 8],
     /// By number: ES, CS, SS, DS.
     pub segs: [u16; 4],
+    /// The four modelled flags.
     pub flags: Flags,
-}
-
-// One byte of a word.
-fn half_of(half: Half, word: u16) -> u8
-    ensures { result ≡ half_of_word half word }
-{
-    match half {
-        Half::Low => (word % 256) as u8,
-        Half::High => (word / 256) as u8,
-    }
-}
-
-// A word after one of its bytes has taken a value.
-fn with_half(half: Half, word: u16, byte: u8) -> u16
-    ensures { result ≡ word_with_half half word byte }
-{
-    match half {
-        Half::Low => word / 256 * 256 + u16::from(byte),
-        Half::High => u16::from(byte) * 256 + word % 256,
-    }
 }
 
 impl Registers {
@@ -54,12 +31,7 @@ impl Registers {
         Registers {
             regs: [0, 0, 0, 0, image.sp, 0, 0, 0],
             segs: [PREFIX_SEGMENT, image.cs, image.ss, PREFIX_SEGMENT],
-            flags: Flags {
-                cf: false,
-                zf: false,
-                sf: false,
-                of: false,
-            },
+            flags: NO_FLAGS,
         }
     }
 
@@ -93,7 +65,7 @@ impl Registers {
     {
         match operand {
             Operand::Word(r) => self.regs[r as usize],
-            Operand::Byte(r, half) => u16::from(half_of(half, self.regs[r as usize])),
+            Operand::Byte(r, half) => u16::from(half.of(self.regs[r as usize])),
             Operand::Seg(number) => self.segs[number as usize],
             Operand::Const(_, constant) => constant,
             Operand::Mem(..) => unreachable!(),
@@ -111,7 +83,7 @@ impl Registers {
             Operand::Word(r) => self.regs[r as usize] = value,
             Operand::Byte(r, half) => {
                 let word = self.regs[r as usize];
-                self.regs[r as usize] = with_half(half, word, value as u8);
+                self.regs[r as usize] = half.put(word, value as u8);
             }
             Operand::Seg(number) => self.segs[number as usize] = value,
             Operand::Const(..) => {}
@@ -135,7 +107,7 @@ impl Registers {
         ensures { result ≡ count_in by_cl (state_of self.now) }
     {
         if by_cl {
-            half_of(Half::Low, self.regs[Reg::Cx as usize])
+            Half::Low.of(self.regs[Reg::Cx as usize])
         } else {
             1
         }

@@ -9,19 +9,17 @@ ghost use Rattle.dcc_layout.specs.Prelude.{IsLeft};
 ghost use Rattle.dcc_layout.specs.Refusal.{IsRefusal};
 
 use crate::prelude::{Prelude, prelude_of};
+use dcc_prog::construct::NO_LAYOUT;
 use dcc_prog::{Image, Layout, Refusal};
 use std::alloc::Global;
 
-/// The kind of the construct that stands where no layout holds.
-const NO_LAYOUT: u8 = 1;
-
-/// The highest data segment of a layout.
+// The highest data segment of a layout.
 const HIGHEST_DATA_SEGMENT: u16 = 0xF000;
 
-/// The number of bytes in a paragraph, in which segments are counted.
+// The number of bytes in a paragraph, in which segments are counted.
 const PARAGRAPH: u16 = 16;
 
-/// The physical address at which the load image begins.
+// The physical address at which the load image begins.
 const LOAD_ADDRESS: u32 = 0x1100;
 
 // The distance from a segment to another, in bytes.
@@ -44,7 +42,7 @@ fn lowest_of_stack(image: &Image, ds: u16) -> u32
     image_end.saturating_sub(distance(0, ds))
 }
 
-// The offset behind the code, below the data segment and in the image.
+// The offset after the code, below the data segment and in the image.
 fn code_end(image: &Image, ds: u16) -> u32
     requires { image.now.cs ≤ ds }
     ensures { result ≡ min ((ds - image.now.cs) * 16) image.now.code_len }
@@ -52,9 +50,9 @@ fn code_end(image: &Image, ds: u16) -> u32
     distance(image.cs, ds).min(image.code_len)
 }
 
-// The layout behind a prelude, if one holds. A data segment above the code segment was written by
+// The layout after a prelude, if one holds. A data segment above the code segment was written by
 // the prelude, since DS begins below the code.
-fn layout_behind(image: &Image, prelude: &Prelude) -> Option<Layout>
+fn layout_after(image: &Image, prelude: &Prelude) -> Option<Layout>
     requires loaded { IsLoaded image.now }
     requires left { IsLeft image.now prelude.now }
     ensures layout { IfSome result (HasLayout image.now) }
@@ -97,11 +95,11 @@ pub fn layout(alloc: Global, image: &Image) -> Result<Layout, Refusal>
 
     // A program that has a layout gets it, and one that has none is refused.
     ensures lays_out { (layout : Layout) → HasLayout image.now layout → result ≡ Ok layout }
-    ensures refuses { (at : ℕ) → IsConstruct 1 image.now at
-        → result ≡ Err (Refusal.Construct 1 at) }
+    ensures refuses { (at : ℕ) → IsConstruct NO_LAYOUT image.now at
+        → result ≡ Err (Refusal.Construct NO_LAYOUT at) }
 {
     let _ = alloc;
-    layout_behind(image, &prelude_of(image)).ok_or(Refusal::Construct {
+    layout_after(image, &prelude_of(image)).ok_or(Refusal::Construct {
         kind: NO_LAYOUT,
         at: image.ip,
     })

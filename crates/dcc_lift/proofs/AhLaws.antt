@@ -25,7 +25,7 @@ use Rattle.dcc_prog.specs.declared.instr.Op.TheVariants.{Alu as AluOp, Unary as 
 use Rattle.dcc_prog.specs.declared.instr.Instr.{Instr}
 use Rattle.dcc_prog.specs.Machine.{operand_width}
 use Rattle.dcc_prog.specs.Writes.{is_same_register, is_same_half, is_half_of, writes_operand, is_in_pair, unary_writes_half, plain_writes_half, writes_half}
-use Rattle.dcc_prog.specs.Trail.{constant_to_ah, ah_behind}
+use Rattle.dcc_prog.specs.Trail.{constant_to_ah, ah_after}
 use Rattle.dcc_ir.specs.declared.syntax.Loc.{Loc}
 use Rattle.dcc_ir.specs.declared.syntax.Loc.TheVariants.{Half}
 use Rattle.dcc_ir.specs.Location.{same_location, Values, with_value}
@@ -268,7 +268,7 @@ moved (Mov (Word Ax) (Constant width c)) number scene n e = cc
 moved _ number scene n e = cc
 
 -- what is known of AH behind an instruction holds of the location behind its statements
-pub ah-behind : (instr : Instr) (number : Option ℕ) (scene : Scene) (known : Option ℕ) → instr.op ≢ Int21 → ((n : ℕ) → known ≡ Some n → scene.values (Half Ax High) ≡ n) → (n : ℕ) → ah_behind (Some instr) known ≡ Some n → (executed (op_stmts instr.op number) scene).values (Half Ax High) ≡ n
+pub ah-behind : (instr : Instr) (number : Option ℕ) (scene : Scene) (known : Option ℕ) → instr.op ≢ Int21 → ((n : ℕ) → known ≡ Some n → scene.values (Half Ax High) ≡ n) → (n : ℕ) → ah_after (Some instr) known ≡ Some n → (executed (op_stmts instr.op number) scene).values (Half Ax High) ≡ n
 ah-behind instr number scene known d holds n e = both (writes_half instr.op Ax High) refl e
   where
     both : (b : Bool) → writes_half instr.op Ax High ≡ b → (if b then constant_to_ah instr.op else known) ≡ Some n → (executed (op_stmts instr.op number) scene).values (Half Ax High) ≡ n

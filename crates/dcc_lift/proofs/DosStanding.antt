@@ -13,7 +13,7 @@ use Rattle.dcc_prog.specs.declared.instr.Op.TheVariants.{Int21}
 use Rattle.dcc_prog.specs.Machine.{State as Machine, word_in, with_operand}
 use Rattle.dcc_prog.specs.Dos.{with_key, dos_step}
 use Rattle.dcc_prog.specs.Step.{op_step, step}
-use Rattle.dcc_prog.specs.Trail.{next_of, known_ah, ah_behind, op_successors}
+use Rattle.dcc_prog.specs.Trail.{next_of, known_ah, ah_after, op_successors}
 use Rattle.dcc_prog.proofs.FetchLaws.{IsPlaced}
 use Rattle.dcc_ir.specs.declared.syntax.Loc.TheVariants.{Half}
 use Rattle.dcc_ir.specs.Location.{Values, with_value}
@@ -134,7 +134,7 @@ module _ (image : Image) (layout : Layout) (graph : Graph) (nodes : Nodes) (plac
           bytes = left.bytes;
           ah = λ k e.
               left.ah ∙ both.ah k
-              (sym (ap (λ found. ah_behind found (known_ah image layout before)) is.stands ∙ ap (λ op. ah_behind (Some (record node.instr { op = op })) (known_ah image layout before)) int) ∙ e);
+              (sym (ap (λ found. ah_after found (known_ah image layout before)) is.stands ∙ ap (λ op. ah_after (Some (record node.instr { op = op })) (known_ah image layout before)) int) ∙ e);
         };
         block = left.block_is;
         runs = λ rest. ap (λ l. block_step graphs fill (l ++ rest) t) (stmts-are n number) ∙ runs rest;

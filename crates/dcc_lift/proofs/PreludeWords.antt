@@ -26,7 +26,7 @@ use Rattle.dcc_prog.specs.Layout.{is_prelude_form, IsRun, HasLayout}
 use Rattle.dcc_prog.specs.Operations.{count_in}
 use Rattle.dcc_prog.specs.WellFormed.{IsOperation}
 use Rattle.dcc_prog.proofs.MzImageLaws.{word_at-lt}
-use Rattle.dcc_prog.proofs.PreludeSteps.{executed, state_behind-is}
+use Rattle.dcc_prog.proofs.PreludeSteps.{executed, state_after-is}
 use Rattle.dcc_prog.proofs.WellFormedLaws.{AreBytes, instruction-operation}
 use Rattle.dcc_lift.proofs.SumValues.{sum_below, difference_below}
 use Rattle.dcc_lift.proofs.CodeBounds.{bytes-dropped, whole-bytes, loaded-bytes}
@@ -156,7 +156,7 @@ module _ (image : Image) (layout : Layout) (loaded : IsLoaded image) (has : HasL
 
   -- the layout's registers are those after the prelude's instructions
   pub layout-registers : layout.regs ≡ (executed (start_state image []) has.prelude).regs
-  layout-registers = has.left.regs ∙ ap (λ (s : State). s.regs) (state_behind-is image has.prelude loaded has.is_prelude.run)
+  layout-registers = has.left.regs ∙ ap (λ (s : State). s.regs) (state_after-is image has.prelude loaded has.is_prelude.run)
 
   -- they are eight words
   pub layout-eight : length layout.regs ≡ 8

@@ -16,7 +16,7 @@ use Rattle.dcc_prog.specs.Code.{code_of}
 use Rattle.dcc_prog.specs.Table.{instruction_at}
 use Rattle.dcc_prog.specs.Machine.{State as Machine, code_segment}
 use Rattle.dcc_prog.specs.Step.{code_bytes, op_step, instruction_step, step}
-use Rattle.dcc_prog.specs.Trail.{instruction_in, next_of, known_ah, ah_behind, targets_of, op_successors, successors, IsTrail}
+use Rattle.dcc_prog.specs.Trail.{instruction_in, next_of, known_ah, ah_after, targets_of, op_successors, successors, IsTrail}
 use Rattle.dcc_prog.specs.WellFormed.{IsOperation}
 use Rattle.dcc_prog.proofs.TableLaws.{instruction-length, instruction-prefix}
 use Rattle.dcc_prog.proofs.FetchLaws.{IsPlaced, HoldsImage, fetched-instruction}
@@ -224,7 +224,7 @@ module _ (laws : AreLifted) (image : Image) (layout : Layout) (graph : Graph) (n
           bytes = subst (All (λ byte. byte < 256)) (sym (ap (λ u. u.input) stepped ∙ rest.input)) both.bytes;
           ah = λ n e.
               ah-behind node.instr node.number (scene_of t) (known_ah image layout before) other both.ah n
-              (sym (ap (λ found. ah_behind found (known_ah image layout before)) is.stands) ∙ e);
+              (sym (ap (λ found. ah_after found (known_ah image layout before)) is.stands) ∙ e);
         }
 
     passed-runs : (graphs : List Graph) (fill : ℕ) (rest : List Stmt) → block_step graphs fill (node_stmts (Some node) ++ rest) t ≡ block_step graphs fill rest next-state

@@ -22,7 +22,7 @@ use Rattle.dcc_prog.specs.Code.{code_of}
 use Rattle.dcc_prog.specs.Machine.{State as Machine, reg_number, start_state}
 use Rattle.dcc_prog.specs.Step.{step as machine_step}
 use Rattle.dcc_prog.specs.Layout.{HasLayout}
-use Rattle.dcc_prog.proofs.PreludeSteps.{executed as executed_run, executed-code, at_offset, steps-from_start, state_behind-is}
+use Rattle.dcc_prog.proofs.PreludeSteps.{executed as executed_run, executed-code, at_offset, steps-from_start, state_after-is}
 use Rattle.dcc_ir.specs.declared.syntax.Loc.{Loc}
 use Rattle.dcc_ir.specs.declared.syntax.Loc.TheVariants.{Half}
 use Rattle.dcc_ir.specs.Location.{Values, location_width, filled}
@@ -164,7 +164,7 @@ module _ (image : Image) (layout : Layout) (start : Proc) (p : Program) (fill : 
       ∙ ap (λ a. at_offset image input (executed_run (start_state image []) has.prelude) a) (sym has.left.start_ip)
 
   layout-flags : layout.flags ≡ (executed_run (start_state image []) has.prelude).flags
-  layout-flags = has.left.flags ∙ ap (λ (s : Machine). s.flags) (state_behind-is image has.prelude loaded has.is_prelude.run)
+  layout-flags = has.left.flags ∙ ap (λ (s : Machine). s.flags) (state_after-is image has.prelude loaded has.is_prelude.run)
 
   -- both runs stand at the procedure's entry
   pub begun-stand : layout.start_ip < 65536 → BothStand image layout graph behind_prelude set_up layout.start_ip []

@@ -26,7 +26,7 @@ use Rattle.dcc_prog.specs.Operands.{word_register, register, rm_operand, mod_fie
 use Rattle.dcc_prog.specs.Table.{Row, Parts, row_parts, row_instruction, arithmetic_rows, unary_rows, stack_rows, move_rows, control_rows, plain_rows, table, instruction_at, rm, rm8, rm16, reg, segment, r8, r16, al, ax, accumulator, imm8, imm16, imm, direct, target, destination, source, alu_of, unary_of, shift, shift_of, load_address, branch, condition_of, signed_condition_of}
 use Rattle.dcc_prog.specs.Bytes.{byte_at}
 use Rattle.dcc_prog.specs.Writes.{writes_half}
-use Rattle.dcc_prog.specs.Trail.{code_within, instruction_in, constant_to_ah, ah_behind, known_ah}
+use Rattle.dcc_prog.specs.Trail.{code_within, instruction_in, constant_to_ah, ah_after, known_ah}
 use Rattle.dcc_prog.specs.Construct.{is_segment, is_system}
 use Rattle.dcc_prog.specs.WellFormed.{IsOperation}
 use Rattle.dcc_prog.proofs.TableLaws.{instruction-row}
@@ -331,7 +331,7 @@ constant-byte op n well e = cc
 
 behind-byte :
     (found : Option Instr) (known : Option ℕ) (n : ℕ) → IfSome found (λ instr. IsOperation instr.op)
-    → ((m : ℕ) → known ≡ Some m → m < 256) → ah_behind found known ≡ Some n → n < 256
+    → ((m : ℕ) → known ≡ Some m → m < 256) → ah_after found known ≡ Some n → n < 256
 behind-byte None known n well fits e = fits n e
 behind-byte (Some instr) known n well fits e =
     let P : Bool → Type 0 = λ b. (if b then constant_to_ah instr.op else known) ≡ Some n → n < 256 in

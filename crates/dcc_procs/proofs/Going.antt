@@ -5,7 +5,7 @@ use Rattle.dcc_prog.specs.declared.procedure.Layout.{Layout}
 use Rattle.dcc_prog.specs.declared.instr.Op.{Op}
 use Rattle.dcc_prog.specs.declared.instr.Op.TheVariants.{Table, Int21}
 use Rattle.dcc_prog.specs.declared.instr.Instr.{Instr}
-use Rattle.dcc_prog.specs.Trail.{code_within, next_of, known_ah, ah_behind, targets_of, op_successors, instr_successors, successors}
+use Rattle.dcc_prog.specs.Trail.{code_within, next_of, known_ah, ah_after, targets_of, op_successors, instr_successors, successors}
 use Rattle.dcc_procs.specs.declared.seen.Seen.{Seen}
 use Rattle.dcc_procs.specs.declared.seen.Seen.TheVariants.{Never, Same, Differing}
 use Rattle.dcc_prog.specs.Built.{is_unbuilt}
@@ -40,15 +40,15 @@ module _ (image : Image) (layout : Layout) (at : ℕ) (seen : Seen) (instr : Ins
       ap (instr_successors image layout at before) accepted.found
       ∙ ap (op_successors instr.op (next_of at instr) (known_ah image layout before)) (targets-none image layout instr.op before accepted.built)
 
-  pub trail-ah : (before : List ℕ) → known_ah image layout (at ∷ before) ≡ ah_behind (Some instr) (known_ah image layout before)
-  trail-ah before = ap (λ found. ah_behind found (known_ah image layout before)) accepted.found
+  pub trail-ah : (before : List ℕ) → known_ah image layout (at ∷ before) ≡ ah_after (Some instr) (known_ah image layout before)
+  trail-ah before = ap (λ found. ah_after found (known_ah image layout before)) accepted.found
 
   -- a trail goes on to a successor
-  pub trail-onward : (ah : Option ℕ) (to : ℕ) → Tells seen ah → Contains (op_successors instr.op (next_of at instr) (ah_of seen) []) to → HasTrail image layout at ah → HasTrail image layout to (ah_behind (Some instr) ah)
+  pub trail-onward : (ah : Option ℕ) (to : ℕ) → Tells seen ah → Contains (op_successors instr.op (next_of at instr) (ah_of seen) []) to → HasTrail image layout at ah → HasTrail image layout to (ah_after (Some instr) ah)
   trail-onward ah to t inside trail =
       let same = trail-successors trail.before ∙ ap (λ known. op_successors instr.op (next_of at instr) known []) trail.known ∙ followed-same ah t in
       record {
         before = at ∷ trail.before;
         trail = (subst (λ l. Contains l to) (sym same) inside, trail.trail);
-        known = trail-ah trail.before ∙ ap (ah_behind (Some instr)) trail.known;
+        known = trail-ah trail.before ∙ ap (ah_after (Some instr)) trail.known;
       }

@@ -7,13 +7,13 @@ use Rattle.std.proofs.lemmas.List.Elements.{All-contains, Contains-append_left, 
 use Rattle.dcc_prog.specs.declared.image.Image.{Image}
 use Rattle.dcc_prog.specs.declared.procedure.Layout.{Layout}
 use Rattle.dcc_prog.specs.declared.instr.Instr.{Instr}
-use Rattle.dcc_prog.specs.Trail.{code_within, next_of, ah_behind, op_successors}
+use Rattle.dcc_prog.specs.Trail.{code_within, next_of, ah_after, op_successors}
 use Rattle.dcc_procs.specs.declared.seen.Seen.{Seen}
 use Rattle.dcc_procs.specs.declared.seen.Seen.TheVariants.{Never}
-use Rattle.dcc_procs.specs.Search.{seen_behind, grown, ah_of, seen_at, Work, with_grown, arrived, arrived_at_all, IsAccepted, IsFollowed}
+use Rattle.dcc_procs.specs.Search.{seen_after, grown, ah_of, seen_at, Work, with_grown, arrived, arrived_at_all, IsAccepted, IsFollowed}
 use Rattle.dcc_procs.specs.Nodes.{Tells}
 use Rattle.dcc_procs.proofs.Causes.{IsWitnessed}
-use Rattle.dcc_procs.proofs.Seeing.{rank, IsGrown, grown-some, grown-none, behind-tells, behind-witnessed}
+use Rattle.dcc_procs.proofs.Seeing.{rank, IsGrown, grown-some, grown-none, tells-after, witnessed-after}
 use Rattle.dcc_procs.proofs.Going.{followed-same, trail-onward}
 
 -- how much is still to be done
@@ -24,7 +24,7 @@ measure work = 2 * sum_by rank work.seen + length work.pending
 pub record IsClosed (image : Image) (layout : Layout) (seen : List Seen) (at : ℕ) : Type 0 where
   pub instr : Instr
   pub accepted : IsAccepted (code_within image layout) at (seen_at seen at) instr
-  pub onward : (ah : Option ℕ) (to : ℕ) → Tells (seen_at seen at) ah → Contains (op_successors instr.op (next_of at instr) ah []) to → Tells (seen_at seen to) (ah_behind (Some instr) ah)
+  pub onward : (ah : Option ℕ) (to : ℕ) → Tells (seen_at seen at) ah → Contains (op_successors instr.op (next_of at instr) ah []) to → Tells (seen_at seen to) (ah_after (Some instr) ah)
 
 -- what is seen is so by trails, and is followed or is to be
 pub record Searched (image : Image) (layout : Layout) (work : Work) : Type 0 where
@@ -180,7 +180,7 @@ closed-stays image layout old new at e c =
       | inl same ↦ inr (record {
         instr = c.instr;
         accepted = subst (λ s. IsAccepted (code_within image layout) at s c.instr) (sym same) c.accepted;
-        onward = λ ah to t inside. e.tells to (ah_behind (Some c.instr) ah) (c.onward ah to (subst (λ s. Tells s ah) same t) inside);
+        onward = λ ah to t inside. e.tells to (ah_after (Some c.instr) ah) (c.onward ah to (subst (λ s. Tells s ah) same t) inside);
       })
     ]
 
@@ -191,18 +191,18 @@ module _ (image : Image) (layout : Layout) (seen : List Seen) (rest : List ℕ) 
   offsets : List ℕ
   offsets = op_successors f.instr.op (next_of at f.instr) (ah_of (seen_at seen at)) []
 
-  behind : Seen
-  behind = seen_behind f.instr.op (seen_at seen at)
+  after_op : Seen
+  after_op = seen_after f.instr.op (seen_at seen at)
 
-  came : ArrivesAtAll image layout (record { seen = seen; pending = rest }) (arrived_at_all (record { seen = seen; pending = rest }) (op_successors f.instr.op (next_of at f.instr) (ah_of (seen_at seen at)) []) (seen_behind f.instr.op (seen_at seen at))) (op_successors f.instr.op (next_of at f.instr) (ah_of (seen_at seen at)) []) (seen_behind f.instr.op (seen_at seen at))
+  came : ArrivesAtAll image layout (record { seen = seen; pending = rest }) (arrived_at_all (record { seen = seen; pending = rest }) (op_successors f.instr.op (next_of at f.instr) (ah_of (seen_at seen at)) []) (seen_after f.instr.op (seen_at seen at))) (op_successors f.instr.op (next_of at f.instr) (ah_of (seen_at seen at)) []) (seen_after f.instr.op (seen_at seen at))
   came =
       arrives-all image layout (record { seen = seen; pending = rest }) _ _
       (λ to c. subst (λ n. to < n) (sym before.length_is) (All-contains (λ n. n < 65536) _ to f.fits c))
-      (λ to c. behind-witnessed image layout at to f.instr (seen_at seen at) (λ ah t trail. trail-onward image layout at (seen_at seen at) f.instr f.accepted ah to t c trail) (before.witnessed at))
+      (λ to c. witnessed-after image layout at to f.instr (seen_at seen at) (λ ah t trail. trail-onward image layout at (seen_at seen at) f.instr f.accepted ah to t c trail) (before.witnessed at))
 
-  arrived-after : ArrivesAtAll image layout (record { seen = seen; pending = rest }) after (op_successors f.instr.op (next_of at f.instr) (ah_of (seen_at seen at)) []) (seen_behind f.instr.op (seen_at seen at))
+  arrived-after : ArrivesAtAll image layout (record { seen = seen; pending = rest }) after (op_successors f.instr.op (next_of at f.instr) (ah_of (seen_at seen at)) []) (seen_after f.instr.op (seen_at seen at))
   arrived-after =
-      subst (λ work. ArrivesAtAll image layout (record { seen = seen; pending = rest }) work (op_successors f.instr.op (next_of at f.instr) (ah_of (seen_at seen at)) []) (seen_behind f.instr.op (seen_at seen at))) (sym f.after_is) came
+      subst (λ work. ArrivesAtAll image layout (record { seen = seen; pending = rest }) work (op_successors f.instr.op (next_of at f.instr) (ah_of (seen_at seen at)) []) (seen_after f.instr.op (seen_at seen at))) (sym f.after_is) came
 
   closed-here : Contains after.pending at ⊎ IsClosed image layout after.seen at
   closed-here =
@@ -214,7 +214,7 @@ module _ (image : Image) (layout : Layout) (seen : List Seen) (rest : List ℕ) 
           accepted = subst (λ s. IsAccepted (code_within image layout) at s f.instr) (sym same) f.accepted;
           onward = λ ah to t inside.
               let told = subst (λ s. Tells s ah) same t in
-              arrived-after.tells to (subst (λ l. Contains l to) (followed-same image layout at (seen_at seen at) f.instr f.accepted ah told) inside) (ah_behind (Some f.instr) ah) (behind-tells f.instr (seen_at seen at) ah told);
+              arrived-after.tells to (subst (λ l. Contains l to) (followed-same image layout at (seen_at seen at) f.instr f.accepted ah told) inside) (ah_after (Some f.instr) ah) (tells-after f.instr (seen_at seen at) ah told);
         })
       ]
 

@@ -6,10 +6,10 @@ use Rattle.dcc_prog.specs.declared.image.Image.{Image}
 use Rattle.dcc_prog.specs.declared.procedure.Layout.{Layout}
 use Rattle.dcc_prog.specs.declared.instr.Instr.{Instr}
 use Rattle.dcc_prog.specs.Writes.{writes_half}
-use Rattle.dcc_prog.specs.Trail.{constant_to_ah, ah_behind}
+use Rattle.dcc_prog.specs.Trail.{constant_to_ah, ah_after}
 use Rattle.dcc_procs.specs.declared.seen.Seen.{Seen}
 use Rattle.dcc_procs.specs.declared.seen.Seen.TheVariants.{Never, Same, Differing}
-use Rattle.dcc_procs.specs.Search.{is_same_ah, seen_behind, grown}
+use Rattle.dcc_procs.specs.Search.{is_same_ah, seen_after, grown}
 use Rattle.dcc_procs.specs.Nodes.{Tells}
 use Rattle.dcc_procs.proofs.Causes.{HasTrail, IsWitnessed}
 
@@ -131,25 +131,25 @@ grown-none Differing other ah e t = tt
 
 -- Behind an instruction.
 
-pub behind-tells : (instr : Instr) (seen : Seen) (ah : Option ℕ) → Tells seen ah → Tells (seen_behind instr.op seen) (ah_behind (Some instr) ah)
-behind-tells instr Never ah t = t
-behind-tells instr (Same known) ah t =
+pub tells-after : (instr : Instr) (seen : Seen) (ah : Option ℕ) → Tells seen ah → Tells (seen_after instr.op seen) (ah_after (Some instr) ah)
+tells-after instr Never ah t = t
+tells-after instr (Same known) ah t =
     let P : Bool → Type 0 = λ b. Tells (if b then Same (constant_to_ah instr.op) else Same known) (if b then constant_to_ah instr.op else ah) in
     let both : (b : Bool) → P b = λ b. elim b as P [ true ↦ refl | false ↦ t ] in
     both (writes_half instr.op Ax High)
-behind-tells instr Differing ah t =
+tells-after instr Differing ah t =
     let P : Bool → Type 0 = λ b. Tells (if b then Same (constant_to_ah instr.op) else Differing) (if b then constant_to_ah instr.op else ah) in
     let both : (b : Bool) → P b = λ b. elim b as P [ true ↦ refl | false ↦ tt ] in
     both (writes_half instr.op Ax High)
 
 -- trails that come to an offset go on from there
-pub behind-witnessed : (image : Image) (layout : Layout) (at to : ℕ) (instr : Instr) (seen : Seen) → ((ah : Option ℕ) → Tells seen ah → HasTrail image layout at ah → HasTrail image layout to (ah_behind (Some instr) ah)) → IsWitnessed image layout at seen → IsWitnessed image layout to (seen_behind instr.op seen)
-behind-witnessed image layout at to instr Never onward w = tt
-behind-witnessed image layout at to instr (Same known) onward w =
+pub witnessed-after : (image : Image) (layout : Layout) (at to : ℕ) (instr : Instr) (seen : Seen) → ((ah : Option ℕ) → Tells seen ah → HasTrail image layout at ah → HasTrail image layout to (ah_after (Some instr) ah)) → IsWitnessed image layout at seen → IsWitnessed image layout to (seen_after instr.op seen)
+witnessed-after image layout at to instr Never onward w = tt
+witnessed-after image layout at to instr (Same known) onward w =
     let P : Bool → Type 0 = λ b. HasTrail image layout to (if b then constant_to_ah instr.op else known) → IsWitnessed image layout to (if b then Same (constant_to_ah instr.op) else Same known) in
     let both : (b : Bool) → P b = λ b. elim b as P [ true ↦ λ t. t | false ↦ λ t. t ] in
     both (writes_half instr.op Ax High) (onward known refl w)
-behind-witnessed image layout at to instr Differing onward w =
+witnessed-after image layout at to instr Differing onward w =
     let P : Bool → Type 0 = λ b. HasTrail image layout to (if b then constant_to_ah instr.op else w.0) → HasTrail image layout to (if b then constant_to_ah instr.op else w.1) → IsWitnessed image layout to (if b then Same (constant_to_ah instr.op) else Differing) in
     let both : (b : Bool) → P b = λ b. elim b as P [ true ↦ λ t u. t | false ↦ λ t u. (w.0, w.1, t, u, w.4) ] in
     both (writes_half instr.op Ax High) (onward w.0 tt w.2) (onward w.1 tt w.3)

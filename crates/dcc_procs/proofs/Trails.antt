@@ -32,6 +32,6 @@ module _ (image : Image) (layout : Layout) (entry : ℕ) where
         subst (λ k. IsTrail image layout entry (drop k trail) ↔ IsTrail image layout entry trail) same
         (λ t. decides.0 (trail-place.1 (goes, t)), λ t. (trail-place.0 (decides.1 t)).1)
 
-    -- an offset to which those behind it don't go on
+    -- an offset to which those before it don't go on
     pub trail-broken : ¬ Contains (successors image layout (drop place trail)) (get_or trail (place - 1) 0) → IsTrail image layout entry (drop (place - 1) trail) ↔ IsTrail image layout entry trail → ¬ IsTrail image layout entry trail
     trail-broken stops decides t = stops (trail-place.0 (decides.1 t)).0

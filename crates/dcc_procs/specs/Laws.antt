@@ -4,8 +4,8 @@ use Rattle.dcc_prog.specs.declared.image.Image.{Image}
 use Rattle.dcc_prog.specs.declared.procedure.Layout.{Layout}
 use Rattle.dcc_prog.specs.Trail.{known_ah, successors, IsTrail, IsNode, IsEdge}
 
--- two trails that end at one offset, before which the same is known of AH and the last three offsets are the same, have the
--- same successors
+-- two trails that end at one offset, before which the same is known of AH and the last three offsets are the same,
+-- have the same successors
 abbrev pub KnownAhAndWindowDecideSuccessors : Type 0
 KnownAhAndWindowDecideSuccessors =
     (image : Image) (layout : Layout) (at : ℕ) (before others : List ℕ)

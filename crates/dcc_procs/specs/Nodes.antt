@@ -1,5 +1,5 @@
--- What the search leaves: by offset, what the trails of the entry procedure tell. This stands between the trails and the
--- code; no public contract rests on it.
+-- What the search leaves: by offset, what the trails of the entry procedure tell. This stands between the trails
+-- and the code; no public contract rests on it.
 use Rattle.std.specs.Prelude.{◌≡◌, ◌≢◌, ◌≤◌, ◌<◌, ℕ, List, [], ◌∷◌, length, drop, All, AllPairs, Option, Some, None}
 use Rattle.dcc_prog.specs.declared.image.Image.{Image}
 use Rattle.dcc_prog.specs.declared.procedure.Layout.{Layout}
@@ -29,7 +29,10 @@ IsAcceptedWhereSeen code at seen = seen ≢ Never → (instr : Instr) × IsAccep
 -- accepted stand there
 pub record AreAllSeen (image : Image) (layout : Layout) (seen : List Seen) : Type 0 where
   pub length_is : length seen ≡ 65536
-  pub told : (at : ℕ) (before : List ℕ) → IsTrail image layout layout.start_ip (at ∷ before) → Tells (seen_at seen at) (known_ah image layout before)
+  pub told :
+      (at : ℕ) (before : List ℕ)
+      → IsTrail image layout layout.start_ip (at ∷ before)
+      → Tells (seen_at seen at) (known_ah image layout before)
   pub node : (at : ℕ) → seen_at seen at ≢ Never → IsNode image layout layout.start_ip at
   pub accepted : (at : ℕ) → IsAcceptedWhereSeen (code_within image layout) at (seen_at seen at)
 
@@ -47,7 +50,8 @@ IsSeenNode code at seen (Some node) = HasInstruction code at seen node
 
 -- these are the nodes that are seen, in ascending order of offsets, and not too many
 pub record AreSeenNodes (image : Image) (layout : Layout) (seen : List Seen) (nodes : List (ℕ × Node)) : Type 0 where
-  pub nodes_are : All (λ (found : ℕ × Node). HasInstruction (code_within image layout) found.0 (seen_at seen found.0) found.1) nodes
+  pub nodes_are :
+      All (λ (found : ℕ × Node). HasInstruction (code_within image layout) found.0 (seen_at seen found.0) found.1) nodes
   pub ascending : AllPairs (λ (a b : ℕ × Node). a.0 < b.0) nodes
   pub every : (at : ℕ) → seen_at seen at ≢ Never → IsListed nodes at
   pub few : length nodes ≤ 4096

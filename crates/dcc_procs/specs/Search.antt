@@ -1,8 +1,10 @@
--- What the search for nodes keeps of each offset, and how it changes. This stands between the trails and the code; no public
--- contract rests on it.
+-- What the search for nodes keeps of each offset, and how it changes. This stands between the trails and the code;
+-- no public contract rests on it.
 use Rattle.std.specs.Prelude.{◌≡◌, ◌<◌, ℕ, ◌==◌, Bool, true, false, ◌||◌, if◌then◌else◌, List, [], ◌∷◌, ◌++◌, All, get_or, drop, slice_set, option_to_list, Option, Some, None}
 use Rattle.dcc_num.specs.declared.Reg.TheVariants.{Ax}
 use Rattle.dcc_num.specs.declared.Half.TheVariants.{High}
+use Rattle.dcc_num.specs.declared.dos.TheConstants.{GETCHE, PUTC, GETCH, PUTS, EXIT}
+use Rattle.dcc_prog.specs.declared.refusal.construct.TheConstants.{OUTSIDE, INDIRECT_JUMP, INDIRECT_CALL, DOS_NUMBER}
 use Rattle.dcc_prog.specs.declared.instr.Op.{Op}
 use Rattle.dcc_prog.specs.declared.instr.Op.TheVariants.{Int21}
 use Rattle.dcc_prog.specs.declared.instr.Instr.{Instr}
@@ -25,10 +27,10 @@ is_same_ah None None = true
 is_same_ah (Some number) (Some other) = number == other
 is_same_ah ah other = false
 
--- behind an operation
-abbrev pub seen_behind : Op → Seen → Seen
-seen_behind op Never = Never
-seen_behind op seen = if writes_half op Ax High then Same (constant_to_ah op) else seen
+-- after an operation
+abbrev pub seen_after : Op → Seen → Seen
+seen_after op Never = Never
+seen_after op seen = if writes_half op Ax High then Same (constant_to_ah op) else seen
 
 -- with what a further trail tells, where that is more
 abbrev pub grown : Seen → Seen → Option Seen
@@ -83,7 +85,7 @@ offsets_of onward = option_to_list onward.target ++ option_to_list onward.next
 
 -- the number of a DOS call that is built
 abbrev pub is_built_number : ℕ → Bool
-is_built_number number = (number == 0x01) || (number == 0x02) || (number == 0x08) || (number == 0x4C)
+is_built_number number = (number == GETCHE) || (number == PUTC) || (number == GETCH) || (number == EXIT)
 
 -- all trails tell one number, which is built
 abbrev pub tells_number : Seen → Bool
@@ -107,27 +109,49 @@ pub record IsAccepted (code : List ℕ) (at : ℕ) (seen : Seen) (instr : Instr)
 -- the construct that FFh with a reg field is
 abbrev pub indirect_kind : ℕ → ℕ
 indirect_kind reg =
-    if (reg == 2) || (reg == 3) then 4
-    else if (reg == 4) || (reg == 5) then 3
-    else 2
+    if (reg == 2) || (reg == 3) then INDIRECT_CALL
+    else if (reg == 4) || (reg == 5) then INDIRECT_JUMP
+    else OUTSIDE
 
 -- a construct of this kind stands at the offset, where trails come as they are seen
 pub data IsKind (code : List ℕ) (at : ℕ) (seen : Seen) : ℕ → Type 0 where
-  unknown : instruction_at at (drop at code) ≡ None → ¬ IsIndirectJump code at → ¬ IsIndirectCall code at → IsKind code at seen 2
-  jump : IsIndirectJump code at → IsKind code at seen 3
-  call : IsIndirectCall code at → IsKind code at seen 4
-  system : {instr : Instr} → instruction_at at (drop at code) ≡ Some instr → is_system instr.op ≡ true → IsKind code at seen 2
-  number : {instr : Instr} → instruction_at at (drop at code) ≡ Some instr → instr.op ≡ Int21 → is_known_number seen ≡ false → IsKind code at seen 5
+  unknown :
+      instruction_at at (drop at code) ≡ None
+      → ¬ IsIndirectJump code at
+      → ¬ IsIndirectCall code at
+      → IsKind code at seen OUTSIDE
+  jump : IsIndirectJump code at → IsKind code at seen INDIRECT_JUMP
+  call : IsIndirectCall code at → IsKind code at seen INDIRECT_CALL
+  system :
+      {instr : Instr}
+      → instruction_at at (drop at code) ≡ Some instr
+      → is_system instr.op ≡ true
+      → IsKind code at seen OUTSIDE
+  number :
+      {instr : Instr}
+      → instruction_at at (drop at code) ≡ Some instr
+      → instr.op ≡ Int21
+      → is_known_number seen ≡ false
+      → IsKind code at seen DOS_NUMBER
 
 -- an instruction that is not built stands at the offset
 pub data IsUnbuiltHere (code : List ℕ) (at : ℕ) (seen : Seen) : Type 0 where
-  operation : {instr : Instr} → instruction_at at (drop at code) ≡ Some instr → is_unbuilt instr.op ≡ true → IsUnbuiltHere code at seen
-  string : {instr : Instr} → instruction_at at (drop at code) ≡ Some instr → instr.op ≡ Int21 → seen ≡ Same (Some 0x09) → IsUnbuiltHere code at seen
+  operation :
+      {instr : Instr}
+      → instruction_at at (drop at code) ≡ Some instr
+      → is_unbuilt instr.op ≡ true
+      → IsUnbuiltHere code at seen
+  string :
+      {instr : Instr}
+      → instruction_at at (drop at code) ≡ Some instr
+      → instr.op ≡ Int21
+      → seen ≡ Same (Some PUTS)
+      → IsUnbuiltHere code at seen
 
 -- the refusal is that of the number of a DOS call at the offset
 abbrev pub IsNumberCause : ℕ → Seen → Refusal → Type 0
-IsNumberCause at seen (Construct kind place) = (kind ≡ 5) × (place ≡ at) × (is_known_number seen ≡ false)
-IsNumberCause at seen (NotYet place) = (place ≡ at) × (seen ≡ Same (Some 0x09))
+IsNumberCause at seen (Construct kind place) = (kind ≡ DOS_NUMBER) × (place ≡ at) × (is_known_number seen ≡ false)
+IsNumberCause at seen (NotYet place) = (place ≡ at) × (seen ≡ Same (Some PUTS))
 IsNumberCause at seen refusal = ⊥
 
 -- the refusal names what stands at the offset
@@ -145,4 +169,4 @@ pub record IsFollowed (code : List ℕ) (at : ℕ) (before after : Work) : Type 
   pub after_is :
       after
       ≡ arrived_at_all before (op_successors instr.op (next_of at instr) (ah_of (seen_at before.seen at)) [])
-      (seen_behind instr.op (seen_at before.seen at))
+      (seen_after instr.op (seen_at before.seen at))

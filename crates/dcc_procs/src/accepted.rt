@@ -10,19 +10,9 @@ ghost use Rattle.dcc_procs.specs.Search.{tells_number, IsAccepted, indirect_kind
 use crate::form::{is_system, is_unbuilt};
 use crate::seen::Seen;
 use dcc_decode::decode_window;
+use dcc_num::dos::{EXIT, GETCH, GETCHE, PUTC, PUTS};
+use dcc_prog::construct::{DOS_NUMBER, INDIRECT_CALL, INDIRECT_JUMP, OUTSIDE};
 use dcc_prog::{Instr, Op, Refusal};
-
-/// An instruction outside of what is known.
-const OUTSIDE: u8 = 2;
-
-/// An indirect jump.
-const INDIRECT_JUMP: u8 = 3;
-
-/// An indirect call.
-const INDIRECT_CALL: u8 = 4;
-
-/// INT 21h without a number that is known.
-const DOS_NUMBER: u8 = 5;
 
 /// The instruction at an offset of the code, wholly in it.
 pub fn instruction_at(code: &[u8], at: u16) -> Option<Instr>
@@ -32,7 +22,7 @@ pub fn instruction_at(code: &[u8], at: u16) -> Option<Instr>
     decode_window(code.get(usize::from(at)..)?, at)
 }
 
-// The reg field of the ModRM byte behind FFh, where these two bytes stand in the code.
+// The reg field of the ModRM byte after FFh, where these two bytes stand in the code.
 fn indirect_at(code: &[u8], at: u16) -> Option<u8>
     ensures some { IfSome result (HasIndirect code.now at) }
     ensures none { result ≡ None → (reg : ℕ) → ¬ HasIndirect code.now at reg }
@@ -72,8 +62,8 @@ fn with_number(at: u16, seen: Seen, instr: Instr) -> Result<Instr, Refusal>
     ensures refused { IfErr result (IsNumberCause at seen) }
 {
     match seen {
-        Seen::Same(Some(0x01 | 0x02 | 0x08 | 0x4C)) => Ok(instr),
-        Seen::Same(Some(0x09)) => Err(Refusal::NotYet { at }),
+        Seen::Same(Some(GETCHE | PUTC | GETCH | EXIT)) => Ok(instr),
+        Seen::Same(Some(PUTS)) => Err(Refusal::NotYet { at }),
         _ => Err(Refusal::Construct {
             kind: DOS_NUMBER,
             at,

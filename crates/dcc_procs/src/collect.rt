@@ -15,7 +15,7 @@ use dcc_prog::{Image, Layout, LimitName, Node, Refusal};
 use indexmap::IndexMap;
 use std::alloc::{AllocError, Global};
 
-/// The greatest number of instructions in a procedure.
+// The greatest number of instructions in a procedure.
 const MOST: usize = 4096;
 
 // The node at an offset, where trails come as they are seen; none where none come.
@@ -38,7 +38,7 @@ fn node_at(alloc: Global, code: &[u8], at: u16, seen: Seen) -> Result<Option<Nod
     }))
 }
 
-// Puts a node behind the others, where there are not too many.
+// Puts a node after the others, where there are not too many.
 fn add(nodes: &mut IndexMap<u16, Node>, at: u16, node: Node) -> Result<(), Refusal>
     ensures entries { OnOk result (nodes.new.entries ≡ insert_entry nat_eq nodes.old.entries at node) }
     ensures room { OnOk result (length nodes.old.entries ≢ 4096) }

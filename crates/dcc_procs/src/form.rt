@@ -1,29 +1,22 @@
 //! What operations are, for the search.
 
 ghost use Rattle.std.specs.Prelude.{◌≡◌};
-ghost use Rattle.dcc_prog.specs.Layout.{is_control};
 ghost use Rattle.dcc_prog.specs.WellFormed.{IsOperation};
 ghost use Rattle.dcc_prog.specs.Writes.{is_half_of, writes_half};
 ghost use Rattle.dcc_prog.specs.Trail.{constant_to_ah};
-ghost use Rattle.dcc_prog.specs.Construct.{is_segment, is_system};
+ghost use Rattle.dcc_prog.specs.Construct.{is_system};
 ghost use Rattle.dcc_prog.specs.Built.{is_memory_or_stack, is_unbuilt};
 
 use dcc_num::{Half, Reg};
 use dcc_prog::{Alu, Op, Operand, Plain, Unary};
-
-fn is_segment(operand: Operand) -> bool
-    ensures { result ≡ is_segment operand }
-{
-    matches!(operand, Operand::Seg(_))
-}
 
 /// Whether the operation moves a segment register, or is CLI, STI or CLD.
 pub fn is_system(op: Op) -> bool
     ensures { result ≡ is_system op }
 {
     match op {
-        Op::Mov(to, from) => is_segment(to) || is_segment(from),
-        Op::Plain(operation) => matches!(operation, Plain::Cli | Plain::Sti | Plain::Cld),
+        Op::Mov(to, from) => to.is_segment() || from.is_segment(),
+        Op::Plain(operation) => operation.is_control(),
         _ => false,
     }
 }

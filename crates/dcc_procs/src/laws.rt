@@ -3,7 +3,7 @@
 
 ghost use Rattle.dcc_procs.specs.Laws.{KnownAhAndWindowDecideSuccessors, EntryAndSuccessorsAreNodes, OtherNodesHavePredecessors};
 
-/// Trails that end at one offset, behind which the same is known of AH and the last three
+/// Trails that end at one offset, before which the same is known of AH and the last three
 /// instructions are the same, have the same successors.
 pub fn known_ah_and_window_decide_successors()
     ensures { KnownAhAndWindowDecideSuccessors }

@@ -4,19 +4,10 @@ ghost use Rattle.std.specs.Prelude.{◌≡◌, ◌<◌, [], All, IfOk};
 ghost use Rattle.dcc_prog.specs.Trail.{next_of, op_successors};
 ghost use Rattle.dcc_procs.specs.Search.{offsets_of};
 
+use dcc_num::dos::EXIT;
 use dcc_prog::{Instr, Op};
 use smallvec::SmallVec;
 use std::alloc::{AllocError, Global};
-
-/// The number in AH with which INT 21h ends the run.
-pub const EXIT: u8 = 0x4C;
-
-/// The offset behind an instruction, which wraps.
-pub fn next_of(at: u16, instr: Instr) -> u16
-    ensures { result ≡ next_of at instr }
-{
-    at.wrapping_add(u16::from(instr.len))
-}
 
 /// The offsets at which a run may go on.
 #[derive(Clone, Copy)]
@@ -34,7 +25,7 @@ impl Onward {
         ensures offsets { offsets_of result ≡ op_successors instr.op (next_of at instr) ah [] }
         ensures fits { All (λ to. to < 65536) (offsets_of result) }
     {
-        let next = Some(next_of(at, instr));
+        let next = Some(instr.next_of(at));
         match instr.op {
             Op::Jump(target) => Onward {
                 target: Some(target),

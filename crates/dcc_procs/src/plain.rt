@@ -11,21 +11,21 @@ ghost use Rattle.dcc_prog.specs.MzImage.{IsLoaded};
 ghost use Rattle.dcc_prog.specs.Layout.{HasLayout};
 ghost use Rattle.dcc_prog.specs.WellFormed.{IsOperation};
 ghost use Rattle.dcc_prog.specs.Writes.{is_same_register};
-ghost use Rattle.dcc_prog.specs.Trail.{ah_behind, known_ah, compared_with, is_bounds_test, is_doubling, table_number, word_in_segment, table_targets, successors, IsTrail};
+ghost use Rattle.dcc_prog.specs.Trail.{ah_after, known_ah, compared_with, is_bounds_test, is_doubling, table_number, word_in_segment, table_targets, successors, IsTrail};
 
 use crate::accepted::instruction_at;
 use crate::form::{constant_to_ah, writes_ah};
-use crate::onward::{Onward, next_of};
+use crate::onward::Onward;
 use crate::search::code_of;
 use dcc_num::Reg;
 use dcc_prog::{Alu, Cond, Image, Instr, Layout, Op, Operand, Shift};
 use smallvec::SmallVec;
 use std::alloc::{AllocError, Global};
 
-// What is known of AH behind an instruction, by what is known before it.
-fn ah_behind(instr: Option<Instr>, known: Option<u8>) -> Option<u8>
+// What is known of AH after an instruction, by what is known before it.
+fn ah_after(instr: Option<Instr>, known: Option<u8>) -> Option<u8>
     requires { IfSome instr (λ instr. IsOperation instr.op) }
-    ensures { result ≡ ah_behind instr known }
+    ensures { result ≡ ah_after instr known }
 {
     match instr {
         Some(instr) if writes_ah(instr.op) => constant_to_ah(instr.op),
@@ -33,7 +33,7 @@ fn ah_behind(instr: Option<Instr>, known: Option<u8>) -> Option<u8>
     }
 }
 
-/// What is known of AH behind a trail, whose newest offset stands first: the constant of the last
+/// What is known of AH after a trail, whose newest offset stands first: the constant of the last
 /// instruction that writes AH, if it is a MOV of one.
 pub fn known_ah(image: &Image, layout: &Layout, trail: &[u16]) -> Option<u8>
     requires loaded { IsLoaded image.now }
@@ -43,7 +43,7 @@ pub fn known_ah(image: &Image, layout: &Layout, trail: &[u16]) -> Option<u8>
     let code = code_of(image, layout);
     let mut known = None;
     for place in (0..trail.len()).rev() {
-        known = ah_behind(instruction_at(code, trail[place]), known);
+        known = ah_after(instruction_at(code, trail[place]), known);
     }
     known
 }
@@ -101,7 +101,7 @@ fn table_number(image: &Image, layout: &Layout, r: Reg, trail: &[u16]) -> Option
     let compare = instruction_at(code, *compare_at)?;
     let test = instruction_at(code, *test_at)?;
     let shift = instruction_at(code, *shift_at)?;
-    if is_bounds_test(test.op, next_of(*test_at, test), *shift_at) && is_doubling(r, shift.op) {
+    if is_bounds_test(test.op, test.next_of(*test_at), *shift_at) && is_doubling(r, shift.op) {
         compared_with(r, compare.op)
     } else {
         None
@@ -194,7 +194,7 @@ fn goes_on_to(
 }
 
 /// Whether the offsets, the newest first, are a trail of the procedure with that entry: the oldest
-/// is the entry, and each other one is a successor of those behind it.
+/// is the entry, and each other one is a successor of those before it.
 pub fn is_trail(
     alloc: Global,
     image: &Image,

@@ -12,7 +12,7 @@ use dcc_prog::{Image, Layout, Proc, Refusal};
 use std::alloc::Global;
 
 /// The procedures of a loaded program with its layout. The entry procedure alone is built: it has
-/// the instructions that are reached from the offset behind the prelude, in ascending order of
+/// the instructions that are reached from the offset after the prelude, in ascending order of
 /// offsets, each with its successors, and INT 21h with the number of its DOS call.
 ///
 /// A program is refused for a construct of the kinds 2 to 5, which then stands at the named offset;

@@ -14,14 +14,15 @@ use crate::seen::Seen;
 use dcc_prog::{Image, Layout, Refusal};
 use std::alloc::{AllocError, Global};
 
-/// The number of offsets in a segment.
+// The number of offsets in a segment.
 const OFFSETS: usize = 65536;
 
 /// What was seen so far, and which offsets are to be followed.
 #[derive(Drop)]
 pub struct Search {
-    /// By offset.
+    /// What was seen of each offset, 65,536 of them.
     pub seen: Vec<Seen>,
+    /// The offsets that are to be followed, the newest last.
     pub pending: Vec<u16>,
 }
 
@@ -56,13 +57,13 @@ impl Search {
     {
         let seen = self.seen[usize::from(at)];
         let instr = accepted(code, at, seen)?;
-        let behind = seen.behind(instr.op);
+        let after = seen.after(instr.op);
         let onward = Onward::new(at, instr, seen.ah());
         if let Some(target) = onward.target {
-            self.arrive(target, behind)?;
+            self.arrive(target, after)?;
         }
         if let Some(next) = onward.next {
-            self.arrive(next, behind)?;
+            self.arrive(next, after)?;
         }
         Ok(())
     }

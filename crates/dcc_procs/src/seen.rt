@@ -2,7 +2,7 @@
 
 ghost use Rattle.std.specs.Prelude.{◌≡◌};
 ghost use Rattle.dcc_prog.specs.WellFormed.{IsOperation};
-ghost use Rattle.dcc_procs.specs.Search.{seen_behind, grown, ah_of, number_of};
+ghost use Rattle.dcc_procs.specs.Search.{seen_after, grown, ah_of, number_of};
 
 use crate::form::{constant_to_ah, writes_ah};
 use dcc_prog::Op;
@@ -19,10 +19,10 @@ pub enum Seen {
 }
 
 impl Seen {
-    /// What is known behind an operation, by what is known before it.
-    pub fn behind(self, op: Op) -> Seen
+    /// What is known after an operation, by what is known before it.
+    pub fn after(self, op: Op) -> Seen
         requires { IsOperation op }
-        ensures { result ≡ seen_behind op self }
+        ensures { result ≡ seen_after op self }
     {
         match self {
             Seen::Never => Seen::Never,

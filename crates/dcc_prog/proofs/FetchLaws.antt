@@ -13,17 +13,17 @@ use Rattle.dcc_prog.specs.Step.{code_byte, code_bytes}
 use Rattle.dcc_prog.proofs.MzImageLaws.{length-relocated_image}
 use Rattle.dcc_prog.proofs.TableLaws.{instruction-length, instruction-prefix}
 
--- what is behind so many equal elements
-behind-replicate : (n : ℕ) (ys : List ℕ) (j : ℕ) → get_or (replicate n 0 ++ ys) (n + j) 0 ≡ get_or ys j 0
-behind-replicate n ys j =
+-- what is after so many equal elements
+after-replicate : (n : ℕ) (ys : List ℕ) (j : ℕ) → get_or (replicate n 0 ++ ys) (n + j) 0 ≡ get_or ys j 0
+after-replicate n ys j =
     let e : n + j ≡ length (replicate n 0) + j = ap (λ k. k + j) (sym (length-replicate n 0)) in
     ap (λ k. get_or (replicate n 0 ++ ys) k 0) e ∙ get_or-append-add (replicate n 0) ys j 0
 
--- the byte of the image at an offset stands that far behind the image's physical address
+-- the byte of the image at an offset stands that far above the image's physical address
 pub loaded-at : (bytes : List ℕ) (j : ℕ) → j < length bytes → get_or (loaded_memory bytes) (image_address + j) 0 ≡ get_or bytes j 0
 unfolding loaded_memory
 loaded-at bytes j within =
-    behind-replicate image_address (bytes ++ replicate (1048576 - (image_address + length bytes)) 0) j
+    after-replicate image_address (bytes ++ replicate (1048576 - (image_address + length bytes)) 0) j
     ∙ get_or_append_left bytes (replicate (1048576 - (image_address + length bytes)) 0) 0 j within
 
 -- what the places of an image's code are bounded by
@@ -72,7 +72,7 @@ pub record HoldsImage (image : Image) (s : State) : Type 0 where
   pub memory : s.memory ≡ loaded_memory image.bytes.items
   pub code : code_segment s ≡ image.cs
 
--- the byte behind the instruction pointer is that of the code
+-- the byte after the instruction pointer is that of the code
 code_byte-is : (image : Image) (s : State) (k : ℕ) → IsPlaced image → HoldsImage image s → s.ip + k < image.code_len → code_byte s k ≡ get_or (code_of image) (s.ip + k) 0
 code_byte-is image s k placed holds within =
     let off = s.ip + k in

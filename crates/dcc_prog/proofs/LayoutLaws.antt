@@ -9,7 +9,7 @@ use Rattle.dcc_prog.specs.declared.procedure.Layout.{Layout}
 use Rattle.dcc_prog.specs.declared.instr.Instr.{Instr}
 use Rattle.dcc_prog.specs.Code.{code_of}
 use Rattle.dcc_prog.specs.Machine.{word_in, stack_segment, data_segment}
-use Rattle.dcc_prog.specs.Layout.{writes_ds, end_of, IsPrelude, state_behind, lowest_of_stack, IsLeftBy, IsSmall, HasLayout}
+use Rattle.dcc_prog.specs.Layout.{writes_ds, end_of, IsPrelude, state_after, lowest_of_stack, IsLeftBy, IsSmall, HasLayout}
 use Rattle.dcc_prog.specs.Construct.{LacksLayout}
 use Rattle.dcc_prog.proofs.PreludeLaws.{prelude-of, prelude-once}
 
@@ -50,9 +50,9 @@ layout-once image layout other h k =
     values-once image h.prelude layout other h.left (left-by image h.prelude other h.is_prelude k)
 
 -- the values that a prelude leaves, where the stack segment doesn't lie below the data segment
-layout-behind : Image → List Instr → Layout
-layout-behind image prelude =
-    let s = state_behind image prelude in
+layout-after : Image → List Instr → Layout
+layout-after image prelude =
+    let s = state_after image prelude in
     let delta = (stack_segment s - data_segment s) * 16 in
     record {
       ds = data_segment s;
@@ -65,8 +65,8 @@ layout-behind image prelude =
       flags = s.flags;
     }
 
-layout-left : (image : Image) (prelude : List Instr) → data_segment (state_behind image prelude) ≤ stack_segment (state_behind image prelude) → IsLeftBy image prelude (layout-behind image prelude)
-unfolding layout-behind
+layout-left : (image : Image) (prelude : List Instr) → data_segment (state_after image prelude) ≤ stack_segment (state_after image prelude) → IsLeftBy image prelude (layout-after image prelude)
+unfolding layout-after
 layout-left image prelude le = record {
   regs = refl;
   flags = refl;
@@ -106,8 +106,8 @@ pub layout_or_none : (image : Image) → ((layout : Layout) × HasLayout image l
 layout_or_none image =
     let found = prelude-of (code_of image) image.ip in
     let prelude = found.0 in
-    let l = layout-behind image prelude in
-    elim (cases_lt (stack_segment (state_behind image prelude)) (data_segment (state_behind image prelude))) [
+    let l = layout-after image prelude in
+    elim (cases_lt (stack_segment (state_after image prelude)) (data_segment (state_after image prelude))) [
       | inl below ↦ inr (record {
         entry = refl;
         none = λ other h. let left = left-by image prelude other found.1 h in absurd (omega (arith, left.ds, left.delta));

@@ -10,3 +10,4 @@ pub mod LayoutLaws
 pub mod TrailLaws
 pub mod ConstructLaws
 pub mod MachineEnds
+mod Examples

@@ -177,7 +177,7 @@ good_header_or_fault file =
     ]
 
 -- a `Vec` with given elements
-vec_of : (xs : List ℕ) → length xs < 2 ^ 63 → Vec ℕ Global
+unfoldable pub vec_of : (xs : List ℕ) → length xs < 2 ^ 63 → Vec ℕ Global
 vec_of xs few = record { ptr = null_ptr; len = length xs; cap = length xs; alloc = record { memory = record { seal = tt } }; items = xs; ok = (refl, omega arith); small = few }
 
 -- a file that passes the seven checks has an image, as long as memory can hold it

@@ -63,9 +63,9 @@ run-front code at [] whole r w none = (whole, refl)
 run-front code at (i ∷ rest) [] r w none = absurd (none i r.0)
 run-front code at (i ∷ rest) (j ∷ others) r w none =
     let same : j ≡ i = form-same code at j i w.0 r.0 in
-    let behind : IsRun code (at + i.len) others = subst (λ (k : Instr). IsRun code (at + k.len) others) same w.1 in
+    let tail_run : IsRun code (at + i.len) others = subst (λ (k : Instr). IsRun code (at + k.len) others) same w.1 in
     let stop : NoFormAt code (end_of (at + i.len) others) = subst (λ (k : Instr). NoFormAt code (end_of (at + k.len) others)) same none in
-    let tail = run-front code (at + i.len) rest others r.1 behind stop in
+    let tail = run-front code (at + i.len) rest others r.1 tail_run stop in
     (tail.0, let e = tail.1 in cc)
 
 -- runs of one length are the same
@@ -75,8 +75,8 @@ run-same code at [] (j ∷ others) r s e = absurd (omega arith)
 run-same code at (i ∷ rest) [] r s e = absurd (omega arith)
 run-same code at (i ∷ rest) (j ∷ others) r s e =
     let same : j ≡ i = form-same code at j i s.0 r.0 in
-    let behind : IsRun code (at + i.len) others = subst (λ (k : Instr). IsRun code (at + k.len) others) same s.1 in
-    let tails : rest ≡ others = run-same code (at + i.len) rest others r.1 behind (omega arith) in
+    let tail_run : IsRun code (at + i.len) others = subst (λ (k : Instr). IsRun code (at + k.len) others) same s.1 in
+    let tails : rest ≡ others = run-same code (at + i.len) rest others r.1 tail_run (omega arith) in
     cc
 
 -- a run goes on until it can't
@@ -94,7 +94,7 @@ whole-run (suc fuel) code at le =
 
 -- Where a prelude ends.
 
--- a prelude may end behind none of them
+-- a prelude may end after none of them
 abbrev pub none_ends : List Instr → Bool
 none_ends [] = true
 none_ends (i ∷ rest) = not (may_end_prelude i.op) && none_ends rest
@@ -113,7 +113,7 @@ ends-tail : (i : Instr) (rest : List Instr) → ends_prelude (i ∷ rest) ≡ tr
 ends-tail i [] h = refl
 ends-tail i (j ∷ rest) h = h
 
--- where a prelude may end behind none, none of their fronts ends one
+-- where a prelude may end after none, none of their fronts ends one
 ends-not_front : (i : Instr) (rest more : List Instr) → ends_prelude (i ∷ rest) ≡ true → none_ends (i ∷ rest ++ more) ≡ true → ⊥
 ends-not_front i [] more h n =
     let no : may_end_prelude i.op ≡ false = not-true _ (and_left (not (may_end_prelude i.op)) (none_ends more) n) in
@@ -132,7 +132,7 @@ ends-within (f ∷ front) rest (o ∷ other) more e n h =
     let le = ends-within front rest other more tails n (ends-tail o other h) in
     omega arith
 
--- the prelude is the front of a run that can't go on, up to the last instruction behind which it may end
+-- the prelude is the front of a run that can't go on, up to the last instruction after which it may end
 pub prelude-is : (code : List ℕ) (entry : ℕ) (front rest : List Instr) → IsRun code entry (front ++ rest) → NoFormAt code (end_of entry (front ++ rest)) → ends_prelude front ≡ true → none_ends rest ≡ true → IsPrelude code entry front
 prelude-is code entry front rest run stop ends none = record {
   run = run-of_append code entry front rest run;
@@ -142,7 +142,7 @@ prelude-is code entry front rest run stop ends none = record {
       ends-within front rest other more.0 more.1 none h;
 }
 
--- instructions cut behind the last one behind which a prelude may end
+-- instructions cut after the last one after which a prelude may end
 record Cut (run : List Instr) : Type 0 where
   front : List Instr
   rest : List Instr

@@ -19,7 +19,7 @@ use Rattle.dcc_prog.specs.Code.{code_of}
 use Rattle.dcc_prog.specs.Table.{instruction_at}
 use Rattle.dcc_prog.specs.Machine.{State, word_in, code_segment, data_segment, start_state}
 use Rattle.dcc_prog.specs.Step.{op_step, instruction_step, step}
-use Rattle.dcc_prog.specs.Layout.{is_data_segment, is_prelude_form, writes_ds, IsFormAt, IsRun, end_of, state_behind}
+use Rattle.dcc_prog.specs.Layout.{is_data_segment, is_prelude_form, writes_ds, IsFormAt, IsRun, end_of, state_after}
 use Rattle.dcc_prog.proofs.FetchLaws.{IsPlaced, image-placed, length-code_of, fetched-instruction}
 use Rattle.dcc_prog.proofs.MzImageLaws.{ip-loaded}
 use Rattle.dcc_prog.proofs.PreludeLaws.{form-inside}
@@ -143,13 +143,13 @@ start-at image input loaded =
     let le : image.ip < 65536 = omega (arith, ip-loaded image loaded, placed.short) in mod-eq_of_lt le in
     ap (λ a. record (start_state image input) { ip = a }) (sym low)
 
--- The machine behind a run from the entry of a loaded program, whatever the input: its registers and flags are those after
--- the run's instructions, its instruction pointer is behind them, and all else is as at the start.
+-- The machine after a run from the entry of a loaded program, whatever the input: its registers and flags are those after
+-- the run's instructions, its instruction pointer is after them, and all else is as at the start.
 pub steps-from_start : (image : Image) (input : List ℕ) (run : List Instr) → IsLoaded image → IsRun (code_of image) image.ip run → after step (length run) (start_state image input) ≡ at_offset image input (executed (start_state image []) run) (end_of image.ip run)
 steps-from_start image input run loaded is =
     ap (λ s. after step (length run) s) (start-at image input loaded)
     ∙ run-steps image input (start_state image []) image.ip run (image-placed loaded.file image loaded.is_image) refl is
 
-pub state_behind-is : (image : Image) (prelude : List Instr) → IsLoaded image → IsRun (code_of image) image.ip prelude → state_behind image prelude ≡ at_offset image [] (executed (start_state image []) prelude) (end_of image.ip prelude)
-unfolding state_behind
-state_behind-is image prelude loaded is = steps-from_start image [] prelude loaded is
+pub state_after-is : (image : Image) (prelude : List Instr) → IsLoaded image → IsRun (code_of image) image.ip prelude → state_after image prelude ≡ at_offset image [] (executed (start_state image []) prelude) (end_of image.ip prelude)
+unfolding state_after
+state_after-is image prelude loaded is = steps-from_start image [] prelude loaded is

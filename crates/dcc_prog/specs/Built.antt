@@ -1,7 +1,8 @@
--- Which instructions are of a form that is not built yet: those that use memory or the stack, divide, call, return or jump
--- through a table.
+-- Which instructions are of a form that is not built yet: those that use memory or the stack, divide, call, return
+-- or jump through a table.
 use Rattle.std.specs.Prelude.{◌≡◌, ℕ, Bool, true, false, ◌||◌, Some}
 use Rattle.dcc_num.specs.declared.Reg.TheVariants.{Sp, Bp}
+use Rattle.dcc_num.specs.declared.dos.TheConstants.{PUTS}
 use Rattle.dcc_prog.specs.declared.image.Image.{Image}
 use Rattle.dcc_prog.specs.declared.procedure.Layout.{Layout}
 use Rattle.dcc_prog.specs.declared.instr.Unary.{Unary}
@@ -51,7 +52,7 @@ is_unbuilt op = false
 -- an operation that is not built stands at the offset, or INT 21h with 09h in AH
 pub data IsUnbuiltAt (image : Image) (layout : Layout) (entry at : ℕ) : Type 0 where
   operation : {op : Op} → StandsAt image layout at op → is_unbuilt op ≡ true → IsUnbuiltAt image layout entry at
-  string : HasAh image layout entry at (Some 0x09) → IsUnbuiltAt image layout entry at
+  string : HasAh image layout entry at (Some PUTS) → IsUnbuiltAt image layout entry at
 
 -- the same, and the entry procedure reaches the offset
 pub record IsNotYet (image : Image) (layout : Layout) (at : ℕ) : Type 0 where

@@ -2,6 +2,8 @@
 -- offset in its code segment.
 use Rattle.std.specs.Prelude.{◌≡◌, ◌≢◌, ◌≤◌, ◌<◌, ◌⊎◌, ℕ, ◌+◌, ◌*◌, ◌==◌, Bool, true, false, not, ◌||◌, List, ◌∷◌, length, Option, Some, None}
 use Rattle.dcc_num.specs.declared.Reg.{Reg}
+use Rattle.dcc_num.specs.declared.dos.TheConstants.{GETCHE, PUTC, GETCH, PUTS, EXIT}
+use Rattle.dcc_prog.specs.declared.refusal.construct.TheConstants.{NO_LAYOUT, OUTSIDE, INDIRECT_JUMP, INDIRECT_CALL, DOS_NUMBER, ENTRY_RETURN, DIVISION}
 use Rattle.dcc_prog.specs.declared.image.Image.{Image}
 use Rattle.dcc_prog.specs.declared.procedure.Layout.{Layout}
 use Rattle.dcc_prog.specs.declared.instr.Operand.{Operand}
@@ -54,12 +56,22 @@ pub record LacksTable (image : Image) (layout : Layout) (at number : ℕ) : Type
   pub stands : StandsAt image layout at (Table register table)
   pub outside : length (code_within image layout) < table + 2 * (number + 1)
 
--- a jump through a table that has no form: a trail tells no N, two tell two, or the table of at most 256 words doesn't lie
--- in the code
+-- a jump through a table that has no form: a trail tells no N, two tell two, or the table of at most 256 words
+-- doesn't lie in the code
 pub data IsFormless (image : Image) (layout : Layout) (entry at : ℕ) : Type 0 where
   no_number : HasNumber image layout entry at None → IsFormless image layout entry at
-  two_numbers : {number other : ℕ} → HasNumber image layout entry at (Some number) → HasNumber image layout entry at (Some other) → number ≢ other → IsFormless image layout entry at
-  no_table : {number : ℕ} → HasNumber image layout entry at (Some number) → number ≤ 255 → LacksTable image layout at number → IsFormless image layout entry at
+  two_numbers :
+      {number other : ℕ}
+      → HasNumber image layout entry at (Some number)
+      → HasNumber image layout entry at (Some other)
+      → number ≢ other
+      → IsFormless image layout entry at
+  no_table :
+      {number : ℕ}
+      → HasNumber image layout entry at (Some number)
+      → number ≤ 255
+      → LacksTable image layout at number
+      → IsFormless image layout entry at
 
 -- Kind 2: instructions outside of what is known.
 
@@ -90,9 +102,9 @@ pub record IsForeign (image : Image) (layout : Layout) (entry at : ℕ) : Type 0
 -- the five numbers that are known
 abbrev pub is_dos_number : ℕ → Bool
 is_dos_number number =
-    (number == 0x01) || (number == 0x02) || (number == 0x08) || (number == 0x09) || (number == 0x4C)
+    (number == GETCHE) || (number == PUTC) || (number == GETCH) || (number == PUTS) || (number == EXIT)
 
--- INT 21h ends a trail behind which AH is known, or isn't
+-- INT 21h ends a trail before which AH is known, or isn't
 pub record HasAh (image : Image) (layout : Layout) (entry at : ℕ) (ah : Option ℕ) : Type 0 where
   pub before : List ℕ
   pub trail : IsTrail image layout entry (at ∷ before)
@@ -101,27 +113,40 @@ pub record HasAh (image : Image) (layout : Layout) (entry at : ℕ) (ah : Option
 
 pub data HasNoNumber (image : Image) (layout : Layout) (entry at : ℕ) : Type 0 where
   not_known : HasAh image layout entry at None → HasNoNumber image layout entry at
-  other_number : {number : ℕ} → HasAh image layout entry at (Some number) → is_dos_number number ≡ false → HasNoNumber image layout entry at
-  two_numbers : {number other : ℕ} → HasAh image layout entry at (Some number) → HasAh image layout entry at (Some other) → number ≢ other → HasNoNumber image layout entry at
+  other_number :
+      {number : ℕ}
+      → HasAh image layout entry at (Some number)
+      → is_dos_number number ≡ false
+      → HasNoNumber image layout entry at
+  two_numbers :
+      {number other : ℕ}
+      → HasAh image layout entry at (Some number)
+      → HasAh image layout entry at (Some other)
+      → number ≢ other
+      → HasNoNumber image layout entry at
 
 -- Kind 11: returns from the entry procedure, and calls of it.
 
 pub data ReturnsFromEntry (image : Image) (layout : Layout) (entry at : ℕ) : Type 0 where
-  returns : {count : ℕ} → entry ≡ layout.start_ip → StandsAt image layout at (Ret count) → ReturnsFromEntry image layout entry at
+  returns :
+      {count : ℕ}
+      → entry ≡ layout.start_ip
+      → StandsAt image layout at (Ret count)
+      → ReturnsFromEntry image layout entry at
   calls : StandsAt image layout at (Call layout.start_ip) → ReturnsFromEntry image layout entry at
 
 -- All kinds.
 
 -- a construct of this kind stands at a node of the procedure with this entry: those that trails tell
 pub data IsAtNode (image : Image) (layout : Layout) (entry at : ℕ) : ℕ → Type 0 where
-  unknown : IsUnknown image layout at → IsAtNode image layout entry at 2
-  foreign : IsForeign image layout entry at → IsAtNode image layout entry at 2
-  indirect_jump : IsIndirectJump (code_within image layout) at → IsAtNode image layout entry at 3
-  formless : IsFormless image layout entry at → IsAtNode image layout entry at 3
-  indirect_call : IsIndirectCall (code_within image layout) at → IsAtNode image layout entry at 4
-  dos_number : HasNoNumber image layout entry at → IsAtNode image layout entry at 5
-  entry_return : ReturnsFromEntry image layout entry at → IsAtNode image layout entry at 11
-  division : IsUnprepared image layout entry at → IsAtNode image layout entry at 12
+  unknown : IsUnknown image layout at → IsAtNode image layout entry at OUTSIDE
+  foreign : IsForeign image layout entry at → IsAtNode image layout entry at OUTSIDE
+  indirect_jump : IsIndirectJump (code_within image layout) at → IsAtNode image layout entry at INDIRECT_JUMP
+  formless : IsFormless image layout entry at → IsAtNode image layout entry at INDIRECT_JUMP
+  indirect_call : IsIndirectCall (code_within image layout) at → IsAtNode image layout entry at INDIRECT_CALL
+  dos_number : HasNoNumber image layout entry at → IsAtNode image layout entry at DOS_NUMBER
+  entry_return : ReturnsFromEntry image layout entry at → IsAtNode image layout entry at ENTRY_RETURN
+  division : IsUnprepared image layout entry at → IsAtNode image layout entry at DIVISION
 
 -- the same at a node of some procedure that is reached
 pub record IsOfTrails (kind : ℕ) (image : Image) (layout : Layout) (at : ℕ) : Type 0 where
@@ -132,5 +157,9 @@ pub record IsOfTrails (kind : ℕ) (image : Image) (layout : Layout) (at : ℕ) 
 
 -- a construct of this kind stands at the offset
 pub data IsConstruct : ℕ → Image → ℕ → Type 0 where
-  lacks_layout : {image : Image} {at : ℕ} → LacksLayout image at → IsConstruct 1 image at
-  of_trails : {kind at : ℕ} {image : Image} {layout : Layout} → HasLayout image layout → IsOfTrails kind image layout at → IsConstruct kind image at
+  lacks_layout : {image : Image} {at : ℕ} → LacksLayout image at → IsConstruct NO_LAYOUT image at
+  of_trails :
+      {kind at : ℕ} {image : Image} {layout : Layout}
+      → HasLayout image layout
+      → IsOfTrails kind image layout at
+      → IsConstruct kind image at

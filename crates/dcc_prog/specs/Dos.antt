@@ -4,6 +4,7 @@ use Rattle.std.specs.Prelude.{ℕ, ◌+◌, ◌/◌, ◌%◌, ◌==◌, Bool, tr
 use Rattle.std.specs.List.{range_with_len, take_while}
 use Rattle.dcc_run.specs.End.{Exit, Outside}
 use Rattle.dcc_num.specs.declared.Reg.TheVariants.{Ax, Dx}
+use Rattle.dcc_num.specs.declared.dos.TheConstants.{GETCHE, PUTC, GETCH, PUTS, EXIT, END_OF_INPUT, STRING_END, STRING_MOST}
 use Rattle.dcc_prog.specs.Machine.{State, word_in, data_segment, byte_in}
 use Rattle.dcc_prog.specs.Operations.{with_end, with_al}
 
@@ -14,11 +15,11 @@ bytes_from s segment offset count =
 
 -- whether a byte is another than the `$` that ends a string
 abbrev pub is_not_dollar : ℕ → Bool
-is_not_dollar byte = not (byte == 0x24)
+is_not_dollar byte = not (byte == STRING_END)
 
 -- the bytes from DS:DX on up to the first `$`, which is not one of them, and at most 65,536
 unfoldable pub dos_string : State → List ℕ
-dos_string s = take_while is_not_dollar (bytes_from s (data_segment s) (word_in s Dx) 65536)
+dos_string s = take_while is_not_dollar (bytes_from s (data_segment s) (word_in s Dx) STRING_MOST)
 
 -- the bytes are written
 abbrev pub after_write : List ℕ → State → State
@@ -26,7 +27,7 @@ after_write bytes s = record s { out = s.out ++ bytes }
 
 -- AL takes the next of these input bytes, which is written too where it is echoed; where there is none, AL takes 1Ah
 abbrev pub with_key : Bool → List ℕ → State → State
-with_key echo [] s = with_al 0x1A s
+with_key echo [] s = with_al END_OF_INPUT s
 with_key echo (byte ∷ rest) s =
     after_write (if echo then byte ∷ [] else []) (with_al byte (record s { input = rest }))
 
@@ -37,11 +38,11 @@ key_step echo s = with_key echo s.input s
 -- it, 08h takes a key, 09h writes the string at DS:DX. Another number ends the run too
 abbrev pub dos_step : ℕ → ℕ → State → State
 dos_step number at s =
-    if number == 0x02 then after_write (word_in s Dx % 256 ∷ []) s
-    else if number == 0x4C then with_end (Exit (word_in s Ax % 256)) at s
-    else if number == 0x01 then key_step true s
-    else if number == 0x08 then key_step false s
-    else if number == 0x09 then after_write (dos_string s) s
+    if number == PUTC then after_write (word_in s Dx % 256 ∷ []) s
+    else if number == EXIT then with_end (Exit (word_in s Ax % 256)) at s
+    else if number == GETCHE then key_step true s
+    else if number == GETCH then key_step false s
+    else if number == PUTS then after_write (dos_string s) s
     else with_end (Outside at) at s
 
 -- INT 21h of the instruction at this offset

@@ -30,7 +30,7 @@ abbrev pub stands_mov_bp_sp : Option Instr → Bool
 stands_mov_bp_sp None = false
 stands_mov_bp_sp (Some instr) = is_mov_bp_sp instr.op
 
--- the offset behind the first instruction
+-- the offset after the first instruction
 abbrev pub second_of : ℕ → Option Instr → ℕ
 second_of entry None = entry
 second_of entry (Some instr) = next_of entry instr

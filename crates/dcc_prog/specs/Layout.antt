@@ -15,6 +15,7 @@ use Rattle.dcc_prog.specs.declared.instr.Operand.TheVariants.{Word, Byte, Seg, C
 use Rattle.dcc_prog.specs.declared.instr.Op.{Op}
 use Rattle.dcc_prog.specs.declared.instr.Op.TheVariants.{Alu as AluOp, Shift as ShiftOp, Mov, Plain as PlainOp}
 use Rattle.dcc_prog.specs.declared.instr.Instr.{Instr}
+use Rattle.dcc_prog.specs.declared.segment.TheConstants.{ES, SS, DS}
 use Rattle.dcc_prog.specs.Load.{load_segment}
 use Rattle.dcc_prog.specs.Code.{code_of}
 use Rattle.dcc_prog.specs.Table.{instruction_at}
@@ -25,7 +26,7 @@ use Rattle.dcc_prog.specs.Step.{step}
 
 -- ES, SS or DS, by the number of the segment register
 abbrev pub is_data_segment : ℕ → Bool
-is_data_segment number = (number == 0) || ((number == 2) || (number == 3))
+is_data_segment number = (number == ES) || ((number == SS) || (number == DS))
 
 -- a MOV of a constant to a register, between two registers of one width, or between a word register and ES, SS or DS
 abbrev pub is_prelude_move : Operand → Operand → Bool
@@ -78,7 +79,7 @@ is_control Sti = true
 is_control Cld = true
 is_control operation = false
 
--- a prelude may end behind the operation: it writes a segment register or SP, or is CLI, STI or CLD
+-- a prelude may end after the operation: it writes a segment register or SP, or is CLI, STI or CLD
 abbrev pub may_end_prelude : Op → Bool
 may_end_prelude (Mov to from) = is_segment_or_sp to
 may_end_prelude (AluOp operation a b) = is_segment_or_sp a
@@ -88,7 +89,7 @@ may_end_prelude op = false
 
 -- the operation writes DS
 abbrev pub writes_ds : Op → Bool
-writes_ds (Mov (Seg number) from) = number == 3
+writes_ds (Mov (Seg number) from) = number == DS
 writes_ds op = false
 
 -- The prelude.
@@ -98,32 +99,32 @@ pub record IsFormAt (code : List ℕ) (at : ℕ) (instr : Instr) : Type 0 where
   pub found : instruction_at at (drop at code) ≡ Some instr
   pub form : is_prelude_form instr.op ≡ true
 
--- such instructions stand one behind another from an offset on
+-- such instructions stand one after another from an offset on
 abbrev pub IsRun : List ℕ → ℕ → List Instr → Type 0
 IsRun code at [] = Unit {0}
 IsRun code at (instr ∷ rest) = IsFormAt code at instr × IsRun code (at + instr.len) rest
 
--- the offset behind instructions that stand one behind another from an offset on
+-- the offset after instructions that stand one after another from an offset on
 abbrev pub end_of : ℕ → List Instr → ℕ
 end_of at [] = at
 end_of at (instr ∷ rest) = end_of (at + instr.len) rest
 
--- there is no instruction, or a prelude may end behind the last one
+-- there is no instruction, or a prelude may end after the last one
 abbrev pub ends_prelude : List Instr → Bool
 ends_prelude [] = true
 ends_prelude (instr ∷ []) = may_end_prelude instr.op
 ends_prelude (instr ∷ next ∷ rest) = ends_prelude (next ∷ rest)
 
--- the prelude: the longest run from the entry behind whose last instruction a prelude may end
+-- the prelude: the longest run from the entry after whose last instruction a prelude may end
 pub record IsPrelude (code : List ℕ) (entry : ℕ) (prelude : List Instr) : Type 0 where
   pub run : IsRun code entry prelude
   pub ends : ends_prelude prelude ≡ true
   pub longest : (other : List Instr) → IsRun code entry other → ends_prelude other ≡ true
       → length other ≤ length prelude
 
--- the machine behind the prelude: that many steps from the start
-unfoldable pub state_behind : Image → List Instr → State
-state_behind image prelude = after step (length prelude) (start_state image [])
+-- the machine after the prelude: that many steps from the start
+unfoldable pub state_after : Image → List Instr → State
+state_after image prelude = after step (length prelude) (start_state image [])
 
 -- The layout.
 
@@ -136,12 +137,12 @@ lowest_of_stack image ds =
 
 -- the values of a layout are those that the prelude leaves
 pub record IsLeftBy (image : Image) (prelude : List Instr) (layout : Layout) : Type 0 where
-  pub regs : layout.regs ≡ (state_behind image prelude).regs
-  pub flags : layout.flags ≡ (state_behind image prelude).flags
-  pub ds : layout.ds ≡ data_segment (state_behind image prelude)
-  pub delta : layout.ds * 16 + layout.delta ≡ stack_segment (state_behind image prelude) * 16
+  pub regs : layout.regs ≡ (state_after image prelude).regs
+  pub flags : layout.flags ≡ (state_after image prelude).flags
+  pub ds : layout.ds ≡ data_segment (state_after image prelude)
+  pub delta : layout.ds * 16 + layout.delta ≡ stack_segment (state_after image prelude) * 16
   pub lo : layout.lo ≡ lowest_of_stack image layout.ds
-  pub hi : layout.hi ≡ word_in (state_behind image prelude) Sp + layout.delta
+  pub hi : layout.hi ≡ word_in (state_after image prelude) Sp + layout.delta
   pub start_ip : layout.start_ip ≡ end_of image.ip prelude
   -- the code ends where the data segment begins, or before, where the image ends or at offset 65536
   pub code_end : layout.code_end ≡ min ((layout.ds - image.cs) * 16) image.code_len

@@ -19,9 +19,19 @@ pub record IsNodeOf (image : Image) (layout : Layout) (place : ℕ × ℕ) : Typ
   pub is_entry : IsEntry image layout place.0
   pub node : IsNode image layout place.0 place.1
 
--- the count of this name, as it is told, is above its greatest number; of the first three one more than that number is told
+-- the count of this name, as it is told, is above its greatest number; of the first three one more than that number
+-- is told
 pub data IsAbove (image : Image) (layout : Layout) : LimitName → ℕ → Type 0 where
   procedures : HasMany (IsEntry image layout) 513 → IsAbove image layout Procedures 513
-  instructions : {entry : ℕ} → IsEntry image layout entry → HasMany (IsNode image layout entry) 4097 → IsAbove image layout Instructions 4097
+  instructions :
+      {entry : ℕ}
+      → IsEntry image layout entry
+      → HasMany (IsNode image layout entry) 4097
+      → IsAbove image layout Instructions 4097
   total : HasMany (IsNodeOf image layout) 32769 → IsAbove image layout Total 32769
-  entries : {entry at number : ℕ} → IsEntry image layout entry → HasNumber image layout entry at (Some number) → 256 ≤ number → IsAbove image layout Entries (number + 1)
+  entries :
+      {entry at number : ℕ}
+      → IsEntry image layout entry
+      → HasNumber image layout entry at (Some number)
+      → 256 ≤ number
+      → IsAbove image layout Entries (number + 1)

@@ -5,7 +5,7 @@ use Rattle.std.specs.Prelude.{ℕ, ◌*◌}
 abbrev pub prefix_segment : ℕ
 prefix_segment = 0x0100
 
--- the segment of the load image, which lies behind the 256 bytes of the prefix
+-- the segment of the load image, which lies above the 256 bytes of the prefix
 abbrev pub load_segment : ℕ
 load_segment = 0x0110
 

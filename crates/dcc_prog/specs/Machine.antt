@@ -10,6 +10,7 @@ use Rattle.dcc_num.specs.Numbers.{no_flags}
 pub use Rattle.dcc_num.specs.Halves.{half_of_word, word_with_half}
 use Rattle.dcc_prog.specs.declared.image.Image.{Image}
 use Rattle.dcc_prog.specs.declared.instr.Ea.{Ea}
+use Rattle.dcc_prog.specs.declared.segment.TheConstants.{CS, SS, DS}
 use Rattle.dcc_prog.specs.declared.instr.Operand.{Operand}
 use Rattle.dcc_prog.specs.declared.instr.Operand.TheVariants.{Word, Byte, Seg, Mem, Const}
 use Rattle.dcc_prog.specs.Load.{prefix_segment, image_address}
@@ -49,15 +50,15 @@ word_in s r = slice_index s.regs (reg_number r)
 abbrev pub with_word_in : State → Reg → ℕ → State
 with_word_in s r word = record s { regs = slice_set s.regs (reg_number r) word }
 
--- the numbers of the segment registers
+-- what CS, SS and DS hold
 abbrev pub code_segment : State → ℕ
-code_segment s = slice_index s.segs 1
+code_segment s = slice_index s.segs CS
 
 abbrev pub stack_segment : State → ℕ
-stack_segment s = slice_index s.segs 2
+stack_segment s = slice_index s.segs SS
 
 abbrev pub data_segment : State → ℕ
-data_segment s = slice_index s.segs 3
+data_segment s = slice_index s.segs DS
 
 -- Memory.
 

@@ -52,7 +52,7 @@ displacement_size modrm =
     else if (mod_field modrm == 2) || is_direct modrm then 2
     else 0
 
--- the displacement that stands at an index behind a ModRM byte
+-- the displacement that stands at an index after a ModRM byte
 abbrev pub displacement_at : ℕ → List ℕ → ℕ → ℕ
 displacement_at modrm bytes index =
     if mod_field modrm == 1 then sign_extension_of (byte_at bytes index)

@@ -1,5 +1,5 @@
 -- What the operations of the 8086 do to the state (8086 Family User's Manual, table 2-21). The instruction pointer
--- stands behind the instruction already. Flags that the manual leaves undefined are clear.
+-- stands after the instruction already. Flags that the manual leaves undefined are clear.
 use Rattle.std.specs.Prelude.{ℕ, ◌+◌, ◌-◌, ◌*◌, ◌%◌, ◌==◌, Bool, true, false, not, ◌&&◌, ◌||◌, if◌then◌else◌, Option, Some, None}
 use Rattle.dcc_run.specs.End.{End, Divide}
 use Rattle.dcc_num.specs.declared.Width.{Width}

@@ -1,5 +1,5 @@
--- The upper half of what a division divides is prepared: along the chain of sole predecessors back from the division, the
--- nearest instruction that writes it makes it 0, or the sign of the lower half.
+-- The upper half of what a division divides is prepared: along the chain of sole predecessors back from the
+-- division, the nearest instruction that writes it makes it 0, or the sign of the lower half.
 use Rattle.std.specs.Prelude.{◌≡◌, ℕ, ◌==◌, Bool, true, false, not, ◌&&◌, ◌||◌}
 use Rattle.dcc_num.specs.declared.Width.{Width}
 use Rattle.dcc_num.specs.declared.Width.TheVariants.{Byte as byte_width, Word as word_width}
@@ -56,10 +56,22 @@ abbrev pub keeps_dividend : Unary → Width → Op → Bool
 keeps_dividend Idiv width op = not (writes_ax op) && not (writes_upper width op)
 keeps_dividend operation width op = not (writes_upper width op)
 
--- the sole predecessor of an offset prepares the upper half, or it keeps the dividend and before it the half is prepared
+-- the sole predecessor of an offset prepares the upper half, or it keeps the dividend and before it the half is
+-- prepared
 pub data IsPrepared (image : Image) (layout : Layout) (entry : ℕ) (division : Unary) (width : Width) : ℕ → Type 0 where
-  nearest : {at from : ℕ} {op : Op} → IsSolePredecessor image layout entry from at → StandsAt image layout from op → prepares division width op ≡ true → IsPrepared image layout entry division width at
-  further : {at from : ℕ} {op : Op} → IsSolePredecessor image layout entry from at → StandsAt image layout from op → keeps_dividend division width op ≡ true → IsPrepared image layout entry division width from → IsPrepared image layout entry division width at
+  nearest :
+      {at from : ℕ} {op : Op}
+      → IsSolePredecessor image layout entry from at
+      → StandsAt image layout from op
+      → prepares division width op ≡ true
+      → IsPrepared image layout entry division width at
+  further :
+      {at from : ℕ} {op : Op}
+      → IsSolePredecessor image layout entry from at
+      → StandsAt image layout from op
+      → keeps_dividend division width op ≡ true
+      → IsPrepared image layout entry division width from
+      → IsPrepared image layout entry division width at
 
 -- DIV or IDIV
 abbrev pub is_division : Unary → Bool

@@ -11,7 +11,7 @@ use Rattle.dcc_prog.specs.Machine.{State, word_in, code_segment, byte_in, operan
 pub use Rattle.dcc_prog.specs.Operations.{with_end, with_flags, with_result, with_al, mov_step, xchg_step, lea_step, alu_step, unary_step, shift_step, push_step, pop_step, after_jump, after_jump_if, holds, loop_step, table_step, call_step, ret_step, plain_step}
 pub use Rattle.dcc_prog.specs.Dos.{dos_step, dos_call}
 
--- the byte at so many bytes behind the instruction pointer, whose offset wraps
+-- the byte at so many bytes after the instruction pointer, whose offset wraps
 abbrev pub code_byte : State → ℕ → ℕ
 code_byte s k = byte_in s (code_segment s) ((s.ip + k) % 65536)
 
@@ -20,7 +20,7 @@ abbrev pub code_bytes : State → List ℕ
 code_bytes s =
     code_byte s 0 ∷ code_byte s 1 ∷ code_byte s 2 ∷ code_byte s 3 ∷ code_byte s 4 ∷ code_byte s 5 ∷ []
 
--- an operation of the instruction at this offset, with the instruction pointer behind it
+-- an operation of the instruction at this offset, with the instruction pointer after it
 abbrev pub op_step : Op → ℕ → State → State
 op_step (Alu operation a b) at s =
     alu_step operation (operand_width a) a (operand_value s a) (operand_value s b) s

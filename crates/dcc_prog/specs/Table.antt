@@ -54,7 +54,7 @@ pub record Parts : Type 0 where
   pub next : ℕ
 
 -- an encoding: what it asks of its first bytes, whether the second of these is a ModRM byte with
--- a displacement behind it, the constant behind that, and the operation
+-- a displacement after it, the constant after that, and the operation
 pub record Row : Type 0 where
   pub pattern : List BytePattern
   pub has_modrm : Bool

@@ -1,11 +1,13 @@
--- Procedures: which instructions are reached from an entry. A trail is a list of offsets in the code segment that a run may
--- pass one after another, and stands here with the newest first. Where it goes on rests on the instruction at its end; for
--- INT 21h also on the constant that was last moved to AH, and for a jump through a table on the three instructions before.
+-- Procedures: which instructions are reached from an entry. A trail is a list of offsets in the code segment that a
+-- run may pass one after another, and stands here with the newest first. Where it goes on rests on the instruction
+-- at its end; for INT 21h also on the constant that was last moved to AH, and for a jump through a table on the
+-- three instructions before.
 use Rattle.std.specs.Prelude.{◌≡◌, ℕ, ◌+◌, ◌*◌, ◌/◌, ◌%◌, ◌==◌, Bool, false, not, ◌&&◌, if◌then◌else◌, List, [], ◌∷◌, take, drop, map, Contains, Option, Some, None}
 use Rattle.std.specs.List.{range_with_len}
 use Rattle.dcc_num.specs.declared.Reg.{Reg}
 use Rattle.dcc_num.specs.declared.Reg.TheVariants.{Ax}
 use Rattle.dcc_num.specs.declared.Half.TheVariants.{High}
+use Rattle.dcc_num.specs.declared.dos.TheConstants.{EXIT}
 use Rattle.dcc_prog.specs.declared.image.Image.{Image}
 use Rattle.dcc_prog.specs.declared.procedure.Layout.{Layout}
 use Rattle.dcc_prog.specs.declared.instr.Alu.TheVariants.{Cmp}
@@ -34,7 +36,7 @@ instruction_in image layout at = instruction_at at (drop at (code_within image l
 abbrev pub StandsAt : Image → Layout → ℕ → Op → Type 0
 StandsAt image layout at op = (instr : Instr) × (instruction_in image layout at ≡ Some instr) × (instr.op ≡ op)
 
--- the offset behind an instruction, which wraps
+-- the offset after an instruction, which wraps
 abbrev pub next_of : ℕ → Instr → ℕ
 next_of at instr = (at + instr.len) % 65536
 
@@ -46,15 +48,15 @@ constant_to_ah (Mov (Byte Ax High) (Const width constant)) = Some constant
 constant_to_ah (Mov (Word Ax) (Const width constant)) = Some (constant / 256)
 constant_to_ah op = None
 
--- what is known of AH behind an instruction, by what is known before it
-abbrev pub ah_behind : Option Instr → Option ℕ → Option ℕ
-ah_behind None known = known
-ah_behind (Some instr) known = if writes_half instr.op Ax High then constant_to_ah instr.op else known
+-- what is known of AH after an instruction, by what is known before it
+abbrev pub ah_after : Option Instr → Option ℕ → Option ℕ
+ah_after None known = known
+ah_after (Some instr) known = if writes_half instr.op Ax High then constant_to_ah instr.op else known
 
--- what is known of AH behind a trail: the constant of the last instruction that writes AH, if it is a MOV of one
+-- what is known of AH after a trail: the constant of the last instruction that writes AH, if it is a MOV of one
 abbrev pub known_ah : Image → Layout → List ℕ → Option ℕ
 known_ah image layout [] = None
-known_ah image layout (at ∷ before) = ah_behind (instruction_in image layout at) (known_ah image layout before)
+known_ah image layout (at ∷ before) = ah_after (instruction_in image layout at) (known_ah image layout before)
 
 -- Tables.
 
@@ -74,7 +76,8 @@ abbrev pub is_doubling : Reg → Op → Bool
 is_doubling r (ShiftOp Shl (Word q) false) = is_same_register r q
 is_doubling r op = false
 
--- N, where these three are `cmp r,N`, a bounds test that goes on to the third, which stands at the offset, and `shl r,1`
+-- N, where these three are `cmp r,N`, a bounds test that goes on to the third, which stands at the offset, and `shl
+-- r,1`
 abbrev pub number_of_window : Reg → Option Instr → ℕ → Option Instr → ℕ → Option Instr → Option ℕ
 number_of_window r (Some compare) test_at (Some test) shift_at (Some shift) =
     if is_bounds_test test.op (next_of test_at test) shift_at && is_doubling r shift.op then compared_with r compare.op
@@ -84,7 +87,10 @@ number_of_window r _ _ _ _ _ = None
 -- N, where the last instructions of a trail are these three
 abbrev pub table_number : Image → Layout → Reg → List ℕ → Option ℕ
 table_number image layout r (shift ∷ test ∷ compare ∷ rest) =
-    number_of_window r (instruction_in image layout compare) test (instruction_in image layout test) shift (instruction_in image layout shift)
+    number_of_window r
+    (instruction_in image layout compare)
+    test (instruction_in image layout test)
+    shift (instruction_in image layout shift)
 table_number image layout r _ = None
 
 -- the word at an offset of the code segment, which wraps, low byte first; beyond the image there are zeros
@@ -106,9 +112,9 @@ table_targets image offset (Some number) = table_words image offset (number + 1)
 -- AH holds 4Ch, with which INT 21h ends the run
 abbrev pub is_exit : Option ℕ → Bool
 is_exit None = false
-is_exit (Some number) = number == 0x4C
+is_exit (Some number) = number == EXIT
 
--- the successors of an operation, by the offset behind it, by what is known of AH and by the targets of its table. The
+-- the successors of an operation, by the offset after it, by what is known of AH and by the targets of its table. The
 -- target comes before the next instruction
 abbrev pub op_successors : Op → ℕ → Option ℕ → List ℕ → List ℕ
 op_successors (Jump target) next ah targets = target ∷ []
@@ -122,12 +128,12 @@ op_successors (Ret count) next ah targets = []
 op_successors Int21 next ah targets = if is_exit ah then [] else next ∷ []
 op_successors op next ah targets = next ∷ []
 
--- the targets of the table through which an operation behind a trail jumps
+-- the targets of the table through which an operation after a trail jumps
 abbrev pub targets_of : Image → Layout → Op → List ℕ → List ℕ
 targets_of image layout (Table r offset) before = table_targets image offset (table_number image layout r before)
 targets_of image layout op before = []
 
--- the successors of an instruction behind a trail; where none stands there are none
+-- the successors of an instruction after a trail; where none stands there are none
 abbrev pub instr_successors : Image → Layout → ℕ → List ℕ → Option Instr → List ℕ
 instr_successors image layout at before None = []
 instr_successors image layout at before (Some instr) =
@@ -140,7 +146,7 @@ successors image layout (at ∷ before) = instr_successors image layout at befor
 
 -- Trails, nodes and edges of the procedure with an entry.
 
--- the oldest offset is the entry, and each other one is a successor of the trail behind it
+-- the oldest offset is the entry, and each other one is a successor of the trail before it
 abbrev pub IsTrail : Image → Layout → ℕ → List ℕ → Type 0
 IsTrail image layout entry [] = ⊥
 IsTrail image layout entry (at ∷ []) = at ≡ entry
@@ -165,10 +171,15 @@ pub record IsSolePredecessor (image : Image) (layout : Layout) (entry from to : 
 
 -- Procedures.
 
--- the entry procedure begins behind the prelude, the others at the targets of the calls that are reached
+-- the entry procedure begins after the prelude, the others at the targets of the calls that are reached
 pub data IsEntry (image : Image) (layout : Layout) : ℕ → Type 0 where
   start : IsEntry image layout layout.start_ip
-  called : {entry at target : ℕ} → IsEntry image layout entry → IsNode image layout entry at → StandsAt image layout at (Call target) → IsEntry image layout target
+  called :
+      {entry at target : ℕ}
+      → IsEntry image layout entry
+      → IsNode image layout entry at
+      → StandsAt image layout at (Call target)
+      → IsEntry image layout target
 
 -- a node of a reached procedure
 pub record IsReached (image : Image) (layout : Layout) (at : ℕ) : Type 0 where

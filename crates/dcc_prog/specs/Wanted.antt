@@ -1,6 +1,7 @@
--- Which locations of a procedure are wanted before an instruction: those whose value a jump, a store, a division or a DOS
--- call may come to use (liveness by demand, after C. Cifuentes, Reverse Compilation Techniques, 1994, section 5.4). So far
--- no word of the stack takes part: a procedure that pushes, pops or calls has further locations and rules.
+-- Which locations of a procedure are wanted before an instruction: those whose value a jump, a store, a division or
+-- a DOS call may come to use (liveness by demand, after C. Cifuentes, Reverse Compilation Techniques, 1994, section
+-- 5.4). So far no word of the stack takes part: a procedure that pushes, pops or calls has further locations and
+-- rules.
 use Rattle.std.specs.Prelude.{◌≡◌, ℕ, ◌==◌, Bool, true, false, not, ◌&&◌, ◌||◌, if◌then◌else◌, Option, Some, None}
 use Rattle.dcc_num.specs.declared.Width.{Width}
 use Rattle.dcc_num.specs.declared.Width.TheVariants.{Byte as byte_width, Word as word_width}
@@ -8,6 +9,7 @@ use Rattle.dcc_num.specs.declared.Reg.{Reg}
 use Rattle.dcc_num.specs.declared.Reg.TheVariants.{Ax, Cx, Dx, Bx}
 use Rattle.dcc_num.specs.declared.Half.{Half}
 use Rattle.dcc_num.specs.declared.Half.TheVariants.{Low, High}
+use Rattle.dcc_num.specs.declared.dos.TheConstants.{GETCHE, PUTC, GETCH, PUTS, EXIT}
 use Rattle.dcc_num.specs.declared.FlagName.{FlagName}
 use Rattle.dcc_num.specs.declared.FlagName.TheVariants.{Cf, Zf, Sf, Of}
 use Rattle.dcc_prog.specs.declared.image.Image.{Image}
@@ -171,7 +173,8 @@ moves to from location other = is_part location to && is_in_address_of other fro
 abbrev pub plain_makes : Plain → Location → Location → Bool
 plain_makes Cbw (half_of r half) from = (is_same_register r Ax && is_same_half half High) && is_al from
 plain_makes Cwd (half_of r half) from = is_same_register r Dx && is_half from Ax
-plain_makes Xlat (half_of r half) from = (is_same_register r Ax && is_same_half half Low) && (is_al from || is_half from Bx)
+plain_makes Xlat (half_of r half) from =
+    (is_same_register r Ax && is_same_half half Low) && (is_al from || is_half from Bx)
 plain_makes Cmc (flag_of Cf) from = is_flag Cf from
 plain_makes operation to from = false
 
@@ -225,9 +228,9 @@ is_dl location = false
 abbrev pub dos_uses : Option ℕ → Location → Bool
 dos_uses None location = false
 dos_uses (Some number) location =
-    if number == 0x02 then is_dl location
-    else if number == 0x09 then is_half location Dx
-    else if number == 0x4C then is_al location
+    if number == PUTC then is_dl location
+    else if number == PUTS then is_half location Dx
+    else if number == EXIT then is_al location
     else false
 
 -- a division uses what it divides
@@ -249,10 +252,13 @@ unary_uses operation a location =
 -- what an operation uses for a jump, a store, a division or a DOS call, whose number is given
 abbrev pub uses : Op → Option ℕ → Location → Bool
 uses (AluOp operation a b) number location =
-    (is_in_memory a && writes_operand operation) && (is_read location a || (is_read location b || (takes_carry operation && is_flag Cf location)))
+    (is_in_memory a && writes_operand operation)
+    && (is_read location a || (is_read location b || (takes_carry operation && is_flag Cf location)))
 uses (UnaryOp operation a) number location = unary_uses operation a location
 uses (ShiftOp operation a by_cl) number location =
-    is_in_memory a && (is_read location a || ((is_by_cl operation by_cl && is_cl location) || (is_turn operation && is_flag Cf location)))
+    is_in_memory a
+    && (is_read location a
+    || ((is_by_cl operation by_cl && is_cl location) || (is_turn operation && is_flag Cf location)))
 uses (Mov to from) number location = is_in_memory to && (is_in_address_of location to || is_read location from)
 uses (Xchg a b) number location = (is_in_memory a || is_in_memory b) && (is_read location a || is_read location b)
 uses (Branch condition target) number location = condition_uses condition location
@@ -269,7 +275,7 @@ uses op number location = false
 -- 01h and 08h give a byte
 abbrev pub gives_byte : Option ℕ → Bool
 gives_byte None = false
-gives_byte (Some number) = (number == 0x01) || (number == 0x08)
+gives_byte (Some number) = (number == GETCHE) || (number == GETCH)
 
 abbrev pub surely_writes_half : Op → Option ℕ → Reg → Half → Bool
 surely_writes_half Int21 number r half = gives_byte number && writes_half Int21 r half
@@ -277,7 +283,8 @@ surely_writes_half op number r half = writes_half op r half
 
 -- a shift or rotate by CL leaves the flags where the count is 0
 abbrev pub surely_writes_flag : Op → FlagName → Bool
-surely_writes_flag (ShiftOp operation a by_cl) flag = writes_flag (ShiftOp operation a by_cl) flag && not (is_by_cl operation by_cl)
+surely_writes_flag (ShiftOp operation a by_cl) flag =
+    writes_flag (ShiftOp operation a by_cl) flag && not (is_by_cl operation by_cl)
 surely_writes_flag op flag = writes_flag op flag
 
 abbrev pub surely_writes : Op → Option ℕ → Location → Bool
@@ -294,6 +301,22 @@ pub record HasOperation (image : Image) (layout : Layout) (entry at : ℕ) (op :
 
 -- the least relation: the location is wanted before the instruction at the offset
 pub data IsWanted (image : Image) (layout : Layout) (entry : ℕ) : ℕ → Location → Type 0 where
-  used : {at : ℕ} {location : Location} {op : Op} {number : Option ℕ} → HasOperation image layout entry at op number → uses op number location ≡ true → IsWanted image layout entry at location
-  made_of : {at next : ℕ} {location to : Location} {op : Op} {number : Option ℕ} → HasOperation image layout entry at op number → IsEdge image layout entry at next → makes op to location ≡ true → IsWanted image layout entry next to → IsWanted image layout entry at location
-  left : {at next : ℕ} {location : Location} {op : Op} {number : Option ℕ} → HasOperation image layout entry at op number → IsEdge image layout entry at next → surely_writes op number location ≡ false → IsWanted image layout entry next location → IsWanted image layout entry at location
+  used :
+      {at : ℕ} {location : Location} {op : Op} {number : Option ℕ}
+      → HasOperation image layout entry at op number
+      → uses op number location ≡ true
+      → IsWanted image layout entry at location
+  made_of :
+      {at next : ℕ} {location to : Location} {op : Op} {number : Option ℕ}
+      → HasOperation image layout entry at op number
+      → IsEdge image layout entry at next
+      → makes op to location ≡ true
+      → IsWanted image layout entry next to
+      → IsWanted image layout entry at location
+  left :
+      {at next : ℕ} {location : Location} {op : Op} {number : Option ℕ}
+      → HasOperation image layout entry at op number
+      → IsEdge image layout entry at next
+      → surely_writes op number location ≡ false
+      → IsWanted image layout entry next location
+      → IsWanted image layout entry at location

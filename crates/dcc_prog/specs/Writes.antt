@@ -1,5 +1,5 @@
--- Which halves of the word registers and which flags an operation may write (8086 Family User's Manual, table 2-21). What
--- it doesn't write stays as it was.
+-- Which halves of the word registers and which flags an operation may write (8086 Family User's Manual, table
+-- 2-21). What it doesn't write stays as it was.
 use Rattle.std.specs.Prelude.{◌==◌, Bool, true, false, ◌&&◌, ◌||◌}
 use Rattle.dcc_num.specs.declared.Width.{Width}
 use Rattle.dcc_num.specs.declared.Width.TheVariants.{Byte as byte_width, Word as word_width}
@@ -64,7 +64,8 @@ plain_writes_half Cwd r half = is_same_register r Dx
 plain_writes_half Xlat r half = is_same_register r Ax && is_same_half half Low
 plain_writes_half operation r half = false
 
--- the operation may write that half of the register; a CALL may write all, for its procedure does, and INT 21h writes AL
+-- the operation may write that half of the register; a CALL may write all, for its procedure does, and INT 21h
+-- writes AL
 abbrev pub writes_half : Op → Reg → Half → Bool
 writes_half (AluOp operation a b) r half = writes_operand operation && is_half_of r half a
 writes_half (UnaryOp operation a) r half = unary_writes_half operation a r half

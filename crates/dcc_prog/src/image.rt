@@ -17,7 +17,10 @@ pub struct Image {
     pub sp: u16,
 }
 
-/// The segment at which DOS loads an image, in paragraphs of 16 bytes.
+/// The segment of the program prefix, in paragraphs of 16 bytes (Microsoft MS-DOS Programmer's Reference).
+pub const PREFIX_SEGMENT: u16 = 0x0100;
+
+/// The segment at which DOS loads an image: after the 256 bytes of the prefix.
 pub const LOAD_SEGMENT: u16 = 0x0110;
 
 impl Image {

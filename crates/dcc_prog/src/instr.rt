@@ -1,6 +1,13 @@
 //! Instructions, in the terms of the 8086 Family User's Manual, table 2-21.
 
-use dcc_num::{Half, Reg, Width};
+ghost use Rattle.std.specs.Prelude.{◌≡◌};
+ghost use Rattle.dcc_prog.specs.Construct.{is_segment};
+ghost use Rattle.dcc_prog.specs.Layout.{is_control};
+ghost use Rattle.dcc_prog.specs.Machine.{operand_width};
+ghost use Rattle.dcc_prog.specs.Operations.{holds};
+ghost use Rattle.dcc_prog.specs.Trail.{next_of};
+
+use dcc_num::{Flags, Half, Reg, Width};
 
 /// An effective address in memory: the sum of its parts, modulo 65536.
 #[derive(Clone, Copy, PartialEq, Eq, Debug)]
@@ -20,12 +27,32 @@ pub enum Operand {
     Word(Reg),
     /// A byte register: one half of AX, CX, DX or BX.
     Byte(Reg, Half),
-    /// A segment register by its number: 0 ES, 1 CS, 2 SS, 3 DS.
+    /// A segment register by its number: `ES`, `CS`, `SS` or `DS`.
     Seg(u8),
     /// A byte or a word in memory.
     Mem(Width, Ea),
     /// A constant; one of width Byte is below 256.
     Const(Width, u16),
+}
+
+impl Operand {
+    /// The number of bits that the operand has; a segment register has those of a word.
+    pub fn width(self) -> Width
+        ensures { result ≡ operand_width self }
+    {
+        match self {
+            Operand::Word(_) | Operand::Seg(_) => Width::Word,
+            Operand::Byte(..) => Width::Byte,
+            Operand::Mem(width, _) | Operand::Const(width, _) => width,
+        }
+    }
+
+    /// Whether the operand is a segment register.
+    pub fn is_segment(self) -> bool
+        ensures { result ≡ is_segment self }
+    {
+        matches!(self, Operand::Seg(_))
+    }
 }
 
 /// An operation on two operands.
@@ -100,6 +127,31 @@ pub enum Cond {
     G,
 }
 
+impl Cond {
+    /// Whether the condition holds of the flags.
+    pub fn holds(self, flags: Flags) -> bool
+        ensures { result ≡ holds self flags }
+    {
+        let less = flags.sf != flags.of;
+        match self {
+            Cond::O => flags.of,
+            Cond::No => !flags.of,
+            Cond::B => flags.cf,
+            Cond::Ae => !flags.cf,
+            Cond::Z => flags.zf,
+            Cond::Nz => !flags.zf,
+            Cond::Be => flags.cf || flags.zf,
+            Cond::A => !(flags.cf || flags.zf),
+            Cond::S => flags.sf,
+            Cond::Ns => !flags.sf,
+            Cond::L => less,
+            Cond::Ge => !less,
+            Cond::Le => flags.zf || less,
+            Cond::G => !(flags.zf || less),
+        }
+    }
+}
+
 /// An operation without operands.
 #[derive(Clone, Copy, PartialEq, Eq, Debug)]
 pub enum Plain {
@@ -113,6 +165,15 @@ pub enum Plain {
     Cli,
     Sti,
     Cld,
+}
+
+impl Plain {
+    /// Whether the operation is CLI, STI or CLD, which change a flag that is not modelled.
+    pub fn is_control(self) -> bool
+        ensures { result ≡ is_control self }
+    {
+        matches!(self, Plain::Cli | Plain::Sti | Plain::Cld)
+    }
 }
 
 /// An operation with its operands. Targets are absolute offsets in the code segment.
@@ -165,4 +226,13 @@ pub struct Instr {
     pub op: Op,
     /// The length in bytes: opcode, ModRM byte, displacement and constants.
     pub len: u8,
+}
+
+impl Instr {
+    /// The offset just after the instruction that stands at an offset; it wraps at 65536.
+    pub fn next_of(self, at: u16) -> u16
+        ensures { result ≡ next_of at self }
+    {
+        at.wrapping_add(u16::from(self.len))
+    }
 }

@@ -6,12 +6,14 @@ pub mod image;
 pub mod instr;
 pub mod procedure;
 pub mod refusal;
+pub mod segment;
 
 pub use frame::{Cell, Cells, Exposed, Frame, Heights, Program};
-pub use image::{Image, LOAD_SEGMENT};
+pub use image::{Image, LOAD_SEGMENT, PREFIX_SEGMENT};
 pub use instr::{Alu, Cond, Ea, Instr, Op, Operand, Plain, Shift, Unary};
 pub use procedure::{Layout, Node, Proc};
-pub use refusal::{LimitName, Refusal};
+pub use refusal::{LimitName, Refusal, construct};
+pub use segment::{CS, DS, ES, SS};
 
 #[cfg(test)]
 mod tests;

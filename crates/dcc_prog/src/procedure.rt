@@ -36,9 +36,9 @@ pub struct Layout {
     pub lo: u16,
     /// The offset in the data segment just above the stack.
     pub hi: u16,
-    /// The offset in the code segment just behind the prelude.
+    /// The offset in the code segment just after the prelude.
     pub start_ip: u16,
-    /// The offset in the code segment just behind the code.
+    /// The offset in the code segment just after the code.
     pub code_end: u32,
     /// The word registers after the prelude, by number.
     pub regs: [u16; 8],

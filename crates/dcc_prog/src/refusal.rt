@@ -2,6 +2,50 @@
 
 use std::alloc::{AllocError, AllocFailed};
 
+/// What each number of a construct says. The first is told at the entry, the others at an instruction that is reached.
+/// The kinds 6 to 10 are told by no program yet.
+pub mod construct {
+    /// No layout of the small memory model holds of the image.
+    pub const NO_LAYOUT: u8 = 1;
+
+    /// No instruction of the table lies there wholly in the code; or it moves a segment register, or is CLI, STI or
+    /// CLD, after the prelude; or it uses SP or BP in a form that no frame has.
+    pub const OUTSIDE: u8 = 2;
+
+    /// A jump through a register or memory that is no jump through a table; or one through a table of which trails tell
+    /// no number of entries or two numbers, or which does not lie wholly in the code.
+    pub const INDIRECT_JUMP: u8 = 3;
+
+    /// A call through a register or memory.
+    pub const INDIRECT_CALL: u8 = 4;
+
+    /// INT 21h where AH is not known, has two values, or has another number than the five.
+    pub const DOS_NUMBER: u8 = 5;
+
+    /// The stack has two heights there, falls above the procedure's entry or its saved BP, or is not empty at a RET;
+    /// or two RETs of the procedure remove different sizes; or the height is above 32,766.
+    pub const HEIGHTS: u8 = 6;
+
+    /// A frame is accessed outside of its arguments and of the bytes between SP and BP; or its bytes lie in memory
+    /// where the stack is apart from the data, or where the procedure sets up no BP.
+    pub const FRAME_ACCESS: u8 = 7;
+
+    /// A call finds fewer bytes in its own frame than the callee's arguments take.
+    pub const ARGUMENTS_SHORT: u8 = 8;
+
+    /// The callee changes or exposes an argument whose bytes the caller still wants after the call.
+    pub const ARGUMENT_REUSED: u8 = 9;
+
+    /// The entry of a procedure with several results.
+    pub const SEVERAL_RESULTS: u8 = 10;
+
+    /// A RET in the entry procedure, or a call of it.
+    pub const ENTRY_RETURN: u8 = 11;
+
+    /// A division whose upper half is neither 0 nor the sign of the lower half.
+    pub const DIVISION: u8 = 12;
+}
+
 /// A count that has a greatest number.
 #[derive(Clone, Copy, PartialEq, Eq, Debug)]
 pub enum LimitName {
@@ -22,7 +66,7 @@ pub enum LimitName {
 /// Why a program is not decompiled.
 #[derive(Clone, Copy, PartialEq, Eq, Debug)]
 pub enum Refusal {
-    /// A construct of the kind, 1 to 12, stands at the offset in the code segment.
+    /// A construct stands at the offset in the code segment; `kind` is its number in [`construct`].
     Construct { kind: u8, at: u16 },
     /// A count is above its greatest number.
     Limit { what: LimitName, count: u32 },

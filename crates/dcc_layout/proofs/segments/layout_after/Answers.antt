@@ -4,8 +4,8 @@ use Rattle.dcc_prog.specs.Layout.{lowest_of_stack}
 use Rattle.dcc_prog.proofs.MzImageLaws.{length-loaded, code_len-loaded}
 use Rattle.dcc_layout.proofs.Casts.{same-number}
 use Rattle.dcc_layout.proofs.Values.{values-of_layout, layout-of_values}
-use Rattle.dcc_layout.proofs.segments.layout_behind.Goals as goal
-use Rattle.dcc_layout.proofs.segments.layout_behind.Goals.{then-lo-hi-via-then-lo-hi, then-lo-hi-via-else-lo-hi+then-from-code_end}
+use Rattle.dcc_layout.proofs.segments.layout_after.Goals as goal
+use Rattle.dcc_layout.proofs.segments.layout_after.Goals.{then-lo-hi-via-then-lo-hi, then-lo-hi-via-else-lo-hi+then-from-code_end}
 
 pub returns-then-ds-image-clause-none : goal.returns-then-ds-image-clause-none
 returns-then-ds-image-clause-none c e layout h =

@@ -1,0 +1,491 @@
+-- Small codes, tried against the definitions that no body meets yet: jumps through a table, prepared divisions, frame
+-- forms, and the constructs and counts that are told of them. Numbers stand here as they are printed.
+use Rattle.std.proofs.Common.{◌≡◌, ◌⊎◌, inl, inr, ◌<◌, ◌≤◌, ◌^◌, ◌+◌, ℕ, zero, suc, Bool, true, false, List, [], ◌∷◌, ◌++◌, length, map, Contains, Option, Some, None, refl, sym, ◌∙◌, subst, arith}
+use Rattle.std.specs.List.{slice_index_or}
+use Rattle.dcc_num.specs.declared.Width.TheVariants.{Byte as byte_width, Word as word_width}
+use Rattle.dcc_num.specs.declared.Reg.TheVariants.{Ax, Bx, Sp, Bp}
+use Rattle.dcc_num.specs.declared.dos.TheConstants.{GETCHE, PUTC, GETCH, PUTS, EXIT}
+use Rattle.dcc_num.specs.Numbers.{no_flags, sign_extension_of, signed_of}
+use Rattle.dcc_prog.specs.declared.segment.TheConstants.{ES, CS, SS, DS}
+use Rattle.dcc_prog.specs.declared.refusal.construct.TheConstants.{NO_LAYOUT, OUTSIDE, INDIRECT_JUMP, INDIRECT_CALL, DOS_NUMBER, HEIGHTS, FRAME_ACCESS, ARGUMENTS_SHORT, ARGUMENT_REUSED, SEVERAL_RESULTS, ENTRY_RETURN, DIVISION}
+use Rattle.dcc_prog.specs.declared.refusal.LimitName.TheVariants.{Entries}
+use Rattle.dcc_prog.specs.declared.image.Image.{Image}
+use Rattle.dcc_prog.specs.declared.procedure.Layout.{Layout}
+use Rattle.dcc_prog.specs.declared.instr.Alu.TheVariants.{Add}
+use Rattle.dcc_prog.specs.declared.instr.Unary.TheVariants.{Idiv}
+use Rattle.dcc_prog.specs.declared.instr.Plain.TheVariants.{Cwd}
+use Rattle.dcc_prog.specs.declared.instr.Operand.TheVariants.{Word, Mem, Const}
+use Rattle.dcc_prog.specs.declared.instr.Op.{Op}
+use Rattle.dcc_prog.specs.declared.instr.Op.TheVariants.{Alu as AluOp, Unary as UnaryOp, Mov, Push, Pop, Plain as PlainOp, Table, Call, Ret, Int21}
+use Rattle.dcc_prog.specs.Bytes.{word_at}
+use Rattle.dcc_prog.specs.Code.{code_of}
+use Rattle.dcc_prog.specs.Table.{table, instruction_at}
+use Rattle.dcc_prog.specs.Trail.{StandsAt, known_ah, table_number, successors, IsTrail, IsEdge, IsSolePredecessor, start}
+use Rattle.dcc_prog.specs.FrameForm.{is_framed, is_frame_form}
+use Rattle.dcc_prog.specs.Prepared.{prepares, keeps_dividend, IsPrepared, nearest, further}
+use Rattle.dcc_prog.specs.Construct.{HasNumber, HasAh, IsOfTrails, foreign, indirect_jump, formless, no_number, no_table, indirect_call, dos_number, not_known, other_number, entry_return, returns, calls, division}
+use Rattle.dcc_prog.specs.Limit.{IsAbove, entries}
+use Rattle.dcc_prog.proofs.MzImageLaws.{vec_of}
+
+-- Numbers.
+
+construct-numbers :
+    NO_LAYOUT ∷ OUTSIDE ∷ INDIRECT_JUMP ∷ INDIRECT_CALL ∷ DOS_NUMBER ∷ HEIGHTS ∷ FRAME_ACCESS ∷ ARGUMENTS_SHORT
+    ∷ ARGUMENT_REUSED ∷ SEVERAL_RESULTS ∷ ENTRY_RETURN ∷ DIVISION ∷ []
+    ≡ 1 ∷ 2 ∷ 3 ∷ 4 ∷ 5 ∷ 6 ∷ 7 ∷ 8 ∷ 9 ∷ 10 ∷ 11 ∷ 12 ∷ []
+construct-numbers = refl
+
+segment-numbers : ES ∷ CS ∷ SS ∷ DS ∷ [] ≡ 0 ∷ 1 ∷ 2 ∷ 3 ∷ []
+segment-numbers = refl
+
+dos-numbers : GETCHE ∷ PUTC ∷ GETCH ∷ PUTS ∷ EXIT ∷ [] ≡ 0x01 ∷ 0x02 ∷ 0x08 ∷ 0x09 ∷ 0x4C ∷ []
+dos-numbers = refl
+
+-- Images: a prelude of five bytes, which loads DS, then the code, which begins at offset 5.
+
+abbrev image_of : (code : List ℕ) → length code < 2 ^ 62 → Image
+image_of code few = record {
+  bytes = vec_of (0xB8 ∷ 0x11 ∷ 0x01 ∷ 0x8E ∷ 0xD8 ∷ code) (omega (arith, few));
+  code_len = 5 + length code;
+  cs = 0x0110;
+  ip = 0;
+  ss = 0x0111;
+  sp = 0x0100;
+}
+
+abbrev layout_of : List ℕ → Layout
+layout_of code = record {
+  ds = 0x0111;
+  delta = 0;
+  lo = 0;
+  hi = 256;
+  start_ip = 5;
+  code_end = 5 + length code;
+  regs = 0x0111 ∷ 0 ∷ 0 ∷ 0 ∷ 0x0100 ∷ 0 ∷ 0 ∷ 0 ∷ [];
+  flags = no_flags;
+}
+
+-- Places in lists.
+
+first : (x : ℕ) (xs : List ℕ) → Contains (x ∷ xs) x
+first x xs = (0, omega arith, refl)
+
+second : (x y : ℕ) (xs : List ℕ) → Contains (x ∷ y ∷ xs) y
+second x y xs = (1, omega arith, refl)
+
+only-at : (x y k : ℕ) → k < 1 → slice_index_or (x ∷ []) k y ≡ y → y ≡ x
+only-at x y zero few is = sym is
+only-at x y (suc k) few is = absurd (omega (arith, few))
+
+only : (x y : ℕ) → Contains (x ∷ []) y → y ≡ x
+only x y has = only-at x y has.0 has.1 has.2
+
+same : (n : ℕ) → n ≤ n
+same n = omega arith
+
+-- Jumps through a table.
+
+-- 0008 cmp bx,3; 000B ja 0026; 000D shl bx,1; 000F jmp cs:[bx+002A]; four arms, an end, and the table
+abbrev cases : List ℕ
+cases =
+    0x83 ∷ 0xFB ∷ 0x03 ∷ 0x77 ∷ 0x19 ∷ 0xD1 ∷ 0xE3 ∷ 0x2E ∷ 0xFF ∷ 0xA7 ∷ 0x2A ∷ 0x00
+    ∷ 0xB0 ∷ 0x01 ∷ 0xEB ∷ 0x0A ∷ 0xB0 ∷ 0x02 ∷ 0xEB ∷ 0x06 ∷ 0xB0 ∷ 0x03 ∷ 0xEB ∷ 0x02 ∷ 0xB0 ∷ 0x04
+    ∷ 0xB4 ∷ 0x4C ∷ 0xCD ∷ 0x21 ∷ 0xB0 ∷ 0x09 ∷ 0xEB ∷ 0xF8
+    ∷ 0x14 ∷ 0x00 ∷ 0x18 ∷ 0x00 ∷ 0x1C ∷ 0x00 ∷ 0x20 ∷ 0x00 ∷ []
+
+-- 0005 mov bx,0
+abbrev switch : List ℕ
+switch = 0xBB ∷ 0x00 ∷ 0x00 ∷ cases
+
+abbrev switch_image : Image
+switch_image = image_of switch (omega arith)
+
+switch-number : table_number switch_image (layout_of switch) Bx (0x0D ∷ 0x0B ∷ 0x08 ∷ 0x05 ∷ []) ≡ Some 3
+unfolding instruction_at table code_of word_at sign_extension_of signed_of vec_of
+switch-number = refl
+
+switch-goes_on :
+    successors switch_image (layout_of switch) (0x0F ∷ 0x0D ∷ 0x0B ∷ 0x08 ∷ 0x05 ∷ [])
+    ≡ 0x14 ∷ 0x18 ∷ 0x1C ∷ 0x20 ∷ []
+unfolding instruction_at table code_of word_at sign_extension_of signed_of vec_of
+switch-goes_on = refl
+
+other_register-none : table_number switch_image (layout_of switch) Ax (0x0D ∷ 0x0B ∷ 0x08 ∷ 0x05 ∷ []) ≡ None
+unfolding instruction_at table code_of word_at sign_extension_of signed_of vec_of
+other_register-none = refl
+
+-- 0005 je 000D; 0007 nop: a second way to the doubling
+abbrev two_ways : List ℕ
+two_ways = 0x74 ∷ 0x06 ∷ 0x90 ∷ cases
+
+abbrev two_ways_image : Image
+two_ways_image = image_of two_ways (omega arith)
+
+two_ways-construct : IsOfTrails 3 two_ways_image (layout_of two_ways) 0x000F
+unfolding instruction_at table code_of word_at sign_extension_of signed_of vec_of
+two_ways-construct =
+    let trail : IsTrail two_ways_image (layout_of two_ways) 5 (0x0F ∷ 0x0D ∷ 0x05 ∷ []) =
+    (first 0x0F [], (first 0x0D (0x07 ∷ []), refl)) in
+    record {
+      entry = 5;
+      is_entry = start;
+      node = record { before = 0x0D ∷ 0x05 ∷ []; trail = trail };
+      stands = formless (no_number (record {
+        before = 0x0D ∷ 0x05 ∷ [];
+        trail = trail;
+        register = Bx;
+        table = 0x2A;
+        stands = (record { op = Table Bx 0x2A; len = 5 }, refl, refl);
+        number_is = refl;
+      }));
+    }
+
+-- 0005 cmp bx,3; 0008 ja 000F; 000A shl bx,1; 000C jmp cs:[bx+0011], where the code ends
+abbrev cut : List ℕ
+cut = 0x83 ∷ 0xFB ∷ 0x03 ∷ 0x77 ∷ 0x05 ∷ 0xD1 ∷ 0xE3 ∷ 0x2E ∷ 0xFF ∷ 0xA7 ∷ 0x11 ∷ 0x00 ∷ []
+
+abbrev cut_image : Image
+cut_image = image_of cut (omega arith)
+
+cut-construct : IsOfTrails 3 cut_image (layout_of cut) 0x000C
+unfolding instruction_at table code_of word_at sign_extension_of signed_of vec_of
+cut-construct =
+    let trail : IsTrail cut_image (layout_of cut) 5 (0x0C ∷ 0x0A ∷ 0x08 ∷ 0x05 ∷ []) =
+    (first 0x0C [], (second 0x0F 0x0A [], (first 0x08 [], refl))) in
+    let stands : StandsAt cut_image (layout_of cut) 0x0C (Table Bx 0x11) =
+    (record { op = Table Bx 0x11; len = 5 }, refl, refl) in
+    record {
+      entry = 5;
+      is_entry = start;
+      node = record { before = 0x0A ∷ 0x08 ∷ 0x05 ∷ []; trail = trail };
+      stands = formless (no_table (record {
+        before = 0x0A ∷ 0x08 ∷ 0x05 ∷ [];
+        trail = trail;
+        register = Bx;
+        table = 0x11;
+        stands = stands;
+        number_is = refl;
+      }) (omega arith) (record { register = Bx; table = 0x11; stands = stands; outside = omega arith }));
+    }
+
+-- 0005 cmp bx,0100h; 0009 ja 0012; 000B shl bx,1; 000D jmp cs:[bx+0000]
+abbrev many : List ℕ
+many = 0x81 ∷ 0xFB ∷ 0x00 ∷ 0x01 ∷ 0x77 ∷ 0x07 ∷ 0xD1 ∷ 0xE3 ∷ 0x2E ∷ 0xFF ∷ 0xA7 ∷ 0x00 ∷ 0x00 ∷ []
+
+abbrev many_image : Image
+many_image = image_of many (omega arith)
+
+many-limit : IsAbove many_image (layout_of many) Entries 257
+unfolding instruction_at table code_of word_at sign_extension_of signed_of vec_of
+many-limit = entries {at = 0x0D} start (record {
+    before = 0x0B ∷ 0x09 ∷ 0x05 ∷ [];
+    trail = (first 0x0D [], (second 0x12 0x0B [], (first 0x09 [], refl)));
+    register = Bx;
+    table = 0;
+    stands = (record { op = Table Bx 0; len = 5 }, refl, refl);
+    number_is = refl;
+  }) (same 256)
+
+-- Indirect jumps and calls.
+
+-- 0005 call [bx]
+abbrev call_through : List ℕ
+call_through = 0xFF ∷ 0x17 ∷ []
+
+call_through-construct : IsOfTrails 4 (image_of call_through (omega arith)) (layout_of call_through) 0x0005
+unfolding code_of vec_of
+call_through-construct = record {
+  entry = 5;
+  is_entry = start;
+  node = record { before = []; trail = refl };
+  stands = indirect_call (inl (record { inside = same 7; opcode = refl; reg_is = refl }));
+}
+
+-- 0005 jmp [bx]
+abbrev jump_through : List ℕ
+jump_through = 0xFF ∷ 0x27 ∷ []
+
+jump_through-construct : IsOfTrails 3 (image_of jump_through (omega arith)) (layout_of jump_through) 0x0005
+unfolding code_of vec_of
+jump_through-construct = record {
+  entry = 5;
+  is_entry = start;
+  node = record { before = []; trail = refl };
+  stands = indirect_jump (inl (record { inside = same 7; opcode = refl; reg_is = refl }));
+}
+
+-- Numbers of DOS calls.
+
+-- 0005 mov ah,[0000]; 0009 int 21h
+abbrev unknown_number : List ℕ
+unknown_number = 0x8A ∷ 0x26 ∷ 0x00 ∷ 0x00 ∷ 0xCD ∷ 0x21 ∷ []
+
+abbrev unknown_image : Image
+unknown_image = image_of unknown_number (omega arith)
+
+unknown_number-construct : IsOfTrails 5 unknown_image (layout_of unknown_number) 0x0009
+unfolding instruction_at table code_of word_at sign_extension_of signed_of vec_of
+unknown_number-construct =
+    let trail : IsTrail unknown_image (layout_of unknown_number) 5 (0x09 ∷ 0x05 ∷ []) = (first 0x09 [], refl) in
+    record {
+      entry = 5;
+      is_entry = start;
+      node = record { before = 0x05 ∷ []; trail = trail };
+      stands = dos_number (not_known (record {
+        before = 0x05 ∷ [];
+        trail = trail;
+        stands = (record { op = Int21; len = 2 }, refl, refl);
+        ah_is = refl;
+      }));
+    }
+
+-- 0005 mov ah,03h; 0007 int 21h
+abbrev third_call : List ℕ
+third_call = 0xB4 ∷ 0x03 ∷ 0xCD ∷ 0x21 ∷ []
+
+abbrev third_image : Image
+third_image = image_of third_call (omega arith)
+
+third_call-construct : IsOfTrails 5 third_image (layout_of third_call) 0x0007
+unfolding instruction_at table code_of word_at sign_extension_of signed_of vec_of
+third_call-construct =
+    let trail : IsTrail third_image (layout_of third_call) 5 (0x07 ∷ 0x05 ∷ []) = (first 0x07 [], refl) in
+    record {
+      entry = 5;
+      is_entry = start;
+      node = record { before = 0x05 ∷ []; trail = trail };
+      stands = dos_number (other_number {number = 3} (record {
+        before = 0x05 ∷ [];
+        trail = trail;
+        stands = (record { op = Int21; len = 2 }, refl, refl);
+        ah_is = refl;
+      }) refl);
+    }
+
+-- 0005 mov ax,4C00h; 0008 int 21h
+abbrev exit : List ℕ
+exit = 0xB8 ∷ 0x00 ∷ 0x4C ∷ 0xCD ∷ 0x21 ∷ []
+
+exit-ends : successors (image_of exit (omega arith)) (layout_of exit) (0x08 ∷ 0x05 ∷ []) ≡ []
+unfolding instruction_at table code_of word_at sign_extension_of signed_of vec_of
+exit-ends = refl
+
+-- Returns from the entry procedure, and calls of it.
+
+-- 0005 ret
+abbrev ret : List ℕ
+ret = 0xC3 ∷ []
+
+ret-construct : IsOfTrails 11 (image_of ret (omega arith)) (layout_of ret) 0x0005
+unfolding instruction_at table code_of word_at sign_extension_of signed_of vec_of
+ret-construct = record {
+  entry = 5;
+  is_entry = start;
+  node = record { before = []; trail = refl };
+  stands = entry_return (returns {count = 0} refl (record { op = Ret 0; len = 1 }, refl, refl));
+}
+
+-- 0005 call 0005
+abbrev again : List ℕ
+again = 0xE8 ∷ 0xFD ∷ 0xFF ∷ []
+
+again-construct : IsOfTrails 11 (image_of again (omega arith)) (layout_of again) 0x0005
+unfolding instruction_at table code_of word_at sign_extension_of signed_of vec_of
+again-construct = record {
+  entry = 5;
+  is_entry = start;
+  node = record { before = []; trail = refl };
+  stands = entry_return (calls (record { op = Call 5; len = 3 }, refl, refl));
+}
+
+-- Frame forms.
+
+-- 0005 push bp; 0006 mov bp,sp
+abbrev framed : List ℕ
+framed = 0x55 ∷ 0x8B ∷ 0xEC ∷ []
+
+-- 0005 mov bp,5
+abbrev bare : List ℕ
+bare = 0xBD ∷ 0x05 ∷ 0x00 ∷ []
+
+-- in a procedure that begins so, at an offset
+abbrev allowed : (code : List ℕ) → length code < 2 ^ 62 → ℕ → Op → Bool
+allowed code few at op = is_frame_form (image_of code few) (layout_of code) 5 at op
+
+-- [bp+4]
+abbrev argument : Op
+argument = Mov (Word Ax) (Mem word_width (record { base = Some Bp; index = None; disp = 4 }))
+
+framed-is : is_framed (image_of framed (omega arith)) (layout_of framed) 5 ≡ true
+unfolding instruction_at table code_of word_at sign_extension_of signed_of vec_of
+framed-is = refl
+
+bare-not : is_framed (image_of bare (omega arith)) (layout_of bare) 5 ≡ false
+unfolding instruction_at table code_of word_at sign_extension_of signed_of vec_of
+bare-not = refl
+
+-- some operations at offset 8: the first five are allowed in the framed procedure, of these two in the other
+abbrev operations : List Op
+operations =
+    Push (Word Ax)
+    ∷ AluOp Add (Word Sp) (Const word_width 2)
+    ∷ argument
+    ∷ Mov (Word Sp) (Word Bp)
+    ∷ Pop (Word Bp)
+    ∷ Push (Word Bp)
+    ∷ Mov (Word Bp) (Word Sp)
+    ∷ Mov (Word Bp) (Const word_width 5)
+    ∷ []
+
+framed-allows :
+    map (λ op. allowed framed (omega arith) 8 op) operations
+    ≡ true ∷ true ∷ true ∷ true ∷ true ∷ false ∷ false ∷ false ∷ []
+unfolding instruction_at table code_of word_at sign_extension_of signed_of vec_of
+framed-allows = refl
+
+bare-allows :
+    map (λ op. allowed bare (omega arith) 8 op) operations
+    ≡ true ∷ true ∷ false ∷ false ∷ false ∷ false ∷ false ∷ false ∷ []
+unfolding instruction_at table code_of word_at sign_extension_of signed_of vec_of
+bare-allows = refl
+
+frame-begins : allowed framed (omega arith) 5 (Push (Word Bp)) ≡ true
+unfolding instruction_at table code_of word_at sign_extension_of signed_of vec_of
+frame-begins = refl
+
+bare-construct : IsOfTrails 2 (image_of bare (omega arith)) (layout_of bare) 0x0005
+unfolding instruction_at table code_of word_at sign_extension_of signed_of vec_of
+bare-construct = record {
+  entry = 5;
+  is_entry = start;
+  node = record { before = []; trail = refl };
+  stands = foreign (record {
+    op = Mov (Word Bp) (Const word_width 5);
+    stands = (record { op = Mov (Word Bp) (Const word_width 5); len = 3 }, refl, refl);
+    foreign = refl;
+  });
+}
+
+-- Divisions.
+
+-- 0005 mov ax,1; 0008 mov bx,0; 000B idiv bx
+abbrev divides : List ℕ
+divides = 0xB8 ∷ 0x01 ∷ 0x00 ∷ 0xBB ∷ 0x00 ∷ 0x00 ∷ 0xF7 ∷ 0xFB ∷ []
+
+abbrev divides_image : Image
+divides_image = image_of divides (omega arith)
+
+first_edge : IsEdge divides_image (layout_of divides) 5 0x05 0x08
+unfolding instruction_at table code_of word_at sign_extension_of signed_of vec_of
+first_edge = record { before = []; trail = (first 0x08 [], refl) }
+
+second_edge : IsEdge divides_image (layout_of divides) 5 0x08 0x0B
+unfolding instruction_at table code_of word_at sign_extension_of signed_of vec_of
+second_edge = record { before = 0x05 ∷ []; trail = (first 0x0B [], (first 0x08 [], refl)) }
+
+move-of_ax : (op : Op) → StandsAt divides_image (layout_of divides) 0x05 op → op ≡ Mov (Word Ax) (Const word_width 1)
+unfolding instruction_at table code_of word_at sign_extension_of signed_of vec_of
+move-of_ax op stands = let found = stands.1 in let is = stands.2 in cc
+
+move-of_bx : (op : Op) → StandsAt divides_image (layout_of divides) 0x08 op → op ≡ Mov (Word Bx) (Const word_width 0)
+unfolding instruction_at table code_of word_at sign_extension_of signed_of vec_of
+move-of_bx op stands = let found = stands.1 in let is = stands.2 in cc
+
+prepared-not :
+    {at : ℕ} → IsPrepared divides_image (layout_of divides) 5 Idiv word_width at → (at ≡ 0x0B) ⊎ (at ≡ 0x08) → ⊥
+prepared-not (nearest {at} {from} {op} edge stands prepared) (inl e) =
+    let from_bx = edge.sole 0x08 (subst (λ n. IsEdge divides_image (layout_of divides) 5 0x08 n) (sym e) second_edge) in
+    let op_is = move-of_bx op (subst (λ n. StandsAt divides_image (layout_of divides) n op) (sym from_bx) stands) in
+    let clash : false ≡ true = subst (λ o. prepares Idiv word_width o ≡ true) op_is prepared in cc
+prepared-not (nearest {at} {from} {op} edge stands prepared) (inr e) =
+    let from_ax = edge.sole 0x05 (subst (λ n. IsEdge divides_image (layout_of divides) 5 0x05 n) (sym e) first_edge) in
+    let op_is = move-of_ax op (subst (λ n. StandsAt divides_image (layout_of divides) n op) (sym from_ax) stands) in
+    let clash : false ≡ true = subst (λ o. prepares Idiv word_width o ≡ true) op_is prepared in cc
+prepared-not (further {at} {from} {op} edge stands keeps prepared) (inl e) =
+    let from_bx = edge.sole 0x08 (subst (λ n. IsEdge divides_image (layout_of divides) 5 0x08 n) (sym e) second_edge) in
+    prepared-not prepared (inr (sym from_bx))
+prepared-not (further {at} {from} {op} edge stands keeps prepared) (inr e) =
+    let from_ax = edge.sole 0x05 (subst (λ n. IsEdge divides_image (layout_of divides) 5 0x05 n) (sym e) first_edge) in
+    let op_is = move-of_ax op (subst (λ n. StandsAt divides_image (layout_of divides) n op) (sym from_ax) stands) in
+    let clash : false ≡ true = subst (λ o. keeps_dividend Idiv word_width o ≡ true) op_is keeps in cc
+
+divides-construct : IsOfTrails 12 divides_image (layout_of divides) 0x000B
+unfolding instruction_at table code_of word_at sign_extension_of signed_of vec_of second_edge
+divides-construct = record {
+  entry = 5;
+  is_entry = start;
+  node = record { before = 0x08 ∷ 0x05 ∷ []; trail = second_edge.trail };
+  stands = division (record {
+    division = Idiv;
+    operand = Word Bx;
+    stands = (record { op = UnaryOp Idiv (Word Bx); len = 2 }, refl, refl);
+    divides = refl;
+    unprepared = λ p. prepared-not p (inl refl);
+  });
+}
+
+-- 0005 cwd; 0006 idiv bx; 0008 jmp 0008
+abbrev extends : List ℕ
+extends = 0x99 ∷ 0xF7 ∷ 0xFB ∷ 0xEB ∷ 0xFE ∷ []
+
+abbrev extends_image : Image
+extends_image = image_of extends (omega arith)
+
+abbrev onward : List ℕ → List ℕ
+onward trail = successors extends_image (layout_of extends) trail
+
+-- the three nodes
+abbrev IsPlace : ℕ → Type 0
+IsPlace at = (at ≡ 5) ⊎ ((at ≡ 6) ⊎ (at ≡ 8))
+
+after-five : (rest : List ℕ) → onward (5 ∷ rest) ≡ 6 ∷ []
+unfolding instruction_at table code_of word_at sign_extension_of signed_of vec_of
+after-five rest = refl
+
+after-six : (rest : List ℕ) → onward (6 ∷ rest) ≡ 8 ∷ []
+unfolding instruction_at table code_of word_at sign_extension_of signed_of vec_of
+after-six rest = refl
+
+after-eight : (rest : List ℕ) → onward (8 ∷ rest) ≡ 8 ∷ []
+unfolding instruction_at table code_of word_at sign_extension_of signed_of vec_of
+after-eight rest = refl
+
+-- where an offset goes on, by its place
+goes-by :
+    (from place at to : ℕ) (rest : List ℕ) → onward (place ∷ rest) ≡ to ∷ [] → from ≡ place
+    → Contains (onward (from ∷ rest)) at → at ≡ to
+goes-by from place at to rest after_is is has =
+    only to at (subst (λ xs. Contains xs at) after_is (subst (λ n. Contains (onward (n ∷ rest)) at) is has))
+
+place-next : (from at : ℕ) (rest : List ℕ) → IsPlace from → Contains (onward (from ∷ rest)) at → IsPlace at
+place-next from at rest place has =
+    elim place [
+      | inl a ↦ inr (inl (goes-by from 5 at 6 rest (after-five rest) a has))
+      | inr p ↦ elim p [
+        | inl b ↦ inr (inr (goes-by from 6 at 8 rest (after-six rest) b has))
+        | inr c ↦ inr (inr (goes-by from 8 at 8 rest (after-eight rest) c has))
+      ]
+    ]
+
+place-of : (before : List ℕ) (at : ℕ) → IsTrail extends_image (layout_of extends) 5 (at ∷ before) → IsPlace at
+place-of [] at trail = inl trail
+place-of (from ∷ rest) at trail = place-next from at rest (place-of rest from trail.1) trail.0
+
+sole-from : (other : ℕ) → IsEdge extends_image (layout_of extends) 5 other 6 → other ≡ 5
+sole-from other edge =
+    elim (place-of edge.before other edge.trail.1) [
+      | inl a ↦ a
+      | inr p ↦ elim p [
+        | inl b ↦ (let clash = goes-by other 6 6 8 edge.before (after-six edge.before) b edge.trail.0 in absurd (omega (arith, clash)))
+        | inr c ↦ (let clash = goes-by other 8 6 8 edge.before (after-eight edge.before) c edge.trail.0 in absurd (omega (arith, clash)))
+      ]
+    ]
+
+extends-prepared : IsPrepared extends_image (layout_of extends) 5 Idiv word_width 6
+unfolding instruction_at table code_of word_at sign_extension_of signed_of vec_of
+extends-prepared =
+    nearest (record {
+      edge = record { before = []; trail = (first 6 [], refl) };
+      sole = sole-from;
+      inner = λ e. omega (arith, e);
+    }) (record { op = PlainOp Cwd; len = 1 }, refl, refl) refl
