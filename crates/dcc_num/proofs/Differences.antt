@@ -8,7 +8,7 @@ use Rattle.dcc_num.specs.declared.Width.{Width}
 use Rattle.dcc_num.specs.declared.Width.TheVariants.{Byte, Word}
 use Rattle.dcc_num.specs.Numbers.{limit_of, half_of, has_sign, differ, result_flags, signed_of, fits_signed, wrapped_of, sign_extension_of}
 use Rattle.dcc_num.specs.Sum.{sum_of, difference_of}
-use Rattle.dcc_num.specs.Laws.{SumsAreExact, DifferencesAreExact, DifferencesCompare, SignExtensionsAreExact}
+use Rattle.dcc_num.specs.Laws.{TellsResult, IsOutside, TellsOverflow, SumsAreExact, DifferencesAreExact, DifferencesCompare, SignExtensionsAreExact}
 use Rattle.dcc_num.proofs.Steps.{signed_cases}
 
 -- a number of the width is in its range
@@ -50,9 +50,30 @@ sum_once : (w : Width) (a b k : ℕ) (x y z : ℤ) → Stands w a x → Stands w
 sum_once Byte a b k x y z p q r in_it = grind (arith, ints, p.value, q.value, r.value, r.range.low, r.range.high, in_it.low, in_it.high)
 sum_once Word a b k x y z p q r in_it = grind (arith, ints, p.value, q.value, r.value, r.range.low, r.range.high, in_it.low, in_it.high)
 
-below : (w : Width) (n : ℕ) → n % limit_of w < limit_of w
+pub below : (w : Width) (n : ℕ) → n % limit_of w < limit_of w
 below Byte n = omega arith
 below Word n = omega arith
+
+not_true : (b : Bool) → not b ≡ true → b ≡ false
+not_true true e = cc
+not_true false e = refl
+
+out_of_range : (w : Width) (z : ℤ) → fits_signed w z ≡ false → IsOutside w z
+unfolding fits_signed
+out_of_range Byte z e = grind (arith, ints)
+out_of_range Word z e = grind (arith, ints)
+
+-- the sign bit of an operand is the sign of its number
+sign_is : (w : Width) (a : ℕ) (z : ℤ) → a < limit_of w → Stands w a z → has_sign w a ≡ int_lt z (pos 0)
+sign_is Byte a z small p = grind (arith, ints, nat_tests, p.value, p.range.low, p.range.high)
+sign_is Word a z small p = grind (arith, ints, nat_tests, p.value, p.range.low, p.range.high)
+
+pub sign_of : (w : Width) (r : ℕ) → r < limit_of w → has_sign w r ≡ int_lt (signed_of w r) (pos 0)
+sign_of w r small = sign_is w r (signed_of w r) small (stands w r small)
+
+pub tells_result : (w : Width) (r : ℕ) (carry overflow : Bool) → r < limit_of w → TellsResult w r (result_flags w r carry overflow)
+unfolding result_flags
+tells_result w r carry overflow small = record { zero = refl; negative = sign_of w r small }
 
 not_false : (b : Bool) → not b ≡ false → b ≡ true
 not_false true e = refl
@@ -62,11 +83,23 @@ pub sums_exact : SumsAreExact
 unfolding sum_of result_flags
 sums_exact w a b carry first second = record {
   unsigned = whole w a b carry first second;
-  signed = λ e. sum_once w a b (from_bool carry) (signed_of w a) (signed_of w b) (signed_of w ((a + b + from_bool carry) % limit_of w))
-      (stands w a first) (stands w b second) (stands w ((a + b + from_bool carry) % limit_of w) (below w (a + b + from_bool carry)))
-      (in_range w (signed_of w a +ℤ signed_of w b +ℤ pos (from_bool carry)) (not_false (fits_signed w (signed_of w a +ℤ signed_of w b +ℤ pos (from_bool carry))) e));
+  signed = record {
+    within = λ e. sum_once w a b (from_bool carry) (signed_of w a) (signed_of w b) (signed_of w r)
+        (stands w a first) (stands w b second) (stands w r small) (in_range w exact (not_false (fits_signed w exact) e));
+    outside = λ e. out_of_range w exact (not_true (fits_signed w exact) e);
+  };
+  result = tells_result w r (nat_le (limit_of w) (a + b + from_bool carry)) (not (fits_signed w exact)) small;
 }
   where
+    exact : ℤ
+    exact = signed_of w a +ℤ signed_of w b +ℤ pos (from_bool carry)
+
+    r : ℕ
+    r = (a + b + from_bool carry) % limit_of w
+
+    small : r < limit_of w
+    small = below w (a + b + from_bool carry)
+
     whole : (w : Width) (a b : ℕ) (carry : Bool) → a < limit_of w → b < limit_of w
         → (a + b + from_bool carry) % limit_of w + from_bool (nat_le (limit_of w) (a + b + from_bool carry)) * limit_of w ≡ a + b + from_bool carry
     whole Byte a b true first second = grind (arith, nat_tests)
@@ -117,12 +150,24 @@ pub differences_exact : DifferencesAreExact
 unfolding difference_of result_flags
 differences_exact w a b borrow first second = record {
   unsigned = whole w a b borrow first second;
-  signed = λ e. difference_once w a b (from_bool borrow) (signed_of w a) (signed_of w b) (signed_of w ((a + limit_of w - (b + from_bool borrow)) % limit_of w))
-      (room borrow second) (stands w a first) (stands w b second)
-      (stands w ((a + limit_of w - (b + from_bool borrow)) % limit_of w) (below w (a + limit_of w - (b + from_bool borrow))))
-      (in_range w (signed_of w a -ℤ signed_of w b -ℤ pos (from_bool borrow)) (not_false (fits_signed w (signed_of w a -ℤ signed_of w b -ℤ pos (from_bool borrow))) e));
+  signed = record {
+    within = λ e. difference_once w a b (from_bool borrow) (signed_of w a) (signed_of w b) (signed_of w r)
+        (room borrow second) (stands w a first) (stands w b second) (stands w r small)
+        (in_range w exact (not_false (fits_signed w exact) e));
+    outside = λ e. out_of_range w exact (not_true (fits_signed w exact) e);
+  };
+  result = tells_result w r (nat_lt a (b + from_bool borrow)) (not (fits_signed w exact)) small;
 }
   where
+    exact : ℤ
+    exact = signed_of w a -ℤ signed_of w b -ℤ pos (from_bool borrow)
+
+    r : ℕ
+    r = (a + limit_of w - (b + from_bool borrow)) % limit_of w
+
+    small : r < limit_of w
+    small = below w (a + limit_of w - (b + from_bool borrow))
+
     room : (k : Bool) → b < limit_of w → b + from_bool k ≤ limit_of w
     room true h = omega arith
     room false h = omega arith
@@ -135,16 +180,6 @@ differences_exact w a b borrow first second = record {
     whole Word a b false first second = grind (arith, nat_tests)
 
 -- ---- comparisons
-
-out_of_range : (w : Width) (z : ℤ) → fits_signed w z ≡ false → (pos (half_of w) ≤ℤ z) ⊎ (z <ℤ neg_ℤ (pos (half_of w)))
-unfolding fits_signed
-out_of_range Byte z e = grind (arith, ints)
-out_of_range Word z e = grind (arith, ints)
-
--- the sign bit of an operand is the sign of its number
-sign_is : (w : Width) (a : ℕ) (z : ℤ) → a < limit_of w → Stands w a z → has_sign w a ≡ int_lt z (pos 0)
-sign_is Byte a z small p = grind (arith, ints, nat_tests, p.value, p.range.low, p.range.high)
-sign_is Word a z small p = grind (arith, ints, nat_tests, p.value, p.range.low, p.range.high)
 
 -- where the difference is out of the range the number that stands for the result has the other sign
 turned_sign : (w : Width) (a b : ℕ) (x y z : ℤ) → a < limit_of w → b < limit_of w → Stands w a x → Stands w b y → Stands w ((a + limit_of w - (b + 0)) % limit_of w) z

@@ -1,8 +1,12 @@
+pub mod Bits
 pub mod Differences
 pub mod Divisions
 pub mod Exact
+pub mod Negations
 pub mod Products
 pub mod Quotients
+pub mod ShiftFlags
 pub mod Shifts
 pub mod Steps
 pub mod Sums
+pub mod Turns

@@ -1,11 +1,13 @@
--- Laws of the operations: shifts and rotations as one step made many times, and sums, products and quotients as those of the signed and unsigned numbers.
-use Rattle.std.specs.Prelude.{◌≡◌, ℕ, zero, suc, ◌+◌, ◌*◌, ◌/◌, ◌%◌, ◌<◌, ◌≤◌, ◌==◌, nat_lt, Bool, false, not, ◌⊎◌, ℤ, pos, ◌+ℤ◌, ◌-ℤ◌, ◌*ℤ◌, int_lt, unsigned_abs, if◌then◌else◌, MatchOption}
+-- Laws of the operations: shifts and rotations as one step made many times, and sums, products and quotients as those
+-- of the signed and unsigned numbers.
+use Rattle.std.specs.Prelude.{◌≡◌, ℕ, zero, suc, ◌+◌, ◌-◌, ◌*◌, ◌/◌, ◌%◌, ◌<◌, ◌≤◌, ◌==◌, nat_lt, nat_le, Bool, true, false, not, ◌&&◌, ◌||◌, ◌⊎◌, ℤ, pos, neg_ℤ, ◌+ℤ◌, ◌-ℤ◌, ◌*ℤ◌, ◌<ℤ◌, ◌≤ℤ◌, int_lt, unsigned_abs, if◌then◌else◌, MatchOption}
 use Rattle.std.specs.Int.{from_bool}
 use Rattle.dcc_num.specs.declared.Width.{Width}
 use Rattle.dcc_num.specs.declared.Width.TheVariants.{Byte, Word}
 use Rattle.dcc_num.specs.declared.Flags.{Flags}
-use Rattle.dcc_num.specs.Numbers.{limit_of, half_of, has_sign, is_set, differ, signed_of, sign_extension_of, fits_signed}
-use Rattle.dcc_num.specs.Sum.{sum_of, difference_of}
+use Rattle.dcc_num.specs.Numbers.{bits_of, limit_of, half_of, has_sign, is_set, differ, signed_of, sign_extension_of, fits_signed, no_flags}
+use Rattle.dcc_num.specs.Sum.{sum_of, difference_of, negation_of, increment_of, decrement_of}
+use Rattle.dcc_num.specs.Shift.{left_shift_of, right_shift_of, left_turn_of, right_turn_of}
 use Rattle.dcc_num.specs.Product.{product_of, signed_product_of}
 use Rattle.dcc_num.specs.Quotient.{joined_of, signed_joined_of, division_of, signed_division_of}
 
@@ -46,25 +48,83 @@ IsRepeated step moved =
     (w : Width) (a count : ℕ) (was : Flags) → a < limit_of w
     → value_and_carry (moved w a count was) ≡ after_steps (step w) count (a, was.cf)
 
+-- RCL and RCR: where the flags hold only that carry
+abbrev pub only_carry : Bool → Flags
+only_carry carry = record no_flags { cf = carry }
+
+-- RCL, and RCR, on the operand and CF
+abbrev pub left_turn_step : Width → ℕ × Bool → ℕ × Bool
+left_turn_step w (a, carry) = value_and_carry (left_turn_of w a (only_carry carry))
+
+abbrev pub right_turn_step : Width → ℕ × Bool → ℕ × Bool
+right_turn_step w (a, carry) = value_and_carry (right_turn_of w a (only_carry carry))
+
+-- made once more than an operand has bits, a step gives every operand and CF back
+abbrev pub ComesRound : (Width → ℕ × Bool → ℕ × Bool) → Type 0
+ComesRound step = (w : Width) (a : ℕ) (carry : Bool) → a < limit_of w
+    → after_steps (step w) (bits_of w + 1) (a, carry) ≡ (a, carry)
+
+-- the second step gives back what the first one took
+abbrev pub Undoes : (Width → ℕ × Bool → ℕ × Bool) → (Width → ℕ × Bool → ℕ × Bool) → Type 0
+Undoes step other = (w : Width) (a : ℕ) (carry : Bool) → a < limit_of w
+    → other w (step w (a, carry)) ≡ (a, carry)
+
+-- ---- the flags of a result
+
+-- ZF tells that the result is 0, and SF that it is negative as a signed number
+pub record TellsResult (w : Width) (r : ℕ) (flags : Flags) : Type 0 where
+  pub zero : flags.zf ≡ (r == 0)
+  pub negative : flags.sf ≡ int_lt (signed_of w r) (pos 0)
+
+-- a number lies above the greatest, or below the least, signed number of the width
+abbrev pub IsOutside : Width → ℤ → Type 0
+IsOutside w z = (pos (half_of w) ≤ℤ z) ⊎ (z <ℤ neg_ℤ (pos (half_of w)))
+
+-- OF tells that this signed number lies outside the range; where it does not, the result stands for it
+pub record TellsOverflow (w : Width) (r : ℕ) (exact : ℤ) (flags : Flags) : Type 0 where
+  pub within : flags.of ≡ false → signed_of w r ≡ exact
+  pub outside : flags.of ≡ true → IsOutside w exact
+
 -- ---- sums and differences
 
--- r is the sum of the unsigned numbers, less 2 to the width where CF is set, and that of the signed numbers where OF is clear
+-- r is the sum of the unsigned numbers, less 2 to the width where CF is set
 pub record IsSum (w : Width) (a b : ℕ) (carry : Bool) (r : ℕ) (flags : Flags) : Type 0 where
   pub unsigned : r + from_bool flags.cf * limit_of w ≡ a + b + from_bool carry
-  pub signed : flags.of ≡ false → signed_of w r ≡ signed_of w a +ℤ signed_of w b +ℤ pos (from_bool carry)
+  pub signed : TellsOverflow w r (signed_of w a +ℤ signed_of w b +ℤ pos (from_bool carry)) flags
+  pub result : TellsResult w r flags
 
 abbrev pub SumsAreExact : Type 0
 SumsAreExact = (w : Width) (a b : ℕ) (carry : Bool) → a < limit_of w → b < limit_of w
     → IsSum w a b carry (sum_of w a b carry).0 (sum_of w a b carry).1
 
--- r is the difference of the unsigned numbers, and 2 to the width more where CF is set, and that of the signed numbers where OF is clear
+-- r is the difference of the unsigned numbers, and 2 to the width more where CF is set
 pub record IsDifference (w : Width) (a b : ℕ) (borrow : Bool) (r : ℕ) (flags : Flags) : Type 0 where
   pub unsigned : r + b + from_bool borrow ≡ a + from_bool flags.cf * limit_of w
-  pub signed : flags.of ≡ false → signed_of w r ≡ signed_of w a -ℤ signed_of w b -ℤ pos (from_bool borrow)
+  pub signed : TellsOverflow w r (signed_of w a -ℤ signed_of w b -ℤ pos (from_bool borrow)) flags
+  pub result : TellsResult w r flags
 
 abbrev pub DifferencesAreExact : Type 0
 DifferencesAreExact = (w : Width) (a b : ℕ) (borrow : Bool) → a < limit_of w → b < limit_of w
     → IsDifference w a b borrow (difference_of w a b borrow).0 (difference_of w a b borrow).1
+
+-- two lower halves by ADD, and then the upper ones by ADC: the halves of the sum of the whole numbers, less 2 to both
+-- widths where CF is set at last
+abbrev pub SumsCarryOn : Type 0
+SumsCarryOn = (w : Width) (high low high' low' : ℕ)
+    → high < limit_of w → low < limit_of w → high' < limit_of w → low' < limit_of w
+    → let lower = sum_of w low low' false in
+    let upper = sum_of w high high' lower.1.cf in
+    joined_of w upper.0 lower.0 + from_bool upper.1.cf * (limit_of w * limit_of w)
+    ≡ joined_of w high low + joined_of w high' low'
+
+-- the same by SUB and SBB
+abbrev pub DifferencesCarryOn : Type 0
+DifferencesCarryOn = (w : Width) (high low high' low' : ℕ)
+    → high < limit_of w → low < limit_of w → high' < limit_of w → low' < limit_of w
+    → let lower = difference_of w low low' false in
+    let upper = difference_of w high high' lower.1.cf in
+    joined_of w upper.0 lower.0 + joined_of w high' low'
+    ≡ joined_of w high low + from_bool upper.1.cf * (limit_of w * limit_of w)
 
 -- after a comparison CF tells a < b, ZF a = b, and SF beside OF a < b as signed numbers
 pub record Compares (w : Width) (a b : ℕ) (flags : Flags) : Type 0 where
@@ -75,6 +135,97 @@ pub record Compares (w : Width) (a b : ℕ) (flags : Flags) : Type 0 where
 abbrev pub DifferencesCompare : Type 0
 DifferencesCompare = (w : Width) (a b : ℕ) → a < limit_of w → b < limit_of w
     → Compares w a b (difference_of w a b false).1
+
+-- r and a make a whole turn, or both are 0. CF tells that a is not 0, and OF that a is the least signed number, which
+-- has no negative
+pub record IsNegation (w : Width) (a r : ℕ) (flags : Flags) : Type 0 where
+  pub whole : r + a ≡ from_bool flags.cf * limit_of w
+  pub carry : flags.cf ≡ not (a == 0)
+  pub overflow : flags.of ≡ (a == half_of w)
+  pub signed : flags.of ≡ false → signed_of w r ≡ neg_ℤ (signed_of w a)
+  pub result : TellsResult w r flags
+
+abbrev pub NegationsAreExact : Type 0
+NegationsAreExact = (w : Width) (a : ℕ) → a < limit_of w → IsNegation w a (negation_of w a).0 (negation_of w a).1
+
+-- r is one more, or 0 after the greatest number. CF stays, and OF tells that r is the least signed number
+pub record IsIncrement (w : Width) (a : ℕ) (was : Flags) (r : ℕ) (flags : Flags) : Type 0 where
+  pub value : (r ≡ a + 1) ⊎ ((a + 1 ≡ limit_of w) × (r ≡ 0))
+  pub carry : flags.cf ≡ was.cf
+  pub overflow : flags.of ≡ (r == half_of w)
+  pub result : TellsResult w r flags
+
+abbrev pub IncrementsAreExact : Type 0
+IncrementsAreExact = (w : Width) (a : ℕ) (was : Flags) → a < limit_of w
+    → IsIncrement w a was (increment_of w a was).0 (increment_of w a was).1
+
+-- r is one less, or the greatest number after 0. CF stays, and OF tells that a was the least signed number
+pub record IsDecrement (w : Width) (a : ℕ) (was : Flags) (r : ℕ) (flags : Flags) : Type 0 where
+  pub value : (r + 1 ≡ a) ⊎ ((a ≡ 0) × (r + 1 ≡ limit_of w))
+  pub carry : flags.cf ≡ was.cf
+  pub overflow : flags.of ≡ (a == half_of w)
+  pub result : TellsResult w r flags
+
+abbrev pub DecrementsAreExact : Type 0
+DecrementsAreExact = (w : Width) (a : ℕ) (was : Flags) → a < limit_of w
+    → IsDecrement w a was (decrement_of w a was).0 (decrement_of w a was).1
+
+-- ---- bits
+
+-- each bit of the result is made of the two at its place, and CF and OF are clear
+pub record IsBitwise (w : Width) (of_bits : Bool → Bool → Bool) (a b r : ℕ) (flags : Flags) : Type 0 where
+  pub bits : (k : ℕ) → is_set r k ≡ of_bits (is_set a k) (is_set b k)
+  pub carry : flags.cf ≡ false
+  pub overflow : flags.of ≡ false
+  pub result : TellsResult w r flags
+
+abbrev pub IsBitByBit : (Bool → Bool → Bool) → (Width → ℕ → ℕ → ℕ × Flags) → Type 0
+IsBitByBit of_bits operation = (w : Width) (a b : ℕ) → a < limit_of w → b < limit_of w
+    → IsBitwise w of_bits a b (operation w a b).0 (operation w a b).1
+
+-- both bits are set, or one of them, or one alone
+abbrev pub both : Bool → Bool → Bool
+both a b = a && b
+
+abbrev pub either : Bool → Bool → Bool
+either a b = a || b
+
+-- ---- the flags of shifts and rotations
+
+-- by 1 place OF tells that the sign has changed, by more it is clear, and by none all stays
+pub record TellsSign (w : Width) (a count : ℕ) (was : Flags) (r : ℕ) (flags : Flags) : Type 0 where
+  pub once : count ≡ 1 → flags.of ≡ differ (has_sign w a) (has_sign w r)
+  pub more : 1 < count → flags.of ≡ false
+  pub none : count ≡ 0 → (r ≡ a) × (flags ≡ was)
+
+-- so it is with a shift, whose ZF and SF tell its result
+abbrev pub ShiftsTellResults : (Width → ℕ → ℕ → Flags → ℕ × Flags) → Type 0
+ShiftsTellResults moved = (w : Width) (a count : ℕ) (was : Flags) → a < limit_of w
+    → TellsSign w a count was (moved w a count was).0 (moved w a count was).1
+    × (0 < count → TellsResult w (moved w a count was).0 (moved w a count was).1)
+
+-- and with a rotation, which leaves ZF and SF
+abbrev pub RotationsKeepFlags : (Width → ℕ → ℕ → Flags → ℕ × Flags) → Type 0
+RotationsKeepFlags moved = (w : Width) (a count : ℕ) (was : Flags) → a < limit_of w
+    → TellsSign w a count was (moved w a count was).0 (moved w a count was).1
+    × ((moved w a count was).1.zf ≡ was.zf) × ((moved w a count was).1.sf ≡ was.sf)
+
+-- so does RCL or RCR, which goes by 1 place
+abbrev pub TurnsKeepFlags : (Width → ℕ → Flags → ℕ × Flags) → Type 0
+TurnsKeepFlags turned = (w : Width) (a : ℕ) (was : Flags) → a < limit_of w
+    → ((turned w a was).1.of ≡ differ (has_sign w a) (has_sign w (turned w a was).0))
+    × ((turned w a was).1.zf ≡ was.zf) × ((turned w a was).1.sf ≡ was.sf)
+
+-- the last bit that SHL moves out is that bit of the operand, counted from the top; none is left past the width
+abbrev pub LeftShiftsCarry : Type 0
+LeftShiftsCarry = (w : Width) (a count : ℕ) (was : Flags) → a < limit_of w → 0 < count
+    → (left_shift_of w a count was).1.cf
+    ≡ (if nat_le count (bits_of w) then is_set a (bits_of w - count) else false)
+
+-- that of SHR is counted from the bottom
+abbrev pub RightShiftsCarry : Type 0
+RightShiftsCarry = (w : Width) (a count : ℕ) (was : Flags) → a < limit_of w → 0 < count
+    → (right_shift_of w a count was).1.cf ≡ is_set a (count - 1)
 
 -- ---- sign extension, products and quotients
 
@@ -121,5 +272,6 @@ pub record IsSignedDivision (dividend by q r : ℤ) : Type 0 where
 abbrev pub SignedDivisionsAreExact : Type 0
 SignedDivisionsAreExact = (w : Width) (high low by : ℕ) → high < limit_of w → low < limit_of w → by < limit_of w
     → MatchOption (signed_division_of w high low by)
-    ((by ≡ 0) ⊎ ((q r : ℤ) → IsSignedDivision (signed_joined_of w high low) (signed_of w by) q r → fits_signed w q ≡ false))
+    ((by ≡ 0) ⊎ ((q r : ℤ) → IsSignedDivision (signed_joined_of w high low) (signed_of w by) q r
+    → fits_signed w q ≡ false))
     (λ x. IsSignedDivision (signed_joined_of w high low) (signed_of w by) (signed_of w x.0) (signed_of w x.1))

@@ -1,4 +1,5 @@
--- SHL, SHR, SAR, ROL, ROR, RCL and RCR: each gives the result and the flags. A count of 0 changes nothing. Counts are not masked, and OF, which the manual leaves open for counts above 1, is clear there.
+-- SHL, SHR, SAR, ROL, ROR, RCL and RCR: each gives the result and the flags. A count of 0 changes nothing. Counts are
+-- not masked, and OF, which the manual leaves open for counts above 1, is clear there.
 use Rattle.std.specs.Prelude.{ℕ, ◌+◌, ◌-◌, ◌*◌, ◌/◌, ◌%◌, ◌^◌, ◌==◌, ◌&&◌, Bool, false, if◌then◌else◌}
 use Rattle.std.specs.Int.{from_bool}
 use Rattle.dcc_num.specs.declared.Width.{Width}
@@ -9,7 +10,8 @@ use Rattle.dcc_num.specs.Numbers.{bits_of, limit_of, half_of, has_sign, is_set, 
 abbrev pub unless_zero : ℕ → ℕ × Flags → ℕ × Flags → ℕ × Flags
 unless_zero count same moved = if count == 0 then same else moved
 
--- a * 2 ^ count, as far as the width has room. CF: the last bit shifted out, which then stands just above the operand. OF for a count of 1: the sign has changed
+-- a * 2 ^ count, as far as the width has room. CF: the last bit shifted out, which then stands just above the operand.
+-- OF for a count of 1: the sign has changed
 unfoldable pub left_shift_of : Width → ℕ → ℕ → Flags → ℕ × Flags
 left_shift_of w a count was =
     let r = a * 2 ^ count % limit_of w in
@@ -22,7 +24,8 @@ right_shift_of w a count was =
     let r = a / 2 ^ count in
     unless_zero count (a, was) (r, result_flags w r (is_set a (count - 1)) (count == 1 && has_sign w a))
 
--- the signed number divided by 2 ^ count, rounded down, so that copies of the sign come in at the top. CF: the last bit shifted out. OF is clear
+-- the signed number divided by 2 ^ count, rounded down, so that copies of the sign come in at the top. CF: the last bit
+-- shifted out. OF is clear
 unfoldable pub signed_shift_of : Width → ℕ → ℕ → Flags → ℕ × Flags
 signed_shift_of w a count was =
     let z = signed_of w a in
@@ -49,19 +52,22 @@ left_rotation_of w a count was =
     let out = is_set r 0 in
     unless_zero count (a, was) (r, rotate_flags was out (count == 1 && differ out (has_sign w r)))
 
--- the bits turned right, which is left by what is missing to a whole turn. CF: the last bit that came round, now the highest. OF for a count of 1: the two top bits differ
+-- the bits turned right, which is left by what is missing to a whole turn. CF: the last bit that came round, now the
+-- highest. OF for a count of 1: the two top bits differ
 unfoldable pub right_rotation_of : Width → ℕ → ℕ → Flags → ℕ × Flags
 right_rotation_of w a count was =
     let r = turned_of w a (bits_of w - count % bits_of w) in
     unless_zero count (a, was) (r, rotate_flags was (has_sign w r) (count == 1 && top_bits_differ w r))
 
--- the bits and CF turned left by one place: CF comes in at the bottom, and the top bit is the new CF. OF: CF differs from the sign
+-- the bits and CF turned left by one place: CF comes in at the bottom, and the top bit is the new CF. OF: CF differs
+-- from the sign
 unfoldable pub left_turn_of : Width → ℕ → Flags → ℕ × Flags
 left_turn_of w a was =
     let r = (2 * a + from_bool was.cf) % limit_of w in
     (r, rotate_flags was (has_sign w a) (differ (has_sign w a) (has_sign w r)))
 
--- the bits and CF turned right by one place: CF comes in at the top, and the lowest bit is the new CF. OF: the two top bits differ
+-- the bits and CF turned right by one place: CF comes in at the top, and the lowest bit is the new CF. OF: the two top
+-- bits differ
 unfoldable pub right_turn_of : Width → ℕ → Flags → ℕ × Flags
 right_turn_of w a was =
     let r = a / 2 + from_bool was.cf * half_of w in

@@ -5,7 +5,8 @@ use Rattle.dcc_num.specs.declared.Width.{Width}
 use Rattle.dcc_num.specs.declared.Flags.{Flags}
 use Rattle.dcc_num.specs.Numbers.{limit_of, signed_of, fits_signed, result_flags}
 
--- a + b + carry modulo 2 to the width. CF: the plain sum passes the width. OF: the sum of the signed numbers does not fit
+-- a + b + carry modulo 2 to the width. CF: the plain sum passes the width. OF: the sum of the signed numbers does not
+-- fit
 unfoldable pub sum_of : Width → ℕ → ℕ → Bool → ℕ × Flags
 sum_of w a b carry =
     let total = a + b + from_bool carry in
@@ -13,7 +14,8 @@ sum_of w a b carry =
     let r = total % limit_of w in
     (r, result_flags w r (nat_le (limit_of w) total) (not (fits_signed w exact)))
 
--- a - b - borrow modulo 2 to the width. CF: b and the borrow are above a. OF: the difference of the signed numbers does not fit
+-- a - b - borrow modulo 2 to the width. CF: b and the borrow are above a. OF: the difference of the signed numbers does
+-- not fit
 unfoldable pub difference_of : Width → ℕ → ℕ → Bool → ℕ × Flags
 difference_of w a b borrow =
     let less = b + from_bool borrow in

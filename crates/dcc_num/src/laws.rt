@@ -1,7 +1,9 @@
 //! Laws of the operations. Each function only states a law by its contract, and does nothing.
 
-ghost use Rattle.dcc_num.specs.Shift.{left_shift_of, right_shift_of, signed_shift_of, left_rotation_of, right_rotation_of};
-ghost use Rattle.dcc_num.specs.Laws.{IsRepeated, left_step, right_step, signed_step, left_rotation_step, right_rotation_step, SumsAreExact, DifferencesAreExact, DifferencesCompare, SignExtensionsAreExact, ProductsAreExact, SignedProductsAreExact, DivisionsAreExact, SignedDivisionsAreExact};
+ghost use Rattle.dcc_num.specs.Numbers.{differ};
+ghost use Rattle.dcc_num.specs.Logic.{conjunction_of, disjunction_of, exclusive_of};
+ghost use Rattle.dcc_num.specs.Shift.{left_shift_of, right_shift_of, signed_shift_of, left_rotation_of, right_rotation_of, left_turn_of, right_turn_of};
+ghost use Rattle.dcc_num.specs.Laws.{IsRepeated, left_step, right_step, signed_step, left_rotation_step, right_rotation_step, ComesRound, Undoes, left_turn_step, right_turn_step, SumsAreExact, DifferencesAreExact, SumsCarryOn, DifferencesCarryOn, DifferencesCompare, NegationsAreExact, IncrementsAreExact, DecrementsAreExact, IsBitByBit, both, either, LeftShiftsCarry, RightShiftsCarry, ShiftsTellResults, RotationsKeepFlags, TurnsKeepFlags, SignExtensionsAreExact, ProductsAreExact, SignedProductsAreExact, DivisionsAreExact, SignedDivisionsAreExact};
 
 /// SHL by a count is a shift by one place, made count times.
 pub fn shl_is_repeated()
@@ -28,20 +30,124 @@ pub fn ror_is_repeated()
     ensures { IsRepeated right_rotation_step right_rotation_of }
 {}
 
-/// ADD and ADC give the sum of the unsigned numbers, and without overflow that of the signed ones.
+/// RCL, made once more than the operand has bits, gives the operand and CF back.
+pub fn rcl_comes_round()
+    ensures { ComesRound left_turn_step }
+{}
+
+/// RCR, made once more than the operand has bits, gives the operand and CF back.
+pub fn rcr_comes_round()
+    ensures { ComesRound right_turn_step }
+{}
+
+/// RCR undoes RCL.
+pub fn rcr_undoes_rcl()
+    ensures { Undoes left_turn_step right_turn_step }
+{}
+
+/// RCL undoes RCR.
+pub fn rcl_undoes_rcr()
+    ensures { Undoes right_turn_step left_turn_step }
+{}
+
+/// ADD and ADC give the sum of the unsigned numbers, and that of the signed ones exactly where OF is clear.
 pub fn sums_are_exact()
     ensures { SumsAreExact }
 {}
 
-/// SUB and SBB give the difference of the unsigned numbers, and without overflow that of the
-/// signed ones.
+/// SUB and SBB give the difference of the unsigned numbers, and that of the signed ones exactly where OF is clear.
 pub fn differences_are_exact()
     ensures { DifferencesAreExact }
+{}
+
+/// ADD of two lower halves and then ADC of the upper ones add the whole numbers.
+pub fn sums_carry_on()
+    ensures { SumsCarryOn }
+{}
+
+/// SUB of two lower halves and then SBB of the upper ones subtract the whole numbers.
+pub fn differences_carry_on()
+    ensures { DifferencesCarryOn }
 {}
 
 /// After a comparison the flags tell which operand is less.
 pub fn differences_compare()
     ensures { DifferencesCompare }
+{}
+
+/// NEG gives the negative number, and CF where that is not 0.
+pub fn negations_are_exact()
+    ensures { NegationsAreExact }
+{}
+
+/// INC gives the next number and leaves CF.
+pub fn increments_are_exact()
+    ensures { IncrementsAreExact }
+{}
+
+/// DEC gives the number before and leaves CF.
+pub fn decrements_are_exact()
+    ensures { DecrementsAreExact }
+{}
+
+/// AND and TEST take the bits that both operands have.
+pub fn and_is_bit_by_bit()
+    ensures { IsBitByBit both conjunction_of }
+{}
+
+/// OR takes the bits that one of the operands has.
+pub fn or_is_bit_by_bit()
+    ensures { IsBitByBit either disjunction_of }
+{}
+
+/// XOR takes the bits that one operand alone has.
+pub fn xor_is_bit_by_bit()
+    ensures { IsBitByBit differ exclusive_of }
+{}
+
+/// The last bit that SHL moves out is that of its count from the top.
+pub fn shl_carries_from_the_top()
+    ensures { LeftShiftsCarry }
+{}
+
+/// The last bit that SHR moves out is that of its count from the bottom.
+pub fn shr_carries_from_the_bottom()
+    ensures { RightShiftsCarry }
+{}
+
+/// SHL tells its result by ZF and SF, and by 1 place a change of the sign by OF.
+pub fn shl_tells_its_result()
+    ensures { ShiftsTellResults left_shift_of }
+{}
+
+/// SHR tells its result by ZF and SF, and by 1 place a change of the sign by OF.
+pub fn shr_tells_its_result()
+    ensures { ShiftsTellResults right_shift_of }
+{}
+
+/// SAR tells its result by ZF and SF, and never changes the sign.
+pub fn sar_tells_its_result()
+    ensures { ShiftsTellResults signed_shift_of }
+{}
+
+/// ROL leaves ZF and SF, and by 1 place tells a change of the sign by OF.
+pub fn rol_keeps_flags()
+    ensures { RotationsKeepFlags left_rotation_of }
+{}
+
+/// ROR leaves ZF and SF, and by 1 place tells a change of the sign by OF.
+pub fn ror_keeps_flags()
+    ensures { RotationsKeepFlags right_rotation_of }
+{}
+
+/// RCL leaves ZF and SF, and tells a change of the sign by OF.
+pub fn rcl_keeps_flags()
+    ensures { TurnsKeepFlags left_turn_of }
+{}
+
+/// RCR leaves ZF and SF, and tells a change of the sign by OF.
+pub fn rcr_keeps_flags()
+    ensures { TurnsKeepFlags right_turn_of }
 {}
 
 /// A sign-extended byte stands for the same number.

@@ -1,0 +1,5 @@
+use Rattle.dcc_num.proofs.ShiftFlags.{right_turn_keeps}
+use Rattle.dcc_num.proofs.laws.rcr_keeps_flags.Goals as goal
+
+pub returns : goal.returns
+returns c = right_turn_keeps

@@ -1,0 +1,5 @@
+use Rattle.dcc_num.proofs.Turns.{left_undone}
+use Rattle.dcc_num.proofs.laws.rcr_undoes_rcl.Goals as goal
+
+pub returns : goal.returns
+returns c = left_undone
