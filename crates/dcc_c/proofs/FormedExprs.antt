@@ -10,37 +10,13 @@ use Rattle.dcc_c.specs.declared.syntax.CUn.TheVariants.{Minus, Deref}
 use Rattle.dcc_c.specs.declared.syntax.CBin.TheVariants.{OrOr}
 use Rattle.dcc_c.specs.Token.{Token, Decimal, decimal_type}
 use Rattle.dcc_c.specs.Lexing.{Placed, placed}
-use Rattle.dcc_c.specs.Types.{place_of, same_base}
 use Rattle.dcc_c.specs.Tree.{Word, Expr, Number, Name, Unary, Binary, Conditional, Cast}
 use Rattle.dcc_c.specs.Grammar.{mark, is_name, strength, type_tokens, Begins, none, one, IsExpr, decimal, number, name, parentheses, unary, cast, binary, conditional, stronger, IsPlace, name_place, deref_place, AreArguments, no_argument, last_argument, more_arguments, IsCall, call}
 use Rattle.dcc_c.specs.Written.{suffix_for, suffix_gives, is_compound}
 use Rattle.dcc_c.proofs.Writable.{is_small, may_take, is_writable_expr, is_writable_place}
 use Rattle.dcc_c.proofs.WrittenTokens.{bracketed, is_negation, is_bracketed, expr_tokens, arguments_tokens, call_tokens}
 use Rattle.dcc_c.proofs.WrittenLaws.{to_zero, as_operand}
-
--- the number type at a place in the list
-base_at : ℕ → Base
-base_at zero = Schar
-base_at (suc zero) = Uchar
-base_at (suc (suc zero)) = Int
-base_at (suc (suc (suc zero))) = Uint
-base_at (suc (suc (suc (suc zero)))) = Long
-base_at (suc (suc (suc (suc (suc n))))) = Ulong
-
-base_back : (a : Base) → base_at (place_of a) ≡ a
-unfolding base_at
-base_back Schar = refl
-base_back Uchar = refl
-base_back Int = refl
-base_back Uint = refl
-base_back Long = refl
-base_back Ulong = refl
-
--- number types with one place are one
-pub base_from_same : (a b : Base) → same_base a b ≡ true → a ≡ b
-base_from_same a b same =
-    let places : place_of a ≡ place_of b = eqb-true (place_of a) (place_of b) same in
-    sym (base_back a) ∙ ap base_at places ∙ base_back b
+use Rattle.dcc_c.proofs.TypeLaws.{base_from_same}
 
 -- the strength at which an expression's own tokens are read
 abbrev pub grade : Bool → ℕ

@@ -13,7 +13,7 @@ pub mod WritableTree
 pub mod LexingLaws
 pub mod WrittenLaws
 pub mod NameLaws
-pub mod PlainLaws
+pub mod TypeLaws
 mod Examples
 pub mod TypingLaws
 pub mod refusals

@@ -4,7 +4,6 @@ use Rattle.std.specs.Prelude.{nat_le, option_and_then, option_map}
 use Rattle.std.specs.List.{list_all}
 use Rattle.std.proofs.lemmas.Bool.{and_parts, and_from, cases_Bool}
 use Rattle.dcc_c.specs.declared.syntax.Base.{Base}
-use Rattle.dcc_c.specs.declared.syntax.Base.TheVariants.{Schar}
 use Rattle.dcc_c.specs.declared.syntax.CType.{CType}
 use Rattle.dcc_c.specs.declared.syntax.CUn.TheVariants.{Minus, Complement, Not, Deref, AddressOf}
 use Rattle.dcc_c.specs.declared.syntax.CBin.{CBin}
@@ -16,13 +15,10 @@ use Rattle.dcc_c.specs.Grammar.{is_name, Begins, none, one, IsNumber, decimal, h
 use Rattle.dcc_c.specs.Typing.{Declared, unary_type, both_types, both_arms_type, tested_type, type_of, place_type}
 use Rattle.dcc_c.specs.Written.{suffix_for, suffix_gives}
 use Rattle.dcc_c.proofs.Writable.{may_take, is_writable_expr, is_place}
+use Rattle.dcc_c.proofs.TypeLaws.{same_base-refl}
 use Rattle.dcc_c.proofs.SmallTokens.{has_small, AreSmall, tail_small, head_small}
 
 -- Numbers.
-
-same_base-refl : (base : Base) → same_base base base ≡ true
-same_base-refl Schar = refl
-same_base-refl _ = refl
 
 -- the suffix of the written form does what some suffix does
 suffix_found : (does : Suffix → Bool) (suffix : Suffix) → does suffix ≡ true →

@@ -16,7 +16,6 @@ pub mod Text
 pub mod Written
 pub mod Numbered
 pub mod Views
-pub mod Plain
 pub mod Kinds
 pub mod Pieces
 pub mod Partial

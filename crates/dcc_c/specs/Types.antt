@@ -1,5 +1,6 @@
 -- Types and conversions (ISO/IEC 9899:1990, 6.1.2.5 and 6.2), on two's complement bit patterns.
-use Rattle.std.specs.Prelude.{ℕ, ◌+◌, ◌-◌, ◌/◌, ◌%◌, ◌^◌, ◌==◌, Bool, true, false, ◌&&◌, nat_le, if◌then◌else◌}
+use Rattle.std.specs.Prelude.{ℕ, ◌+◌, ◌-◌, ◌/◌, ◌%◌, ◌^◌, Bool, true, false, ◌&&◌, nat_le, if◌then◌else◌}
+use Rattle.std.specs.Bool.{beq}
 use Rattle.dcc_c.specs.declared.syntax.Base.{Base}
 use Rattle.dcc_c.specs.declared.syntax.Base.TheVariants.{Schar, Uchar, Int, Uint, Long, Ulong}
 use Rattle.dcc_c.specs.declared.syntax.CType.{CType}
@@ -21,17 +22,15 @@ is_signed Uint = false
 is_signed Long = true
 is_signed Ulong = false
 
--- number types by their place in the list, to compare them
-abbrev pub place_of : Base → ℕ
-place_of Schar = 0
-place_of Uchar = 1
-place_of Int = 2
-place_of Uint = 3
-place_of Long = 4
-place_of Ulong = 5
-
+-- the two are one number type
 abbrev pub same_base : Base → Base → Bool
-same_base a b = place_of a == place_of b
+same_base Schar Schar = true
+same_base Uchar Uchar = true
+same_base Int Int = true
+same_base Uint Uint = true
+same_base Long Long = true
+same_base Ulong Ulong = true
+same_base _ _ = false
 
 -- the type of an operand: char types become int
 abbrev pub promoted_type : Base → Base
@@ -80,8 +79,9 @@ plain base = record { base = base; pointer = false }
 abbrev pub pointer_to : Base → CType
 pointer_to base = record { base = base; pointer = true }
 
+-- the two are one type
 abbrev pub same_type : CType → CType → Bool
-same_type a b = same_base a.base b.base && (if a.pointer then b.pointer else if b.pointer then false else true)
+same_type a b = same_base a.base b.base && beq a.pointer b.pointer
 
 -- the number type whose bits a value of the type has: an address is 16 unsigned bits
 abbrev pub number_of_type : CType → Base

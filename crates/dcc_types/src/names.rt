@@ -4,7 +4,6 @@ ghost use Rattle.std.specs.Prelude.{◌≡◌};
 ghost use Rattle.dcc_c.specs.Typing.{type_of_name, type_of_address, type_of_variable};
 ghost use Rattle.dcc_types.specs.NameViews.{nameless};
 
-use crate::operators::pointer_to;
 use dcc_c::CType;
 
 /// What a name is declared as.
@@ -27,7 +26,7 @@ pub fn type_of_name(declared: Declared) -> Option<CType>
     } else if declared.ty.pointer {
         None
     } else {
-        Some(pointer_to(declared.ty.base))
+        Some(CType::pointer_to(declared.ty.base))
     }
 }
 
@@ -36,7 +35,7 @@ pub fn type_of_address(declared: Declared) -> Option<CType>
     ensures { result ≡ type_of_address (nameless declared) }
 {
     if declared.is_placed && !declared.is_array && !declared.ty.pointer {
-        Some(pointer_to(declared.ty.base))
+        Some(CType::pointer_to(declared.ty.base))
     } else {
         None
     }

@@ -1,54 +1,11 @@
-//! Types, and the types of operators.
+//! The types of operators.
 
 ghost use Rattle.std.specs.Prelude.{◌≡◌, option_and_then};
-ghost use Rattle.dcc_c.specs.Types.{plain, pointer_to, same_type};
 ghost use Rattle.dcc_c.specs.Typing.{unary_type, is_comparison, is_sum, numbers_type, binary_type, both_types, arms_type, both_arms_type};
 ghost use Rattle.dcc_c.specs.Rules.{converts, is_word_base};
 ghost use Rattle.dcc_c.specs.Offences.{is_pointer, is_switch_type};
 
-use dcc_c::plain::{common_type, promoted_type};
 use dcc_c::{Base, CBin, CType, CUn};
-
-/// A number type as the type of a value.
-pub fn plain(base: Base) -> CType
-    ensures { result ≡ plain base }
-{
-    CType {
-        base,
-        pointer: false,
-    }
-}
-
-/// The type of addresses of numbers of this type.
-pub fn pointer_to(base: Base) -> CType
-    ensures { result ≡ pointer_to base }
-{
-    CType {
-        base,
-        pointer: true,
-    }
-}
-
-/// The place of a number type in their list.
-fn place_of(base: Base) -> u8
-    ensures { result ≡ Rattle.dcc_c.specs.Types.place_of base }
-{
-    match base {
-        Base::Schar => 0,
-        Base::Uchar => 1,
-        Base::Int => 2,
-        Base::Uint => 3,
-        Base::Long => 4,
-        Base::Ulong => 5,
-    }
-}
-
-/// Whether the two are one type.
-pub fn same_type(a: CType, b: CType) -> bool
-    ensures { result ≡ same_type a b }
-{
-    place_of(a.base) == place_of(b.base) && a.pointer == b.pointer
-}
 
 /// Whether the type is known, and that of an address.
 pub fn is_pointer(ty: Option<CType>) -> bool
@@ -65,9 +22,9 @@ pub fn unary_type(operator: CUn, a: CType) -> Option<CType>
     ensures { result ≡ unary_type operator a }
 {
     match operator {
-        CUn::Deref if a.pointer => Some(plain(a.base)),
-        CUn::Minus | CUn::Complement if !a.pointer => Some(plain(promoted_type(a.base))),
-        CUn::Not if !a.pointer => Some(plain(Base::Int)),
+        CUn::Deref if a.pointer => Some(CType::plain(a.base)),
+        CUn::Minus | CUn::Complement if !a.pointer => Some(CType::plain(a.base.promoted())),
+        CUn::Not if !a.pointer => Some(CType::plain(Base::Int)),
         _ => None,
     }
 }
@@ -102,9 +59,9 @@ fn numbers_type(operator: CBin, a: Base, b: Base) -> Base
 {
     match operator {
         CBin::OrOr | CBin::AndAnd => Base::Int,
-        CBin::Shl | CBin::Shr => promoted_type(a),
+        CBin::Shl | CBin::Shr => a.promoted(),
         _ if is_comparison(operator) => Base::Int,
-        _ => common_type(a, b),
+        _ => a.common(b),
     }
 }
 
@@ -114,10 +71,10 @@ pub fn binary_type(operator: CBin, a: CType, b: CType) -> Option<CType>
     ensures { result ≡ binary_type operator a b }
 {
     match (a.pointer, b.pointer) {
-        (false, false) => Some(plain(numbers_type(operator, a.base, b.base))),
+        (false, false) => Some(CType::plain(numbers_type(operator, a.base, b.base))),
         (false, true) => None,
         (true, false) if is_sum(operator) => Some(a),
-        (true, true) if is_comparison(operator) && same_type(a, b) => Some(plain(Base::Int)),
+        (true, true) if is_comparison(operator) && a == b => Some(CType::plain(Base::Int)),
         _ => None,
     }
 }
@@ -134,8 +91,8 @@ pub fn arms_type(a: CType, b: CType) -> Option<CType>
     ensures { result ≡ arms_type a b }
 {
     match (a.pointer, b.pointer) {
-        (false, false) => Some(plain(common_type(a.base, b.base))),
-        (true, _) if same_type(a, b) => Some(a),
+        (false, false) => Some(CType::plain(a.base.common(b.base))),
+        (true, _) if a == b => Some(a),
         _ => None,
     }
 }
@@ -151,7 +108,7 @@ pub fn both_arms_type(a: Option<CType>, b: Option<CType>) -> Option<CType>
 pub fn converts(from: CType, to: CType) -> bool
     ensures { result ≡ converts from to }
 {
-    !(from.pointer || to.pointer) || same_type(from, to)
+    !(from.pointer || to.pointer) || from == to
 }
 
 /// Whether the type is an int or an unsigned int after promotion.
@@ -165,5 +122,5 @@ fn is_word_base(base: Base) -> bool
 pub fn is_switch_type(ty: CType) -> bool
     ensures { result ≡ is_switch_type ty }
 {
-    !ty.pointer && is_word_base(promoted_type(ty.base))
+    !ty.pointer && is_word_base(ty.base.promoted())
 }

@@ -8,9 +8,7 @@ ghost use Rattle.dcc_value.specs.Evaluation.{typed, outcome_of, itself, unnamed,
 ghost use Rattle.dcc_value.specs.Resolved.{scene_of, slot_in, evaluated, slot_target, address_target, targeted, target_named, index_named, IsAlone, IsTargetIn, variables_after, memory_after};
 
 use crate::value::memory::store;
-use crate::value::{
-    NoValue, Value, both_values, converted, is_zero, plain, truth_value, unary_value,
-};
+use crate::value::{NoValue, Value, both_values, converted, is_zero, truth_value, unary_value};
 use crate::variable::{Binding, Scene, Storage, address_value, pointed_value, variable_value};
 use dcc_c::{CBin, CType, CUn};
 
@@ -147,7 +145,7 @@ fn pointed_target(v: Value) -> Result<Target, NoValue>
     ensures { outcome_of itself result ≡ address_target (typed v) }
 {
     if v.ty.pointer {
-        Ok(Target::Memory(plain(v.ty.base), v.bits))
+        Ok(Target::Memory(CType::plain(v.ty.base), v.bits))
     } else {
         Err(NoValue::Undefined)
     }

@@ -3,16 +3,17 @@
 ghost use Rattle.std.specs.Prelude.{◌≡◌, map, option_map, slice_get, IfOk};
 ghost use Rattle.dcc_c.specs.declared.syntax.CUn.TheVariants.{AddressOf};
 ghost use Rattle.dcc_c.specs.Tree.{Expr, Name, Unary, Binary};
-ghost use Rattle.dcc_c.specs.Typing.{unary_number_type, unary_type, is_comparison, is_sum, numbers_type, binary_type, arms_type, both_arms_type, type_of, type_of_name, type_of_address, declared_as};
+ghost use Rattle.dcc_c.specs.Typing.{both_arms_type, type_of, declared_as};
 ghost use Rattle.dcc_c.specs.Views.{expr_of};
 ghost use Rattle.dcc_value.specs.Evaluation.{declared_of};
 ghost use Rattle.dcc_value.specs.Resolved.{Names as NamesOf, names_of, all_names, index_named, slot_named, lent_declared, Stands};
 
 use crate::expression::{Resolved, Slot};
-use crate::value::{number, plain, pointer_to, same_type, wrapped_bits};
+use crate::value::number;
 use crate::variable::{Declared, Names};
-use dcc_c::plain::{common_type, promoted_type};
-use dcc_c::{Base, CBin, CExpr, CType, CUn};
+use dcc_c::{CBin, CExpr, CType, CUn};
+use dcc_types::names::{type_of_address, type_of_name};
+use dcc_types::operators::{arms_type, binary_type, both_arms_type, unary_type};
 use std::alloc::{AllocError, Global};
 
 /// The place of the first with the name.
@@ -54,105 +55,15 @@ fn declared_as<'a>(names: &Names<'a>, name: &str) -> Option<&'a Declared>
     }
 }
 
-/// The type of a name's value: that of an array is its first element's address.
-fn type_of_name(declared: &Declared) -> Option<CType>
-    ensures { result ≡ type_of_name (declared_of declared.now) }
-{
-    if !declared.is_array {
-        Some(declared.ty)
-    } else if declared.ty.pointer {
-        None
-    } else {
-        Some(pointer_to(declared.ty.base))
-    }
-}
-
-/// The type of a name's address: the name has one, and is no array and no pointer.
-fn type_of_address(declared: &Declared) -> Option<CType>
-    ensures { result ≡ type_of_address (declared_of declared.now) }
-{
-    if declared.is_placed && !declared.is_array && !declared.ty.pointer {
-        Some(pointer_to(declared.ty.base))
-    } else {
-        None
-    }
-}
-
-/// The type of a unary operator: `*` takes a pointer, and the others a number.
-fn unary_type(operator: CUn, a: CType) -> Option<CType>
-    ensures { result ≡ unary_type operator a }
-{
-    match operator {
-        CUn::Deref if a.pointer => Some(plain(a.base)),
-        CUn::Minus | CUn::Complement if !a.pointer => Some(plain(promoted_type(a.base))),
-        CUn::Not if !a.pointer => Some(plain(Base::Int)),
-        _ => None,
-    }
-}
-
-/// Whether the operator compares.
-fn is_comparison(operator: CBin) -> bool
-    ensures { result ≡ is_comparison operator }
-{
-    matches!(
-        operator,
-        CBin::Eq | CBin::Ne | CBin::Lt | CBin::Le | CBin::Gt | CBin::Ge
-    )
-}
-
-/// Whether the operator is a sum or a difference.
-fn is_sum(operator: CBin) -> bool
-    ensures { result ≡ is_sum operator }
-{
-    matches!(operator, CBin::Add | CBin::Sub)
-}
-
-/// The type of an operator on two numbers: a truth value, the promoted left type, or the common type.
-fn numbers_type(operator: CBin, a: Base, b: Base) -> Base
-    ensures { result ≡ numbers_type operator a b }
-{
-    match operator {
-        CBin::OrOr | CBin::AndAnd => Base::Int,
-        CBin::Shl | CBin::Shr => promoted_type(a),
-        _ if is_comparison(operator) => Base::Int,
-        _ => common_type(a, b),
-    }
-}
-
-/// The type of a binary operator: on two numbers, on a pointer and a number that moves it, or on two pointers of one
-/// type that are compared.
-fn binary_type(operator: CBin, a: CType, b: CType) -> Option<CType>
-    ensures { result ≡ binary_type operator a b }
-{
-    match (a.pointer, b.pointer) {
-        (false, false) => Some(plain(numbers_type(operator, a.base, b.base))),
-        (false, true) => None,
-        (true, false) if is_sum(operator) => Some(a),
-        (true, true) if is_comparison(operator) && same_type(a, b) => Some(plain(Base::Int)),
-        _ => None,
-    }
-}
-
-/// The type of `?:`, by those of its last two operands: the common type of two numbers, or one type of pointers.
-fn arms_type(a: CType, b: CType) -> Option<CType>
-    ensures { result ≡ arms_type a b }
-{
-    match (a.pointer, b.pointer) {
-        (false, false) => Some(plain(common_type(a.base, b.base))),
-        (true, _) if same_type(a, b) => Some(a),
-        _ => None,
-    }
-}
-
 /// The type of an expression, or none where a name is not declared or an operand not allowed.
 pub fn type_of(names: &Names<'_>, e: &CExpr) -> Option<CType>
     ensures { result ≡ type_of (all_names (names_of names.now)) (expr_of e.now) }
 {
     match e {
-        CExpr::Num(_, base) => Some(plain(*base)),
-        CExpr::Name(name) => type_of_name(declared_as(names, name.as_str())?),
+        CExpr::Num(_, base) => Some(CType::plain(*base)),
+        CExpr::Name(name) => type_of_name(declared_as(names, name.as_str())?.nameless()),
         CExpr::Un(CUn::AddressOf, a) => match &**a {
-            CExpr::Name(name) => type_of_address(declared_as(names, name.as_str())?),
+            CExpr::Name(name) => type_of_address(declared_as(names, name.as_str())?.nameless()),
             _ => None,
         },
         CExpr::Un(operator, a) => unary_type(*operator, type_of(names, a)?),
@@ -173,11 +84,13 @@ pub fn type_of(names: &Names<'_>, e: &CExpr) -> Option<CType>
     }
 }
 
-/// The type of `?:` by its last two operands, where they have one.
+// The type of `?:` by its last two operands, where they have one.
 fn type_of_arms(names: &Names<'_>, b: &CExpr, c: &CExpr) -> Option<CType>
-    ensures { result ≡ both_arms_type (type_of (all_names (names_of names.now)) (expr_of b.now)) (type_of (all_names (names_of names.now)) (expr_of c.now)) }
+    ensures { result ≡ both_arms_type
+        (type_of (all_names (names_of names.now)) (expr_of b.now))
+        (type_of (all_names (names_of names.now)) (expr_of c.now)) }
 {
-    arms_type(type_of(names, b)?, type_of(names, c)?)
+    both_arms_type(type_of(names, b), type_of(names, c))
 }
 
 /// The value of a variable.
@@ -220,10 +133,7 @@ pub fn resolve(alloc: Global, names: &Names<'_>, e: &CExpr) -> Result<Resolved, 
     ensures { IfOk result (λ r. Stands (names_of names.now) (expr_of e.now) r) }
 {
     match e {
-        CExpr::Num(n, base) => Ok(Resolved::Constant(number(
-            *base,
-            wrapped_bits(*base, u64::from(*n)),
-        ))),
+        CExpr::Num(n, base) => Ok(Resolved::Constant(number(*base, base.wrapped(u64::from(*n))))),
         CExpr::Name(name) => Ok(resolve_name(names, name.as_str())),
         CExpr::Un(CUn::AddressOf, a) => Ok(resolve_address(names, a)),
         CExpr::Un(CUn::Deref, a) => {

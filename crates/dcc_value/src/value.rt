@@ -1,20 +1,18 @@
 //! Values of expressions, and the operators on them.
 
 ghost use Rattle.std.specs.Prelude.{◌≡◌, ◌^◌, ◌<◌};
-ghost use Rattle.dcc_c.specs.Types.{bits_of, plain, same_type, number_of_type, size_of};
+ghost use Rattle.dcc_c.specs.Types.{bits_of};
 ghost use Rattle.dcc_c.specs.Value.{number, truth, is_zero, converted, unary_number, unary_value, compared, binary_value, numbers_value, moved, both_values, truth_value};
 ghost use Rattle.dcc_value.specs.Evaluation.{typed, outcome_of};
 
-use dcc_c::plain::{bits_of, common_type, convert, promoted_type};
 use dcc_c::{Base, CBin, CType, CUn};
 
 pub mod memory;
 mod patterns;
 
-pub use patterns::wrapped_bits;
 use patterns::{
-    complement, difference, division_faults, extended_bits, is_less, negated, quotient, remainder,
-    shifted_left, shifted_right,
+    complement, difference, division_faults, is_less, negated, quotient, remainder, shifted_left,
+    shifted_right,
 };
 
 /// A number or an address with its type; `bits` is its pattern in two's complement.
@@ -35,68 +33,12 @@ pub enum NoValue {
     Undefined,
 }
 
-/// A number type as the type of a value.
-pub fn plain(base: Base) -> CType
-    ensures { result ≡ plain base }
-{
-    CType {
-        base,
-        pointer: false,
-    }
-}
-
-/// The type of addresses of numbers of this type.
-pub fn pointer_to(base: Base) -> CType
-    ensures { result ≡ Rattle.dcc_c.specs.Types.pointer_to base }
-{
-    CType {
-        base,
-        pointer: true,
-    }
-}
-
-/// The place of a number type in their list.
-fn place_of(base: Base) -> u8
-    ensures { result ≡ Rattle.dcc_c.specs.Types.place_of base }
-{
-    match base {
-        Base::Schar => 0,
-        Base::Uchar => 1,
-        Base::Int => 2,
-        Base::Uint => 3,
-        Base::Long => 4,
-        Base::Ulong => 5,
-    }
-}
-
-/// Whether the two are one type.
-pub fn same_type(a: CType, b: CType) -> bool
-    ensures { result ≡ same_type a b }
-{
-    place_of(a.base) == place_of(b.base) && a.pointer == b.pointer
-}
-
-/// The number type whose bits a value of the type has.
-fn number_of_type(ty: CType) -> Base
-    ensures { result ≡ number_of_type ty }
-{
-    if ty.pointer { Base::Uint } else { ty.base }
-}
-
-/// How many bytes of memory a value of the type takes.
-pub fn size_of(ty: CType) -> u32
-    ensures value { result ≡ size_of ty }
-    ensures within { result < 5 }
-{
-    bits_of(number_of_type(ty)) / 8
-}
-
 /// A number with its type.
 pub fn number(base: Base, bits: u32) -> Value
     ensures { typed result ≡ number base bits }
 {
     Value {
-        ty: plain(base),
+        ty: CType::plain(base),
         bits,
     }
 }
@@ -121,7 +63,7 @@ pub fn converted(ty: CType, v: Value) -> Value
 {
     Value {
         ty,
-        bits: convert(number_of_type(v.ty), number_of_type(ty), v.bits),
+        bits: v.ty.number().convert(ty.number(), v.bits),
     }
 }
 
@@ -144,8 +86,8 @@ pub fn unary_value(operator: CUn, v: Value) -> Result<Value, NoValue>
     if v.ty.pointer {
         return Err(NoValue::Undefined);
     }
-    let base = promoted_type(v.ty.base);
-    unary_number(operator, base, convert(v.ty.base, base, v.bits))
+    let base = v.ty.base.promoted();
+    unary_number(operator, base, v.ty.base.convert(base, v.bits))
 }
 
 /// The truth of a comparison of two numbers of one type.
@@ -173,9 +115,9 @@ fn binary_value(operator: CBin, base: Base, a: u32, b: u32) -> Result<Value, NoV
         CBin::Or => a | b,
         CBin::Xor => a ^ b,
         CBin::And => a & b,
-        CBin::Add => wrapped_bits(base, u64::from(a) + u64::from(b)),
+        CBin::Add => base.wrapped(u64::from(a) + u64::from(b)),
         CBin::Sub => difference(base, a, b),
-        CBin::Mul => wrapped_bits(base, u64::from(a) * u64::from(b)),
+        CBin::Mul => base.wrapped(u64::from(a) * u64::from(b)),
         CBin::Div | CBin::Rem if division_faults(base, a, b) => return Err(NoValue::Divides),
         CBin::Div => quotient(base, a, b),
         CBin::Rem => remainder(base, a, b),
@@ -188,19 +130,14 @@ fn binary_value(operator: CBin, base: Base, a: u32, b: u32) -> Result<Value, NoV
 fn numbers_value(operator: CBin, a: Base, m: u32, b: Base, n: u32) -> Result<Value, NoValue>
     ensures { outcome_of typed result ≡ numbers_value operator a m b n }
 {
-    let promoted = promoted_type(a);
-    let left = convert(a, promoted, m);
+    let promoted = a.promoted();
+    let left = a.convert(promoted, m);
     match operator {
         CBin::Shl => Ok(number(promoted, shifted_left(promoted, left, b, n))),
         CBin::Shr => Ok(number(promoted, shifted_right(promoted, left, b, n))),
         _ => {
-            let common = common_type(a, b);
-            binary_value(
-                operator,
-                common,
-                convert(a, common, m),
-                convert(b, common, n),
-            )
+            let common = a.common(b);
+            binary_value(operator, common, a.convert(common, m), b.convert(common, n))
         }
     }
 }
@@ -210,11 +147,11 @@ fn moved(operator: CBin, ty: CType, at: u32, b: Base, n: u32) -> Result<Value, N
     ensures { outcome_of typed result ≡ moved operator ty at b n }
 {
     let elements = match operator {
-        CBin::Add => extended_bits(b, n),
-        CBin::Sub => 0x1_0000_0000_u64.saturating_sub(extended_bits(b, n)),
+        CBin::Add => b.extended(n),
+        CBin::Sub => 0x1_0000_0000_u64.saturating_sub(b.extended(n)),
         _ => return Err(NoValue::Undefined),
     };
-    let size = u64::from(size_of(plain(ty.base)));
+    let size = u64::from(CType::plain(ty.base).size());
     Ok(Value {
         ty,
         bits: ((u64::from(at) + size * elements) % 65_536) as u32,
@@ -228,7 +165,7 @@ pub fn both_values(operator: CBin, a: Value, b: Value) -> Result<Value, NoValue>
     match (a.ty.pointer, b.ty.pointer) {
         (false, false) => numbers_value(operator, a.ty.base, a.bits, b.ty.base, b.bits),
         (true, false) => moved(operator, a.ty, a.bits, b.ty.base, b.bits),
-        (true, true) if same_type(a.ty, b.ty) => compared(operator, Base::Uint, a.bits, b.bits),
+        (true, true) if a.ty == b.ty => compared(operator, Base::Uint, a.bits, b.bits),
         _ => Err(NoValue::Undefined),
     }
 }

@@ -1,12 +1,12 @@
 //! Variables, and what expressions are evaluated over.
 
 ghost use Rattle.std.specs.Prelude.{◌≡◌};
-ghost use Rattle.dcc_c.specs.Types.{pointer_to};
 ghost use Rattle.dcc_c.specs.Value.{variable_value, address_value, pointed_value};
-ghost use Rattle.dcc_value.specs.Evaluation.{typed, outcome_of, unnamed};
+ghost use Rattle.dcc_types.specs.NameViews.{unnamed as unnamed_declaration};
+ghost use Rattle.dcc_value.specs.Evaluation.{typed, outcome_of, unnamed, declared_of};
 
 use crate::value::memory::loaded;
-use crate::value::{NoValue, Value, plain, pointer_to};
+use crate::value::{NoValue, Value};
 use dcc_c::CType;
 
 /// How a variable is kept.
@@ -42,6 +42,19 @@ pub struct Declared {
     pub is_placed: bool,
 }
 
+impl Declared {
+    /// The declaration without its name.
+    pub fn nameless(&self) -> dcc_types::Declared
+        ensures { unnamed_declaration (declared_of self.now) ≡ result }
+    {
+        dcc_types::Declared {
+            ty: self.ty,
+            is_array: self.is_array,
+            is_placed: self.is_placed,
+        }
+    }
+}
+
 /// The names that the expressions of a function may use.
 #[derive(Clone, Copy)]
 pub struct Names<'a> {
@@ -72,7 +85,7 @@ pub fn variable_value(memory: &[u8], b: Binding) -> Result<Value, NoValue>
                 Err(NoValue::Undefined)
             } else {
                 Ok(Value {
-                    ty: pointer_to(b.ty.base),
+                    ty: CType::pointer_to(b.ty.base),
                     bits: at,
                 })
             }
@@ -89,7 +102,7 @@ pub fn address_value(b: Binding) -> Result<Value, NoValue>
 {
     match b.storage {
         Storage::PlacedAt(at) if !b.is_array && !b.ty.pointer => Ok(Value {
-            ty: pointer_to(b.ty.base),
+            ty: CType::pointer_to(b.ty.base),
             bits: at,
         }),
         _ => Err(NoValue::Undefined),
@@ -103,5 +116,5 @@ pub fn pointed_value(memory: &[u8], v: Value) -> Result<Value, NoValue>
     if !v.ty.pointer {
         return Err(NoValue::Undefined);
     }
-    Ok(loaded(memory, plain(v.ty.base), v.bits))
+    Ok(loaded(memory, CType::plain(v.ty.base), v.bits))
 }

@@ -6,7 +6,7 @@ ghost use Rattle.dcc_c.specs.Memory.{byte_at, load, store};
 ghost use Rattle.dcc_c.specs.Value.{loaded};
 ghost use Rattle.dcc_value.specs.Evaluation.{typed};
 
-use super::{Value, size_of};
+use super::Value;
 use dcc_c::CType;
 
 /// The byte at an address.
@@ -30,7 +30,7 @@ fn bits_at(memory: &[u8], ty: CType, at: u32) -> u32
     ensures { result ≡ load (size_of ty) memory.now at }
 {
     let at = u64::from(at);
-    match size_of(ty) {
+    match ty.size() {
         1 => u32::from(byte_at(memory, at)),
         2 => word_at(memory, at),
         _ => word_at(memory, at) + 0x1_0000 * word_at(memory, at + 2),
@@ -62,7 +62,7 @@ pub fn store(memory: &mut [u8], ty: CType, at: u32, n: u32)
     ensures { memory.new ≡ store (size_of ty) memory.old at n }
 {
     let mut rest = n;
-    for i in 0..size_of(ty) {
+    for i in 0..ty.size() {
         put_byte(memory, u64::from(at) + u64::from(i), (rest % 256) as u8);
         rest /= 256;
     }

@@ -1,95 +1,30 @@
 //! The operators on two's complement bit patterns of the number types (ISO/IEC 9899:1990, 6.3.3 to 6.3.14).
 
 ghost use Rattle.std.specs.Prelude.{◌≡◌, ◌-◌, ◌/◌, ◌^◌, ◌<◌, ◌≤◌, false, if◌then◌else◌};
-ghost use Rattle.dcc_c.specs.Types.{bits_of, is_signed, wrapped_bits, extended_bits, is_negative};
+ghost use Rattle.dcc_c.specs.Types.{bits_of};
 ghost use Rattle.dcc_c.specs.Arithmetic.{negated, complement, difference, magnitude, with_sign, same_sign, division_faults, quotient, remainder, rank, is_less, is_past, shifted_left, shifted_right};
 
 use dcc_c::Base;
-use dcc_c::plain::bits_of;
-
-/// Whether the type has numbers below 0.
-fn is_signed(base: Base) -> bool
-    ensures { result ≡ is_signed base }
-{
-    match base {
-        Base::Schar | Base::Int | Base::Long => true,
-        Base::Uchar | Base::Uint | Base::Ulong => false,
-    }
-}
-
-/// How many patterns the type has.
-fn modulus_of(base: Base) -> u64
-    ensures value { result ≡ 2 ^ bits_of base }
-    ensures some { 0 < result }
-    ensures size { result ≤ 2 ^ 32 }
-{
-    match base {
-        Base::Schar | Base::Uchar => 0x100,
-        Base::Int | Base::Uint => 0x1_0000,
-        Base::Long | Base::Ulong => 0x1_0000_0000,
-    }
-}
-
-/// The least pattern with the top bit.
-fn half_of(base: Base) -> u32
-    ensures { result ≡ 2 ^ (bits_of base - 1) }
-{
-    match base {
-        Base::Schar | Base::Uchar => 0x80,
-        Base::Int | Base::Uint => 0x8000,
-        Base::Long | Base::Ulong => 0x8000_0000,
-    }
-}
-
-/// The low bits of a number that the type has.
-pub fn wrapped_bits(base: Base, n: u64) -> u32
-    ensures value { result ≡ wrapped_bits base n }
-    ensures within { result < 2 ^ bits_of base }
-{
-    (n % modulus_of(base)) as u32
-}
-
-/// Whether the value is below 0.
-fn is_negative(base: Base, n: u32) -> bool
-    ensures { result ≡ is_negative base n }
-{
-    is_signed(base) && half_of(base) <= n
-}
-
-/// The 32 bits of a value: a negative one is extended by ones.
-pub fn extended_bits(base: Base, n: u32) -> u64
-    ensures value { result ≡ extended_bits base n }
-    ensures size { result < 2 ^ 33 }
-{
-    if is_negative(base, n) {
-        u64::from(n) + (0x1_0000_0000 - modulus_of(base))
-    } else {
-        u64::from(n)
-    }
-}
 
 /// The number with the other sign.
 pub fn negated(base: Base, n: u32) -> u32
     ensures { result ≡ negated base n }
 {
-    wrapped_bits(base, modulus_of(base).saturating_sub(u64::from(n)))
+    base.wrapped(base.modulus().saturating_sub(u64::from(n)))
 }
 
 /// The number with each bit turned.
 pub fn complement(base: Base, n: u32) -> u32
     ensures { result ≡ complement base n }
 {
-    (modulus_of(base) - 1).saturating_sub(u64::from(n)) as u32
+    (base.modulus() - 1).saturating_sub(u64::from(n)) as u32
 }
 
 /// The difference, which wraps.
 pub fn difference(base: Base, a: u32, b: u32) -> u32
     ensures { result ≡ difference base a b }
 {
-    wrapped_bits(
-        base,
-        (u64::from(a) + modulus_of(base)).saturating_sub(u64::from(b)),
-    )
+    base.wrapped((u64::from(a) + base.modulus()).saturating_sub(u64::from(b)))
 }
 
 /// The number without its sign.
@@ -97,8 +32,8 @@ fn magnitude(base: Base, n: u32) -> u32
     ensures value { result ≡ magnitude base n }
     ensures some { 0 < n → n < 2 ^ bits_of base → 0 < result }
 {
-    if is_negative(base, n) {
-        modulus_of(base).saturating_sub(u64::from(n)) as u32
+    if base.is_negative(n) {
+        base.modulus().saturating_sub(u64::from(n)) as u32
     } else {
         n
     }
@@ -115,10 +50,10 @@ fn with_sign(negative: bool, base: Base, n: u32) -> u32
 fn same_sign(base: Base, a: u32, b: u32) -> bool
     ensures { result ≡ same_sign base a b }
 {
-    if is_negative(base, a) {
-        is_negative(base, b)
+    if base.is_negative(a) {
+        base.is_negative(b)
     } else {
-        !is_negative(base, b)
+        !base.is_negative(b)
     }
 }
 
@@ -127,7 +62,7 @@ pub fn division_faults(base: Base, a: u32, b: u32) -> bool
     ensures value { result ≡ division_faults base a b }
     ensures some { result ≡ false → 0 < b }
 {
-    b == 0 || (is_signed(base) && (a == half_of(base) && u64::from(b) == modulus_of(base) - 1))
+    b == 0 || (base.is_signed() && (a == base.top_bit() && u64::from(b) == base.modulus() - 1))
 }
 
 /// The quotient, which is cut towards 0.
@@ -150,7 +85,7 @@ pub fn remainder(base: Base, a: u32, b: u32) -> u32
     ensures { result ≡ remainder base a b }
 {
     with_sign(
-        is_negative(base, a),
+        base.is_negative(a),
         base,
         magnitude(base, a) % magnitude(base, b),
     )
@@ -160,8 +95,8 @@ pub fn remainder(base: Base, a: u32, b: u32) -> u32
 fn rank(base: Base, n: u32) -> u32
     ensures { result ≡ rank base n }
 {
-    if is_signed(base) {
-        ((u64::from(n) + u64::from(half_of(base))) % modulus_of(base)) as u32
+    if base.is_signed() {
+        ((u64::from(n) + u64::from(base.top_bit())) % base.modulus()) as u32
     } else {
         n
     }
@@ -179,7 +114,7 @@ fn is_past(base: Base, of_count: Base, count: u32) -> bool
     ensures value { result ≡ is_past base of_count count }
     ensures within { result ≡ false → count < 32 }
 {
-    is_negative(of_count, count) || bits_of(base) <= count
+    of_count.is_negative(count) || base.bits() <= count
 }
 
 /// The bits moved up.
@@ -189,7 +124,7 @@ pub fn shifted_left(base: Base, n: u32, of_count: Base, count: u32) -> u32
     if is_past(base, of_count, count) {
         0
     } else {
-        wrapped_bits(base, u64::from(n) << count)
+        base.wrapped(u64::from(n) << count)
     }
 }
 
@@ -208,7 +143,7 @@ fn moved_down(base: Base, n: u32, of_count: Base, count: u32) -> u32
 pub fn shifted_right(base: Base, n: u32, of_count: Base, count: u32) -> u32
     ensures { result ≡ shifted_right base n of_count count }
 {
-    if is_negative(base, n) {
+    if base.is_negative(n) {
         complement(base, moved_down(base, complement(base, n), of_count, count))
     } else {
         moved_down(base, n, of_count, count)
