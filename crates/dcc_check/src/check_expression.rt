@@ -16,11 +16,11 @@ ghost use Rattle.dcc_check.specs.Operands.{operand, target};
 use crate::first::First;
 use crate::operand::{Operand, check_binary, check_choice, check_unary, tell_typed, want_number};
 use crate::scene::Scene;
-use dcc_c::CUn;
+use dcc_c::{CType, CUn};
 use dcc_reader::{ParseKind, PartialExpr};
 use dcc_types::Declared;
 use dcc_types::names::{type_of_address, type_of_name, type_of_variable};
-use dcc_types::operators::{both_arms_type, both_types, plain, type_of_unary};
+use dcc_types::operators::{both_arms_type, both_types, type_of_unary};
 
 /// Whether nothing has been read of the expression.
 pub(crate) fn is_missing(e: &PartialExpr) -> bool
@@ -104,7 +104,7 @@ pub(crate) fn check_expr(scene: &Scene<'_, '_>, e: &PartialExpr, first: &mut Fir
     match e {
         PartialExpr::Missing => Operand { ty: None, at: 0 },
         PartialExpr::Number(at, _, base) => Operand {
-            ty: Some(plain(*base)),
+            ty: Some(CType::plain(*base)),
             at: *at,
         },
         PartialExpr::Name(at, word, called) => {

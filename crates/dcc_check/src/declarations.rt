@@ -17,7 +17,6 @@ use crate::scene::Signature;
 use dcc_c::{Base, CType, Class};
 use dcc_reader::{PartialFunction, PartialVariable};
 use dcc_types::Declared;
-use dcc_types::operators::plain;
 use std::alloc::{AllocError, Global};
 use std::collections::BTreeMap;
 
@@ -134,7 +133,7 @@ fn takes(alloc: Global, base: Base) -> Result<Option<Signature>, AllocError>
     ensures { IfOk result (λ head. option_map signature_of head ≡ Some (taking base)) }
 {
     let mut params = Vec::new(alloc);
-    params.push(plain(base))?;
+    params.push(CType::plain(base))?;
     Ok(Some(Signature {
         result: None,
         params,
@@ -147,7 +146,7 @@ fn gives(alloc: Global, base: Base) -> Result<Option<Signature>, AllocError>
 {
     let params = Vec::new(alloc);
     Ok(Some(Signature {
-        result: Some(plain(base)),
+        result: Some(CType::plain(base)),
         params,
     }))
 }

@@ -7,33 +7,16 @@ ghost use Rattle.dcc_c.specs.Kinds.{of_place, offence, earlier, first_behind};
 ghost use Rattle.dcc_c.specs.Partial as partial;
 ghost use Rattle.dcc_c.specs.ReadingText as reading;
 ghost use Rattle.dcc_c.specs.TextOffences as offences;
-ghost use Rattle.dcc_c.specs.Types as types;
 ghost use Rattle.dcc_reader.specs.PartialViews.{number_of, variable_of};
 ghost use Rattle.dcc_check.specs.Places.{earlier_of, in_stack, IsOccupied, misplaced_here, earlier_with, is_covered};
 ghost use Rattle.dcc_check.specs.Views.{told};
 
 use crate::first::First;
-use dcc_c::{Base, CType};
 use dcc_reader::{NumberAt, ParseKind, PartialVariable};
 use std::alloc::{AllocError, Global};
 
 /// How many bytes a memory has.
 const MEMORY: u64 = 65536;
-
-/// How many bytes a value of the type takes.
-fn size_of(ty: CType) -> u64
-    ensures value { result ≡ types.size_of ty }
-    ensures small { result ≤ 4 }
-{
-    if ty.pointer {
-        return 2;
-    }
-    match ty.base {
-        Base::Schar | Base::Uchar => 1,
-        Base::Int | Base::Uint => 2,
-        Base::Long | Base::Ulong => 4,
-    }
-}
 
 /// How many elements a variable has.
 fn element_count(size: Option<NumberAt>) -> u64
@@ -52,7 +35,7 @@ fn size_in_bytes(variable: &PartialVariable) -> u64
     ensures small { result ≤ 17179869180 }
 {
     match variable.ty {
-        Some(ty) => size_of(ty) * element_count(variable.size),
+        Some(ty) => u64::from(ty.size()) * element_count(variable.size),
         None => 0,
     }
 }

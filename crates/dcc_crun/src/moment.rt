@@ -23,7 +23,7 @@ use dcc_c::{Base, CType};
 use dcc_io::{Sink, Source, put_all};
 use dcc_prepare::program::{Action, CallRow, Callee, Case, Dos, Label, Procedure, Program, Row};
 use dcc_value::expression::{Resolved, Target, take};
-use dcc_value::value::{NoValue, Value, converted, is_zero, number, plain};
+use dcc_value::value::{NoValue, Value, converted, is_zero, number};
 use dcc_value::variable::{Binding, Scene};
 use std::alloc::{AllocError, Global};
 use std::mem;
@@ -192,7 +192,7 @@ impl Moment {
             (evaluated (scene_in self.now globals.now) e.now) }
     {
         let v = e.evaluate(&self.scene(globals))?;
-        let n = (converted(plain(Base::Uint), v).bits % 0x1_0000) as u16;
+        let n = (converted(CType::plain(Base::Uint), v).bits % 0x1_0000) as u16;
         Ok(case_point(cases, n, otherwise))
     }
 
@@ -385,7 +385,7 @@ impl Moment {
         ensures read_failed { IsErrOf result (Stop.Refused Fault.Input) → ⊥ }
         ensures write_failed { IsErrOf result (Stop.Refused Fault.Output) → Rose (O.faults out.old) (O.faults out.new) }
     {
-        let v = only_argument(&self.scene(globals), plain(Base::Uchar), arguments)?;
+        let v = only_argument(&self.scene(globals), CType::plain(Base::Uchar), arguments)?;
         if target.is_some() {
             return Err(Stop::Undefined);
         }
@@ -413,7 +413,7 @@ impl Moment {
         ensures read_failed { IsErrOf result (Stop.Refused Fault.Input) → ⊥ }
         ensures write_failed { IsErrOf result (Stop.Refused Fault.Output) → Rose (O.faults out.old) (O.faults out.new) }
     {
-        let v = only_argument(&self.scene(globals), plain(Base::Uint), arguments)?;
+        let v = only_argument(&self.scene(globals), CType::plain(Base::Uint), arguments)?;
         if target.is_some() {
             return Err(Stop::Undefined);
         }
@@ -435,7 +435,7 @@ impl Moment {
             Keeps tree points line result self.new s now }
         ensures at { StepsAside self.old self.new }
     {
-        let v = only_argument(&self.scene(globals), plain(Base::Uchar), arguments)?;
+        let v = only_argument(&self.scene(globals), CType::plain(Base::Uchar), arguments)?;
         if target.is_some() {
             return Err(NoValue::Undefined);
         }

@@ -9,8 +9,8 @@ ghost use Rattle.dcc_c.specs.Views.{expr_of};
 ghost use Rattle.dcc_pipe.specs.Variables as variables;
 ghost use Rattle.dcc_pipe.specs.GotoExpr as spec;
 
-use crate::variables::{location_width, place_of, plain, signed_type, unsigned_type};
-use dcc_c::{Base, CBin, CExpr, CUn};
+use crate::variables::{location_width, place_of, signed_type, unsigned_type};
+use dcc_c::{Base, CBin, CExpr, CType, CUn};
 use dcc_ir::{BinOp, Expr, UnOp};
 use std::alloc::{AllocError, Global};
 
@@ -87,7 +87,7 @@ fn binary(alloc: Global, operator: CBin, a: CExpr, b: CExpr) -> Result<CExpr, Al
 fn cast(alloc: Global, base: Base, e: CExpr) -> Result<CExpr, AllocError>
     ensures { IfOk result (λ r. expr_of r ≡ tree.Cast (plain base) (expr_of e)) }
 {
-    Ok(CExpr::Cast(plain(base), Box::new(alloc, e)?))
+    Ok(CExpr::Cast(CType::plain(base), Box::new(alloc, e)?))
 }
 
 /// The low bits of a value.

@@ -3,7 +3,6 @@
 ghost use Rattle.std.specs.Prelude.{◌≡◌, ◌≤◌, IfOk, map, string_bytes};
 ghost use Rattle.dcc_ir.specs.Location.{half_number, flag_number, location_width};
 ghost use Rattle.dcc_lift.specs.Temporaries.{temporary_bits};
-ghost use Rattle.dcc_c.specs.Types.{plain};
 ghost use Rattle.dcc_c.specs.Tree as tree;
 ghost use Rattle.dcc_c.specs.Views.{expr_of, variable_of};
 ghost use Rattle.dcc_pipe.specs.Variables as spec;
@@ -102,16 +101,6 @@ pub fn location_width(location: Loc) -> u8
     }
 }
 
-/// A number type.
-pub fn plain(base: Base) -> CType
-    ensures { result ≡ plain base }
-{
-    CType {
-        base,
-        pointer: false,
-    }
-}
-
 /// The unsigned type that holds numbers of so many bits.
 pub fn unsigned_type(width: u8) -> Base
     ensures { result ≡ spec.unsigned_type width }
@@ -144,7 +133,7 @@ fn variable(alloc: Global, location: Loc) -> Result<Var, AllocError>
 {
     Ok(Var {
         name: variable_name(alloc, location)?,
-        ty: plain(unsigned_type(location_width(location))),
+        ty: CType::plain(unsigned_type(location_width(location))),
         len: None,
         class: Class::Plain,
     })

@@ -13,7 +13,6 @@ ghost use Rattle.dcc_prepare.specs.Takes.{expr_takes, option_takes, stmt_takes, 
 
 use crate::program::Variable;
 use dcc_c::{Arm, CExpr, CStmt, CUn, Class, Line, Var};
-use dcc_value::value::size_of;
 use std::alloc::{AllocError, Global};
 
 /// Whether the address of the name is taken in the expression.
@@ -215,7 +214,7 @@ fn bytes_of(variable: &Var) -> u16
     ensures { result ≡ bytes_of variable.now.ty variable.now.len % 65536 }
 {
     let elements = variable.len.unwrap_or(1);
-    (u64::from(size_of(variable.ty)) * u64::from(elements) % 0x1_0000) as u16
+    (u64::from(variable.ty.size()) * u64::from(elements) % 0x1_0000) as u16
 }
 
 /// A variable at so many bytes above the base.

@@ -8,7 +8,6 @@ ghost use Rattle.dcc_c.specs.Views.{global_of, tree_of};
 
 use dcc_c::{Global_, Unit};
 use dcc_value::value::memory::store;
-use dcc_value::value::size_of;
 use std::alloc::{AllocError, Global};
 
 /// The memory at the start: the stack holds the low byte of the fill, global variables hold their initial values, and
@@ -47,7 +46,7 @@ fn first_bytes(alloc: Global, lo: u16, hi: u16, fill: u16, len: u32) -> Result<V
 fn put_values(global: &Global_, memory: &mut [u8])
     ensures { memory.new ≡ with_values global.now.ty global.now.at global.now.init.items memory.old }
 {
-    let size = size_of(global.ty);
+    let size = global.ty.size();
     let mut at = global.at % 0x1_0000;
     for n in &global.init {
         store(memory, global.ty, at, *n);

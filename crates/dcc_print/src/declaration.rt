@@ -1,14 +1,12 @@
 //! Declarations in their written form.
 
 ghost use Rattle.std.specs.Prelude.{◌≡◌, ◌++◌, ◌≤◌, OnOk, map, option_map, string_bytes};
-ghost use Rattle.dcc_c.specs.Types.{size_of};
 ghost use Rattle.dcc_c.specs.Placement.{behind_global};
 ghost use Rattle.dcc_c.specs.Written.{written_variable, written_size, written_class, written_local, written_param, written_head_params, written_head, written_numbers, written_initial, written_global, written_place, written_globals};
 ghost use Rattle.dcc_c.specs.Views.{global_of, variable_of};
 
 use crate::expression::base_words;
-use dcc_c::plain::bits_of;
-use dcc_c::{Base, CType, Class, Global_, Var};
+use dcc_c::{CType, Class, Global_, Var};
 use std::alloc::AllocError;
 
 /// Appends a type and the name that has it.
@@ -136,20 +134,11 @@ fn push_global(text: &mut String, global: &Global_) -> Result<(), AllocError>
     text.push_str(";\n")
 }
 
-/// How many bytes a value of the type takes.
-fn size_of(ty: CType) -> u64
-    ensures value { result ≡ size_of ty }
-    ensures small { result ≤ 4 }
-{
-    let base = if ty.pointer { Base::Uint } else { ty.base };
-    u64::from(bits_of(base) / 8)
-}
-
 /// The address behind a global variable.
 fn behind_global(global: &Global_) -> u64
     ensures { result ≡ behind_global (global_of global.now) }
 {
-    let size = size_of(global.ty);
+    let size = u64::from(global.ty.size());
     let bytes = match global.len {
         None => size,
         Some(len) => size * u64::from(len),

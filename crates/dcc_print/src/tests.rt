@@ -36,20 +36,6 @@ fn conditional(alloc: Global, a: CExpr, b: CExpr, c: CExpr) -> Result<CExpr, All
     ))
 }
 
-fn plain(base: Base) -> CType {
-    CType {
-        base,
-        pointer: false,
-    }
-}
-
-fn pointer(base: Base) -> CType {
-    CType {
-        base,
-        pointer: true,
-    }
-}
-
 fn line(stmt: CStmt) -> Line {
     Line { stmt, line: 0 }
 }

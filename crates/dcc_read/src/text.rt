@@ -5,7 +5,6 @@ ghost use Rattle.std.specs.Option.{option_map};
 ghost use Rattle.dcc_c.specs.Placement as placement;
 ghost use Rattle.dcc_c.specs.Reading as reading;
 ghost use Rattle.dcc_c.specs.ReadingText as texts;
-ghost use Rattle.dcc_c.specs.Types as types;
 ghost use Rattle.dcc_lex.specs.TokenViews.{pieces_of};
 ghost use Rattle.dcc_reader.specs.BegunViews.{begun_of};
 ghost use Rattle.dcc_reader.specs.PartialViews.{number_of, variable_of, function_of, text_of};
@@ -13,7 +12,7 @@ ghost use Rattle.dcc_reader.specs.ReaderViews.{reader_of};
 ghost use Rattle.dcc_read.specs.TextViews.{declared_of, is_global, global_address, place_line};
 
 use crate::function::read_functions;
-use dcc_c::{Base, CType, Class};
+use dcc_c::Class;
 use dcc_lex::{Head, Mark, Piece};
 use dcc_reader::declaration::{read_init, read_size};
 use dcc_reader::head::{Begun, read_begun};
@@ -66,21 +65,6 @@ fn read_global(
     })
 }
 
-/// How many bytes a value of the type takes.
-fn size_of(ty: CType) -> u64
-    ensures exact { result ≡ types.size_of ty }
-    ensures few { result ≤ 4 }
-{
-    if ty.pointer {
-        return 2;
-    }
-    match ty.base {
-        Base::Schar | Base::Uchar => 1,
-        Base::Int | Base::Uint => 2,
-        Base::Long | Base::Ulong => 4,
-    }
-}
-
 /// How many elements a variable with the size has.
 fn elements(size: &Option<NumberAt>) -> u64
     ensures exact { result ≡ placement.elements (option_map (λ n. n.value) size.now) }
@@ -98,7 +82,7 @@ fn size_in_bytes(v: &PartialVariable) -> u64
     ensures few { result ≤ 17179869180 }
 {
     match v.ty {
-        Some(ty) => size_of(ty) * elements(&v.size),
+        Some(ty) => u64::from(ty.size()) * elements(&v.size),
         None => 0,
     }
 }

@@ -23,21 +23,21 @@ fn globals(alloc: Global) -> Result<Vec<Global_>, AllocError> {
     let first = Global_ {
         name: String::from_str(alloc, "g_0010")?,
         at: 16,
-        ty: plain(Base::Uchar),
+        ty: CType::plain(Base::Uchar),
         len: Some(4),
         init: vec![in alloc; 1, 2]?,
     };
     let second = Global_ {
         name: String::from_str(alloc, "g_0014")?,
         at: 20,
-        ty: plain(Base::Uint),
+        ty: CType::plain(Base::Uint),
         len: None,
         init: vec![in alloc; 5]?,
     };
     let third = Global_ {
         name: String::from_str(alloc, "g_0020")?,
         at: 32,
-        ty: pointer(Base::Schar),
+        ty: CType::pointer_to(Base::Schar),
         len: None,
         init: Vec::new(alloc),
     };
@@ -45,20 +45,20 @@ fn globals(alloc: Global) -> Result<Vec<Global_>, AllocError> {
 }
 
 fn function(alloc: Global) -> Result<Func, AllocError> {
-    let mut array = variable(alloc, "v1", plain(Base::Uchar), Class::Auto)?;
+    let mut array = variable(alloc, "v1", CType::plain(Base::Uchar), Class::Auto)?;
     array.len = Some(3);
     let params = vec![in alloc;
-        variable(alloc, "p1", plain(Base::Int), Class::Register)?,
-        variable(alloc, "p2", plain(Base::Long), Class::Auto)?,
+        variable(alloc, "p1", CType::plain(Base::Int), Class::Register)?,
+        variable(alloc, "p2", CType::plain(Base::Long), Class::Auto)?,
     ]?;
     let locals = vec![in alloc;
         array,
-        variable(alloc, "v2", plain(Base::Int), Class::Plain)?,
+        variable(alloc, "v2", CType::plain(Base::Int), Class::Plain)?,
     ]?;
     let name = String::from_str(alloc, "f_0012")?;
     Ok(Func {
         name,
-        result: Some(pointer(Base::Ulong)),
+        result: Some(CType::pointer_to(Base::Ulong)),
         params,
         locals,
         body: Vec::new(alloc),

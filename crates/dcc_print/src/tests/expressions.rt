@@ -126,10 +126,10 @@ fn places(alloc: Global, body: &mut Vec<Line>) -> Result<(), AllocError> {
     let address = unary(alloc, CUn::AddressOf, name(alloc, "v6")?)?;
     body.push(assigns(alloc, "v5", address)?)?;
     let place = unary(alloc, CUn::Deref, name(alloc, "v5")?)?;
-    let cut = CExpr::Cast(plain(Base::Uchar), Box::new(alloc, sum(alloc)?)?);
+    let cut = CExpr::Cast(CType::plain(Base::Uchar), Box::new(alloc, sum(alloc)?)?);
     body.push(line(CStmt::Assign(place, cut)))?;
     let value = Box::new(alloc, name(alloc, "v1")?)?;
-    body.push(assigns(alloc, "v5", CExpr::Cast(pointer(Base::Uchar), value))?)?;
+    body.push(assigns(alloc, "v5", CExpr::Cast(CType::pointer_to(Base::Uchar), value))?)?;
     Ok(())
 }
 
