@@ -8,4 +8,5 @@ pub mod StandLaws
 pub mod KeepsLaws
 pub mod ShiftLaws
 pub mod PassLaws
+mod Examples
 pub mod FitLaws
