@@ -8,7 +8,8 @@ use Rattle.dcc_io.specs.declared.outside.ShelfFault.TheVariants.{Absent, Failed,
 -- the answer and the bytes given are right for the file of that name, or for there being none
 abbrev pub Fetches : Option (List ℕ) → ℕ → Result Fetched ShelfFault → List ℕ → Type 0
 Fetches file most (Ok Whole) given = (file ≡ Some given) × (length given ≤ most)
-Fetches file most (Ok Longer) given = (bytes : List ℕ) × (file ≡ Some bytes) × (most < length bytes) × (given ≡ take most bytes)
+Fetches file most (Ok Longer) given = (bytes : List ℕ) × (file ≡ Some bytes) × (most < length bytes)
+    × (given ≡ take most bytes)
 Fetches file most (Err Absent) given = file ≡ None
 Fetches file most (Err Failed) given = Unit {0}
 Fetches file most (Err Memory) given = Unit {0}

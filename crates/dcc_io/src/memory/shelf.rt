@@ -25,14 +25,26 @@ impl Model for MemShelf {
 
     ghost Value = { ShelfState };
 
-    ghost view = { λ s. record { files = files_of s.files.items; asked = requests_of s.asked.items; fetches = s.calls.made; absences = s.absences; fail = s.calls.fail.items } };
+    ghost view = { λ s. record {
+      files = files_of s.files.items;
+      asked = requests_of s.asked.items;
+      fetches = s.calls.made;
+      absences = s.absences;
+      fail = s.calls.fail.items;
+    } };
 }
 
 impl MemShelf {
     /// Files of these names, which differ, and bytes. The fetches whose numbers are in `fail`, from 1 on, fail.
     pub fn new(alloc: Global, files: Vec<(String, Vec<u8>)>, fail: Vec<u64>) -> MemShelf
         requires { AllPairs (λ one another. string_bytes one.0 ≢ string_bytes another.0) files.items }
-        ensures { result ≡ record { files = files_of files.items; asked = []; fetches = 0; absences = 0; fail = fail.items } }
+        ensures { result ≡ record {
+          files = files_of files.items;
+          asked = [];
+          fetches = 0;
+          absences = 0;
+          fail = fail.items;
+        } }
     {
         MemShelf {
             files,
@@ -63,15 +75,18 @@ impl Shelf for MemShelf {
 
         ensures files { Some (file_named self.new.files) ≡ Some (file_named self.old.files) }
         ensures asked { Records self.old.asked self.new.asked (name.now, most) result }
-        ensures answer { WhenTold (Some (file_named self.old.files)) (λ file. Fetches (file name.now) most result into.new.items) }
+        ensures answer { WhenTold (Some (file_named self.old.files))
+            (λ file. Fetches (file name.now) most result into.new.items) }
         ensures within { KeepsWithin most result into.new.items }
         ensures absences { self.old.absences ≤ self.new.absences }
         ensures absent { IsErrOf result ShelfFault.Absent → Rose self.old.absences self.new.absences }
         ensures faults { listed_calls self.old.fail self.old.fetches ≤ listed_calls self.new.fail self.new.fetches }
-        ensures failed { IsErrOf result ShelfFault.Failed → Rose (listed_calls self.old.fail self.old.fetches) (listed_calls self.new.fail self.new.fetches) }
+        ensures failed { IsErrOf result ShelfFault.Failed
+            → Rose (listed_calls self.old.fail self.old.fetches) (listed_calls self.new.fail self.new.fetches) }
 
         // The fetches that are on the list fail, and no other does.
-        ensures listed { IsTrue (fails_next self.old.fail self.old.fetches) → (result ≡ Err ShelfFault.Failed) ⊎ (result ≡ Err ShelfFault.Memory) }
+        ensures listed { IsTrue (fails_next self.old.fail self.old.fetches)
+            → (result ≡ Err ShelfFault.Failed) ⊎ (result ≡ Err ShelfFault.Memory) }
         ensures unlisted { result ≡ Err ShelfFault.Failed → IsTrue (fails_next self.old.fail self.old.fetches) }
         // The absences that are counted are those that were answered.
         ensures absences_counted { IsErrOf result ShelfFault.Absent → self.new.absences ≡ next_count self.old.absences }

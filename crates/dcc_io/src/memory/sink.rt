@@ -26,7 +26,13 @@ impl Model for MemSink {
 
     ghost Value = { SinkState };
 
-    ghost view = { λ s. record { taken = s.bytes.items; writes = s.calls.made; refused = s.refused; fail = s.calls.fail.items; most = s.most } };
+    ghost view = { λ s. record {
+      taken = s.bytes.items;
+      writes = s.calls.made;
+      refused = s.refused;
+      fail = s.calls.fail.items;
+      most = s.most;
+    } };
 
     ghost invariant = { λ s. 1 ≤ s.most };
 }
@@ -63,7 +69,8 @@ impl Sink for MemSink {
     fn write(&mut self, piece: &[u8]) -> Result<usize, Failed>
         ensures bound { IfOk result (λ count. count ≤ length piece.now) }
         ensures progress { 0 < length piece.now → IfOk result (λ count. 0 < count) }
-        ensures taken { IfOk result (λ count. Some self.new.taken ≡ append_told (Some self.old.taken) (take count piece.now)) }
+        ensures taken { IfOk result (λ count. Some self.new.taken
+            ≡ append_told (Some self.old.taken) (take count piece.now)) }
         ensures err { OnErr result (Some self.new.taken ≡ Some self.old.taken) }
         ensures faults { sink_faults self.old ≤ sink_faults self.new }
         ensures failed { OnErr result (Rose (sink_faults self.old) (sink_faults self.new)) }
@@ -72,7 +79,8 @@ impl Sink for MemSink {
         // counted as refused.
         ensures listed { IsTrue (fails_next self.old.fail self.old.writes) → IsErr result }
         ensures refused { self.new.refused
-            ≡ (if is_ok result || fails_next self.old.fail self.old.writes then self.old.refused else next_count self.old.refused) }
+            ≡ (if is_ok result || fails_next self.old.fail self.old.writes then self.old.refused
+            else next_count self.old.refused) }
         ensures count { IfOk result (λ count. count ≡ min (length piece.now) self.old.most) }
         ensures writes { self.new.writes ≡ next_count self.old.writes }
         ensures fail { self.new.fail ≡ self.old.fail }

@@ -24,7 +24,12 @@ impl Model for MemSource {
 
     ghost Value = { SourceState };
 
-    ghost view = { λ s. record { left = drop s.at s.bytes.items; reads = s.calls.made; fail = s.calls.fail.items; most = s.most } };
+    ghost view = { λ s. record {
+      left = drop s.at s.bytes.items;
+      reads = s.calls.made;
+      fail = s.calls.fail.items;
+      most = s.most;
+    } };
 
     ghost invariant = { λ s. record { within : s.at ≤ length s.bytes.items; some : 1 ≤ s.most } };
 }
@@ -52,12 +57,14 @@ impl Source for MemSource {
 
     fn read(&mut self, buf: &mut [u8]) -> Result<usize, Failed>
         ensures bound { IfOk result (λ count. count ≤ length buf.new) }
-        ensures taken { IfOk result (λ count. Some self.old.left ≡ prepend_told (take count buf.new) (Some self.new.left)) }
+        ensures taken { IfOk result (λ count. Some self.old.left
+            ≡ prepend_told (take count buf.new) (Some self.new.left)) }
         ensures end { result ≡ Ok 0 → 0 < length buf.new → WhenTold (Some self.old.left) (λ bytes. bytes ≡ []) }
         ensures none_left { Some self.old.left ≡ Some [] → IfOk result (λ count. count ≡ 0) }
         ensures err { OnErr result (Some self.new.left ≡ Some self.old.left) }
         ensures faults { listed_calls self.old.fail self.old.reads ≤ listed_calls self.new.fail self.new.reads }
-        ensures failed { OnErr result (Rose (listed_calls self.old.fail self.old.reads) (listed_calls self.new.fail self.new.reads)) }
+        ensures failed { OnErr result
+            (Rose (listed_calls self.old.fail self.old.reads) (listed_calls self.new.fail self.new.reads)) }
 
         // The reads that are on the list fail, and each other gives as many bytes as it may.
         ensures fails { is_err result ≡ fails_next self.old.fail self.old.reads }
