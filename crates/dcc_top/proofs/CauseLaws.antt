@@ -1,7 +1,6 @@
 -- When each status comes, and what it says: by cases on what the call came to.
-use Rattle.std.proofs.Common.{◌≡◌, ℕ, ◌⊎◌, inl, inr, List, [], ◌∷◌, Option, Some, None, refl, sym, ap, ◌∙◌, subst, arith}
+use Rattle.std.proofs.Common.{◌≡◌, ℕ, ◌⊎◌, inl, inr, true, List, [], ◌∷◌, Option, Some, None, refl, sym, ap, ◌∙◌, subst, arith}
 use Rattle.std.specs.Prelude.{◌≢◌}
-use Rattle.dcc_io.specs.Count.{Rose}
 use Rattle.dcc_io.specs.Told.{append_told}
 use Rattle.dcc_io.proofs.ToldLemmas.{append_told-nil}
 use Rattle.dcc_mz.specs.declared.fault.MzFault.{MzFault}
@@ -16,61 +15,72 @@ use Rattle.dcc_top.specs.declared.reply.Reply.{Reply}
 use Rattle.dcc_top.specs.declared.reply.Reply.TheVariants.{Done, Format, TextFault}
 use Rattle.dcc_top.specs.Words.{Job, Decompile, Execute, ExecuteText, name_of, file_of, IsExecution, LoadsImage}
 use Rattle.dcc_top.specs.Answer.{Files, OfFile, HasNoFile, no_file, file_fault, no_memory, HasNoImage, no_executable, misshapen, HasNoUnit, no_text, offends, AllowsText, decompiled, refused, no_image, Decompiles, IsRefusedAs, OfImages, Runs, Allows, no_job, for_text, ran_file, ran_no_file, ran_text, ran_no_text, ShelfLacks, status_of, line_of, refusal_reply}
-use Rattle.dcc_top.specs.Delivery.{Streams}
-use Rattle.dcc_top.specs.Causes.{IsAnswered, answered, found_no_memory, broke_off, HasText, HasRunFile, IsAbsent, IsUnreadable, HasFormatFault, HasRefusal, HasTextFault, Names, IsMissing, IsNoText, EndsSo, IsOneOf, end_status, IsOutOfMemory, IsCutOff}
-use Rattle.dcc_top.proofs.StatusLaws.{apart, text_statuses, text-status, status-not_six, reply-at_7, no_file-status, no_image-status, no_unit-status, refusal-status, run_statuses, run-status, text_run-status}
+use Rattle.dcc_top.specs.Call.{Call, Rises, Appends}
+use Rattle.dcc_top.specs.Causes.{IsAnswered, answered, found_no_memory, broke_off, IsCaused, HasRunFile, IsAbsent, IsUnreadable, HasFormatFault, HasRefusal, HasTextFault, Names, IsMissing, IsNoText, EndsSo, IsOutOfMemory, IsCutOff}
+use Rattle.dcc_top.specs.Headline.{HasText}
+use Rattle.dcc_top.specs.Status.{IsOneOf, end_status}
+use Rattle.dcc_top.specs.Status as exit
+use Rattle.dcc_top.proofs.HeadlineLaws.{has-text}
+use Rattle.dcc_top.proofs.StatusLaws.{apart, are_apart, image_faults, refusals, text_faults, text_statuses, text-status, status-not_six, reply-at_3, reply-at_4, reply-at_5, reply-at_7, no_file-status, no_image-status, no_unit-status, refusal-status, run_statuses, run-status, text_run-status}
 use Rattle.dcc_top.proofs.NamedLaws.{name-of, file-name, accepted-one, refused-always as always-refused, job-misshapen, job-missing, text-refused, job-ended}
 
--- lists of statuses
+module _ (call : Call) where
+  abbrev told : Files
+  told = call.shelf.files
 
-abbrev image_faults : List ℕ
-image_faults = 8 ∷ (3 ∷ (4 ∷ (7 ∷ [])))
+  abbrev before : Option (List ℕ)
+  before = call.input.left.before
 
-abbrev refusals : List ℕ
-refusals = 7 ∷ (9 ∷ (10 ∷ (12 ∷ [])))
+  abbrev left : Option (List ℕ)
+  left = call.input.left.after
 
-abbrev ended_statuses : List ℕ
-ended_statuses = 5 ∷ (20 ∷ (21 ∷ (22 ∷ (24 ∷ []))))
-
-abbrev text_faults : List ℕ
-text_faults = 11 ∷ (3 ∷ (4 ∷ (7 ∷ [])))
-
-module _ (told : Files) (job : Option Job) (before left : Option (List ℕ)) (caused : Reply → Type 0) (status : ℕ) (out_failed err_failed : Type 0) (s : Streams) where
   abbrev Allowed : Option Job → Reply → List ℕ → Type 0
   Allowed = Allows told before left
 
   abbrev Comes : Type 0
-  Comes = IsAnswered told job before left caused status out_failed err_failed s
+  Comes = IsAnswered call
 
   -- an answer that was told whole
   record IsTold : Type 0 where
     reply : Reply
     output : List ℕ
-    allowed : Allowed job reply output
-    cause : caused reply
-    status_is : status ≡ status_of reply
-    out : s.out_after ≡ append_told s.out_before output
-    line : s.err_after ≡ append_told s.err_before (line_of reply)
+    allowed : Allowed call.job reply output
+    cause : IsCaused call reply
+    status_is : call.status ≡ status_of reply
+    out : Appends call.output output
+    line : Appends call.errors (line_of reply)
 
   -- at any other status than those of a failed write and of want of memory an answer was told whole
-  is-told : Comes → status ≢ 6 → status ≢ 7 → IsTold
-  is-told (answered reply output allowed cause out (inl t)) not_six not_seven =
-      record { reply = reply; output = output; allowed = allowed; cause = cause; status_is = t.0; out = out; line = t.1 }
-  is-told (answered reply output allowed cause out (inr t)) not_six not_seven = absurd (not_six t.0)
-  is-told (found_no_memory reply output allowed not out (inl t)) not_six not_seven = absurd (not_seven t.0)
-  is-told (found_no_memory reply output allowed not out (inr t)) not_six not_seven = absurd (not_six t.0)
+  is-told : Comes → call.status ≢ 6 → call.status ≢ 7 → IsTold
+  is-told (answered reply gives cause (inl t)) not_six not_seven = record {
+    reply = reply;
+    output = gives.output;
+    allowed = gives.is_answer;
+    cause = cause;
+    status_is = t.0;
+    out = gives.wrote;
+    line = t.1;
+  }
+  is-told (answered reply gives cause (inr t)) not_six not_seven = absurd (not_six t.0)
+  is-told (found_no_memory reply gives not (inl t)) not_six not_seven = absurd (not_seven t.0)
+  is-told (found_no_memory reply gives not (inr t)) not_six not_seven = absurd (not_six t.0)
   is-told (broke_off due is_due broke) not_six not_seven = absurd (not_six broke.status_is)
 
-  told-at : (n : ℕ) → status ≡ n → n ≢ 6 → n ≢ 7 → Comes → IsTold
+  told-at : (n : ℕ) → call.status ≡ n → n ≢ 6 → n ≢ 7 → Comes → IsTold
   told-at n is not_six not_seven a = is-told a (λ e. not_six (sym is ∙ e)) (λ e. not_seven (sym is ∙ e))
 
+  -- and so at one of some statuses that has neither
+  told-among : (ns : List ℕ) → are_apart (6 ∷ (7 ∷ [])) ns ≡ true → IsOneOf call.status ns → Comes → IsTold
+  told-among ns far is a =
+      is-told a (λ six. apart call.status (6 ∷ (7 ∷ [])) ns far (inl six) is) (λ seven. apart call.status (6 ∷ (7 ∷ [])) ns far (inr (inl seven)) is)
+
   -- the status is one of some, where those of the allowed answers are, with that of a failed write and of want of memory
-  one-of : (ns : List ℕ) → IsOneOf 6 ns → IsOneOf 7 ns → ((reply : Reply) (output : List ℕ) → Allowed job reply output → IsOneOf (status_of reply) ns) → Comes → IsOneOf status ns
-  one-of ns six seven each (answered reply output allowed cause out (inl t)) =
-      subst (λ n. IsOneOf n ns) (sym t.0) (each reply output allowed)
-  one-of ns six seven each (answered reply output allowed cause out (inr t)) = subst (λ n. IsOneOf n ns) (sym t.0) six
-  one-of ns six seven each (found_no_memory reply output allowed not out (inl t)) = subst (λ n. IsOneOf n ns) (sym t.0) seven
-  one-of ns six seven each (found_no_memory reply output allowed not out (inr t)) = subst (λ n. IsOneOf n ns) (sym t.0) six
+  one-of : (ns : List ℕ) → IsOneOf 6 ns → IsOneOf 7 ns → ((reply : Reply) (output : List ℕ) → Allowed call.job reply output → IsOneOf (status_of reply) ns) → Comes → IsOneOf call.status ns
+  one-of ns six seven each (answered reply gives cause (inl t)) =
+      subst (λ n. IsOneOf n ns) (sym t.0) (each reply gives.output gives.is_answer)
+  one-of ns six seven each (answered reply gives cause (inr t)) = subst (λ n. IsOneOf n ns) (sym t.0) six
+  one-of ns six seven each (found_no_memory reply gives not (inl t)) = subst (λ n. IsOneOf n ns) (sym t.0) seven
+  one-of ns six seven each (found_no_memory reply gives not (inr t)) = subst (λ n. IsOneOf n ns) (sym t.0) six
   one-of ns six seven each (broke_off due is_due broke) = subst (λ n. IsOneOf n ns) (sym broke.status_is) six
 
   -- the statuses of a run
@@ -95,15 +105,15 @@ module _ (told : Files) (job : Option Job) (before left : Option (List ℕ)) (ca
   usage-of _ reply _ (ran_no_text {name = name} h same) is =
       absurd (apart (status_of reply) (2 ∷ []) text_faults refl is (no_unit-status told name reply h))
 
-  pub usage : Comes → status ≡ 2 → job ≡ None
+  pub usage : Comes → call.status ≡ 2 → call.job ≡ None
   usage a is =
       let t = told-at 2 is (λ e. omega (arith, e)) (λ e. omega (arith, e)) a in
-      usage-of job t.reply t.output t.allowed (inl (sym t.status_is ∙ is))
+      usage-of call.job t.reply t.output t.allowed (inl (sym t.status_is ∙ is))
 
   no-words : (reply : Reply) (output : List ℕ) → Allowed None reply output → IsOneOf (status_of reply) (2 ∷ (6 ∷ (7 ∷ [])))
   no-words _ _ (no_job same) = inl refl
 
-  pub usage-always : Comes → job ≡ None → IsOneOf status (2 ∷ (6 ∷ (7 ∷ [])))
+  pub usage-always : Comes → call.job ≡ None → IsOneOf call.status (2 ∷ (6 ∷ (7 ∷ [])))
   usage-always a none =
       one-of (2 ∷ (6 ∷ (7 ∷ []))) (inr (inl refl)) (inr (inr (inl refl))) (λ reply output h. no-words reply output (subst (λ j. Allowed j reply output) none h)) a
 
@@ -120,12 +130,12 @@ module _ (told : Files) (job : Option Job) (before left : Option (List ℕ)) (ca
   for-text : (name : List ℕ) (reply : Reply) (output : List ℕ) → Allowed (Some (Decompile name)) reply output → AllowsText told name reply output
   for-text name reply output (for_text h same) = h
 
-  pub text : Comes → (name : List ℕ) → job ≡ Some (Decompile name) → status ≡ 0 → HasText told name s
+  pub text : Comes → (name : List ℕ) → call.job ≡ Some (Decompile name) → call.status ≡ 0 → HasText told name call.output.taken.before call.output.taken.after
   text a name named is =
       let t = told-at 0 is (λ e. omega (arith, e)) (λ e. omega (arith, e)) a in
       let h = subst (λ j. Allowed j t.reply t.output) named t.allowed in
       let f = text-of name t.reply t.output (for-text name t.reply t.output h) (sym t.status_is ∙ is) in
-      record { file = f.file; text = t.output; has = f.has; appended = t.out; decompiles = f.holds }
+      has-text told name call.output.taken.before call.output.taken.after f.file t.output f.has t.out f.holds
 
   -- Runs.
 
@@ -135,7 +145,7 @@ module _ (told : Files) (job : Option Job) (before left : Option (List ℕ)) (ca
     named : j ≡ Some asked
     ran : OfFile told (name_of asked) (λ file. Runs asked file before left reply output)
 
-  has-run_file : (t : IsTold) → HasRan job t.reply t.output → HasRunFile told job before left status s
+  has-run_file : (t : IsTold) → HasRan call.job t.reply t.output → HasRunFile call
   has-run_file t r = record {
     job = r.asked;
     file = r.ran.file;
@@ -149,24 +159,23 @@ module _ (told : Files) (job : Option Job) (before left : Option (List ℕ)) (ca
     line = t.line;
   }
 
-  ended-of : (j : Option Job) (reply : Reply) (output : List ℕ) → Allowed j reply output → IsOneOf (status_of reply) ended_statuses → HasRan j reply output
-  ended-of _ _ _ (no_job same) is = absurd (apart 2 (2 ∷ []) ended_statuses refl (inl refl) is)
+  ended-of : (j : Option Job) (reply : Reply) (output : List ℕ) → Allowed j reply output → IsOneOf (status_of reply) exit.stops → HasRan j reply output
+  ended-of _ _ _ (no_job same) is = absurd (apart 2 (2 ∷ []) exit.stops refl (inl refl) is)
   ended-of _ reply output (for_text {name = name} h same) is =
-      absurd (apart (status_of reply) ended_statuses text_statuses refl is (text-status told name reply output h))
+      absurd (apart (status_of reply) exit.stops text_statuses refl is (text-status told name reply output h))
   ended-of _ reply output (ran_file {name = name} {steps = steps} f) is =
       record { asked = Execute name steps; named = refl; ran = f }
   ended-of _ reply _ (ran_no_file {name = name} h same) is =
-      absurd (apart (status_of reply) ended_statuses image_faults refl is (no_image-status told name reply h))
+      absurd (apart (status_of reply) exit.stops image_faults refl is (no_image-status told name reply h))
   ended-of _ reply output (ran_text {name = name} {steps = steps} {fill = fill} f) is =
       record { asked = ExecuteText name steps fill; named = refl; ran = f }
   ended-of _ reply _ (ran_no_text {name = name} h same) is =
-      absurd (apart (status_of reply) ended_statuses text_faults refl is (no_unit-status told name reply h))
+      absurd (apart (status_of reply) exit.stops text_faults refl is (no_unit-status told name reply h))
 
-  pub ran : Comes → IsOneOf status ended_statuses → HasRunFile told job before left status s
+  pub ran : Comes → IsOneOf call.status exit.stops → HasRunFile call
   ran a is =
-      let ns = ended_statuses in
-      let t = is-told a (λ six. apart status (6 ∷ []) ns refl (inl six) is) (λ seven. apart status (7 ∷ []) ns refl (inl seven) is) in
-      has-run_file t (ended-of job t.reply t.output t.allowed (subst (λ n. IsOneOf n ns) t.status_is is))
+      let t = told-among exit.stops refl is a in
+      has-run_file t (ended-of call.job t.reply t.output t.allowed (subst (λ n. IsOneOf n exit.stops) t.status_is is))
 
   exited-of : (j : Option Job) (reply : Reply) (output : List ℕ) → Allowed j reply output → IsExecution j → IsOneOf (status_of reply) (0 ∷ []) → HasRan j reply output
   exited-of _ _ _ (no_job same) execution is = absurd execution
@@ -180,18 +189,18 @@ module _ (told : Files) (job : Option Job) (before left : Option (List ℕ)) (ca
   exited-of _ reply _ (ran_no_text {name = name} h same) execution is =
       absurd (apart (status_of reply) (0 ∷ []) text_faults refl is (no_unit-status told name reply h))
 
-  pub exited : Comes → IsExecution job → status ≡ 0 → HasRunFile told job before left status s
+  pub exited : Comes → IsExecution call.job → call.status ≡ 0 → HasRunFile call
   exited a execution is =
       let t = told-at 0 is (λ e. omega (arith, e)) (λ e. omega (arith, e)) a in
-      has-run_file t (exited-of job t.reply t.output t.allowed execution (inl (sym t.status_is ∙ is)))
+      has-run_file t (exited-of call.job t.reply t.output t.allowed execution (inl (sym t.status_is ∙ is)))
 
   -- the file of the name that the job asks for
-  named-file : (j : Job) (file : List ℕ) → job ≡ Some j → (n : Names told job file) → n.files (name_of j) ≡ Some file
+  named-file : (j : Job) (file : List ℕ) → call.job ≡ Some j → (n : Names call file) → n.files (name_of j) ≡ Some file
   named-file j file named n = ap n.files (file-name (name_of j) (ap file_of named) n) ∙ n.has
 
-  pub ran-always : Comes → (j : Job) (file bytes : List ℕ) (end : End) → job ≡ Some j → Names told job file → before ≡ Some bytes → EndsSo file bytes j end → IsOneOf status (end_status end ∷ (4 ∷ (5 ∷ (6 ∷ (7 ∷ [])))))
+  pub ran-always : Comes → (j : Job) (file bytes : List ℕ) (end : End) → call.job ≡ Some j → Names call file → before ≡ Some bytes → EndsSo file bytes j end → IsOneOf call.status (end_status end ∷ exit.run_faults)
   ran-always a j file bytes end named n told_left ends =
-      one-of (end_status end ∷ (4 ∷ (5 ∷ (6 ∷ (7 ∷ []))))) (inr (inr (inr (inl refl)))) (inr (inr (inr (inr (inl refl))))) (λ reply output h. job-ended told before left n.files n.tells j file bytes end (named-file j file named n) told_left ends reply output (subst (λ x. Allowed x reply output) named h)) a
+      one-of (end_status end ∷ exit.run_faults) (inr (inr (inr (inl refl)))) (inr (inr (inr (inr (inl refl))))) (λ reply output h. job-ended told before left n.files n.tells j file bytes end (named-file j file named n) told_left ends reply output (subst (λ x. Allowed x reply output) named h)) a
 
   -- The file has no image.
 
@@ -227,10 +236,10 @@ module _ (told : Files) (job : Option Job) (before left : Option (List ℕ)) (ca
   format-of _ reply _ (ran_no_text {name = name} h same) is =
       absurd (apart (status_of reply) (8 ∷ []) text_faults refl (inl is) (no_unit-status told name reply h))
 
-  pub format : Comes → status ≡ 8 → HasFormatFault told job s
+  pub format : Comes → call.status ≡ 8 → HasFormatFault call
   format a is =
       let t = told-at 8 is (λ e. omega (arith, e)) (λ e. omega (arith, e)) a in
-      let m = format-of job t.reply t.output t.allowed (sym t.status_is ∙ is) in
+      let m = format-of call.job t.reply t.output t.allowed (sym t.status_is ∙ is) in
       record {
         name = m.name;
         file = m.fails.file;
@@ -238,26 +247,28 @@ module _ (told : Files) (job : Option Job) (before left : Option (List ℕ)) (ca
         named = m.named;
         has = m.fails.has;
         first = m.fails.holds;
-        line = t.line ∙ ap (λ x. append_told s.err_before (line_of x)) m.reply_is;
+        line = t.line ∙ ap (λ x. append_told call.errors.taken.before (line_of x)) m.reply_is;
       }
 
   -- what holds of every job whose file is named
-  format-always_of : (j : Option Job) (file : List ℕ) (fault : FormatFault) → Names told j file → LoadsImage j → IsFirstFault file fault → (reply : Reply) (output : List ℕ) → Allowed j reply output → IsOneOf (status_of reply) (8 ∷ (4 ∷ (6 ∷ (7 ∷ []))))
-  format-always_of None file fault n loads first reply output h = absurd loads
-  format-always_of (Some j) file fault n loads first reply output h =
-      job-misshapen told before left n.files n.tells j file fault (ap n.files (name-of (name_of j) n.name n.named) ∙ n.has) loads first reply output h
+  format-always_of : (j : Option Job) → call.job ≡ j → (file : List ℕ) (fault : FormatFault) → Names call file → LoadsImage j → IsFirstFault file fault → (reply : Reply) (output : List ℕ) → Allowed j reply output → IsOneOf (status_of reply) (8 ∷ exit.faults)
+  format-always_of None is file fault n loads first reply output h = absurd loads
+  format-always_of (Some j) is file fault n loads first reply output h =
+      job-misshapen told before left n.files n.tells j file fault (named-file j file is n) loads first reply output h
 
-  pub format-always : Comes → (file : List ℕ) (fault : FormatFault) → LoadsImage job → Names told job file → IsFirstFault file fault → IsOneOf status (8 ∷ (4 ∷ (6 ∷ (7 ∷ []))))
+  pub format-always : Comes → (file : List ℕ) (fault : FormatFault) → LoadsImage call.job → Names call file → IsFirstFault file fault → IsOneOf call.status (8 ∷ exit.faults)
   format-always a file fault loads n first =
-      one-of (8 ∷ (4 ∷ (6 ∷ (7 ∷ [])))) (inr (inr (inl refl))) (inr (inr (inr (inl refl)))) (format-always_of job file fault n loads first) a
+      one-of (8 ∷ exit.faults) (inr (inr (inl refl))) (inr (inr (inr (inl refl)))) (format-always_of call.job refl file fault n loads first) a
 
-  absent-always_of : (j : Option Job) → IsMissing told j → (reply : Reply) (output : List ℕ) → Allowed j reply output → IsOneOf (status_of reply) (3 ∷ (4 ∷ (6 ∷ (7 ∷ []))))
-  absent-always_of None m reply output h = let bad = m.named in cc
-  absent-always_of (Some j) m reply output h =
-      job-missing told before left m.files m.tells j (ap m.files (name-of (name_of j) m.name m.named) ∙ m.lacks) reply output h
+  absent-always_of : (j : Option Job) → call.job ≡ j → IsMissing call → (reply : Reply) (output : List ℕ) → Allowed j reply output → IsOneOf (status_of reply) (3 ∷ exit.faults)
+  absent-always_of None is m reply output h = let bad : file_of None ≡ Some m.name = ap file_of (sym is) ∙ m.named in cc
+  absent-always_of (Some j) is m reply output h =
+      let named : Some (name_of j) ≡ Some m.name = ap file_of (sym is) ∙ m.named in
+      job-missing told before left m.files m.tells j (ap m.files (name-of (name_of j) m.name named) ∙ m.lacks) reply output h
 
-  pub absent-always : Comes → IsMissing told job → IsOneOf status (3 ∷ (4 ∷ (6 ∷ (7 ∷ []))))
-  absent-always a m = one-of (3 ∷ (4 ∷ (6 ∷ (7 ∷ [])))) (inr (inr (inl refl))) (inr (inr (inr (inl refl)))) (absent-always_of job m) a
+  pub absent-always : Comes → IsMissing call → IsOneOf call.status (3 ∷ exit.faults)
+  absent-always a m =
+      one-of (3 ∷ exit.faults) (inr (inr (inl refl))) (inr (inr (inr (inl refl)))) (absent-always_of call.job refl m) a
 
   -- The program is refused, or nothing in it is.
 
@@ -269,31 +280,30 @@ module _ (told : Files) (job : Option Job) (before left : Option (List ℕ)) (ca
     reply_is : reply ≡ refusal_reply refusal
     is_refused : OfFile told name (IsRefusedAs refusal)
 
-  turned-down : (name : List ℕ) (reply : Reply) (output : List ℕ) → AllowsText told name reply output → IsOneOf (status_of reply) (9 ∷ (10 ∷ (12 ∷ []))) → IsTurnedDown (Some (Decompile name)) reply
+  turned-down : (name : List ℕ) (reply : Reply) (output : List ℕ) → AllowsText told name reply output → IsOneOf (status_of reply) exit.refusals → IsTurnedDown (Some (Decompile name)) reply
   turned-down name _ output (decompiled f) is =
-      absurd (apart 0 (0 ∷ []) (9 ∷ (10 ∷ (12 ∷ []))) refl (inl refl) is)
+      absurd (apart 0 (0 ∷ []) exit.refusals refl (inl refl) is)
   turned-down name _ _ (refused refusal f) is =
       record { name = name; refusal = refusal; named = refl; reply_is = refl; is_refused = f }
   turned-down name reply _ (no_image h) is =
-      absurd (apart (status_of reply) (9 ∷ (10 ∷ (12 ∷ []))) image_faults refl is (no_image-status told name reply h))
+      absurd (apart (status_of reply) exit.refusals image_faults refl is (no_image-status told name reply h))
 
-  refusal-of : (j : Option Job) (reply : Reply) (output : List ℕ) → Allowed j reply output → IsOneOf (status_of reply) (9 ∷ (10 ∷ (12 ∷ []))) → IsTurnedDown j reply
-  refusal-of _ _ _ (no_job same) is = absurd (apart 2 (2 ∷ []) (9 ∷ (10 ∷ (12 ∷ []))) refl (inl refl) is)
+  refusal-of : (j : Option Job) (reply : Reply) (output : List ℕ) → Allowed j reply output → IsOneOf (status_of reply) exit.refusals → IsTurnedDown j reply
+  refusal-of _ _ _ (no_job same) is = absurd (apart 2 (2 ∷ []) exit.refusals refl (inl refl) is)
   refusal-of _ reply output (for_text {name = name} h same) is = turned-down name reply output h is
   refusal-of _ reply output (ran_file {name = name} {steps = steps} f) is =
-      absurd (apart (status_of reply) (9 ∷ (10 ∷ (12 ∷ []))) run_statuses refl is (runs-status (Execute name steps) f.file reply output f.holds))
+      absurd (apart (status_of reply) exit.refusals run_statuses refl is (runs-status (Execute name steps) f.file reply output f.holds))
   refusal-of _ reply _ (ran_no_file {name = name} h same) is =
-      absurd (apart (status_of reply) (9 ∷ (10 ∷ (12 ∷ []))) image_faults refl is (no_image-status told name reply h))
+      absurd (apart (status_of reply) exit.refusals image_faults refl is (no_image-status told name reply h))
   refusal-of _ reply output (ran_text {name = name} {steps = steps} {fill = fill} f) is =
-      absurd (apart (status_of reply) (9 ∷ (10 ∷ (12 ∷ []))) run_statuses refl is (runs-status (ExecuteText name steps fill) f.file reply output f.holds))
+      absurd (apart (status_of reply) exit.refusals run_statuses refl is (runs-status (ExecuteText name steps fill) f.file reply output f.holds))
   refusal-of _ reply _ (ran_no_text {name = name} h same) is =
-      absurd (apart (status_of reply) (9 ∷ (10 ∷ (12 ∷ []))) text_faults refl is (no_unit-status told name reply h))
+      absurd (apart (status_of reply) exit.refusals text_faults refl is (no_unit-status told name reply h))
 
-  pub program-refused : Comes → IsOneOf status (9 ∷ (10 ∷ (12 ∷ []))) → HasRefusal told job status s
+  pub program-refused : Comes → IsOneOf call.status exit.refusals → HasRefusal call
   program-refused a is =
-      let ns = 9 ∷ (10 ∷ (12 ∷ [])) in
-      let t = is-told a (λ six. apart status (6 ∷ []) ns refl (inl six) is) (λ seven. apart status (7 ∷ []) ns refl (inl seven) is) in
-      let r = refusal-of job t.reply t.output t.allowed (subst (λ n. IsOneOf n ns) t.status_is is) in
+      let t = told-among exit.refusals refl is a in
+      let r = refusal-of call.job t.reply t.output t.allowed (subst (λ n. IsOneOf n exit.refusals) t.status_is is) in
       record {
         name = r.name;
         file = r.is_refused.file;
@@ -302,16 +312,21 @@ module _ (told : Files) (job : Option Job) (before left : Option (List ℕ)) (ca
         has = r.is_refused.has;
         refused = r.is_refused.holds;
         status_is = t.status_is ∙ ap status_of r.reply_is;
-        line = t.line ∙ ap (λ x. append_told s.err_before (line_of x)) r.reply_is;
+        line = t.line ∙ ap (λ x. append_told call.errors.taken.before (line_of x)) r.reply_is;
       }
 
-  pub refused-always : Comes → (name file : List ℕ) → job ≡ Some (Decompile name) → Names told job file → OfImages file IsRefusedImage → IsOneOf status (9 ∷ (10 ∷ (12 ∷ (4 ∷ (6 ∷ (7 ∷ []))))))
-  refused-always a name file named n each =
-      one-of (9 ∷ (10 ∷ (12 ∷ (4 ∷ (6 ∷ (7 ∷ [])))))) (inr (inr (inr (inr (inl refl))))) (inr (inr (inr (inr (inr (inl refl)))))) (λ reply output h. always-refused told name n.files n.tells file (named-file (Decompile name) file named n) each reply output (for-text name reply output (subst (λ j. Allowed j reply output) named h))) a
+  -- what holds of every answer for the text of a file that is named
+  of-text : (name file : List ℕ) (ns : List ℕ) → IsOneOf 6 ns → IsOneOf 7 ns → call.job ≡ Some (Decompile name) → Comes → ((reply : Reply) (output : List ℕ) → AllowsText told name reply output → IsOneOf (status_of reply) ns) → IsOneOf call.status ns
+  of-text name file ns six seven named a each =
+      one-of ns six seven (λ reply output h. each reply output (for-text name reply output (subst (λ j. Allowed j reply output) named h))) a
 
-  pub text-always : Comes → (name file : List ℕ) → job ≡ Some (Decompile name) → Names told job file → OfImages file IsAcceptedProgram → IsOneOf status (0 ∷ (4 ∷ (6 ∷ (7 ∷ []))))
+  pub refused-always : Comes → (name file : List ℕ) → call.job ≡ Some (Decompile name) → Names call file → OfImages file IsRefusedImage → IsOneOf call.status (9 ∷ (10 ∷ (12 ∷ exit.faults)))
+  refused-always a name file named n each =
+      of-text name file (9 ∷ (10 ∷ (12 ∷ exit.faults))) (inr (inr (inr (inr (inl refl))))) (inr (inr (inr (inr (inr (inl refl)))))) named a (always-refused told name n.files n.tells file (named-file (Decompile name) file named n) each)
+
+  pub text-always : Comes → (name file : List ℕ) → call.job ≡ Some (Decompile name) → Names call file → OfImages file IsAcceptedProgram → IsOneOf call.status (0 ∷ exit.faults)
   text-always a name file named n each =
-      one-of (0 ∷ (4 ∷ (6 ∷ (7 ∷ [])))) (inr (inr (inl refl))) (inr (inr (inr (inl refl)))) (λ reply output h. accepted-one told name n.files n.tells file (named-file (Decompile name) file named n) each reply output (for-text name reply output (subst (λ j. Allowed j reply output) named h))) a
+      of-text name file (0 ∷ exit.faults) (inr (inr (inl refl))) (inr (inr (inr (inl refl)))) named a (accepted-one told name n.files n.tells file (named-file (Decompile name) file named n) each)
 
   -- The text is refused.
 
@@ -345,10 +360,10 @@ module _ (told : Files) (job : Option Job) (before left : Option (List ℕ)) (ca
   offended-of _ reply _ (ran_no_text {name = name} {steps = steps} {fill = fill} h same) is =
       unit-offended name steps fill reply h is
 
-  pub text-fault : Comes → status ≡ 11 → HasTextFault told job s
+  pub text-fault : Comes → call.status ≡ 11 → HasTextFault call
   text-fault a is =
       let t = told-at 11 is (λ e. omega (arith, e)) (λ e. omega (arith, e)) a in
-      let o = offended-of job t.reply t.output t.allowed (sym t.status_is ∙ is) in
+      let o = offended-of call.job t.reply t.output t.allowed (sym t.status_is ∙ is) in
       record {
         name = o.name;
         steps = o.steps;
@@ -359,67 +374,63 @@ module _ (told : Files) (job : Option Job) (before left : Option (List ℕ)) (ca
         named = o.named;
         has = o.offending.has;
         refused = o.offending.holds;
-        line_is = t.line ∙ ap (λ x. append_told s.err_before (line_of x)) o.reply_is;
+        line_is = t.line ∙ ap (λ x. append_told call.errors.taken.before (line_of x)) o.reply_is;
       }
 
-  pub text_fault-always : Comes → (name file : List ℕ) (steps fill : ℕ) → job ≡ Some (ExecuteText name steps fill) → Names told job file → IsNoText file → IsOneOf status (11 ∷ (4 ∷ (6 ∷ (7 ∷ []))))
+  pub text_fault-always : Comes → (name file : List ℕ) (steps fill : ℕ) → call.job ≡ Some (ExecuteText name steps fill) → Names call file → IsNoText file → IsOneOf call.status (11 ∷ exit.faults)
   text_fault-always a name file steps fill named n none =
-      one-of (11 ∷ (4 ∷ (6 ∷ (7 ∷ [])))) (inr (inr (inl refl))) (inr (inr (inr (inl refl)))) (λ reply output h. text-refused told before left n.files n.tells name steps fill file (named-file (ExecuteText name steps fill) file named n) none reply output (subst (λ j. Allowed j reply output) named h)) a
+      one-of (11 ∷ exit.faults) (inr (inr (inl refl))) (inr (inr (inr (inl refl)))) (λ reply output h. text-refused told before left n.files n.tells name steps fill file (named-file (ExecuteText name steps fill) file named n) none reply output (subst (λ j. Allowed j reply output) named h)) a
 
   -- What is written.
 
   -- no job has put anything out at a refusal
-  output-none : (j : Option Job) (reply : Reply) (output : List ℕ) → Allowed j reply output → IsOneOf (status_of reply) (2 ∷ (3 ∷ (4 ∷ (8 ∷ (9 ∷ (10 ∷ (11 ∷ (12 ∷ [])))))))) → output ≡ []
+  output-none : (j : Option Job) (reply : Reply) (output : List ℕ) → Allowed j reply output → IsOneOf (status_of reply) exit.without_output → output ≡ []
   output-none _ _ _ (no_job same) is = refl
   output-none _ _ output (for_text (decompiled f) same) is =
-      absurd (apart 0 (0 ∷ []) (2 ∷ (3 ∷ (4 ∷ (8 ∷ (9 ∷ (10 ∷ (11 ∷ (12 ∷ [])))))))) refl (inl refl) is)
+      absurd (apart 0 (0 ∷ []) exit.without_output refl (inl refl) is)
   output-none _ _ _ (for_text (refused refusal f) same) is = refl
   output-none _ _ _ (for_text (no_image h) same) is = refl
   output-none _ reply output (ran_file {name = name} {steps = steps} f) is =
-      absurd (apart (status_of reply) (2 ∷ (3 ∷ (4 ∷ (8 ∷ (9 ∷ (10 ∷ (11 ∷ (12 ∷ [])))))))) run_statuses refl is (runs-status (Execute name steps) f.file reply output f.holds))
+      absurd (apart (status_of reply) exit.without_output run_statuses refl is (runs-status (Execute name steps) f.file reply output f.holds))
   output-none _ _ _ (ran_no_file h same) is = refl
   output-none _ reply output (ran_text {name = name} {steps = steps} {fill = fill} f) is =
-      absurd (apart (status_of reply) (2 ∷ (3 ∷ (4 ∷ (8 ∷ (9 ∷ (10 ∷ (11 ∷ (12 ∷ [])))))))) run_statuses refl is (runs-status (ExecuteText name steps fill) f.file reply output f.holds))
+      absurd (apart (status_of reply) exit.without_output run_statuses refl is (runs-status (ExecuteText name steps fill) f.file reply output f.holds))
   output-none _ _ _ (ran_no_text h same) is = refl
 
-  pub nothing : Comes → IsOneOf status (2 ∷ (3 ∷ (4 ∷ (8 ∷ (9 ∷ (10 ∷ (11 ∷ (12 ∷ [])))))))) → s.out_after ≡ s.out_before
+  pub nothing : Comes → IsOneOf call.status exit.without_output → call.output.taken.after ≡ call.output.taken.before
   nothing a is =
-      let ns = 2 ∷ (3 ∷ (4 ∷ (8 ∷ (9 ∷ (10 ∷ (11 ∷ (12 ∷ []))))))) in
-      let t = is-told a (λ six. apart status (6 ∷ []) ns refl (inl six) is) (λ seven. apart status (7 ∷ []) ns refl (inl seven) is) in
-      let none = output-none job t.reply t.output t.allowed (subst (λ n. IsOneOf n ns) t.status_is is) in
-      t.out ∙ ap (λ l. append_told s.out_before l) none ∙ append_told-nil s.out_before
+      let t = told-among exit.without_output refl is a in
+      let none = output-none call.job t.reply t.output t.allowed (subst (λ n. IsOneOf n exit.without_output) t.status_is is) in
+      t.out ∙ ap (λ l. append_told call.output.taken.before l) none ∙ append_told-nil call.output.taken.before
 
   seven-not_done : (reply : Reply) → status_of reply ≡ 7 → reply ≢ Done
   seven-not_done reply seven done = let e : 0 ≡ 7 = sym (ap status_of done) ∙ seven in omega (arith, e)
 
-  pub out-of_memory : Comes → status ≡ 7 → IsOutOfMemory told job before left s
-  out-of_memory (answered reply output allowed cause out (inl t)) is =
+  pub out-of_memory : Comes → call.status ≡ 7 → IsOutOfMemory call
+  out-of_memory (answered reply gives cause (inl t)) is =
       let seven = sym t.0 ∙ is in
       record {
         reply = reply;
-        output = output;
-        allowed = allowed;
+        gives = gives;
         not_done = seven-not_done reply seven;
-        out = out;
-        line = t.1 ∙ ap (λ r. append_told s.err_before (line_of r)) (reply-at_7 reply seven);
+        line = t.1 ∙ ap (λ r. append_told call.errors.taken.before (line_of r)) (reply-at_7 reply seven);
       }
-  out-of_memory (answered reply output allowed cause out (inr t)) is =
-      absurd (let e : 6 ≡ 7 = sym t.0 ∙ is in omega (arith, e))
-  out-of_memory (found_no_memory reply output allowed not out (inl t)) is =
-      record { reply = reply; output = output; allowed = allowed; not_done = not; out = out; line = t.1 }
-  out-of_memory (found_no_memory reply output allowed not out (inr t)) is =
+  out-of_memory (answered reply gives cause (inr t)) is = absurd (let e : 6 ≡ 7 = sym t.0 ∙ is in omega (arith, e))
+  out-of_memory (found_no_memory reply gives not (inl t)) is =
+      record { reply = reply; gives = gives; not_done = not; line = t.1 }
+  out-of_memory (found_no_memory reply gives not (inr t)) is =
       absurd (let e : 6 ≡ 7 = sym t.0 ∙ is in omega (arith, e))
   out-of_memory (broke_off due is_due broke) is =
       absurd (let e : 6 ≡ 7 = sym broke.status_is ∙ is in omega (arith, e))
 
-  pub cut-off : Comes → status ≡ 6 → IsCutOff told job before left caused status out_failed err_failed s
-  cut-off (answered reply output allowed cause out (inl t)) is = absurd (status-not_six reply (sym t.0 ∙ is))
-  cut-off (answered reply output allowed cause out (inr t)) is =
-      inr ((record { reply = reply; output = output; allowed = allowed; out = out; err = inl (t.1, cause) }), t.2)
-  cut-off (found_no_memory reply output allowed not out (inl t)) is =
+  pub cut-off : Comes → call.status ≡ 6 → IsCutOff call
+  cut-off (answered reply gives cause (inl t)) is = absurd (status-not_six reply (sym t.0 ∙ is))
+  cut-off (answered reply gives cause (inr t)) is =
+      inr (record { reply = reply; gives = gives; err = inl (t.1, cause); failed = t.2 })
+  cut-off (found_no_memory reply gives not (inl t)) is =
       absurd (let e : 7 ≡ 6 = sym t.0 ∙ is in omega (arith, e))
-  cut-off (found_no_memory reply output allowed not out (inr t)) is =
-      inr ((record { reply = reply; output = output; allowed = allowed; out = out; err = inr t.1 }), t.2)
+  cut-off (found_no_memory reply gives not (inr t)) is =
+      inr (record { reply = reply; gives = gives; err = inr t.1; failed = t.2 })
   cut-off (broke_off due is_due broke) is = inl (due, is_due, broke)
 
   -- Why a file could not be had.
@@ -448,22 +459,29 @@ module _ (told : Files) (job : Option Job) (before left : Option (List ℕ)) (ca
       (name, refl, lacks-of_no_file name reply h is)
   absent-of _ _ _ (ran_no_text (offends f) same) is = absurd (omega (arith, is))
 
-  pub absent : (a b : ℕ) → Comes → status ≡ 3 → Rose a b → IsAbsent told job a b
-  absent low high a is rose =
+  pub absent : Comes → call.status ≡ 3 → IsAbsent call
+  absent a is =
       let t = told-at 3 is (λ e. omega (arith, e)) (λ e. omega (arith, e)) a in
-      let h = absent-of job t.reply t.output t.allowed (sym t.status_is ∙ is) in
-      record { name = h.0; named = h.1; lacks = h.2; rose = rose }
+      let at = sym t.status_is ∙ is in
+      let h = absent-of call.job t.reply t.output t.allowed at in
+      record { name = h.0; named = h.1; lacks = h.2; rose = t.cause.no_file (reply-at_3 t.reply at) }
 
   named-of : (j : Option Job) (reply : Reply) (output : List ℕ) → Allowed j reply output → status_of reply ≡ 4 → (name : List ℕ) × (file_of j ≡ Some name)
   named-of None _ _ (no_job same) is = absurd (omega (arith, is))
   named-of (Some j) reply output h is = (name_of j, refl)
 
-  pub unreadable : (a b : ℕ) → Comes → status ≡ 4 → Rose a b → IsUnreadable job a b
-  unreadable low high a is rose =
+  pub unreadable : Comes → call.status ≡ 4 → IsUnreadable call
+  unreadable a is =
       let t = told-at 4 is (λ e. omega (arith, e)) (λ e. omega (arith, e)) a in
-      let h = named-of job t.reply t.output t.allowed (sym t.status_is ∙ is) in
-      record { name = h.0; named = h.1; rose = rose }
+      let at = sym t.status_is ∙ is in
+      let h = named-of call.job t.reply t.output t.allowed at in
+      record { name = h.0; named = h.1; rose = t.cause.file_fault (reply-at_4 t.reply at) }
+
+  pub read-failed : Comes → call.status ≡ 5 → Rises call.input.faults
+  read-failed a is =
+      let t = told-at 5 is (λ e. omega (arith, e)) (λ e. omega (arith, e)) a in
+      t.cause.input_fault (reply-at_5 t.reply (sym t.status_is ∙ is))
 
   -- a write failed where the status says so
-  pub write-failed : Comes → status ≡ 6 → out_failed ⊎ err_failed
-  write-failed a is = elim (cut-off a is) [ inl cut ↦ inl cut.2.failed | inr cut ↦ inr cut.1 ]
+  pub write-failed : Comes → call.status ≡ 6 → Rises call.output.faults ⊎ Rises call.errors.faults
+  write-failed a is = elim (cut-off a is) [ inl cut ↦ inl cut.2.failed | inr cut ↦ inr cut.failed ]

@@ -1,21 +1,24 @@
 -- From what the shelf answers to the image or the unit, or to why there is none.
-use Rattle.std.proofs.Common.{◌≡◌, ℕ, ◌<◌, ◌≤◌, List, [], ◌∷◌, ◌++◌, length, Some, None, refl, subst, arith, length-append}
-use Rattle.std.specs.Prelude.{take, Result, Ok, Err, IfOk, IfErr}
+use Rattle.std.proofs.Common.{◌≡◌, ℕ, ◌<◌, ◌≤◌, inl, inr, List, [], ◌∷◌, ◌++◌, length, Some, None, refl, sym, subst, arith, length-append}
+use Rattle.std.specs.Prelude.{take, Result, Ok, Err, IfErr, IsErrAnd, IsErrOf}
+use Rattle.dcc_io.specs.declared.outside.Fetched.{Fetched}
+use Rattle.dcc_io.specs.declared.outside.ShelfFault.{ShelfFault}
+use Rattle.dcc_io.specs.declared.outside.ShelfFault.TheVariants.{Absent, Failed, Memory as ShelfMemory}
+use Rattle.dcc_io.specs.Fetch.{Fetches, Records}
 use Rattle.dcc_io.specs.Told.{WhenTold}
 use Rattle.dcc_mz.specs.declared.fault.MzFault.{MzFault}
 use Rattle.dcc_mz.specs.declared.fault.MzFault.TheVariants.{TooLarge, Memory as NoMemory}
 use Rattle.dcc_mz.specs.Fault.{IsRefusal, IsRefusalOrMemory}
 use Rattle.dcc_c.specs.Refusals.{too_long}
 use Rattle.dcc_reader.specs.declared.offence.ParseKind.TheVariants.{Length}
-use Rattle.dcc_parse.specs.Fault.{IsRefusal as IsTextRefusal}
+use Rattle.dcc_parse.specs.declared.fault.ParseFault.{ParseFault}
+use Rattle.dcc_parse.specs.declared.fault.ParseFault.TheVariants.{At, Memory as ParseMemory}
+use Rattle.dcc_parse.specs.Fault.{IsRefusal as IsTextRefusal, IsFaultOf}
 use Rattle.dcc_top.specs.declared.reply.Reply.{Reply}
-use Rattle.dcc_top.specs.declared.reply.Reply.TheVariants.{Format, TextFault}
-use Rattle.dcc_top.specs.Answer.{Files, OfFile, fault_reply, FailsCheck, fails, no_memory_to_load, FailsToRead, fails_to_read, no_memory_to_read, no_memory, HasNoImage, no_executable, misshapen, HasNoUnit, no_text, offends}
-
--- a file that is not loaded fails a check, or memory ran out
-pub fails-of_fault : (file : List ℕ) (fault : MzFault) → IsRefusalOrMemory file fault → FailsCheck file (fault_reply fault)
-fails-of_fault file NoMemory h = no_memory_to_load
-fails-of_fault file _ h = fails h
+use Rattle.dcc_top.specs.declared.reply.Reply.TheVariants.{NoFile, FileFault, Memory, Format, TextFault}
+use Rattle.dcc_top.specs.Answer.{Files, OfFile, shelf_reply, fault_reply, parse_reply, HasNoFile, no_file, file_fault, no_memory, HasNoImage, no_executable, misshapen, HasNoUnit, no_text, offends}
+use Rattle.dcc_top.specs.Call.{ShelfChange, Rises}
+use Rattle.dcc_top.specs.Causes.{AsksOnce}
 
 -- the shelf gave all of the file
 abbrev pub GaveWhole : Files → List ℕ → ℕ → List ℕ → Type 0
@@ -45,13 +48,20 @@ of-front (Some files) name given most P gave len each =
     }
 
 -- why the bytes that were given have no image is why the file of the name has none
-no_image-of_whole : (told : Files) (name given : List ℕ) (most : ℕ) (reply : Reply) → GaveWhole told name most given → FailsCheck given reply → HasNoImage told name reply
-no_image-of_whole told name given most _ gave (fails h) = misshapen (of-whole told name given most _ gave h)
-no_image-of_whole told name given most _ gave no_memory_to_load = no_executable no_memory
+pub no_image-of_fault : (told : Files) (name given : List ℕ) (most : ℕ) (fault : MzFault) → GaveWhole told name most given → IsRefusalOrMemory given fault → HasNoImage told name (fault_reply fault)
+no_image-of_fault told name given most NoMemory gave h = no_executable no_memory
+no_image-of_fault told name given most _ gave h = misshapen (of-whole told name given most _ gave h)
 
-no_unit-of_whole : (told : Files) (name given : List ℕ) (most : ℕ) (reply : Reply) → GaveWhole told name most given → FailsToRead given reply → HasNoUnit told name reply
-no_unit-of_whole told name given most _ gave (fails_to_read h) = offends (of-whole told name given most _ gave h)
-no_unit-of_whole told name given most _ gave no_memory_to_read = no_text no_memory
+-- and why they have no unit
+pub no_unit-of_fault : (told : Files) (name given : List ℕ) (most : ℕ) (fault : ParseFault) → GaveWhole told name most given → IsFaultOf given fault → HasNoUnit told name (parse_reply fault)
+no_unit-of_fault told name given most (At line kind) gave h = offends (of-whole told name given most _ gave h)
+no_unit-of_fault told name given most ParseMemory gave h = no_text no_memory
+
+-- why the shelf gave no file
+pub no_file-of_fault : (told : Files) (name given : List ℕ) (most : ℕ) (fault : ShelfFault) → WhenTold told (λ files. Fetches (files name) most (Err fault) given) → HasNoFile told name (shelf_reply fault)
+no_file-of_fault told name given most Absent lacks = no_file lacks
+no_file-of_fault told name given most Failed h = file_fault
+no_file-of_fault told name given most ShelfMemory h = no_memory
 
 pub no_image-of_front : (told : Files) (name given : List ℕ) → GaveFront told name 262144 given → length given ≡ 262144 → HasNoImage told name (Format TooLarge)
 no_image-of_front told name given gave len =
@@ -61,15 +71,42 @@ pub no_unit-of_front : (told : Files) (name given : List ℕ) → GaveFront told
 no_unit-of_front told name given gave len =
     offends (of-front told name given 67108864 (λ text. IsTextRefusal text 0 Length) gave len (λ bytes long. record { refused = too_long long; no_tree = λ short tree stands. omega (arith, long, short) }))
 
--- what is said of the bytes that were given is said of the file of the name
-pub image-of_whole : {T : Type 0} (told : Files) (name given : List ℕ) (most : ℕ) (P : List ℕ → T → Type 0) (result : Result T Reply) → GaveWhole told name most given → IfOk result (P given) → IfOk result (λ t. OfFile told name (λ file. P file t))
-image-of_whole told name given most P (Ok t) gave h = of-whole told name given most (λ file. P file t) gave h
-image-of_whole told name given most P (Err reply) gave h = h
+-- what holds of the answer that `?` makes holds of the error
+pub by-error : {T : Type 0} (result : Result T Reply) (reply : Reply) (P : Reply → Type 0) → IsErrAnd result (λ r. r ≡ reply) → P reply → IfErr result P
+by-error (Ok t) reply P is p = absurd is
+by-error (Err r) reply P is p = subst P (sym is) p
 
-pub refused-of_whole : {T : Type 0} (told : Files) (name given : List ℕ) (most : ℕ) (result : Result T Reply) → GaveWhole told name most given → IfErr result (FailsCheck given) → IfErr result (HasNoImage told name)
-refused-of_whole told name given most (Ok t) gave h = h
-refused-of_whole told name given most (Err reply) gave h = no_image-of_whole told name given most reply gave h
+-- What is asked of the shelf.
 
-pub unread-of_whole : {T : Type 0} (told : Files) (name given : List ℕ) (most : ℕ) (result : Result T Reply) → GaveWhole told name most given → IfErr result (FailsToRead given) → IfErr result (HasNoUnit told name)
-unread-of_whole told name given most (Ok t) gave h = h
-unread-of_whole told name given most (Err reply) gave h = no_unit-of_whole told name given most reply gave h
+-- the shelf gave the file, or its front; what was done with it finds no fault of the shelf
+asks-found : {T : Type 0} (name : List ℕ) (most : ℕ) (shelf : ShelfChange) (fetched : Fetched) (result : Result T Reply) → Records shelf.asked.before shelf.asked.after (name, most) (Ok fetched) → (IsErrOf result NoFile → ⊥) → (IsErrOf result FileFault → ⊥) → AsksOnce name most shelf result
+asks-found name most shelf fetched result asked no_absence no_failure = record {
+  asked = inr asked;
+  asked_prefix = inl asked;
+  absent = λ is. absurd (no_absence is);
+  failed = λ is. absurd (no_failure is);
+}
+
+pub asks-loaded : {T : Type 0} (name : List ℕ) (most : ℕ) (shelf : ShelfChange) (fetched : Fetched) (x : T) → Records shelf.asked.before shelf.asked.after (name, most) (Ok fetched) → AsksOnce name most shelf (Ok x)
+asks-loaded name most shelf fetched x asked = asks-found name most shelf fetched (Ok x) asked (λ bad. cc) (λ bad. cc)
+
+pub asks-misshapen : {T : Type 0} (name : List ℕ) (most : ℕ) (shelf : ShelfChange) (fetched : Fetched) (fault : MzFault) → Records shelf.asked.before shelf.asked.after (name, most) (Ok fetched) → AsksOnce {T = T} name most shelf (Err (fault_reply fault))
+asks-misshapen {T = T} name most shelf fetched NoMemory asked =
+    asks-found {T = T} name most shelf fetched (Err Memory) asked (λ bad. cc) (λ bad. cc)
+asks-misshapen {T = T} name most shelf fetched _ asked =
+    asks-found {T = T} name most shelf fetched (Err (Format _)) asked (λ bad. cc) (λ bad. cc)
+
+pub asks-offended : {T : Type 0} (name : List ℕ) (most : ℕ) (shelf : ShelfChange) (fetched : Fetched) (fault : ParseFault) → Records shelf.asked.before shelf.asked.after (name, most) (Ok fetched) → AsksOnce {T = T} name most shelf (Err (parse_reply fault))
+asks-offended {T = T} name most shelf fetched (At line kind) asked =
+    asks-found {T = T} name most shelf fetched (Err (TextFault line kind)) asked (λ bad. cc) (λ bad. cc)
+asks-offended {T = T} name most shelf fetched ParseMemory asked =
+    asks-found {T = T} name most shelf fetched (Err Memory) asked (λ bad. cc) (λ bad. cc)
+
+-- the shelf gave nothing
+pub asks-in_vain : {T : Type 0} (name : List ℕ) (most : ℕ) (shelf : ShelfChange) (fault : ShelfFault) → Records shelf.asked.before shelf.asked.after (name, most) (Err fault) → (IsErrOf {T = Fetched} (Err fault) Absent → Rises shelf.absences) → (IsErrOf {T = Fetched} (Err fault) Failed → Rises shelf.faults) → AsksOnce {T = T} name most shelf (Err (shelf_reply fault))
+asks-in_vain name most shelf Absent asked absent failed =
+    record { asked = inr asked; asked_prefix = inl asked; absent = λ is. absent refl; failed = λ bad. cc }
+asks-in_vain name most shelf Failed asked absent failed =
+    record { asked = inr asked; asked_prefix = inl asked; absent = λ bad. cc; failed = λ is. failed refl }
+asks-in_vain name most shelf ShelfMemory asked absent failed =
+    record { asked = inl refl; asked_prefix = asked; absent = λ bad. cc; failed = λ bad. cc }

@@ -4,8 +4,11 @@ pub mod ProgramLaws
 pub mod ExecuteLaws
 pub mod TextRunLaws
 pub mod AnswerLaws
-pub mod DeliveredLaws
+pub mod ReplyLaws
+pub mod HeadlineLaws
 pub mod NamedLaws
 pub mod CauseLaws
+pub mod PromiseLaws
+pub mod HexLaws
 pub mod WordsLaws
 pub mod WordsAsked

@@ -16,7 +16,9 @@ use Rattle.dcc_top.specs.Words.{Job, Decompile, Execute, ExecuteText, name_of, f
 use Rattle.dcc_top.specs.Program.{IsRefusedFor, IsAcceptedProgram, IsRefusedImage}
 use Rattle.dcc_top.specs.Execution.{Subject, machine_of, text_of, Finishes, ended, stopped_at_read, not_begun, FinishesOrStops, finishes, found_none}
 use Rattle.dcc_top.specs.Answer.{Files, OfFile, HasNoFile, no_file, file_fault, no_memory, HasNoImage, no_executable, misshapen, HasNoUnit, no_text, offends, AllowsText, decompiled, refused, no_image, Decompiles, IsRefusedAs, OfImages, RunsFile, RunsText, RunsUnit, Allows, for_text, ran_file, ran_no_file, ran_text, ran_no_text, ShelfLacks, status_of, refusal_reply}
-use Rattle.dcc_top.specs.Causes.{Names, IsNoText, EndsSo, file_ends, text_ends, IsOneOf, end_status}
+use Rattle.dcc_top.specs.Call.{Call}
+use Rattle.dcc_top.specs.Causes.{Names, IsNoText, EndsSo, file_ends, text_ends}
+use Rattle.dcc_top.specs.Status.{IsOneOf, end_status}
 use Rattle.dcc_top.proofs.AnswerLaws.{same-start}
 use Rattle.dcc_top.proofs.StatusLaws.{end-status}
 
@@ -24,7 +26,7 @@ use Rattle.dcc_top.proofs.StatusLaws.{end-status}
 pub name-of : (name other : List ℕ) → Some name ≡ Some other → name ≡ other
 name-of name other same = cc
 
-pub file-name : {told : Files} {job : Option Job} {file : List ℕ} (name : List ℕ) → file_of job ≡ Some name → (n : Names told job file) → name ≡ n.name
+pub file-name : {call : Call} {file : List ℕ} (name : List ℕ) → file_of call.job ≡ Some name → (n : Names call file) → name ≡ n.name
 file-name name named n = name-of name n.name (sym named ∙ n.named)
 
 refusal-not_image : (file : List ℕ) (image : Image) (fault : MzFault) → IsImageOf file image → IsRefusal file fault → ⊥
@@ -120,7 +122,7 @@ module _ (told : Files) (name : List ℕ) (files : List ℕ → Option (List ℕ
 
   text-misshapen : (file : List ℕ) (fault : FormatFault) → files name ≡ Some file → IsFirstFault file fault → (reply : Reply) (output : List ℕ) → AllowsText told name reply output → IsOneOf (status_of reply) (8 ∷ (4 ∷ (6 ∷ (7 ∷ []))))
   text-misshapen file fault has first _ output (decompiled f) =
-      let d = held file (λ x. Decompiles x output) has f in absurd (not_both file d.agrees.image fault d.agrees.is_image first)
+      let d = held file (λ x. Decompiles x output) has f in absurd (not_both file d.image fault d.is_image first)
   text-misshapen file fault has first _ _ (refused refusal f) =
       let d = held file (IsRefusedAs refusal) has f in absurd (not_both file d.image fault d.is_image first)
   text-misshapen file fault has first reply _ (no_image h) = misshapen-one file has reply h
@@ -143,8 +145,8 @@ module _ (told : Files) (name : List ℕ) (files : List ℕ → Option (List ℕ
   pub refused-always : (file : List ℕ) → files name ≡ Some file → OfImages file IsRefusedImage → (reply : Reply) (output : List ℕ) → AllowsText told name reply output → IsOneOf (status_of reply) (9 ∷ (10 ∷ (12 ∷ (4 ∷ (6 ∷ (7 ∷ []))))))
   refused-always file has a _ output (decompiled f) =
       let d = held file (λ x. Decompiles x output) has f in
-      let r = a.each d.agrees.image d.agrees.is_image in
-      absurd (r.cause (accepted-not_refused d.agrees.image r.refusal d.accepted r.refused))
+      let r = a.each d.image d.is_image in
+      absurd (r.cause (accepted-not_refused d.image r.refusal d.is_text.accepted r.refused))
   refused-always file has a _ _ (refused refusal f) = refused-one refusal
   refused-always file has a reply _ (no_image h) =
       inr (inr (faulty-one 12 (status_of reply) (no_image-faulty file has a.image a.is_image reply h)))

@@ -13,7 +13,7 @@ use Rattle.dcc_top.specs.declared.reply.Reply.{Reply}
 use Rattle.dcc_top.specs.declared.reply.Reply.TheVariants.{Done, NoFile, FileFault, InputFault, Memory}
 use Rattle.dcc_top.specs.Execution.{Subject, end_reply, Finishes, ended, stopped_at_read, not_begun, FinishesOrStops, finishes, found_none}
 use Rattle.dcc_top.specs.Answer.{Files, HasNoFile, no_file, file_fault, no_memory, HasNoImage, no_executable, misshapen, HasNoUnit, no_text, offends, AllowsImage, image_decompiled, image_refused, AllowsText, decompiled, refused, no_image, status_of, refusal_reply}
-use Rattle.dcc_top.specs.Causes.{IsOneOf, end_status}
+use Rattle.dcc_top.specs.Status.{IsOneOf, end_status}
 use Rattle.dcc_top.specs.Delivery.{Answers}
 
 -- Lists of statuses.
@@ -72,22 +72,31 @@ no_file-status told name _ (no_file lacks) = inl refl
 no_file-status told name _ file_fault = inr (inl refl)
 no_file-status told name _ no_memory = inr (inr (inl refl))
 
-pub no_image-status : (told : Files) (name : List ℕ) (reply : Reply) → HasNoImage told name reply → IsOneOf (status_of reply) (8 ∷ (3 ∷ (4 ∷ (7 ∷ []))))
+abbrev pub image_faults : List ℕ
+image_faults = 8 ∷ (3 ∷ (4 ∷ (7 ∷ [])))
+
+pub no_image-status : (told : Files) (name : List ℕ) (reply : Reply) → HasNoImage told name reply → IsOneOf (status_of reply) image_faults
 no_image-status told name reply (no_executable h) = inr (no_file-status told name reply h)
 no_image-status told name _ (misshapen f) = inl refl
 
-pub no_unit-status : (told : Files) (name : List ℕ) (reply : Reply) → HasNoUnit told name reply → IsOneOf (status_of reply) (11 ∷ (3 ∷ (4 ∷ (7 ∷ []))))
+abbrev pub text_faults : List ℕ
+text_faults = 11 ∷ (3 ∷ (4 ∷ (7 ∷ [])))
+
+pub no_unit-status : (told : Files) (name : List ℕ) (reply : Reply) → HasNoUnit told name reply → IsOneOf (status_of reply) text_faults
 no_unit-status told name reply (no_text h) = inr (no_file-status told name reply h)
 no_unit-status told name _ (offends f) = inl refl
 
 -- the statuses of a refusal
-pub refusal-status : (refusal : Refusal) → IsOneOf (status_of (refusal_reply refusal)) (7 ∷ (9 ∷ (10 ∷ (12 ∷ []))))
+abbrev pub refusals : List ℕ
+refusals = 7 ∷ (9 ∷ (10 ∷ (12 ∷ [])))
+
+pub refusal-status : (refusal : Refusal) → IsOneOf (status_of (refusal_reply refusal)) refusals
 refusal-status (ConstructRefused kind at) = inr (inl refl)
 refusal-status (LimitRefused what count) = inr (inr (inl refl))
 refusal-status (NotYetRefused at) = inr (inr (inr (inl refl)))
 refusal-status MemoryRefused = inl refl
 
-pub image-status : (image : Image) (reply : Reply) (output : List ℕ) → AllowsImage image reply output → IsOneOf (status_of reply) (0 ∷ (7 ∷ (9 ∷ (10 ∷ (12 ∷ [])))))
+pub image-status : (image : Image) (reply : Reply) (output : List ℕ) → AllowsImage image reply output → IsOneOf (status_of reply) (0 ∷ refusals)
 image-status image _ output (image_decompiled t) = inl refl
 image-status image _ _ (image_refused refusal h) = inr (refusal-status refusal)
 
@@ -135,6 +144,11 @@ pub text_run-status : {S : Type 0} (subject : Subject S) (steps : ℕ) (before l
 text_run-status subject steps before left reply output (finishes h) =
     run-status subject steps before left reply output h
 text_run-status subject steps before left _ output (found_none h) = inr (inl refl)
+
+-- an answer with one of these statuses is not another
+pub other-than : (reply other : Reply) (ns : List ℕ) → are_apart (status_of other ∷ []) ns ≡ true → IsOneOf (status_of reply) ns → reply ≡ other → ⊥
+other-than reply other ns far is same =
+    apart (status_of reply) (status_of other ∷ []) ns far (inl (ap status_of same)) is
 
 -- an answer that has none of these statuses is not given
 pub never : (P : Reply → List ℕ → Type 0) (ns : List ℕ) → ((reply : Reply) (output : List ℕ) → P reply output → IsOneOf (status_of reply) ns) → (other : Reply) → are_apart (status_of other ∷ []) ns ≡ true → (A : Type 0) (out now : Option (List ℕ)) (result : Result Reply Failed) → IfOk result (Answers P out now) → IfOk result (λ reply. reply ≡ other → A)

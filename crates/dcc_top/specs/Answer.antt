@@ -4,6 +4,8 @@ use Rattle.std.specs.Fmt.{decimal}
 use Rattle.dcc_mz.specs.Fault.{number_of, place_of, IsRefusal as IsFormatRefusal}
 use Rattle.dcc_mz.specs.declared.fault.MzFault.{MzFault}
 use Rattle.dcc_mz.specs.declared.fault.MzFault.TheVariants.{Memory as NoMemory}
+use Rattle.dcc_io.specs.declared.outside.ShelfFault.{ShelfFault}
+use Rattle.dcc_io.specs.declared.outside.ShelfFault.TheVariants.{Absent, Failed as ShelfFailed, Memory as ShelfMemory}
 use Rattle.dcc_io.specs.Told.{WhenTold}
 use Rattle.dcc_prog.specs.declared.image.Image.{Image}
 use Rattle.dcc_prog.specs.declared.refusal.LimitName.{LimitName}
@@ -16,13 +18,15 @@ use Rattle.dcc_c.specs.Tree.{Tree}
 use Rattle.dcc_c.specs.Written.{written_form}
 use Rattle.dcc_reader.specs.declared.offence.ParseKind.{ParseKind}
 use Rattle.dcc_reader.specs.declared.offence.ParseKind.TheVariants.{Length, Version, Token, Grammar, Name, Type_, Place, Depth}
+use Rattle.dcc_parse.specs.declared.fault.ParseFault.{ParseFault}
+use Rattle.dcc_parse.specs.declared.fault.ParseFault.TheVariants.{At, Memory as ParseMemory}
 use Rattle.dcc_parse.specs.Fault.{IsRefusal as IsTextRefusal}
 use Rattle.dcc_pipe.specs.Agreement.{IsTextOf}
 use Rattle.dcc_top.specs.declared.reply.Reply.{Reply}
 use Rattle.dcc_top.specs.declared.reply.Reply.TheVariants.{Done, Exited, Usage, NoFile, FileFault, InputFault, Memory, Format, Construct, Limit, NotYet, TextFault, Unfinished, Divided, Outside, Stuck}
-use Rattle.dcc_top.specs.Agreement.{Agrees}
 use Rattle.dcc_top.specs.Program.{IsRefusedFor, IsAcceptedProgram}
 use Rattle.dcc_top.specs.Execution.{machine_of, text_of, Finishes, FinishesOrStops, PutsOut}
+use Rattle.dcc_top.specs.Status as exit
 use Rattle.dcc_top.specs.Words.{Job, Decompile, Execute, ExecuteText, greatest_text}
 
 -- a hexadecimal digit, in upper case
@@ -56,22 +60,22 @@ kind_word Depth = codes "depth"
 
 -- the exit status
 abbrev pub status_of : Reply → ℕ
-status_of Done = 0
-status_of (Exited code) = 0
-status_of Usage = 2
-status_of NoFile = 3
-status_of FileFault = 4
-status_of InputFault = 5
-status_of Memory = 7
-status_of (Format fault) = 8
-status_of (Construct kind at) = 9
-status_of (Limit what count) = 10
-status_of (TextFault line kind) = 11
-status_of (NotYet at) = 12
-status_of (Unfinished steps) = 20
-status_of Divided = 21
-status_of (Outside at) = 22
-status_of (Stuck line) = 24
+status_of Done = exit.done
+status_of (Exited code) = exit.done
+status_of Usage = exit.usage
+status_of NoFile = exit.no_file
+status_of FileFault = exit.file_fault
+status_of InputFault = exit.input_fault
+status_of Memory = exit.no_memory
+status_of (Format fault) = exit.format
+status_of (Construct kind at) = exit.construct
+status_of (Limit what count) = exit.limit
+status_of (TextFault line kind) = exit.text_fault
+status_of (NotYet at) = exit.not_yet
+status_of (Unfinished steps) = exit.unfinished
+status_of Divided = exit.divided
+status_of (Outside at) = exit.outside
+status_of (Stuck line) = exit.stuck
 
 -- the line on the error stream; none where a text is done
 abbrev pub line_of : Reply → List ℕ
@@ -96,10 +100,21 @@ line_of Divided = codes "divide\n"
 line_of (Outside at) = codes "outside at " ++ (hex_offset at ++ codes "\n")
 line_of (Stuck line) = codes "stuck at line " ++ (decimal line ++ codes "\n")
 
+-- the answer where the shelf does not give a file
+abbrev pub shelf_reply : ShelfFault → Reply
+shelf_reply Absent = NoFile
+shelf_reply ShelfFailed = FileFault
+shelf_reply ShelfMemory = Memory
+
 -- the answer where a file is not loaded
 abbrev pub fault_reply : MzFault → Reply
 fault_reply NoMemory = Memory
 fault_reply fault = Format fault
+
+-- the answer where a text is not read
+abbrev pub parse_reply : ParseFault → Reply
+parse_reply (At line kind) = TextFault line kind
+parse_reply ParseMemory = Memory
 
 -- the answer where a program is refused
 abbrev pub refusal_reply : Refusal → Reply
@@ -110,7 +125,7 @@ refusal_reply MemoryRefused = Memory
 
 -- Files.
 
--- what the shelf tells of its files
+-- the bytes of the file of each name, where the shelf tells them
 abbrev pub Files : Type 0
 Files = Option (List ℕ → Option (List ℕ))
 
@@ -134,25 +149,19 @@ pub data HasNoFile (told : Files) (name : List ℕ) : Reply → Type 0 where
   file_fault : HasNoFile told name FileFault
   no_memory : HasNoFile told name Memory
 
--- the answer says which check the file fails first, or that memory ran out
-pub data FailsCheck (file : List ℕ) : Reply → Type 0 where
-  fails : {fault : MzFault} → IsFormatRefusal file fault → FailsCheck file (Format fault)
-  no_memory_to_load : FailsCheck file Memory
-
 -- The answer says why there is no image of the file of this name: it could not be had, or it fails a check.
 pub data HasNoImage (told : Files) (name : List ℕ) : Reply → Type 0 where
   no_executable : {reply : Reply} → HasNoFile told name reply → HasNoImage told name reply
-  misshapen : {fault : MzFault} → OfFile told name (λ file. IsFormatRefusal file fault) → HasNoImage told name (Format fault)
+  misshapen : {fault : MzFault}
+    → OfFile told name (λ file. IsFormatRefusal file fault)
+    → HasNoImage told name (Format fault)
 
 -- The answer says why there is no unit of the file of this name: it could not be had, or it is refused as a text.
 pub data HasNoUnit (told : Files) (name : List ℕ) : Reply → Type 0 where
   no_text : {reply : Reply} → HasNoFile told name reply → HasNoUnit told name reply
-  offends : {line : ℕ} {kind : ParseKind} → OfFile told name (λ text. IsTextRefusal text line kind) → HasNoUnit told name (TextFault line kind)
-
--- the answer says what offends in the text, or that memory ran out
-pub data FailsToRead (text : List ℕ) : Reply → Type 0 where
-  fails_to_read : {line : ℕ} {kind : ParseKind} → IsTextRefusal text line kind → FailsToRead text (TextFault line kind)
-  no_memory_to_read : FailsToRead text Memory
+  offends : {line : ℕ} {kind : ParseKind}
+    → OfFile told name (λ text. IsTextRefusal text line kind)
+    → HasNoUnit told name (TextFault line kind)
 
 -- The text of an executable.
 
@@ -163,16 +172,16 @@ pub record IsTextOfImage (image : Image) (text : List ℕ) : Type 0 where
   pub is_text : IsTextOf image text tree
   pub written_is : text ≡ written_form tree
 
--- the answer is allowed for an image whose text is asked for, behind these bytes
+-- the answer is allowed for an image whose text is asked for, after these bytes
 pub data AllowsImage (image : Image) : Reply → List ℕ → Type 0 where
   image_decompiled : {text : List ℕ} → IsTextOfImage image text → AllowsImage image Done text
   image_refused : (refusal : Refusal) → IsRefusedFor image refusal → AllowsImage image (refusal_reply refusal) []
 
--- the file's image is accepted, and the text is in its written form and agrees with the file
+-- the file's image is accepted, and these bytes are the written form of a tree that is its text
 pub record Decompiles (file text : List ℕ) : Type 0 where
-  pub agrees : Agrees file text
-  pub accepted : IsAcceptedProgram agrees.image
-  pub written_is : text ≡ written_form agrees.tree
+  pub image : Image
+  pub is_image : IsImageOf file image
+  pub is_text : IsTextOfImage image text
 
 -- the file's image is refused so
 pub record IsRefusedAs (refusal : Refusal) (file : List ℕ) : Type 0 where
@@ -186,10 +195,12 @@ pub record OfImages (file : List ℕ) (P : Image → Type 0) : Type 0 where
   pub is_image : IsImageOf file image
   pub each : (other : Image) → IsImageOf file other → P other
 
--- The answer is allowed for the file of this name whose text is asked for, behind these bytes.
+-- The answer is allowed for the file of this name whose text is asked for, after these bytes.
 pub data AllowsText (told : Files) (name : List ℕ) : Reply → List ℕ → Type 0 where
   decompiled : {text : List ℕ} → OfFile told name (λ file. Decompiles file text) → AllowsText told name Done text
-  refused : (refusal : Refusal) → OfFile told name (IsRefusedAs refusal) → AllowsText told name (refusal_reply refusal) []
+  refused : (refusal : Refusal)
+    → OfFile told name (IsRefusedAs refusal)
+    → AllowsText told name (refusal_reply refusal) []
   no_image : {reply : Reply} → HasNoImage told name reply → AllowsText told name reply []
 
 -- Runs.
@@ -220,12 +231,14 @@ pub record HasSomeText (tree : Tree) : Type 0 where
 -- from the start of a text for this tree, the answer is one for its run
 abbrev pub RunsUnit : Tree → ℕ → ℕ → Option (List ℕ) → Option (List ℕ) → Reply → List ℕ → Type 0
 RunsUnit tree steps fill before left reply output =
-    (text : List ℕ) (stands : StandsFor text tree) → FinishesOrStops (text_of tree stands.allowed.start fill) steps before left reply output
+    (text : List ℕ) (stands : StandsFor text tree)
+    → FinishesOrStops (text_of tree stands.allowed.start fill) steps before left reply output
 
 -- from the start of a text for this tree, its run puts this out
 abbrev pub UnitPutsOut : Tree → ℕ → ℕ → Option (List ℕ) → List ℕ → Type 0
 UnitPutsOut tree steps fill before output =
-    (text : List ℕ) (stands : StandsFor text tree) → PutsOut (text_of tree stands.allowed.start fill) steps before output
+    (text : List ℕ) (stands : StandsFor text tree)
+    → PutsOut (text_of tree stands.allowed.start fill) steps before output
 
 -- the answer is one for a run of the text
 pub record RunsText (text : List ℕ) (steps fill : ℕ) (before left : Option (List ℕ)) (reply : Reply) (output : List ℕ) : Type 0 where
@@ -250,14 +263,33 @@ Runs (ExecuteText name steps fill) file before left reply output = RunsText file
 -- The answer is allowed for the job, which itself has written this output by then.
 pub data Allows (told : Files) (before left : Option (List ℕ)) : Option Job → Reply → List ℕ → Type 0 where
   no_job : left ≡ before → Allows told before left None Usage []
-  for_text : {name : List ℕ} {reply : Reply} {output : List ℕ} → AllowsText told name reply output → left ≡ before → Allows told before left (Some (Decompile name)) reply output
-  ran_file : {name : List ℕ} {steps : ℕ} {reply : Reply} {output : List ℕ} → OfFile told name (λ file. RunsFile file steps before left reply output) → Allows told before left (Some (Execute name steps)) reply output
-  ran_no_file : {name : List ℕ} {steps : ℕ} {reply : Reply} → HasNoImage told name reply → left ≡ before → Allows told before left (Some (Execute name steps)) reply []
-  ran_text : {name : List ℕ} {steps fill : ℕ} {reply : Reply} {output : List ℕ} → OfFile told name (λ text. RunsText text steps fill before left reply output) → Allows told before left (Some (ExecuteText name steps fill)) reply output
-  ran_no_text : {name : List ℕ} {steps fill : ℕ} {reply : Reply} → HasNoUnit told name reply → left ≡ before → Allows told before left (Some (ExecuteText name steps fill)) reply []
+  for_text : {name : List ℕ} {reply : Reply} {output : List ℕ}
+    → AllowsText told name reply output
+    → left ≡ before
+    → Allows told before left (Some (Decompile name)) reply output
+  ran_file : {name : List ℕ} {steps : ℕ} {reply : Reply} {output : List ℕ}
+    → OfFile told name (λ file. RunsFile file steps before left reply output)
+    → Allows told before left (Some (Execute name steps)) reply output
+  ran_no_file : {name : List ℕ} {steps : ℕ} {reply : Reply}
+    → HasNoImage told name reply
+    → left ≡ before
+    → Allows told before left (Some (Execute name steps)) reply []
+  ran_text : {name : List ℕ} {steps fill : ℕ} {reply : Reply} {output : List ℕ}
+    → OfFile told name (λ text. RunsText text steps fill before left reply output)
+    → Allows told before left (Some (ExecuteText name steps fill)) reply output
+  ran_no_text : {name : List ℕ} {steps fill : ℕ} {reply : Reply}
+    → HasNoUnit told name reply
+    → left ≡ before
+    → Allows told before left (Some (ExecuteText name steps fill)) reply []
 
 -- These bytes are due on the output, where the job comes to its end: the text of the file, or what a run puts out.
 pub data IsDue (told : Files) (before : Option (List ℕ)) : Option Job → List ℕ → Type 0 where
-  due_text : {name due : List ℕ} → OfFile told name (λ file. Decompiles file due) → IsDue told before (Some (Decompile name)) due
-  due_output : {name due : List ℕ} {steps : ℕ} → OfFile told name (λ file. FilePutsOut file steps before due) → IsDue told before (Some (Execute name steps)) due
-  due_text_output : {name due : List ℕ} {steps fill : ℕ} → OfFile told name (λ text. TextPutsOut text steps fill before due) → IsDue told before (Some (ExecuteText name steps fill)) due
+  due_text : {name due : List ℕ}
+    → OfFile told name (λ file. Decompiles file due)
+    → IsDue told before (Some (Decompile name)) due
+  due_output : {name due : List ℕ} {steps : ℕ}
+    → OfFile told name (λ file. FilePutsOut file steps before due)
+    → IsDue told before (Some (Execute name steps)) due
+  due_text_output : {name due : List ℕ} {steps fill : ℕ}
+    → OfFile told name (λ text. TextPutsOut text steps fill before due)
+    → IsDue told before (Some (ExecuteText name steps fill)) due

@@ -45,6 +45,10 @@ state_after subject steps input = after subject.system.step steps (subject.start
 abbrev pub output_after : {S : Type 0} → Subject S → ℕ → List ℕ → List ℕ
 output_after subject steps input = out_after subject.system steps (subject.start input)
 
+-- how the run on the input has ended after so many steps, if it has
+abbrev pub ending_after : {S : Type 0} → Subject S → ℕ → List ℕ → End
+ending_after subject steps input = end_after subject.system steps (subject.start input)
+
 -- the run on the input puts out these bytes in so many steps, leaves this input, and has ended so
 pub record HasRun {S : Type 0} (subject : Subject S) (steps : ℕ) (left : Option (List ℕ)) (output : List ℕ) (end : End) (input : List ℕ) : Type 0 where
   pub output_is : output ≡ output_after subject steps input

@@ -1,8 +1,11 @@
 pub mod Words
 pub mod WordsRead
 pub mod Execution
-pub mod Agreement
 pub mod Program
+pub mod Status
 pub mod Answer
+pub mod Headline
+pub mod Call
 pub mod Delivery
 pub mod Causes
+pub mod Promises

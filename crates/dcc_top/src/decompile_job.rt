@@ -1,11 +1,11 @@
 //! The job of `c`: the text of an executable.
 
-ghost use Rattle.std.specs.Prelude.{◌≡◌, ◌⊎◌, ◌≤◌, Some, IfOk, OnErr, MatchResult};
+ghost use Rattle.std.specs.Prelude.{◌≤◌, ℕ, List, Option, Some, IfOk, OnErr};
 ghost use Rattle.dcc_io.specs.Count.{Rose};
 ghost use Rattle.dcc_prog.specs.MzImage.{IsLoaded};
-ghost use Rattle.dcc_top.specs.declared.reply.Reply.TheVariants.{NoFile, FileFault, Memory};
-ghost use Rattle.dcc_top.specs.Answer.{AllowsImage, AllowsText, Decompiles, IsTextOfImage, OfFile};
-ghost use Rattle.dcc_top.specs.Causes.{AsksAll, AsksPrefix};
+ghost use Rattle.dcc_top.specs.Answer.{AllowsImage, IsTextOfImage};
+ghost use Rattle.dcc_top.specs.Call.{shelf_change, sink_change, unread};
+ghost use Rattle.dcc_top.specs.Causes.{Replies};
 ghost use Rattle.dcc_top.specs.Delivery.{Answers, CutsShort};
 ghost use Rattle.dcc_top.specs.Words.{Decompile};
 
@@ -27,7 +27,7 @@ fn write_text<O: Sink>(alloc: Global, image: &Image, out: &mut O) -> Result<Repl
 {
     let unit = match decompile(alloc, image) {
         Ok(unit) => unit,
-        Err(refusal) => return Ok(Reply::of_refusal(refusal)),
+        Err(refusal) => return Ok(Reply::from(refusal)),
     };
     match print(alloc, out, &unit) {
         Ok(()) => Ok(Reply::Done),
@@ -36,28 +36,18 @@ fn write_text<O: Sink>(alloc: Global, image: &Image, out: &mut O) -> Result<Repl
     }
 }
 
-/// Writes the text of the executable of this name, or answers why there is none. The error is a failed write.
+/// Writes the text of the executable of this name, or answers why there is none; whatever the input is, none of it is
+/// read. The error is a failed write.
 pub fn text_reply<H: Shelf, O: Sink>(
     alloc: Global,
     name: &str,
     shelf: &mut H,
     out: &mut O,
 ) -> Result<Reply, Failed>
-    ensures allowed { IfOk result (Answers (AllowsText (H.files shelf.old) name.now)
-        (O.taken out.old) (O.taken out.new)) }
-    ensures broke_off { OnErr result (CutsShort
-        (λ text. OfFile (H.files shelf.old) name.now (λ file. Decompiles file text))
-        (O.taken out.old) (O.taken out.new)) }
-    ensures asked { MatchResult result
-        (λ reply. (reply ≡ Memory) ⊎ AsksAll (Some (Decompile name.now)) (H.asked shelf.old) (H.asked shelf.new))
-        (λ _. AsksAll (Some (Decompile name.now)) (H.asked shelf.old) (H.asked shelf.new)) }
-    ensures asked_prefix { AsksPrefix (Some (Decompile name.now)) (H.asked shelf.old) (H.asked shelf.new) }
-    ensures absent { IfOk result (λ reply. reply ≡ NoFile
-        → Rose (H.absences shelf.old) (H.absences shelf.new)) }
-    ensures failed { IfOk result (λ reply. reply ≡ FileFault
-        → Rose (H.faults shelf.old) (H.faults shelf.new)) }
-    ensures output_faults { O.faults out.old ≤ O.faults out.new }
-    ensures write_failed { OnErr result (Rose (O.faults out.old) (O.faults out.new)) }
+    ensures { (left : Option (List ℕ)) (faults : ℕ) → Replies (Some (Decompile name.now))
+        (shelf_change H.files H.asked H.absences H.faults shelf.old shelf.new)
+        (unread left faults)
+        (sink_change O.taken O.faults out.old out.new) result }
 {
     match fetch_image(alloc, name, shelf) {
         Ok(image) => write_text(alloc, &image, out),

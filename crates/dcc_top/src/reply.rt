@@ -1,12 +1,14 @@
 //! What the program answers: a status, and a line on the error stream.
 
-ghost use Rattle.std.specs.Prelude.{◌≡◌, ◌<◌, ◌++◌, IfOk, OnOk, IsOk, codes, string_bytes};
-ghost use Rattle.dcc_top.specs.Answer.{status_of, line_of, limit_word, kind_word, hex_digit, hex_offset, fault_reply, refusal_reply};
+ghost use Rattle.std.specs.Prelude.{◌≡◌, Some, IfOk, IsOk, string_bytes};
+ghost use Rattle.dcc_top.specs.Answer.{status_of, line_of, limit_word, kind_word, shelf_reply, fault_reply, parse_reply, refusal_reply};
 
+use dcc_io::ShelfFault;
 use dcc_mz::MzFault;
-use dcc_parse::ParseKind;
+use dcc_parse::{ParseFault, ParseKind};
 use dcc_prog::{LimitName, Refusal};
 use std::alloc::{AllocError, Global};
+use std::fmt;
 
 /// An answer of the program.
 #[derive(Clone, Copy, PartialEq, Eq, Debug)]
@@ -45,21 +47,44 @@ pub enum Reply {
     Stuck(u32),
 }
 
-impl Reply {
-    /// The answer where a file is not loaded.
-    pub fn of_fault(fault: MzFault) -> Reply
-        ensures { result ≡ fault_reply fault }
-    {
+impl From<ShelfFault> for Reply {
+    ghost from_gives = { λ fault reply. reply ≡ shelf_reply fault };
+
+    fn from(fault: ShelfFault) -> Reply {
+        match fault {
+            ShelfFault::Absent => Reply::NoFile,
+            ShelfFault::Failed => Reply::FileFault,
+            ShelfFault::Memory => Reply::Memory,
+        }
+    }
+}
+
+impl From<MzFault> for Reply {
+    ghost from_gives = { λ fault reply. reply ≡ fault_reply fault };
+
+    fn from(fault: MzFault) -> Reply {
         match fault {
             MzFault::Memory => Reply::Memory,
             _ => Reply::Format(fault),
         }
     }
+}
 
-    /// The answer where a program is refused.
-    pub fn of_refusal(refusal: Refusal) -> Reply
-        ensures { result ≡ refusal_reply refusal }
-    {
+impl From<ParseFault> for Reply {
+    ghost from_gives = { λ fault reply. reply ≡ parse_reply fault };
+
+    fn from(fault: ParseFault) -> Reply {
+        match fault {
+            ParseFault::At { line, kind } => Reply::TextFault { line, kind },
+            ParseFault::Memory => Reply::Memory,
+        }
+    }
+}
+
+impl From<Refusal> for Reply {
+    ghost from_gives = { λ refusal reply. reply ≡ refusal_reply refusal };
+
+    fn from(refusal: Refusal) -> Reply {
         match refusal {
             Refusal::Construct { kind, at } => Reply::Construct { kind, at },
             Refusal::Limit { what, count } => Reply::Limit { what, count },
@@ -67,7 +92,9 @@ impl Reply {
             Refusal::Memory => Reply::Memory,
         }
     }
+}
 
+impl Reply {
     /// The exit status of the program.
     pub fn status(&self) -> u8
         ensures { result ≡ status_of self.now }
@@ -98,31 +125,42 @@ impl Reply {
     {
         match self {
             Reply::Done => Ok(String::new(alloc)),
-            Reply::Exited(code) => format!(in alloc; "exit {code}\n"),
-            Reply::Usage => String::from_str(alloc, "dcc: usage\n"),
-            Reply::NoFile => String::from_str(alloc, "dcc: no file\n"),
-            Reply::FileFault => String::from_str(alloc, "dcc: file fault\n"),
-            Reply::InputFault => String::from_str(alloc, "dcc: input fault\n"),
-            Reply::Memory => String::from_str(alloc, "dcc: memory\n"),
-            Reply::Unfinished(steps) => format!(in alloc; "running after {steps} steps\n"),
-            Reply::Divided => String::from_str(alloc, "divide\n"),
-            Reply::Outside(at) => line_at(alloc, "outside at ", *at),
-            Reply::Stuck(line) => format!(in alloc; "stuck at line {line}\n"),
+            _ => format!(in alloc; "{self}"),
+        }
+    }
+}
+
+impl fmt::Display for Reply {
+    ghost output = { λ reply. Some (line_of reply) };
+
+    fn fmt<W: fmt::Write>(&self, f: &mut fmt::Formatter<W>) -> fmt::Result {
+        match *self {
+            Reply::Done => Ok(()),
+            Reply::Exited(code) => writeln!(f, "exit {code}"),
+            Reply::Usage => writeln!(f, "dcc: usage"),
+            Reply::NoFile => writeln!(f, "dcc: no file"),
+            Reply::FileFault => writeln!(f, "dcc: file fault"),
+            Reply::InputFault => writeln!(f, "dcc: input fault"),
+            Reply::Memory => writeln!(f, "dcc: memory"),
             Reply::Format(fault) => {
                 let number = fault.number();
                 let place = fault.place();
-                format!(in alloc; "dcc: format {number} at {place}\n")
+                writeln!(f, "dcc: format {number} at {place}")
             }
-            Reply::Construct { kind, at } => construct_line(alloc, *kind, *at),
+            Reply::Construct { kind, at } => writeln!(f, "dcc: construct {kind} at {at:04X}"),
             Reply::Limit { what, count } => {
-                let name = limit_word(*what);
-                format!(in alloc; "dcc: limit {name} {count}\n")
+                let name = limit_word(what);
+                writeln!(f, "dcc: limit {name} {count}")
             }
             Reply::TextFault { line, kind } => {
-                let word = kind_word(*kind);
-                format!(in alloc; "dcc: text {word} at line {line}\n")
+                let word = kind_word(kind);
+                writeln!(f, "dcc: text {word} at line {line}")
             }
-            Reply::NotYet(at) => line_at(alloc, "dcc: not yet at ", *at),
+            Reply::NotYet(at) => writeln!(f, "dcc: not yet at {at:04X}"),
+            Reply::Unfinished(steps) => writeln!(f, "running after {steps} steps"),
+            Reply::Divided => writeln!(f, "divide"),
+            Reply::Outside(at) => writeln!(f, "outside at {at:04X}"),
+            Reply::Stuck(line) => writeln!(f, "stuck at line {line}"),
         }
     }
 }
@@ -155,43 +193,4 @@ fn kind_word(kind: ParseKind) -> &'static str
         ParseKind::Place => "place",
         ParseKind::Depth => "depth",
     }
-}
-
-// A hexadecimal digit, in upper case.
-fn hex_digit(n: u16) -> char
-    requires { n < 16 }
-    ensures { result ≡ hex_digit n }
-{
-    let n = n as u8;
-    char::from(if n < 10 { b'0' + n } else { b'A' - 10 + n })
-}
-
-// Appends an offset as four hexadecimal digits.
-fn push_offset(line: &mut String, at: u16) -> Result<(), AllocError>
-    ensures { OnOk result (string_bytes line.new ≡ string_bytes line.old ++ hex_offset at) }
-{
-    line.push(hex_digit(at / 4096))?;
-    line.push(hex_digit(at / 256 % 16))?;
-    line.push(hex_digit(at / 16 % 16))?;
-    line.push(hex_digit(at % 16))
-}
-
-// The line that says these words and then an offset.
-fn line_at(alloc: Global, words: &str, at: u16) -> Result<String, AllocError>
-    ensures { IfOk result (λ line. string_bytes line ≡ words.now ++ (hex_offset at ++ codes "\n")) }
-{
-    let mut line = String::from_str(alloc, words)?;
-    push_offset(&mut line, at)?;
-    line.push('\n')?;
-    Ok(line)
-}
-
-// The line that names a construct.
-fn construct_line(alloc: Global, kind: u8, at: u16) -> Result<String, AllocError>
-    ensures { IfOk result (λ line. string_bytes line ≡ line_of (Reply.Construct kind at)) }
-{
-    let mut line = format!(in alloc; "dcc: construct {kind} at ")?;
-    push_offset(&mut line, at)?;
-    line.push('\n')?;
-    Ok(line)
 }

@@ -1,21 +1,23 @@
-use Rattle.std.proofs.Common.{refl}
-use Rattle.dcc_top.specs.declared.reply.Reply.TheVariants.{InputFault}
-use Rattle.dcc_top.specs.Answer.{AllowsText}
-use Rattle.dcc_top.proofs.StatusLaws.{text_statuses, text-status, never}
-use Rattle.dcc_top.proofs.AnswerLaws.{usage-reply, text-reply, text-cut}
+use Rattle.std.proofs.Common.{refl, sym, subst}
+use Rattle.dcc_top.specs.Causes.{Replies}
+use Rattle.dcc_top.proofs.ReplyLaws.{replies-usage}
 use Rattle.dcc_top.proofs.top.reply_for.Goals as goal
 
-pub returns-in-None-clause-allowed : goal.returns-in-None-clause-allowed
-returns-in-None-clause-allowed g c = usage-reply _ _ _ _ (rw c.deref.ensures.value at c.in-None.ensures)
+pub returns-in-None-clause-replies : goal.returns-in-None-clause-replies
+returns-in-None-clause-replies g c =
+    replies-usage _ _ _ _ _ _ (rw c.deref.ensures.value at c.in-None.ensures) refl
 
-pub returns-in-Some-Decompile-clause-allowed : goal.returns-in-Some-Decompile-clause-allowed
-returns-in-Some-Decompile-clause-allowed g c =
-    text-reply _ _ c.in-Some-Decompile.name.now _ _ _ c.text_reply.result (rw (c.deref.ensures.value, c.in-Some-Decompile.field-0-is) at c.in-Some-Decompile.ensures) c.text_reply.ensures.allowed
+pub returns-in-Some-Decompile-clause-replies : goal.returns-in-Some-Decompile-clause-replies
+returns-in-Some-Decompile-clause-replies g c =
+    let job = rw (c.deref.ensures.value, c.in-Some-Decompile.field-0-is) at c.in-Some-Decompile.ensures in
+    rw job (c.text_reply.ensures (g.I.Source.left c.args.input.now) (g.I.Source.faults c.args.input.now))
 
-pub returns-in-Some-Decompile-clause-broke_off : goal.returns-in-Some-Decompile-clause-broke_off
-returns-in-Some-Decompile-clause-broke_off g c =
-    text-cut _ _ c.in-Some-Decompile.name.now _ _ _ c.text_reply.result (rw (c.deref.ensures.value, c.in-Some-Decompile.field-0-is) at c.in-Some-Decompile.ensures) c.text_reply.ensures.broke_off
+pub returns-in-Some-Execute-clause-replies : goal.returns-in-Some-Execute-clause-replies
+returns-in-Some-Execute-clause-replies g c =
+    let job = rw (c.deref.ensures.value, c.in-Some-Execute.field-0-is) at c.in-Some-Execute.ensures in
+    rw job c.run_reply.ensures
 
-pub returns-in-Some-Decompile-clause-read_failed : goal.returns-in-Some-Decompile-clause-read_failed
-returns-in-Some-Decompile-clause-read_failed g c =
-    never (AllowsText (g.H.Shelf.files c.args.shelf.now) c.in-Some-Decompile.name.now) text_statuses (text-status (g.H.Shelf.files c.args.shelf.now) c.in-Some-Decompile.name.now) InputFault refl _ _ _ c.text_reply.result c.text_reply.ensures.allowed
+pub returns-in-Some-ExecuteText-clause-replies : goal.returns-in-Some-ExecuteText-clause-replies
+returns-in-Some-ExecuteText-clause-replies g c =
+    let job = rw (c.deref.ensures.value, c.in-Some-ExecuteText.field-0-is) at c.in-Some-ExecuteText.ensures in
+    rw job c.runc_reply.ensures

@@ -1,0 +1,43 @@
+-- From the agreement of an image and a text to the headline.
+use Rattle.std.proofs.Common.{◌≡◌, ℕ, List, Option}
+use Rattle.dcc_io.specs.Told.{append_told}
+use Rattle.dcc_prog.specs.declared.image.Image.{Image}
+use Rattle.dcc_c.specs.Tree.{Tree, Function}
+use Rattle.dcc_pipe.specs.Agreement as pipe
+use Rattle.dcc_top.specs.Answer.{Files, ShelfHas, Decompiles}
+use Rattle.dcc_top.specs.Execution.{machine_of, text_of}
+use Rattle.dcc_top.specs.Headline.{HasText, RunsAgree}
+
+runs-agree : (image : Image) (tree : Tree) (start : Function) (tokens : ℕ) (input : List ℕ) (fill : ℕ)
+  → pipe.RunsAgree image tree start tokens input fill
+  → RunsAgree (machine_of image) (text_of tree start fill) tokens input
+runs-agree image tree start tokens input fill a =
+    let text = a.text_follows in
+    let file = a.machine_follows in
+    record {
+      text_keeps_up = λ n. record { out = text.out n tt; end = text.end n tt; same = text.same n tt };
+      file_keeps_up = λ k. record { out = file.out k tt; end = file.end k tt; same = file.same k tt };
+      never_stuck = a.never_stuck;
+    }
+
+pub has-text : (told : Files) (name : List ℕ) (before after : Option (List ℕ)) (file text : List ℕ)
+  → ShelfHas told name file
+  → after ≡ append_told before text
+  → Decompiles file text
+  → HasText told name before after
+has-text told name before after file text has appended d =
+    let t = d.is_text in
+    record {
+      file = file;
+      text = text;
+      has = has;
+      appended = appended;
+      image = d.image;
+      is_image = d.is_image;
+      accepted = t.accepted;
+      tree = t.tree;
+      stands = t.is_text.stands;
+      written_is = t.written_is;
+      runs = λ input fill bytes small.
+          runs-agree d.image t.tree t.is_text.stands.allowed.start _ input fill (t.is_text.runs input fill bytes small);
+    }

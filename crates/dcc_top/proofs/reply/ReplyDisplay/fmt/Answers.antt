@@ -1,0 +1,26 @@
+use Rattle.std.proofs.Common.{◌≡◌, ap, Some, ◌<◌, ◌^◌, arith}
+use Rattle.std.specs.Fmt.{styled_digits_output}
+use Rattle.dcc_top.specs.Answer.{hex_offset}
+use Rattle.dcc_top.proofs.HexLaws.{hex_offset-padded}
+use Rattle.dcc_top.proofs.reply.ReplyDisplay.fmt.Goals as goal
+
+pub returns-in-Construct-clause-writes : goal.returns-in-Construct-clause-writes
+returns-in-Construct-clause-writes g c =
+    let small : c.in-Construct.at < 2 ^ 16 = omega arith in
+    let written : styled_digits_output c.in_radix.result c.laid_out.result ≡ Some (hex_offset c.in-Construct.at) =
+    rw (c.laid_out.ensures, c.in_radix.ensures) (ap Some (hex_offset-padded c.in-Construct.at small)) in
+    rw c.in-Construct.is (rw written at c.writeln-in-Construct.ensures.writes)
+
+pub returns-in-NotYet-clause-writes : goal.returns-in-NotYet-clause-writes
+returns-in-NotYet-clause-writes g c =
+    let small : c.in-NotYet.at < 2 ^ 16 = omega arith in
+    let written : styled_digits_output c.in_radix-in-NotYet.result c.laid_out-in-NotYet.result ≡ Some (hex_offset c.in-NotYet.at) =
+    rw (c.laid_out-in-NotYet.ensures, c.in_radix-in-NotYet.ensures) (ap Some (hex_offset-padded c.in-NotYet.at small)) in
+    rw c.in-NotYet.is (rw written at c.writeln-in-NotYet.ensures.writes)
+
+pub returns-in-Outside-clause-writes : goal.returns-in-Outside-clause-writes
+returns-in-Outside-clause-writes g c =
+    let small : c.in-Outside.at < 2 ^ 16 = omega arith in
+    let written : styled_digits_output c.in_radix-in-Outside.result c.laid_out-in-Outside.result ≡ Some (hex_offset c.in-Outside.at) =
+    rw (c.laid_out-in-Outside.ensures, c.in_radix-in-Outside.ensures) (ap Some (hex_offset-padded c.in-Outside.at small)) in
+    rw c.in-Outside.is (rw written at c.writeln-in-Outside.ensures.writes)

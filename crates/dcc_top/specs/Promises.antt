@@ -1,0 +1,102 @@
+-- What the program promises of each call: the text of `c`, runs, refusals, faults, and what is asked and told.
+use Rattle.std.specs.Prelude.{◌≡◌, ◌≢◌, ◌⊎◌, ℕ, List, [], ◌∷◌, Some, None}
+use Rattle.dcc_run.specs.End.{End}
+use Rattle.dcc_prog.specs.MzImage.{FormatFault, IsFirstFault}
+use Rattle.dcc_top.specs.declared.reply.Reply.TheVariants.{Memory}
+use Rattle.dcc_top.specs.Words.{Job, Decompile, ExecuteText, IsExecution, LoadsImage}
+use Rattle.dcc_top.specs.Program.{IsAcceptedProgram, IsRefusedImage}
+use Rattle.dcc_top.specs.Answer.{OfImages, line_of}
+use Rattle.dcc_top.specs.Call.{Call, Rises, AppendsPart}
+use Rattle.dcc_top.specs.Headline.{HasText}
+use Rattle.dcc_top.specs.Causes.{IsAnswered, HasRunFile, EndsSo, Names, IsMissing, IsAbsent, IsUnreadable, HasFormatFault, HasRefusal, HasTextFault, IsNoText, IsOutOfMemory, IsCutOff, AsksPrefix, AsksAll}
+use Rattle.dcc_top.specs.Status.{IsOneOf, end_status}
+use Rattle.dcc_top.specs.Status as exit
+
+-- `c` writes a text that does what the executable does, and writes it wherever nothing in the program is refused.
+pub record KeepsText (call : Call) : Type 0 where
+  pub text : (name : List ℕ)
+    → call.job ≡ Some (Decompile name)
+    → call.status ≡ exit.done
+    → HasText call.shelf.files name call.output.taken.before call.output.taken.after
+  pub text_always : (name file : List ℕ)
+    → call.job ≡ Some (Decompile name)
+    → Names call file
+    → OfImages file IsAcceptedProgram
+    → IsOneOf call.status (exit.done ∷ exit.faults)
+
+-- What `run` and `runc` put out and take, and how the run has ended, are those of the file.
+pub record KeepsRuns (call : Call) : Type 0 where
+  pub exited : IsExecution call.job → call.status ≡ exit.done → HasRunFile call
+  pub ran : IsOneOf call.status exit.stops → HasRunFile call
+  pub ran_always : (job : Job) (file bytes : List ℕ) (end : End)
+    → call.job ≡ Some job
+    → Names call file
+    → call.input.left.before ≡ Some bytes
+    → EndsSo file bytes job end
+    → IsOneOf call.status (end_status end ∷ exit.run_faults)
+  pub read_failed : call.status ≡ exit.input_fault → Rises call.input.faults
+
+-- Words, files, programs and texts are refused for what is told of them, and wherever there is that to tell; then
+-- nothing is put out.
+pub record KeepsRefusals (call : Call) : Type 0 where
+  -- the words are no command
+  pub usage : call.status ≡ exit.usage → call.job ≡ None
+  pub usage_always : call.job ≡ None → IsOneOf call.status (exit.usage ∷ (exit.write_fault ∷ (exit.no_memory ∷ [])))
+
+  -- the file has no image
+  pub format : call.status ≡ exit.format → HasFormatFault call
+  pub format_always : (file : List ℕ) (fault : FormatFault)
+    → LoadsImage call.job
+    → Names call file
+    → IsFirstFault file fault
+    → IsOneOf call.status (exit.format ∷ exit.faults)
+
+  -- the program is refused: for a construct, for a count, or for an instruction that is not built yet
+  pub refused : IsOneOf call.status exit.refusals → HasRefusal call
+  pub refused_always : (name file : List ℕ)
+    → call.job ≡ Some (Decompile name)
+    → Names call file
+    → OfImages file IsRefusedImage
+    → IsOneOf call.status (exit.construct ∷ (exit.limit ∷ (exit.not_yet ∷ exit.faults)))
+
+  -- the text is refused: no tree stands for it, or it is too long
+  pub text_fault : call.status ≡ exit.text_fault → HasTextFault call
+  pub text_fault_always : (name file : List ℕ) (steps fill : ℕ)
+    → call.job ≡ Some (ExecuteText name steps fill)
+    → Names call file
+    → IsNoText file
+    → IsOneOf call.status (exit.text_fault ∷ exit.faults)
+
+  -- a refusal puts nothing out
+  pub nothing : IsOneOf call.status exit.without_output → call.output.taken.after ≡ call.output.taken.before
+
+-- A fault of what lies outside comes where it happened in this call; and what is written then.
+pub record KeepsFaults (call : Call) : Type 0 where
+  -- there is no file of the name, or it could not be read
+  pub absent : call.status ≡ exit.no_file → IsAbsent call
+  pub absent_always : IsMissing call → IsOneOf call.status (exit.no_file ∷ exit.faults)
+  pub unreadable : call.status ≡ exit.file_fault → IsUnreadable call
+
+  -- a write failed: a part of an answer is written
+  pub write_failed : call.status ≡ exit.write_fault → Rises call.output.faults ⊎ Rises call.errors.faults
+  pub cut_off : call.status ≡ exit.write_fault → IsCutOff call
+
+  -- memory ran out: what a run had put out by then is written
+  pub out_of_memory : call.status ≡ exit.no_memory → IsOutOfMemory call
+
+-- An answer that is allowed for the words is written, as far as the streams take it. Of the shelf is asked at most what
+-- the job asks for, and all of it but where memory ran out.
+pub record KeepsAnswer (call : Call) : Type 0 where
+  pub answered : IsAnswered call
+  pub asked_prefix : AsksPrefix call.job call.shelf.asked
+  pub asked : call.status ≢ exit.write_fault → call.status ≢ exit.no_memory → AsksAll call.job call.shelf.asked
+  pub asked_cut_off : call.status ≡ exit.write_fault
+    → AsksAll call.job call.shelf.asked ⊎ AppendsPart call.errors (line_of Memory)
+
+-- what the program promises of a call
+pub record KeepsPromises (call : Call) : Type 0 where
+  pub text : KeepsText call
+  pub runs : KeepsRuns call
+  pub refusals : KeepsRefusals call
+  pub faults : KeepsFaults call
+  pub answer : KeepsAnswer call
