@@ -17,7 +17,7 @@ use Rattle.dcc_c.proofs.FormedExprs.{expr_formed, place_formed, call_formed}
 
 -- Depth.
 
--- the depth behind statements and others is that behind the others
+-- the depth after statements and others is that after the others
 depth_behind-append : (first second : List Stmt) (depth : ℕ) → depth_behind depth (first ++ second) ≡ depth_behind (depth_behind depth first) second
 depth_behind-append [] second depth = refl
 depth_behind-append (Call place function arguments own ∷ first) second depth = depth_behind-append first second own
@@ -29,7 +29,7 @@ next_depth-twice (line (Label name) at lines) depth = next_depth-twice lines dep
 next_depth-twice (line stmt at lines) depth = refl
 next_depth-twice no_lines depth = refl
 
--- where the next depth is in force before statements, the depth behind them is the same
+-- where the next depth is in force before statements, the depth after them is the same
 behind-next_depth : (lines : Lines) (depth : ℕ) → depth_behind (next_depth depth lines) (stmts_in lines) ≡ depth_behind depth (stmts_in lines)
 behind-next_depth (line (Label name) at lines) depth = behind-next_depth lines depth
 behind-next_depth (line stmt at lines) depth = refl
@@ -112,7 +112,7 @@ first_statement {around} {labelled} {depth} {between} {after} {at} {tokens} {oth
     let Q : List Placed → Type 0 = λ ts. AreLines 200 around labelled depth ts (line stmt at lines) after rest in
     subst Q (sym starts) (statement small (subst P starts first) later)
 
--- the depth behind a statement, those inside it, and others
+-- the depth after a statement, those inside it, and others
 behind_line : (depth own : ℕ) (stmt : Stmt) (was : ℕ) (lines : Lines) → own ≡ next_depth depth (line stmt was lines) →
     depth_behind (depth_behind own (stmt ∷ inner_stmts stmt)) (stmts_in lines) ≡ depth_behind depth (stmts_in (line stmt was lines))
 behind_line depth own stmt was lines is =

@@ -20,7 +20,7 @@ spelling (Mark mark) = mark
 spelling (Hex n suffix) = []
 spelling (Pragma head) = []
 
--- the bytes of a row, its line feed and the bytes behind it
+-- the bytes of a row, its line feed and the bytes after it
 abbrev pub row_bytes : List Piece → List ℕ → List ℕ
 row_bytes [] rest = 10 ∷ rest
 row_bytes (Space ∷ row) rest = 32 ∷ row_bytes row rest

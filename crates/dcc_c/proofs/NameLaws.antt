@@ -1,8 +1,27 @@
 -- Laws of names and of the variables that have them.
-use Rattle.std.proofs.Common.{◌≡◌, ℕ, Bool, true, false, ◌&&◌, ◌==◌, List, [], ◌∷◌, refl, sym, ap, ◌∙◌}
+use Rattle.std.proofs.Common.{◌≡◌, ℕ, Bool, true, false, ◌&&◌, ◌==◌, List, [], ◌∷◌, refl, sym, ap, ◌∙◌, arith}
 use Rattle.std.specs.Cmp.Lexicographic.{pointwise}
+use Rattle.std.proofs.lemmas.Bool.{and_parts, eqb-true}
+use Rattle.std.proofs.lemmas.Bool.Decides.{nat_tests}
 use Rattle.dcc_c.specs.Token.{same_bytes}
 use Rattle.dcc_c.specs.Value.{Value, converted, Unplaced, Binding, after_assignment}
+
+-- names that are tested to be one are equal
+pub same_bytes-equal : (xs ys : List ℕ) → same_bytes xs ys ≡ true → xs ≡ ys
+same_bytes-equal [] [] same = refl
+same_bytes-equal [] (y ∷ ys) same = absurd cc
+same_bytes-equal (x ∷ xs) [] same = absurd cc
+same_bytes-equal (x ∷ xs) (y ∷ ys) same =
+    let parts = and_parts (x == y) (same_bytes xs ys) same in
+    rw (eqb-true x y parts.0, same_bytes-equal xs ys parts.1) refl
+
+eqb-itself : (n : ℕ) → (n == n) ≡ true
+eqb-itself n = grind (arith, nat_tests)
+
+-- a name is tested to be itself
+pub same_bytes-refl : (xs : List ℕ) → same_bytes xs xs ≡ true
+same_bytes-refl [] = refl
+same_bytes-refl (x ∷ xs) = rw (eqb-itself x) (same_bytes-refl xs)
 
 -- the test of two names is that of two texts
 pub same_bytes-pointwise : (xs ys : List ℕ) → same_bytes xs ys ≡ pointwise ◌==◌ xs ys

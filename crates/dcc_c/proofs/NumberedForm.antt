@@ -32,7 +32,7 @@ call_depth-same depth at (Call place function arguments own) = refl
 call_depth-same depth at (If e body otherwise) = refl
 call_depth-same depth at _ = refl
 
--- statements with the same depths have the same depth behind them
+-- statements with the same depths have the same depth after them
 same_behind : (first second : List Stmt) → map call_depth first ≡ map call_depth second → (depth : ℕ) → depth_behind depth first ≡ depth_behind depth second
 same_behind first second same depth = behind_last first depth ∙ ap (last_depth depth) same ∙ sym (behind_last second depth)
 
@@ -61,7 +61,7 @@ abbrev is_nothing : Lines → Bool
 is_nothing no_lines = true
 is_nothing (line stmt at lines) = false
 
--- blocks that are written alike, the second behind the first
+-- blocks that are written alike, the second after the first
 second_same : (body otherwise : Lines) (depth first at second braces own : ℕ) → ((braces own : ℕ) → written_lines braces own (numbered_lines depth second otherwise) ≡ written_lines braces own otherwise) →
     written_lines braces (depth_behind own (stmts_in (numbered_lines first at body))) (numbered_lines depth second otherwise) ≡ written_lines braces (depth_behind own (stmts_in body)) otherwise
 second_same body otherwise depth first at second braces own same =

@@ -84,7 +84,7 @@ abbrev mutual
   is_writable_stmt around Empty = true
   is_writable_stmt around (Return e) = is_value_if e
 
-  -- statements with at most 200 blocks around them; behind a label comes one
+  -- statements with at most 200 blocks around them; after a label comes one
   pub are_writable_lines : Around → Bool → Lines → Bool
   are_writable_lines around labelled no_lines = not labelled
   are_writable_lines around labelled (line stmt at lines) =

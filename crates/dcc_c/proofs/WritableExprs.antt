@@ -82,7 +82,7 @@ takes_names (Binary operator a b) = takes_names a && takes_names b
 takes_names (Conditional a b c) = takes_names a && (takes_names b && takes_names c)
 takes_names (Cast type a) = takes_names a
 
--- an expression whose tokens have small numbers is writable, and so are the tokens behind it
+-- an expression whose tokens have small numbers is writable, and so are the tokens after it
 pub record IsWell (e : Expr) (rest : List Placed) : Type 0 where
   pub writable : takes_names e ≡ true → is_writable_expr e ≡ true
   pub behind : AreSmall rest

@@ -29,7 +29,7 @@ are_sound stmts = list_all is_sound stmts ≡ true
 both_sound : (first second : List Stmt) → are_sound (first ++ second) → are_sound first × are_sound second
 both_sound first second sound = and_parts _ _ (sym (list_all-append is_sound first second) ∙ sound)
 
--- what holds of statements in small tokens where they are sound, and of what stands behind them
+-- what holds of statements in small tokens where they are sound, and of what stands after them
 pub record IsKept (sound good : Type 0) (after : ℕ) (rest : List Placed) : Type 0 where
   pub writable : sound → good
   pub depth : is_small after ≡ true
@@ -125,7 +125,7 @@ call_into_good around place function arguments depth to rest is_at first is smal
     let (left, right) = and_parts (takes_names place) (list_all takes_names arguments) takes in
     and_from _ _ (and_from _ _ is_at (first.writable left)) (and_from (is_name function) _ is (and_from _ (is_small depth) (well.writable right) small))
 
--- behind the one default arm there is no other
+-- after the one default arm there is no other
 no_other : (body : Lines) (last : Arms) → at_most_one (arm [] body last) ≡ true → has_arm last ≡ false
 no_other body no_arms one = refl
 no_other body (arm cases inner arms) one = absurd cc

@@ -88,7 +88,7 @@ all_sound tree f (stmt ∷ stmts) is =
 
 -- Declarations.
 
--- a number and what stands behind it in small tokens
+-- a number and what stands after it in small tokens
 abbrev Holds : Bool → List Placed → Type 0
 Holds good rest = (good ≡ true) × AreSmall rest
 

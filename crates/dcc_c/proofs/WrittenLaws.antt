@@ -236,7 +236,7 @@ stmt_row_tokens (simple_assign name is simple) at rest =
 stmt_row_tokens (simple_call function is simple) at rest =
     ap (λ (ts : List Placed). word at function ∷ mark at (codes "(") ∷ ts) (expr_row_tokens simple at rest (Spelled (Mark (codes ")")) ∷ Spelled (Mark (codes ";")) ∷ []))
 
--- such statements, the first in a line and each other in the line behind the one before
+-- such statements, the first in a line and each other in the line after the one before
 pub data AreSimple : ℕ → Lines → ℕ → Type 0 where
   simple_end : {at : ℕ} → AreSimple at no_lines at
   simple_line : {at last : ℕ} {stmt : Stmt} {lines : Lines} → IsSimpleStmt stmt → AreSimple (suc at) lines last → AreSimple at (line stmt at lines) last
@@ -264,7 +264,7 @@ lines_bytes (simple_line {at} {stmt} {lines} simple others) rows =
     first_written (simple_assign spelled is e) = refl
     first_written (simple_call function is e) = refl
 
--- the rows of statements can be read where those behind them can
+-- the rows of statements can be read where those after them can
 pub lines_apart : {at last : ℕ} {lines : Lines} → AreSimple at lines last → (rows : List (List Piece)) → is_text rows ≡ true → is_text (line_rows lines rows) ≡ true
 lines_apart simple_end rows good = good
 lines_apart (simple_line {lines} simple others) rows good =

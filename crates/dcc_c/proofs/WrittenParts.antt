@@ -36,7 +36,7 @@ pub indented_then : {fresh : Bool} {at : ℕ} {ending : Ending} {b : List ℕ} {
     Reads false at ending b g → Reads fresh at ending (indented braces b) g
 indented_then braces r = spaces_then (4 * min braces 16) r
 
--- the line behind a part by the lines that it has
+-- the line after a part by the lines that it has
 pub behind_rows : {fresh : Bool} {at behind : ℕ} {bytes : List ℕ} {tokens : List Placed → List Placed} (n : ℕ) →
     rows bytes ≡ n → Reads fresh at (Behind behind) bytes tokens → Reads fresh at (Behind (at + n)) bytes tokens
 behind_rows {fresh} {at} {behind} {bytes} {tokens} n has r =

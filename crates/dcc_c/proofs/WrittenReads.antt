@@ -7,7 +7,7 @@ use Rattle.dcc_c.proofs.LexingLaws.{spelling, is_spelled, spelled}
 use Rattle.dcc_c.proofs.WrittenRows.{rows-append, spelling_flat}
 use Rattle.dcc_c.proofs.WrittenLaws.{is_free}
 
--- how a part ends: inside its line, or with a line feed, behind which a line begins
+-- how a part ends: inside its line, or with a line feed, after which a line begins
 pub data Ending : Type 0 where
   Inside : Ending
   Behind : ℕ → Ending
@@ -17,7 +17,7 @@ abbrev pub Fits : Ending → List ℕ → Type 0
 Fits Inside rest = is_free rest ≡ true
 Fits (Behind n) rest = Unit {0}
 
--- the bytes behind a part of this line that ends so are read as the tokens
+-- the bytes after a part of this line that ends so are read as the tokens
 abbrev pub Goes : Ending → ℕ → List ℕ → List Placed → Type 0
 Goes Inside at rest others = Lexes false at rest others
 Goes (Behind n) at rest others = Lexes true n rest others
@@ -102,7 +102,7 @@ lines_then {fresh} {at} {behind} {last} {a} {b} {f} {g} first r = record {
       rw rows-append (omega arith);
 }
 
--- the line behind a part, by another count
+-- the line after a part, by another count
 pub counted_as : {fresh : Bool} {at behind : ℕ} {bytes : List ℕ} {tokens : List Placed → List Placed} (other : ℕ) →
     behind ≡ other → Reads fresh at (Behind behind) bytes tokens → Reads fresh at (Behind other) bytes tokens
 counted_as {fresh} {at} {bytes} {tokens} other same r = subst (λ n. Reads fresh at (Behind n) bytes tokens) same r

@@ -11,6 +11,7 @@ use Rattle.dcc_c.specs.Tree.{Word, Stmt, Assign, Call, If, While, DoWhile, Forev
 use Rattle.dcc_c.specs.Written.{next_depth, indented, written_else, written_cases, written_stmt, written_lines, written_arms, written_default}
 use Rattle.dcc_c.specs.Numbered.{rows}
 use Rattle.dcc_c.proofs.LexingLaws.{spelling, is_spelled}
+use Rattle.dcc_c.proofs.NameLaws.{same_bytes-equal}
 
 pub rows-append : (a b : List ℕ) → rows (a ++ b) ≡ rows a + rows b
 rows-append [] b = omega arith
@@ -87,21 +88,13 @@ suffix_flat unsigned_suffix = refl
 suffix_flat long_suffix = refl
 suffix_flat unsigned_long_suffix = refl
 
-pub same_bytes-true : (xs ys : List ℕ) → same_bytes xs ys ≡ true → xs ≡ ys
-same_bytes-true [] [] same = refl
-same_bytes-true [] (y ∷ ys) same = absurd cc
-same_bytes-true (x ∷ xs) [] same = absurd cc
-same_bytes-true (x ∷ xs) (y ∷ ys) same =
-    let (here, others) = and_parts (x == y) (same_bytes xs ys) same in
-    rw (eqb-true x y here, same_bytes-true xs ys others) refl
-
 among_flat : (bytes : List ℕ) (words : List (List ℕ)) → list_any (same_bytes bytes) words ≡ true →
     list_all (λ word. rows word == 0) words ≡ true → rows bytes ≡ 0
 among_flat bytes [] is flat = absurd cc
 among_flat bytes (word ∷ words) is flat =
     let (here, others) = and_parts (rows word == 0) (list_all (λ w. rows w == 0) words) flat in
     elim (or_cases (same_bytes bytes word) (list_any (same_bytes bytes) words) is) [
-      | inl same ↦ ap rows (same_bytes-true bytes word same) ∙ eqb-true (rows word) 0 here
+      | inl same ↦ ap rows (same_bytes-equal bytes word same) ∙ eqb-true (rows word) 0 here
       | inr later ↦ among_flat bytes words later others
     ]
 

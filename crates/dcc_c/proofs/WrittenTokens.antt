@@ -74,7 +74,7 @@ abbrev pub test_tokens : ℕ → Word → Expr → List Placed → List Placed
 test_tokens at name e rest =
     word at name ∷ mark at (codes "(") ∷ expr_tokens at e (mark at (codes ")") ∷ mark at (codes "{") ∷ rest)
 
--- The end of an `if` behind its body: its brace in this line, and the else part with these tokens as its
+-- The end of an `if` after its body: its brace in this line, and the else part with these tokens as its
 -- block, where it is not empty, or what follows.
 abbrev pub else_tokens : ℕ → Lines → List Placed → List Placed → List Placed
 else_tokens middle no_lines block rest = mark middle (codes "}") ∷ rest
@@ -128,7 +128,7 @@ abbrev mutual
   stmt_tokens depth at Empty rest = mark at (codes ";") ∷ rest
   stmt_tokens depth at (Return e) rest = return_tokens at e rest
 
-  -- statements, with this depth in force before them, the first in this line or behind its pragma
+  -- statements, with this depth in force before them, the first in this line or after its pragma
   pub lines_tokens : ℕ → ℕ → Lines → List Placed → List Placed
   lines_tokens depth at no_lines rest = rest
   lines_tokens depth at (line stmt was lines) rest =

@@ -64,7 +64,8 @@ abbrev mutual
   -- statements, which have so many blocks around them, with at most 200 around each
   pub are_within : ℕ → PartialLines → Bool
   are_within blocks no_rows = true
-  are_within blocks (row stmt at line rows) = nat_le blocks 200 && (is_within (suc blocks) stmt && are_within blocks rows)
+  are_within blocks (row stmt at line rows) =
+      nat_le blocks 200 && (is_within (suc blocks) stmt && are_within blocks rows)
 
   -- the statements inside a statement
   pub is_within : ℕ → PartialStmt → Bool

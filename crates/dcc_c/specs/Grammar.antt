@@ -1,5 +1,5 @@
 -- The grammar, by cases on the tokens (after ISO/IEC 9899:1990, 6.3, 6.5, 6.6 and 6.7). Each relation says that the
--- first tokens of a list stand for a part of a tree, and what tokens are left behind them.
+-- first tokens of a list stand for a part of a tree, and what tokens are left after them.
 use Rattle.std.specs.Prelude.{◌≡◌, ◌≤◌, ℕ, suc, Bool, true, false, ◌&&◌, ◌||◌, not, if◌then◌else◌, List, [], ◌∷◌, ◌++◌, map, codes, Option, Some, None}
 use Rattle.std.specs.List.{list_any}
 use Rattle.dcc_c.specs.declared.syntax.Base.{Base}
@@ -213,7 +213,7 @@ has_arm (arm cases body arms) = true
 
 mutual
   -- The tokens begin with the statement, which is no label, inside what stands around it. The numbers are the depth of
-  -- calls before it and behind it.
+  -- calls before it and after it.
   pub data IsStmt (limit : ℕ) : Around → ℕ → List Placed → Stmt → ℕ → List Placed → Type 0 where
     assign : {around : Around} {depth equals end : ℕ} {tokens right rest : List Placed}
         {place e : Expr} →
@@ -295,8 +295,8 @@ mutual
         AreLines limit around false depth tokens lines after (mark closing (codes "}") ∷ rest) →
         IsBlock limit around depth (mark opening (codes "{") ∷ tokens) lines after rest
 
-  -- The tokens begin with the statements, each in the line of its first token; at most `limit` blocks stand around each.
-  -- Where a label stands before them, they begin with a statement.
+  -- The tokens begin with the statements, each in the line of its first token; at most `limit` blocks stand around
+  -- each. Where a label stands before them, they begin with a statement.
   pub data AreLines (limit : ℕ) : Around → Bool → ℕ → List Placed → Lines → ℕ → List Placed → Type 0 where
     no_more : {around : Around} {depth : ℕ} {rest : List Placed} →
         AreLines limit around false depth rest no_lines depth rest

@@ -26,7 +26,7 @@ rank of_type = 5
 rank of_place = 6
 rank of_depth = 7
 
--- An offence, at a place in a text: the number of pieces behind the version line and before it.
+-- An offence, at a place in a text: the number of pieces after the version line and before it.
 pub record Offence : Type 0 where
   pub at : ℕ
   pub kind : Kind

@@ -45,7 +45,7 @@ abbrev pub known_functions : List PartialFunction → List Known
 known_functions [] = []
 known_functions (f ∷ functions) = known_of f ++ known_functions functions
 
--- Behind what has been read.
+-- After what has been read.
 
 -- a type or `void` may begin with the token
 abbrev pub begins_head : Option Token → Bool
@@ -64,7 +64,8 @@ heads_in (p ∷ pieces) = head_at (p ∷ pieces) ++ heads_in pieces
 
 -- the name that a colon follows
 abbrev pub label_at : Option Token → Option Token → List Word
-label_at token next = if is_the_mark (codes ":") next then (elim (name_of token) [ Some word ↦ word ∷ [] | None ↦ [] ]) else []
+label_at token next =
+    if is_the_mark (codes ":") next then (elim (name_of token) [ Some word ↦ word ∷ [] | None ↦ [] ]) else []
 
 -- the names that a colon follows, before the next head of a function
 abbrev pub labels_before_head : List Piece → List Word

@@ -10,7 +10,7 @@ rows [] = 0
 rows (b ∷ bytes) = if b == 10 then suc (rows bytes) else rows bytes
 
 abbrev mutual
-  -- statements, the first of which stands in this line or behind its pragma
+  -- statements, the first of which stands in this line or after its pragma
   pub numbered_lines : ℕ → ℕ → Lines → Lines
   numbered_lines depth at no_lines = no_lines
   numbered_lines depth at (line stmt was lines) =

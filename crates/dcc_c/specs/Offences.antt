@@ -88,7 +88,8 @@ abbrev pub second_offends : Scene → CBin → PartialExpr → PartialExpr → L
 second_offends scene operator a b =
     let first = told_type scene.names a in
     let second = told_type scene.names b in
-    only_if ((is_some first && is_some second) && is_none (both_types operator first second)) (offence of_type (place_of b))
+    only_if ((is_some first && is_some second) && is_none (both_types operator first second))
+    (offence of_type (place_of b))
 
 -- The operands of a binary operator: of a comparison, a sum and a difference the second one does not fit the first, of
 -- any other each is a number.
@@ -173,7 +174,8 @@ count_read (e ∷ es) = if is_missing e then count_read es else suc (count_read 
 -- there are more arguments than parameters, or fewer up to the closing parenthesis
 abbrev pub count_offends : PartialCall → List CType → Bool
 count_offends call params =
-    nat_lt (length params) (count_read call.arguments) || (call.closed && nat_lt (count_read call.arguments) (length params))
+    nat_lt (length params) (count_read call.arguments)
+    || (call.closed && nat_lt (count_read call.arguments) (length params))
 
 -- the result goes to the place, where there is one
 abbrev pub result_offences : Scene → ℕ → Option PartialExpr → WordAt → Option CType → List Offence

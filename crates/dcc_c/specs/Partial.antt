@@ -1,5 +1,5 @@
--- The syntax of a text as far as it has been read: trees in which parts may be missing, and which know where their parts
--- stand. A place is the number of pieces before it.
+-- The syntax of a text as far as it has been read: trees in which parts may be missing, and which know where their
+-- parts stand. A place is the number of pieces before it.
 use Rattle.std.specs.Prelude.{ℕ, suc, max, Bool, true, false, List, Option}
 use Rattle.dcc_c.specs.declared.syntax.Base.{Base}
 use Rattle.dcc_c.specs.declared.syntax.CType.{CType}
@@ -66,7 +66,7 @@ pub record PartialCall : Type 0 where
   pub depth : ℕ
 
 mutual
-  -- A statement. `done` says that it was read to its end; of one with a test, that the parenthesis behind the test was.
+  -- A statement. `done` says that it was read to its end; of one with a test, that the parenthesis after the test was.
   pub data PartialStmt : Type 0 where
     -- a place, and the value where the `=` was read
     AssignOf : PartialExpr → Option PartialExpr → Bool → PartialStmt
@@ -105,7 +105,7 @@ pub record PartialVariable : Type 0 where
   pub address : ℕ
   pub done : Bool
 
--- A function. `opened` is the place behind the opening parenthesis of its head, where that was read, and
+-- A function. `opened` is the place after the opening parenthesis of its head, where that was read, and
 -- `without_params` says that `void` stands there; `headed` says that the head was read to its closing parenthesis.
 pub record PartialFunction : Type 0 where
   pub at : ℕ

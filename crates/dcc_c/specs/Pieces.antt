@@ -20,11 +20,11 @@ piece line token = record { token = token; line = line }
 abbrev pub stray : Token
 stray = Pragma version_line
 
--- the bytes behind the first ones of a kind
+-- the bytes after the first ones of a kind
 abbrev pub behind_while : (ℕ → Bool) → List ℕ → List ℕ
 behind_while is_kind bytes = drop (length (take_while is_kind bytes)) bytes
 
--- the bytes behind some, where they begin with these
+-- the bytes after some, where they begin with these
 abbrev pub behind : List ℕ → List ℕ → Option (List ℕ)
 behind [] bytes = Some bytes
 behind (w ∷ words) [] = None
@@ -47,12 +47,13 @@ suffix_of bytes =
     else if same_bytes bytes (codes "UL") then Some unsigned_long_suffix
     else None
 
--- the value of decimal digits, behind a value so far
+-- the value of decimal digits, after a value so far
 abbrev pub decimal_from : ℕ → List ℕ → ℕ
 decimal_from n [] = n
 decimal_from n (b ∷ bs) = decimal_from (10 * n + (b - 48)) bs
 
--- the number that a run of digits, letters and `_` is: its digits without a needless 0, at most 4294967295, and a suffix
+-- the number that a run of digits, letters and `_` is: its digits without a needless 0, at most 4294967295, and a
+-- suffix
 abbrev pub decimal_of : List ℕ → Option Token
 decimal_of bytes =
     let digits = take_while is_digit bytes in
@@ -63,7 +64,7 @@ decimal_of bytes =
 abbrev pub is_hex_digit : ℕ → Bool
 is_hex_digit b = nat_le (hex_value b) 15
 
--- the same in hexadecimal, behind `0x`: one to eight digits
+-- the same in hexadecimal, after `0x`: one to eight digits
 abbrev pub hex_of : List ℕ → Option Token
 hex_of bytes =
     let digits = take_while is_hex_digit bytes in
@@ -100,7 +101,7 @@ pragma_words stack_line = head_bytes stack_line
 pragma_words place_line = head_bytes place_line
 pragma_words depth_line = head_bytes depth_line
 
--- a pragma whose words the bytes begin with, and the bytes behind them
+-- a pragma whose words the bytes begin with, and the bytes after them
 pub record FoundHead : Type 0 where
   pub head : Head
   pub rest : List ℕ
@@ -122,12 +123,12 @@ pub data Spot : Type 0 where
   line_start : Spot
   -- in a line of tokens
   in_line : Spot
-  -- behind the words of a pragma or one of its numbers
+  -- after the words of a pragma or one of its numbers
   in_pragma : Spot
-  -- behind blanks in such a line, where no token may stand
+  -- after blanks in such a line, where no token may stand
   in_blanks : Spot
 
--- no token but a number behind one space may stand here
+-- no token but a number after one space may stand here
 abbrev pub is_of_pragma : Spot → Bool
 is_of_pragma line_start = false
 is_of_pragma in_line = false
@@ -186,7 +187,7 @@ cut_token spot line b bytes =
     (behind_while is_word_byte (b ∷ bytes))
     else cut_mark spot line b bytes
 
--- a space or a tab: in the line of a pragma something stands behind it, else it offends itself
+-- a space or a tab: in the line of a pragma something stands after it, else it offends itself
 abbrev pub cut_blank : Spot → ℕ → List ℕ → Cut
 cut_blank spot line bytes =
     if not (is_of_pragma spot) then cut [] in_line line bytes
@@ -199,7 +200,7 @@ abbrev pub is_plain : Option Token → Bool
 is_plain (Some (Decimal n plain_number)) = true
 is_plain token = false
 
--- the number of a pragma, behind one space, begins here
+-- the number of a pragma, after one space, begins here
 abbrev pub has_number : Spot → ℕ → List ℕ → Bool
 has_number spot b bytes =
     is_in_pragma spot && ((b == 32) && is_plain (token_of_word (take_while is_word_byte bytes)))
@@ -224,18 +225,18 @@ pieces_from (suc more) spot line (b ∷ bytes) =
     let first = first_cut spot line b bytes in
     first.pieces ++ pieces_from more first.spot first.line first.rest
 
--- the bytes behind the version line, which is the first line
+-- the bytes after the version line, which is the first line
 abbrev pub behind_version : List ℕ → Option (List ℕ)
 behind_version text = elim (behind (head_bytes version_line) text) [
   | Some rest ↦ if is_line_end rest then Some rest else None
   | None ↦ None
 ]
 
--- the pieces behind the version line; each is cut off once
+-- the pieces after the version line; each is cut off once
 abbrev pub pieces_of : List ℕ → List Piece
 pieces_of rest = pieces_from (length rest) in_line 1 rest
 
--- the line of the piece at a place, or the last line, which is that behind the last line feed
+-- the line of the piece at a place, or the last line, which is that after the last line feed
 abbrev pub line_at : List Piece → ℕ → ℕ → ℕ
 line_at [] last at = last
 line_at (p ∷ pieces) last zero = p.line

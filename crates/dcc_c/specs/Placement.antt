@@ -20,7 +20,7 @@ elements (Some len) = len
 abbrev pub bytes_of : CType → Option ℕ → ℕ
 bytes_of type len = size_of type * elements len
 
--- the address behind a global variable, where the next one stands
+-- the address above a global variable, where the next one stands
 abbrev pub behind_global : Global → ℕ
 behind_global g = g.at + bytes_of g.type g.len
 

@@ -1,6 +1,6 @@
--- Reading a text piece by piece, for every text: a reader takes pieces as long as the grammar and the limits of depth allow
--- them, and at the first one that they do not it stops. From there on it sees no piece, and every part ends with what has
--- been read. Expressions stand here.
+-- Reading a text piece by piece, for every text: a reader takes pieces as long as the grammar and the limits of depth
+-- allow them, and at the first one that they do not it stops. From there on it sees no piece, and every part ends with
+-- what has been read. Expressions stand here.
 --
 -- `calls` is how deep reading may nest; a text has a number of pieces with which it suffices.
 use Rattle.std.specs.Prelude.{ℕ, zero, suc, ◌+◌, nat_le, nat_lt, Bool, true, false, ◌||◌, if◌then◌else◌, List, [], ◌∷◌, drop, codes, Option, Some, None, is_some}
@@ -26,7 +26,7 @@ pub record Reader : Type 0 where
   pub stop : Option Offence
   pub depth : ℕ
 
--- what was read, and the reader behind it
+-- what was read, and the reader after it
 pub record Got (A : Type 0) : Type 0 where
   pub value : A
   pub behind : Reader
@@ -42,7 +42,7 @@ abbrev pub first_token : List Piece → Option Token
 first_token [] = None
 first_token (p ∷ pieces) = p.token
 
--- the next token, and the one behind it
+-- the next token, and the one after it
 abbrev pub next_token : Reader → Option Token
 next_token r = if is_stopped r then None else first_token r.left
 
@@ -54,7 +54,7 @@ abbrev pub line_of : List Piece → ℕ
 line_of [] = 0
 line_of (p ∷ pieces) = p.line
 
--- the reader behind the next piece
+-- the reader after the next piece
 abbrev pub skip : Reader → Reader
 skip r = record r { left = drop 1 r.left; at = suc r.at }
 
@@ -129,11 +129,11 @@ begins_type token =
     (is_the_word (codes "signed") token || is_the_word (codes "unsigned") token)
     || (is_the_word (codes "int") token || is_the_word (codes "long") token)
 
--- the base, behind its last word
+-- the base, after its last word
 abbrev pub base_behind : Base → Reader → Got (Option Base)
 base_behind base r = got (Some base) (skip r)
 
--- the word behind `unsigned`
+-- the word after `unsigned`
 abbrev pub unsigned_base : Reader → Got (Option Base)
 unsigned_base r =
     if sees_word (codes "char") r then base_behind Uchar r
@@ -152,7 +152,7 @@ take_base r =
     else if sees_word (codes "unsigned") r then unsigned_base (skip r)
     else got None (fail r)
 
--- a star or none behind a base
+-- a star or none after a base
 abbrev pub with_star : Base → Reader → Got (Option CType)
 with_star base r =
     if sees_mark (codes "*") r then got (Some (record { base = base; pointer = true })) (skip r)
@@ -247,7 +247,7 @@ read_leaf r = elim (number_of (next_token r)) [
   | None ↦ elim (name_of (next_token r)) [ Some word ↦ name_here word r | None ↦ got Missing (fail r) ]
 ]
 
--- the expression in parentheses, with the closing one behind it
+-- the expression in parentheses, with the closing one after it
 abbrev pub closed : Got PartialExpr → Got PartialExpr
 closed inner = got inner.value (take_mark (codes ")") inner.behind)
 
@@ -279,7 +279,7 @@ abbrev mutual
         | None ↦ if sees_mark (codes "(") r then read_parentheses calls inside r.at (skip r) else read_leaf r
       ]
 
-  -- what stands behind an opening parenthesis at a place: a type, and an operand behind it, or an expression
+  -- what stands after an opening parenthesis at a place: a type, and an operand after it, or an expression
   pub read_parentheses : ℕ → Inside → ℕ → Reader → Got PartialExpr
   read_parentheses zero inside at r = got Missing r
   read_parentheses (suc calls) inside at r =
@@ -287,7 +287,7 @@ abbrev mutual
       if begins_type (next_token here) then read_cast calls inside at (take_type here)
       else closed (read_expr calls (in_parentheses inside) here)
 
-  -- the rest of a cast behind its type
+  -- the rest of a cast after its type
   pub read_cast : ℕ → Inside → ℕ → Got (Option CType) → Got PartialExpr
   read_cast zero inside at type = got Missing type.behind
   read_cast (suc calls) inside at type = elim type.value [
@@ -300,13 +300,14 @@ abbrev mutual
   read_binary zero inside weakest r = got Missing r
   read_binary (suc calls) inside weakest r = read_more calls inside weakest (read_unary calls inside r)
 
-  -- the same behind the first operand
+  -- the same after the first operand
   pub read_more : ℕ → Inside → ℕ → Got PartialExpr → Got PartialExpr
   read_more zero inside weakest left = left
   read_more (suc calls) inside weakest left = elim (binary_of (next_token left.behind)) [
     | Some operator ↦ if nat_le weakest (strength operator)
         then read_more calls inside weakest
-        (joined inside operator left.value (read_binary calls (in_operator inside) (suc (strength operator)) (skip left.behind)))
+        (joined inside operator left.value
+        (read_binary calls (in_operator inside) (suc (strength operator)) (skip left.behind)))
         else left
     | None ↦ left
   ]
@@ -316,7 +317,7 @@ abbrev mutual
   read_expr zero inside r = got Missing r
   read_expr (suc calls) inside r = read_rest calls inside (read_binary calls inside 1 r)
 
-  -- the rest of a conditional behind its test, or nothing
+  -- the rest of a conditional after its test, or nothing
   pub read_rest : ℕ → Inside → Got PartialExpr → Got PartialExpr
   read_rest zero inside test = test
   read_rest (suc calls) inside test =

@@ -61,7 +61,7 @@ read_depth r = let n = take_number_of_line (line_of r.left) (skip r) in set_dept
 abbrev pub begins_call : Reader → Bool
 begins_call r = is_some (name_of (next_token r)) && is_the_mark (codes "(") (second_token r)
 
--- the arguments behind the first one, with commas between them
+-- the arguments after the first one, with commas between them
 abbrev pub more_arguments : ℕ → Reader → Got (List PartialExpr)
 more_arguments zero r = got [] r
 more_arguments (suc calls) r =
@@ -80,12 +80,17 @@ read_arguments calls r =
     got (first.value ∷ others.value) others.behind
     )
 
--- the call, behind its name
+-- the call, after its name
 abbrev pub call_of : ℕ → Option PartialExpr → WordAt → Reader → Got PartialStmt
 call_of calls place function r =
     let arguments = read_arguments calls (skip r) in
     let end = take_mark (codes ")") arguments.behind in
-    got (CallOf place (record { function = function; arguments = arguments.value; closed = not (is_stopped end); depth = r.depth }))
+    got (CallOf place (record {
+      function = function;
+      arguments = arguments.value;
+      closed = not (is_stopped end);
+      depth = r.depth;
+    }))
     (take_mark (codes ";") end)
 
 -- a call with this place for its result, which begins here
@@ -98,10 +103,12 @@ read_call calls place r =
 abbrev pub read_place : ℕ → Reader → Got PartialExpr
 read_place calls r = elim (name_of (next_token r)) [
   | Some word ↦ name_here word r
-  | None ↦ let a = read_unary calls (in_operator (whole 0 r)) (take_mark (codes "*") r) in got (UnaryHere r.at Deref a.value) a.behind
+  | None ↦
+      let a = read_unary calls (in_operator (whole 0 r)) (take_mark (codes "*") r) in
+      got (UnaryHere r.at Deref a.value) a.behind
 ]
 
--- the value of an assignment, behind its `=`
+-- the value of an assignment, after its `=`
 abbrev pub assignment_of : ℕ → PartialExpr → Reader → Got PartialStmt
 assignment_of calls place r =
     let e = read_value calls r in
@@ -232,13 +239,15 @@ is_break stmt = false
 
 -- the statement before the others
 abbrev pub before_others : PartialStmt → ℕ → ℕ → Got Block → Got Block
-before_others stmt at line others = got (block_of (row stmt at line others.value.lines) others.value.leaves) others.behind
+before_others stmt at line others =
+    got (block_of (row stmt at line others.value.lines) others.value.leaves) others.behind
 
 -- all statements but the last
 abbrev pub without_last : PartialLines → PartialLines
 without_last no_rows = no_rows
 without_last (row stmt at line no_rows) = no_rows
-without_last (row stmt at line (row next place number rest)) = row stmt at line (without_last (row next place number rest))
+without_last (row stmt at line (row next place number rest)) =
+    row stmt at line (without_last (row next place number rest))
 
 -- the body of an arm, whose last statement must be a `break`
 abbrev pub end_arm : Got Block → Got PartialLines
@@ -296,7 +305,7 @@ abbrev mutual
       else if sees_mark (codes ";") r then got EmptyOf (skip r)
       else read_simple calls r
 
-  -- the blocks of an `if` behind its test
+  -- the blocks of an `if` after its test
   pub read_if : ℕ → Around → Got PartialExpr → Got PartialStmt
   read_if zero around test = got EmptyOf test.behind
   read_if (suc calls) around test =
@@ -310,16 +319,16 @@ abbrev mutual
   read_block zero around r = got no_rows r
   read_block (suc calls) around r = end_block (read_lines calls around false false (take_mark (codes "{") r))
 
-  -- Statements as long as they come. A statement must stand behind a label; `leaves` says that the one before these is a
-  -- `break` without a label.
+  -- Statements as long as they come. A statement must stand after a label; `leaves` says that the one before these is
+  -- a `break` without a label.
   pub read_lines : ℕ → Around → Bool → Bool → Reader → Got Block
   read_lines zero around labelled leaves r = got (block_of no_rows leaves) r
   read_lines (suc calls) around labelled leaves r =
       if begins_stmt (next_token r) then read_line calls around labelled r
       else got (block_of no_rows leaves) (if labelled then fail r else r)
 
-  -- A depth line, a label or a statement, and those behind it. Inside more than 200 blocks no depth line and no statement
-  -- with blocks is read.
+  -- A depth line, a label or a statement, and those after it. Inside more than 200 blocks no depth line and no
+  -- statement with blocks is read.
   pub read_line : ℕ → Around → Bool → Reader → Got Block
   read_line zero around labelled r = got (block_of no_rows false) r
   read_line (suc calls) around labelled r =
@@ -335,7 +344,8 @@ abbrev mutual
             (read_lines calls around true false (stop_if_nested around r.at (skip name.behind)))
         | None ↦ got (block_of no_rows false) name.behind
       ])
-      else if is_nested around && is_block_word (next_token r) then got (block_of no_rows false) (stop_at of_depth r.at r)
+      else if is_nested around && is_block_word (next_token r) then
+      got (block_of no_rows false) (stop_at of_depth r.at r)
       else (
       let stmt = read_stmt calls around r in
       before_others stmt.value r.at (line_of r.left)
@@ -371,7 +381,7 @@ abbrev pub list_of : Option NumberAt → List NumberAt
 list_of (Some n) = n ∷ []
 list_of None = []
 
--- initial values behind the first one, with commas between them
+-- initial values after the first one, with commas between them
 abbrev pub more_values : ℕ → Reader → Got (List NumberAt)
 more_values zero r = got [] r
 more_values (suc calls) r =
@@ -406,7 +416,15 @@ read_local r =
     let name = take_name type.behind in
     let size = read_size name.behind in
     let end = take_mark (codes ";") size.behind in
-    got (record { name = name.value; type = type.value; class = class_with size.value class; size = size.value; init = []; address = 0; done = not (is_stopped end) }) end
+    got (record {
+      name = name.value;
+      type = type.value;
+      class = class_with size.value class;
+      size = size.value;
+      init = [];
+      address = 0;
+      done = not (is_stopped end);
+    }) end
 
 -- local variables as long as they come
 abbrev pub read_locals : ℕ → Reader → Got (List PartialVariable)
@@ -431,9 +449,17 @@ read_param r =
     let class = read_class r in
     let type = take_type class.behind in
     let name = take_name type.behind in
-    got (record { name = name.value; type = type.value; class = class.value; size = None; init = []; address = 0; done = not (is_stopped name.behind) }) name.behind
+    got (record {
+      name = name.value;
+      type = type.value;
+      class = class.value;
+      size = None;
+      init = [];
+      address = 0;
+      done = not (is_stopped name.behind);
+    }) name.behind
 
--- parameters behind the first one, with commas between them
+-- parameters after the first one, with commas between them
 abbrev pub more_params : ℕ → Reader → Got (List PartialVariable)
 more_params zero r = got [] r
 more_params (suc calls) r =

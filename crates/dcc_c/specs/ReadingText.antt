@@ -29,11 +29,9 @@ read_begun r =
     if sees_word (codes "void") r then begun_by r.at false None (take_name (skip r))
     else (let type = take_type r in begun_by r.at (begins_type (next_token r)) type.value (take_name type.behind))
 
--- the head of a function behind its name: the parameters in parentheses
-abbrev pub read_head : ℕ → Got Begun → Got PartialFunction
-read_head calls begun =
-    let inside = take_mark (codes "(") begun.behind in
-    let params = read_params calls inside in
+-- the head of a function with these parameters, where the first of them begins at this reader
+abbrev pub head_with : Got Begun → Reader → Got (List PartialVariable) → Got PartialFunction
+head_with begun inside params =
     let end = take_mark (codes ")") params.behind in
     got (record {
       at = begun.value.at;
@@ -49,11 +47,17 @@ read_head calls begun =
       last = 0;
     }) end
 
+-- the head of a function after its name: the parameters in parentheses
+abbrev pub read_head : ℕ → Got Begun → Got PartialFunction
+read_head calls begun =
+    let inside = take_mark (codes "(") begun.behind in
+    head_with begun inside (read_params calls inside)
+
 -- Calls have depth 2 at the beginning of a function.
 abbrev pub with_first_depth : Reader → Reader
 with_first_depth r = record r { depth = 2 }
 
--- a function behind its head
+-- a function after its head
 abbrev pub read_body : ℕ → Got PartialFunction → Got PartialFunction
 read_body calls head =
     let locals = read_locals calls (take_mark (codes "{") (with_first_depth head.behind)) in
@@ -84,13 +88,21 @@ with_functions calls begun =
 
 -- Global variables.
 
--- the rest of a global variable behind its name, at an address
+-- the rest of a global variable after its name, at an address
 abbrev pub read_global : ℕ → ℕ → Got Begun → Got PartialVariable
 read_global calls address begun =
     let size = read_size begun.behind in
     let init = read_init calls size.behind in
     let end = take_mark (codes ";") init.behind in
-    got (record { name = begun.value.name; type = begun.value.result; class = Plain; size = size.value; init = init.value; address = address; done = not (is_stopped end) }) end
+    got (record {
+      name = begun.value.name;
+      type = begun.value.result;
+      class = Plain;
+      size = size.value;
+      init = init.value;
+      address = address;
+      done = not (is_stopped end);
+    }) end
 
 -- how many bytes it takes
 abbrev pub size_in_bytes : PartialVariable → ℕ
@@ -101,7 +113,7 @@ abbrev pub address_of : Option NumberAt → ℕ
 address_of (Some n) = n.value
 address_of None = 0
 
--- global variables, and the functions behind them
+-- global variables, and the functions after them
 pub record Declared : Type 0 where
   pub globals : List PartialVariable
   pub functions : List PartialFunction
@@ -113,7 +125,7 @@ abbrev pub before_declared : PartialVariable → Got Declared → Got Declared
 before_declared v others =
     got (record { globals = v ∷ others.value.globals; functions = others.value.functions }) others.behind
 
--- Place lines, and variables behind each, up to a function. The next variable behind a place line has an address.
+-- Place lines, and variables after each, up to a function. The next variable after a place line has an address.
 abbrev pub read_declared : ℕ → Option ℕ → Reader → Got Declared
 read_declared zero address r = declared [] (got [] r)
 read_declared (suc calls) address r =
@@ -133,7 +145,7 @@ read_declared (suc calls) address r =
       | None ↦ declared [] (with_functions calls begun)
     ])
 
--- The whole text behind its version line. Twice as many nested calls as there are pieces suffice for each rule.
+-- The whole text after its version line. Twice as many nested calls as there are pieces suffice for each rule.
 abbrev pub read_text : ℕ → Reader → Got PartialText
 read_text calls r =
     let lo = take_number_of_line (line_of r.left) (take_head stack_line r) in
@@ -150,6 +162,6 @@ reader_of pieces = record { left = pieces; at = 0; stop = None; depth = 2 }
 abbrev pub enough_calls : List Piece → ℕ
 enough_calls pieces = 16 * length pieces + 16
 
--- what is read of a text that has these pieces behind its version line
+-- what is read of a text that has these pieces after its version line
 abbrev pub reading_of : List Piece → Got PartialText
 reading_of pieces = read_text (enough_calls pieces) (reader_of pieces)

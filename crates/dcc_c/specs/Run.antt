@@ -145,7 +145,7 @@ first_of (Some rest) other = Some rest
 first_of None other = other
 
 abbrev mutual
-  -- from a label on, in these statements that have this behind them
+  -- from a label on, in these statements that have this after them
   pub from_label : Word → Lines → Continuation → Option Continuation
   from_label word no_lines rest = None
   from_label word (line stmt at lines) rest =

@@ -1,4 +1,5 @@
--- Trees without places: what a partial tree that was read to its end stands for. What is missing becomes something small.
+-- Trees without places: what a partial tree that was read to its end stands for. What is missing becomes something
+-- small.
 use Rattle.std.specs.Prelude.{ℕ, false, List, [], map, Option, Some, None, option_map}
 use Rattle.dcc_c.specs.declared.syntax.Base.TheVariants.{Int}
 use Rattle.dcc_c.specs.declared.syntax.CType.{CType}
@@ -73,20 +74,40 @@ abbrev mutual
 
 -- a parameter or a local variable
 abbrev pub plain_variable : PartialVariable → Variable
-plain_variable v =
-    record { name = plain_name v.name; type = plain_type v.type; len = option_map (λ n. n.value) v.size; class = v.class }
+plain_variable v = record {
+  name = plain_name v.name;
+  type = plain_type v.type;
+  len = option_map (λ n. n.value) v.size;
+  class = v.class;
+}
 
 -- a global variable
 abbrev pub plain_global : PartialVariable → Global
-plain_global v =
-    record { name = plain_name v.name; at = v.address; type = plain_type v.type; len = option_map (λ n. n.value) v.size; init = plain_numbers v.init }
+plain_global v = record {
+  name = plain_name v.name;
+  at = v.address;
+  type = plain_type v.type;
+  len = option_map (λ n. n.value) v.size;
+  init = plain_numbers v.init;
+}
 
 -- a function
 abbrev pub plain_function : PartialFunction → Function
-plain_function f =
-    record { name = plain_name f.name; result = f.result; params = map plain_variable f.params; locals = map plain_variable f.locals; body = plain_lines f.body; last = f.last }
+plain_function f = record {
+  name = plain_name f.name;
+  result = f.result;
+  params = map plain_variable f.params;
+  locals = map plain_variable f.locals;
+  body = plain_lines f.body;
+  last = f.last;
+}
 
 -- a whole text
 abbrev pub plain_text : PartialText → Tree
-plain_text text =
-    record { version = 1; lo = plain_number text.lo; hi = plain_number text.hi; globals = map plain_global text.globals; functions = map plain_function text.functions }
+plain_text text = record {
+  version = 1;
+  lo = plain_number text.lo;
+  hi = plain_number text.hi;
+  globals = map plain_global text.globals;
+  functions = map plain_function text.functions;
+}

@@ -78,7 +78,7 @@ misplaced_at None = []
 abbrev pub takes_bytes : PartialVariable → Bool
 takes_bytes v = v.done && nat_lt 0 (size_in_bytes v)
 
--- the places of global variables behind earlier ones that take bytes
+-- the places of global variables after earlier ones that take bytes
 abbrev pub globals_places : ℕ → ℕ → List PartialVariable → List PartialVariable → List Offence
 globals_places lo hi earlier [] = []
 globals_places lo hi earlier (v ∷ globals) =
@@ -101,7 +101,10 @@ number_or_zero None = 0
 -- A function's name: it repeats none of the global variables, the DOS calls and the functions before it.
 abbrev pub function_names : List PartialFunction → List WordAt
 function_names [] = []
-function_names (f ∷ functions) = elim f.name [ Some name ↦ name ∷ function_names functions | None ↦ function_names functions ]
+function_names (f ∷ functions) = elim f.name [
+  | Some name ↦ name ∷ function_names functions
+  | None ↦ function_names functions
+]
 
 abbrev pub not_named_start : Option WordAt → List Offence
 not_named_start (Some name) = only_if (not (same_bytes name.word (codes "start"))) (offence of_name name.at)
@@ -120,14 +123,14 @@ abbrev pub sizes_of : List PartialVariable → List Offence
 sizes_of [] = []
 sizes_of (v ∷ variables) = size_offences v.size ++ sizes_of variables
 
--- What the whole text knows: the names, the global variables, the functions, and the labels behind what has been read.
+-- What the whole text knows: the names, the global variables, the functions, and the labels after what has been read.
 pub record Whole : Type 0 where
   pub words : List Word
   pub globals : List Declared
   pub functions : List Known
   pub labels : List Word
 
--- a function; labels may stand behind what has been read where it is the last one
+-- a function; labels may stand after what has been read where it is the last one
 abbrev pub scene_of : Whole → List Word → PartialFunction → Scene
 scene_of whole labels f = record {
   names = declared_of (λ v. not (is_register v.class)) f.params
@@ -179,7 +182,7 @@ stop_offences None = []
 abbrev pub unread : Reader → List Piece
 unread r = if is_stopped r then r.left else []
 
--- all that offends in a text that has these pieces behind its version line
+-- all that offends in a text that has these pieces after its version line
 abbrev pub offences_of : List Piece → List Offence
 offences_of pieces =
     let reading = reading_of pieces in

@@ -88,7 +88,7 @@ marks =
 abbrev pub is_mark : List ℕ → Bool
 is_mark bytes = list_any (same_bytes bytes) marks
 
--- the value of hexadecimal digits, behind a value so far
+-- the value of hexadecimal digits, after a value so far
 abbrev pub hex_from : ℕ → List ℕ → ℕ
 hex_from n [] = n
 hex_from n (b ∷ bs) = hex_from (16 * n + hex_value b) bs

@@ -97,7 +97,7 @@ indented braces bytes = indentation braces ++ bytes
 
 -- The depth of calls.
 
--- the depth in force behind these statements
+-- the depth in force after these statements
 abbrev pub depth_behind : ℕ → List Stmt → ℕ
 depth_behind depth [] = depth
 depth_behind depth (Call place function arguments own ∷ stmts) = depth_behind own stmts

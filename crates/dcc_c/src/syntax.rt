@@ -173,7 +173,7 @@ pub struct Global_ {
     pub ty: CType,
     /// The number of elements of an array.
     pub len: Option<u32>,
-    /// The first values of its elements, in their order; 0 behind them.
+    /// The first values of its elements, in their order; 0 after them.
     pub init: Vec<u32>,
 }
 

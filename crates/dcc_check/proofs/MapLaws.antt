@@ -12,7 +12,7 @@ use Rattle.dcc_c.specs.Tree.{Word}
 use Rattle.dcc_c.specs.Dos as dos
 use Rattle.dcc_c.specs.Typing.{Declared, declared_as}
 use Rattle.dcc_c.specs.Known.{Known, known, known_as}
-use Rattle.dcc_c.proofs.reading.Passing.{same_bytes-equal}
+use Rattle.dcc_c.proofs.NameLaws.{same_bytes-equal}
 use Rattle.dcc_check.specs.declared.scene.Signature.{Signature}
 use Rattle.dcc_check.specs.Declarations.{first_found}
 use Rattle.dcc_check.specs.Scenes.{held, head_of, signature_of}

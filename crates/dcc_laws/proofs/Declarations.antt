@@ -13,30 +13,9 @@ use Rattle.dcc_c.specs.Tree.{Word, Expr, Number, Name, Unary, Binary, Conditiona
 use Rattle.dcc_c.specs.Parts.{stmts_in, exprs_of, parts_of}
 use Rattle.dcc_c.specs.Typing.{Declared, declared_as, type_of_name, type_of_address, type_of_variable, unary_type, both_types, both_arms_type, tested_type, type_of}
 use Rattle.dcc_c.specs.Placement.{is_address_of, takes_address}
+use Rattle.dcc_c.proofs.NameLaws.{same_bytes-equal, same_bytes-refl}
 use Rattle.dcc_laws.specs.Stuck.{StandsIn}
 use Rattle.dcc_laws.proofs.Bodies.{any_left, any_right, any_later, any_flat, some_stands}
-
--- Names that are the same.
-
-eq_from : (a b : ℕ) → (a == b) ≡ true → a ≡ b
-eq_from a b is = grind (arith, nat_tests)
-
-eq_self : (a : ℕ) → (a == a) ≡ true
-eq_self a = grind (arith, nat_tests)
-
-pub same_word : (xs ys : Word) → same_bytes xs ys ≡ true → xs ≡ ys
-same_word [] [] is = refl
-same_word [] (y ∷ ys) is = absurd cc
-same_word (x ∷ xs) [] is = absurd cc
-same_word (x ∷ xs) (y ∷ ys) is =
-    let both = and_parts (x == y) (same_bytes xs ys) is in
-    let first : x ≡ y = eq_from x y both.0 in
-    let others : xs ≡ ys = same_word xs ys both.1 in
-    cc
-
-pub same_self : (xs : Word) → same_bytes xs xs ≡ true
-same_self [] = refl
-same_self (x ∷ xs) = rw (eq_self x) (same_self xs)
 
 -- Declarations.
 
@@ -116,7 +95,7 @@ module _ (body : Lines) (word : Word) (t : CType) where
   unfolding address_type
   address-told (Some d) (Some e) taken told is =
       let was : d.is_placed ≡ true = placed-by d.is_placed d.is_array d.type is in
-      let own : takes_address body d.name ≡ true = ap (takes_address body) (same_word d.name word told.0) ∙ taken in
+      let own : takes_address body d.name ≡ true = ap (takes_address body) (same_bytes-equal d.name word told.0) ∙ taken in
       let also : e.is_placed ≡ d.is_placed = told.1.address own was ∙ sym was in
       ap (λ p. address_type p e.is_array e.type) also ∙ ap (λ a. address_type d.is_placed a e.type) (sym told.1.array)
       ∙ ap (address_type d.is_placed d.is_array) (sym told.1.type) ∙ is
@@ -187,7 +166,7 @@ module _ (body : Lines) (ds es : List Declared) (is_as : AreAs body ds es) where
   typed-as (Name word) t takes is =
       name-told body word t (declared_as ds word) (declared_as es word) (all-tell body word ds es is_as) is
   typed-as (Unary AddressOf (Name word)) t takes is =
-      let own : list_any (is_address_of word) (parts_of (Unary AddressOf (Name word))) ≡ true = or_left (same_bytes word word) _ (same_self word) in
+      let own : list_any (is_address_of word) (parts_of (Unary AddressOf (Name word))) ≡ true = or_left (same_bytes word word) _ (same_bytes-refl word) in
       address-told body word t (declared_as ds word) (declared_as es word) (takes word own) (all-tell body word ds es is_as) is
   typed-as (Unary AddressOf a) t takes is = absurd cc
   typed-as (Unary operator a) t takes is =

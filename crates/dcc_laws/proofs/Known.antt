@@ -14,7 +14,7 @@ use Rattle.dcc_c.specs.Rules.{all_differ, IsAllowedFunction, AreAllowed, no_more
 use Rattle.dcc_c.specs.Run.{is_start, function_in}
 use Rattle.dcc_laws.specs.Stuck.{IsOneOf, is_first, is_later}
 use Rattle.dcc_laws.proofs.Bodies.{any_left}
-use Rattle.dcc_laws.proofs.Declarations.{same_word, same_self}
+use Rattle.dcc_c.proofs.NameLaws.{same_bytes-equal, same_bytes-refl}
 use Rattle.dcc_laws.proofs.Jumps.{Jumps, lines_jumps}
 
 -- parameters are no arrays
@@ -83,7 +83,7 @@ differ-behind (word ∷ front) words differ =
 
 named-among : {f : Function} {functions : List Function} (word : Word) → f.name ≡ word → IsOneOf f functions → list_any (same_bytes word) (map (λ g. g.name) functions) ≡ true
 named-among {f} word is (is_first {functions}) =
-    or_left (same_bytes word f.name) _ (ap (same_bytes word) is ∙ same_self word)
+    or_left (same_bytes word f.name) _ (ap (same_bytes word) is ∙ same_bytes-refl word)
 named-among {f} word is (is_later {g} {functions} one) =
     any_left-of (same_bytes word g.name) (list_any (same_bytes word) (map (λ h. h.name) functions)) (named-among word is one)
   where
@@ -116,7 +116,7 @@ all-known {limit} {tokens} {tree} {f} unit rules one = record {
   allowed = one-allowed rules.functions one;
   formed = one-formed unit.functions_are one;
   starts = λ start.
-      let same : f.name ≡ rules.start.name = same_word f.name (codes "start") start ∙ sym rules.name in
+      let same : f.name ≡ rules.start.name = same_bytes-equal f.name (codes "start") start ∙ sym rules.name in
       let differ : all_differ (map (λ g. g.name) tree.functions ++ dos_names) ≡ true = differ-behind (map (λ g. g.name) tree.globals) _ rules.names in
       let first : f ≡ rules.start =
       same-first same (subst (λ fs. all_differ (map (λ g. g.name) fs ++ dos_names) ≡ true) rules.first differ) (subst (IsOneOf f) rules.first one)

@@ -44,7 +44,7 @@ abbrev pub IfRest : Tree → Function → Option Continuation → Type 0
 IfRest tree f None = Unit {0}
 IfRest tree f (Some rest) = IsRest tree f rest
 
--- the statement behind the first one
+-- the statement after the first one
 pub behind-rest : (tree : Tree) (f : Function) (stmt : Stmt) (at : ℕ) (lines : Lines) (rest : Continuation) → IsRest tree f (runs (line stmt at lines) rest) → IsRest tree f (runs lines rest)
 behind-rest tree f stmt at lines rest is = (λ s a stands. is.0 s a (later stands), is.1.1, is.2)
 

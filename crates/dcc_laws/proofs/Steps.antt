@@ -26,7 +26,7 @@ use Rattle.dcc_laws.proofs.Frames.{SameLength, length-map, IsFrame, Lands, IfLan
 use Rattle.dcc_laws.proofs.Values.{Any, has-type, fitting-gives, number-gives, place-gives, result-gives, arguments-give, value-holds, place-result, call-result}
 use Rattle.dcc_laws.proofs.Sound.{AreCalls, IsSound, IsStep, still, on-step, goes-step, takes-step, return-step, give-step, dos-step, enter-step}
 
--- a test of a loop goes on with the loop, or behind it
+-- a test of a loop goes on with the loop, or past it
 pub tested-step : (tree : Tree) (ways : ℕ → Type 0) (v : Value) (e : Expr) (body : Lines) (at : ℕ) (rest : Continuation) (s : State) → s.end ≡ Running → IsFrame tree s.frame → AreCalls tree s.frame.function s.waiting →
     IsRest tree s.frame.function (tests e body at rest) → IsStep tree ways (test_step v e body at rest s)
 tested-step tree ways v e body at rest s runs_on frame calls is =
@@ -112,10 +112,10 @@ module _ (tree : Tree) (known : (g : Function) → IsOneOf g tree.functions → 
     either-step word None place fit has =
         called-step word (function_in tree.functions word) refl place fit has
 
-  -- Statements. Behind the statement stand others, which the state goes on with.
+  -- Statements. After the statement stand others, which the state goes on with.
 
   module _ (at : ℕ) (lines : Lines) (s : State) (runs_on : s.end ≡ Running) (is : IsSound tree s) where
-    -- the statement and those behind it are some of the function's, and it is left where it may be
+    -- the statement and those after it are some of the function's, and it is left where it may be
     abbrev Stands : Stmt → Type 0
     Stands stmt =
         AreOf s.frame.function (line stmt at lines) × JumpsInside (can_break s.rest) (can_continue s.rest) stmt

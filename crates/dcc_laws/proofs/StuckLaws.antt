@@ -11,7 +11,7 @@ use Rattle.dcc_c.specs.Value.{Value, value_of}
 use Rattle.dcc_c.specs.Text.{StandsFor}
 use Rattle.dcc_c.specs.Run.{Continuation, ends_function, runs, tests, turns, ends_switch, State, with_end, goes_on, back_step, is_start, scope_of, test_step, step_at, step, first_state}
 use Rattle.dcc_laws.specs.Stuck.{StandsIn, here, IsOneOf, is_first, IsStuckAt, start_returns, start_ends, function_ends, ComesToReturn, return_next, behind_block, behind_switch, ComesToBrace, brace_next, past_block, past_switch, IsStuckOnlyAtEnds}
-use Rattle.dcc_laws.proofs.Declarations.{same_self}
+use Rattle.dcc_c.proofs.NameLaws.{same_bytes-refl}
 use Rattle.dcc_laws.proofs.Known.{IsKnown, all-known}
 use Rattle.dcc_laws.proofs.Rests.{IsRest, behind-rest}
 use Rattle.dcc_laws.proofs.Frames.{SameLength, IsFrame, frame-begins}
@@ -156,7 +156,7 @@ stuck-only_at_ends text tree is =
     let rules = is.allowed in
     let known : (g : Function) → IsOneOf g tree.functions → IsKnown tree g = λ g one. all-known is.formed rules one in
     let own : IsOneOf rules.start tree.functions = subst (IsOneOf rules.start) (sym rules.first) is_first in
-    let named : is_start rules.start ≡ true = ap (λ n. same_bytes n (codes "start")) rules.name ∙ same_self (codes "start") in
+    let named : is_start rules.start ≡ true = ap (λ n. same_bytes n (codes "start")) rules.name ∙ same_bytes-refl (codes "start") in
     record {
       start = rules.start;
       others = rules.others;

@@ -116,7 +116,7 @@ variables-land (b ∷ variables) globals word t has =
 pointed-holds : (v : Value) (variables : List Binding) → v.type.pointer ≡ true → Holds (Lands variables) (pointed_target v)
 pointed-holds v variables is = rw is tt
 
--- what is pointed to has a type only behind a pointer
+-- what is pointed to has a type only where a pointer points to it
 pointer-of : (a : CType) (t : CType) → (if a.pointer then Some (plain a.base) else None) ≡ Some t → a.pointer ≡ true
 pointer-of a t has = by a.pointer refl has
   where

@@ -14,7 +14,7 @@ use Rattle.dcc_prepare.specs.declared.program.Label.{Label}
 use Rattle.dcc_prepare.specs.declared.code.Code.{Code}
 use Rattle.dcc_prepare.specs.Points.{Goes, MayGo, label_named, point_named, IsPass, IsStuck, Acts, AreRows}
 use Rattle.dcc_prepare.specs.Emission.{Stay, KeepNumbers, Relabels, Grows, Emits}
-use Rattle.dcc_prepare.proofs.LabelLaws.{same_word, same_self}
+use Rattle.dcc_c.proofs.NameLaws.{same_bytes-equal, same_bytes-refl}
 use Rattle.dcc_prepare.proofs.PointLaws.{goes_alike, get-push, some_same, stay_push, stay_all, goes_stay, goes_new, acts_stay, rows_push}
 
 -- Tests.
@@ -94,7 +94,7 @@ rows_kept tree f is_open points rows now labels more are keep same =
 
 -- Pieces.
 
--- a piece behind another one
+-- a piece after another one
 unfoldable pub grows_after : (tree : Tree) (f : Function) (is_open : ℕ → Bool) (points : List Continuation) (before mid now : Code)
     (first second : Word → Option Continuation) (g : Grows tree f is_open points before mid first) →
     Grows tree f is_open g.grown mid now second →
@@ -291,7 +291,7 @@ grows_labels tree f is_open points before now are numbers same rows = record {
 }
 
 same_turned : (xs ys : Word) → same_bytes xs ys ≡ true → same_bytes ys xs ≡ true
-same_turned xs ys is = subst (λ (w : Word). same_bytes w xs ≡ true) (same_word xs ys is) (same_self xs)
+same_turned xs ys is = subst (λ (w : Word). same_bytes w xs ≡ true) (same_bytes-equal xs ys is) (same_bytes-refl xs)
 
 turned : (xs ys : Word) → same_bytes xs ys ≡ same_bytes ys xs
 turned xs ys = elim (decided (same_bytes xs ys)) [

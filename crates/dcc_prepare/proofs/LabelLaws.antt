@@ -5,35 +5,10 @@ use Rattle.std.proofs.lemmas.Bool.Decides.{nat_tests}
 use Rattle.std.proofs.lemmas.List.{drop_all}
 use Rattle.dcc_c.specs.Token.{same_bytes}
 use Rattle.dcc_c.specs.Tree.{Word}
+use Rattle.dcc_c.proofs.NameLaws.{same_bytes-equal}
 use Rattle.dcc_prepare.specs.declared.program.Label.{Label}
 use Rattle.dcc_prepare.specs.Points.{label_named, point_named, label_point}
 use Rattle.dcc_prepare.specs.Emission.{KeepNumbers}
-
--- Names that are the same.
-
-eq_from : (a b : ℕ) → (a == b) ≡ true → a ≡ b
-eq_from a b is = grind (arith, nat_tests)
-
-eq_self : (a : ℕ) → (a == a) ≡ true
-eq_self a = grind (arith, nat_tests)
-
-and_parts : (a b : Bool) → (a && b) ≡ true → (a ≡ true) × (b ≡ true)
-and_parts true b is = (refl, is)
-and_parts false b is = cc
-
-pub same_word : (xs ys : Word) → same_bytes xs ys ≡ true → xs ≡ ys
-same_word [] [] is = refl
-same_word [] (y ∷ ys) is = cc
-same_word (x ∷ xs) [] is = cc
-same_word (x ∷ xs) (y ∷ ys) is =
-    let both = and_parts (x == y) (same_bytes xs ys) is in
-    let first : x ≡ y = eq_from x y both.0 in
-    let others : xs ≡ ys = same_word xs ys both.1 in
-    cc
-
-pub same_self : (xs : Word) → same_bytes xs xs ≡ true
-same_self [] = refl
-same_self (x ∷ xs) = rw (eq_self x) (same_self xs)
 
 -- A walk over the labels.
 
@@ -150,14 +125,14 @@ pub points-set : (ls : List Label) (i : ℕ) (l : Label) (at : ℕ) (name word :
     point_named (set ls i (standing l at)) word ≡ (if same_bytes name word then Some at else point_named ls word)
 points-set [] i l at name word named is = cc
 points-set (m ∷ ls) zero l at name word named is =
-    let own : string_bytes m.name ≡ name = same_word _ _ (at_first (same_bytes (string_bytes m.name) name) (label_named ls name) named) in
+    let own : string_bytes m.name ≡ name = same_bytes-equal _ _ (at_first (same_bytes (string_bytes m.name) name) (label_named ls name) named) in
     ap (λ (x : Label). if same_bytes (string_bytes x.name) word then Some at else point_named ls word) is
     ∙ chosen (same_bytes (string_bytes m.name) word) (same_bytes name word) m.point (point_named ls word) at (ap (λ n. same_bytes n word) own)
 points-set (m ∷ ls) (suc i) l at name word named is =
     let (other, others) = settled (same_bytes (string_bytes m.name) name) (label_named ls name) i named in
     choice-same (same_bytes (string_bytes m.name) word) m.point _ _ (points-set ls i l at name word others is)
     ∙ swapped (same_bytes (string_bytes m.name) word) (same_bytes name word) m.point (Some at) (point_named ls word)
-    (λ same. ap (same_bytes (string_bytes m.name)) (sym (same_word name word same)) ∙ other)
+    (λ same. ap (same_bytes (string_bytes m.name)) (sym (same_bytes-equal name word same)) ∙ other)
 
 -- the point of a label, by its number
 pub label_point-named : (ls : List Label) (word : Word) (number : ℕ) → label_named ls word ≡ Some number →

@@ -47,7 +47,7 @@ place-end declared places_of left vs had none = record {
   places = λ base. sym (append-nil (map (place_in base) vs)) ∙ ap (λ l. map (place_in base) vs ++ l) (sym (none base)) ∙ had.places base;
 }
 
--- the variable at this place, before those behind it
+-- the variable at this place, before those after it
 pub next_variable : (vs : List Var) (i : ℕ) (v d : Var) → i < length vs → v ≡ get_or vs i d →
     map variable_of (drop i vs) ≡ variable_of v ∷ map variable_of (drop (i + 1) vs)
 next_variable vs i v d within is =

@@ -33,7 +33,7 @@ closes tree f before now at line none place rows labels =
     pushed tree f none_open [] before now (ends_function line) line at Close (no_rows tree f before.rows.items before.labels.items none)
     (record { does = λ s. refl }) place rows labels
 
--- behind the body there is the closing brace, and nothing to break or to continue
+-- after the body there is the closing brace, and nothing to break or to continue
 pub body_leads : (tree : Tree) (points : List Continuation) (at line : ℕ) → Goes tree points at (ends_function line) →
     Leads tree points (record { next = at; on_break = None; on_continue = None }) (ends_function line)
 body_leads tree points at line goes = record { next = goes; on_break = tt; on_continue = tt }

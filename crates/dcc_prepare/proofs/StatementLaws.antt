@@ -55,7 +55,7 @@ lines_step tree f is_open points start mid now lines i n l at next rest more wit
     (emits_after tree f is_open points start mid now (λ word. from_label word (lines_of (drop n lines)) rest) _ at
     (runs (line (stmt_of l.stmt) l.line (lines_of (drop n lines))) rest) had.grows one)
 
--- The points behind a statement.
+-- The points after a statement.
 
 pub leads_stay : (tree : Tree) (before now : List Continuation) (behind : Behind) (rest : Continuation) →
     Stay before now → Leads tree before behind rest → Leads tree now behind rest
@@ -65,7 +65,7 @@ leads_stay tree before now behind rest stay leads = record {
   on_continue = may_stay tree before now behind.on_continue (after_continue rest) stay leads.on_continue;
 }
 
--- behind another point, where the jumps lead to the same points
+-- after another point, where the jumps lead to the same points
 pub leads_behind : (tree : Tree) (points : List Continuation) (behind now : Behind) (lines : Lines) (rest : Continuation) →
     now.on_break ≡ behind.on_break → now.on_continue ≡ behind.on_continue → Leads tree points behind rest →
     Goes tree points now.next (runs lines rest) → Leads tree points now (runs lines rest)

@@ -42,7 +42,7 @@ own-append word xs ys =
     ∙ ap (λ b. b || list_any (λ stmt. list_any (is_address_of word) (flat_map parts_of (exprs_of stmt))) ys) (sym (any-flat (is_address_of word) (λ stmt. flat_map parts_of (exprs_of stmt)) xs))
     ∙ ap (λ b. list_any (is_address_of word) (flat_map (λ stmt. flat_map parts_of (exprs_of stmt)) xs) || b) (sym (any-flat (is_address_of word) (λ stmt. flat_map parts_of (exprs_of stmt)) ys))
 
--- a statement, and those behind it
+-- a statement, and those after it
 own-cons : (word : Word) (stmt : Stmt) (ys : List Stmt) → own_of word (stmt ∷ ys) ≡ (any_takes word (exprs_of stmt) || own_of word ys)
 unfolding own_of
 own-cons word stmt ys =

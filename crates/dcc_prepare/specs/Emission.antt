@@ -52,9 +52,10 @@ pub record EmitsArms (tree : Tree) (f : Function) (is_open : ℕ → Bool) (poin
     (found : Word → Option Continuation) (cases : List Case) (arms : Arms) (rest : Continuation) : Type 0 where
   pub grows : Grows tree f is_open points before now found
   pub goes : (later : List Continuation) (n at : ℕ) (otherwise : Lines) → Stay grows.grown later →
-      Goes tree later at (runs otherwise rest) → Goes tree later (case_point cases n at) (runs (arm_for n arms otherwise) rest)
+      Goes tree later at (runs otherwise rest) →
+      Goes tree later (case_point cases n at) (runs (arm_for n arms otherwise) rest)
 
--- the points behind a statement lead where the continuation does
+-- the points after a statement lead where the continuation does
 pub record Leads (tree : Tree) (points : List Continuation) (behind : Behind) (rest : Continuation) : Type 0 where
   pub next : Goes tree points behind.next rest
   pub on_break : MayGo tree points behind.on_break (after_break rest)

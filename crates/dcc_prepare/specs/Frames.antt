@@ -20,7 +20,8 @@ holding base bits v = record {
 
 -- parameters with the bits of their arguments
 abbrev pub params_holding : ℕ → List Variable → List Held → List Bound
-params_holding base (v ∷ params) (argument ∷ arguments) = holding base argument.bits v ∷ params_holding base params arguments
+params_holding base (v ∷ params) (argument ∷ arguments) =
+    holding base argument.bits v ∷ params_holding base params arguments
 params_holding base _ _ = []
 
 -- local variables, which hold the fill

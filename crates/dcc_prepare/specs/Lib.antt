@@ -5,3 +5,9 @@ pub mod Points
 pub mod Prepared
 pub mod Programs
 pub mod Takes
+pub use Rattle.dcc_c.specs.Tree
+pub use Rattle.dcc_c.specs.Placement
+pub use Rattle.dcc_c.specs.Run
+pub use Rattle.dcc_c.specs.Views
+pub use Rattle.dcc_value.specs.Evaluation
+pub use Rattle.dcc_value.specs.Resolved

@@ -12,7 +12,8 @@ pub record IsNextParam (body : Lines) (v : DeclaredVariable) (placed : Bool) (nu
   pub next : ℕ
   pub at : r.offset ≡ (2 * next) % 65536
   pub places : (base : ℕ) (params : List DeclaredVariable) →
-      place_in base r.variable ∷ param_places body base next r.placed params ≡ param_places body base number placed (v ∷ params)
+      place_in base r.variable ∷ param_places body base next r.placed params
+      ≡ param_places body base number placed (v ∷ params)
 
 -- the variables that have their places, before those that are left
 pub record ArePlaced (declared : List DeclaredVariable) (places_of : ℕ → List (Option ℕ)) (left : List DeclaredVariable)

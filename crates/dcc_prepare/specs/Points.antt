@@ -107,7 +107,8 @@ dos_call calls_leave = Leave
 abbrev pub IsCallee : Tree → Word → Callee → Type 0
 IsCallee tree word (CallsDos dos) = dos_of word ≡ Some (dos_call dos)
 IsCallee tree word (CallsFunction number) =
-    (f : Function) × (dos_of word ≡ None) × (function_in tree.functions word ≡ Some f) × (slice_get tree.functions number ≡ Some f)
+    (f : Function) × (dos_of word ≡ None) × (function_in tree.functions word ≡ Some f)
+    × (slice_get tree.functions number ≡ Some f)
 IsCallee tree word CallsNothing = (dos_of word ≡ None) × (function_in tree.functions word ≡ None)
 
 pub record IsPass (tree : Tree) (points : List Continuation) (rest : Continuation) (next : ℕ) : Type 0 where
@@ -148,7 +149,8 @@ pub record IsTest (tree : Tree) (f : Function) (points : List Continuation) (res
   pub goes_yes : Goes tree points first if_yes
   pub goes_no : Goes tree points second if_no
   pub does : (s : State) → step_at tree rest s
-      ≡ on (value_of (scope_of tree s) expr) line (goes_on (behind s) s) (λ v. goes_on (if is_zero v then if_no else if_yes) s)
+      ≡ on (value_of (scope_of tree s) expr) line (goes_on (behind s) s)
+      (λ v. goes_on (if is_zero v then if_no else if_yes) s)
 
 pub record IsSwitch (tree : Tree) (f : Function) (points : List Continuation) (rest : Continuation) (line : ℕ)
     (e : Resolved) (cases : List Case) (otherwise : ℕ) : Type 0 where
@@ -158,7 +160,8 @@ pub record IsSwitch (tree : Tree) (f : Function) (points : List Continuation) (r
   pub stands : Stands (names_in tree f) expr e
   pub goes : (n : ℕ) → Goes tree points (case_point cases n otherwise) (to n)
   pub does : (s : State) → step_at tree rest s
-      ≡ on (value_of (scope_of tree s) expr) line (goes_on behind s) (λ v. goes_on (to (converted (plain Uint) v).bits) s)
+      ≡ on (value_of (scope_of tree s) expr) line (goes_on behind s)
+      (λ v. goes_on (to (converted (plain Uint) v).bits) s)
 
 pub record IsGoto (tree : Tree) (labels : List Label) (rest : Continuation) (line number : ℕ) : Type 0 where
   pub word : Word
@@ -185,7 +188,8 @@ Acts tree f points labels rest line (Pass next) = IsPass tree points rest next
 Acts tree f points labels rest line (Assigns place e next) = IsAssign tree f points rest line place e next
 Acts tree f points labels rest line (Calls row) = IsCall tree f points rest line row
 Acts tree f points labels rest line (Test e first second) = IsTest tree f points rest line e first second
-Acts tree f points labels rest line (Switch e cases otherwise) = IsSwitch tree f points rest line e cases.items otherwise
+Acts tree f points labels rest line (Switch e cases otherwise) =
+    IsSwitch tree f points rest line e cases.items otherwise
 Acts tree f points labels rest line (Goto number) = IsGoto tree labels rest line number
 Acts tree f points labels rest line (Returns e) = IsReturn tree f rest line e
 Acts tree f points labels rest line Close = IsClose tree rest line

@@ -27,7 +27,12 @@ pub record HasPoints (tree : Tree) (f : Function) (procedure : Procedure) : Type
 
 -- what a variable is declared as
 abbrev pub name_declared : Var → Variable → Declared
-name_declared v x = record { name = string_bytes v.name; type = x.ty; is_array = x.is_array; is_placed = is_some x.offset }
+name_declared v x = record {
+  name = string_bytes v.name;
+  type = x.ty;
+  is_array = x.is_array;
+  is_placed = is_some x.offset;
+}
 
 -- and several of them
 abbrev pub names_declared : List Var → List Variable → List Declared

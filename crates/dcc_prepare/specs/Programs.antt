@@ -30,7 +30,8 @@ abbrev pub declared_kind : DeclaredVariable → Kind
 declared_kind v = record { type = v.type; is_array = is_some v.len }
 
 -- the variables have the types that they are declared with, and stand at these places
-pub record AreVariables (declared : List DeclaredVariable) (places_of : ℕ → List (Option ℕ)) (variables : List Variable) : Type 0 where
+pub record AreVariables (declared : List DeclaredVariable) (places_of : ℕ → List (Option ℕ))
+    (variables : List Variable) : Type 0 where
   pub kinds : map kind_of variables ≡ map declared_kind declared
   pub places : (base : ℕ) → map (place_in base) variables ≡ places_of base
 
@@ -49,13 +50,15 @@ pub record IsProcedure (tree : Tree) (f : Function) (points : List Continuation)
   pub entry : Goes tree points procedure.entry (runs f.body (ends_function f.last))
 
 -- the function of this number has its procedure
-pub record HasProcedure (tree : Tree) (f : Function) (points : List Continuation) (program : Program) (number : ℕ) : Type 0 where
+pub record HasProcedure (tree : Tree) (f : Function) (points : List Continuation) (program : Program)
+    (number : ℕ) : Type 0 where
   pub procedure : Procedure
   pub here : slice_get program.procedures.items number ≡ Some procedure
   pub is : IsProcedure tree f points procedure
 
 -- the program is the text, the points of whose functions, by their numbers, have these continuations
 pub record IsProgram (tree : Tree) (points : ℕ → List Continuation) (program : Program) : Type 0 where
-  pub globals : bindings_named (map declared_global tree.globals) program.globals.items ≡ map global_binding tree.globals
+  pub globals : bindings_named (map declared_global tree.globals) program.globals.items
+      ≡ map global_binding tree.globals
   pub procedures : (number : ℕ) (f : Function) → slice_get tree.functions number ≡ Some f →
       HasProcedure tree f (points number) program number

@@ -24,9 +24,11 @@ pub struct Code {
     pub labels: Vec<Label>,
 }
 
-/// What the statements of a function may name.
+/// What the points of a function are made with: what its statements may name, and memory.
 #[derive(Clone, Copy)]
 pub struct Context<'a> {
+    /// Where the points are allocated.
+    pub alloc: Global,
     /// The variables.
     pub names: &'a Names<'a>,
     /// The functions of the text.
@@ -48,7 +50,8 @@ impl Code {
     /// A further point.
     pub fn push(&mut self, line: u32, action: Action) -> Result<usize, AllocError>
         ensures point { IfOk result (λ at. at ≡ length self.old.rows.items) }
-        ensures rows { OnOk result (self.new.rows.items ≡ self.old.rows.items ++ record { action = action; line = line } ∷ []) }
+        ensures rows { OnOk result
+            (self.new.rows.items ≡ self.old.rows.items ++ record { action = action; line = line } ∷ []) }
         ensures labels { self.new.labels ≡ self.old.labels }
     {
         let point = self.rows.len();
@@ -58,7 +61,8 @@ impl Code {
 
     /// Puts another action at a point.
     pub fn set(&mut self, point: usize, line: u32, action: Action)
-        ensures rows { self.new.rows.items ≡ slice_set self.old.rows.items point (record { action = action; line = line }) }
+        ensures rows { self.new.rows.items
+            ≡ slice_set self.old.rows.items point (record { action = action; line = line }) }
         ensures labels { self.new.labels ≡ self.old.labels }
     {
         if point < self.rows.len() {
@@ -70,7 +74,8 @@ impl Code {
     pub fn label(&mut self, alloc: Global, name: &str) -> Result<usize, AllocError>
         ensures number { IfOk result (λ number. label_named self.new.labels.items name.now ≡ Some number) }
         ensures numbers { KeepNumbers self.old.labels.items self.new.labels.items }
-        ensures points { (word : Word) → point_named self.new.labels.items word ≡ point_named self.old.labels.items word }
+        ensures points { (word : Word) →
+            point_named self.new.labels.items word ≡ point_named self.old.labels.items word }
         ensures rows { self.new.rows ≡ self.old.rows }
     {
         match label_named(&self.labels, name) {
@@ -79,12 +84,13 @@ impl Code {
         }
     }
 
-    /// A new label, whose number is the answer.
+    // A new label, whose number is the answer.
     fn add_label(&mut self, alloc: Global, name: &str) -> Result<usize, AllocError>
         ensures number { label_named self.old.labels.items name.now ≡ None →
             IfOk result (λ number. label_named self.new.labels.items name.now ≡ Some number) }
         ensures numbers { KeepNumbers self.old.labels.items self.new.labels.items }
-        ensures points { (word : Word) → point_named self.new.labels.items word ≡ point_named self.old.labels.items word }
+        ensures points { (word : Word) →
+            point_named self.new.labels.items word ≡ point_named self.old.labels.items word }
         ensures rows { self.new.rows ≡ self.old.rows }
     {
         let number = self.labels.len();
@@ -108,7 +114,7 @@ impl Code {
     }
 }
 
-/// The number of the label with the name.
+// The number of the label with the name.
 fn label_named(labels: &[Label], name: &str) -> Option<usize>
     ensures { result ≡ label_named labels.now name.now }
 {

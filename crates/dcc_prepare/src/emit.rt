@@ -1,4 +1,4 @@
-//! From the statements of a function to its points, the last statement first, so that the points behind a statement
+//! From the statements of a function to its points, the last statement first, so that the points after a statement
 //! are known.
 
 ghost use Rattle.std.specs.Prelude.{◌≡◌, ℕ, Bool, List, map, Option, None, Some, IfOk, MatchOption, string_bytes, slice_get, option_map};
@@ -16,7 +16,7 @@ use dcc_c::{Arm, CExpr, CStmt, Func, Line};
 use dcc_value::resolve::resolve;
 use std::alloc::{AllocError, Global};
 
-/// The points behind a statement.
+/// The points after a statement.
 #[derive(Clone, Copy)]
 pub struct Behind {
     /// Where the next statement begins.
@@ -28,7 +28,7 @@ pub struct Behind {
 }
 
 impl Behind {
-    /// The points behind a statement in an arm of a `switch`: `break` leads behind the `switch`.
+    // The points after a statement in an arm of a `switch`: `break` leads past the `switch`.
     fn inside_switch(self) -> Behind
         ensures { result ≡ record { next = self.next; on_break = Some self.next; on_continue = self.on_continue } }
     {
@@ -42,71 +42,77 @@ impl Behind {
 /// Makes the points of statements. The answer is the point where they begin.
 #[cycle(emit)]
 pub fn emit_lines(
-    alloc: Global,
     context: &Context<'_>,
     lines: &[Line],
     behind: Behind,
     code: &mut Code,
 ) -> Result<usize, AllocError>
-    ensures { (tree : Tree) (f : Function) (is_open : ℕ → Bool) (points : List Continuation) (rest : Continuation) →
-        IsContext context.now tree f → AreRows tree f is_open points code.old.rows.items code.old.labels.items → Leads tree points behind rest →
-        IfOk result (λ at. Emits tree f is_open points code.old code.new (λ word. from_label word (lines_of lines.now) rest) at (runs (lines_of lines.now) rest)) }
+    ensures { (tree : Tree) (f : Function) (is_open : ℕ → Bool) (points : List Continuation)
+        (rest : Continuation) →
+        IsContext context.now tree f →
+        AreRows tree f is_open points code.old.rows.items code.old.labels.items →
+        Leads tree points behind rest →
+        IfOk result (λ at. Emits tree f is_open points code.old code.new
+        (λ word. from_label word (lines_of lines.now) rest) at (runs (lines_of lines.now) rest)) }
 {
     let mut behind = behind;
     let mut i = lines.len();
     while i > 0 {
         i -= 1;
         let line = &lines[i];
-        behind.next = emit_stmt(alloc, context, &line.stmt, line.line, behind, code)?;
+        behind.next = emit_stmt(context, &line.stmt, line.line, behind, code)?;
     }
     Ok(behind.next)
 }
 
-/// Makes the points of a statement. The answer is the point where it begins.
+// Makes the points of a statement. The answer is the point where it begins.
 #[cycle(emit)]
 fn emit_stmt(
-    alloc: Global,
     context: &Context<'_>,
     stmt: &CStmt,
     line: u32,
     behind: Behind,
     code: &mut Code,
 ) -> Result<usize, AllocError>
-    ensures { (tree : Tree) (f : Function) (is_open : ℕ → Bool) (points : List Continuation) (lines : Lines) (rest : Continuation) →
-        IsContext context.now tree f → AreRows tree f is_open points code.old.rows.items code.old.labels.items → Leads tree points behind (runs lines rest) →
-        IfOk result (λ at. Emits tree f is_open points code.old code.new (λ word. from_label_inside word (stmt_of stmt.now) line lines rest) at (runs (before_lines (stmt_of stmt.now) line lines) rest)) }
+    ensures { (tree : Tree) (f : Function) (is_open : ℕ → Bool) (points : List Continuation)
+        (lines : Lines) (rest : Continuation) →
+        IsContext context.now tree f →
+        AreRows tree f is_open points code.old.rows.items code.old.labels.items →
+        Leads tree points behind (runs lines rest) →
+        IfOk result (λ at. Emits tree f is_open points code.old code.new
+        (λ word. from_label_inside word (stmt_of stmt.now) line lines rest)
+        at (runs (before_lines (stmt_of stmt.now) line lines) rest)) }
 {
     match stmt {
-        CStmt::Assign(place, e) => emit_assign(alloc, context, place, e, line, behind.next, code),
+        CStmt::Assign(place, e) => emit_assign(context, place, e, line, behind.next, code),
         CStmt::Call(place, function, arguments, depth) => {
             let name = function.as_str();
-            let row = call_row(alloc, context, place, name, arguments, *depth, behind.next)?;
+            let row = call_row(context, place, name, arguments, *depth, behind.next)?;
             code.push(line, Action::Call(row))
         }
         CStmt::If(e, body, otherwise) => {
-            let no = emit_lines(alloc, context, otherwise, behind, code)?;
-            emit_if(alloc, context, body, e, no, line, behind, code)
+            let no = emit_lines(context, otherwise, behind, code)?;
+            emit_if(context, body, e, no, line, behind, code)
         }
-        CStmt::While(e, body) => emit_while(alloc, context, body, e, line, behind.next, code),
-        CStmt::DoWhile(body, e) => emit_do_while(alloc, context, body, e, line, behind.next, code),
-        CStmt::Forever(body) => emit_forever(alloc, context, body, line, behind.next, code),
+        CStmt::While(e, body) => emit_while(context, body, e, line, behind.next, code),
+        CStmt::DoWhile(body, e) => emit_do_while(context, body, e, line, behind.next, code),
+        CStmt::Forever(body) => emit_forever(context, body, line, behind.next, code),
         CStmt::Switch(e, arms, last) => {
             let inside = behind.inside_switch();
-            let otherwise = emit_default(alloc, context, last, inside, code)?;
-            emit_switch(alloc, context, arms, e, otherwise, line, inside, code)
+            let otherwise = emit_default(context, last, inside, code)?;
+            emit_switch(context, arms, e, otherwise, line, inside, code)
         }
         CStmt::Break => emit_jump(line, behind.on_break, code),
         CStmt::Continue => emit_jump(line, behind.on_continue, code),
-        CStmt::Goto(name) => emit_goto(alloc, name.as_str(), line, code),
-        CStmt::Label(name) => emit_label(alloc, name.as_str(), line, behind.next, code),
+        CStmt::Goto(name) => emit_goto(context.alloc, name.as_str(), line, code),
+        CStmt::Label(name) => emit_label(context.alloc, name.as_str(), line, behind.next, code),
         CStmt::Empty => code.push(line, Action::Pass(behind.next)),
-        CStmt::Return(e) => emit_return(alloc, context, e, line, code),
+        CStmt::Return(e) => emit_return(context, e, line, code),
     }
 }
 
-/// Makes the point of an assignment.
+// Makes the point of an assignment.
 fn emit_assign(
-    alloc: Global,
     context: &Context<'_>,
     place: &CExpr,
     e: &CExpr,
@@ -114,18 +120,21 @@ fn emit_assign(
     next: usize,
     code: &mut Code,
 ) -> Result<usize, AllocError>
-    ensures { (tree : Tree) (f : Function) (is_open : ℕ → Bool) (points : List Continuation) (lines : Lines) (rest : Continuation) →
-        IsContext context.now tree f → AreRows tree f is_open points code.old.rows.items code.old.labels.items → Goes tree points next (runs lines rest) →
-        IfOk result (λ at. Emits tree f is_open points code.old code.new (λ word. None) at (runs (before_lines (Assign (expr_of place.now) (expr_of e.now)) line lines) rest)) }
+    ensures { (tree : Tree) (f : Function) (is_open : ℕ → Bool) (points : List Continuation)
+        (lines : Lines) (rest : Continuation) →
+        IsContext context.now tree f →
+        AreRows tree f is_open points code.old.rows.items code.old.labels.items →
+        Goes tree points next (runs lines rest) →
+        IfOk result (λ at. Emits tree f is_open points code.old code.new
+        (λ word. None) at (runs (before_lines (Assign (expr_of place.now) (expr_of e.now)) line lines) rest)) }
 {
-    let place = resolve(alloc, context.names, place)?;
-    let value = resolve(alloc, context.names, e)?;
+    let place = resolve(context.alloc, context.names, place)?;
+    let value = resolve(context.alloc, context.names, e)?;
     code.push(line, Action::Assign(place, value, next))
 }
 
-/// A call of the function or the DOS call with the name.
+// A call of the function or the DOS call with the name.
 fn call_row(
-    alloc: Global,
     context: &Context<'_>,
     place: &Option<CExpr>,
     name: &str,
@@ -133,26 +142,28 @@ fn call_row(
     depth: u32,
     next: usize,
 ) -> Result<CallRow, AllocError>
-    ensures place { IfOk result (λ row. StandsIf (names_of context.now.names.now) (option_map expr_of place.now) row.place) }
-    ensures callee { (tree : Tree) → map function_of context.now.functions.now ≡ tree.functions → IfOk result (λ row. IsCallee tree name.now row.callee) }
-    ensures arguments { IfOk result (λ row. StandAll (names_of context.now.names.now) (map expr_of arguments.now) row.arguments.items) }
+    ensures place { IfOk result
+        (λ row. StandsIf (names_of context.now.names.now) (option_map expr_of place.now) row.place) }
+    ensures callee { (tree : Tree) → map function_of context.now.functions.now ≡ tree.functions →
+        IfOk result (λ row. IsCallee tree name.now row.callee) }
+    ensures arguments { IfOk result
+        (λ row. StandAll (names_of context.now.names.now) (map expr_of arguments.now) row.arguments.items) }
     ensures depth { IfOk result (λ row. row.depth ≡ depth) }
     ensures next { IfOk result (λ row. row.next ≡ next) }
 {
     Ok(CallRow {
-        place: resolve_option(alloc, context.names, place)?,
+        place: resolve_option(context.alloc, context.names, place)?,
         callee: callee(context.functions, name),
-        arguments: resolve_all(alloc, context.names, arguments)?,
+        arguments: resolve_all(context.alloc, context.names, arguments)?,
         depth,
         next,
     })
 }
 
-/// Makes the points of the body of an `if`, where the point of its other body is given, and then that of its test. The
-/// answer is the point of the test.
+// Makes the points of the body of an `if`, where the point of its other body is given, and then that of its test. The
+// answer is the point of the test.
 #[cycle(emit)]
 fn emit_if(
-    alloc: Global,
     context: &Context<'_>,
     body: &[Line],
     e: &CExpr,
@@ -161,21 +172,24 @@ fn emit_if(
     behind: Behind,
     code: &mut Code,
 ) -> Result<usize, AllocError>
-    ensures { (tree : Tree) (f : Function) (is_open : ℕ → Bool) (points : List Continuation) (otherwise lines : Lines) (rest : Continuation) →
-        IsContext context.now tree f → AreRows tree f is_open points code.old.rows.items code.old.labels.items → Leads tree points behind (runs lines rest) →
+    ensures { (tree : Tree) (f : Function) (is_open : ℕ → Bool) (points : List Continuation)
+        (otherwise lines : Lines) (rest : Continuation) →
+        IsContext context.now tree f →
+        AreRows tree f is_open points code.old.rows.items code.old.labels.items →
+        Leads tree points behind (runs lines rest) →
         Goes tree points no (runs otherwise (runs lines rest)) →
-        IfOk result (λ at. Emits tree f is_open points code.old code.new (λ word. from_label word (lines_of body.now) (runs lines rest)) at
+        IfOk result (λ at. Emits tree f is_open points code.old code.new
+        (λ word. from_label word (lines_of body.now) (runs lines rest)) at
         (runs (before_lines (If (expr_of e.now) (lines_of body.now) otherwise) line lines) rest)) }
 {
-    let yes = emit_lines(alloc, context, body, behind, code)?;
-    let value = resolve(alloc, context.names, e)?;
+    let yes = emit_lines(context, body, behind, code)?;
+    let value = resolve(context.alloc, context.names, e)?;
     code.push(line, Action::Test(value, yes, no))
 }
 
-/// Makes the points of a `while`. The answer is the point where it is tested first.
+// Makes the points of a `while`. The answer is the point where it is tested first.
 #[cycle(emit)]
 fn emit_while(
-    alloc: Global,
     context: &Context<'_>,
     body: &[Line],
     e: &CExpr,
@@ -183,20 +197,23 @@ fn emit_while(
     next: usize,
     code: &mut Code,
 ) -> Result<usize, AllocError>
-    ensures { (tree : Tree) (f : Function) (is_open : ℕ → Bool) (points : List Continuation) (lines : Lines) (rest : Continuation) →
-        IsContext context.now tree f → AreRows tree f is_open points code.old.rows.items code.old.labels.items → Goes tree points next (runs lines rest) →
-        IfOk result (λ at. Emits tree f is_open points code.old code.new (λ word. from_label_inside word (While (expr_of e.now) (lines_of body.now)) line lines rest) at
+    ensures { (tree : Tree) (f : Function) (is_open : ℕ → Bool) (points : List Continuation)
+        (lines : Lines) (rest : Continuation) →
+        IsContext context.now tree f →
+        AreRows tree f is_open points code.old.rows.items code.old.labels.items →
+        Goes tree points next (runs lines rest) →
+        IfOk result (λ at. Emits tree f is_open points code.old code.new
+        (λ word. from_label_inside word (While (expr_of e.now) (lines_of body.now)) line lines rest) at
         (runs (before_lines (While (expr_of e.now) (lines_of body.now)) line lines) rest)) }
 {
-    let yes = emit_repeated(alloc, context, body, e, line, next, code)?;
-    let value = resolve(alloc, context.names, e)?;
+    let yes = emit_repeated(context, body, e, line, next, code)?;
+    let value = resolve(context.alloc, context.names, e)?;
     code.push(line, Action::Test(value, yes, next))
 }
 
-/// Makes the points of a `do`. The answer is the point where it begins.
+// Makes the points of a `do`. The answer is the point where it begins.
 #[cycle(emit)]
 fn emit_do_while(
-    alloc: Global,
     context: &Context<'_>,
     body: &[Line],
     e: &CExpr,
@@ -204,20 +221,23 @@ fn emit_do_while(
     next: usize,
     code: &mut Code,
 ) -> Result<usize, AllocError>
-    ensures { (tree : Tree) (f : Function) (is_open : ℕ → Bool) (points : List Continuation) (lines : Lines) (rest : Continuation) →
-        IsContext context.now tree f → AreRows tree f is_open points code.old.rows.items code.old.labels.items → Goes tree points next (runs lines rest) →
-        IfOk result (λ at. Emits tree f is_open points code.old code.new (λ word. from_label_inside word (DoWhile (lines_of body.now) (expr_of e.now)) line lines rest) at
+    ensures { (tree : Tree) (f : Function) (is_open : ℕ → Bool) (points : List Continuation)
+        (lines : Lines) (rest : Continuation) →
+        IsContext context.now tree f →
+        AreRows tree f is_open points code.old.rows.items code.old.labels.items →
+        Goes tree points next (runs lines rest) →
+        IfOk result (λ at. Emits tree f is_open points code.old code.new
+        (λ word. from_label_inside word (DoWhile (lines_of body.now) (expr_of e.now)) line lines rest) at
         (runs (before_lines (DoWhile (lines_of body.now) (expr_of e.now)) line lines) rest)) }
 {
-    let yes = emit_repeated(alloc, context, body, e, line, next, code)?;
+    let yes = emit_repeated(context, body, e, line, next, code)?;
     code.push(line, Action::Pass(yes))
 }
 
-/// Makes the points of the arms of a `switch`, where the point of its default arm is given, and then that of its value.
-/// The answer is the point of the value.
+// Makes the points of the arms of a `switch`, where the point of its default arm is given, and then that of its value.
+// The answer is the point of the value.
 #[cycle(emit)]
 fn emit_switch(
-    alloc: Global,
     context: &Context<'_>,
     arms: &[Arm],
     e: &CExpr,
@@ -226,28 +246,34 @@ fn emit_switch(
     inside: Behind,
     code: &mut Code,
 ) -> Result<usize, AllocError>
-    ensures { (tree : Tree) (f : Function) (is_open : ℕ → Bool) (points : List Continuation) (last : Arms) (lines : Lines) (rest : Continuation) →
-        IsContext context.now tree f → AreRows tree f is_open points code.old.rows.items code.old.labels.items → Leads tree points inside (ends_switch (runs lines rest)) →
+    ensures { (tree : Tree) (f : Function) (is_open : ℕ → Bool) (points : List Continuation)
+        (last : Arms) (lines : Lines) (rest : Continuation) →
+        IsContext context.now tree f →
+        AreRows tree f is_open points code.old.rows.items code.old.labels.items →
+        Leads tree points inside (ends_switch (runs lines rest)) →
         Goes tree points otherwise (runs (default_body last) (ends_switch (runs lines rest))) →
-        IfOk result (λ at. Emits tree f is_open points code.old code.new (λ word. from_label_in_arms word (arms_of arms.now) (ends_switch (runs lines rest))) at
+        IfOk result (λ at. Emits tree f is_open points code.old code.new
+        (λ word. from_label_in_arms word (arms_of arms.now) (ends_switch (runs lines rest))) at
         (runs (before_lines (Switch (expr_of e.now) (arms_of arms.now) last) line lines) rest)) }
 {
-    let cases = emit_arms(alloc, context, arms, inside, code)?;
-    let value = resolve(alloc, context.names, e)?;
+    let cases = emit_arms(context, arms, inside, code)?;
+    let value = resolve(context.alloc, context.names, e)?;
     code.push(line, Action::Switch(value, cases, otherwise))
 }
 
-/// Makes the point of a `goto`.
+// Makes the point of a `goto`.
 fn emit_goto(alloc: Global, name: &str, line: u32, code: &mut Code) -> Result<usize, AllocError>
-    ensures { (tree : Tree) (f : Function) (is_open : ℕ → Bool) (points : List Continuation) (lines : Lines) (rest : Continuation) →
+    ensures { (tree : Tree) (f : Function) (is_open : ℕ → Bool) (points : List Continuation)
+        (lines : Lines) (rest : Continuation) →
         AreRows tree f is_open points code.old.rows.items code.old.labels.items →
-        IfOk result (λ at. Emits tree f is_open points code.old code.new (λ word. None) at (runs (before_lines (Goto name.now) line lines) rest)) }
+        IfOk result (λ at. Emits tree f is_open points code.old code.new
+        (λ word. None) at (runs (before_lines (Goto name.now) line lines) rest)) }
 {
     let label = code.label(alloc, name)?;
     code.push(line, Action::Goto(label))
 }
 
-/// Makes the point of a label, which then stands there.
+// Makes the point of a label, which then stands there.
 fn emit_label(
     alloc: Global,
     name: &str,
@@ -255,34 +281,40 @@ fn emit_label(
     next: usize,
     code: &mut Code,
 ) -> Result<usize, AllocError>
-    ensures { (tree : Tree) (f : Function) (is_open : ℕ → Bool) (points : List Continuation) (lines : Lines) (rest : Continuation) →
-        AreRows tree f is_open points code.old.rows.items code.old.labels.items → Goes tree points next (runs lines rest) →
-        IfOk result (λ at. Emits tree f is_open points code.old code.new (λ word. from_label_inside word (Label name.now) line lines rest) at (runs (before_lines (Label name.now) line lines) rest)) }
+    ensures { (tree : Tree) (f : Function) (is_open : ℕ → Bool) (points : List Continuation)
+        (lines : Lines) (rest : Continuation) →
+        AreRows tree f is_open points code.old.rows.items code.old.labels.items →
+        Goes tree points next (runs lines rest) →
+        IfOk result (λ at. Emits tree f is_open points code.old code.new
+        (λ word. from_label_inside word (Label name.now) line lines rest)
+        at (runs (before_lines (Label name.now) line lines) rest)) }
 {
     let point = code.push(line, Action::Pass(next))?;
     code.place_label(alloc, name, point)?;
     Ok(point)
 }
 
-/// Makes the point of a `return`.
+// Makes the point of a `return`.
 fn emit_return(
-    alloc: Global,
     context: &Context<'_>,
     e: &Option<CExpr>,
     line: u32,
     code: &mut Code,
 ) -> Result<usize, AllocError>
-    ensures { (tree : Tree) (f : Function) (is_open : ℕ → Bool) (points : List Continuation) (lines : Lines) (rest : Continuation) →
+    ensures { (tree : Tree) (f : Function) (is_open : ℕ → Bool) (points : List Continuation)
+        (lines : Lines) (rest : Continuation) →
         IsContext context.now tree f → AreRows tree f is_open points code.old.rows.items code.old.labels.items →
-        IfOk result (λ at. Emits tree f is_open points code.old code.new (λ word. None) at (runs (before_lines (Return (option_map expr_of e.now)) line lines) rest)) }
+        IfOk result (λ at. Emits tree f is_open points code.old code.new
+        (λ word. None) at (runs (before_lines (Return (option_map expr_of e.now)) line lines) rest)) }
 {
-    let value = resolve_option(alloc, context.names, e)?;
+    let value = resolve_option(context.alloc, context.names, e)?;
     code.push(line, Action::Return(value))
 }
 
-/// Makes the point of a jump to a point, where there is one.
+// Makes the point of a jump to a point, where there is one.
 fn emit_jump(line: u32, to: Option<usize>, code: &mut Code) -> Result<usize, AllocError>
-    ensures { (tree : Tree) (f : Function) (is_open : ℕ → Bool) (points : List Continuation) (own behind : Continuation) (target : Option Continuation) →
+    ensures { (tree : Tree) (f : Function) (is_open : ℕ → Bool) (points : List Continuation)
+        (own behind : Continuation) (target : Option Continuation) →
         AreRows tree f is_open points code.old.rows.items code.old.labels.items → MayGo tree points to target →
         ((s : State) → step_at tree own s ≡ jump_step target line (goes_on behind s)) →
         IfOk result (λ at. Emits tree f is_open points code.old code.new (λ word. None) at own) }
@@ -293,11 +325,10 @@ fn emit_jump(line: u32, to: Option<usize>, code: &mut Code) -> Result<usize, All
     }
 }
 
-/// Makes the points of a body that is executed again as long as the value is not 0, and then that of its test. The
-/// answer is the point where the body begins.
+// Makes the points of a body that is executed again as long as the value is not 0, and then that of its test. The
+// answer is the point where the body begins.
 #[cycle(emit)]
 fn emit_repeated(
-    alloc: Global,
     context: &Context<'_>,
     body: &[Line],
     e: &CExpr,
@@ -305,9 +336,14 @@ fn emit_repeated(
     next: usize,
     code: &mut Code,
 ) -> Result<usize, AllocError>
-    ensures { (tree : Tree) (f : Function) (is_open : ℕ → Bool) (points : List Continuation) (rest : Continuation) →
-        IsContext context.now tree f → AreRows tree f is_open points code.old.rows.items code.old.labels.items → Goes tree points next rest →
-        IfOk result (λ at. Emits tree f is_open points code.old code.new (λ word. from_label word (lines_of body.now) (tests (expr_of e.now) (lines_of body.now) line rest)) at (runs (lines_of body.now) (tests (expr_of e.now) (lines_of body.now) line rest))) }
+    ensures { (tree : Tree) (f : Function) (is_open : ℕ → Bool) (points : List Continuation)
+        (rest : Continuation) →
+        IsContext context.now tree f →
+        AreRows tree f is_open points code.old.rows.items code.old.labels.items →
+        Goes tree points next rest →
+        IfOk result (λ at. Emits tree f is_open points code.old code.new
+        (λ word. from_label word (lines_of body.now) (tests (expr_of e.now) (lines_of body.now) line rest))
+        at (runs (lines_of body.now) (tests (expr_of e.now) (lines_of body.now) line rest))) }
 {
     let test = code.push(line, Action::Stuck)?;
     let behind = Behind {
@@ -315,25 +351,29 @@ fn emit_repeated(
         on_break: Some(next),
         on_continue: Some(test),
     };
-    let yes = emit_lines(alloc, context, body, behind, code)?;
-    let value = resolve(alloc, context.names, e)?;
+    let yes = emit_lines(context, body, behind, code)?;
+    let value = resolve(context.alloc, context.names, e)?;
     code.set(test, line, Action::Test(value, yes, next));
     Ok(yes)
 }
 
-/// Makes the points of a body that is executed again and again. The answer is the point of its turn.
+// Makes the points of a body that is executed again and again. The answer is the point of its turn.
 #[cycle(emit)]
 fn emit_forever(
-    alloc: Global,
     context: &Context<'_>,
     body: &[Line],
     line: u32,
     next: usize,
     code: &mut Code,
 ) -> Result<usize, AllocError>
-    ensures { (tree : Tree) (f : Function) (is_open : ℕ → Bool) (points : List Continuation) (rest : Continuation) →
-        IsContext context.now tree f → AreRows tree f is_open points code.old.rows.items code.old.labels.items → Goes tree points next rest →
-        IfOk result (λ at. Emits tree f is_open points code.old code.new (λ word. from_label word (lines_of body.now) (turns (lines_of body.now) rest)) at (turns (lines_of body.now) rest)) }
+    ensures { (tree : Tree) (f : Function) (is_open : ℕ → Bool) (points : List Continuation)
+        (rest : Continuation) →
+        IsContext context.now tree f →
+        AreRows tree f is_open points code.old.rows.items code.old.labels.items →
+        Goes tree points next rest →
+        IfOk result (λ at. Emits tree f is_open points code.old code.new
+        (λ word. from_label word (lines_of body.now) (turns (lines_of body.now) rest))
+        at (turns (lines_of body.now) rest)) }
 {
     let turn = code.push(line, Action::Stuck)?;
     let behind = Behind {
@@ -341,56 +381,63 @@ fn emit_forever(
         on_break: Some(next),
         on_continue: Some(turn),
     };
-    let first = emit_lines(alloc, context, body, behind, code)?;
+    let first = emit_lines(context, body, behind, code)?;
     code.set(turn, line, Action::Pass(first));
     Ok(turn)
 }
 
-/// Makes the points of the arms of a `switch`, the last arm first.
+// Makes the points of the arms of a `switch`, the last arm first.
 #[cycle(emit)]
 fn emit_arms(
-    alloc: Global,
     context: &Context<'_>,
     arms: &[Arm],
     behind: Behind,
     code: &mut Code,
 ) -> Result<Vec<Case>, AllocError>
-    ensures { (tree : Tree) (f : Function) (is_open : ℕ → Bool) (points : List Continuation) (rest : Continuation) →
-        IsContext context.now tree f → AreRows tree f is_open points code.old.rows.items code.old.labels.items → Leads tree points behind rest →
-        IfOk result (λ cases. EmitsArms tree f is_open points code.old code.new (λ word. from_label_in_arms word (arms_of arms.now) rest) cases.items (arms_of arms.now) rest) }
+    ensures { (tree : Tree) (f : Function) (is_open : ℕ → Bool) (points : List Continuation)
+        (rest : Continuation) →
+        IsContext context.now tree f →
+        AreRows tree f is_open points code.old.rows.items code.old.labels.items →
+        Leads tree points behind rest →
+        IfOk result (λ cases. EmitsArms tree f is_open points code.old code.new
+        (λ word. from_label_in_arms word (arms_of arms.now) rest) cases.items (arms_of arms.now) rest) }
 {
-    let mut cases = Vec::new(alloc);
+    let mut cases = Vec::new(context.alloc);
     let mut i = arms.len();
     while i > 0 {
         i -= 1;
         let arm = &arms[i];
-        let point = emit_lines(alloc, context, &arm.body, behind, code)?;
-        let values = arm.cases.to_vec(alloc)?;
+        let point = emit_lines(context, &arm.body, behind, code)?;
+        let values = arm.cases.to_vec(context.alloc)?;
         cases.push(Case { values, point })?;
     }
     Ok(cases)
 }
 
-/// Makes the points of the default arm of a `switch`, where there is one. The answer is the point where it begins.
+// Makes the points of the default arm of a `switch`, where there is one. The answer is the point where it begins.
 #[cycle(emit)]
 fn emit_default(
-    alloc: Global,
     context: &Context<'_>,
     last: &Option<Arm>,
     behind: Behind,
     code: &mut Code,
 ) -> Result<usize, AllocError>
-    ensures { (tree : Tree) (f : Function) (is_open : ℕ → Bool) (points : List Continuation) (rest : Continuation) →
-        IsContext context.now tree f → AreRows tree f is_open points code.old.rows.items code.old.labels.items → Leads tree points behind rest →
-        IfOk result (λ at. Emits tree f is_open points code.old code.new (λ word. from_label_in_arms word (arms_if last.now) rest) at (runs (default_body (arms_if last.now)) rest)) }
+    ensures { (tree : Tree) (f : Function) (is_open : ℕ → Bool) (points : List Continuation)
+        (rest : Continuation) →
+        IsContext context.now tree f →
+        AreRows tree f is_open points code.old.rows.items code.old.labels.items →
+        Leads tree points behind rest →
+        IfOk result (λ at. Emits tree f is_open points code.old code.new
+        (λ word. from_label_in_arms word (arms_if last.now) rest)
+        at (runs (default_body (arms_if last.now)) rest)) }
 {
     match last {
-        Some(arm) => emit_lines(alloc, context, &arm.body, behind, code),
+        Some(arm) => emit_lines(context, &arm.body, behind, code),
         None => Ok(behind.next),
     }
 }
 
-/// What has the name: a DOS call, or else the first of the functions with it.
+// What has the name: a DOS call, or else the first of the functions with it.
 fn callee(functions: &[Func], name: &str) -> Callee
     ensures { (tree : Tree) → map function_of functions.now ≡ tree.functions → IsCallee tree name.now result }
 {
@@ -403,7 +450,7 @@ fn callee(functions: &[Func], name: &str) -> Callee
     }
 }
 
-/// The DOS call with the name.
+// The DOS call with the name.
 fn dos_of(name: &str) -> Option<Dos>
     ensures { option_map dos_call result ≡ dos_of name.now }
 {
@@ -417,10 +464,11 @@ fn dos_of(name: &str) -> Option<Dos>
     }
 }
 
-/// The first of the functions with the name.
+// The first of the functions with the name.
 fn function_in(functions: &[Func], name: &str) -> Option<usize>
     ensures { MatchOption result (function_in (map function_of functions.now) name.now ≡ None)
-        (λ number. (f : Function) × (function_in (map function_of functions.now) name.now ≡ Some f) × (slice_get (map function_of functions.now) number ≡ Some f)) }
+        (λ number. (f : Function) × (function_in (map function_of functions.now) name.now ≡ Some f)
+        × (slice_get (map function_of functions.now) number ≡ Some f)) }
 {
     for (i, function) in functions.iter().enumerate() {
         if function.name.as_str() == name {

@@ -12,7 +12,7 @@ use dcc_value::variable::{Binding, Storage};
 use std::alloc::{AllocError, Global};
 
 impl Variable {
-    /// The address in a call with this base, where the variable is in memory.
+    // The address in a call with this base, where the variable is in memory.
     fn place(&self, base: u16) -> Option<u32>
         ensures { result ≡ place_in base self.now }
     {
@@ -22,7 +22,7 @@ impl Variable {
         }
     }
 
-    /// The variable with these bits in a call with this base.
+    // The variable with these bits in a call with this base.
     fn holding(&self, base: u16, bits: u32) -> Binding
         ensures { result ≡ holding base bits self.now }
     {
@@ -48,7 +48,8 @@ impl Procedure {
         arguments: &[Value],
     ) -> Result<Vec<Binding>, AllocError>
         ensures { IfOk result (λ variables. variables.items
-            ≡ params_holding base self.now.params.items arguments.now ++ locals_holding base fill self.now.locals.items) }
+            ≡ params_holding base self.now.params.items arguments.now
+            ++ locals_holding base fill self.now.locals.items) }
     {
         let mut variables = Vec::new(alloc);
         for i in 0..self.params.len().min(arguments.len()) {
@@ -71,7 +72,7 @@ impl Procedure {
     }
 }
 
-/// Puts an argument into memory, where its parameter is in memory.
+// Puts an argument into memory, where its parameter is in memory.
 fn put_argument(base: u16, param: Variable, argument: Value, memory: &mut [u8])
     ensures { memory.new ≡ with_argument base param argument memory.old }
 {

@@ -1,5 +1,5 @@
-//! From a text to a program of numbered points: its statements in the order in which they run, and its variables at their
-//! places.
+//! From a text to a program of numbered points: its statements in the order in which they run, and its variables at
+//! their places.
 #![tactic(auto)]
 
 pub mod code;

@@ -15,7 +15,7 @@ use crate::program::Variable;
 use dcc_c::{Arm, CExpr, CStmt, CUn, Class, Line, Var};
 use std::alloc::{AllocError, Global};
 
-/// Whether the address of the name is taken in the expression.
+// Whether the address of the name is taken in the expression.
 fn expr_takes(e: &CExpr, name: &str) -> bool
     ensures { result ≡ expr_takes name.now (expr_of e.now) }
 {
@@ -30,7 +30,7 @@ fn expr_takes(e: &CExpr, name: &str) -> bool
     }
 }
 
-/// Whether the expression is the name.
+// Whether the expression is the name.
 fn is_name(e: &CExpr, name: &str) -> bool
     ensures { result ≡ is_address_of name.now (Unary AddressOf (expr_of e.now)) }
 {
@@ -40,14 +40,14 @@ fn is_name(e: &CExpr, name: &str) -> bool
     }
 }
 
-/// Whether the address of the name is taken in one of the expressions.
+// Whether the address of the name is taken in one of the expressions.
 fn any_takes(list: &[CExpr], name: &str) -> bool
     ensures { result ≡ list_any (λ e. expr_takes name.now (expr_of e)) list.now }
 {
     list.iter().any(|e| expr_takes(e, name))
 }
 
-/// Whether the address of the name is taken in the expression, where there is one.
+// Whether the address of the name is taken in the expression, where there is one.
 fn option_takes(e: &Option<CExpr>, name: &str) -> bool
     ensures { result ≡ option_takes name.now (option_map expr_of e.now) }
 {
@@ -57,7 +57,7 @@ fn option_takes(e: &Option<CExpr>, name: &str) -> bool
     }
 }
 
-/// Whether the address of the name is taken in the statement.
+// Whether the address of the name is taken in the statement.
 #[cycle(takes)]
 fn stmt_takes(stmt: &CStmt, name: &str) -> bool
     ensures { result ≡ stmt_takes name.now (stmt_of stmt.now) }
@@ -81,7 +81,7 @@ fn stmt_takes(stmt: &CStmt, name: &str) -> bool
     }
 }
 
-/// Whether the address of the name is taken in the statements.
+// Whether the address of the name is taken in the statements.
 #[cycle(takes)]
 fn lines_take(lines: &[Line], name: &str) -> bool
     ensures { result ≡ lines_take name.now (lines_of lines.now) }
@@ -94,7 +94,7 @@ fn lines_take(lines: &[Line], name: &str) -> bool
     false
 }
 
-/// Whether the address of the name is taken in the arms.
+// Whether the address of the name is taken in the arms.
 #[cycle(takes)]
 fn arms_take(arms: &[Arm], name: &str) -> bool
     ensures { result ≡ arms_take name.now (arms_of arms.now) }
@@ -107,7 +107,7 @@ fn arms_take(arms: &[Arm], name: &str) -> bool
     false
 }
 
-/// Whether the address of the name is taken in the default arm, where there is one.
+// Whether the address of the name is taken in the default arm, where there is one.
 #[cycle(takes)]
 fn default_takes(last: &Option<Arm>, name: &str) -> bool
     ensures { result ≡ arms_take name.now (arms_if last.now) }
@@ -135,7 +135,7 @@ pub fn params_of(alloc: Global, body: &[Line], params: &[Var]) -> Result<Vec<Var
     Ok(variables)
 }
 
-/// A parameter, and what is then known of those behind it: whether they are in memory, and where the next stack
+/// A parameter, and what is then known of those after it: whether they are in memory, and where the next stack
 /// argument stands.
 #[derive(Clone, Copy)]
 struct NextParam {
@@ -144,7 +144,7 @@ struct NextParam {
     offset: u16,
 }
 
-/// The parameter at this place.
+// The parameter at this place.
 fn param_of(body: &[Line], param: &Var, placed: bool, offset: u16) -> NextParam
     ensures { (number : ℕ) → offset ≡ (2 * number) % 65536 →
         IsNextParam (lines_of body.now) (variable_of param.now) placed number result }
@@ -170,21 +170,21 @@ fn param_of(body: &[Line], param: &Var, placed: bool, offset: u16) -> NextParam
     }
 }
 
-/// Whether the parameter is no stack argument.
+// Whether the parameter is no stack argument.
 fn is_register(class: Class) -> bool
     ensures { result ≡ is_register class }
 {
     class == Class::Register
 }
 
-/// Whether a variable of this class is in memory in any case.
+// Whether a variable of this class is in memory in any case.
 fn is_auto(class: Class) -> bool
     ensures { result ≡ is_auto class }
 {
     class == Class::Auto
 }
 
-/// Whether the parameter, behind others of which one may have its place, is in memory.
+// Whether the parameter, after others of which one may have its place, is in memory.
 fn needs_place(body: &[Line], param: &Var, placed: bool) -> bool
     ensures { result ≡ (placed || wants_place (lines_of body.now) (variable_of param.now)) }
 {
@@ -209,7 +209,7 @@ pub fn locals_of(alloc: Global, locals: &[Var]) -> Result<Vec<Variable>, AllocEr
     Ok(variables)
 }
 
-/// How many bytes the variable takes, modulo 65536.
+// How many bytes the variable takes, modulo 65536.
 fn bytes_of(variable: &Var) -> u16
     ensures { result ≡ bytes_of variable.now.ty variable.now.len % 65536 }
 {
@@ -217,7 +217,7 @@ fn bytes_of(variable: &Var) -> u16
     (u64::from(variable.ty.size()) * u64::from(elements) % 0x1_0000) as u16
 }
 
-/// A variable at so many bytes above the base.
+// A variable at so many bytes above the base.
 fn variable(declared: &Var, offset: Option<u16>) -> Variable
     ensures kind { result.ty ≡ declared.now.ty }
     ensures array { result.is_array ≡ is_some declared.now.len }

@@ -34,7 +34,7 @@ pub fn prepare(alloc: Global, unit: &Unit) -> Result<Program, AllocError>
     })
 }
 
-/// A function made ready to run.
+// A function made ready to run.
 fn procedure(
     alloc: Global,
     globals: &[Declared],
@@ -55,11 +55,12 @@ fn procedure(
         globals,
     };
     let context = Context {
+        alloc,
         names: &names,
         functions,
     };
     let mut code = Code::new(alloc);
-    let entry = body(alloc, &context, function, &mut code)?;
+    let entry = body(&context, function, &mut code)?;
     let Code { rows, labels } = code;
     Ok(Procedure {
         is_start: function.name.as_str() == "start",
@@ -72,14 +73,12 @@ fn procedure(
     })
 }
 
-/// Makes the points of a function. The answer is the point where its body begins.
-fn body(
-    alloc: Global,
-    context: &Context<'_>,
-    function: &Func,
-    code: &mut Code,
-) -> Result<usize, AllocError>
-    ensures { (tree : Tree) → IsContext context.now tree (function_of function.now) → code.old.rows.items ≡ [] → code.old.labels.items ≡ [] →
+// Makes the points of a function. The answer is the point where its body begins.
+fn body(context: &Context<'_>, function: &Func, code: &mut Code) -> Result<usize, AllocError>
+    ensures { (tree : Tree) →
+        IsContext context.now tree (function_of function.now) →
+        code.old.rows.items ≡ [] →
+        code.old.labels.items ≡ [] →
         IfOk result (IsBody tree (function_of function.now) code.new) }
 {
     let close = code.push(function.last, Action::Close)?;
@@ -88,17 +87,18 @@ fn body(
         on_break: None,
         on_continue: None,
     };
-    emit_lines(alloc, context, &function.body, behind, code)
+    emit_lines(context, &function.body, behind, code)
 }
 
-/// Adds the names of variables to the list.
+// Adds the names of variables to the list.
 fn declare(
     alloc: Global,
     declared: &[Var],
     variables: &[Variable],
     names: &mut Vec<Declared>,
 ) -> Result<(), AllocError>
-    ensures { OnOk result (map declared_of names.new.items ≡ map declared_of names.old.items ++ names_declared declared.now variables.now) }
+    ensures { OnOk result (map declared_of names.new.items
+        ≡ map declared_of names.old.items ++ names_declared declared.now variables.now) }
 {
     for i in 0..declared.len().min(variables.len()) {
         let name = declared_name(alloc, &declared[i], variables[i])?;
@@ -107,7 +107,7 @@ fn declare(
     Ok(())
 }
 
-/// The names of the global variables.
+// The names of the global variables.
 fn declared_globals(alloc: Global, globals: &[Global_]) -> Result<Vec<Declared>, AllocError>
     ensures { IfOk result (λ names. map declared_of names.items ≡ map declared_global (map global_of globals.now)) }
 {
@@ -123,7 +123,7 @@ fn declared_globals(alloc: Global, globals: &[Global_]) -> Result<Vec<Declared>,
     Ok(names)
 }
 
-/// The global variables.
+// The global variables.
 fn global_bindings(alloc: Global, globals: &[Global_]) -> Result<Vec<Binding>, AllocError>
     ensures { IfOk result (λ bindings. bindings_named (map declared_global (map global_of globals.now)) bindings.items
         ≡ map global_binding (map global_of globals.now)) }
@@ -139,7 +139,7 @@ fn global_bindings(alloc: Global, globals: &[Global_]) -> Result<Vec<Binding>, A
     Ok(bindings)
 }
 
-/// The name of a variable.
+// The name of a variable.
 fn declared_name(alloc: Global, declared: &Var, variable: Variable) -> Result<Declared, AllocError>
     ensures { IfOk result (λ d. declared_of d ≡ name_declared declared.now variable) }
 {

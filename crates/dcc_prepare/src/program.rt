@@ -30,7 +30,7 @@ pub enum Callee {
     Unknown,
 }
 
-/// A call, and the point behind it.
+/// A call, and the point after it.
 #[derive(Drop)]
 pub struct CallRow {
     /// The place of the result.
@@ -41,7 +41,7 @@ pub struct CallRow {
     pub arguments: Vec<Resolved>,
     /// The depth in force, in bytes.
     pub depth: u32,
-    /// The point behind the call.
+    /// The point after the call.
     pub next: usize,
 }
 

@@ -22,14 +22,14 @@ pub fn first_memory(alloc: Global, unit: &Unit, fill: u16) -> Result<Vec<u8>, Al
     Ok(memory)
 }
 
-/// The memory before global variables have their values.
+// The memory before global variables have their values.
 fn stack_memory(alloc: Global, lo: u16, hi: u16, fill: u16) -> Result<Vec<u8>, AllocError>
     ensures { IfOk result (λ memory. memory.items ≡ stack_memory lo hi fill) }
 {
     first_bytes(alloc, lo, hi, fill, 0x1_0000)
 }
 
-/// The first bytes of the memory before global variables have their values.
+// The first bytes of the memory before global variables have their values.
 fn first_bytes(alloc: Global, lo: u16, hi: u16, fill: u16, len: u32) -> Result<Vec<u8>, AllocError>
     ensures { IfOk result (λ bytes. bytes.items ≡ map (stack_byte lo hi fill) (range_with_len 0 len)) }
 {
@@ -42,7 +42,7 @@ fn first_bytes(alloc: Global, lo: u16, hi: u16, fill: u16, len: u32) -> Result<V
         .collect(alloc)
 }
 
-/// Puts the initial values of a global variable into memory.
+// Puts the initial values of a global variable into memory.
 fn put_values(global: &Global_, memory: &mut [u8])
     ensures { memory.new ≡ with_values global.now.ty global.now.at global.now.init.items memory.old }
 {

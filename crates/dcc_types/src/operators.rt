@@ -53,7 +53,7 @@ pub fn is_sum(operator: CBin) -> bool
     matches!(operator, CBin::Add | CBin::Sub)
 }
 
-/// The type of an operator on two numbers: a truth value, the promoted left type, or the common type.
+// The type of an operator on two numbers: a truth value, the promoted left type, or the common type.
 fn numbers_type(operator: CBin, a: Base, b: Base) -> Base
     ensures { result ≡ numbers_type operator a b }
 {
@@ -111,7 +111,7 @@ pub fn converts(from: CType, to: CType) -> bool
     !(from.pointer || to.pointer) || from == to
 }
 
-/// Whether the type is an int or an unsigned int after promotion.
+// Whether the type is an int or an unsigned int after promotion.
 fn is_word_base(base: Base) -> bool
     ensures { result ≡ is_word_base base }
 {

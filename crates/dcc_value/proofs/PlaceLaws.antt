@@ -9,23 +9,12 @@ use Rattle.dcc_c.specs.Token.{same_bytes}
 use Rattle.dcc_c.specs.Tree.{Word}
 use Rattle.dcc_c.specs.Typing.{Declared, declared_as}
 use Rattle.dcc_c.specs.Value.{Value, converted, Unplaced, Binding, is_placed, declared_by, variable_in, after_assignment}
+use Rattle.dcc_c.proofs.NameLaws.{same_bytes-equal}
 use Rattle.dcc_value.specs.declared.variable.Binding.{Binding as Bound}
 use Rattle.dcc_value.specs.Evaluation.{storage_of, binding_named, bindings_named}
 use Rattle.dcc_value.specs.declared.expression.Slot.{Slot}
 use Rattle.dcc_value.specs.declared.expression.Slot.TheVariants.{Local as InFrame, Global as InGlobals}
 use Rattle.dcc_value.specs.Resolved.{Names, all_names, index_named, slot_named, name_at, IsAlone}
-
-same_numbers : (x y : ℕ) → (x == y) ≡ true → x ≡ y
-same_numbers x y e = grind arith
-
--- two texts that are tested to be one
-pub same_words : (xs ys : List ℕ) → same_bytes xs ys ≡ true → xs ≡ ys
-same_words [] [] e = refl
-same_words [] (y ∷ ys) e = absurd cc
-same_words (x ∷ xs) [] e = absurd cc
-same_words (x ∷ xs) (y ∷ ys) e =
-    let (here, others) = and_parts (x == y) (same_bytes xs ys) e in
-    ap (λ z. z ∷ xs) (same_numbers x y here) ∙ ap (λ zs. y ∷ zs) (same_words xs ys others)
 
 heads : {A : Type 0} (x y : A) (xs ys : List A) → (x ∷ xs) ≡ (y ∷ ys) → x ≡ y
 heads x y xs ys e = cc
@@ -57,7 +46,7 @@ pub record Found (names : List Declared) (bs : List Bound) (word : Word) (i : �
 found_first : (d : Declared) (names : List Declared) (b : Bound) (bs : List Bound) (word : Word) → declared_by (binding_named d.name b) ≡ d →
     same_bytes d.name word ≡ true → Found (d ∷ names) (b ∷ bs) word 0
 found_first d names b bs word agrees same =
-    let name : d.name ≡ word = same_words d.name word same in
+    let name : d.name ≡ word = same_bytes-equal d.name word same in
     record {
       b = b;
       here = refl;
@@ -176,7 +165,7 @@ pub name_found : (names : List Declared) (word : Word) (i : ℕ) → index_named
 name_found [] word i e = absurd cc
 name_found (d ∷ names) word i e =
     elim (same_bytes d.name word) as (λ t. same_bytes d.name word ≡ t → (if t then Some 0 else option_map suc (index_named names word)) ≡ Some i → name_at (d ∷ names) i ≡ word) [
-      | true ↦ λ same at. ap (name_at (d ∷ names)) (sym (same_Some 0 i at)) ∙ same_words d.name word same
+      | true ↦ λ same at. ap (name_at (d ∷ names)) (sym (same_Some 0 i at)) ∙ same_bytes-equal d.name word same
       | false ↦ λ other at.
           let p = behind (index_named names word) i at in
           ap (name_at (d ∷ names)) (sym p.is) ∙ name_found names word p.j p.there

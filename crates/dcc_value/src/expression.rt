@@ -57,7 +57,7 @@ pub enum Target {
     Memory(CType, u32),
 }
 
-/// The variable at a place.
+// The variable at a place.
 fn slot_binding(scene: &Scene<'_>, slot: Slot) -> Result<Binding, NoValue>
     ensures { outcome_of unnamed result ≡ given (slot_in (scene_of scene.now) slot) }
 {
@@ -126,7 +126,7 @@ impl Resolved {
     }
 }
 
-/// Where an assignment to a variable goes.
+// Where an assignment to a variable goes.
 fn variable_target(slot: Slot, b: Binding) -> Result<Target, NoValue>
     ensures { outcome_of itself result ≡ slot_target slot (unnamed b) }
 {
@@ -140,7 +140,7 @@ fn variable_target(slot: Slot, b: Binding) -> Result<Target, NoValue>
     }
 }
 
-/// Where an assignment by a pointer goes.
+// Where an assignment by a pointer goes.
 fn pointed_target(v: Value) -> Result<Target, NoValue>
     ensures { outcome_of itself result ≡ address_target (typed v) }
 {
@@ -151,7 +151,7 @@ fn pointed_target(v: Value) -> Result<Target, NoValue>
     }
 }
 
-/// A variable that is kept by itself, after it has taken the value, converted to its type.
+// A variable that is kept by itself, after it has taken the value, converted to its type.
 fn with_value(b: Binding, v: Value) -> Binding
     ensures { (word : Word) → binding_named word result
         ≡ record (binding_named word b) { storage = Unplaced (converted b.ty (typed v)).bits } }
@@ -163,7 +163,7 @@ fn with_value(b: Binding, v: Value) -> Binding
     }
 }
 
-/// The variable of the call at this place takes the value, converted to its type.
+// The variable of the call at this place takes the value, converted to its type.
 fn assign(frame: &mut [Binding], i: usize, v: Value)
     ensures variables { (names : List Declared) (word : Word) → index_named names word ≡ Some i →
         bindings_named names frame.new ≡ after_assignment (bindings_named names frame.old) word (typed v) }

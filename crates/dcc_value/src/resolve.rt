@@ -16,7 +16,7 @@ use dcc_types::names::{type_of_address, type_of_name};
 use dcc_types::operators::{arms_type, binary_type, both_arms_type, unary_type};
 use std::alloc::{AllocError, Global};
 
-/// The place of the first with the name.
+// The place of the first with the name.
 fn index_named(names: &[Declared], name: &str) -> Option<usize>
     ensures { result ≡ index_named (map declared_of names.now) name.now }
 {
@@ -28,7 +28,7 @@ fn index_named(names: &[Declared], name: &str) -> Option<usize>
     None
 }
 
-/// The place of the variable with the name.
+// The place of the variable with the name.
 fn slot_named(names: &Names<'_>, name: &str) -> Option<Slot>
     ensures { result ≡ slot_named (names_of names.now) name.now }
 {
@@ -38,14 +38,14 @@ fn slot_named(names: &Names<'_>, name: &str) -> Option<Slot>
     }
 }
 
-/// The declaration at a place.
+// The declaration at a place.
 fn declared_at(declared: &[Declared], i: usize) -> Option<&Declared>
     ensures { option_map lent_declared result ≡ slice_get (map declared_of declared.now) i }
 {
     declared.get(i)
 }
 
-/// What the name is declared as.
+// What the name is declared as.
 fn declared_as<'a>(names: &Names<'a>, name: &str) -> Option<&'a Declared>
     ensures { option_map lent_declared result ≡ declared_as (all_names (names_of names.now)) name.now }
 {
@@ -93,7 +93,7 @@ fn type_of_arms(names: &Names<'_>, b: &CExpr, c: &CExpr) -> Option<CType>
     both_arms_type(type_of(names, b), type_of(names, c))
 }
 
-/// The value of a variable.
+// The value of a variable.
 fn resolve_name(names: &Names<'_>, name: &str) -> Resolved
     ensures { Stands (names_of names.now) (Name name.now) result }
 {
@@ -103,7 +103,7 @@ fn resolve_name(names: &Names<'_>, name: &str) -> Resolved
     }
 }
 
-/// `&` of an expression: only a variable has an address.
+// `&` of an expression: only a variable has an address.
 fn resolve_address(names: &Names<'_>, a: &CExpr) -> Resolved
     ensures { Stands (names_of names.now) (Unary AddressOf (expr_of a.now)) result }
 {
@@ -116,7 +116,7 @@ fn resolve_address(names: &Names<'_>, a: &CExpr) -> Resolved
     }
 }
 
-/// A binary operator on resolved operands.
+// A binary operator on resolved operands.
 fn resolve_binary(operator: CBin, left: Box<Resolved>, right: Box<Resolved>) -> Resolved
     ensures { (names : NamesOf) (a b : Expr) → Stands names a left.value → Stands names b right.value →
         Stands names (Binary operator a b) result }

@@ -10,6 +10,7 @@ use dcc_c::{Base, CBin, CType, CUn};
 pub mod memory;
 mod patterns;
 
+use memory::MEMORY;
 use patterns::{
     complement, difference, division_faults, is_less, negated, quotient, remainder, shifted_left,
     shifted_right,
@@ -43,7 +44,7 @@ pub fn number(base: Base, bits: u32) -> Value
     }
 }
 
-/// 0 or 1.
+// 0 or 1.
 fn truth(b: bool) -> Value
     ensures { typed result ≡ truth b }
 {
@@ -67,7 +68,7 @@ pub fn converted(ty: CType, v: Value) -> Value
     }
 }
 
-/// A unary operator on a number of a promoted type.
+// A unary operator on a number of a promoted type.
 fn unary_number(operator: CUn, base: Base, n: u32) -> Result<Value, NoValue>
     ensures { outcome_of typed result ≡ unary_number operator base n }
 {
@@ -90,7 +91,7 @@ pub fn unary_value(operator: CUn, v: Value) -> Result<Value, NoValue>
     unary_number(operator, base, v.ty.base.convert(base, v.bits))
 }
 
-/// The truth of a comparison of two numbers of one type.
+// The truth of a comparison of two numbers of one type.
 fn compared(operator: CBin, base: Base, a: u32, b: u32) -> Result<Value, NoValue>
     ensures { outcome_of typed result ≡ compared operator base a b }
 {
@@ -106,7 +107,7 @@ fn compared(operator: CBin, base: Base, a: u32, b: u32) -> Result<Value, NoValue
     Ok(truth(holds))
 }
 
-/// An operator on two numbers of one type.
+// An operator on two numbers of one type.
 fn binary_value(operator: CBin, base: Base, a: u32, b: u32) -> Result<Value, NoValue>
     requires { b < 2 ^ bits_of base }
     ensures { outcome_of typed result ≡ binary_value operator base a b }
@@ -126,7 +127,7 @@ fn binary_value(operator: CBin, base: Base, a: u32, b: u32) -> Result<Value, NoV
     Ok(number(base, bits))
 }
 
-/// An operator on two numbers: both are converted to their common type, but for a shift, whose left one is promoted.
+// An operator on two numbers: both are converted to their common type, but for a shift, whose left one is promoted.
 fn numbers_value(operator: CBin, a: Base, m: u32, b: Base, n: u32) -> Result<Value, NoValue>
     ensures { outcome_of typed result ≡ numbers_value operator a m b n }
 {
@@ -142,7 +143,7 @@ fn numbers_value(operator: CBin, a: Base, m: u32, b: Base, n: u32) -> Result<Val
     }
 }
 
-/// A pointer moved by so many elements, modulo 65536.
+// A pointer moved by so many elements, modulo 65536.
 fn moved(operator: CBin, ty: CType, at: u32, b: Base, n: u32) -> Result<Value, NoValue>
     ensures { outcome_of typed result ≡ moved operator ty at b n }
 {
@@ -154,7 +155,7 @@ fn moved(operator: CBin, ty: CType, at: u32, b: Base, n: u32) -> Result<Value, N
     let size = u64::from(CType::plain(ty.base).size());
     Ok(Value {
         ty,
-        bits: ((u64::from(at) + size * elements) % 65_536) as u32,
+        bits: ((u64::from(at) + size * elements) % MEMORY) as u32,
     })
 }
 

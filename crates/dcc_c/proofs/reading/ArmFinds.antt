@@ -45,7 +45,7 @@ one_case : (at place colon n : ℕ) (token : Token) (rest : List Placed) (p dept
     read_case (on (word at (codes "case") ∷ placed place token ∷ mark colon (codes ":") ∷ rest) p depth) ≡ got (record { value = n; at = suc p } ∷ []) (on rest (suc (suc (suc p))) depth)
 one_case at place colon n token rest p depth number = choice-some (case_number (Some token)) n _ _ (seen_case token n number)
 
--- a case and those behind it
+-- a case and those after it
 case_then : ℕ → Got (List NumberAt) → Got (List NumberAt)
 case_then calls first = got (first.value ++ (read_cases calls first.behind).value) (read_cases calls first.behind).behind
 
@@ -113,7 +113,7 @@ no_arm-complete around depth rest zero at enough few deep deep_last ends = absur
 no_arm-complete around depth rest (suc calls) at enough few deep deep_last ends =
     record { partial = no_cases; behind = at; same = refl; same_last = refl; is = if-false (begins_arm (on rest at depth)) _ _ (ends.no_arm_here at depth) }
 
--- an arm behind its head
+-- an arm after its head
 abbrev arm_behind : ℕ → Around → Got ArmHead → Got PartialLines → Got PartialArms
 arm_behind calls around head body =
     got (cases head.value.numbers head.value.default body.value (read_more_arms calls around body.behind).value) (read_more_arms calls around body.behind).behind

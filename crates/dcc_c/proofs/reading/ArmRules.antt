@@ -22,7 +22,7 @@ use Rattle.dcc_c.proofs.reading.StmtSound.{IsShallowArms, ReadsArms}
 
 -- Arms.
 
--- The reader passed the head of an arm: what the arm is, with its body and the arms behind it.
+-- The reader passed the head of an arm: what the arm is, with its body and the arms after it.
 pub record ReadsHead (around : Around) (r : Reader) (head : Got ArmHead) : Type 0 where
   pub steps : Steps 0 0 r head.behind
   pub shorter : length head.behind.left < length r.left
@@ -86,7 +86,7 @@ shallow_without (row stmt at number (row next place other rows)) shallow =
     let parts = and_parts _ _ (sym (list_all-append (shallow_stmt 200) (plain_stmt stmt ∷ inner_stmts (plain_stmt stmt)) (stmts_in (plain_lines (row next place other rows)))) ∙ shallow) in
     shallow_line (plain_stmt stmt) number (plain_lines (without_last (row next place other rows))) parts.0 (shallow_without (row next place other rows) parts.1)
 
--- an arm and those behind it
+-- an arm and those after it
 pub arm_then : (around : Around) (r : Reader) (head : Got ArmHead) (lines : Got Block) (others : Got PartialArms) → ReadsHead around r head →
     ReadsLines around false false head.behind lines → lines.value.leaves ≡ true → ReadsArms around lines.behind others →
     ReadsArms around r (got (cases head.value.numbers head.value.default (without_last lines.value.lines) others.value) others.behind)

@@ -82,7 +82,7 @@ case-sound r sees =
     })
     (λ _ going. absurd (fail-stops (skip r) going))
 
--- The reader passed cases, behind another one.
+-- The reader passed cases, after another one.
 record ReadsMoreCases (r : Reader) (g : Got (List NumberAt)) : Type 0 where
   steps : Steps 0 0 r g.behind
   steady : g.behind.depth ≡ r.depth

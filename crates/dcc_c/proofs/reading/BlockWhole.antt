@@ -58,7 +58,7 @@ none-entire =
       more_arms = λ around r enough going. (refl, refl);
     }
 
--- a statement, and those behind it
+-- a statement, and those after it
 row-entire : (blocks : ℕ) (stmt : PartialStmt) (at number : ℕ) (rows : PartialLines) → blocks ≤ 200 →
     (is_complete_stmt stmt ≡ true) × (is_within (suc blocks) stmt ≡ true) → AreEntire blocks rows → AreEntire blocks (row stmt at number rows)
 row-entire blocks stmt at number rows room first others =
@@ -176,7 +176,7 @@ module _ (calls : ℕ) (keep : KeepsStmts calls) (sound : SoundStmts calls) (ent
   lines_entire around labelled leaves r enough =
       if-cases (EntireLines around.blocks) (begins_stmt (next_token r)) (λ _. entire.line around labelled r (omega arith)) (λ _ going. (refl, refl))
 
-  -- a label, and what stands behind it
+  -- a label, and what stands after it
   label_entire : (around : Around) (r : Reader) (name : WordAt) (behind : Reader) → IsEnough calls 3 behind.left →
       EntireLines around.blocks (before_others (LabelOf name) r.at (line_of r.left) (read_lines calls around true false (stop_if_nested around r.at behind)))
   label_entire around r name behind enough =
@@ -186,7 +186,7 @@ module _ (calls : ℕ) (keep : KeepsStmts calls) (sound : SoundStmts calls) (ent
       (λ _ going. absurd (stop_at-stops of_depth r.at behind (keep.lines around true false stopped going)))
       (λ room going. row-entire around.blocks (LabelOf name) r.at (line_of r.left) (read_lines calls around true false behind).value.lines (ltb-false 200 around.blocks room) (refl, refl) (entire.lines around true false behind enough going))
 
-  -- a statement, and those behind it
+  -- a statement, and those after it
   one_stmt_entire : (around : Around) (leaves : Bool) (r : Reader) → IsEnough (suc calls) 2 r.left →
       EntireLines around.blocks (before_others (read_stmt calls around r).value r.at (line_of r.left) (read_lines calls around false leaves (stop_if_nested around r.at (read_stmt calls around r).behind)))
   one_stmt_entire around leaves r enough =
@@ -222,7 +222,7 @@ module _ (calls : ℕ) (keep : KeepsStmts calls) (sound : SoundStmts calls) (ent
   arms_entire around r enough =
       if-cases (EntireArms around.blocks) (begins_arm r) (λ _. entire.more_arms around r (omega arith)) (λ _ going. (refl, refl))
 
-  -- an arm with its body, and those behind it
+  -- an arm with its body, and those after it
   arm_entire : (around : Around) (r : Reader) (body : PartialLines) (others : Got PartialArms) → AreEntire around.blocks body → EntireArms around.blocks others →
       EntireArms around.blocks (got (cases (read_arm_head calls r).value.numbers (read_arm_head calls r).value.default body others.value) others.behind)
   arm_entire around r body others first more going =

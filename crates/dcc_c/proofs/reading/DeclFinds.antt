@@ -106,7 +106,7 @@ class_same array_local (Some n) is = refl
 class_same auto_local None is = refl
 class_same auto_local (Some n) is = refl
 
--- a declaration behind its class: the steps of reading it
+-- a declaration after its class: the steps of reading it
 abbrev size_step : Class → Option CType → Option WordAt → Got (Option NumberAt) → Got PartialVariable
 size_step class type name found =
     let end = take_mark (codes ";") found.behind in

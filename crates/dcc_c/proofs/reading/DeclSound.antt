@@ -133,7 +133,7 @@ pub record ReadsLocal (r : Reader) (g : Got PartialVariable) : Type 0 where
   pub shorter : length g.behind.left < length r.left
   pub derived : IsLocal (tokens_of r.left) (plain_variable g.value) (tokens_of g.behind.left)
 
--- a local variable behind the word for its class
+-- a local variable after the word for its class
 abbrev pub local_of : Class → Reader → Got PartialVariable
 local_of class here =
     let type = take_type here in

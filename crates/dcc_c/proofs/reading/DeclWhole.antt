@@ -103,7 +103,7 @@ star-keeps : (base : Base) (behind : Reader) → GoesOn behind (with_star base b
 star-keeps base behind =
     if-cases (λ (g : Got (Option CType)). GoesOn behind g.behind) (sees_mark (codes "*") behind) (λ _ going. going) (λ _ going. going)
 
--- the type behind its base
+-- the type after its base
 abbrev typed_by : Option Base → Reader → Got (Option CType)
 typed_by base behind = elim base [ Some b ↦ with_star b behind | None ↦ got None behind ]
 

@@ -9,7 +9,7 @@ use Rattle.dcc_c.specs.Tree.{Word, Expr}
 use Rattle.dcc_c.specs.Grammar.{is_name, mark, type_tokens, base_words, unary_mark, binary_mark, Begins, none, one, IsNumber, decimal, hex, IsExpr, number, name, parentheses, unary, cast, binary, conditional, stronger}
 use Rattle.dcc_c.specs.Rules.{most_open}
 use Rattle.dcc_c.specs.Reading.{begins_type}
-use Rattle.dcc_c.proofs.reading.Passing.{same_bytes-equal}
+use Rattle.dcc_c.proofs.NameLaws.{same_bytes-equal}
 use Rattle.dcc_c.proofs.reading.Enclosing.{open_behind, enclosed-behind}
 use Rattle.dcc_c.proofs.reading.Statements.{first_of}
 use Rattle.dcc_c.proofs.reading.ExprParts.{strength_most, unary_flat, binary_flat}

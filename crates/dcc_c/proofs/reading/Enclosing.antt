@@ -5,7 +5,7 @@ use Rattle.dcc_c.specs.Token.{Token, WordToken, Decimal, Hex, Mark, Pragma, same
 use Rattle.dcc_c.specs.Lexing.{Placed, placed}
 use Rattle.dcc_c.specs.Rules.{most_open}
 
--- how many parentheses are open behind the token
+-- how many parentheses are open after the token
 abbrev pub open_behind : Token → ℕ → ℕ
 open_behind (Mark mark) opened =
     if same_bytes mark (codes "(") then opened + 1 else if same_bytes mark (codes ")") then opened - 1 else opened
@@ -33,7 +33,7 @@ open_before opened [] = omega arith
 open_before opened (p ∷ tokens) =
     let same = most_open-cons p.token opened p.line tokens in omega (arith, same)
 
--- tokens keep to a limit where those behind the first one do
+-- tokens keep to a limit where those after the first one do
 pub enclosed-before : (token : Token) (opened line : ℕ) (tokens : List Placed) → opened ≤ 200 →
     most_open (open_behind token opened) tokens ≤ 200 → most_open opened (placed line token ∷ tokens) ≤ 200
 enclosed-before token opened line tokens few behind =

@@ -30,7 +30,7 @@ UnaryRead tokens e rest =
     (calls : ℕ) (inside : Inside) (at depth : ℕ) → IsEnoughFor calls 1 tokens → IsShallow inside tokens e →
     FindsExpr tokens e rest at depth (read_unary calls inside (on tokens at depth))
 
--- the operand was read, and what is left to be read behind it
+-- the operand was read, and what is left to be read after it
 pub record FindsOperand (least : ℕ) (inside : Inside) (tokens : List Placed) (e : Expr) (rest : List Placed) (at depth : ℕ) (g : Got PartialExpr) : Type 0 where
   pub partial : PartialExpr
   pub behind : ℕ
@@ -203,7 +203,7 @@ operand_of {least} {tokens} {rest} {e} less read (suc calls) inside place depth 
       is = ap (read_more calls inside least) found.is;
     }
 
--- behind an operand no operator follows that is strong enough
+-- after an operand no operator follows that is strong enough
 pub more_ends : (calls : ℕ) (inside : Inside) (least : ℕ) (left : Got PartialExpr) → IsWeaker least (next_token left.behind) → read_more calls inside least left ≡ left
 more_ends zero inside least left ends = refl
 more_ends (suc calls) inside least left ends =

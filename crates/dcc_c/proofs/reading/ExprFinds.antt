@@ -118,7 +118,7 @@ rest_ends : (calls : ℕ) (inside : Inside) (test : Got PartialExpr) → sees_ma
 rest_ends zero inside test none = refl
 rest_ends (suc calls) inside test none = if-false (sees_mark (codes "?") test.behind) _ _ none
 
--- operands and their operators, with nothing behind them, are an expression
+-- operands and their operators, with nothing after them, are an expression
 operands-complete : {tokens rest : List Placed} {e : Expr} → EndsExpr rest → BinaryRead 1 tokens e rest → ExprRead tokens e rest
 operands-complete ends read zero inside place depth enough fits = absurd (omega arith)
 operands-complete {tokens} {rest} {e} ends read (suc calls) inside place depth enough fits =

@@ -1,4 +1,4 @@
--- An expression that has been read is complete, where no parenthesis stands behind it.
+-- An expression that has been read is complete, where no parenthesis stands after it.
 use Rattle.std.proofs.Common.{◌≡◌, ℕ, zero, suc, ◌+◌, ◌≤◌, length, true, false, Option, Some, None, refl, ap, ◌∙◌, arith}
 use Rattle.std.specs.Prelude.{codes, nat_le, nat_lt, ◌||◌, is_some}
 use Rattle.std.proofs.lemmas.Bool.{and_from, not_from_false}

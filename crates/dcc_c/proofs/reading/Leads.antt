@@ -9,7 +9,7 @@ use Rattle.dcc_c.specs.Rules.{most_open}
 use Rattle.dcc_c.proofs.reading.Enclosing.{open_behind}
 use Rattle.dcc_c.proofs.reading.Derivations.{shorter, flat_behind, opening_behind, closing_behind, expr-enclosed}
 
--- The tokens lead to others, at least so many fewer, with so many parentheses open before and behind.
+-- The tokens lead to others, at least so many fewer, with so many parentheses open before and after.
 pub record Leads (least opened after : ℕ) (tokens rest : List Placed) : Type 0 where
   pub less : length rest + least ≤ length tokens
   pub enclosed : most_open opened tokens ≤ 200 → most_open after rest ≤ 200

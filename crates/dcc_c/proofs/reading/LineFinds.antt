@@ -23,7 +23,7 @@ use Rattle.dcc_c.proofs.reading.PartsComplete.{take_name-is}
 use Rattle.dcc_c.proofs.reading.SimpleComplete.{FindsStmt}
 use Rattle.dcc_c.proofs.reading.LineComplete.{name_begins, stmt_begins, stmt_no_head, stmt_no_label}
 
--- rows, and others behind them
+-- rows, and others after them
 abbrev pub joined_rows : PartialLines → PartialLines → PartialLines
 joined_rows no_rows others = others
 joined_rows (row stmt at number rows) others = row stmt at number (joined_rows rows others)

@@ -1,4 +1,4 @@
--- Statements one after the other: what is read of a depth line, a label, a statement and those behind it.
+-- Statements one after the other: what is read of a depth line, a label, a statement and those after it.
 use Rattle.std.proofs.Common.{◌≡◌, ℕ, ◌≤◌, ◌<◌, length, List, ◌∷◌, Bool, true, false, Option, Some, None, refl, sym, ap, ◌∙◌, subst, arith}
 use Rattle.std.specs.Prelude.{codes, not, ◌&&◌}
 use Rattle.std.specs.List.{list_all}

@@ -16,7 +16,7 @@ use Rattle.dcc_c.proofs.reading.TextComplete.{complete_text}
 use Rattle.dcc_c.proofs.reading.TextLaws.{allowed_shallow}
 use Rattle.dcc_c.proofs.reading.TextWhole.{complete_reading}
 
--- The tokens behind the version line stand for the tree: so says the grammar, and the rules on depth, names, types and
+-- The tokens after the version line stand for the tree: so says the grammar, and the rules on depth, names, types and
 -- places.
 pub record AreUnit (tokens : List Placed) (tree : Tree) : Type 0 where
   pub formed : IsUnit 200 (with_version tokens) tree

@@ -137,14 +137,14 @@ pub record FindsArguments (es : List Expr) (rest : List Placed) (depth : ℕ) (g
   pub same : map plain_expr partials ≡ es
   pub is : g ≡ got partials (on rest behind depth)
 
--- an argument and those behind it
+-- an argument and those after it
 abbrev some_arguments : ℕ → Reader → Got (List PartialExpr)
 some_arguments calls r =
     let first = read_enclosed calls r in
     let others = more_arguments calls first.behind in
     got (first.value ∷ others.value) others.behind
 
--- what is read of them, behind the first one
+-- what is read of them, after the first one
 abbrev behind_first : ℕ → Got PartialExpr → Got (List PartialExpr)
 behind_first calls first = got (first.value ∷ (more_arguments calls first.behind).value) (more_arguments calls first.behind).behind
 

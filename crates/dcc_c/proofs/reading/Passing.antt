@@ -1,12 +1,13 @@
 -- What a reader passes: tokens, each of which the reader took.
 use Rattle.std.proofs.Common.{◌≡◌, ℕ, suc, ◌+◌, ◌≤◌, Bool, true, false, ◌&&◌, is_some, if◌then◌else◌, List, [], ◌∷◌, length, drop, map, Option, Some, None, refl, ap, ◌∙◌, arith}
 use Rattle.std.proofs.lemmas.Bool.{and_parts, eqb-true}
-use Rattle.dcc_c.specs.Token.{Token, WordToken, Mark, same_bytes}
+use Rattle.dcc_c.specs.Token.{Token, WordToken, Mark}
 use Rattle.dcc_c.specs.Lexing.{Placed, placed}
 use Rattle.dcc_c.specs.Kinds.{Kind, Offence, offence}
 use Rattle.dcc_c.specs.Pieces.{Piece, piece}
 use Rattle.dcc_c.specs.Tree.{Word}
 use Rattle.dcc_c.specs.Reading.{Reader, first_token, line_of, next_token, skip, stop_at, stop_kind, fail, is_the_mark, is_the_word, sees_mark, sees_word, take_mark, take_word}
+use Rattle.dcc_c.proofs.NameLaws.{same_bytes-equal}
 
 -- the tokens of some pieces, each in its line; a piece without a token is left out
 abbrev pub tokens_of : List Piece → List Placed
@@ -87,16 +88,6 @@ skip-took_at (p ∷ pieces) at None depth token is =
 -- the reader passes the token that it sees
 pub skip-took : (r : Reader) (token : Token) → next_token r ≡ Some token → Took token r (skip r)
 skip-took r token is = skip-took_at r.left r.at r.stop r.depth token is
-
-pub same_bytes-equal : (xs ys : List ℕ) → same_bytes xs ys ≡ true → xs ≡ ys
-same_bytes-equal [] [] same = refl
-same_bytes-equal [] (y ∷ ys) same = absurd cc
-same_bytes-equal (x ∷ xs) [] same = absurd cc
-same_bytes-equal (x ∷ xs) (y ∷ ys) same =
-    let parts = and_parts _ (same_bytes xs ys) same in
-    let head : x ≡ y = eqb-true x y parts.0 in
-    let tail : xs ≡ ys = same_bytes-equal xs ys parts.1 in
-    rw (head, tail)
 
 pub the_mark-is : (bytes : Word) (token : Option Token) → is_the_mark bytes token ≡ true → token ≡ Some (Mark bytes)
 the_mark-is bytes (Some (Mark mark)) same = ap (λ m. Some (Mark m)) (same_bytes-equal mark bytes same)

@@ -78,7 +78,7 @@ place_no_call : {equals : ℕ} {tokens right rest : List Placed} {e : Expr} → 
 place_no_call (name_place bytes good) same at depth = and_right _ _ (ap (λ ts. is_the_mark (codes "(") (first_of ts)) same)
 place_no_call (deref_place a) same at depth = refl
 
--- what takes a value at the place, behind the place
+-- what takes a value at the place, after the place
 assigned-is : {equals : ℕ} {tokens right : List Placed} {place : Expr} → IsPlace tokens place (mark equals (codes "=") ∷ right) → (calls at depth : ℕ) (p : PartialExpr) (behind : ℕ) →
     read_place calls (on tokens at depth) ≡ got p (on (mark equals (codes "=") ∷ right) behind depth) →
     read_simple calls (on tokens at depth) ≡ read_assigned calls (got p (on (mark equals (codes "=") ∷ right) behind depth))

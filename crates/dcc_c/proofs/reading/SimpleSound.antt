@@ -44,7 +44,7 @@ steady_stmt {around} {r} {g} steps steady shorter derived shallow =
 
 -- Calls.
 
--- The reader passed a call, and the semicolon behind it.
+-- The reader passed a call, and the semicolon after it.
 pub record ReadsCall (place : Option PartialExpr) (r : Reader) (g : Got PartialStmt) : Type 0 where
   pub steps : Steps 0 0 r g.behind
   pub steady : g.behind.depth ≡ r.depth
@@ -59,7 +59,7 @@ pub record ReadsCall (place : Option PartialExpr) (r : Reader) (g : Got PartialS
 abbrev SoundCall : Option PartialExpr → Reader → Got PartialStmt → Type 0
 SoundCall place r g = g.behind.stop ≡ None → ReadsCall place r g
 
--- an opening parenthesis stands behind the name
+-- an opening parenthesis stands after the name
 abbrev OpensBehind : Reader → Type 0
 OpensBehind r = r.stop ≡ None → sees_mark (codes "(") r ≡ true
 

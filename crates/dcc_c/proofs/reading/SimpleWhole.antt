@@ -21,7 +21,7 @@ use Rattle.dcc_c.proofs.reading.StmtParts.{place-sound}
 use Rattle.dcc_c.proofs.reading.StmtKinds.{last_stmts, return_stmts, goto_stmts, leave_stmts, semicolon_stmts}
 use Rattle.dcc_c.proofs.reading.ExprWhole.{NoCall, mark-no_call, taken-no_call, expr-entire, unary-entire}
 
--- A reader that goes on has read what it stands behind to its end.
+-- A reader that goes on has read what it stands after to its end.
 pub going-done : (r : Reader) → r.stop ≡ None → not (is_stopped r) ≡ true
 going-done r going = ap (λ stop. not (is_some stop)) going
 
@@ -58,7 +58,7 @@ place-entire calls r enough =
 abbrev EntireList : Got (List PartialExpr) → Type 0
 EntireList g = list_all is_complete_expr g.value ≡ true
 
--- of those behind the first one, before which no parenthesis stands either
+-- of those after the first one, before which no parenthesis stands either
 more_arguments-entire : (calls : ℕ) (r : Reader) → IsEnough calls 0 r.left → (more_arguments calls r).behind.stop ≡ None → NoCall (more_arguments calls r).behind →
     NoCall r × EntireList (more_arguments calls r)
 more_arguments-entire zero r enough = λ going ends. (ends, refl)

@@ -18,7 +18,7 @@ use Rattle.dcc_c.specs.Stripped.{plain_expr, plain_text}
 use Rattle.dcc_c.proofs.reading.Passing.{tokens_of, are_tokens, pieces_with, Passed}
 
 -- So many calls are enough for a rule at these pieces: sixteen for each piece, and what the rule itself takes. These are
--- 1 for a unary part, 2 for operands and their operators, 3 for an expression and 4 for what stands behind a parenthesis.
+-- 1 for a unary part, 2 for operands and their operators, 3 for an expression and 4 for what stands after a parenthesis.
 abbrev pub IsEnough : ℕ → ℕ → List Piece → Type 0
 IsEnough calls rule pieces = 16 * length pieces + rule ≤ calls
 
@@ -110,11 +110,11 @@ CompleteUnary =
 abbrev pub is_shallow : Function → Bool
 is_shallow f = list_all (shallow_stmt 200) (stmts_in f.body)
 
--- the tokens of a text: the version line, which is the first, and those behind it
+-- the tokens of a text: the version line, which is the first, and those after it
 abbrev pub with_version : List Placed → List Placed
 with_version tokens = placed 1 (Pragma version_line) ∷ tokens
 
--- The grammar and the limits of depth say that the tokens behind the version line stand for the tree.
+-- The grammar and the limits of depth say that the tokens after the version line stand for the tree.
 pub record IsText (tokens : List Placed) (tree : Tree) : Type 0 where
   pub formed : IsUnit 200 (with_version tokens) tree
   pub enclosed : most_open 0 (with_version tokens) ≤ 200

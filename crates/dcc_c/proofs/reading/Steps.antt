@@ -15,7 +15,7 @@ use Rattle.dcc_c.proofs.reading.Statements.{ReadsExpr}
 use Rattle.dcc_c.proofs.reading.Stopping.{choice-cases}
 use Rattle.dcc_c.proofs.reading.ExprParts.{opening_enclosed, closing_enclosed}
 
--- the reader went from one place to another, with so many parentheses open before and behind
+-- the reader went from one place to another, with so many parentheses open before and after
 pub record Steps (opened after : ℕ) (r behind : Reader) : Type 0 where
   pub passed : Passed r behind
   pub enclosed : most_open after (tokens_of behind.left) ≤ 200 → most_open opened (tokens_of r.left) ≤ 200

@@ -91,7 +91,7 @@ are_shallow es = list_all (λ e. nat_le (expr_depth e) 200) es
 pub shallow_before : (e : Expr) (es : List Expr) → expr_depth e ≤ 200 → are_shallow es ≡ true → are_shallow (e ∷ es) ≡ true
 shallow_before e es deep others = rw (le-leb (expr_depth e) 200 deep) others
 
--- The reader passed arguments behind the first one.
+-- The reader passed arguments after the first one.
 pub record ReadsMore (r : Reader) (g : Got (List PartialExpr)) : Type 0 where
   pub steps : Steps 1 1 r g.behind
   pub steady : g.behind.depth ≡ r.depth
@@ -138,7 +138,7 @@ arguments-sound calls r enough =
       deep = shallow_before (plain_expr first.value) (map plain_expr (more_arguments calls first.behind).value) (omega (arith, read.shallow)) others.deep;
     })
 
--- The reader passed a value, and the mark behind it.
+-- The reader passed a value, and the mark after it.
 pub record ReadsValue (bytes : List ℕ) (r : Reader) (e : Got PartialExpr) : Type 0 where
   pub steps : Steps 0 0 r (take_mark bytes e.behind)
   pub steady : (take_mark bytes e.behind).depth ≡ r.depth

@@ -30,7 +30,7 @@ pub record ReadsBlock (around : Around) (r : Reader) (g : Got PartialLines) : Ty
 abbrev pub SoundBlock : Around → Reader → Got PartialLines → Type 0
 SoundBlock around r g = g.behind.stop ≡ None → ReadsBlock around r g
 
--- The reader passed a block behind another start, where the depth of calls is the same.
+-- The reader passed a block after another start, where the depth of calls is the same.
 pub block_from : {around : Around} {depth : ℕ} {r : Reader} {g : Got PartialLines} → r.depth ≡ depth → ReadsBlock around r g →
     IsBlock 200 around depth (tokens_of r.left) (plain_lines g.value) g.behind.depth (tokens_of g.behind.left)
 block_from {around} {depth} {r} {g} steady read =

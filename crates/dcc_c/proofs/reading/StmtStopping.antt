@@ -68,7 +68,7 @@ call_of-keeps calls place function r going =
     let arguments = read_arguments calls (skip r) in
     arguments-keeps calls (skip r) (mark-keeps (codes ")") arguments.behind (mark-keeps (codes ";") (take_mark (codes ")") arguments.behind) going))
 
--- the call, behind what was read of its name
+-- the call, after what was read of its name
 abbrev pub call_named : ℕ → Option PartialExpr → Option WordAt → Reader → Got PartialStmt
 call_named calls place name behind = elim name [ Some function ↦ call_of calls place function behind | None ↦ got EmptyOf behind ]
 
@@ -240,7 +240,7 @@ module _ (calls : ℕ) (keep : KeepsStmts calls) where
   one_more-keeps =
       record { stmt = stmt-keeps; otherwise = if-keeps; block = block-keeps; lines = lines-keeps; line = line-keeps; arms = arms-keeps; more_arms = more_arms-keeps }
 
--- reading that goes on behind statements has gone on before
+-- reading that goes on after statements has gone on before
 pub keeps_stmts : (calls : ℕ) → KeepsStmts calls
 keeps_stmts zero = none-keep
 keeps_stmts (suc calls) = one_more-keeps calls (keeps_stmts calls)

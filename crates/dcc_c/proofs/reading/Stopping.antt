@@ -1,4 +1,4 @@
--- Reading that has stopped stays so: where it goes on behind an expression, it went on before.
+-- Reading that has stopped stays so: where it goes on after an expression, it went on before.
 use Rattle.std.proofs.Common.{◌≡◌, ℕ, zero, suc, ◌+◌, Option, Some, None, Bool, true, false, refl, ap}
 use Rattle.std.specs.Prelude.{codes, if◌then◌else◌, nat_le, nat_lt, ◌||◌}
 use Rattle.dcc_c.specs.declared.syntax.CType.{CType}
@@ -9,7 +9,7 @@ use Rattle.dcc_c.specs.Reading.{Reader, Got, is_stopped, next_token, skip, stop_
 use Rattle.dcc_c.proofs.reading.Passing.{if-cases, stop_at-stops, fail-stops, take_mark-took}
 use Rattle.dcc_c.proofs.reading.Words.{type-sound}
 
--- reading that goes on behind has gone on before
+-- reading that goes on after has gone on before
 abbrev pub GoesOn : Reader → Reader → Type 0
 GoesOn r behind = behind.stop ≡ None → r.stop ≡ None
 
@@ -143,7 +143,7 @@ module _ (calls : ℕ) (keep : KeepsStop calls) where
   one_more-keeps =
       record { unary = unary-keeps; parentheses = parentheses-keeps; cast = cast-keeps; binary = binary-keeps; more = more-keeps; expr = expr-keeps; rest = rest-keeps }
 
--- reading that goes on behind an expression has gone on before
+-- reading that goes on after an expression has gone on before
 pub keeps_stop : (calls : ℕ) → KeepsStop calls
 keeps_stop zero = none-keep
 keeps_stop (suc calls) = one_more-keeps calls (keeps_stop calls)

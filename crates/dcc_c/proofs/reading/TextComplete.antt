@@ -22,7 +22,7 @@ use Rattle.dcc_c.proofs.reading.DeclLeads.{size_leads, initial_leads, global_lea
 use Rattle.dcc_c.proofs.reading.TextFinds.{begun-complete, function_begun}
 use Rattle.dcc_c.proofs.reading.UnitFinds.{functions-complete, functions_no_head, type_no_head, type_here, initial_no_mark, size_no_open, global-complete}
 
--- What stands behind place lines, where a beginning was read.
+-- What stands after place lines, where a beginning was read.
 abbrev global_then : ℕ → ℕ → Got PartialVariable → Got Declared
 global_then calls here v = before_declared v.value (read_declared calls (Some (here + size_in_bytes v.value)) v.behind)
 
@@ -133,7 +133,7 @@ length_with : (tokens : List Placed) → length (pieces_with tokens) ≡ length 
 length_with [] = refl
 length_with (p ∷ tokens) = ap suc (length_with tokens)
 
--- the steps of reading a text behind its stack line
+-- the steps of reading a text after its stack line
 abbrev text_step : Option NumberAt → Option NumberAt → Got Declared → Got PartialText
 text_step lo hi others = got (record { lo = lo; hi = hi; globals = others.value.globals; functions = others.value.functions }) others.behind
 

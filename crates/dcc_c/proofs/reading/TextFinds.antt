@@ -11,7 +11,7 @@ use Rattle.dcc_c.specs.Rules.{most_open}
 use Rattle.dcc_c.specs.Partial.{no_rows, PartialVariable, PartialFunction}
 use Rattle.dcc_c.specs.Reading.{Reader, Got, got, is_stopped, line_of, is_the_word, sees_word, take_mark, take_name, begins_type}
 use Rattle.dcc_c.specs.ReadingStatements.{begins_stmt, Block, block_of, read_lines}
-use Rattle.dcc_c.specs.ReadingText.{Begun, begun_by, read_begun, read_body, read_function}
+use Rattle.dcc_c.specs.ReadingText.{head_with, Begun, begun_by, read_begun, read_body, read_function}
 use Rattle.dcc_c.specs.Stripped.{plain_variable, plain_lines, plain_function}
 use Rattle.dcc_c.proofs.reading.Statements.{IsEnoughFor, on, first_of, is_shallow}
 use Rattle.dcc_c.proofs.reading.Stopping.{if-false}
@@ -83,24 +83,7 @@ body_no_local {last} {body} {rest} derived = by (lines_begin derived)
     by (inl begins) = stmt_no_local (first_of body) begins
     by (inr same) = ap (λ ts. is_the_word (codes "auto") (first_of ts) || begins_type (first_of ts)) same
 
--- the steps of reading a function behind its name
-abbrev params_step : Got Begun → Reader → Got (List PartialVariable) → Got PartialFunction
-params_step begun inside params =
-    let end = take_mark (codes ")") params.behind in
-    got (record {
-      at = begun.value.at;
-      has_result = begun.value.has_result;
-      result = begun.value.result;
-      name = begun.value.name;
-      opened = if is_stopped inside then None else Some inside.at;
-      without_params = sees_word (codes "void") inside;
-      params = params.value;
-      headed = not (is_stopped end);
-      locals = [];
-      body = no_rows;
-      last = 0;
-    }) end
-
+-- the steps of reading a function after its head
 abbrev lines_step : PartialFunction → List PartialVariable → Got Block → Got PartialFunction
 lines_step head locals body =
     got (record head { locals = locals; body = body.value.lines; last = line_of body.behind.left }) (take_mark (codes "}") body.behind)
@@ -136,7 +119,7 @@ function-complete f tokens rest is calls at depth enough few deep =
     let less_locals : length is.locals < length tokens = (let l = params_leads is.params_are in omega (arith, l.less, less)) in
     let less_body : length is.body < length tokens = (let l = locals_leads is.locals_are in omega (arith, l.less, less_locals)) in
     let p = params-complete is.params_are calls (suc b.behind) depth (omega (arith, less)) in
-    let head_at : Got PartialFunction = params_step (got (record { at = b.at; has_result = b.has_result; result = f.result; name = Some (record { word = f.name; at = b.name_at }) }) (on (mark is.open_at (codes "(") ∷ is.params) b.behind depth)) (on is.params (suc b.behind) depth) (got p.partials (on (mark is.close_at (codes ")") ∷ mark is.brace_at (codes "{") ∷ is.locals) p.behind depth)) in
+    let head_at : Got PartialFunction = head_with (got (record { at = b.at; has_result = b.has_result; result = f.result; name = Some (record { word = f.name; at = b.name_at }) }) (on (mark is.open_at (codes "(") ∷ is.params) b.behind depth)) (on is.params (suc b.behind) depth) (got p.partials (on (mark is.close_at (codes ")") ∷ mark is.brace_at (codes "{") ∷ is.locals) p.behind depth)) in
     let l = locals-complete is.locals_are (body_no_local is.body_is) calls (suc (suc p.behind)) 2 (omega (arith, less_locals)) in
     let s = lines_complete is.body_is calls l.behind false (omega (arith, less_body)) (before.enclosed few) deep refl in
     let closing = on (mark f.last (codes "}") ∷ rest) s.behind is.depth in
@@ -146,7 +129,7 @@ function-complete f tokens rest is calls at depth enough few deep =
       depth = is.depth;
       same = function_path f (map plain_variable p.partials) (map plain_variable l.partials) (plain_lines s.partial) p.same l.same s.same;
       is = ap (read_function calls) b.is
-          ∙ (ap (λ (ps : Got (List PartialVariable)). read_body calls (params_step (got (record { at = b.at; has_result = b.has_result; result = f.result; name = Some (record { word = f.name; at = b.name_at }) }) (on (mark is.open_at (codes "(") ∷ is.params) b.behind depth)) (on is.params (suc b.behind) depth) ps)) p.is
+          ∙ (ap (λ (ps : Got (List PartialVariable)). read_body calls (head_with (got (record { at = b.at; has_result = b.has_result; result = f.result; name = Some (record { word = f.name; at = b.name_at }) }) (on (mark is.open_at (codes "(") ∷ is.params) b.behind depth)) (on is.params (suc b.behind) depth) ps)) p.is
           ∙ (ap (locals_step calls head_at.value) l.is
           ∙ (ap (lines_step head_at.value l.partials) (s.is ∙ ap (rows_before s.partial) (brace_ends s.calls outermost s.leaves f.last s.behind is.depth rest s.enough))
           ∙ ap (λ rows. lines_step head_at.value l.partials (got (block_of rows s.leaves) closing)) (joined_none s.partial))));

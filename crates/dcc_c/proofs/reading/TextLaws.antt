@@ -52,7 +52,7 @@ pub allowed_shallow : {tree : Tree} {functions : List Function} → AreAllowed t
 allowed_shallow no_more = refl
 allowed_shallow (one_more is others) = and_from _ _ is.depth (allowed_shallow others)
 
--- A text that stands for a tree has the version line first, and tokens behind it that are the tree's.
+-- A text that stands for a tree has the version line first, and tokens after it that are the tree's.
 pub record StandsAsText (tokens : List Placed) (tree : Tree) : Type 0 where
   pub others : List Placed
   pub same : tokens ≡ with_version others

@@ -37,7 +37,7 @@ pub record ReadsBegun (r : Reader) (g : Got Begun) : Type 0 where
   pub typed : g.value.has_result ≡ true → Begins (tokens_of r.left) (type_tokens (plain_type g.value.result)) (word name_at (plain_name g.value.name) ∷ tokens_of g.behind.left)
       × (g.value.result ≡ Some (plain_type g.value.result))
 
--- a name behind a result
+-- a name after a result
 named : (r between : Reader) (at : ℕ) (has_result : Bool) (found : Option CType) → Steps 0 0 r between → between.depth ≡ r.depth → length between.left < length r.left →
     TookName between (take_name between) → HasResult (tokens_of r.left) found (tokens_of between.left) →
     (has_result ≡ true → Begins (tokens_of r.left) (type_tokens (plain_type found)) (tokens_of between.left) × (found ≡ Some (plain_type found))) →
@@ -124,7 +124,7 @@ function-sound calls r begun begins enough going =
       shallow = lines.shallow;
     }
 
--- What was read behind a function, up to the end of the text: there are only tokens, no parenthesis is one too many, and
+-- What was read after a function, up to the end of the text: there are only tokens, no parenthesis is one too many, and
 -- all are functions.
 pub record ReadsRest (r : Reader) (g : Got (List PartialFunction)) : Type 0 where
   pub going : r.stop ≡ None
@@ -165,7 +165,7 @@ ends_here r going ends =
       | inr none ↦ nothing_left r.left (eqb-true (length r.left) 0 none)
     ]
 
--- a function and what was read behind it
+-- a function and what was read after it
 joined_functions : (r : Reader) (first : Got PartialFunction) (others : Got (List PartialFunction)) → ReadsFunction r first → ReadsRest first.behind others →
     ReadsRest r (got (first.value ∷ others.value) others.behind)
 joined_functions r first others read more =

@@ -91,7 +91,7 @@ with-entire calls r enough going =
       some = not-empty first.value (read_functions calls first.behind).value;
     }
 
--- a variable, and what is declared behind it
+-- a variable, and what is declared after it
 before-entire : (v : PartialVariable) (others : Got Declared) → is_complete_variable v ≡ true → EntireDeclared others.value → EntireDeclared (before_declared v others).value
 before-entire v others first more =
     record { globals = and_from _ _ first more.globals; functions = more.functions; some = more.some }

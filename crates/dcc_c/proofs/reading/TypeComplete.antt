@@ -17,7 +17,7 @@ pub record FindsType (tokens : List Placed) (type : CType) (rest : List Placed) 
   pub is : take_type (on tokens at depth) ≡ got (Some type) (on rest behind depth)
   pub begins : begins_type (first_of tokens) ≡ true
 
--- the star or none behind a base
+-- the star or none after a base
 star-complete : (base : Base) (pointer : Bool) (tokens rest : List Placed) (at depth : ℕ) →
     Begins tokens (if pointer then Mark (codes "*") ∷ [] else []) rest → is_the_mark (codes "*") (first_of rest) ≡ false →
     (behind : ℕ) × (behind + length rest ≡ at + length tokens) × (with_star base (on tokens at depth) ≡ got (Some (record { base = base; pointer = pointer })) (on rest behind depth))

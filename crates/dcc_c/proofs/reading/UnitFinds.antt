@@ -113,7 +113,7 @@ pub size_no_open : {tokens rest : List Placed} {len : Option ℕ} → HasSize to
 size_no_open no_size ends = ends
 size_no_open size ends = refl
 
--- the steps of reading a global variable behind its name
+-- the steps of reading a global variable after its name
 abbrev init_step : ℕ → Got Begun → Option NumberAt → Got (List NumberAt) → Got PartialVariable
 init_step address begun found init =
     let end = take_mark (codes ";") init.behind in

@@ -133,7 +133,7 @@ place_then address r between value others took read line more =
       ends = more.ends;
     }
 
--- what stands behind place lines, at an address or at none
+-- what stands after place lines, at an address or at none
 abbrev pub here_declared : ℕ → Option ℕ → Reader → Got Declared
 here_declared calls address r = elim address [
   | Some here ↦ if (read_begun r).value.has_result && not (sees_mark (codes "(") (read_begun r).behind)

@@ -3,7 +3,7 @@ use Rattle.std.proofs.Common.{◌≡◌, true, false, List, [], ◌∷◌, ◌++
 use Rattle.std.specs.Prelude.{if◌then◌else◌}
 use Rattle.dcc_c.specs.Kinds.{Offence, is_before, earlier, first_behind, first_of}
 
--- the first of offences behind others
+-- the first of offences after others
 pub first-append : (first : Option Offence) (xs ys : List Offence) → first_behind first (xs ++ ys) ≡ first_behind (first_behind first xs) ys
 first-append first [] ys = refl
 first-append first (x ∷ xs) ys = first-append (earlier first x) xs ys

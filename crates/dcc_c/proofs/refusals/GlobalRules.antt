@@ -129,7 +129,7 @@ record Placed (lo hi : ℕ) (v : PartialVariable) : Type 0 where
   pub allowed : allows_global (plain_global v) ≡ true
   pub off : is_off_stack lo hi (plain_global v) ≡ true
 
--- A variable that is read to its end, and at which nothing offends, behind earlier ones.
+-- A variable that is read to its end, and at which nothing offends, after earlier ones.
 own-placed : (lo hi : ℕ) (earlier : List PartialVariable) (v : PartialVariable) → Complete v → size_offences v.size ≡ [] → surplus v ≡ [] →
     (if v.done && is_misplaced lo hi earlier v then misplaced_at v.name else []) ≡ [] → Placed lo hi v × (list_all (stand_apart v) earlier ≡ true)
 own-placed lo hi earlier v c size init place =

@@ -32,7 +32,7 @@ module _ {A : Type 0} (same : A → A → Bool) (symmetric : (a b : A) → same 
   fresh known [] = true
   fresh known (x ∷ xs) = not (list_any (same x) known) && fresh (x ∷ known) xs
 
-  -- no member stands again behind it
+  -- no member stands again after it
   abbrev pub apart : List A → Bool
   apart [] = true
   apart (x ∷ xs) = not (list_any (same x) xs) && apart xs

@@ -16,7 +16,7 @@ use Rattle.dcc_c.specs.Known.{Known, known_dos, known_as, known_functions}
 use Rattle.dcc_c.specs.TextOffences.{declared_of, scene_of, known_in}
 use Rattle.dcc_c.specs.Stripped.{plain_name, plain_type, plain_variable, plain_global, plain_function, plain_text}
 use Rattle.dcc_c.specs.Complete.{is_complete_variable, is_complete_function}
-use Rattle.dcc_c.proofs.WrittenRows.{same_bytes-true}
+use Rattle.dcc_c.proofs.NameLaws.{same_bytes-equal}
 use Rattle.dcc_c.proofs.refusals.ExprRules.{and-both, true-false, or-left, or-right}
 use Rattle.dcc_c.proofs.refusals.ListRules.{none_among, not-true-false, bytes-symmetric}
 use Rattle.dcc_c.proofs.refusals.BodyRules.{IsScene, Knows}
@@ -134,7 +134,7 @@ module _ (text : PartialText) (globals : list_all is_complete_variable text.glob
   apart-words ys (x ∷ xs) word none there =
       let parts = and-both (not (is_among ys x)) (none_among ys xs) none in
       elim (same_bytes word x) as (λ b. same_bytes word x ≡ b → b || is_among xs word ≡ false) [
-        | true ↦ λ here. absurd (true-false (sym there ∙ ap (is_among ys) (same_bytes-true word x here) ∙ not-true-false (is_among ys x) parts.0))
+        | true ↦ λ here. absurd (true-false (sym there ∙ ap (is_among ys) (same_bytes-equal word x here) ∙ not-true-false (is_among ys x) parts.0))
         | false ↦ λ _. apart-words ys xs word parts.1 there
       ] refl
 

@@ -16,7 +16,7 @@ use Rattle.dcc_c.specs.Offences.{repeated}
 use Rattle.dcc_c.specs.TextOffences.{name_list, words_of, function_names, stack_offences, number_or_zero, globals_places, not_named_start, start_offences, known_in, function_offences, functions_offences, text_offences}
 use Rattle.dcc_c.specs.Stripped.{plain_name, plain_number, plain_lines, plain_variable, plain_global, plain_function, plain_text}
 use Rattle.dcc_c.specs.Complete.{is_complete_variable, is_complete_function, is_complete_text}
-use Rattle.dcc_c.proofs.WrittenRows.{same_bytes-true}
+use Rattle.dcc_c.proofs.NameLaws.{same_bytes-equal}
 use Rattle.dcc_c.proofs.refusals.ExprRules.{none-both, none-only, both-empty, and-both}
 use Rattle.dcc_c.proofs.refusals.StmtRules.{not-true}
 use Rattle.dcc_c.proofs.refusals.ListRules.{none_among, repeated-apart, apart-repeated, not-true-false}
@@ -97,7 +97,7 @@ is-start f functions c none =
     let two = none-both (not_named_start f.name) (only_if (not f.without_params) (offence of_name c.opened)) one.1 in
     let named = none-only (not (same_bytes c.name.word (codes "start"))) (offence of_name c.name.at) (ap not_named_start (sym c.name_is) ∙ two.0) in
     record {
-      name = ap plain_name c.name_is ∙ same_bytes-true c.name.word (codes "start") (not-true (same_bytes c.name.word (codes "start")) named);
+      name = ap plain_name c.name_is ∙ same_bytes-equal c.name.word (codes "start") (not-true (same_bytes c.name.word (codes "start")) named);
       params = empty-of f.params (sym c.without ∙ not-true f.without_params (none-only (not f.without_params) (offence of_name c.opened) two.1));
       result = none-there f.result (sym c.has_result ∙ none-only f.has_result (offence of_name f.at) one.0);
     }

@@ -8,7 +8,7 @@ use Rattle.dcc_c.specs.Token.{same_bytes}
 use Rattle.dcc_c.specs.Tree.{Word}
 use Rattle.dcc_c.specs.Grammar.{is_among}
 use Rattle.dcc_c.specs.Rules.{all_differ}
-use Rattle.dcc_c.proofs.WrittenRows.{same_bytes-true}
+use Rattle.dcc_c.proofs.NameLaws.{same_bytes-equal}
 use Rattle.dcc_c.proofs.refusals.ExprRules.{and-both, or-left, or-right}
 use Rattle.dcc_c.proofs.refusals.ListRules.{bytes-symmetric, not-true-false}
 use Rattle.dcc_c.proofs.refusals.LabelRules.{times, SameWords}
@@ -50,7 +50,7 @@ differ-once (x ∷ xs) e word =
     let parts = and-both (not (is_among xs x)) (all_differ xs) e in
     elim (same_bytes x word) as (λ b. same_bytes x word ≡ b → (if b then suc (times word xs) else times word xs) ≤ 1) [
       | true ↦ λ here. let none = absent-times xs x (not-true-false (is_among xs x) parts.0) in
-          let same : times word xs ≡ 0 = ap (λ w. times w xs) (sym (same_bytes-true x word here)) ∙ none in omega (arith, same)
+          let same : times word xs ≡ 0 = ap (λ w. times w xs) (sym (same_bytes-equal x word here)) ∙ none in omega (arith, same)
       | false ↦ λ _. differ-once xs parts.1 word
     ] refl
 

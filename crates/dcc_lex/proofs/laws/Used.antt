@@ -12,7 +12,7 @@ use Rattle.dcc_c.specs.Lexing.{Placed}
 use Rattle.dcc_c.specs.Tree.{Word, Expr, Stmt, Lines, Arms}
 use Rattle.dcc_c.specs.Grammar.{keywords, is_among, is_name, base_words, type_tokens, Begins, none, one, IsNumber, decimal, hex, IsExpr, number, name, parentheses, unary, cast, binary, conditional, stronger, IsPlace, name_place, deref_place, AreArguments, no_argument, last_argument, more_arguments, IsCall, call, Around, IsCaseNumber, plain_decimal, unsigned_decimal, plain_hex, unsigned_hex, AreCases, last_case, more_cases, IsStmt, assign, call_alone, call_into, if_alone, if_else, while, do_while, for_ever, switch, break, continue, goto, empty, return_nothing, return_value, IsBlock, block, AreLines, no_more, depth_pragma, label, statement, AreArms, no_arm, case_arm, default_arm}
 use Rattle.dcc_c.specs.Pieces.{unused_keywords}
-use Rattle.dcc_c.proofs.reading.Passing.{same_bytes-equal}
+use Rattle.dcc_c.proofs.NameLaws.{same_bytes-equal}
 use Rattle.dcc_lex.proofs.laws.Words.{is_used}
 
 -- each of the tokens may stand behind the version line

@@ -7,7 +7,8 @@ use Rattle.std.proofs.lemmas.Bool.{and_parts, and_from, or_left, or_cases, and_r
 use Rattle.dcc_c.specs.Token.{Token, WordToken, Decimal, Hex, Mark, Pragma, Suffix, plain_number, unsigned_suffix, long_suffix, unsigned_long_suffix, suffix_bytes, is_between, is_digit, is_letter, is_word, is_word_byte, hex_from, same_bytes, Spells, ends_before, version_line}
 use Rattle.dcc_c.specs.Grammar.{is_among}
 use Rattle.dcc_c.specs.Pieces.{behind_while, behind, unused_keywords, suffix_of, decimal_from, decimal_of, is_hex_digit, hex_of, number_of, token_of_word}
-use Rattle.dcc_c.proofs.reading.Passing.{if-cases, option-cases, same_bytes-equal}
+use Rattle.dcc_c.proofs.NameLaws.{same_bytes-equal}
+use Rattle.dcc_c.proofs.reading.Passing.{if-cases, option-cases}
 use Rattle.dcc_lex.proofs.laws.Runs.{ends_run, run_of, behind-is}
 
 -- a word or a number

@@ -9,14 +9,17 @@ ghost use Rattle.dcc_value.specs.Evaluation.{typed};
 use super::Value;
 use dcc_c::CType;
 
+/// How many bytes a memory has.
+pub const MEMORY: u64 = 65_536;
+
 /// The byte at an address.
 pub fn byte_at(memory: &[u8], at: u64) -> u8
     ensures { result ≡ byte_at memory.now at }
 {
-    memory.get((at % 65_536) as usize).copied().unwrap_or(0)
+    memory.get((at % MEMORY) as usize).copied().unwrap_or(0)
 }
 
-/// The number in two bytes.
+// The number in two bytes.
 fn word_at(memory: &[u8], at: u64) -> u32
     requires { at < 2 ^ 33 }
     ensures value { result ≡ load 2 memory.now at }
@@ -25,7 +28,7 @@ fn word_at(memory: &[u8], at: u64) -> u32
     u32::from(byte_at(memory, at)) + 256 * u32::from(byte_at(memory, at + 1))
 }
 
-/// The number in as many bytes as a value of the type takes.
+// The number in as many bytes as a value of the type takes.
 fn bits_at(memory: &[u8], ty: CType, at: u32) -> u32
     ensures { result ≡ load (size_of ty) memory.now at }
 {
@@ -47,11 +50,11 @@ pub fn loaded(memory: &[u8], ty: CType, at: u32) -> Value
     }
 }
 
-/// Puts a byte at an address.
+// Puts a byte at an address.
 fn put_byte(memory: &mut [u8], at: u64, byte: u8)
     ensures { memory.new ≡ slice_set memory.old (at % 65536) byte }
 {
-    let i = (at % 65_536) as usize;
+    let i = (at % MEMORY) as usize;
     if i < memory.len() {
         memory[i] = byte;
     }

@@ -27,7 +27,7 @@ pub fn difference(base: Base, a: u32, b: u32) -> u32
     base.wrapped((u64::from(a) + base.modulus()).saturating_sub(u64::from(b)))
 }
 
-/// The number without its sign.
+// The number without its sign.
 fn magnitude(base: Base, n: u32) -> u32
     ensures value { result ≡ magnitude base n }
     ensures some { 0 < n → n < 2 ^ bits_of base → 0 < result }
@@ -39,14 +39,14 @@ fn magnitude(base: Base, n: u32) -> u32
     }
 }
 
-/// The magnitude with a sign.
+// The magnitude with a sign.
 fn with_sign(negative: bool, base: Base, n: u32) -> u32
     ensures { result ≡ with_sign negative base n }
 {
     if negative { negated(base, n) } else { n }
 }
 
-/// Whether both numbers are below 0, or neither is.
+// Whether both numbers are below 0, or neither is.
 fn same_sign(base: Base, a: u32, b: u32) -> bool
     ensures { result ≡ same_sign base a b }
 {
@@ -91,7 +91,7 @@ pub fn remainder(base: Base, a: u32, b: u32) -> u32
     )
 }
 
-/// The place of the number among those of its type, from the least on.
+// The place of the number among those of its type, from the least on.
 fn rank(base: Base, n: u32) -> u32
     ensures { result ≡ rank base n }
 {
@@ -109,7 +109,7 @@ pub fn is_less(base: Base, a: u32, b: u32) -> bool
     rank(base, a) < rank(base, b)
 }
 
-/// Whether a count of another type shifts all bits out.
+// Whether a count of another type shifts all bits out.
 fn is_past(base: Base, of_count: Base, count: u32) -> bool
     ensures value { result ≡ is_past base of_count count }
     ensures within { result ≡ false → count < 32 }
@@ -128,7 +128,7 @@ pub fn shifted_left(base: Base, n: u32, of_count: Base, count: u32) -> u32
     }
 }
 
-/// The bits moved down, with 0 coming in.
+// The bits moved down, with 0 coming in.
 fn moved_down(base: Base, n: u32, of_count: Base, count: u32) -> u32
     ensures { result ≡ (if is_past base of_count count then 0 else n / 2 ^ count) }
 {

@@ -28,7 +28,7 @@ default_takes-returns-in-Some t c =
     ∙ sym (arm-parts c.in-Some.arm no_arms)
     ∙ ap arms_if (sym c.in-Some.is))
 
--- the arm at this place, before those behind it
+-- the arm at this place, before those after it
 arm_step : (name : Word) (arms : List Arm) (i : ℕ) (a : Arm) (b : Bool) → i < length arms → a ≡ get_or arms i a →
     lines_take name (lines_of (out-Arm a).body.items) ≡ b →
     arms_take name (arms_of (drop i arms)) ≡ (b || arms_take name (arms_of (drop (i + 1) arms)))

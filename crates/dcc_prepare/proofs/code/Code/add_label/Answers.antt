@@ -2,7 +2,8 @@ use Rattle.std.proofs.Common.{◌≡◌, List, length, Some, refl, sym, ap, ◌�
 use Rattle.dcc_c.specs.Token.{same_bytes}
 use Rattle.dcc_prepare.specs.declared.program.Label.{Label}
 use Rattle.dcc_prepare.specs.Points.{label_named, point_named}
-use Rattle.dcc_prepare.proofs.LabelLaws.{same_self, label_named-new, numbers-push, points-push}
+use Rattle.dcc_c.proofs.NameLaws.{same_bytes-refl}
+use Rattle.dcc_prepare.proofs.LabelLaws.{label_named-new, numbers-push, points-push}
 use Rattle.dcc_prepare.proofs.code.Code.add_label.Goals as goal
 
 pub returns-clause-number : goal.returns-clause-number
@@ -11,7 +12,7 @@ returns-clause-number c none =
     let name = c.args.name.now in
     let len : c.len-number.result ≡ length ls = omega (arith, c.args.self.now.labels.ok.0, c.len-number.ensures) in
     ap (λ (l : List Label). label_named l name) c.in_ok-push.ensures.items
-    ∙ label_named-new ls _ name none (ap (λ n. same_bytes n name) c.in_ok-name.ensures.ok ∙ same_self name)
+    ∙ label_named-new ls _ name none (ap (λ n. same_bytes n name) c.in_ok-name.ensures.ok ∙ same_bytes-refl name)
     ∙ ap Some (sym len)
 
 pub returns-clause-numbers : goal.returns-clause-numbers

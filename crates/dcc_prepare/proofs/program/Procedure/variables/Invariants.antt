@@ -8,7 +8,7 @@ invariant-loop-i l =
     l.variables.items ++ params_holding l.base (drop l.i l.self.params.items) (drop l.i l.arguments)
     ≡ params_holding l.base l.self.params.items l.arguments
 
--- the local variables so far are behind the parameters
+-- the local variables so far are after the parameters
 abbrev pub invariant-loop-local : goal.invariant-loop-local
 invariant-loop-local l =
     l.variables.items
