@@ -1,6 +1,6 @@
 //! The points of a function while they are made.
 
-ghost use Rattle.std.specs.Prelude.{◌≡◌, ◌++◌, ◌∷◌, [], length, map, option_map, string_bytes, Option, Some, None, IfOk, OnOk, slice_set, if◌then◌else◌};
+ghost use Rattle.std.specs.Prelude.{◌≡◌, ℕ, ◌++◌, ◌∷◌, [], length, map, option_map, string_bytes, Option, Some, None, IfOk, OnOk, slice_set, if◌then◌else◌};
 ghost use Rattle.dcc_c.specs.Token.{same_bytes};
 ghost use Rattle.dcc_c.specs.Tree.{Word};
 ghost use Rattle.dcc_c.specs.Views.{expr_of};
@@ -73,6 +73,8 @@ impl Code {
     /// The number of the label with the name, which may be a new one.
     pub fn label(&mut self, alloc: Global, name: &str) -> Result<usize, AllocError>
         ensures number { IfOk result (λ number. label_named self.new.labels.items name.now ≡ Some number) }
+        ensures known { (number : ℕ) → label_named self.old.labels.items name.now ≡ Some number →
+            self.new.labels ≡ self.old.labels }
         ensures numbers { KeepNumbers self.old.labels.items self.new.labels.items }
         ensures points { (word : Word) →
             point_named self.new.labels.items word ≡ point_named self.old.labels.items word }
