@@ -120,7 +120,13 @@ impl<'p> PlainRun<'p> {
         ensures fill { self.new.fill ≡ self.old.fill }
     {
         for i in 0..stmts.len() {
-            if let Stmt::Call(results, entry, arguments, depth) = &stmts[i] {
+            if let Stmt::Call {
+                results,
+                entry,
+                arguments,
+                depth,
+            } = &stmts[i]
+            {
                 let values = self.values(alloc, arguments)?;
                 self.running.rest = &stmts[i + 1..];
                 self.running.begins = false;

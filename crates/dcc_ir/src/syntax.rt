@@ -50,23 +50,52 @@ pub enum BinOp {
 /// An expression: a number of as many bits as its width.
 #[derive(Drop)]
 pub enum Expr {
-    /// A width and a number.
-    Const(u8, u32),
+    Const {
+        width: u8,
+        number: u32,
+    },
     Get(Loc),
     /// A load of so many bits from an address, low byte first.
-    Load(u8, Box<Expr>),
-    /// An operator, the width of its operand, and the operand.
-    Un(UnOp, u8, Box<Expr>),
-    /// An operator, the width of its operands, and the operands.
-    Bin(BinOp, u8, Box<Expr>, Box<Expr>),
-    /// The operand at a greater width, extended by its sign where the flag is set, else by zeros.
-    Widen(bool, u8, Box<Expr>),
-    /// So many bits of the operand, from that bit on.
-    Part(u8, u8, Box<Expr>),
-    /// The upper and the lower half of a number.
-    Join(Box<Expr>, Box<Expr>),
-    /// The second operand where the first is 1, else the third.
-    Choose(Box<Expr>, Box<Expr>, Box<Expr>),
+    Load {
+        width: u8,
+        address: Box<Expr>,
+    },
+    /// An operator on an operand of that width.
+    Un {
+        operator: UnOp,
+        width: u8,
+        operand: Box<Expr>,
+    },
+    /// An operator on two operands of that width.
+    Bin {
+        operator: BinOp,
+        width: u8,
+        left: Box<Expr>,
+        right: Box<Expr>,
+    },
+    /// The operand at a greater width, extended by its sign or by zeros.
+    Widen {
+        by_sign: bool,
+        width: u8,
+        operand: Box<Expr>,
+    },
+    /// So many bits of the operand, from the first of them on.
+    Part {
+        width: u8,
+        first: u8,
+        operand: Box<Expr>,
+    },
+    /// The number of which these are the halves.
+    Join {
+        high: Box<Expr>,
+        low: Box<Expr>,
+    },
+    /// The one value where the test is 1, else the other.
+    Choose {
+        test: Box<Expr>,
+        one: Box<Expr>,
+        other: Box<Expr>,
+    },
     /// The address at that distance from the base of the frame, 16 bits.
     Address(u16),
 }
@@ -74,29 +103,54 @@ pub enum Expr {
 /// A statement.
 #[derive(Drop)]
 pub enum Stmt {
-    /// The location takes the value.
-    Set(Loc, Expr),
-    /// The location takes so many bits from the address.
-    Load(Loc, u8, Expr),
-    /// So many bits, the address where they are stored, and the value.
-    Store(u8, Expr, Expr),
-    /// The location takes the value of a division, which ends the run where it faults.
-    Div(Loc, Expr),
-    /// The places of the results, the entry of the called graph, the arguments, and by how many bytes the
-    /// callee's base lies below the caller's.
-    Call(Vec<Loc>, u16, Vec<Expr>, u16),
-    /// The DOS call of that number, the place that takes its byte, and its argument.
-    Dos(u8, Option<Loc>, Option<Expr>),
+    /// The place takes the value.
+    Set {
+        place: Loc,
+        value: Expr,
+    },
+    /// The place takes so many bits from the address.
+    Load {
+        place: Loc,
+        width: u8,
+        address: Expr,
+    },
+    /// So many bits of the value are stored at the address.
+    Store {
+        width: u8,
+        address: Expr,
+        value: Expr,
+    },
+    /// The place takes the value of a division, which ends the run where it faults.
+    Div {
+        place: Loc,
+        division: Expr,
+    },
+    Call {
+        /// The places that take the results.
+        results: Vec<Loc>,
+        /// The entry of the called graph.
+        entry: u16,
+        arguments: Vec<Expr>,
+        /// By how many bytes the callee's base lies below the caller's.
+        depth: u16,
+    },
+    Dos {
+        /// One of `dcc_num::dos`.
+        number: u8,
+        /// The place that takes the byte of the call.
+        place: Option<Loc>,
+        argument: Option<Expr>,
+    },
 }
 
 /// How a block ends. A block is named by its place in the graph.
 #[derive(Drop)]
 pub enum End {
     Goto(u32),
-    /// The first block where the test is 1, else the second.
-    If(Expr, u32, u32),
+    /// The one block where the test is 1, else the other.
+    If { test: Expr, one: u32, other: u32 },
     /// The block at the value's place in the list.
-    Switch(Expr, Vec<u32>),
+    Switch { value: Expr, blocks: Vec<u32> },
     /// A return with these values.
     Ret(Vec<Expr>),
     /// No run comes here.
@@ -149,7 +203,7 @@ pub struct Graph {
 #[derive(Drop)]
 pub struct IrProgram {
     pub graphs: Vec<Graph>,
-    /// The bytes of the memory at the start, from address 0 on; behind them stand zeros.
+    /// The bytes of the memory at the start, from address 0 on; above them are zeros.
     pub image: Vec<u8>,
     /// The lowest address of the stack.
     pub lo: u16,

@@ -9,7 +9,7 @@ ghost use Rattle.dcc_lift.specs.Writing.{written};
 use crate::expression::{Maker, flag, half, result_place};
 use crate::writer::Writer;
 use dcc_ir::{BinOp, Expr, Loc, Stmt};
-use dcc_num::{FlagName, Half, Reg, Width};
+use dcc_num::{FlagName, Half, Reg, Width, dos};
 use dcc_prog::{Cond, Op};
 use std::alloc::{AllocError, Global};
 
@@ -104,14 +104,20 @@ impl Writer {
         ensures { OnOk result (written self.new ≡ written self.old ++ spec.dos_stmts number) }
     {
         let al = Loc::Half(Reg::Ax, Half::Low);
-        let stmt = match number {
-            Some(0x02) => Stmt::Dos(0x02, None, Some(half(Reg::Dx, Half::Low))),
-            Some(0x4C) => Stmt::Dos(0x4C, None, Some(Expr::Get(al))),
-            Some(0x01) => Stmt::Dos(0x01, Some(al), None),
-            Some(0x08) => Stmt::Dos(0x08, Some(al), None),
+        let Some(number) = number else {
+            return Ok(());
+        };
+        let (place, argument) = match number {
+            dos::PUTC => (None, Some(half(Reg::Dx, Half::Low))),
+            dos::EXIT => (None, Some(Expr::Get(al))),
+            dos::GETCHE | dos::GETCH => (Some(al), None),
             _ => return Ok(()),
         };
-        self.stmts.push(stmt)?;
+        self.stmts.push(Stmt::Dos {
+            number,
+            place,
+            argument,
+        })?;
         Ok(())
     }
 }

@@ -68,7 +68,10 @@ pub fn product_place(w: Width) -> Loc
 pub fn bit(n: bool) -> Expr
     ensures { expr_of result ≡ spec.bit (from_bool n) }
 {
-    Expr::Const(1, u32::from(n))
+    Expr::Const {
+        width: 1,
+        number: u32::from(n),
+    }
 }
 
 /// The value of a flag.
@@ -97,30 +100,47 @@ impl Maker {
     pub fn unary(self, operator: UnOp, width: u8, a: Expr) -> Result<Expr, AllocError>
         ensures { IfOk result (λ e. expr_of e ≡ tree.Unary operator width (expr_of a)) }
     {
-        Ok(Expr::Un(operator, width, Box::new(self.alloc, a)?))
+        Ok(Expr::Un {
+            operator,
+            width,
+            operand: Box::new(self.alloc, a)?,
+        })
     }
 
     /// An operator on two operands of so many bits.
     pub fn binary(self, operator: BinOp, width: u8, a: Expr, b: Expr) -> Result<Expr, AllocError>
         ensures { IfOk result (λ e. expr_of e ≡ tree.Binary operator width (expr_of a) (expr_of b)) }
     {
-        let a = Box::new(self.alloc, a)?;
-        let b = Box::new(self.alloc, b)?;
-        Ok(Expr::Bin(operator, width, a, b))
+        let left = Box::new(self.alloc, a)?;
+        let right = Box::new(self.alloc, b)?;
+        Ok(Expr::Bin {
+            operator,
+            width,
+            left,
+            right,
+        })
     }
 
     /// The operand at a greater width, by its sign where the flag is set.
     pub fn widen(self, signed: bool, width: u8, a: Expr) -> Result<Expr, AllocError>
         ensures { IfOk result (λ e. expr_of e ≡ tree.Widen signed width (expr_of a)) }
     {
-        Ok(Expr::Widen(signed, width, Box::new(self.alloc, a)?))
+        Ok(Expr::Widen {
+            by_sign: signed,
+            width,
+            operand: Box::new(self.alloc, a)?,
+        })
     }
 
     /// So many bits of the operand, from that bit on.
     pub fn part(self, width: u8, first: u8, a: Expr) -> Result<Expr, AllocError>
         ensures { IfOk result (λ e. expr_of e ≡ tree.Part width first (expr_of a)) }
     {
-        Ok(Expr::Part(width, first, Box::new(self.alloc, a)?))
+        Ok(Expr::Part {
+            width,
+            first,
+            operand: Box::new(self.alloc, a)?,
+        })
     }
 
     /// The upper and the lower half of a number.
@@ -129,7 +149,7 @@ impl Maker {
     {
         let high = Box::new(self.alloc, high)?;
         let low = Box::new(self.alloc, low)?;
-        Ok(Expr::Join(high, low))
+        Ok(Expr::Join { high, low })
     }
 
     /// The one expression where the test is 1, else the other.
@@ -137,9 +157,9 @@ impl Maker {
         ensures { IfOk result (λ e. expr_of e ≡ tree.Choose (expr_of test) (expr_of a) (expr_of b)) }
     {
         let test = Box::new(self.alloc, test)?;
-        let a = Box::new(self.alloc, a)?;
-        let b = Box::new(self.alloc, b)?;
-        Ok(Expr::Choose(test, a, b))
+        let one = Box::new(self.alloc, a)?;
+        let other = Box::new(self.alloc, b)?;
+        Ok(Expr::Choose { test, one, other })
     }
 
     /// The left operand.
@@ -188,7 +208,10 @@ impl Maker {
     pub fn number(self, n: u32) -> Expr
         ensures { expr_of result ≡ spec.number self.w n }
     {
-        Expr::Const(bits(self.w), n)
+        Expr::Const {
+            width: bits(self.w),
+            number: n,
+        }
     }
 
     /// The negation of one bit.

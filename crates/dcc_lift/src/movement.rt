@@ -22,8 +22,14 @@ impl Writer {
                 self.set(Loc::Half(r, Half::High), half(q, Half::High))
             }
             (Operand::Word(r), Operand::Const(_, constant)) => {
-                let low = Expr::Const(8, u32::from(constant % 256));
-                let high = Expr::Const(8, u32::from(constant / 256));
+                let low = Expr::Const {
+                    width: 8,
+                    number: u32::from(constant % 256),
+                };
+                let high = Expr::Const {
+                    width: 8,
+                    number: u32::from(constant / 256),
+                };
                 self.set(Loc::Half(r, Half::Low), low)?;
                 self.set(Loc::Half(r, Half::High), high)
             }

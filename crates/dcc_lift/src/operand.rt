@@ -37,8 +37,16 @@ impl Maker {
         match operand {
             Operand::Word(r) => self.word_of(r),
             Operand::Byte(r, part) => Ok(half(r, part)),
-            Operand::Const(width, constant) => { Ok(Expr::Const(bits(width), u32::from(constant))) }
-            Operand::Seg(_) | Operand::Mem(..) => Ok(Expr::Const(16, 0)),
+            Operand::Const(width, constant) => {
+                Ok(Expr::Const {
+                    width: bits(width),
+                    number: u32::from(constant),
+                })
+            }
+            Operand::Seg(_) | Operand::Mem(..) => Ok(Expr::Const {
+                width: 16,
+                number: 0,
+            }),
         }
     }
 

@@ -66,7 +66,11 @@ impl<'a> Outline<'a> {
     {
         match successors {
             [target, next] => match test {
-                Some(test) => End::If(test, self.place(*target), self.place(*next)),
+                Some(test) => End::If {
+                    test,
+                    one: self.place(*target),
+                    other: self.place(*next),
+                },
                 None => End::Stop,
             },
             [next] => End::Goto(self.place(*next)),

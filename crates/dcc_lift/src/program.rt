@@ -39,8 +39,14 @@ impl Writer {
         ensures { OnOk result (written self.new ≡ written self.old ++ spec.register_starting regs.now r) }
     {
         let word = regs[r as usize];
-        let low = Expr::Const(8, u32::from(word % 256));
-        let high = Expr::Const(8, u32::from(word / 256));
+        let low = Expr::Const {
+            width: 8,
+            number: u32::from(word % 256),
+        };
+        let high = Expr::Const {
+            width: 8,
+            number: u32::from(word / 256),
+        };
         self.set(Loc::Half(r, Half::Low), low)?;
         self.set(Loc::Half(r, Half::High), high)
     }

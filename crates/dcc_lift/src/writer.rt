@@ -45,7 +45,10 @@ impl Writer {
     pub fn set(&mut self, at: Loc, e: Expr) -> Result<(), AllocError>
         ensures { OnOk result (written self.new ≡ written self.old ++ tree.Set at (expr_of e) ∷ []) }
     {
-        self.stmts.push(Stmt::Set(at, e))?;
+        self.stmts.push(Stmt::Set {
+            place: at,
+            value: e,
+        })?;
         Ok(())
     }
 

@@ -36,15 +36,23 @@ fn bits_in(e: &Expr) -> u8
     ensures { result ≡ spec.bits_in (inner_of e.now) }
 {
     match e {
-        Expr::Const(width, _)
-        | Expr::Load(width, _)
-        | Expr::Widen(_, width, _)
-        | Expr::Part(width, _, _) => *width,
+        Expr::Const { width, .. }
+        | Expr::Load { width, .. }
+        | Expr::Widen { width, .. }
+        | Expr::Part { width, .. } => *width,
         Expr::Get(location) => location_width(*location),
-        Expr::Un(operator, width, _) => { if is_test(*operator) { 1 } else { *width } }
-        Expr::Bin(operator, width, _, _) => { if is_comparison(*operator) { 1 } else { *width } }
-        Expr::Join(_, low) => { if bits_in(low) == 8 { 16 } else { 32 } }
-        Expr::Choose(_, a, _) => bits_in(a),
+        Expr::Un {
+            operator,
+            width,
+            ..
+        } => { if is_test(*operator) { 1 } else { *width } }
+        Expr::Bin {
+            operator,
+            width,
+            ..
+        } => { if is_comparison(*operator) { 1 } else { *width } }
+        Expr::Join { low, .. } => { if bits_in(low) == 8 { 16 } else { 32 } }
+        Expr::Choose { one, .. } => bits_in(one),
         Expr::Address(_) => 16,
     }
 }
@@ -263,30 +271,47 @@ pub fn text_expr(alloc: Global, e: &Expr) -> Result<CExpr, AllocError>
     ensures { IfOk result (λ r. expr_of r ≡ spec.text_expr (inner_of e.now)) }
 {
     match e {
-        Expr::Const(width, n) => Ok(CExpr::Num(*n, constant_type(*width))),
+        Expr::Const { width, number } => Ok(CExpr::Num(*number, constant_type(*width))),
         Expr::Get(location) => place_of(alloc, *location),
-        Expr::Un(operator, width, a) => unary_expr(alloc, *operator, *width, text_expr(alloc, a)?),
-        Expr::Bin(operator, width, a, b) => {
-            let left = text_expr(alloc, a)?;
-            let right = text_expr(alloc, b)?;
+        Expr::Un {
+            operator,
+            width,
+            operand: a,
+        } => unary_expr(alloc, *operator, *width, text_expr(alloc, a)?),
+        Expr::Bin {
+            operator,
+            width,
+            left,
+            right,
+        } => {
+            let left = text_expr(alloc, left)?;
+            let right = text_expr(alloc, right)?;
             binary_expr(alloc, *operator, *width, left, right)
         }
-        Expr::Widen(signed, width, a) => {
+        Expr::Widen {
+            by_sign,
+            width,
+            operand: a,
+        } => {
             let inner = text_expr(alloc, a)?;
-            widened(alloc, *signed, bits_in(a), *width, inner)
+            widened(alloc, *by_sign, bits_in(a), *width, inner)
         }
-        Expr::Part(width, first, a) => part(alloc, *width, *first, text_expr(alloc, a)?),
-        Expr::Join(high, low) => {
+        Expr::Part {
+            width,
+            first,
+            operand: a,
+        } => part(alloc, *width, *first, text_expr(alloc, a)?),
+        Expr::Join { high, low } => {
             let upper = text_expr(alloc, high)?;
             let lower = text_expr(alloc, low)?;
             joined(alloc, bits_in(low), upper, lower)
         }
-        Expr::Choose(test, a, b) => {
+        Expr::Choose { test, one, other } => {
             let test = text_expr(alloc, test)?;
-            let first = text_expr(alloc, a)?;
-            let second = text_expr(alloc, b)?;
+            let first = text_expr(alloc, one)?;
+            let second = text_expr(alloc, other)?;
             conditional(alloc, test, first, second)
         }
-        Expr::Load(..) | Expr::Address(_) => Ok(small(0)),
+        Expr::Load { .. } | Expr::Address(_) => Ok(small(0)),
     }
 }

@@ -12,7 +12,7 @@ use crate::goto_expr::text_expr;
 use crate::variables::{place_of, variables};
 use dcc_c::{Base, CBin, CExpr, CStmt, Func, Line, Unit};
 use dcc_ir::{Block, End, Expr, Graph, IrProgram, Loc, Stmt};
-use dcc_num::FlagName;
+use dcc_num::{FlagName, dos};
 use std::alloc::{AllocError, Global};
 
 /// The depth of calls, in bytes, that is in force where no pragma stands.
@@ -70,9 +70,9 @@ fn dos_function(number: u8) -> &'static str
     ensures { result.now ≡ spec.dos_function number }
 {
     match number {
-        0x02 => "dos_putc",
-        0x4C => "dos_exit",
-        0x01 => "dos_getche",
+        dos::PUTC => "dos_putc",
+        dos::EXIT => "dos_exit",
+        dos::GETCHE => "dos_getche",
         _ => "dos_getch",
     }
 }
@@ -104,11 +104,18 @@ fn text_stmt(alloc: Global, stmt: &Stmt) -> Result<CStmt, AllocError>
     ensures { IfOk result (λ r. stmt_of r ≡ spec.text_stmt (inner.stmt_of stmt.now)) }
 {
     match stmt {
-        Stmt::Set(location, e) => {
+        Stmt::Set {
+            place: location,
+            value: e,
+        } => {
             let place = place_of(alloc, *location)?;
             Ok(CStmt::Assign(place, text_expr(alloc, e)?))
         }
-        Stmt::Dos(number, place, argument) => {
+        Stmt::Dos {
+            number,
+            place,
+            argument,
+        } => {
             let place = taken(alloc, *place)?;
             let function = String::from_str(alloc, dos_function(*number))?;
             Ok(CStmt::Call(place, function, arguments(alloc, argument)?, DEPTH))
@@ -140,7 +147,7 @@ fn text_exit(alloc: Global, blocks: &[Block], end: &End) -> Result<CStmt, AllocE
 {
     match end {
         End::Goto(place) => jump(alloc, blocks, *place),
-        End::If(test, one, other) => {
+        End::If { test, one, other } => {
             let test = text_expr(alloc, test)?;
             let then = jump_inside(alloc, blocks, *one)?;
             let otherwise = jump_inside(alloc, blocks, *other)?;

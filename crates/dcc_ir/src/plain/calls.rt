@@ -149,11 +149,11 @@ impl<'p> PlainRun<'p> {
     {
         match end {
             BlockEnd::Goto(place) => self.go_to(*place),
-            BlockEnd::If(test, one, other) => {
+            BlockEnd::If { test, one, other } => {
                 let place = if self.value(test)? == 1 { *one } else { *other };
                 self.go_to(place);
             }
-            BlockEnd::Switch(e, places) => match places.get(self.value(e)? as usize) {
+            BlockEnd::Switch { value, blocks } => match blocks.get(self.value(value)? as usize) {
                 Some(place) => self.go_to(*place),
                 None => self.stop(),
             },

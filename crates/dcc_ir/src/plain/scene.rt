@@ -155,17 +155,23 @@ pub fn width_of(bits: &[u8], e: &Expr) -> Option<u8>
     ensures { IfSome result (λ r. r ≡ width_of bits.now (expr_of e.now)) }
 {
     match e {
-        Expr::Const(width, _)
-        | Expr::Load(width, _)
-        | Expr::Widen(_, width, _)
-        | Expr::Part(width, _, _) => Some(*width),
+        Expr::Const { width, .. }
+        | Expr::Load { width, .. }
+        | Expr::Widen { width, .. }
+        | Expr::Part { width, .. } => Some(*width),
         Expr::Get(location) => Some(location_width(bits, *location)),
-        Expr::Un(operator, width, _) => Some(if is_test(*operator) { 1 } else { *width }),
-        Expr::Bin(operator, width, _, _) => {
-            Some(if is_comparison(*operator) { 1 } else { *width })
-        }
-        Expr::Join(high, low) => width_of(bits, high)?.checked_add(width_of(bits, low)?),
-        Expr::Choose(_, a, _) => width_of(bits, a),
+        Expr::Un {
+            operator,
+            width,
+            ..
+        } => Some(if is_test(*operator) { 1 } else { *width }),
+        Expr::Bin {
+            operator,
+            width,
+            ..
+        } => { Some(if is_comparison(*operator) { 1 } else { *width }) }
+        Expr::Join { high, low } => width_of(bits, high)?.checked_add(width_of(bits, low)?),
+        Expr::Choose { one, .. } => width_of(bits, one),
         Expr::Address(_) => Some(16),
     }
 }
@@ -216,35 +222,57 @@ pub fn value_of(view: &View<'_>, e: &Expr) -> Option<u32>
     ensures { IfSome result (λ r. r ≡ value_of (scene_of view.now) (expr_of e.now)) }
 {
     match e {
-        Expr::Const(_, n) => Some(*n),
+        Expr::Const { number, .. } => Some(*number),
         Expr::Get(location) => held_by(view.bits, view.fill, view.held, *location),
-        Expr::Load(width, address) => bits_at(view.memory, *width, value_of(view, address)?),
-        Expr::Un(operator, width, a) => unary_value(*operator, *width, value_of(view, a)?),
-        Expr::Bin(operator, width, a, b) => {
-            binary_value(*operator, *width, value_of(view, a)?, value_of(view, b)?)
-        }
-        Expr::Widen(by_sign, width, a) => {
-            widened(
-                *by_sign,
-                width_of(view.bits, a)?,
+        Expr::Load { width, address } => bits_at(view.memory, *width, value_of(view, address)?),
+        Expr::Un {
+            operator,
+            width,
+            operand,
+        } => unary_value(*operator, *width, value_of(view, operand)?),
+        Expr::Bin {
+            operator,
+            width,
+            left,
+            right,
+        } => {
+            binary_value(
+                *operator,
                 *width,
-                value_of(view, a)?,
+                value_of(view, left)?,
+                value_of(view, right)?,
             )
         }
-        Expr::Part(width, first, a) => {
-            let moved = moved_down(value_of(view, a)?, u32::from(*first));
+        Expr::Widen {
+            by_sign,
+            width,
+            operand,
+        } => {
+            widened(
+                *by_sign,
+                width_of(view.bits, operand)?,
+                *width,
+                value_of(view, operand)?,
+            )
+        }
+        Expr::Part {
+            width,
+            first,
+            operand,
+        } => {
+            let moved = moved_down(value_of(view, operand)?, u32::from(*first));
             wrapped(*width, u64::from(moved))
         }
-        Expr::Join(high, low) => joined(
+        Expr::Join { high, low } => joined(
             value_of(view, high)?,
             width_of(view.bits, low)?,
             value_of(view, low)?,
         ),
-        Expr::Choose(test, a, b) => {
+        Expr::Choose { test, one, other } => {
             if value_of(view, test)? == 1 {
-                value_of(view, a)
+                value_of(view, one)
             } else {
-                value_of(view, b)
+                value_of(view, other)
             }
         }
         Expr::Address(distance) => Some((u32::from(view.base) + u32::from(*distance)) % 65_536),

@@ -10,6 +10,7 @@ ghost use Rattle.dcc_ir.specs.Run as inner;
 use super::scene::{Held, View, bits_at, byte_at, value_of};
 use super::values::division;
 use crate::syntax::{Block, Expr, Graph, Loc, Stmt};
+use dcc_num::dos;
 use std::alloc::{AllocError, AllocFailed, Global};
 
 /// How a run ends; a run that goes on is `Running`.
@@ -132,9 +133,9 @@ fn string_at(alloc: Global, memory: &[u8], address: u32) -> Result<Vec<u8>, Refu
     if address >= 0x8000_0000 {
         return Err(Refused::Wide);
     }
-    let string = (0..65_536u32)
+    let string = (0..dos::STRING_MOST)
         .map(|k| byte_at(memory, address + k))
-        .take_while(|byte| *byte != b'$')
+        .take_while(|byte| *byte != dos::STRING_END)
         .collect(alloc)?;
     Ok(string)
 }
@@ -176,7 +177,12 @@ impl<'p> PlainRun<'p> {
         ensures { IfOk result (λ n. n ≡ division_of (inner.scene_of (state_of self.now)) (expr_of e.now)) }
     {
         match e {
-            Expr::Bin(operator, width, a, b) => {
+            Expr::Bin {
+                operator,
+                width,
+                left: a,
+                right: b,
+            } => {
                 division(*operator, *width, self.value(a)?, self.value(b)?).ok_or(Refused::Wide)
             }
             _ => Ok(None),
@@ -200,7 +206,7 @@ impl<'p> PlainRun<'p> {
         ensures fill { self.new.fill ≡ self.old.fill }
     {
         match self.input.get(self.taken).copied() {
-            None => self.take(place, 0x1A),
+            None => self.take(place, u32::from(dos::END_OF_INPUT)),
             Some(byte) => {
                 self.taken += 1;
                 self.take(place, u32::from(byte))?;
@@ -218,14 +224,14 @@ impl<'p> PlainRun<'p> {
         ensures fill { self.new.fill ≡ self.old.fill }
     {
         match number {
-            0x02 => {
+            dos::PUTC => {
                 let byte = u8::try_from(n).map_err(|_| Refused::Wide)?;
                 self.out.push(byte)?;
             }
-            0x4C => self.end = End::Exit(n),
-            0x01 => self.key(true, place)?,
-            0x08 => self.key(false, place)?,
-            0x09 => {
+            dos::EXIT => self.end = End::Exit(n),
+            dos::GETCHE => self.key(true, place)?,
+            dos::GETCH => self.key(false, place)?,
+            dos::PUTS => {
                 let string = string_at(alloc, &self.memory, n)?;
                 self.out.extend_from_slice(&string)?;
             }
@@ -240,32 +246,50 @@ impl<'p> PlainRun<'p> {
         ensures fill { self.new.fill ≡ self.old.fill }
     {
         match stmt {
-            Stmt::Set(at, e) => {
+            Stmt::Set {
+                place: at,
+                value: e,
+            } => {
                 let n = self.value(e)?;
                 self.set(*at, n)?;
             }
-            Stmt::Load(at, width, address) => {
+            Stmt::Load {
+                place: at,
+                width,
+                address,
+            } => {
                 let address = self.value(address)?;
                 let n = bits_at(&self.memory, *width, address).ok_or(Refused::Wide)?;
                 self.set(*at, n)?;
             }
-            Stmt::Store(width, address, e) => {
+            Stmt::Store {
+                width,
+                address,
+                value: e,
+            } => {
                 let address = self.value(address)?;
                 let n = self.value(e)?;
                 store(&mut self.memory, *width, address, n)?;
             }
-            Stmt::Div(at, e) => match self.division(e)? {
+            Stmt::Div {
+                place: at,
+                division: e,
+            } => match self.division(e)? {
                 Some(n) => self.set(*at, n)?,
                 None => self.end = End::Divide,
             },
-            Stmt::Dos(number, place, argument) => {
+            Stmt::Dos {
+                number,
+                place,
+                argument,
+            } => {
                 let n = match argument {
                     Some(e) => self.value(e)?,
                     None => 0,
                 };
                 self.dos(alloc, *number, *place, n)?;
             }
-            Stmt::Call(_, _, _, _) => self.stop(),
+            Stmt::Call { .. } => self.stop(),
         }
         Ok(())
     }

@@ -1,11 +1,23 @@
 // Runs of small programs.
 use super::*;
 use crate::syntax::{BinOp, Block, End as BlockEnd, Expr, Loc, Param, Put};
-use dcc_num::{Half, Reg};
+use dcc_num::{Half, Reg, dos};
 
 const AL: Loc = Loc::Half(Reg::Ax, Half::Low);
 
 const CL: Loc = Loc::Half(Reg::Cx, Half::Low);
+
+fn number(width: u8, number: u32) -> Expr {
+    Expr::Const { width, number }
+}
+
+fn call_dos(number: u8, place: Option<Loc>, argument: Option<Expr>) -> Stmt {
+    Stmt::Dos {
+        number,
+        place,
+        argument,
+    }
+}
 
 // A program of one graph of one block, whose stack reaches from 16 to 256.
 fn program(alloc: Global, stmts: Vec<Stmt>, end: BlockEnd) -> Result<IrProgram, AllocError> {
@@ -47,9 +59,9 @@ fn graph(
 fn a_key_is_taken_and_written(rt: HostRuntime) -> Result<(), Refused> {
     let alloc = rt.alloc();
     let mut stmts = Vec::new(alloc);
-    stmts.push(Stmt::Dos(0x08, Some(AL), None))?;
-    stmts.push(Stmt::Dos(0x02, None, Some(Expr::Get(AL))))?;
-    stmts.push(Stmt::Dos(0x4C, None, Some(Expr::Const(8, 3))))?;
+    stmts.push(call_dos(dos::GETCH, Some(AL), None))?;
+    stmts.push(call_dos(dos::PUTC, None, Some(Expr::Get(AL))))?;
+    stmts.push(call_dos(dos::EXIT, None, Some(number(8, 3))))?;
     let program = program(alloc, stmts, BlockEnd::Stop)?;
     let some = run(alloc, &program, b"a", 0, 9)?;
     assert_eq!(rt; some.out.as_slice(), b"a".as_slice());
@@ -64,10 +76,18 @@ fn a_division_of_the_least_number_by_minus_one_ends_the_run(
     rt: HostRuntime,
 ) -> Result<(), Refused> {
     let alloc = rt.alloc();
-    let least = Box::new(alloc, Expr::Const(8, 0x80))?;
-    let by = Box::new(alloc, Expr::Const(8, 0xFF))?;
+    let least = Box::new(alloc, number(8, 0x80))?;
+    let by = Box::new(alloc, number(8, 0xFF))?;
     let mut stmts = Vec::new(alloc);
-    stmts.push(Stmt::Div(AL, Expr::Bin(BinOp::DivS, 8, least, by)))?;
+    stmts.push(Stmt::Div {
+        place: AL,
+        division: Expr::Bin {
+            operator: BinOp::DivS,
+            width: 8,
+            left: least,
+            right: by,
+        },
+    })?;
     let program = program(alloc, stmts, BlockEnd::Stop)?;
     assert_eq!(rt; run(alloc, &program, b"", 0, 9)?.end, End::Divide);
     Ok(())
@@ -81,11 +101,16 @@ fn a_call_passes_words_in_memory_and_locations_and_gives_back(
     let mut results = Vec::new(alloc);
     results.push(AL)?;
     let mut arguments = Vec::new(alloc);
-    arguments.push(Expr::Const(16, 0x1234))?;
-    arguments.push(Expr::Const(8, 5))?;
+    arguments.push(number(16, 0x1234))?;
+    arguments.push(number(8, 5))?;
     let mut stmts = Vec::new(alloc);
-    stmts.push(Stmt::Call(results, 0x20, arguments, 6))?;
-    stmts.push(Stmt::Dos(0x4C, None, Some(Expr::Get(AL))))?;
+    stmts.push(Stmt::Call {
+        results,
+        entry: 0x20,
+        arguments,
+        depth: 6,
+    })?;
+    stmts.push(call_dos(dos::EXIT, None, Some(Expr::Get(AL))))?;
     let mut program = program(alloc, stmts, BlockEnd::Stop)?;
     let mut params = Vec::new(alloc);
     params.push(Param {
@@ -96,13 +121,16 @@ fn a_call_passes_words_in_memory_and_locations_and_gives_back(
         stack: false,
         put: Put::One(CL),
     })?;
-    let upper = Expr::Load(8, Box::new(alloc, Expr::Address(1))?);
-    let sum = Expr::Bin(
-        BinOp::Add,
-        8,
-        Box::new(alloc, upper)?,
-        Box::new(alloc, Expr::Get(CL))?,
-    );
+    let upper = Expr::Load {
+        width: 8,
+        address: Box::new(alloc, Expr::Address(1))?,
+    };
+    let sum = Expr::Bin {
+        operator: BinOp::Add,
+        width: 8,
+        left: Box::new(alloc, upper)?,
+        right: Box::new(alloc, Expr::Get(CL))?,
+    };
     let mut values = Vec::new(alloc);
     values.push(sum)?;
     let callee = graph(alloc, 0x20, params, Vec::new(alloc), BlockEnd::Ret(values))?;
