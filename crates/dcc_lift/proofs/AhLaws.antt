@@ -1,4 +1,4 @@
--- What is known of AH behind an instruction holds of the location AH behind its statements.
+-- What is known of AH after an instruction holds of the location AH after its statements.
 use Rattle.std.proofs.Common.{◌≡◌, ℕ, Bool, true, false, List, [], ◌∷◌, ◌++◌, Option, Some, refl, ap, ap₂, ◌∙◌, cond, true≢false}
 use Rattle.std.specs.Prelude.{◌&&◌, ◌||◌, ◌≢◌, if◌then◌else◌}
 use Rattle.std.specs.List.{list_any}
@@ -267,8 +267,10 @@ moved (Mov (Byte Ax High) (Constant width c)) number scene n e = cc
 moved (Mov (Word Ax) (Constant width c)) number scene n e = cc
 moved _ number scene n e = cc
 
--- what is known of AH behind an instruction holds of the location behind its statements
-pub ah-behind : (instr : Instr) (number : Option ℕ) (scene : Scene) (known : Option ℕ) → instr.op ≢ Int21 → ((n : ℕ) → known ≡ Some n → scene.values (Half Ax High) ≡ n) → (n : ℕ) → ah_after (Some instr) known ≡ Some n → (executed (op_stmts instr.op number) scene).values (Half Ax High) ≡ n
+-- what is known of AH after an instruction holds of the location after its statements
+pub ah-behind : (instr : Instr) (number : Option ℕ) (scene : Scene) (known : Option ℕ) → instr.op ≢ Int21
+    → ((n : ℕ) → known ≡ Some n → scene.values (Half Ax High) ≡ n) → (n : ℕ) → ah_after (Some instr) known ≡ Some n
+    → (executed (op_stmts instr.op number) scene).values (Half Ax High) ≡ n
 ah-behind instr number scene known d holds n e = both (writes_half instr.op Ax High) refl e
   where
     both : (b : Bool) → writes_half instr.op Ax High ≡ b → (if b then constant_to_ah instr.op else known) ≡ Some n → (executed (op_stmts instr.op number) scene).values (Half Ax High) ≡ n

@@ -42,9 +42,19 @@ zero_flag r outcome e is = ap (λ n. from_bool (n == 0)) e ∙ ap from_bool is
 
 -- OF of a sum
 pub sum_overflow_value : (w : Width) (a b r : ℕ) (c : Bool) → a < limit_of w → b < limit_of w → r ≡ (sum_of w a b c).0
-    → bit_and (bit_xor (a / 2 ^ (bits_of w - 1) % 2 ^ 1) (r / 2 ^ (bits_of w - 1) % 2 ^ 1)) (bit_xor (b / 2 ^ (bits_of w - 1) % 2 ^ 1) (r / 2 ^ (bits_of w - 1) % 2 ^ 1)) ≡ from_bool (sum_of w a b c).1.of
+    → bit_and (bit_xor (a / 2 ^ (bits_of w - 1) % 2 ^ 1) (r / 2 ^ (bits_of w - 1) % 2 ^ 1))
+    (bit_xor (b / 2 ^ (bits_of w - 1) % 2 ^ 1) (r / 2 ^ (bits_of w - 1) % 2 ^ 1)) ≡ from_bool (sum_of w a b c).1.of
 sum_overflow_value w a b r c first second e =
-    rw (e, sign_value w a first, sign_value w b second, sign_value w (sum_of w a b c).0 (sum_below w a b c), xor_bits (has_sign w a) (has_sign w (sum_of w a b c).0), xor_bits (has_sign w b) (has_sign w (sum_of w a b c).0), and_bits)
+    rw (
+      e,
+      sign_value w a first,
+      sign_value w b second,
+      sign_value w (sum_of w a b c).0 (sum_below w a b c),
+      xor_bits (has_sign w a)
+          (has_sign w (sum_of w a b c).0),
+      xor_bits (has_sign w b) (has_sign w (sum_of w a b c).0),
+      and_bits,
+    )
     (ap from_bool (sum_overflow_flag w a b c first second))
 
 -- CF of a sum
@@ -66,10 +76,12 @@ sum_with_carry_value w a b k c flag = rw flag (sum_with_carry w a b c)
 
 -- OF of a difference
 pub difference_overflow_value : (w : Width) (a b k r : ℕ) (c : Bool) → a < limit_of w → b < limit_of w → k ≡ from_bool c → r ≡ (difference_of w a b c).0
-    → bit_xor (if k == 1 then from_bool (int_le (signed_at (bits_of w) a) (signed_at (bits_of w) b)) else from_bool (int_lt (signed_at (bits_of w) a) (signed_at (bits_of w) b))) (r / 2 ^ (bits_of w - 1) % 2 ^ 1)
+    → bit_xor (if k == 1 then from_bool (int_le (signed_at (bits_of w) a) (signed_at (bits_of w) b)) else from_bool
+    (int_lt (signed_at (bits_of w) a) (signed_at (bits_of w) b))) (r / 2 ^ (bits_of w - 1) % 2 ^ 1)
     ≡ from_bool (difference_of w a b c).1.of
 difference_overflow_value w a b k r c first second flag e =
-    ap (λ n. bit_xor n (r / 2 ^ (bits_of w - 1) % 2 ^ 1)) (chosen_test k c (int_le (signed_at (bits_of w) a) (signed_at (bits_of w) b)) (int_lt (signed_at (bits_of w) a) (signed_at (bits_of w) b)) flag)
+    ap (λ n. bit_xor n (r / 2 ^ (bits_of w - 1) % 2 ^ 1))
+    (chosen_test k c (int_le (signed_at (bits_of w) a) (signed_at (bits_of w) b)) (int_lt (signed_at (bits_of w) a) (signed_at (bits_of w) b)) flag)
     ∙ rw (e, signed_same w a, signed_same w b, sign_value w (difference_of w a b c).0 (difference_below w a b c)) (xor_bits _ _)
     ∙ ap from_bool (difference_overflow_flag w a b c first second)
 
@@ -88,7 +100,9 @@ sum_worked byte_width s scene m first second =
     let outcome : ℕ × Flags = sum_of byte_width a b false in
     let r = sum_result byte_width a b in
     worked byte_width s scene (sum byte_width) (sum_overflow byte_width) (sign byte_width (result byte_width)) (is_zero byte_width (result byte_width)) (carry_out byte_width) outcome r
-    (sum_overflow_value byte_width a b _ false first second r) (sign_flag byte_width _ outcome r (sum_below byte_width a b false) (sum_sign byte_width a b false)) (zero_flag _ outcome r (sum_zero byte_width a b false))
+    (sum_overflow_value byte_width a b _ false first second r)
+    (sign_flag byte_width _ outcome r (sum_below byte_width a b false) (sum_sign byte_width a b false))
+    (zero_flag _ outcome r (sum_zero byte_width a b false))
     (sum_carry_value byte_width a b _ first second r) m
 sum_worked word_width s scene m first second =
     let a = scene.values (Temp 3) in
@@ -96,7 +110,9 @@ sum_worked word_width s scene m first second =
     let outcome : ℕ × Flags = sum_of word_width a b false in
     let r = sum_result word_width a b in
     worked word_width s scene (sum word_width) (sum_overflow word_width) (sign word_width (result word_width)) (is_zero word_width (result word_width)) (carry_out word_width) outcome r
-    (sum_overflow_value word_width a b _ false first second r) (sign_flag word_width _ outcome r (sum_below word_width a b false) (sum_sign word_width a b false)) (zero_flag _ outcome r (sum_zero word_width a b false))
+    (sum_overflow_value word_width a b _ false first second r)
+    (sign_flag word_width _ outcome r (sum_below word_width a b false) (sum_sign word_width a b false))
+    (zero_flag _ outcome r (sum_zero word_width a b false))
     (sum_carry_value word_width a b _ first second r) m
 
 -- ADC
@@ -108,8 +124,10 @@ sum_with_carry_worked byte_width s scene m first second =
     let c = s.flags.cf in
     let outcome : ℕ × Flags = sum_of byte_width a b c in
     let r = sum_with_carry_value byte_width a b (scene.values (Flag Cf)) c m.carry in
-    worked byte_width s scene (sum_and_carry byte_width) (sum_overflow byte_width) (sign byte_width (result byte_width)) (is_zero byte_width (result byte_width)) (carry_out_of_both byte_width) outcome r
-    (sum_overflow_value byte_width a b _ c first second r) (sign_flag byte_width _ outcome r (sum_below byte_width a b c) (sum_sign byte_width a b c)) (zero_flag _ outcome r (sum_zero byte_width a b c))
+    worked byte_width s scene (sum_and_carry byte_width) (sum_overflow byte_width) (sign byte_width (result byte_width))
+    (is_zero byte_width (result byte_width)) (carry_out_of_both byte_width) outcome r
+    (sum_overflow_value byte_width a b _ c first second r) (sign_flag byte_width _ outcome r (sum_below byte_width a b c) (sum_sign byte_width a b c))
+    (zero_flag _ outcome r (sum_zero byte_width a b c))
     (sum_carry_of_both_value byte_width a b (scene.values (Flag Cf)) _ c first second m.carry r) m
 sum_with_carry_worked word_width s scene m first second =
     let a = scene.values (Temp 3) in
@@ -117,8 +135,10 @@ sum_with_carry_worked word_width s scene m first second =
     let c = s.flags.cf in
     let outcome : ℕ × Flags = sum_of word_width a b c in
     let r = sum_with_carry_value word_width a b (scene.values (Flag Cf)) c m.carry in
-    worked word_width s scene (sum_and_carry word_width) (sum_overflow word_width) (sign word_width (result word_width)) (is_zero word_width (result word_width)) (carry_out_of_both word_width) outcome r
-    (sum_overflow_value word_width a b _ c first second r) (sign_flag word_width _ outcome r (sum_below word_width a b c) (sum_sign word_width a b c)) (zero_flag _ outcome r (sum_zero word_width a b c))
+    worked word_width s scene (sum_and_carry word_width) (sum_overflow word_width) (sign word_width (result word_width))
+    (is_zero word_width (result word_width)) (carry_out_of_both word_width) outcome r
+    (sum_overflow_value word_width a b _ c first second r) (sign_flag word_width _ outcome r (sum_below word_width a b c) (sum_sign word_width a b c))
+    (zero_flag _ outcome r (sum_zero word_width a b c))
     (sum_carry_of_both_value word_width a b (scene.values (Flag Cf)) _ c first second m.carry r) m
 
 -- SUB, CMP and NEG
@@ -129,16 +149,22 @@ difference_worked byte_width s scene m first second =
     let b = scene.values (Temp 1) in
     let outcome : ℕ × Flags = difference_of byte_width a b false in
     let r = difference_result byte_width a b in
-    worked byte_width s scene (difference byte_width) (difference_overflow byte_width) (sign byte_width (result byte_width)) (at_width Eq byte_width (left byte_width) (right byte_width)) (borrow_out byte_width) outcome r
-    (difference_overflow_value byte_width a b 0 _ false first second refl r) (sign_flag byte_width _ outcome r (difference_below byte_width a b false) (difference_sign byte_width a b false)) (ap from_bool (difference_equal byte_width a b first second))
+    worked byte_width s scene (difference byte_width) (difference_overflow byte_width) (sign byte_width (result byte_width))
+    (at_width Eq byte_width (left byte_width) (right byte_width)) (borrow_out byte_width) outcome r
+    (difference_overflow_value byte_width a b 0 _ false first second refl r)
+    (sign_flag byte_width _ outcome r (difference_below byte_width a b false) (difference_sign byte_width a b false))
+    (ap from_bool (difference_equal byte_width a b first second))
     (ap from_bool (difference_borrow byte_width a b first second)) m
 difference_worked word_width s scene m first second =
     let a = scene.values (Temp 3) in
     let b = scene.values (Temp 4) in
     let outcome : ℕ × Flags = difference_of word_width a b false in
     let r = difference_result word_width a b in
-    worked word_width s scene (difference word_width) (difference_overflow word_width) (sign word_width (result word_width)) (at_width Eq word_width (left word_width) (right word_width)) (borrow_out word_width) outcome r
-    (difference_overflow_value word_width a b 0 _ false first second refl r) (sign_flag word_width _ outcome r (difference_below word_width a b false) (difference_sign word_width a b false)) (ap from_bool (difference_equal word_width a b first second))
+    worked word_width s scene (difference word_width) (difference_overflow word_width) (sign word_width (result word_width))
+    (at_width Eq word_width (left word_width) (right word_width)) (borrow_out word_width) outcome r
+    (difference_overflow_value word_width a b 0 _ false first second refl r)
+    (sign_flag word_width _ outcome r (difference_below word_width a b false) (difference_sign word_width a b false))
+    (ap from_bool (difference_equal word_width a b first second))
     (ap from_bool (difference_borrow word_width a b first second)) m
 
 -- SBB
@@ -151,8 +177,11 @@ difference_with_borrow_worked byte_width s scene m first second =
     let k = scene.values (Flag Cf) in
     let outcome : ℕ × Flags = difference_of byte_width a b c in
     let r = difference_with_borrow_value byte_width a b k c first second m.carry in
-    worked byte_width s scene (difference_and_borrow byte_width) (difference_overflow_of_both byte_width) (sign byte_width (result byte_width)) (is_zero byte_width (result byte_width)) (borrow_out_of_both byte_width) outcome r
-    (difference_overflow_value byte_width a b k _ c first second m.carry r) (sign_flag byte_width _ outcome r (difference_below byte_width a b c) (difference_sign byte_width a b c)) (zero_flag _ outcome r (difference_zero byte_width a b c))
+    worked byte_width s scene (difference_and_borrow byte_width) (difference_overflow_of_both byte_width) (sign byte_width (result byte_width))
+    (is_zero byte_width (result byte_width)) (borrow_out_of_both byte_width) outcome r
+    (difference_overflow_value byte_width a b k _ c first second m.carry r)
+    (sign_flag byte_width _ outcome r (difference_below byte_width a b c) (difference_sign byte_width a b c))
+    (zero_flag _ outcome r (difference_zero byte_width a b c))
     (chosen_test k c (nat_le a b) (nat_lt a b) m.carry ∙ ap from_bool (difference_borrow_of_both byte_width a b c)) m
 difference_with_borrow_worked word_width s scene m first second =
     let a = scene.values (Temp 3) in
@@ -161,8 +190,11 @@ difference_with_borrow_worked word_width s scene m first second =
     let k = scene.values (Flag Cf) in
     let outcome : ℕ × Flags = difference_of word_width a b c in
     let r = difference_with_borrow_value word_width a b k c first second m.carry in
-    worked word_width s scene (difference_and_borrow word_width) (difference_overflow_of_both word_width) (sign word_width (result word_width)) (is_zero word_width (result word_width)) (borrow_out_of_both word_width) outcome r
-    (difference_overflow_value word_width a b k _ c first second m.carry r) (sign_flag word_width _ outcome r (difference_below word_width a b c) (difference_sign word_width a b c)) (zero_flag _ outcome r (difference_zero word_width a b c))
+    worked word_width s scene (difference_and_borrow word_width) (difference_overflow_of_both word_width) (sign word_width (result word_width))
+    (is_zero word_width (result word_width)) (borrow_out_of_both word_width) outcome r
+    (difference_overflow_value word_width a b k _ c first second m.carry r)
+    (sign_flag word_width _ outcome r (difference_below word_width a b c) (difference_sign word_width a b c))
+    (zero_flag _ outcome r (difference_zero word_width a b c))
     (chosen_test k c (nat_le a b) (nat_lt a b) m.carry ∙ ap from_bool (difference_borrow_of_both word_width a b c)) m
 
 -- AND, OR, XOR and TEST
@@ -171,11 +203,13 @@ combined_worked : (w : Width) (s : State) (scene : Scene) (operator : BinOp) (ou
     → Worked w s outcome scene (executed (combining w operator) scene)
 unfolding result_flags
 combined_worked byte_width s scene operator outcome m e small flags =
-    worked byte_width s scene (at_width operator byte_width (left byte_width) (right byte_width)) (bit 0) (sign byte_width (result byte_width)) (is_zero byte_width (result byte_width)) (bit 0) outcome e
+    worked byte_width s scene (at_width operator byte_width (left byte_width) (right byte_width)) (bit 0) (sign byte_width (result byte_width))
+    (is_zero byte_width (result byte_width)) (bit 0) outcome e
     (ap (λ (f : Flags). from_bool f.of) (sym flags)) (sign_flag byte_width _ outcome e small (ap (λ (f : Flags). f.sf) (sym flags))) (zero_flag _ outcome e (ap (λ (f : Flags). f.zf) (sym flags)))
     (ap (λ (f : Flags). from_bool f.cf) (sym flags)) m
 combined_worked word_width s scene operator outcome m e small flags =
-    worked word_width s scene (at_width operator word_width (left word_width) (right word_width)) (bit 0) (sign word_width (result word_width)) (is_zero word_width (result word_width)) (bit 0) outcome e
+    worked word_width s scene (at_width operator word_width (left word_width) (right word_width)) (bit 0) (sign word_width (result word_width))
+    (is_zero word_width (result word_width)) (bit 0) outcome e
     (ap (λ (f : Flags). from_bool f.of) (sym flags)) (sign_flag word_width _ outcome e small (ap (λ (f : Flags). f.sf) (sym flags))) (zero_flag _ outcome e (ap (λ (f : Flags). f.zf) (sym flags)))
     (ap (λ (f : Flags). from_bool f.cf) (sym flags)) m
 
@@ -215,7 +249,9 @@ alu_worked Adc w s scene m first second = sum_with_carry_worked w s scene m firs
 alu_worked Sbb w s scene m first second = difference_with_borrow_worked w s scene m first second
 alu_worked And w s scene m first second = combined_worked w s scene AndOp (conjunction_of w (scene.values (left_place w)) (scene.values (right_place w))) m refl (and_below w _ _ first) refl
 alu_worked Sub w s scene m first second = difference_worked w s scene m first second
-alu_worked Xor w s scene m first second = combined_worked w s scene XorOp (exclusive_of w (scene.values (left_place w)) (scene.values (right_place w))) m refl (xor_lt (bits_of w) _ _ first second) refl
+alu_worked Xor w s scene m first second =
+    combined_worked w s scene XorOp (exclusive_of w (scene.values (left_place w)) (scene.values (right_place w))) m refl
+    (xor_lt (bits_of w) _ _ first second) refl
 alu_worked Cmp w s scene m first second = difference_worked w s scene m first second
 alu_worked Test w s scene m first second = combined_worked w s scene AndOp (conjunction_of w (scene.values (left_place w)) (scene.values (right_place w))) m refl (and_below w _ _ first) refl
 

@@ -1,4 +1,4 @@
--- The instructions of a block, one behind the other.
+-- The instructions of a block, one after the other.
 use Rattle.std.proofs.Common.{◌≡◌, ℕ, Bool, true, false, List, [], ◌∷◌, ◌++◌, flat_map, Option, Some, None, refl, sym, ap, ◌∙◌, subst, append_assoc, arith}
 use Rattle.std.proofs.lemmas.Grind.{flat_map-append}
 use Rattle.std.proofs.lemmas.List.{append-nil}
@@ -29,7 +29,8 @@ run-more nodes start at [] next run e = (e, tt)
 run-more nodes start at (first ∷ done) next run e = (run.0, run-more nodes start first done next run.1 e)
 
 -- one instruction more
-pub begun-more : (nodes : Nodes) (start at last next : ℕ) (stmts more : List Stmt) → IsBegun nodes start at last stmts → onward nodes start last ≡ Some next → more ≡ stmts ++ stmts_at nodes next → IsBegun nodes start at next more
+pub begun-more : (nodes : Nodes) (start at last next : ℕ) (stmts more : List Stmt) → IsBegun nodes start at last stmts → onward nodes start last ≡ Some next
+    → more ≡ stmts ++ stmts_at nodes next → IsBegun nodes start at next more
 begun-more nodes start at last next stmts more begun leads e = record {
   done = begun.done ++ next ∷ [];
   run = run-more nodes start at begun.done next begun.run (ap (onward nodes start) begun.last_is ∙ leads);
@@ -47,7 +48,8 @@ chain-all nodes start at [] run e = e
 chain-all nodes start at (first ∷ done) run e = (run.0, chain-all nodes start first done run.1 e)
 
 -- the last instruction leads nowhere in the block
-pub begun-all : (nodes : Nodes) (start at last : ℕ) (stmts : List Stmt) (block : Block) → IsBegun nodes start at last stmts → onward nodes start last ≡ None → block.at ≡ at → block.stmts ≡ stmts → block.exit ≡ exit_at nodes start last → IsBlockAt nodes start at block
+pub begun-all : (nodes : Nodes) (start at last : ℕ) (stmts : List Stmt) (block : Block) → IsBegun nodes start at last stmts → onward nodes start last ≡ None
+    → block.at ≡ at → block.stmts ≡ stmts → block.exit ≡ exit_at nodes start last → IsBlockAt nodes start at block
 begun-all nodes start at last stmts block begun ends at_is stmts_are exit_is = record {
   rest = begun.done;
   chain = chain-all nodes start at begun.done begun.run (ap (onward nodes start) begun.last_is ∙ ends);
@@ -57,7 +59,8 @@ begun-all nodes start at last stmts block begun ends at_is stmts_are exit_is = r
 }
 
 -- one block more
-pub blocks-more : (nodes : Nodes) (start : ℕ) (places : List ℕ) (blocks : List Block) (at : ℕ) (block : Block) → AreBlocksAt nodes start places blocks → IsBlockAt nodes start at block → AreBlocksAt nodes start (places ++ at ∷ []) (blocks ++ block ∷ [])
+pub blocks-more : (nodes : Nodes) (start : ℕ) (places : List ℕ) (blocks : List Block) (at : ℕ) (block : Block) → AreBlocksAt nodes start places blocks
+    → IsBlockAt nodes start at block → AreBlocksAt nodes start (places ++ at ∷ []) (blocks ++ block ∷ [])
 blocks-more nodes start [] [] at block are is = (is, tt)
 blocks-more nodes start [] (first ∷ blocks) at block are is = absurd are
 blocks-more nodes start (place ∷ places) [] at block are is = absurd are

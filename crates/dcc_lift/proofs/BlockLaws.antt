@@ -53,7 +53,8 @@ module _ (nodes : Nodes) (entry : ℕ) where
       go false n e later = let there = later e in record { block = there.block; found = there.found; is_block = there.is_block }
 
   -- each block of the list begins at its own offset
-  pub block_is : (places : List ℕ) (blocks : List Block) (place : ℕ) (block : Block) → AreBlocksAt nodes entry places blocks → slice_get blocks place ≡ Some block → IsBlockAt nodes entry block.at block
+  pub block_is : (places : List ℕ) (blocks : List Block) (place : ℕ) (block : Block) → AreBlocksAt nodes entry places blocks → slice_get blocks place
+      ≡ Some block → IsBlockAt nodes entry block.at block
   block_is places [] place block are e = absurd (cc)
   block_is [] (first ∷ blocks) place block are e = absurd are
   block_is (at ∷ places) (first ∷ blocks) zero block are e =
@@ -154,7 +155,8 @@ pub record IsFromLeader (nodes : Nodes) (entry a b : ℕ) : Type 0 where
   pub to_leader : is_leader nodes entry b ≡ true
   pub goes : has_successor nodes (last_of a rest) b ≡ true
 
-module _ (nodes : Nodes) (entry prelude : ℕ) (sound : AreSound nodes entry prelude) (first : Block) (first_at : first.at ≡ prelude) (first_exit : first.exit ≡ Goto (block_place nodes entry entry)) (blocks : List Block) (are : AreBlocksAt nodes entry (leaders nodes entry) blocks) where
+module _ (nodes : Nodes) (entry prelude : ℕ) (sound : AreSound nodes entry prelude) (first : Block) (first_at : first.at ≡ prelude)
+    (first_exit : first.exit ≡ Goto (block_place nodes entry entry)) (blocks : List Block) (are : AreBlocksAt nodes entry (leaders nodes entry) blocks) where
   -- there are blocks at the prelude's offset and at the leaders
   pub has_block : (a : ℕ) → list_any (λ block. block.at == a) (first ∷ blocks) ≡ ((prelude == a) || is_leader nodes entry a)
   has_block a =
@@ -201,7 +203,8 @@ module _ (nodes : Nodes) (entry prelude : ℕ) (sound : AreSound nodes entry pre
     | inr t ↦
         let from = passing (λ block. (block.at == a) && has_edge (first ∷ blocks) block b) blocks t in
         let here : from.element.at ≡ a = eqb-true from.element.at a (and_left (from.element.at == a) (has_edge (first ∷ blocks) from.element b) from.passes) in
-        let is : IsBlockAt nodes entry a from.element = subst (λ n. IsBlockAt nodes entry n from.element) here (block_is nodes entry (leaders nodes entry) blocks from.place from.element are from.found) in
+        let is : IsBlockAt nodes entry a from.element =
+        subst (λ n. IsBlockAt nodes entry n from.element) here (block_is nodes entry (leaders nodes entry) blocks from.place from.element are from.found) in
         let both = sym (block_edge from.element a b is) ∙ and_right (from.element.at == a) (has_edge (first ∷ blocks) from.element b) from.passes in
         inr (record {
           leader = sym (blocks_stand nodes entry (leaders nodes entry) blocks a are) ∙ any_at (λ block. block.at == a) blocks from.place from.element from.found (eq-eqb from.element.at a here);

@@ -17,7 +17,7 @@ use Rattle.dcc_lift.specs.Sound.{AreSound}
 use Rattle.dcc_lift.specs.Translation.{prelude_block, IsTranslation}
 use Rattle.dcc_lift.specs.Liftable.{is_liftable}
 use Rattle.dcc_lift.specs.Lifting.{IsLiftableNode, IsLiftableProcedure}
-use Rattle.dcc_lift.specs.Lifted.{procedure_flow, behind_prelude, IsBlockOfCall, HasBlocks}
+use Rattle.dcc_lift.specs.Lifted.{procedure_flow, after_prelude, IsBlockOfCall, HasBlocks}
 use Rattle.dcc_lift.proofs.ListTests.{and_left, and_right, and_both, or_here, or_there, or_cases, same_number}
 use Rattle.dcc_lift.proofs.NodeLaws.{is_node, goes_on, goes_from, goes_on_is, nodes_differ, entry_is_node, prelude_no_node, successor_is_node}
 use Rattle.dcc_lift.proofs.ChainLaws.{is_leader, has_successor, sole, IsJoined, joined, joined_from, onward_tells, edge_to_joined, leader_node, leader_begins, no_leader_joins, joins_no_leader, entry_is_leader}
@@ -28,9 +28,11 @@ use Rattle.dcc_lift.proofs.BlockLaws.{has_block, leader_block, goes_between, edg
 abbrev pub nodes_flow : Nodes → ℕ → Flow
 nodes_flow nodes entry = record { start = entry; has = is_node nodes; goes = goes_on nodes }
 
-module _ (nodes : Nodes) (entry prelude : ℕ) (sound : AreSound nodes entry prelude) (graph : Graph) (first : Block) (first_at : first.at ≡ prelude) (first_exit : first.exit ≡ Goto (block_place nodes entry entry)) (blocks : List Block) (are : AreBlocksAt nodes entry (leaders nodes entry) blocks) (graph_is : graph.blocks ≡ first ∷ blocks) where
+module _ (nodes : Nodes) (entry prelude : ℕ) (sound : AreSound nodes entry prelude) (graph : Graph) (first : Block) (first_at : first.at ≡ prelude)
+    (first_exit : first.exit ≡ Goto (block_place nodes entry entry)) (blocks : List Block) (are : AreBlocksAt nodes entry (leaders nodes entry) blocks)
+    (graph_is : graph.blocks ≡ first ∷ blocks) where
   abbrev P : Flow
-  P = behind_prelude prelude (nodes_flow nodes entry)
+  P = after_prelude prelude (nodes_flow nodes entry)
 
   abbrev Q : Flow
   Q = flow_of graph
@@ -235,14 +237,14 @@ module _ (image : Image) (layout : Layout) (start : Proc) (p : Program) (transla
       let first = prelude_block image layout start.nodes.entries in
       let graph = the_graph image layout start p translation in
       let flow = translation_flow image layout start p translation entry_is in
-      let contracts : IsContraction (behind_prelude image.ip (nodes_flow start.nodes.entries layout.start_ip)) (flow_of graph) =
+      let contracts : IsContraction (after_prelude image.ip (nodes_flow start.nodes.entries layout.start_ip)) (flow_of graph) =
       contraction start.nodes.entries layout.start_ip image.ip sound graph first refl refl translation.blocks translation.blocks_are refl in
-      let one : HaveOneEdge (behind_prelude image.ip (nodes_flow start.nodes.entries layout.start_ip)) (flow_of graph) =
+      let one : HaveOneEdge (after_prelude image.ip (nodes_flow start.nodes.entries layout.start_ip)) (flow_of graph) =
       one_edge start.nodes.entries layout.start_ip image.ip sound graph first refl refl translation.blocks translation.blocks_are refl in
       record {
-        contraction = subst (λ q. IsContraction (behind_prelude image.ip (procedure_flow start)) q) (sym flow)
-            (subst (λ n. IsContraction (behind_prelude image.ip (nodes_flow start.nodes.entries n)) (flow_of graph)) (sym entry_is) contracts);
-        one_edge = subst (λ q. HaveOneEdge (behind_prelude image.ip (procedure_flow start)) q) (sym flow)
-            (subst (λ n. HaveOneEdge (behind_prelude image.ip (nodes_flow start.nodes.entries n)) (flow_of graph)) (sym entry_is) one);
+        contraction = subst (λ q. IsContraction (after_prelude image.ip (procedure_flow start)) q) (sym flow)
+            (subst (λ n. IsContraction (after_prelude image.ip (nodes_flow start.nodes.entries n)) (flow_of graph)) (sym entry_is) contracts);
+        one_edge = subst (λ q. HaveOneEdge (after_prelude image.ip (procedure_flow start)) q) (sym flow)
+            (subst (λ n. HaveOneEdge (after_prelude image.ip (nodes_flow start.nodes.entries n)) (flow_of graph)) (sym entry_is) one);
         calls = All-weaker IsLiftableNode (λ (found : ℕ × Node). (target : ℕ) → found.1.instr.op ≡ Call target → IsBlockOfCall (flow_at p start.entry) found) no_call start.nodes.entries given.nodes;
       }

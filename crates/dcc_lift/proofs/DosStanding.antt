@@ -56,7 +56,9 @@ pub data IsDone (image : Image) (layout : Layout) (graph : Graph) (graphs : List
   goes_on : IsPassed image layout graph graphs fill node s t at before → IsDone image layout graph graphs fill node s t at before
   ends : IsLeft graphs fill node s t → IsDone image layout graph graphs fill node s t at before
 
-module _ (image : Image) (layout : Layout) (graph : Graph) (nodes : Nodes) (placed : IsPlaced image) (widths : graph.bits ≡ temporary_bits) (graphs : List Graph) (fill : ℕ) (s : Machine) (t : Inner) (at : ℕ) (before : List ℕ) (node : Node) (both : BothStand image layout graph s t at before) (is : IsInstruction image layout nodes at node) (int : node.instr.op ≡ Int21) where
+module _ (image : Image) (layout : Layout) (graph : Graph) (nodes : Nodes) (placed : IsPlaced image) (widths : graph.bits ≡ temporary_bits)
+    (graphs : List Graph) (fill : ℕ) (s : Machine) (t : Inner) (at : ℕ) (before : List ℕ) (node : Node) (both : BothStand image layout graph s t at before)
+    (is : IsInstruction image layout nodes at node) (int : node.instr.op ≡ Int21) where
   behind : Machine
   behind = record s { ip = next_of s.ip node.instr }
 
@@ -87,7 +89,7 @@ module _ (image : Image) (layout : Layout) (graph : Graph) (nodes : Nodes) (plac
   untested : op_test node.instr.op ≡ None
   untested = ap (λ op. op_test op) int
 
-  -- what a call leaves that goes on: these are the two states behind it
+  -- what a call leaves that goes on: these are the two states after it
   record Left (u : Machine) (v : Inner) : Type 0 where
     memory : u.memory ≡ s.memory
     segs : u.segs ≡ s.segs
@@ -195,7 +197,8 @@ module _ (image : Image) (layout : Layout) (graph : Graph) (nodes : Nodes) (plac
     graph_is = refl;
     block_is = refl;
     going = both.going;
-    mirrors = subst (λ u. Mirrors u (with_value t.running.values (Half Ax Low) 0x1A)) (sym st) (taken-mirrors behind t.running.values 0x1A small (mirrors_state s behind t.running.values refl refl both.mirrors));
+    mirrors = subst (λ u. Mirrors u (with_value t.running.values (Half Ax Low) 0x1A)) (sym st)
+        (taken-mirrors behind t.running.values 0x1A small (mirrors_state s behind t.running.values refl refl both.mirrors));
     fits = fits_taking (scene_of t) (Half Ax Low) 0x1A (lit< tt) both.fits;
     input = both.input ∙ sym (ap (λ u. u.input) st);
     out = both.out ∙ sym (ap (λ u. u.out) st);

@@ -263,10 +263,12 @@ module _ (image : Image) (layout : Layout) (start : Proc) (p : Program) (given :
   graph-few =
       let nodes = start.nodes.entries in
       let setters = graph-counted is_flag_setter (λ node. flags_written node.instr.op) (prelude-setters image layout nodes) (λ found one. op-setters found.1.instr.op found.1.number one.lifted) in
-      let others = graph-counted is_other_flag_stmt (λ node. cond (has_carry_in node.instr.op) 1 0) (prelude-others image layout nodes) (λ found one. op-others found.1.instr.op found.1.number one.lifted) in
+      let others = graph-counted is_other_flag_stmt (λ node. cond (has_carry_in node.instr.op) 1 0) (prelude-others image layout nodes)
+      (λ found one. op-others found.1.instr.op found.1.number one.lifted) in
       record {
         setters = subst (λ n. count_by is_flag_setter (graph_stmts (the_graph image layout start p is)) ≤ n) (sym (total-is (λ (found : ℕ × Node). flags_written found.1.instr.op) nodes)) setters;
-        others = subst (λ n. count_by is_other_flag_stmt (graph_stmts (the_graph image layout start p is)) ≤ n) (sym (total-is (λ (found : ℕ × Node). cond (has_carry_in found.1.instr.op) 1 0) nodes)) others;
+        others = subst (λ n. count_by is_other_flag_stmt (graph_stmts (the_graph image layout start p is)) ≤ n)
+            (sym (total-is (λ (found : ℕ × Node). cond (has_carry_in found.1.instr.op) 1 0) nodes)) others;
       }
 
   -- the program has few statements on flags

@@ -61,7 +61,7 @@ form-goes_on (ShiftOp kind a by_cl) next ah targets form = refl
 form-goes_on (PlainOp kind) next ah targets form = refl
 form-goes_on op next ah targets form = absurd (true≢false (sym form))
 
--- what a prelude may end behind is refused in a procedure: a system operation, or one on SP
+-- what a prelude may end after is refused in a procedure: a system operation, or one on SP
 ending-refused : (op : Op) → is_prelude_form op ≡ true → may_end_prelude op ≡ true → (is_system op ≡ true) ⊎ (is_unbuilt op ≡ true)
 ending-refused (Mov (Seg number) from) form ends = inl refl
 ending-refused (Mov (Word Sp) from) form ends = inr refl
@@ -308,7 +308,8 @@ module _ (image : Image) (layout : Layout) (procs : List Proc) (loaded : IsLoade
       record {
         found = e;
         stands = is.instr;
-        liftable = instruction-liftable at (drop at code) node.instr is.instr (node-built image layout procs are at node.instr is.node is.instr) (node-user image layout procs are at node.instr is.node is.instr);
+        liftable = instruction-liftable at (drop at code) node.instr is.instr (node-built image layout procs are at node.instr is.node is.instr)
+            (node-user image layout procs are at node.instr is.node is.instr);
         operation = instruction-operation at (drop at code) node.instr bytes is.instr;
         number = λ dos. node-number image layout procs are at node.instr node.number is.node is.instr dos (is.number dos is.node.before is.node.trail);
         told = is.number;

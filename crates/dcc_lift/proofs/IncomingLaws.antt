@@ -15,7 +15,8 @@ abbrev pub noted : ℕ → ℕ → List ℕ → List ℕ
 noted from to successors = map (λ _. from) (filter (λ next. next == to) successors)
 
 -- one successor more
-pub noted-more : (from to : ℕ) (successors : List ℕ) (i : ℕ) → i < length successors → noted from to (take (i + 1) successors) ≡ noted from to (take i successors) ++ noted from to (get_or successors i 0 ∷ [])
+pub noted-more : (from to : ℕ) (successors : List ℕ) (i : ℕ) → i < length successors → noted from to (take (i + 1) successors)
+    ≡ noted from to (take i successors) ++ noted from to (get_or successors i 0 ∷ [])
 noted-more from to successors i l =
     ap (noted from to) (take_more successors i 0 l)
     ∙ (ap (map (λ _. from)) (filter-append (λ next. next == to) (take i successors) (get_or successors i 0 ∷ []))
@@ -87,7 +88,8 @@ sole-edge [] from e = let clash = e in cc
 sole-edge (other ∷ []) from e = let same = e in cc
 sole-edge (other ∷ more ∷ edges) from e = let clash = e in cc
 
-pub joins_from : (nodes : Nodes) (start at from : ℕ) → incoming_of (edges_into nodes at) ≡ From from → joins nodes start at ≡ not (at == start) && (nat_lt from at && is_one (successors_in (node_in nodes from)))
+pub joins_from : (nodes : Nodes) (start at from : ℕ) → incoming_of (edges_into nodes at) ≡ From from → joins nodes start at ≡ not (at == start)
+    && (nat_lt from at && is_one (successors_in (node_in nodes from)))
 joins_from nodes start at from e = ap (λ edges. not (at == start) && comes_from_below nodes edges at) (sole-edge (edges_into nodes at) from e)
 
 -- an instruction that goes on at one place alone has an edge there

@@ -32,7 +32,8 @@ length-offsets : (nodes : Nodes) → length (map (λ (found : ℕ × Node). foun
 length-offsets [] = refl
 length-offsets (first ∷ nodes) = ap suc (length-offsets nodes)
 
-increasing-below : (nodes : Nodes) → AllPairs (λ (a b : ℕ × Node). a.0 < b.0) nodes → (k : ℕ) (d : ℕ × Node) → k + 1 < length nodes → get_or (map (λ (found : ℕ × Node). found.0) nodes) k 0 < get_or (map (λ (found : ℕ × Node). found.0) nodes) (k + 1) 0
+increasing-below : (nodes : Nodes) → AllPairs (λ (a b : ℕ × Node). a.0 < b.0) nodes → (k : ℕ) (d : ℕ × Node) → k + 1 < length nodes
+    → get_or (map (λ (found : ℕ × Node). found.0) nodes) k 0 < get_or (map (λ (found : ℕ × Node). found.0) nodes) (k + 1) 0
 increasing-below nodes pairs k d l =
     let one = get_or-offset nodes k d (omega arith) in
     let two = get_or-offset nodes (k + 1) d l in
@@ -84,13 +85,16 @@ never-falls xs rises i j le l = by (cases_eq i j)
     by (inr ne) = let below = AllPairs-from_increasing xs rises i j 0 (omega (arith, ne)) l in omega arith
 
 -- what a binary search among increasing numbers finds is the place of the number
-pub searched_place : (xs : List ℕ) (at : ℕ) (r : Result ℕ ℕ) → IsStrictlyIncreasing xs → IsBinarySearchResult (λ y. nat_cmp y at) xs r → MatchResult r (λ i. place_in xs at ≡ i) (λ i. place_in xs at ≡ length xs)
+pub searched_place : (xs : List ℕ) (at : ℕ) (r : Result ℕ ℕ) → IsStrictlyIncreasing xs → IsBinarySearchResult (λ y. nat_cmp y at) xs r
+    → MatchResult r (λ i. place_in xs at ≡ i) (λ i. place_in xs at ≡ length xs)
 searched_place xs at r rises found = by r (searched xs at r found (never-falls xs rises))
   where
     apart : (i k : ℕ) → ((k : ℕ) → k < i → get_or xs k 0 < at) → ((k : ℕ) → i ≤ k → k < length xs → at < get_or xs k 0) → k < length xs → get_or xs k 0 ≡ at → (k < i) ⊎ (i ≤ k) → ⊥
     apart i k below above l e (inl less) = let h = below k less in omega arith
     apart i k below above l e (inr more) = let h = above k more l in omega arith
 
-    by : (r : Result ℕ ℕ) → MatchResult r (λ i. (i < length xs) × (get_or xs i 0 ≡ at)) (λ i. (i ≤ length xs) × ((k : ℕ) → k < i → get_or xs k 0 < at) × ((k : ℕ) → i ≤ k → k < length xs → at < get_or xs k 0)) → MatchResult r (λ i. place_in xs at ≡ i) (λ i. place_in xs at ≡ length xs)
+    by : (r : Result ℕ ℕ) → MatchResult r (λ i. (i < length xs) × (get_or xs i 0 ≡ at))
+        (λ i. (i ≤ length xs) × ((k : ℕ) → k < i → get_or xs k 0 < at) × ((k : ℕ) → i ≤ k → k < length xs → at < get_or xs k 0))
+        → MatchResult r (λ i. place_in xs at ≡ i) (λ i. place_in xs at ≡ length xs)
     by (Result.Ok i) h = place-first xs at i h.0 h.1 (λ k l e. let below = AllPairs-from_increasing xs rises k i 0 l h.0 in omega (arith, e, h.1))
     by (Result.Err i) h = place-none xs at (λ k l e. apart i k h.1 h.2 l e (cases_lt k i))

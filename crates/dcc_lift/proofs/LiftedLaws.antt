@@ -46,14 +46,16 @@ others = record {
 pub operations-lifted : AreLifted
 operations-lifted = record {
   mirrors = op_mirrors others;
-  fits = λ op number scene l well other bits fits. values_fit (op_stmts op number) scene (subst (λ b. list_all (is_stmt b) (op_stmts op number) ≡ true) (sym bits) (op-well_formed op number l well)) fits;
+  fits = λ op number scene l well other bits fits. values_fit (op_stmts op number) scene
+      (subst (λ b. list_all (is_stmt b) (op_stmts op number) ≡ true) (sym bits) (op-well_formed op number l well)) fits;
   keeps = op_keeps;
   single = op_single;
   tested = λ op number at s ah scene test l well other bits fits m e. op_tested op number at s ah scene test m e;
   runs = λ op number graphs fill rest t l well other going. op-step graphs fill op number rest t l well other going;
 }
 
-module _ (image : Image) (layout : Layout) (procs : List Proc) (loaded : IsLoaded image) (has : HasLayout image layout) (are : AreFound image layout procs) (p : Program) (translation : IsTranslation image layout are.start p) where
+module _ (image : Image) (layout : Layout) (procs : List Proc) (loaded : IsLoaded image) (has : HasLayout image layout) (are : AreFound image layout procs)
+    (p : Program) (translation : IsTranslation image layout are.start p) where
   pub runs-as_machine : RunsAsMachine image p
   runs-as_machine fill input small bytes = runs-alike operations-lifted image layout procs loaded has are p translation fill input bytes
 
@@ -83,7 +85,9 @@ module _ (image : Image) (layout : Layout) (procs : List Proc) (loaded : IsLoade
     blocks = translation_has_blocks image layout are.start p translation are.entry liftable;
     wanted =
         let framed = translation_framed image layout are.start p translation in
-        subst (All (WantsTheSame image layout)) (sym framed.one) (All-cons (WantsTheSame image layout) framed.graph [] (found_wants image layout procs loaded has are p translation framed.graph framed.one) (All-nil (WantsTheSame image layout)));
+        subst (All (WantsTheSame image layout)) (sym framed.one)
+        (All-cons (WantsTheSame image layout) framed.graph [] (found_wants image layout procs loaded has are p translation framed.graph framed.one)
+        (All-nil (WantsTheSame image layout)));
   }
 
   -- the same of the one procedure

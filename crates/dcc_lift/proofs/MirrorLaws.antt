@@ -60,7 +60,8 @@ word_other s q r v other = get_or-set_other s.regs (reg_number r) (reg_number q)
 -- Locations.
 
 -- a mirror sees no more than what halves and flags hold
-pub mirrors_seen : (s : State) (values others : Values) → ((r : Reg) (h : HalfName) → values (Half r h) ≡ others (Half r h)) → ((f : FlagName) → values (Flag f) ≡ others (Flag f)) → Mirrors s values → Mirrors s others
+pub mirrors_seen : (s : State) (values others : Values) → ((r : Reg) (h : HalfName) → values (Half r h) ≡ others (Half r h))
+    → ((f : FlagName) → values (Flag f) ≡ others (Flag f)) → Mirrors s values → Mirrors s others
 mirrors_seen s values others halves flags m = record {
   eight = m.eight;
   words = λ r g. m.words r g ∙ ap (λ k. k * 256 + values (Half r Low)) (halves r High) ∙ ap (λ k. others (Half r High) * 256 + k) (halves r Low);
@@ -225,7 +226,8 @@ written_halves s values r v l h m e q g false t =
     word_other s q r v other ∙ m.words q g ∙ sym (ap (λ k. k * 256 + with_value low (Half r High) h (Half q Low)) high_is ∙ ap (λ k. values (Half q High) * 256 + k) low_is)
 
 -- a word register takes a word, and its halves take the bytes
-pub mirrors_word : (s : State) (values : Values) (r : Reg) (v l h : ℕ) → v ≡ h * 256 + l → Mirrors s values → Mirrors (with_word_in s r v) (with_value (with_value values (Half r Low) l) (Half r High) h)
+pub mirrors_word : (s : State) (values : Values) (r : Reg) (v l h : ℕ) → v ≡ h * 256 + l → Mirrors s values
+    → Mirrors (with_word_in s r v) (with_value (with_value values (Half r Low) l) (Half r High) h)
 mirrors_word s values r v l h e m = record {
   eight = length-set s.regs (reg_number r) v ∙ m.eight;
   words = λ q g. written_halves s values r v l h m e q g (register_number q == register_number r) refl;
@@ -240,7 +242,9 @@ mirrors_word s values r v l h e m = record {
 -- writing again what the other half holds changes nothing
 again_low : (values : Values) (r : Reg) (v : ℕ) → Alike (with_value (with_value values (Half r Low) v) (Half r High) (values (Half r High))) (with_value values (Half r Low) v)
 again_low values r v location =
-    elim (same_location location (Half r High)) as (λ b. same_location location (Half r High) ≡ b → (if b then values (Half r High) else with_value values (Half r Low) v location) ≡ with_value values (Half r Low) v location) [
+    elim (same_location location (Half r High)) as
+    (λ b. same_location location (Half r High) ≡ b → (if b then values (Half r High) else with_value values (Half r Low) v location)
+    ≡ with_value values (Half r Low) v location) [
       | true ↦ λ t. sym (ap (with_value values (Half r Low) v) (location_same location (Half r High) t) ∙ high_kept values r r v)
       | false ↦ λ _. refl
     ] refl

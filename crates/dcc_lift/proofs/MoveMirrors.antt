@@ -71,7 +71,9 @@ xchg_words r q s scene gr gq fits m =
     let two = mirrors_word (with_word_in s r (word_in s q)) _ q (word_in s r) (scene.values (Half r Low)) (scene.values (Half r High)) (m.words r gr) one in
     mirrors_seen _ _ _ (λ x h. same x h) (λ f. refl) two
   where
-    same : (x : Reg) (h : HalfName) → with_value (with_value (with_value (with_value scene.values (Half r Low) (scene.values (Half q Low))) (Half r High) (scene.values (Half q High))) (Half q Low) (scene.values (Half r Low))) (Half q High) (scene.values (Half r High)) (Half x h)
+    same : (x : Reg) (h : HalfName)
+        → with_value (with_value (with_value (with_value scene.values (Half r Low) (scene.values (Half q Low))) (Half r High) (scene.values (Half q High)))
+        (Half q Low) (scene.values (Half r Low))) (Half q High) (scene.values (Half r High)) (Half x h)
         ≡ (executed (xchg_stmts (Word r) (Word q)) scene).values (Half x h)
     same x Low = simp and_false
     same x High = simp and_false

@@ -77,7 +77,9 @@ Differ (found ∷ nodes) = (is_node nodes found.0 ≡ false) × Differ nodes
 pub ascending_differ : (nodes : Nodes) → AllPairs (λ (a b : ℕ × Node). a.0 < b.0) nodes → Differ nodes
 ascending_differ [] up = tt
 ascending_differ (found ∷ nodes) up = (
-  list_any_none (λ other. other.0 == found.0) nodes (λ k d inside. ne_eqb (get_or nodes k d).0 found.0 (λ same. let less : found.0 < (get_or nodes k d).0 = up 0 (suc k) d (omega arith) (omega arith) in absurd (omega arith))),
+  list_any_none (λ other. other.0 == found.0) nodes
+      (λ k d inside. ne_eqb (get_or nodes k d).0 found.0
+      (λ same. let less : found.0 < (get_or nodes k d).0 = up 0 (suc k) d (omega arith) (omega arith) in absurd (omega arith))),
   ascending_differ nodes (λ i j d less inside. up (suc i) (suc j) d (omega arith) (omega arith)),
 )
 

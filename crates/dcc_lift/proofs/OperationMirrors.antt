@@ -187,7 +187,8 @@ abbrev Goes : Op → Option ℕ → ℕ → State → Option ℕ → Scene → E
 Goes op number at s ah scene test =
     (target : ℕ) × (op_successors op s.ip ah [] ≡ target ∷ s.ip ∷ []) × ((op_step op at s).ip ≡ (if value_of (executed (op_stmts op number) scene) test == 1 then target else s.ip))
 
-branch_goes : (tested : Cond) (target : ℕ) (number : Option ℕ) (at : ℕ) (s : State) (ah : Option ℕ) (scene : Scene) → Mirrors s scene.values → Goes (Branch tested target) number at s ah scene (condition tested)
+branch_goes : (tested : Cond) (target : ℕ) (number : Option ℕ) (at : ℕ) (s : State) (ah : Option ℕ) (scene : Scene) → Mirrors s scene.values
+    → Goes (Branch tested target) number at s ah scene (condition tested)
 branch_goes tested target number at s ah scene m = (target, refl, chosen_by _ target s.ip (holds tested s.flags) (condition_value tested s scene m))
 
 -- CX is not 0 after it was lowered

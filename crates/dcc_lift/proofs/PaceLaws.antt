@@ -11,7 +11,9 @@ abbrev pub IsPaced : {S T P : Type 0} → ℕ → (P → Bool) → System S → 
 IsPaced bound kept first mark second other_mark related s t =
     (g : IsGathered kept first mark second other_mark related s t) × (g.further < bound)
 
-module _ {S T P : Type 0} (bound : ℕ) (kept : P → Bool) (first : System S) (mark : S → Option P) (second : System T) (other_mark : T → Option P) (related : S → T → Type 0) (law : IsLawful first) (other_law : IsLawful second) (alike : (s : S) (t : T) → related s t → Stands second t 0 first s 0) (paced : (s : S) (t : T) → related s t → IsPaced bound kept first mark second other_mark related s t) where
+module _ {S T P : Type 0} (bound : ℕ) (kept : P → Bool) (first : System S) (mark : S → Option P) (second : System T) (other_mark : T → Option P)
+    (related : S → T → Type 0) (law : IsLawful first) (other_law : IsLawful second) (alike : (s : S) (t : T) → related s t → Stands second t 0 first s 0)
+    (paced : (s : S) (t : T) → related s t → IsPaced bound kept first mark second other_mark related s t) where
   -- the bound once more
   once_more : (n steps more : ℕ) → steps ≤ bound → more ≤ n * bound → steps + more ≤ suc n * bound
   once_more n steps more one rest = grind (arith, one, rest)

@@ -5,7 +5,7 @@ use Rattle.dcc_prog.specs.declared.instr.Instr.{Instr}
 use Rattle.dcc_prog.specs.Layout.{IsFormAt, IsRun, end_of}
 use Rattle.dcc_prog.proofs.PreludeLaws.{form-inside}
 
--- the offset of an instruction of a run, by its place, where the run begins at an offset; behind the last one, the run's end
+-- the offset of an instruction of a run, by its place, where the run begins at an offset; after the last one, the run's end
 abbrev pub offset_in : ℕ → List Instr → ℕ → ℕ
 offset_in zero run at = at
 offset_in (suc k) [] at = at

@@ -84,7 +84,8 @@ place_taken byte_width values v = refl
 place_taken word_width values v = refl
 
 -- a multiplication: p is the product, needed whether it needs its upper half
-multiplied_shown : (w : Width) (signed : Bool) (s : State) (scene : Scene) (a : Operand) (p low high : ℕ) (needed : Bool) → is_register a ≡ true → Fits scene → scene.bits ≡ temporary_bits → Mirrors s scene.values
+multiplied_shown : (w : Width) (signed : Bool) (s : State) (scene : Scene) (a : Operand) (p low high : ℕ) (needed : Bool) → is_register a ≡ true → Fits scene
+    → scene.bits ≡ temporary_bits → Mirrors s scene.values
     → ((seen : Scene) → Holds w seen (accumulator_in w s) (operand_value s a) → value_of seen (multiplied w signed) ≡ p)
     → ((seen : Scene) → seen.values (product_place w) ≡ p → value_of seen (needs_upper_half w signed) ≡ from_bool needed)
     → p < 2 ^ double w → low ≡ p % limit_of w → high ≡ p / limit_of w
@@ -125,7 +126,8 @@ mul_mirrors a s scene g ok fits bits mirrors =
 
 -- of signed numbers
 pub imul_mirrors : (a : Operand) (s : State) (scene : Scene) → is_register a ≡ true → IsOperand a → Fits scene → scene.bits ≡ temporary_bits → Mirrors s scene.values
-    → Mirrors (with_product (operand_width a) (signed_product_of (operand_width a) (accumulator_in (operand_width a) s) (operand_value s a)) s) (executed (multiplying (operand_width a) true a) scene).values
+    → Mirrors (with_product (operand_width a) (signed_product_of (operand_width a) (accumulator_in (operand_width a) s) (operand_value s a)) s)
+    (executed (multiplying (operand_width a) true a) scene).values
 unfolding signed_product_of
 imul_mirrors a s scene g ok fits bits mirrors =
     let w : Width = operand_width a in
@@ -186,8 +188,10 @@ cwd_mirrors s scene fits mirrors =
     mirrors_word s (with_value scene.values (Temp 6) v) Dx (extension_of word_width (word_in s Ax)) (v / 2 ^ 16 % 2 ^ 8) (v / 2 ^ 24 % 2 ^ 8) e (mirrors_temp s scene.values 6 v mirrors)
 
 -- the same of the operations
-pub cbw_op_mirrors : (s : State) (scene : Scene) (at : ℕ) (number : Option ℕ) → Fits scene → Mirrors s scene.values → Mirrors (op_step (PlainOp Cbw) at s) (executed (op_stmts (PlainOp Cbw) number) scene).values
+pub cbw_op_mirrors : (s : State) (scene : Scene) (at : ℕ) (number : Option ℕ) → Fits scene → Mirrors s scene.values
+    → Mirrors (op_step (PlainOp Cbw) at s) (executed (op_stmts (PlainOp Cbw) number) scene).values
 cbw_op_mirrors s scene at number fits mirrors = cbw_mirrors s scene fits mirrors
 
-pub cwd_op_mirrors : (s : State) (scene : Scene) (at : ℕ) (number : Option ℕ) → Fits scene → Mirrors s scene.values → Mirrors (op_step (PlainOp Cwd) at s) (executed (op_stmts (PlainOp Cwd) number) scene).values
+pub cwd_op_mirrors : (s : State) (scene : Scene) (at : ℕ) (number : Option ℕ) → Fits scene → Mirrors s scene.values
+    → Mirrors (op_step (PlainOp Cwd) at s) (executed (op_stmts (PlainOp Cwd) number) scene).values
 cwd_op_mirrors s scene at number fits mirrors = cwd_mirrors s scene fits mirrors

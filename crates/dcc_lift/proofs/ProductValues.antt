@@ -75,7 +75,8 @@ pattern_product m (negsuc a) (pos b) whole first second some =
     let less : a % m ≡ a = mod-eq_of_lt first in
     let e : m - 1 - a ≡ m - suc a = omega arith in
     mul-mod_second (m - 1 - a % m) b m
-    ∙ rw (less, e) (ap (λ (n : ℕ). n % m) (mul_comm (m - suc a) b) ∙ up_down m b a (subst (λ (n : ℕ). n ≤ m) (mul_comm (suc a) b) whole) first some ∙ ap (λ (n : ℕ). residue_of m (neg_ℤ (pos n))) (mul_comm b (suc a)))
+    ∙ rw (less, e) (ap (λ (n : ℕ). n % m) (mul_comm (m - suc a) b) ∙ up_down m b a (subst (λ (n : ℕ). n ≤ m) (mul_comm (suc a) b) whole) first some
+    ∙ ap (λ (n : ℕ). residue_of m (neg_ℤ (pos n))) (mul_comm b (suc a)))
 pattern_product m (negsuc a) (negsuc b) whole first second some =
     let one : a % m ≡ a = mod-eq_of_lt first in
     let two : b % m ≡ b = mod-eq_of_lt second in

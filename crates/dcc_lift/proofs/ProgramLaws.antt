@@ -423,7 +423,7 @@ good-shallow count (block ∷ blocks) good =
 
 -- The program.
 
--- the graph of these blocks behind that of the prelude
+-- the graph of these blocks after that of the prelude
 abbrev pub lifted_graph : Image → Layout → Nodes → List Block → Graph
 lifted_graph image layout nodes blocks = record {
   entry = layout.start_ip;
@@ -471,7 +471,9 @@ graph-addresses image layout start blocks given are =
     let nodes = start.nodes.entries in
     let entry = layout.start_ip in
     let keep : ℕ → Bool = λ n. not (joins nodes entry n) in
-    let nowhere : list_any (λ m. image.ip == m) (offsets_of nodes) ≡ false = untrue (list_any (λ m. image.ip == m) (offsets_of nodes)) (λ there. given.sound.apart (contained_any (offsets_of nodes) image.ip (flipped-in (offsets_of nodes) image.ip there))) in
+    let nowhere : list_any (λ m. image.ip == m) (offsets_of nodes) ≡ false =
+    untrue (list_any (λ m. image.ip == m) (offsets_of nodes))
+    (λ there. given.sound.apart (contained_any (offsets_of nodes) image.ip (flipped-in (offsets_of nodes) image.ip there))) in
     let outside = filter-lacks (λ m. image.ip == m) keep (offsets_of nodes) nowhere in
     let differ = filter-differ keep (offsets_of nodes) (ascending-differ nodes given.sound.ascending) in
     let whole : all_differ (image.ip ∷ leaders nodes entry) ≡ true = both (not (list_any (λ m. image.ip == m) (leaders nodes entry))) (all_differ (leaders nodes entry)) (ap not outside) differ in

@@ -56,7 +56,9 @@ int-or-other (Table r o) = inr (λ e. cc)
 int-or-other (Call t) = inr (λ e. cc)
 int-or-other (Ret n) = inr (λ e. cc)
 
-module _ (laws : AreLifted) (image : Image) (layout : Layout) (start : Proc) (p : Program) (fill : ℕ) (translation : IsTranslation image layout start p) (sound : AreSound start.nodes.entries layout.start_ip image.ip) (placed : IsPlaced image) (instructions : (at : ℕ) → IsNode image layout layout.start_ip at → (node : Node) × IsInstruction image layout start.nodes.entries at node) where
+module _ (laws : AreLifted) (image : Image) (layout : Layout) (start : Proc) (p : Program) (fill : ℕ) (translation : IsTranslation image layout start p)
+    (sound : AreSound start.nodes.entries layout.start_ip image.ip) (placed : IsPlaced image)
+    (instructions : (at : ℕ) → IsNode image layout layout.start_ip at → (node : Node) × IsInstruction image layout start.nodes.entries at node) where
   abbrev nodes : Nodes
   nodes = start.nodes.entries
 
@@ -80,7 +82,8 @@ module _ (laws : AreLifted) (image : Image) (layout : Layout) (start : Proc) (p 
     pub rest_is : t.running.rest ≡ t.running.block.stmts
 
   -- an instruction does what its statements do: it is passed, or both runs end
-  instruction-done : (s : Machine) (t : Inner) (at : ℕ) (before : List ℕ) (both : BothStand image layout graph s t at before) (node : Node) → IsInstruction image layout nodes at node → IsDone image layout graph p.graphs fill node s t at before
+  instruction-done : (s : Machine) (t : Inner) (at : ℕ) (before : List ℕ) (both : BothStand image layout graph s t at before) (node : Node)
+      → IsInstruction image layout nodes at node → IsDone image layout graph p.graphs fill node s t at before
   instruction-done s t at before both node is =
       elim (int-or-other node.instr.op) [
         | inl int ↦ dos-done image layout graph nodes placed refl p.graphs fill s t at before node both is int
@@ -88,7 +91,8 @@ module _ (laws : AreLifted) (image : Image) (layout : Layout) (start : Proc) (p 
       ]
 
   -- the run comes to the block at a leader
-  pub arrived : (s : Machine) (v : Inner) (to : ℕ) (before : List ℕ) → BothStand image layout graph s v to before → is_leader nodes entry to ≡ true → AtBlock s (going_to (block_place nodes entry to) v)
+  pub arrived : (s : Machine) (v : Inner) (to : ℕ) (before : List ℕ) → BothStand image layout graph s v to before → is_leader nodes entry to ≡ true
+      → AtBlock s (going_to (block_place nodes entry to) v)
   arrived s v to before both leader =
       let h = block_at_leader image layout start p translation sound to leader in
       let found : slice_get v.running.graph.blocks (block_place nodes entry to) ≡ Some h.block = ap (λ (g : Graph). slice_get g.blocks (block_place nodes entry to)) both.graph_is ∙ h.found in
@@ -145,9 +149,11 @@ module _ (laws : AreLifted) (image : Image) (layout : Layout) (start : Proc) (p 
   two-same x y a b xs e f = (cc, cc)
 
   -- the step through the last instruction of a block
-  module _ (related : Machine → Inner → Type 0) (at-block : (s : Machine) (t : Inner) → AtBlock s t → related s t) (s : Machine) (t : Inner) (at : ℕ) (before : List ℕ) (both : BothStand image layout graph s t at before) (node : Node) (is : IsInstruction image layout nodes at node) where
+  module _ (related : Machine → Inner → Type 0) (at-block : (s : Machine) (t : Inner) → AtBlock s t → related s t) (s : Machine) (t : Inner) (at : ℕ)
+      (before : List ℕ) (both : BothStand image layout graph s t at before) (node : Node) (is : IsInstruction image layout nodes at node) where
     -- how the program's block ends, and where the machine has gone
-    last-goes : (x : IsPassed image layout graph p.graphs fill node s t at before) (exit : Exit) → IsExitOf nodes entry node exit → exit_step exit x.next ≡ going_to (block_place nodes entry x.to) x.next
+    last-goes : (x : IsPassed image layout graph p.graphs fill node s t at before) (exit : Exit) → IsExitOf nodes entry node exit → exit_step exit x.next
+        ≡ going_to (block_place nodes entry x.to) x.next
     last-goes x exit (stops none succ e) = absurd (one-of-none x.to node.succ.items (x.single none) succ)
     last-goes x exit (goes none succ e) =
         ap (λ ex. exit_step ex x.next) e ∙ ap (λ to. going_to (block_place nodes entry to) x.next) (one-same _ x.to node.succ.items succ (x.single none))
@@ -210,7 +216,8 @@ module _ (laws : AreLifted) (image : Image) (layout : Layout) (start : Proc) (p 
         ap (λ e. visits_of kept (if is_over e then [] else visit_at machine_system s (Some s.ip))) running
         ∙ ap (λ b. cond b (record { place = s.ip; out = s.out } ∷ []) []) (ap kept ip ∙ none)
 
-    chain-through : (rest : List ℕ) (s : Machine) (t : Inner) (at : ℕ) (before : List ℕ) → BothStand image layout graph s t at before → IsChain nodes entry at rest → t.running.block.exit ≡ exit_at nodes entry (last_of at rest)
+    chain-through : (rest : List ℕ) (s : Machine) (t : Inner) (at : ℕ) (before : List ℕ) → BothStand image layout graph s t at before
+        → IsChain nodes entry at rest → t.running.block.exit ≡ exit_at nodes entry (last_of at rest)
         → Through related (length rest) s (block_step p.graphs fill (flat_map (stmts_at nodes) (at ∷ rest)) t)
     chain-through [] s t at before both chain exit_is =
         let x = instructions at (record { before = before; trail = both.trail }) in
@@ -238,13 +245,15 @@ module _ (laws : AreLifted) (image : Image) (layout : Layout) (start : Proc) (p 
               })
         ]
       where
-        only-to : (s : Machine) (t : Inner) (at : ℕ) (before : List ℕ) (node : Node) (y : IsPassed image layout graph p.graphs fill node s t at before) (next : ℕ) → node.succ.items ≡ next ∷ [] → y.to ≡ next
+        only-to : (s : Machine) (t : Inner) (at : ℕ) (before : List ℕ) (node : Node) (y : IsPassed image layout graph p.graphs fill node s t at before)
+            (next : ℕ) → node.succ.items ≡ next ∷ [] → y.to ≡ next
         only-to s t at before node y next succ = elim (op_test node.instr.op) as (λ o. op_test node.instr.op ≡ o → y.to ≡ next) [
           | None ↦ λ none. one-same y.to next node.succ.items (y.single none) succ
           | Some test ↦ λ some. let z = y.tested test some in absurd (two-of-one z.0 z.1 next node.succ.items z.2 succ)
         ] refl
 
-        within : (s : Machine) (further : ℕ) → is_over s.end ≡ false → ((j : ℕ) → j ≤ further → is_over (after machine_step j (machine_step s)).end ≡ false) → (j : ℕ) → j ≤ suc further → is_over (after machine_step j s).end ≡ false
+        within : (s : Machine) (further : ℕ) → is_over s.end ≡ false → ((j : ℕ) → j ≤ further → is_over (after machine_step j (machine_step s)).end ≡ false)
+            → (j : ℕ) → j ≤ suc further → is_over (after machine_step j s).end ≡ false
         within s further first later zero le = first
         within s further first later (suc j) le = let less : j ≤ further = omega (arith, le) in later j less
 
@@ -262,7 +271,9 @@ module _ (laws : AreLifted) (image : Image) (layout : Layout) (start : Proc) (p 
           record {
             further = length block.rest;
             visit =
-                ap₂ (λ e begins. if is_over e then [] else visit_at (inner_system p fill) t (option_map (λ (place : Place). place.at) (if begins then Some (record { entry = t.running.graph.entry; at = t.running.block.at }) else None))) b.both.going b.begins
+                ap₂ (λ e begins. if is_over e then [] else visit_at (inner_system p fill) t
+                (option_map (λ (place : Place). place.at)
+                (if begins then Some (record { entry = t.running.graph.entry; at = t.running.block.at }) else None))) b.both.going b.begins
                 ∙ ap₂ (λ at out. record { place = at; out = out } ∷ []) (block.at_is ∙ sym b.both.ip_is) b.both.out
                 ∙ sym (ap (λ e. visits_of kept (if is_over e then [] else visit_at machine_system s (Some s.ip))) b.both.running
                 ∙ ap (λ k. cond k (record { place = s.ip; out = s.out } ∷ []) []) (ap kept b.both.ip_is ∙ here));

@@ -38,9 +38,11 @@ use Rattle.dcc_lift.proofs.FoundSound.{start-below, prelude-some, prelude-below,
 use Rattle.dcc_lift.proofs.Standing.{AreLifted}
 use Rattle.dcc_lift.proofs.PaceLaws.{IsPaced, follows_paced}
 use Rattle.dcc_lift.proofs.RunLaws.{AtBlock, arrived, block-paced}
-use Rattle.dcc_lift.proofs.StartLaws.{begin, first-is, begin-step, set_up, behind_prelude, prelude-steps, begun-stand}
+use Rattle.dcc_lift.proofs.StartLaws.{begin, first-is, begin-step, set_up, after_prelude, prelude-steps, begun-stand}
 
-module _ (laws : AreLifted) (image : Image) (layout : Layout) (procs : List Proc) (loaded : IsLoaded image) (has : HasLayout image layout) (are : AreFound image layout procs) (p : Program) (translation : IsTranslation image layout are.start p) (fill : ℕ) (input : List ℕ) (bytes : All (λ byte. byte < 256) input) where
+module _ (laws : AreLifted) (image : Image) (layout : Layout) (procs : List Proc) (loaded : IsLoaded image) (has : HasLayout image layout)
+    (are : AreFound image layout procs) (p : Program) (translation : IsTranslation image layout are.start p) (fill : ℕ) (input : List ℕ)
+    (bytes : All (λ byte. byte < 256) input) where
   sound : AreSound are.start.nodes.entries layout.start_ip image.ip
   sound = found-sound image layout procs loaded has are
 
@@ -56,7 +58,8 @@ module _ (laws : AreLifted) (image : Image) (layout : Layout) (procs : List Proc
     at_block : InBlock s t → AreRelated s t
 
   -- a state of the machine within the prelude
-  steps-to : (k : ℕ) → k ≤ length has.prelude → after machine_step k (start_state image input) ≡ at_offset image input (executed_run (start_state image []) (take k has.prelude)) (offset_in k has.prelude image.ip)
+  steps-to : (k : ℕ) → k ≤ length has.prelude → after machine_step k (start_state image input)
+      ≡ at_offset image input (executed_run (start_state image []) (take k has.prelude)) (offset_in k has.prelude image.ip)
   steps-to k le =
       let run = run-taken (code_of image) k has.prelude image.ip has.is_prelude.run in
       ap (λ n. after machine_step n (start_state image input)) (sym (length-take-le k has.prelude le))
@@ -98,25 +101,29 @@ module _ (laws : AreLifted) (image : Image) (layout : Layout) (procs : List Proc
       let within : k < length has.prelude = omega (arith, le) in
       let later : suc k + m ≤ length has.prelude = omega (arith, le) in
       let more : 0 < suc k = omega arith in
-      visits_of-append kept (visit_of machine_system instruction_mark (after machine_step k (start_state image input))) (visits machine_system instruction_mark m (machine_step (after machine_step k (start_state image input))))
+      visits_of-append kept (visit_of machine_system instruction_mark (after machine_step k (start_state image input)))
+      (visits machine_system instruction_mark m (machine_step (after machine_step k (start_state image input))))
       ∙ ap₂ (λ a b. a ++ b) (quiet-there k some within)
       (ap (λ s. visits_of kept (visits machine_system instruction_mark m s)) (next-state k) ∙ quiet-on m (suc k) more later)
 
   -- the block of the prelude stands for the machine's steps through the prelude
-  start-paced : IsPaced 65536 kept machine_system instruction_mark (inner_system p fill) offset_mark AreRelated (start_state image input) (begin image layout are.start p fill input loaded has translation bytes)
+  start-paced : IsPaced 65536 kept machine_system instruction_mark (inner_system p fill) offset_mark AreRelated (start_state image input)
+      (begin image layout are.start p fill input loaded has translation bytes)
   start-paced =
       let some = prelude-some image layout loaded has in
       let further : ℕ = length has.prelude - 1 in
       let all : suc further ≡ length has.prelude = omega (arith, some) in
       let one : 0 < 1 = omega arith in
       let rest : 1 + further ≤ length has.prelude = omega (arith, all) in
-      let here : kept image.ip ≡ true = program_has_block image layout are.start p translation sound image.ip ∙ ap (λ b. b || is_leader are.start.nodes.entries layout.start_ip image.ip) (same_number image.ip) in
+      let here : kept image.ip ≡ true = program_has_block image layout are.start p translation sound image.ip
+      ∙ ap (λ b. b || is_leader are.start.nodes.entries layout.start_ip image.ip) (same_number image.ip) in
       let both = begun-stand image layout are.start p fill input loaded has translation bytes (start-below image layout loaded has) in
       let stand : AreRelated (after machine_step (suc further) (start_state image input)) (inner_step p fill (begin image layout are.start p fill input loaded has translation bytes)) =
-      at_block (subst (λ s. InBlock s (inner_step p fill (begin image layout are.start p fill input loaded has translation bytes))) (sym (ap (λ n. after machine_step n (start_state image input)) all ∙ prelude-steps image layout are.start p fill input loaded has translation bytes))
-      (subst (λ t. InBlock (behind_prelude image layout are.start p fill input loaded has translation bytes) t) (sym (begin-step image layout are.start p fill input loaded has translation bytes))
+      at_block (subst (λ s. InBlock s (inner_step p fill (begin image layout are.start p fill input loaded has translation bytes)))
+      (sym (ap (λ n. after machine_step n (start_state image input)) all ∙ prelude-steps image layout are.start p fill input loaded has translation bytes))
+      (subst (λ t. InBlock (after_prelude image layout are.start p fill input loaded has translation bytes) t) (sym (begin-step image layout are.start p fill input loaded has translation bytes))
       (arrived laws image layout are.start p fill translation sound (loaded-placed image loaded) (node-instruction image layout procs loaded has are)
-      (behind_prelude image layout are.start p fill input loaded has translation bytes) (set_up image layout are.start p fill input loaded has translation bytes) layout.start_ip [] both
+      (after_prelude image layout are.start p fill input loaded has translation bytes) (set_up image layout are.start p fill input loaded has translation bytes) layout.start_ip [] both
       (entry_is_leader are.start.nodes.entries layout.start_ip image.ip sound)))) in
       let below = prelude-below image layout loaded has further (omega (arith, all)) in
       let far = offset-far (code_of image) further has.prelude image.ip has.is_prelude.run (omega (arith, all)) in (
@@ -152,13 +159,15 @@ module _ (laws : AreLifted) (image : Image) (layout : Layout) (procs : List Proc
   -- the program's run visits its blocks as the machine does, and the two end alike
   pub runs-alike : VisitsKept kept machine_system instruction_mark (start_state image input) (inner_system p fill) offset_mark (first_state p fill input)
   runs-alike =
-      subst (λ t. VisitsKept kept machine_system instruction_mark (start_state image input) (inner_system p fill) offset_mark t) (sym (first-is image layout are.start p fill input loaded has translation bytes))
+      subst (λ t. VisitsKept kept machine_system instruction_mark (start_state image input) (inner_system p fill) offset_mark t)
+      (sym (first-is image layout are.start p fill input loaded has translation bytes))
       (visits_kept_gathered kept machine_system instruction_mark (inner_system p fill) offset_mark AreRelated machine_lawful (inner_lawful p fill) gathered runs-on
       (start_state image input) (begin image layout are.start p fill input loaded has translation bytes) (at_start refl refl))
 
   -- the machine is within so many steps where the program's run stands
   pub machine-follows : Follows (λ m. Unit {0}) (inner_system p fill) (first_state p fill input) machine_system (start_state image input) (λ m. (m + 1) * 65536)
   machine-follows =
-      subst (λ t. Follows (λ m. Unit {0}) (inner_system p fill) t machine_system (start_state image input) (λ m. (m + 1) * 65536)) (sym (first-is image layout are.start p fill input loaded has translation bytes))
+      subst (λ t. Follows (λ m. Unit {0}) (inner_system p fill) t machine_system (start_state image input) (λ m. (m + 1) * 65536))
+      (sym (first-is image layout are.start p fill input loaded has translation bytes))
       (follows_paced 65536 kept machine_system instruction_mark (inner_system p fill) offset_mark AreRelated machine_lawful (inner_lawful p fill) alike paced
       (start_state image input) (begin image layout are.start p fill input loaded has translation bytes) (λ m. (m + 1) * 65536) (at_start refl refl) (λ m. omega arith))

@@ -33,7 +33,8 @@ use Rattle.dcc_lift.specs.Statements.{taking, result_taking, storing, shift_flag
 use Rattle.dcc_lift.specs.Mirrors.{Mirrors, executed}
 use Rattle.dcc_lift.specs.Liftable.{is_register, is_source, is_liftable}
 use Rattle.dcc_lift.proofs.MirrorLaws.{executed_append, mirrors_flags, mirrors_two}
-use Rattle.dcc_lift.proofs.ShiftValues.{sign_value, bit_value, differ_value, both_value, one_less, last_out, lowest_out, signed_is, lowest_of_signed, unmoved, turn_is, turn_below, rest_is, or_turned, or_turned_back, carry_below, carry_above, carry_above_small, unmoved_signed, unturned, unturned_back}
+use Rattle.dcc_num.proofs.Steps.{wrapped_signed}
+use Rattle.dcc_lift.proofs.ShiftValues.{sign_value, bit_value, differ_value, both_value, one_less, last_out, lowest_out, signed_is, lowest_of_signed, unmoved, turn_is, turn_below, rest_is, or_turned, or_turned_back, carry_below, carry_above, carry_above_small, unturned, unturned_back}
 use Rattle.dcc_lift.proofs.OperandMirrors.{register_source, operand_read, operand_below, stored}
 use Rattle.dcc_lift.proofs.TemporaryLaws.{with_values, Shows, shows_result, Holds, begun, count_read, count_below, Yields, yields, yields_flag}
 
@@ -54,7 +55,8 @@ differing scene e f p q first second = ap (λ (n : ℕ). bit_xor n (value_of sce
 -- a bit for a count of 1
 one_bit : (w : Width) (by_cl : Bool) (scene : Scene) (e : Expr) (n : ℕ) (x : Bool) → scene.values (right_place w) ≡ n → (by_cl ≡ false → n ≡ 1)
     → value_of scene e ≡ from_bool x → value_of scene (if_one w by_cl e) ≡ from_bool ((n == 1) && x)
-one_bit w true scene e n x counted one is = ap (λ (k : ℕ). bit_and (from_bool (nat_eq k 1)) (value_of scene e)) counted ∙ ap (λ (k : ℕ). bit_and (from_bool (nat_eq n 1)) k) is ∙ both_value (nat_eq n 1) x
+one_bit w true scene e n x counted one is = ap (λ (k : ℕ). bit_and (from_bool (nat_eq k 1)) (value_of scene e)) counted
+    ∙ ap (λ (k : ℕ). bit_and (from_bool (nat_eq n 1)) k) is ∙ both_value (nat_eq n 1) x
 one_bit w false scene e n x counted one is = is ∙ ap (λ (k : ℕ). from_bool (nat_eq k 1 && x)) (sym (one refl))
 
 -- a flag that stays where the count is 0
@@ -209,7 +211,8 @@ shl_works w by_cl s scene a n t =
     let after : Scene = executed (result_taking w (shifted ShlOp w)) scene in
     let small : r < limit_of w = remainder_small w (a * 2 ^ n) in
     let top : (seen : Scene) → Yields w seen a n r → 0 < n → value_of seen (sign w (nearly_shifted ShlOp w)) ≡ from_bool out =
-    λ seen z some. sign_bit w seen (nearly_shifted ShlOp w) (a * 2 ^ (n - 1) % limit_of w) (nearly_left w seen a n z.holds some t.count) (remainder_small w (a * 2 ^ (n - 1))) ∙ ap from_bool (last_out w a n some) in
+    λ seen z some. sign_bit w seen (nearly_shifted ShlOp w) (a * 2 ^ (n - 1) % limit_of w) (nearly_left w seen a n z.holds some t.count)
+    (remainder_small w (a * 2 ^ (n - 1))) ∙ ap from_bool (last_out w a n some) in
     let over : (seen : Scene) → Yields w seen a n r → 0 < n → value_of seen (if_one w by_cl (Binary XorOp 1 (sign w (nearly_shifted ShlOp w)) (sign w (result w)))) ≡ from_bool o =
     λ seen z some. one_bit w by_cl seen (Binary XorOp 1 (sign w (nearly_shifted ShlOp w)) (sign w (result w))) n (differ out (has_sign w r)) z.holds.right t.one
     (differing seen (sign w (nearly_shifted ShlOp w)) (sign w (result w)) out (has_sign w r) (top seen z some) (sign_bit w seen (result w) r z.result small)) in
@@ -260,10 +263,11 @@ sar_works w by_cl s scene a n t =
     let after : Scene = executed (result_taking w (shifted SarOp w)) scene in
     let small : r < limit_of w = wrapped_below w (halved_of (signed_of w a) n) in
     let last : (seen : Scene) → Yields w seen a n r → 0 < n → value_of seen (lowest (nearly_shifted SarOp w)) ≡ from_bool out =
-    λ seen z some. lowest_bit seen (nearly_shifted SarOp w) (wrapped_of w (halved_of (signed_of w a) (n - 1))) (nearly_signed w seen a n z.holds some t.count) ∙ ap from_bool (lowest_of_signed w (halved_of (signed_of w a) (n - 1))) in
+    λ seen z some. lowest_bit seen (nearly_shifted SarOp w) (wrapped_of w (halved_of (signed_of w a) (n - 1))) (nearly_signed w seen a n z.holds some t.count)
+    ∙ ap from_bool (lowest_of_signed w (halved_of (signed_of w a) (n - 1))) in
     let kept = shift_flags_kept w by_cl (bit 0) (lowest (nearly_shifted SarOp w)) s after a n r false out
     (signed_shift_of w a n s.flags).1 (shows_result w s scene (value_of scene (shifted SarOp w)) t.shown) y small t.one (λ seen z some. refl) last (flags_chosen (n == 0) (a, s.flags) (r, g)) in
-    let value : (signed_shift_of w a n s.flags).0 ≡ r = value_chosen n (a, s.flags) (r, g) (λ e. rw e (unmoved_signed w a t.operand)) (n == 0) refl in
+    let value : (signed_shift_of w a n s.flags).0 ≡ r = value_chosen n (a, s.flags) (r, g) (λ e. rw e (wrapped_signed w a t.operand)) (n == 0) refl in
     record { shown = kept.0; result = kept.1.result ∙ sym value; small = rw value small }
 
 rol_works : (w : Width) (by_cl : Bool) (s : State) (scene : Scene) (a n : ℕ) → Takes w by_cl s scene a n
@@ -338,7 +342,8 @@ rcr_works w by_cl s scene a n t =
     let small : r < limit_of w = carry_above_small w a s.flags.cf t.operand in
     let kept = turn_flags_kept w (Binary XorOp 1 (sign w (result w)) (below_sign w (result w))) (lowest (left w)) s after a n r (top_bits_differ w r) (is_set a 0)
     (shows_result w s scene (value_of scene (turned_right w)) t.shown) y
-    (λ seen z. differing seen (sign w (result w)) (below_sign w (result w)) (has_sign w r) (is_set r (bits_of w - 2)) (sign_bit w seen (result w) r z.result small) (below_sign_bit w seen (result w) r z.result))
+    (λ seen z. differing seen (sign w (result w)) (below_sign w (result w)) (has_sign w r) (is_set r (bits_of w - 2))
+    (sign_bit w seen (result w) r z.result small) (below_sign_bit w seen (result w) r z.result))
     (λ seen z. lowest_bit seen (left w) a z.holds.left) in
     record { shown = kept.0; result = kept.1.result; small = small }
 
@@ -355,7 +360,8 @@ shift_works Sar w by_cl s scene a n t = sar_works w by_cl s scene a n t
 -- The whole.
 
 -- the values mirror the machine after a shift or a rotate
-pub shift_mirrors : (operation : Shift) (a : Operand) (by_cl : Bool) (s : State) (scene : Scene) → is_register a ≡ true → IsOperand a → Fits scene → scene.bits ≡ temporary_bits → Mirrors s scene.values
+pub shift_mirrors : (operation : Shift) (a : Operand) (by_cl : Bool) (s : State) (scene : Scene) → is_register a ≡ true → IsOperand a → Fits scene → scene.bits
+    ≡ temporary_bits → Mirrors s scene.values
     → Mirrors (shift_step operation a by_cl s) (executed (shift_stmts operation (operand_width a) a by_cl) scene).values
 shift_mirrors operation a by_cl s scene g ok fits bits mirrors =
     let w : Width = operand_width a in

@@ -9,7 +9,6 @@ use Rattle.dcc_num.specs.declared.Width.{Width}
 use Rattle.dcc_num.specs.declared.Width.TheVariants.{Byte, Word}
 use Rattle.dcc_num.specs.Numbers.{bits_of, limit_of, half_of, has_sign, is_set, differ, residue_of, signed_of, halved_of, wrapped_of}
 use Rattle.dcc_num.specs.Shift.{turned_of}
-use Rattle.dcc_num.proofs.Steps.{signed_cases}
 use Rattle.dcc_ir.specs.Value.{signed_at}
 
 -- Bits.
@@ -76,21 +75,6 @@ lowest_of_signed Word (negsuc m) = grind (arith, nat_tests)
 pub unmoved : (w : Width) (a : ℕ) → a < limit_of w → a * 2 ^ 0 % limit_of w ≡ a
 unmoved Byte a small = omega arith
 unmoved Word a small = omega arith
-
--- nor does one of the signed number
-pub unmoved_signed : (w : Width) (a : ℕ) → a < limit_of w → a ≡ wrapped_of w (halved_of (signed_of w a) 0)
-unmoved_signed w a small = elim (signed_cases w a small) [
-  | inl low ↦ rw low.1 (up w a small)
-  | inr high ↦ rw high.1 (down w a small high.0)
-]
-  where
-    up : (w : Width) (a : ℕ) → a < limit_of w → a ≡ wrapped_of w (halved_of (pos a) 0)
-    up Byte a small = omega arith
-    up Word a small = omega arith
-
-    down : (w : Width) (a : ℕ) → a < limit_of w → half_of w ≤ a → a ≡ wrapped_of w (halved_of (negsuc (limit_of w - 1 - a)) 0)
-    down Byte a small high = omega arith
-    down Word a small high = omega arith
 
 -- Rotates.
 

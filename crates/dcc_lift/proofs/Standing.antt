@@ -131,7 +131,8 @@ within-code image layout at instr found =
     (sym (ap (take instr.len) same ∙ take-take instr.len m (drop at xs) inside))
 
 -- the machine makes the step of the instruction
-pub step-is : (image : Image) (layout : Layout) (graph : Graph) (s : Machine) (t : Inner) (at : ℕ) (before : List ℕ) (instr : Instr) → IsPlaced image → BothStand image layout graph s t at before → instruction_in image layout at ≡ Some instr
+pub step-is : (image : Image) (layout : Layout) (graph : Graph) (s : Machine) (t : Inner) (at : ℕ) (before : List ℕ) (instr : Instr) → IsPlaced image
+    → BothStand image layout graph s t at before → instruction_in image layout at ≡ Some instr
     → step s ≡ op_step instr.op s.ip (record s { ip = next_of s.ip instr })
 step-is image layout graph s t at before instr placed both found =
     let here : instruction_at s.ip (drop s.ip (code_of image)) ≡ Some instr =
@@ -159,15 +160,18 @@ no-targets image layout (Table r offset) before l = absurd (true≢false (sym l)
 no-targets image layout _ before l = refl
 
 -- the successors of an instruction, by what is known of AH alone
-pub successors-are : (image : Image) (layout : Layout) (nodes : Nodes) (at : ℕ) (node : Node) (before : List ℕ) → IsInstruction image layout nodes at node → IsTrail image layout layout.start_ip (at ∷ before)
+pub successors-are : (image : Image) (layout : Layout) (nodes : Nodes) (at : ℕ) (node : Node) (before : List ℕ) → IsInstruction image layout nodes at node
+    → IsTrail image layout layout.start_ip (at ∷ before)
     → node.succ.items ≡ op_successors node.instr.op (next_of at node.instr) (known_ah image layout before) []
 successors-are image layout nodes at node before is trail =
     is.succ before trail
     ∙ ap (λ found. elim found [ Some instr ↦ op_successors instr.op (next_of at instr) (known_ah image layout before) (targets_of image layout instr.op before) | None ↦ [] ]) is.stands
     ∙ ap (op_successors node.instr.op (next_of at node.instr) (known_ah image layout before)) (no-targets image layout node.instr.op before is.liftable)
 
-module _ (laws : AreLifted) (image : Image) (layout : Layout) (graph : Graph) (nodes : Nodes) (placed : IsPlaced image) (widths : graph.bits ≡ temporary_bits) (s : Machine) (t : Inner) (at : ℕ) (before : List ℕ) (node : Node) (both : BothStand image layout graph s t at before) (is : IsInstruction image layout nodes at node) where
-  -- the state behind the instruction, from which its operation works
+module _ (laws : AreLifted) (image : Image) (layout : Layout) (graph : Graph) (nodes : Nodes) (placed : IsPlaced image) (widths : graph.bits ≡ temporary_bits)
+    (s : Machine) (t : Inner) (at : ℕ) (before : List ℕ) (node : Node) (both : BothStand image layout graph s t at before)
+    (is : IsInstruction image layout nodes at node) where
+  -- the state after the instruction, from which its operation works
   behind : Machine
   behind = record s { ip = next_of s.ip node.instr }
 

@@ -59,7 +59,9 @@ memory-bytes p fill small at = elim (cases_lt at 65536) [
       subst (λ b. b < 256) (sym (get_or-map-range_with_len byte 0 65536 at at 0 low (omega arith))) (one-byte (nat_le p.lo at && nat_lt at p.hi) at)
   | inr high ↦
       let len = length-map-range_with_len (λ k. if nat_le p.lo k && nat_lt k p.hi then fill % 256 else slice_index p.image k) 0 65536 in
-      subst (λ b. b < 256) (sym (get_or_past (map (λ k. if nat_le p.lo k && nat_lt k p.hi then fill % 256 else slice_index p.image k) (range_with_len 0 65536)) at 0 (omega (arith, high, len)))) (lit< tt)
+      subst (λ b. b < 256) (sym (get_or_past
+      (map (λ k. if nat_le p.lo k && nat_lt k p.hi then fill % 256 else slice_index p.image k) (range_with_len 0 65536)) at 0 (omega (arith, high, len))))
+      (lit< tt)
 ]
   where
     one-byte : (b : Bool) (at : ℕ) → (if b then fill % 256 else slice_index p.image at) < 256
@@ -73,7 +75,7 @@ data-bytes image layout loaded at =
     let skipped : ℕ = (layout.ds - load_segment) * 16 in
     bytes-taken 65536 (drop skipped image.bytes.items) (bytes-dropped skipped image.bytes.items (loaded-bytes image loaded)) at
 
--- Registers and flags behind the prelude's block.
+-- Registers and flags after the prelude's block.
 
 -- a word, by its bytes
 by-bytes : (v : ℕ) → v ≡ v / 256 * 256 + v % 256
@@ -93,7 +95,8 @@ module _ (image : Image) (layout : Layout) (start : Proc) (values : Values) wher
     overflow = ap (λ f. from_bool f.of) (sym flags);
   }
     where
-      word : (r : Reg) → is_general r ≡ true → begun scene (Half r High) * 256 + begun scene (Half r Low) ≡ slice_index layout.regs (reg_number r) / 256 * 256 + slice_index layout.regs (reg_number r) % 256
+      word : (r : Reg) → is_general r ≡ true → begun scene (Half r High) * 256 + begun scene (Half r Low)
+          ≡ slice_index layout.regs (reg_number r) / 256 * 256 + slice_index layout.regs (reg_number r) % 256
       word Ax g = refl
       word Cx g = refl
       word Dx g = refl
@@ -103,7 +106,8 @@ module _ (image : Image) (layout : Layout) (start : Proc) (values : Values) wher
       word Si g = refl
       word Di g = refl
 
-module _ (image : Image) (layout : Layout) (start : Proc) (p : Program) (fill : ℕ) (input : List ℕ) (loaded : IsLoaded image) (has : HasLayout image layout) (translation : IsTranslation image layout start p) (bytes : All (λ byte. byte < 256) input) where
+module _ (image : Image) (layout : Layout) (start : Proc) (p : Program) (fill : ℕ) (input : List ℕ) (loaded : IsLoaded image) (has : HasLayout image layout)
+    (translation : IsTranslation image layout start p) (bytes : All (λ byte. byte < 256) input) where
   abbrev graph : Graph
   graph = the_graph image layout start p translation
 
@@ -144,7 +148,7 @@ module _ (image : Image) (layout : Layout) (start : Proc) (p : Program) (fill : 
   words : (i : ℕ) → slice_index layout.regs i < 65536
   words = layout-words image layout loaded has
 
-  -- the state behind the statements of the prelude's block
+  -- the state after the statements of the prelude's block
   abbrev pub set_up : Inner
   set_up = after_sets first_block.stmts begin
 
@@ -154,11 +158,11 @@ module _ (image : Image) (layout : Layout) (start : Proc) (p : Program) (fill : 
       ap (λ l. block_step p.graphs fill l begin) (sym (append-nil first_block.stmts))
       ∙ sets-step p.graphs fill first_block.stmts [] begin (prelude-sets image layout start.nodes.entries words) refl
 
-  -- the machine behind the prelude
-  abbrev pub behind_prelude : Machine
-  behind_prelude = at_offset image input (executed_run (start_state image []) has.prelude) layout.start_ip
+  -- the machine after the prelude
+  abbrev pub after_prelude : Machine
+  after_prelude = at_offset image input (executed_run (start_state image []) has.prelude) layout.start_ip
 
-  pub prelude-steps : after machine_step (length has.prelude) (start_state image input) ≡ behind_prelude
+  pub prelude-steps : after machine_step (length has.prelude) (start_state image input) ≡ after_prelude
   prelude-steps =
       steps-from_start image input has.prelude loaded has.is_prelude.run
       ∙ ap (λ a. at_offset image input (executed_run (start_state image []) has.prelude) a) (sym has.left.start_ip)
@@ -167,7 +171,7 @@ module _ (image : Image) (layout : Layout) (start : Proc) (p : Program) (fill : 
   layout-flags = has.left.flags ∙ ap (λ (s : Machine). s.flags) (state_after-is image has.prelude loaded has.is_prelude.run)
 
   -- both runs stand at the procedure's entry
-  pub begun-stand : layout.start_ip < 65536 → BothStand image layout graph behind_prelude set_up layout.start_ip []
+  pub begun-stand : layout.start_ip < 65536 → BothStand image layout graph after_prelude set_up layout.start_ip []
   begun-stand below =
       let regs = layout-registers image layout loaded has in
       record {
@@ -180,7 +184,7 @@ module _ (image : Image) (layout : Layout) (start : Proc) (p : Program) (fill : 
         trail = refl;
         graph_is = refl;
         going = refl;
-        mirrors = begun-mirrors image layout start set_up.running.values behind_prelude (scene_of begin) (ap length (sym regs) ∙ layout-eight image layout loaded has) (sym regs) (sym layout-flags);
+        mirrors = begun-mirrors image layout start set_up.running.values after_prelude (scene_of begin) (ap length (sym regs) ∙ layout-eight image layout loaded has) (sym regs) (sym layout-flags);
         fits = values_fit first_block.stmts (scene_of begin) (well_formed first_block.stmts (prelude-sound image layout start.nodes.entries words)) begin-fits;
         input = refl;
         out = refl;

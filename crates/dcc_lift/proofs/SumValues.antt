@@ -87,7 +87,8 @@ sum_zero w a b c = refl
 
 -- the signs of both operands differ from that of the sum exactly where the sum of the signed numbers does not fit
 sum_overflows : (w : Width) (a b : ℕ) (c : Bool) (x y : ℤ) → a < limit_of w → b < limit_of w → Stands w a x → Stands w b y
-    → (differ (has_sign w a) (has_sign w ((a + b + from_bool c) % limit_of w)) && differ (has_sign w b) (has_sign w ((a + b + from_bool c) % limit_of w))) ≡ not (fits_signed w (x +ℤ y +ℤ pos (from_bool c)))
+    → (differ (has_sign w a) (has_sign w ((a + b + from_bool c) % limit_of w)) && differ (has_sign w b) (has_sign w ((a + b + from_bool c) % limit_of w)))
+    ≡ not (fits_signed w (x +ℤ y +ℤ pos (from_bool c)))
 unfolding fits_signed
 sum_overflows Byte a b c x y first second p q = grind (arith, ints, nat_tests, p.value, q.value, p.range.low, p.range.high, q.range.low, q.range.high)
 sum_overflows Word a b c x y first second p q = grind (arith, ints, nat_tests, p.value, q.value, p.range.low, p.range.high, q.range.low, q.range.high)

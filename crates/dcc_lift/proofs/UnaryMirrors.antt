@@ -41,7 +41,9 @@ increment_worked byte_width s scene m first second =
     let outcome : ℕ × Flags = sum_of byte_width a b false in
     let r = sum_result byte_width a b in
     worked_three byte_width s scene (sum byte_width) (sum_overflow byte_width) (sign byte_width (result byte_width)) (is_zero byte_width (result byte_width)) (keeping_carry s.flags outcome) r
-    (sum_overflow_value byte_width a b _ false first second r) (sign_flag byte_width _ outcome r (sum_below byte_width a b false) (sum_sign byte_width a b false)) (zero_flag _ outcome r (sum_zero byte_width a b false))
+    (sum_overflow_value byte_width a b _ false first second r)
+    (sign_flag byte_width _ outcome r (sum_below byte_width a b false) (sum_sign byte_width a b false))
+    (zero_flag _ outcome r (sum_zero byte_width a b false))
     refl m
 increment_worked word_width s scene m first second =
     let a = scene.values (Temp 3) in
@@ -49,27 +51,36 @@ increment_worked word_width s scene m first second =
     let outcome : ℕ × Flags = sum_of word_width a b false in
     let r = sum_result word_width a b in
     worked_three word_width s scene (sum word_width) (sum_overflow word_width) (sign word_width (result word_width)) (is_zero word_width (result word_width)) (keeping_carry s.flags outcome) r
-    (sum_overflow_value word_width a b _ false first second r) (sign_flag word_width _ outcome r (sum_below word_width a b false) (sum_sign word_width a b false)) (zero_flag _ outcome r (sum_zero word_width a b false))
+    (sum_overflow_value word_width a b _ false first second r)
+    (sign_flag word_width _ outcome r (sum_below word_width a b false) (sum_sign word_width a b false))
+    (zero_flag _ outcome r (sum_zero word_width a b false))
     refl m
 
 -- a difference that keeps CF
 decrement_worked : (w : Width) (s : State) (scene : Scene) → Mirrors s scene.values → scene.values (left_place w) < limit_of w → scene.values (right_place w) < limit_of w
-    → Worked w s (keeping_carry s.flags (difference_of w (scene.values (left_place w)) (scene.values (right_place w)) false)) scene (executed (result_taking w (difference w) ++ difference_flags w) scene)
+    → Worked w s (keeping_carry s.flags (difference_of w (scene.values (left_place w)) (scene.values (right_place w)) false)) scene
+    (executed (result_taking w (difference w) ++ difference_flags w) scene)
 decrement_worked byte_width s scene m first second =
     let a = scene.values (Temp 0) in
     let b = scene.values (Temp 1) in
     let outcome : ℕ × Flags = difference_of byte_width a b false in
     let r = difference_result byte_width a b in
-    worked_three byte_width s scene (difference byte_width) (difference_overflow byte_width) (sign byte_width (result byte_width)) (at_width Eq byte_width (left byte_width) (right byte_width)) (keeping_carry s.flags outcome) r
-    (difference_overflow_value byte_width a b 0 _ false first second refl r) (sign_flag byte_width _ outcome r (difference_below byte_width a b false) (difference_sign byte_width a b false)) (ap from_bool (difference_equal byte_width a b first second))
+    worked_three byte_width s scene (difference byte_width) (difference_overflow byte_width) (sign byte_width (result byte_width))
+    (at_width Eq byte_width (left byte_width) (right byte_width)) (keeping_carry s.flags outcome) r
+    (difference_overflow_value byte_width a b 0 _ false first second refl r)
+    (sign_flag byte_width _ outcome r (difference_below byte_width a b false) (difference_sign byte_width a b false))
+    (ap from_bool (difference_equal byte_width a b first second))
     refl m
 decrement_worked word_width s scene m first second =
     let a = scene.values (Temp 3) in
     let b = scene.values (Temp 4) in
     let outcome : ℕ × Flags = difference_of word_width a b false in
     let r = difference_result word_width a b in
-    worked_three word_width s scene (difference word_width) (difference_overflow word_width) (sign word_width (result word_width)) (at_width Eq word_width (left word_width) (right word_width)) (keeping_carry s.flags outcome) r
-    (difference_overflow_value word_width a b 0 _ false first second refl r) (sign_flag word_width _ outcome r (difference_below word_width a b false) (difference_sign word_width a b false)) (ap from_bool (difference_equal word_width a b first second))
+    worked_three word_width s scene (difference word_width) (difference_overflow word_width) (sign word_width (result word_width))
+    (at_width Eq word_width (left word_width) (right word_width)) (keeping_carry s.flags outcome) r
+    (difference_overflow_value word_width a b 0 _ false first second refl r)
+    (sign_flag word_width _ outcome r (difference_below word_width a b false) (difference_sign word_width a b false))
+    (ap from_bool (difference_equal word_width a b first second))
     refl m
 
 -- an operand is taken, some result is made of it, and the operand takes that
@@ -118,7 +129,8 @@ dec_mirrors x s scene g ok fits m =
     = subst (λ v. Worked w s (keeping_carry s.flags (difference_of w v 1 false)) held (executed (result_taking w (difference w) ++ difference_flags w) held)) take.left
     (subst (λ v. Worked w s (keeping_carry s.flags (difference_of w (held.values (left_place w)) v false)) held (executed (result_taking w (difference w) ++ difference_flags w) held)) take.right
     (decrement_worked w s held take.mirrors (subst (λ n. n < limit_of w) (sym take.left) first) (subst (λ n. n < limit_of w) (sym take.right) (one_below w)))) in
-    one_operand x s scene (operand_expr x) (number w 1) a 1 (keeping_carry s.flags (difference_of w a 1 false)) (result_taking w (difference w) ++ difference_flags w) g fits take (difference_below w a 1 false) work
+    one_operand x s scene (operand_expr x) (number w 1) a 1 (keeping_carry s.flags (difference_of w a 1 false))
+    (result_taking w (difference w) ++ difference_flags w) g fits take (difference_below w a 1 false) work
 
 pub neg_mirrors : (x : Operand) (s : State) (scene : Scene) → is_register x ≡ true → IsOperand x → Fits scene → Mirrors s scene.values
     → Mirrors (with_result x (negation_of (operand_width x) (operand_value s x)) s) (executed (unary_stmts Neg (operand_width x) x) scene).values
@@ -159,6 +171,11 @@ not_mirrors x s scene g ok fits m =
     below byte_width n = omega arith
     below word_width n = omega arith
 
-    not_stored : (w : Width) (e : Expr) (v : ℕ) → value_of scene e ≡ v → v < limit_of (operand_width x) → operand_width x ≡ w → Mirrors (with_operand s x v) (executed (storing x) (setting (result_place w) e scene)).values
-    not_stored byte_width e v is small same = stored s (setting (result_place byte_width) e scene) x v g (λ r. fits.values (Half r Low)) small (ap (λ u. (setting (result_place byte_width) e scene).values (result_place u)) same ∙ is) (mirrors_temp s scene.values 2 _ m)
-    not_stored word_width e v is small same = stored s (setting (result_place word_width) e scene) x v g (λ r. fits.values (Half r Low)) small (ap (λ u. (setting (result_place word_width) e scene).values (result_place u)) same ∙ is) (mirrors_temp s scene.values 5 _ m)
+    not_stored : (w : Width) (e : Expr) (v : ℕ) → value_of scene e ≡ v → v < limit_of (operand_width x) → operand_width x ≡ w
+        → Mirrors (with_operand s x v) (executed (storing x) (setting (result_place w) e scene)).values
+    not_stored byte_width e v is small same =
+        stored s (setting (result_place byte_width) e scene) x v g (λ r. fits.values (Half r Low)) small
+        (ap (λ u. (setting (result_place byte_width) e scene).values (result_place u)) same ∙ is) (mirrors_temp s scene.values 2 _ m)
+    not_stored word_width e v is small same =
+        stored s (setting (result_place word_width) e scene) x v g (λ r. fits.values (Half r Low)) small
+        (ap (λ u. (setting (result_place word_width) e scene).values (result_place u)) same ∙ is) (mirrors_temp s scene.values 5 _ m)

@@ -74,7 +74,7 @@ module _ (image : Image) (layout : Layout) (nodes : Nodes) (prelude : ℕ) (soun
 
   -- From the graph to the procedure.
 
-  -- what is wanted before the instructions of a chain, where at its end no more is wanted than behind its last instruction
+  -- what is wanted before the instructions of a chain, where at its end no more is wanted than after its last instruction
   chain_ahead : (End : Loc → Type 0) (rest : List ℕ) (at : ℕ) → IsChain nodes layout.start_ip at rest → is_node nodes at ≡ true
       → ((node : Node) → node_in nodes (last_of at rest) ≡ Some node → (l : Loc) → End l → IsWantedBehind image layout (last_of at rest) node.instr.op l)
       → (l : Loc) → WantedWith End (flat_map (stmts_at nodes) (at ∷ rest)) l → IsWantedAt image layout at l
@@ -99,7 +99,8 @@ module _ (image : Image) (layout : Layout) (nodes : Nodes) (prelude : ℕ) (soun
   target_is last place c =
       let succ = successors_in (node_in nodes last) in
       let all : Contains (map (block_place nodes layout.start_ip) succ) place = subst (λ l. Contains l place) (targets_at nodes layout.start_ip prelude sound last) c in
-      let from = passing (λ x. block_place nodes layout.start_ip x == place) succ (sym (any_map (λ x. x == place) (block_place nodes layout.start_ip) succ) ∙ any_contained (map (block_place nodes layout.start_ip) succ) place all) in
+      let from = passing (λ x. block_place nodes layout.start_ip x == place) succ
+      (sym (any_map (λ x. x == place) (block_place nodes layout.start_ip) succ) ∙ any_contained (map (block_place nodes layout.start_ip) succ) place all) in
       record {
         next = from.element;
         goes = any_at (λ x. x == from.element) succ from.place from.element from.found (same_number from.element);
@@ -107,14 +108,16 @@ module _ (image : Image) (layout : Layout) (nodes : Nodes) (prelude : ℕ) (soun
       }
 
   -- a block's locations that are wanted over less than so many blocks
-  block_ahead : (n : ℕ) (at : ℕ) (block : Block) → IsBlockAt nodes layout.start_ip at block → is_node nodes at ≡ true → (l : Loc) → WantedWith (WantedAtEnd graph n block) block.stmts l → IsWantedAt image layout at l
+  block_ahead : (n : ℕ) (at : ℕ) (block : Block) → IsBlockAt nodes layout.start_ip at block → is_node nodes at ≡ true → (l : Loc)
+      → WantedWith (WantedAtEnd graph n block) block.stmts l → IsWantedAt image layout at l
   block_ahead zero at block is node l d =
       chain_ahead (WantedAtEnd graph zero block) is.rest at is.chain node (λ node found to e. absurd e) l (subst (λ stmts. WantedWith (WantedAtEnd graph zero block) stmts l) is.stmts_are d)
   block_ahead (suc n) at block is node l d =
       chain_ahead (WantedAtEnd graph (suc n) block) is.rest at is.chain node (λ node found to e. ends (λ at block is node l d. block_ahead n at block is node l d) node found to e) l
       (subst (λ stmts. WantedWith (WantedAtEnd graph (suc n) block) stmts l) is.stmts_are d)
     where
-      ends : ((at : ℕ) (block : Block) → IsBlockAt nodes layout.start_ip at block → is_node nodes at ≡ true → (l : Loc) → WantedWith (WantedAtEnd graph n block) block.stmts l → IsWantedAt image layout at l)
+      ends : ((at : ℕ) (block : Block) → IsBlockAt nodes layout.start_ip at block → is_node nodes at ≡ true → (l : Loc)
+          → WantedWith (WantedAtEnd graph n block) block.stmts l → IsWantedAt image layout at l)
           → (node : Node) → node_in nodes (last_of at is.rest) ≡ Some node → (to : Loc) → WantedAtEnd graph (suc n) block to → IsWantedBehind image layout (last_of at is.rest) node.instr.op to
       ends later node found to (inl c) = by_test (test_read nodes layout.start_ip node block.exit to
           (subst (λ x. IsExitOf nodes layout.start_ip node x) (sym is.exit_is) (exit_forms nodes layout.start_ip prelude sound (last_of at is.rest) node found)) c)
@@ -142,7 +145,8 @@ module _ (image : Image) (layout : Layout) (nodes : Nodes) (prelude : ℕ) (soun
       let ah = h.number_is e in
       sym ah.ah_is ∙ (instructions at node found).told (sym (own_operation at node op number found h) ∙ e) ah.before ah.trail
 
-  own_uses : (at : ℕ) (node : Node) (op : Op) (number : Option ℕ) (location : Location) → node_in nodes at ≡ Some node → HasOperation image layout layout.start_ip at op number → uses op number location ≡ uses node.instr.op node.number location
+  own_uses : (at : ℕ) (node : Node) (op : Op) (number : Option ℕ) (location : Location) → node_in nodes at ≡ Some node
+      → HasOperation image layout layout.start_ip at op number → uses op number location ≡ uses node.instr.op node.number location
   own_uses at node op number location found h = elim (is_dos op) [
     | inl e ↦ ap (λ n. uses op n location) (own_number at node op number found h e) ∙ ap (λ o. uses o node.number location) (own_operation at node op number found h)
     | inr other ↦ uses_any op number node.number location other ∙ ap (λ o. uses o node.number location) (own_operation at node op number found h)
@@ -155,17 +159,22 @@ module _ (image : Image) (layout : Layout) (nodes : Nodes) (prelude : ℕ) (soun
     | inr other ↦ writes_any op number node.number location other ∙ ap (λ o. surely_writes o node.number location) (own_operation at node op number found h)
   ]
 
-  own_makes : (at : ℕ) (node : Node) (op : Op) (number : Option ℕ) (to location : Location) → node_in nodes at ≡ Some node → HasOperation image layout layout.start_ip at op number → makes op to location ≡ makes node.instr.op to location
+  own_makes : (at : ℕ) (node : Node) (op : Op) (number : Option ℕ) (to location : Location) → node_in nodes at ≡ Some node
+      → HasOperation image layout layout.start_ip at op number → makes op to location ≡ makes node.instr.op to location
   own_makes at node op number to location found h = ap (λ o. makes o to location) (own_operation at node op number found h)
 
-  module _ (at : ℕ) (node : Node) (found : node_in nodes at ≡ Some node) (block : Block) (rest : List ℕ) (chain : IsChain nodes layout.start_ip at rest) (exit : block.exit ≡ exit_at nodes layout.start_ip (last_of at rest)) where
-    -- what the instruction's test reads is wanted behind its statements
+  module _ (at : ℕ) (node : Node) (found : node_in nodes at ≡ Some node) (block : Block) (rest : List ℕ) (chain : IsChain nodes layout.start_ip at rest)
+      (exit : block.exit ≡ exit_at nodes layout.start_ip (last_of at rest)) where
+    -- what the instruction's test reads is wanted after its statements
     tested_behind : (rest : List ℕ) → IsChain nodes layout.start_ip at rest → block.exit ≡ exit_at nodes layout.start_ip (last_of at rest) → (x : Loc) → reads_test (op_test node.instr.op) x ≡ true
         → IsWantedIn graph block (flat_map (stmts_at nodes) rest) x
-    tested_behind [] chain exit x r = tested (read_tested nodes layout.start_ip node block.exit x (subst (λ y. IsExitOf nodes layout.start_ip node y) (sym exit) (exit_forms nodes layout.start_ip prelude sound at node found)) r)
+    tested_behind [] chain exit x r =
+        tested (read_tested nodes layout.start_ip node block.exit x
+        (subst (λ y. IsExitOf nodes layout.start_ip node y) (sym exit) (exit_forms nodes layout.start_ip prelude sound at node found)) r)
     tested_behind (next ∷ rest) chain exit x r =
         let on = onward_tells nodes layout.start_ip prelude sound at next chain.0 in
-        absurd (clash r (no_test nodes layout.start_ip node (exit_at nodes layout.start_ip at) next x (exit_forms nodes layout.start_ip prelude sound at node found) (subst (λ o. successors_in o ≡ next ∷ []) found on.succ)))
+        absurd (clash r (no_test nodes layout.start_ip node (exit_at nodes layout.start_ip at) next x
+        (exit_forms nodes layout.start_ip prelude sound at node found) (subst (λ o. successors_in o ≡ next ∷ []) found on.succ)))
 
     at_node : (l : Loc) → IsWantedIn graph block (op_stmts node.instr.op node.number ++ flat_map (stmts_at nodes) rest) l → IsWantedIn graph block (flat_map (stmts_at nodes) (at ∷ rest)) l
     at_node l d = subst (λ o. IsWantedIn graph block (node_stmts o ++ flat_map (stmts_at nodes) rest) l) (sym found) d
@@ -222,7 +231,7 @@ module _ (image : Image) (layout : Layout) (nodes : Nodes) (prelude : ℕ) (soun
       (any_map (λ x. x == block_place nodes layout.start_ip next) (block_place nodes layout.start_ip) succ
       ∙ any_at (λ x. block_place nodes layout.start_ip x == block_place nodes layout.start_ip next) succ from.place from.element from.found here))
 
-  -- what is wanted at the next instruction is wanted behind the statements of the one before
+  -- what is wanted at the next instruction is wanted after the statements of the one before
   wanted_on : (at next : ℕ) (location : Location) → has_successor nodes at next ≡ true → WantsHere next location → (block : Block) (rest : List ℕ) → IsChain nodes layout.start_ip at rest
       → block.exit ≡ exit_at nodes layout.start_ip (last_of at rest) → IsWantedIn graph block (flat_map (stmts_at nodes) rest) (place_of location)
   wanted_on at next location e later block [] chain exit =
@@ -255,7 +264,8 @@ module _ (image : Image) (layout : Layout) (nodes : Nodes) (prelude : ℕ) (soun
         | inl same ↦ kept_here at node found block rest chain exit location same stays behind
         | inr other ↦ made_here at node found block rest chain exit location location other
             (or_there (makes node.instr.op location location) (is_same location location && not (surely_writes node.instr.op node.number location))
-            (and_both (is_same location location) (not (surely_writes node.instr.op node.number location)) (sym (place_same location location) ∙ location_itself (place_of location)) (ap not stays))) behind
+            (and_both (is_same location location) (not (surely_writes node.instr.op node.number location))
+            (sym (place_same location location) ∙ location_itself (place_of location)) (ap not stays))) behind
       ]
 
   -- both ways, at a block that begins at a leader
@@ -284,7 +294,8 @@ module _ (image : Image) (layout : Layout) (start : Proc) (p : Program) (transla
       let leader : is_leader nodes layout.start_ip block.at ≡ true =
       sym (blocks_stand nodes layout.start_ip (leaders nodes layout.start_ip) translation.blocks block.at translation.blocks_are)
       ∙ any_at (λ other. other.at == block.at) translation.blocks place block e (same_number block.at) in
-      block_wants image layout nodes image.ip sound instructions reached (the_graph image layout start p translation) (block_at_leader image layout start p translation sound) block.at block location leader is
+      block_wants image layout nodes image.ip sound instructions reached (the_graph image layout start p translation)
+      (block_at_leader image layout start p translation sound) block.at block location leader is
 
   -- the same of the graph by which the program is named
   pub program_wants : (graph : Graph) → p.graphs ≡ graph ∷ [] → WantsTheSame image layout graph

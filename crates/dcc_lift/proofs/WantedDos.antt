@@ -61,7 +61,7 @@ by_numbers P two exit one eight n e = elim (or_cases (n == 0x02) ((n == 0x4C) ||
   ]
 ]
 
--- what a DOS call wants before it: what it uses, and what is wanted behind it and is not written
+-- what a DOS call wants before it: what it uses, and what is wanted after it and is not written
 pub data DosWants (n : ℕ) (l : Loc) (Behind : Type 0) : Type 0 where
   taken : (location : Location) → place_of location ≡ l → uses Int21 (Some n) location ≡ true → DosWants n l Behind
   kept : ((location : Location) → place_of location ≡ l → surely_writes Int21 (Some n) location ≡ false) → Behind → DosWants n l Behind
@@ -116,7 +116,8 @@ dos_wants n lifted End ys l = by_numbers (λ m. WantedWith End (dos_stmts (Some 
 -- what a DOS call uses is wanted before its statement
 pub dos_uses_wanted : (graph : Graph) (block : Block) (ys : List Stmt) (n : ℕ) → is_lifted_number n ≡ true → (location : Location) → uses Int21 (Some n) location ≡ true
     → IsWantedIn graph block (dos_stmts (Some n) ++ ys) (place_of location)
-dos_uses_wanted graph block ys n lifted location = by_numbers (λ m. uses Int21 (Some m) location ≡ true → IsWantedIn graph block (dos_stmts (Some m) ++ ys) (place_of location)) two exit one eight n lifted
+dos_uses_wanted graph block ys n lifted location =
+    by_numbers (λ m. uses Int21 (Some m) location ≡ true → IsWantedIn graph block (dos_stmts (Some m) ++ ys) (place_of location)) two exit one eight n lifted
   where
     -- DL
     is_dl : (location : Location) → uses Int21 (Some 0x02) location ≡ true → location ≡ half_of Dx Low
@@ -139,10 +140,12 @@ dos_uses_wanted graph block ys n lifted location = by_numbers (λ m. uses Int21 
     eight : uses Int21 (Some 0x08) location ≡ true → IsWantedIn graph block (dos_stmts (Some 0x08) ++ ys) (place_of location)
     eight e = absurd (true≢false (sym e))
 
--- what is wanted behind it and is not written is wanted before it
+-- what is wanted after it and is not written is wanted before it
 pub dos_keeps : (graph : Graph) (block : Block) (ys : List Stmt) (n : ℕ) → is_lifted_number n ≡ true → (location : Location) → surely_writes Int21 (Some n) location ≡ false
     → IsWantedIn graph block ys (place_of location) → IsWantedIn graph block (dos_stmts (Some n) ++ ys) (place_of location)
-dos_keeps graph block ys n lifted location w d = by_numbers (λ m. surely_writes Int21 (Some m) location ≡ false → IsWantedIn graph block (dos_stmts (Some m) ++ ys) (place_of location)) two exit one eight n lifted w
+dos_keeps graph block ys n lifted location w d =
+    by_numbers (λ m. surely_writes Int21 (Some m) location ≡ false → IsWantedIn graph block (dos_stmts (Some m) ++ ys) (place_of location)) two exit one eight
+    n lifted w
   where
     -- AL alone is written
     not_written : is_same location (half_of Ax Low) ≡ false → ¬ Contains (Half Ax Low ∷ []) (place_of location)

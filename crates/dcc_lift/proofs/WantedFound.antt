@@ -13,7 +13,8 @@ use Rattle.dcc_lift.proofs.NodeLaws.{contained_node, node_in_has}
 use Rattle.dcc_lift.proofs.FoundSound.{contained-node, found-sound, listed-instruction}
 use Rattle.dcc_lift.proofs.WantedChains.{program_wants}
 
-module _ (image : Image) (layout : Layout) (procs : List Proc) (loaded : IsLoaded image) (has : HasLayout image layout) (are : AreFound image layout procs) (p : Program) (translation : IsTranslation image layout are.start p) where
+module _ (image : Image) (layout : Layout) (procs : List Proc) (loaded : IsLoaded image) (has : HasLayout image layout) (are : AreFound image layout procs)
+    (p : Program) (translation : IsTranslation image layout are.start p) where
   -- at each block of the procedure the one graph of the program wants what the procedure wants
   pub found_wants : (graph : Graph) → p.graphs ≡ graph ∷ [] → WantsTheSame image layout graph
   found_wants =

@@ -43,7 +43,7 @@ pub writes_any : (op : Op) (m n : Option ℕ) (l : Location) → op ≢ Int21 �
 writes_any op m n (half_of r h) other = writes_half_any op m n r h other
 writes_any op m n (flag_of f) other = refl
 
--- what a test reads is known behind the statements
+-- what a test reads is known after the statements
 test_reads_known : (test : Option Expr) (known : Loc → Bool) (x : Loc) → test_known test known ≡ true → reads_test test x ≡ true → known x ≡ true
 test_reads_known None known x k t = absurd (true≢false (sym t))
 test_reads_known (Some test) known x k t = known_read known x (reads_of test) k t
@@ -56,7 +56,7 @@ pub record IsWantedAt (image : Image) (layout : Layout) (at : ℕ) (l : Loc) : T
   pub is : place_of location ≡ l
   pub wanted : IsWanted image layout layout.start_ip at location
 
--- what is wanted behind an instruction: what its test reads, or what is wanted where it goes on
+-- what is wanted after an instruction: what its test reads, or what is wanted where it goes on
 pub data IsWantedBehind (image : Image) (layout : Layout) (at : ℕ) (op : Op) (l : Loc) : Type 0 where
   by_test : reads_test (op_test op) l ≡ true → IsWantedBehind image layout at op l
   by_next : (next : ℕ) → IsEdge image layout layout.start_ip at next → IsWantedAt image layout next l → IsWantedBehind image layout at op l
@@ -75,7 +75,9 @@ module _ (image : Image) (layout : Layout) (nodes : Nodes) (at : ℕ) (node : No
     ahead_tested other l to b t =
         let op = node.instr.op in
         let stmts = op_stmts op node.number in
-        let w : before stmts (reads_test (op_test op)) l ≡ true = before_weaker stmts (alone to) (reads_test (op_test op)) l (λ x e. subst (λ y. reads_test (op_test op) y ≡ true) (sym (location_same x to e)) t) b in
+        let w : before stmts (reads_test (op_test op)) l ≡ true =
+        before_weaker stmts (alone to) (reads_test (op_test op)) l
+        (λ x e. subst (λ y. reads_test (op_test op) y ≡ true) (sym (location_same x to e)) t) b in
         let v : is_visible l ≡ true =
         wanted_known stmts is_visible (reads_test (op_test op)) l (sets op node.number is.liftable other)
         (λ x e. test_reads_known (op_test op) (known_behind stmts is_visible) x (tests_known op node.number) e) w in
@@ -87,7 +89,8 @@ module _ (image : Image) (layout : Layout) (nodes : Nodes) (at : ℕ) (node : No
         }
 
     -- and where it is wanted at the next instruction
-    ahead_next : node.instr.op ≢ Int21 → (l to : Loc) → before (op_stmts node.instr.op node.number) (alone to) l ≡ true → (next : ℕ) → IsEdge image layout layout.start_ip at next → IsWantedAt image layout next to
+    ahead_next : node.instr.op ≢ Int21 → (l to : Loc) → before (op_stmts node.instr.op node.number) (alone to) l ≡ true → (next : ℕ)
+        → IsEdge image layout layout.start_ip at next → IsWantedAt image layout next to
         → IsWantedAt image layout at l
     ahead_next other l to b next edge there =
         let op = node.instr.op in
@@ -105,7 +108,9 @@ module _ (image : Image) (layout : Layout) (nodes : Nodes) (at : ℕ) (node : No
           is = e;
           wanted = elim (or_cases (makes op there.location (location_of l)) (is_same (location_of l) there.location && not (surely_writes op node.number (location_of l))) c) [
             | inl m ↦ made_of has_operation edge m there.wanted
-            | inr k ↦ left has_operation edge (not_true (surely_writes op node.number (location_of l)) (and_right (is_same (location_of l) there.location) (not (surely_writes op node.number (location_of l))) k))
+            | inr k ↦ left has_operation edge
+                (not_true (surely_writes op node.number (location_of l))
+                (and_right (is_same (location_of l) there.location) (not (surely_writes op node.number (location_of l))) k))
                 (subst (λ y. IsWanted image layout layout.start_ip next y)
                 (sym (same_place (location_of l) there.location (and_left (is_same (location_of l) there.location) (not (surely_writes op node.number (location_of l))) k))) there.wanted)
           ];

@@ -226,7 +226,7 @@ alu_flag : (operation : Alu) (w : Width) (u : Loc → Bool) (f : FlagName)
 alu_flag Add byte_width u Cf = grind arith
 alu_flag _ _ u _ = grind arith
 
--- what they leave behind
+-- what they leave
 
 alu_stored_result : (operation : Alu) (a : Operand) (to : Location) → is_register a ≡ true
     → before (alu_storing operation a) (alone (place_of to)) (result_place (operand_width a)) ≡ (writes_operand operation && is_part to a)
@@ -266,11 +266,12 @@ alu_made (flag_of Of) Add a u h = simp h
 alu_made _ _ a u h = simp h
 
 module _ (operation : Alu) (a : Operand) (to : Location) (g : is_register a ≡ true) where
-  -- behind the taking
+  -- after the taking
   abbrev alu_behind : Loc → Bool
   alu_behind = before (alu_working operation (operand_width a) ++ alu_storing operation a) (alone (place_of to))
 
-  alu_result_made : (made_flags (is_logic operation) (before (alu_storing operation a) (alone (place_of to))) || before (alu_storing operation a) (alone (place_of to)) (result_place (operand_width a)))
+  alu_result_made : (made_flags (is_logic operation) (before (alu_storing operation a) (alone (place_of to)))
+      || before (alu_storing operation a) (alone (place_of to)) (result_place (operand_width a)))
       ≡ alu_makes operation a to
   alu_result_made =
       ap (λ b. made_flags (is_logic operation) (before (alu_storing operation a) (alone (place_of to))) || b) (alu_stored_result operation a to g)
@@ -314,11 +315,22 @@ pub alu_agrees : (operation : Alu) (a b : Operand) (number : Option ℕ) (l to :
     → before (alu_stmts operation a b) (alone (place_of to)) (place_of l) ≡ comes_from (AluOp operation a b) number l to
 alu_agrees operation a b number (half_of s k) to g h =
     before_both (taking (operand_width a) (operand_expr a) (operand_expr b)) (alu_working operation (operand_width a) ++ alu_storing operation a) (alone (place_of to)) (Half s k)
-    ∙ taken (operand_width a) (operand_expr a) (operand_expr b) (before (alu_working operation (operand_width a) ++ alu_storing operation a) (alone (place_of to))) (half_of s k) (operand_reads_left (operand_width a) b)
-    ∙ rw (operand_reads a (half_of s k) (register_source a g), operand_reads b (half_of s k) h, alu_behind_left operation a to g, alu_behind_right operation a to g, alu_behind_half operation a to g s k)
-    (half_joined (is_read (half_of s k) a) (is_read (half_of s k) b) (takes_carry operation) (alu_makes operation a to) (is_same (half_of s k) to && not (writes_operand operation && is_half_of s k a)))
+    ∙ taken (operand_width a) (operand_expr a) (operand_expr b)
+    (before (alu_working operation (operand_width a) ++ alu_storing operation a) (alone (place_of to))) (half_of s k)
+    (operand_reads_left (operand_width a) b)
+    ∙ rw (
+      operand_reads a (half_of s k) (register_source a g),
+      operand_reads b
+          (half_of s k) h,
+      alu_behind_left operation a to g,
+      alu_behind_right operation a to g,
+      alu_behind_half operation a to g s k,
+    )
+    (half_joined (is_read (half_of s k) a) (is_read (half_of s k) b) (takes_carry operation) (alu_makes operation a to)
+    (is_same (half_of s k) to && not (writes_operand operation && is_half_of s k a)))
 alu_agrees operation a b number (flag_of f) to g h =
     before_both (taking (operand_width a) (operand_expr a) (operand_expr b)) (alu_working operation (operand_width a) ++ alu_storing operation a) (alone (place_of to)) (Flag f)
-    ∙ taken (operand_width a) (operand_expr a) (operand_expr b) (before (alu_working operation (operand_width a) ++ alu_storing operation a) (alone (place_of to))) (flag_of f) (operand_reads_left (operand_width a) b)
+    ∙ taken (operand_width a) (operand_expr a) (operand_expr b)
+    (before (alu_working operation (operand_width a) ++ alu_storing operation a) (alone (place_of to))) (flag_of f) (operand_reads_left (operand_width a) b)
     ∙ rw (operand_reads a (flag_of f) (register_source a g), operand_reads b (flag_of f) h, alu_behind_left operation a to g, alu_behind_right operation a to g, alu_behind_flag operation a to g f)
     (flag_joined (is_read (flag_of f) a) (is_read (flag_of f) b) (takes_carry operation) (is_flag Cf (flag_of f)) (alu_makes operation a to) (is_same (flag_of f) to))

@@ -30,19 +30,28 @@ use Rattle.dcc_lift.proofs.WantedMakes.{is_same, and_true, place_same, stored_ha
 
 -- Moves.
 
-mov_low_low : (a b c d e f : Bool) → ((((a && true) || false) && ((((b && false) || false) && (c && false)) || (not (d && false) && (c && true)))) || (not (e && true) && ((((a && false) || false) && (c && false)) || (not (e && false) && (f && true))))) ≡ ((c && (a && true)) || ((f && true) && not e))
+mov_low_low : (a b c d e f : Bool)
+    → ((((a && true) || false) && ((((b && false) || false) && (c && false)) || (not (d && false) && (c && true))))
+    || (not (e && true) && ((((a && false) || false) && (c && false)) || (not (e && false) && (f && true))))) ≡ ((c && (a && true)) || ((f && true) && not e))
 mov_low_low a b c d e f = grind arith
 
-mov_low_high : (a b c d e f : Bool) → ((((a && true) || false) && ((((b && false) || false) && (c && true)) || (not (d && false) && (c && false)))) || (not (e && true) && ((((a && false) || false) && (c && true)) || (not (e && false) && (f && false))))) ≡ ((c && (a && false)) || ((f && false) && not e))
+mov_low_high : (a b c d e f : Bool)
+    → ((((a && true) || false) && ((((b && false) || false) && (c && true)) || (not (d && false) && (c && false))))
+    || (not (e && true) && ((((a && false) || false) && (c && true)) || (not (e && false) && (f && false))))) ≡ ((c && (a && false)) || ((f && false) && not e))
 mov_low_high a b c d e f = grind arith
 
-mov_high_low : (a b c d e f : Bool) → ((((a && false) || false) && ((((b && false) || false) && (c && false)) || (not (d && false) && (c && true)))) || (not (e && false) && ((((a && true) || false) && (c && false)) || (not (e && true) && (f && false))))) ≡ ((c && (a && false)) || ((f && false) && not e))
+mov_high_low : (a b c d e f : Bool)
+    → ((((a && false) || false) && ((((b && false) || false) && (c && false)) || (not (d && false) && (c && true))))
+    || (not (e && false) && ((((a && true) || false) && (c && false)) || (not (e && true) && (f && false))))) ≡ ((c && (a && false)) || ((f && false) && not e))
 mov_high_low a b c d e f = grind arith
 
-mov_high_high : (a b c d e f : Bool) → ((((a && false) || false) && ((((b && false) || false) && (c && true)) || (not (d && false) && (c && false)))) || (not (e && false) && ((((a && true) || false) && (c && true)) || (not (e && true) && (f && true))))) ≡ ((c && (a && true)) || ((f && true) && not e))
+mov_high_high : (a b c d e f : Bool)
+    → ((((a && false) || false) && ((((b && false) || false) && (c && true)) || (not (d && false) && (c && false))))
+    || (not (e && false) && ((((a && true) || false) && (c && true)) || (not (e && true) && (f && true))))) ≡ ((c && (a && true)) || ((f && true) && not e))
 mov_high_high a b c d e f = grind arith
 
-mov_word : (r q s t : Reg) (k j : HalfName) (number : Option ℕ) → before (mov_stmts (Word r) (Word q)) (alone (Half t j)) (Half s k) ≡ comes_from (Mov (Word r) (Word q)) number (half_of s k) (half_of t j)
+mov_word : (r q s t : Reg) (k j : HalfName) (number : Option ℕ) → before (mov_stmts (Word r) (Word q)) (alone (Half t j)) (Half s k)
+    ≡ comes_from (Mov (Word r) (Word q)) number (half_of s k) (half_of t j)
 mov_word r q s t Low Low number =
     rw (registers s q, registers r t, registers_turned r t, registers s t, registers s r)
     (mov_low_low (is_same_register s q) (register_number r == register_number q) (is_same_register t r) (register_number r == register_number r) (is_same_register s r) (is_same_register s t))
@@ -98,9 +107,13 @@ mov_agrees (Word r) (Word q) number (half_of s k) (flag_of f) g h same =
     (same_location (Half s k) (Half r Low)) (same_location (Half s k) (Half r High))
 mov_agrees (Word r) (Word q) number (flag_of e) to g h same = flag_stays (Word r) (Word q) number e to g h
 mov_agrees (Word r) (Constant width c) number (half_of s Low) to g h same =
-    rw (registers s r, place_same (half_of s Low) to) (stored_half_low (is_same_register s r) (is_same (half_of s Low) to) ∙ sym (nothing_made (is_part to (Word r)) (is_same (half_of s Low) to && not (is_same_register s r))))
+    rw (registers s r, place_same (half_of s Low) to)
+    (stored_half_low (is_same_register s r) (is_same (half_of s Low) to)
+    ∙ sym (nothing_made (is_part to (Word r)) (is_same (half_of s Low) to && not (is_same_register s r))))
 mov_agrees (Word r) (Constant width c) number (half_of s High) to g h same =
-    rw (registers s r, place_same (half_of s High) to) (stored_half_high (is_same_register s r) (is_same (half_of s High) to) ∙ sym (nothing_made (is_part to (Word r)) (is_same (half_of s High) to && not (is_same_register s r))))
+    rw (registers s r, place_same (half_of s High) to)
+    (stored_half_high (is_same_register s r) (is_same (half_of s High) to)
+    ∙ sym (nothing_made (is_part to (Word r)) (is_same (half_of s High) to && not (is_same_register s r))))
 mov_agrees (Word r) (Constant width c) number (flag_of e) to g h same = flag_stays (Word r) (Constant width c) number e to g h
 mov_agrees (Byte r half) (Byte q other) number (half_of s k) (half_of t j) g h same =
     rw (registers s q, halves k other, registers r t, registers_turned r t, halves half j, halves_turned half j, registers s r, halves k half, registers s t, halves k j)
@@ -109,7 +122,8 @@ mov_agrees (Byte r half) (Byte q other) number (half_of s k) (flag_of f) g h sam
 mov_agrees (Byte r half) (Byte q other) number (flag_of e) to g h same = flag_stays (Byte r half) (Byte q other) number e to g h
 mov_agrees (Byte r half) (Constant width c) number (half_of s k) to g h same =
     rw (registers s r, halves k half, place_same (half_of s k) to)
-    (turned (is_same_register s r && is_same_half k half) (is_same (half_of s k) to) ∙ sym (nothing_made (is_part to (Byte r half)) (is_same (half_of s k) to && not (is_same_register s r && is_same_half k half))))
+    (turned (is_same_register s r && is_same_half k half) (is_same (half_of s k) to)
+    ∙ sym (nothing_made (is_part to (Byte r half)) (is_same (half_of s k) to && not (is_same_register s r && is_same_half k half))))
 mov_agrees (Byte r half) (Constant width c) number (flag_of e) to g h same = flag_stays (Byte r half) (Constant width c) number e to g h
 mov_agrees (Word r) (Byte q half) number l to g h same = absurd (cc)
 mov_agrees (Byte r half) (Word q) number l to g h same = absurd (cc)
@@ -123,13 +137,16 @@ mov_agrees (Constant width c) b number l to g h same = absurd (true≢false (sym
 
 -- Exchanges.
 
-exchange_joined : (a b c v x y z : Bool) → v ≡ false → (((a || false) && (x || v)) || (((b || false) && (not c && y)) || (not a && (not b && z)))) ≡ ((a && x) || ((b && (not c && y)) || (not a && (not b && z))))
+exchange_joined : (a b c v x y z : Bool) → v ≡ false → (((a || false) && (x || v)) || (((b || false) && (not c && y)) || (not a && (not b && z))))
+    ≡ ((a && x) || ((b && (not c && y)) || (not a && (not b && z))))
 exchange_joined a b c v x y z e = grind arith
 
 -- before two halves are exchanged
 exchanged : (r q : Reg) (h k : HalfName) (l : Location) (w : Loc → Bool) → w (Temp 0) ≡ false
     → before (exchanging (Half r h) (Half q k)) w (place_of l)
-    ≡ ((is_same l (half_of r h) && w (Half q k)) || ((is_same l (half_of q k) && (not (is_same (half_of r h) (half_of q k)) && w (Half r h))) || (not (is_same l (half_of r h)) && (not (is_same l (half_of q k)) && w (place_of l)))))
+    ≡ ((is_same l (half_of r h) && w (Half q k))
+    || ((is_same l (half_of q k) && (not (is_same (half_of r h) (half_of q k)) && w (Half r h)))
+    || (not (is_same l (half_of r h)) && (not (is_same l (half_of q k)) && w (place_of l)))))
 exchanged r q h k (half_of s j) w e =
     rw (registers s r, halves j h, registers s q, halves j k, registers r q, halves h k)
     (exchange_joined (is_same (half_of s j) (half_of r h)) (is_same (half_of s j) (half_of q k)) (is_same (half_of r h) (half_of q k)) (w (Temp 0)) (w (Half q k)) (w (Half r h)) (w (Half s j)) e)
@@ -153,7 +170,7 @@ both_ways : (a b c x y z : Bool) → (c ≡ true → a ≡ b) → (c ≡ true �
 both_ways a b true x y z f g = grind (arith, f refl, g refl)
 both_ways a b false x y z f g = grind arith
 
--- and where one location is wanted behind
+-- and where one location is wanted after
 exchange_agrees : (r q : Reg) (h k : HalfName) (l to : Location) → before (exchanging (Half r h) (Half q k)) (alone (place_of to)) (place_of l)
     ≡ (((is_same to (half_of r h) && is_same l (half_of q k)) || (is_same to (half_of q k) && is_same l (half_of r h))) || (is_same l to && not (is_same l (half_of r h) || is_same l (half_of q k))))
 exchange_agrees r q h k l to =
@@ -163,7 +180,8 @@ exchange_agrees r q h k l to =
     ∙ rw (place_same b to, same_turned b to, place_same a to, same_turned a to, place_same l to)
     (both_ways (is_same l a) (is_same l b) (is_same a b) (is_same to a) (is_same to b) (is_same l to) (one_place a b l) (one_place a b to))
 
-exchange_stays : (a b : Operand) (number : Option ℕ) (e : FlagName) (to : Location) → is_register a ≡ true → is_register b ≡ true → alone (place_of to) (Flag e) ≡ comes_from (Xchg a b) number (flag_of e) to
+exchange_stays : (a b : Operand) (number : Option ℕ) (e : FlagName) (to : Location) → is_register a ≡ true → is_register b ≡ true
+    → alone (place_of to) (Flag e) ≡ comes_from (Xchg a b) number (flag_of e) to
 exchange_stays a b number e to g h =
     place_same (flag_of e) to
     ∙ sym (ap (λ x. (x || moves b a to (flag_of e)) || (is_same (flag_of e) to && true)) (no_flag_from a b to e g (register_source b h))
@@ -182,18 +200,22 @@ unmoved_low a b x y z = grind arith
 
 low_unmoved : (r q s : Reg) (w : Loc → Bool) → before (exchanging (Half r High) (Half q High)) w (Half s Low) ≡ w (Half s Low)
 low_unmoved r q s w =
-    unmoved_low (register_number s == register_number r) (register_number s == register_number q) (w (Half q High) || w (Temp 0)) (not (register_number r == register_number q && true) && w (Half r High)) (w (Half s Low))
+    unmoved_low (register_number s == register_number r) (register_number s == register_number q) (w (Half q High) || w (Temp 0))
+    (not (register_number r == register_number q && true) && w (Half r High)) (w (Half s Low))
 
 high_unmoved : (r q s : Reg) (w : Loc → Bool) → before (exchanging (Half r Low) (Half q Low)) w (Half s High) ≡ w (Half s High)
 high_unmoved r q s w =
-    unmoved_low (register_number s == register_number r) (register_number s == register_number q) (w (Half q Low) || w (Temp 0)) (not (register_number r == register_number q && true) && w (Half r Low)) (w (Half s High))
+    unmoved_low (register_number s == register_number r) (register_number s == register_number q) (w (Half q Low) || w (Temp 0))
+    (not (register_number r == register_number q && true) && w (Half r Low)) (w (Half s High))
 
-word_half : (tr tq sr sq i z : Bool) → (((tr && i) && (sq && true)) || ((tq && i) && (sr && true)) || (z && not ((sr && true) || (sq && true)))) ≡ (((tr && (sq && i)) || (tq && (sr && i))) || (z && not (sr || sq)))
+word_half : (tr tq sr sq i z : Bool) → (((tr && i) && (sq && true)) || ((tq && i) && (sr && true)) || (z && not ((sr && true) || (sq && true))))
+    ≡ (((tr && (sq && i)) || (tq && (sr && i))) || (z && not (sr || sq)))
 word_half tr tq sr sq i z = grind arith
 
 -- an exchange of halves, as one of words
 halves_exchanged : (r q s : Reg) (k : HalfName) (number : Option ℕ) (to : Location)
-    → (((is_same to (half_of r k) && is_same (half_of s k) (half_of q k)) || (is_same to (half_of q k) && is_same (half_of s k) (half_of r k))) || (is_same (half_of s k) to && not (is_same (half_of s k) (half_of r k) || is_same (half_of s k) (half_of q k))))
+    → (((is_same to (half_of r k) && is_same (half_of s k) (half_of q k)) || (is_same to (half_of q k) && is_same (half_of s k) (half_of r k)))
+    || (is_same (half_of s k) to && not (is_same (half_of s k) (half_of r k) || is_same (half_of s k) (half_of q k))))
     ≡ comes_from (Xchg (Word r) (Word q)) number (half_of s k) to
 halves_exchanged r q s Low number (half_of t i) =
     word_half (is_same_register t r) (is_same_register t q) (is_same_register s r) (is_same_register s q) (is_same_half i Low) (is_same (half_of s Low) (half_of t i))
@@ -201,7 +223,8 @@ halves_exchanged r q s High number (half_of t i) =
     word_half (is_same_register t r) (is_same_register t q) (is_same_register s r) (is_same_register s q) (is_same_half i High) (is_same (half_of s High) (half_of t i))
 halves_exchanged r q s k number (flag_of f) = refl
 
-xchg_word : (r q s : Reg) (k : HalfName) (number : Option ℕ) (to : Location) → before (xchg_stmts (Word r) (Word q)) (alone (place_of to)) (Half s k) ≡ comes_from (Xchg (Word r) (Word q)) number (half_of s k) to
+xchg_word : (r q s : Reg) (k : HalfName) (number : Option ℕ) (to : Location) → before (xchg_stmts (Word r) (Word q)) (alone (place_of to)) (Half s k)
+    ≡ comes_from (Xchg (Word r) (Word q)) number (half_of s k) to
 xchg_word r q s Low number to =
     let w : Loc → Bool = before (exchanging (Half r High) (Half q High)) (alone (place_of to)) in
     before_both (exchanging (Half r Low) (Half q Low)) (exchanging (Half r High) (Half q High)) (alone (place_of to)) (Half s Low)
@@ -315,7 +338,8 @@ cmc_agrees number (flag_of Of) (flag_of Zf) = refl
 cmc_agrees number (flag_of Of) (flag_of Sf) = refl
 cmc_agrees number (flag_of Of) (flag_of Of) = refl
 
-pub plain_agrees : (operation : Plain) (number : Option ℕ) (l to : Location) → is_lifted_plain operation ≡ true → before (plain_stmts operation) (alone (place_of to)) (place_of l) ≡ comes_from (PlainOp operation) number l to
+pub plain_agrees : (operation : Plain) (number : Option ℕ) (l to : Location) → is_lifted_plain operation ≡ true
+    → before (plain_stmts operation) (alone (place_of to)) (place_of l) ≡ comes_from (PlainOp operation) number l to
 plain_agrees Nop number l to lifted = nop_agrees number l to
 plain_agrees Cbw number l to lifted = cbw_agrees number l to
 plain_agrees Cwd number l to lifted = cwd_agrees number l to

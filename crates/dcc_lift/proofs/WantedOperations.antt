@@ -50,7 +50,8 @@ jump_agrees op number l to m s = same_left l to ∙ sym (ap (λ x. x || (is_same
 pub agrees : (op : Op) (number : Option ℕ) (l to : Location) → is_liftable op ≡ true → IsOperation op → op ≢ Int21
     → before (op_stmts op number) (alone (place_of to)) (place_of l) ≡ comes_from op number l to
 agrees (AluOp operation a b) number l to g ok other = alu_agrees operation a b number l to (and_left (is_register a) (is_source b) g) (and_right (is_register a) (is_source b) g)
-agrees (UnaryOp operation a) number l to g ok other = unary_agrees operation a number l to (and_left (is_lifted_unary operation) (is_register a) g) (and_right (is_lifted_unary operation) (is_register a) g)
+agrees (UnaryOp operation a) number l to g ok other =
+    unary_agrees operation a number l to (and_left (is_lifted_unary operation) (is_register a) g) (and_right (is_lifted_unary operation) (is_register a) g)
 agrees (ShiftOp operation a by_cl) number l to g ok other = shift_agrees operation a by_cl number l to g
 agrees (Mov a b) number l to g ok other = mov_agrees a b number l to (and_left (is_register a) (is_source b) g) (and_right (is_register a) (is_source b) g) ok.widths
 agrees (Xchg a b) number l to g ok other = xchg_agrees a b number l to (and_left (is_register a) (is_register b) g) (and_right (is_register a) (is_register b) g) ok.widths
@@ -219,7 +220,8 @@ uses_agree (AluOp operation a b) number l g other = before_none (alu_stmts opera
     alu_uses operation (Mem width ea) b number l g = absurd (true≢false (sym g))
     alu_uses operation (Constant width c) b number l g = absurd (true≢false (sym g))
 uses_agree (UnaryOp operation a) number l g other =
-    before_none (unary_stmts operation (operand_width a) a) (place_of l) ∙ unary_uses operation a number l (and_left (is_lifted_unary operation) (is_register a) g) (and_right (is_lifted_unary operation) (is_register a) g)
+    before_none (unary_stmts operation (operand_width a) a) (place_of l)
+    ∙ unary_uses operation a number l (and_left (is_lifted_unary operation) (is_register a) g) (and_right (is_lifted_unary operation) (is_register a) g)
   where
     unary_uses : (operation : Unary) (a : Operand) (number : Option ℕ) (l : Location) → is_lifted_unary operation ≡ true → is_register a ≡ true → false ≡ uses (UnaryOp operation a) number l
     unary_uses Inc (Word r) number l g h = refl

@@ -77,7 +77,9 @@ shift_half word_width false Rol u s k = refl
 shift_half _ _ _ u s k = refl
 
 shift_flag : (w : Width) (by_cl : Bool) (f : FlagName) (operation : Shift) (u : Loc → Bool)
-    → before (shift_working operation w by_cl) u (Flag f) ≡ ((is_flag Cf (flag_of f) && (is_turn operation && (u (Flag Of) || u (result_place w)))) || (u (Flag f) && not (shift_writes_flag operation f && not (is_by_cl operation by_cl))))
+    → before (shift_working operation w by_cl) u (Flag f)
+    ≡ ((is_flag Cf (flag_of f) && (is_turn operation && (u (Flag Of) || u (result_place w))))
+    || (u (Flag f) && not (shift_writes_flag operation f && not (is_by_cl operation by_cl))))
 shift_flag byte_width true Cf Rol u = grind arith
 shift_flag byte_width false Cf Rol u = grind arith
 shift_flag word_width true Cf Rol u = grind arith
@@ -96,7 +98,8 @@ read_made (flag_of Of) Rol a u h = simp h
 read_made (half_of t j) _ a u h = simp h (sym (and_true (is_half_of t j a)))
 read_made _ _ a u h = simp h
 
-written_made : (to : Location) (operation : Shift) (a : Operand) (u : Loc → Bool) → ((f : FlagName) → u (Flag f) ≡ is_same (flag_of f) to) → (written_flags operation u || is_part to a) ≡ shift_writes operation a to
+written_made : (to : Location) (operation : Shift) (a : Operand) (u : Loc → Bool) → ((f : FlagName) → u (Flag f) ≡ is_same (flag_of f) to)
+    → (written_flags operation u || is_part to a) ≡ shift_writes operation a to
 written_made (half_of t j) Rol a u h = simp h
 written_made (flag_of Cf) Rol a u h = simp h
 written_made (flag_of Zf) Rol a u h = simp h
@@ -146,14 +149,16 @@ module _ (operation : Shift) (a : Operand) (by_cl : Bool) (to : Location) (g : i
   shift_behind_left : shift_behind (left_place (operand_width a)) ≡ (shift_writes operation a to && shift_reads operation to)
   shift_behind_left =
       before_both (shift_working operation (operand_width a) by_cl) (storing a) (alone (place_of to)) (left_place (operand_width a))
-      ∙ shift_left operation (operand_width a) by_cl shift_stored (stored_left a (alone (place_of to)) g ∙ no_left to (operand_width a)) (stored_right a (alone (place_of to)) g ∙ no_right to (operand_width a))
+      ∙ shift_left operation (operand_width a) by_cl shift_stored (stored_left a (alone (place_of to)) g ∙ no_left to (operand_width a))
+      (stored_right a (alone (place_of to)) g ∙ no_right to (operand_width a))
       ∙ ap (λ b. read_flags operation shift_stored || b) (stored_result a to g)
       ∙ read_made to operation a shift_stored shift_flags_are
 
   shift_behind_right : (by_cl && shift_behind (right_place (operand_width a))) ≡ (is_by_cl operation by_cl && shift_writes operation a to)
   shift_behind_right =
       ap (λ b. by_cl && b) (before_both (shift_working operation (operand_width a) by_cl) (storing a) (alone (place_of to)) (right_place (operand_width a)))
-      ∙ shift_right operation (operand_width a) by_cl shift_stored (stored_left a (alone (place_of to)) g ∙ no_left to (operand_width a)) (stored_right a (alone (place_of to)) g ∙ no_right to (operand_width a))
+      ∙ shift_right operation (operand_width a) by_cl shift_stored (stored_left a (alone (place_of to)) g ∙ no_left to (operand_width a))
+      (stored_right a (alone (place_of to)) g ∙ no_right to (operand_width a))
       ∙ ap (λ b. is_by_cl operation by_cl && (written_flags operation shift_stored || b)) (stored_result a to g)
       ∙ ap (λ b. is_by_cl operation by_cl && b) (written_made to operation a shift_stored shift_flags_are)
 
@@ -168,9 +173,12 @@ module _ (operation : Shift) (a : Operand) (by_cl : Bool) (to : Location) (g : i
   shift_behind_flag f =
       before_both (shift_working operation (operand_width a) by_cl) (storing a) (alone (place_of to)) (Flag f)
       ∙ shift_flag (operand_width a) by_cl f operation shift_stored
-      ∙ ap (λ b. (is_flag Cf (flag_of f) && (is_turn operation && (shift_stored (Flag Of) || b))) || (shift_stored (Flag f) && not (shift_writes_flag operation f && not (is_by_cl operation by_cl)))) (stored_result a to g)
-      ∙ ap (λ b. (is_flag Cf (flag_of f) && b) || (shift_stored (Flag f) && not (shift_writes_flag operation f && not (is_by_cl operation by_cl)))) (turn_made to operation a shift_stored shift_flags_are)
-      ∙ ap (λ b. (is_flag Cf (flag_of f) && (shift_writes operation a to && brings_carry operation to)) || (b && not (shift_writes_flag operation f && not (is_by_cl operation by_cl)))) (shift_flags_are f)
+      ∙ ap (λ b. (is_flag Cf (flag_of f) && (is_turn operation && (shift_stored (Flag Of) || b)))
+      || (shift_stored (Flag f) && not (shift_writes_flag operation f && not (is_by_cl operation by_cl)))) (stored_result a to g)
+      ∙ ap (λ b. (is_flag Cf (flag_of f) && b) || (shift_stored (Flag f) && not (shift_writes_flag operation f && not (is_by_cl operation by_cl))))
+      (turn_made to operation a shift_stored shift_flags_are)
+      ∙ ap (λ b. (is_flag Cf (flag_of f) && (shift_writes operation a to && brings_carry operation to))
+      || (b && not (shift_writes_flag operation f && not (is_by_cl operation by_cl)))) (shift_flags_are f)
 
   -- the operands
   shift_taken : (l : Location) → before (shift_stmts operation (operand_width a) a by_cl) (alone (place_of to)) (place_of l)
@@ -188,10 +196,13 @@ pub shift_agrees : (operation : Shift) (a : Operand) (by_cl : Bool) (number : Op
     → before (shift_stmts operation (operand_width a) a by_cl) (alone (place_of to)) (place_of l) ≡ comes_from (ShiftOp operation a by_cl) number l to
 shift_agrees operation a by_cl number (half_of s k) to g =
     shift_taken operation a by_cl to g (half_of s k)
-    ∙ ap (λ b. (is_read (half_of s k) a && (shift_writes operation a to && shift_reads operation to)) || ((is_cl (half_of s k) && (is_by_cl operation by_cl && shift_writes operation a to)) || b)) (shift_behind_half operation a by_cl to g s k)
-    ∙ half_joined (is_read (half_of s k) a) (shift_writes operation a to) (shift_reads operation to) (is_cl (half_of s k)) (is_by_cl operation by_cl) (brings_carry operation to) (is_same (half_of s k) to && not (is_half_of s k a))
+    ∙ ap (λ b. (is_read (half_of s k) a && (shift_writes operation a to && shift_reads operation to))
+    || ((is_cl (half_of s k) && (is_by_cl operation by_cl && shift_writes operation a to)) || b)) (shift_behind_half operation a by_cl to g s k)
+    ∙ half_joined (is_read (half_of s k) a) (shift_writes operation a to) (shift_reads operation to) (is_cl (half_of s k)) (is_by_cl operation by_cl)
+    (brings_carry operation to) (is_same (half_of s k) to && not (is_half_of s k a))
 shift_agrees operation a by_cl number (flag_of f) to g =
     shift_taken operation a by_cl to g (flag_of f)
-    ∙ ap (λ b. (is_read (flag_of f) a && (shift_writes operation a to && shift_reads operation to)) || ((is_cl (flag_of f) && (is_by_cl operation by_cl && shift_writes operation a to)) || b)) (shift_behind_flag operation a by_cl to g f)
+    ∙ ap (λ b. (is_read (flag_of f) a && (shift_writes operation a to && shift_reads operation to))
+    || ((is_cl (flag_of f) && (is_by_cl operation by_cl && shift_writes operation a to)) || b)) (shift_behind_flag operation a by_cl to g f)
     ∙ flag_joined (is_read (flag_of f) a) (shift_writes operation a to) (shift_reads operation to) (is_cl (flag_of f)) (is_by_cl operation by_cl) (brings_carry operation to) (is_flag Cf (flag_of f))
     (is_same (flag_of f) to && not (shift_writes_flag operation f && not (is_by_cl operation by_cl)))

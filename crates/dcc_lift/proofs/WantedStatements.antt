@@ -1,4 +1,4 @@
--- Which locations are wanted before statements that set locations, where a location is wanted behind them.
+-- Which locations are wanted before statements that set locations, where a location is wanted after them.
 use Rattle.std.proofs.Common.{◌≡◌, ℕ, zero, suc, ◌<◌, Bool, true, false, not, ◌&&◌, ◌||◌, ◌==◌, ◌⊎◌, inl, inr, List, [], ◌∷◌, ◌++◌, length, get_or, slice_get, Some, Contains, refl, sym, ap, ◌∙◌, subst, true≢false, arith}
 use Rattle.std.specs.List.{list_any, list_all}
 use Rattle.dcc_ir.specs.declared.syntax.Loc.{Loc}
@@ -48,7 +48,7 @@ one_location x l h = location_same l x (sym (or_none (same_location l x)) ∙ lo
 
 -- Statements.
 
--- the locations that are wanted before statements, where others are wanted behind them
+-- the locations that are wanted before statements, where others are wanted after them
 abbrev pub before : List Stmt → (Loc → Bool) → Loc → Bool
 before [] w l = w l
 before (Set to e ∷ rest) w l = (reads l e && before rest w to) || (not (same_location l to) && before rest w l)
@@ -69,7 +69,7 @@ before_both (Div to e ∷ xs) ys w l = before_both xs ys w l
 before_both (Call results entry arguments depth ∷ xs) ys w l = before_both xs ys w l
 before_both (Dos n place argument ∷ xs) ys w l = before_both xs ys w l
 
--- no more is wanted where less is wanted behind
+-- no more is wanted where less is wanted after
 pub before_weaker : (xs : List Stmt) (v w : Loc → Bool) (l : Loc) → ((x : Loc) → v x ≡ true → w x ≡ true) → before xs v l ≡ true → before xs w l ≡ true
 before_weaker [] v w l le e = le l e
 before_weaker (Set to e ∷ xs) v w l le t = elim (or_cases (reads l e && before xs v to) (not (same_location l to) && before xs v l) t) [
@@ -87,7 +87,7 @@ before_weaker (Dos n place argument ∷ xs) v w l le t = before_weaker xs v w l 
 both_none : (a b : Bool) → ((a && false) || (b && false)) ≡ false
 both_none a b = grind arith
 
--- nothing is wanted where nothing is wanted behind
+-- nothing is wanted where nothing is wanted after
 pub before_none : (xs : List Stmt) (l : Loc) → before xs (λ x. false) l ≡ false
 before_none [] l = refl
 before_none (Set to e ∷ xs) l =
@@ -147,7 +147,9 @@ pub wanted_known : (xs : List Stmt) (known w : Loc → Bool) (l : Loc) → sets_
 wanted_known [] known w l s behind e = behind l e
 wanted_known (Set to e ∷ xs) known w l s behind t = elim (or_cases (reads l e && before xs w to) (not (same_location l to) && before xs w l) t) [
   | inl a ↦ known_read known l (reads_of e) (and_left (list_all known (reads_of e)) (sets_first xs (λ x. known x || same_location x to)) s) (and_left (reads l e) (before xs w to) a)
-  | inr b ↦ elim (or_cases (known l) (same_location l to) (wanted_known xs (λ x. known x || same_location x to) w l (and_right (list_all known (reads_of e)) (sets_first xs (λ x. known x || same_location x to)) s) behind
+  | inr b ↦ elim (or_cases (known l) (same_location l to)
+      (wanted_known xs (λ x. known x || same_location x to) w l
+      (and_right (list_all known (reads_of e)) (sets_first xs (λ x. known x || same_location x to)) s) behind
       (and_right (not (same_location l to)) (before xs w l) b))) [
         | inl t ↦ t
         | inr t ↦ absurd (clash t (not_true (same_location l to) (and_left (not (same_location l to)) (before xs w l) b)))
@@ -183,7 +185,7 @@ counted graph block stmts l (left {rest = rest} n d) = let on = counted graph bl
 counted graph block stmts l (tested c) = (1, inl c)
 counted graph block stmts l (goes {next = next} {place = place} c f d) = let on = counted graph next next.stmts l d in (suc on.0, inr (place, next, c, f, on.1))
 
--- a location wanted before statements that set locations leads to one that is wanted behind them
+-- a location wanted before statements that set locations leads to one that is wanted after them
 pub leads : (End : Loc → Type 0) (xs ys : List Stmt) (known : Loc → Bool) (l : Loc) → sets_first xs known ≡ true → WantedWith End (xs ++ ys) l
     → (to : Loc) × (before xs (alone to) l ≡ true) × WantedWith End ys to
 leads End [] ys known l s d = (l, location_itself l, d)

@@ -107,7 +107,8 @@ one_joined : (x m k : Bool) → ((x && m) || (false || k)) ≡ ((m && x) || k)
 one_joined x m k = grind arith
 
 module _ (working : List Stmt) (a : Operand) (g : is_register a ≡ true)
-    (read : (u : Loc → Bool) → u (left_place (operand_width a)) ≡ false → u (right_place (operand_width a)) ≡ false → before working u (left_place (operand_width a)) ≡ (made_three u || u (result_place (operand_width a))))
+    (read : (u : Loc → Bool) → u (left_place (operand_width a)) ≡ false → u (right_place (operand_width a)) ≡ false
+    → before working u (left_place (operand_width a)) ≡ (made_three u || u (result_place (operand_width a))))
     (kept : (u : Loc → Bool) (l : Location) → before working u (place_of l) ≡ three_kept u l) where
   three_agrees : (l to : Location) → before (taking (operand_width a) (operand_expr a) (number (operand_width a) 1) ++ (working ++ storing a)) (alone (place_of to)) (place_of l)
       ≡ ((unary_makes Inc a to && is_read l a) || (is_same l to && not (surely_writes (UnaryOp Inc a) None l)))
@@ -122,14 +123,20 @@ module _ (working : List Stmt) (a : Operand) (g : is_register a ≡ true)
       before_both working (storing a) (alone (place_of to)) (place_of l) ∙ kept u l ∙ three_left a l to g in
       before_both (taking (operand_width a) (operand_expr a) (number (operand_width a) 1)) (working ++ storing a) (alone (place_of to)) (place_of l)
       ∙ taken (operand_width a) (operand_expr a) (number (operand_width a) 1) (before (working ++ storing a) (alone (place_of to))) l refl
-      ∙ ap (λ b. (b && before (working ++ storing a) (alone (place_of to)) (left_place (operand_width a))) || (false || before (working ++ storing a) (alone (place_of to)) (place_of l))) (operand_reads a l (register_source a g))
+      ∙ ap (λ b. (b && before (working ++ storing a) (alone (place_of to)) (left_place (operand_width a)))
+      || (false || before (working ++ storing a) (alone (place_of to)) (place_of l))) (operand_reads a l (register_source a g))
       ∙ ap (λ b. (is_read l a && b) || (false || before (working ++ storing a) (alone (place_of to)) (place_of l))) made
       ∙ ap (λ b. (is_read l a && unary_makes Inc a to) || (false || b)) stays
       ∙ one_joined (is_read l a) (unary_makes Inc a to) (is_same l to && not (surely_writes (UnaryOp Inc a) None l))
 
-inc_agrees : (a : Operand) (number : Option ℕ) (l to : Location) → is_register a ≡ true → before (unary_stmts Inc (operand_width a) a) (alone (place_of to)) (place_of l) ≡ comes_from (UnaryOp Inc a) number l to
-inc_agrees a number (half_of s k) to g = three_agrees (result_taking (operand_width a) (sum (operand_width a)) ++ sum_flags (operand_width a)) a g (sum_left (operand_width a)) (sum_place (operand_width a)) (half_of s k) to
-inc_agrees a number (flag_of f) to g = three_agrees (result_taking (operand_width a) (sum (operand_width a)) ++ sum_flags (operand_width a)) a g (sum_left (operand_width a)) (sum_place (operand_width a)) (flag_of f) to
+inc_agrees : (a : Operand) (number : Option ℕ) (l to : Location) → is_register a ≡ true
+    → before (unary_stmts Inc (operand_width a) a) (alone (place_of to)) (place_of l) ≡ comes_from (UnaryOp Inc a) number l to
+inc_agrees a number (half_of s k) to g =
+    three_agrees (result_taking (operand_width a) (sum (operand_width a)) ++ sum_flags (operand_width a)) a g (sum_left (operand_width a))
+    (sum_place (operand_width a)) (half_of s k) to
+inc_agrees a number (flag_of f) to g =
+    three_agrees (result_taking (operand_width a) (sum (operand_width a)) ++ sum_flags (operand_width a)) a g (sum_left (operand_width a))
+    (sum_place (operand_width a)) (flag_of f) to
 
 dec_makes : (a : Operand) (to : Location) → unary_makes Inc a to ≡ unary_makes Dec a to
 dec_makes a (half_of t j) = refl
@@ -145,9 +152,11 @@ dec_writes a number (flag_of Zf) = refl
 dec_writes a number (flag_of Sf) = refl
 dec_writes a number (flag_of Of) = refl
 
-dec_agrees : (a : Operand) (number : Option ℕ) (l to : Location) → is_register a ≡ true → before (unary_stmts Dec (operand_width a) a) (alone (place_of to)) (place_of l) ≡ comes_from (UnaryOp Dec a) number l to
+dec_agrees : (a : Operand) (number : Option ℕ) (l to : Location) → is_register a ≡ true
+    → before (unary_stmts Dec (operand_width a) a) (alone (place_of to)) (place_of l) ≡ comes_from (UnaryOp Dec a) number l to
 dec_agrees a number l to g =
-    three_agrees (result_taking (operand_width a) (difference (operand_width a)) ++ difference_flags (operand_width a)) a g (difference_left (operand_width a)) (difference_place (operand_width a)) l to
+    three_agrees (result_taking (operand_width a) (difference (operand_width a)) ++ difference_flags (operand_width a)) a g (difference_left (operand_width a))
+    (difference_place (operand_width a)) l to
     ∙ ap (λ b. (b && is_read l a) || (is_same l to && not (surely_writes (UnaryOp Inc a) None l))) (dec_makes a to)
     ∙ ap (λ b. (unary_makes Dec a to && is_read l a) || (is_same l to && not b)) (dec_writes a number l)
 
@@ -160,7 +169,9 @@ four_made (flag_of Zf) a u h = simp h
 four_made (flag_of Sf) a u h = simp h
 four_made (flag_of Of) a u h = simp h
 
-neg_left : (a : Operand) (l to : Location) → is_register a ≡ true → before (subtracting (operand_width a)) (before (storing a) (alone (place_of to))) (place_of l) ≡ (is_same l to && not (surely_writes (UnaryOp Neg a) None l))
+neg_left : (a : Operand) (l to : Location) → is_register a ≡ true
+    → before (subtracting (operand_width a)) (before (storing a) (alone (place_of to))) (place_of l)
+    ≡ (is_same l to && not (surely_writes (UnaryOp Neg a) None l))
 neg_left a (half_of s k) to g = subtracting_half (operand_width a) (before (storing a) (alone (place_of to))) s k ∙ stored_half a s k to g
 neg_left a (flag_of f) to g = subtracting_flag (operand_width a) f (before (storing a) (alone (place_of to))) ∙ sym (and_false (is_same (flag_of f) to))
 
@@ -171,7 +182,8 @@ any_number : (operation : Unary) (a : Operand) (number : Option ℕ) (l : Locati
 any_number operation a number (half_of s k) = refl
 any_number operation a number (flag_of f) = refl
 
-neg_agrees : (a : Operand) (number : Option ℕ) (l to : Location) → is_register a ≡ true → before (unary_stmts Neg (operand_width a) a) (alone (place_of to)) (place_of l) ≡ comes_from (UnaryOp Neg a) number l to
+neg_agrees : (a : Operand) (number : Option ℕ) (l to : Location) → is_register a ≡ true
+    → before (unary_stmts Neg (operand_width a) a) (alone (place_of to)) (place_of l) ≡ comes_from (UnaryOp Neg a) number l to
 neg_agrees a n l to g =
     let w = operand_width a in
     let u : Loc → Bool = before (storing a) (alone (place_of to)) in
@@ -205,14 +217,16 @@ inverted_made : (a : Operand) (to : Location) → is_part to a ≡ unary_makes N
 inverted_made a (half_of t j) = refl
 inverted_made a (flag_of f) = refl
 
-inverted_left : (a : Operand) (n : Option ℕ) (l to : Location) → is_register a ≡ true → before (storing a) (alone (place_of to)) (place_of l) ≡ (is_same l to && not (surely_writes (UnaryOp Not a) n l))
+inverted_left : (a : Operand) (n : Option ℕ) (l to : Location) → is_register a ≡ true → before (storing a) (alone (place_of to)) (place_of l)
+    ≡ (is_same l to && not (surely_writes (UnaryOp Not a) n l))
 inverted_left a n (half_of s k) to g = stored_half a s k to g
 inverted_left a n (flag_of f) to g = stored_flag a f (alone (place_of to)) ∙ place_same (flag_of f) to ∙ sym (and_true (is_same (flag_of f) to))
 
 inverted_joined : (x m k : Bool) → ((x && m) || k) ≡ ((m && x) || k)
 inverted_joined x m k = grind arith
 
-not_agrees : (a : Operand) (number : Option ℕ) (l to : Location) → is_register a ≡ true → before (unary_stmts Not (operand_width a) a) (alone (place_of to)) (place_of l) ≡ comes_from (UnaryOp Not a) number l to
+not_agrees : (a : Operand) (number : Option ℕ) (l to : Location) → is_register a ≡ true
+    → before (unary_stmts Not (operand_width a) a) (alone (place_of to)) (place_of l) ≡ comes_from (UnaryOp Not a) number l to
 not_agrees a n l to g =
     let w = operand_width a in
     let e : Expr = UnaryExpr NotOp (bits_of w) (operand_expr a) in
@@ -310,7 +324,8 @@ product_joined : (x y m k : Bool) → ((x && m) || ((y && m) || k)) ≡ ((m && (
 product_joined x y m k = grind arith
 
 product_agrees : (signed : Bool) (a : Operand) (l to : Location) → is_register a ≡ true
-    → before (multiplying (operand_width a) signed a) (alone (place_of to)) (place_of l) ≡ ((unary_makes Mul a to && unary_reads Mul a l) || (is_same l to && not (surely_writes (UnaryOp Mul a) None l)))
+    → before (multiplying (operand_width a) signed a) (alone (place_of to)) (place_of l)
+    ≡ ((unary_makes Mul a to && unary_reads Mul a l) || (is_same l to && not (surely_writes (UnaryOp Mul a) None l)))
 product_agrees signed a l to g =
     let w = operand_width a in
     let u : Loc → Bool = before (product_storing w) (alone (place_of to)) in

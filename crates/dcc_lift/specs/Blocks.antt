@@ -1,6 +1,6 @@
--- The blocks of a procedure's instructions: which instructions begin one, and which stand in it. An instruction joins the
--- block of the one before it where nothing else leads to it. This stands between the procedure and the code; the public
--- contract tells what the blocks are by paths.
+-- The blocks of a procedure's instructions: which instructions begin one, and which stand in it. An instruction joins
+-- the block of the one before it where nothing else leads to it. This stands between the procedure and the code; the
+-- public contract tells what the blocks are by paths.
 use Rattle.std.specs.Prelude.{◌≡◌, ℕ, suc, ◌==◌, nat_lt, Bool, true, false, not, ◌&&◌, if◌then◌else◌, List, [], ◌∷◌, map, filter, flat_map, Option, Some, None}
 use Rattle.dcc_prog.specs.declared.procedure.Node.{Node}
 use Rattle.dcc_ir.specs.Tree.{Stmt, Exit, Stop, Block}
@@ -47,7 +47,7 @@ if_joins nodes entry places = None
 abbrev pub onward : Nodes → ℕ → ℕ → Option ℕ
 onward nodes entry at = if_joins nodes entry (successors_in (node_in nodes at))
 
--- the rest of a block behind an instruction, to its end
+-- the rest of a block after an instruction, to its end
 abbrev pub IsChain : Nodes → ℕ → ℕ → List ℕ → Type 0
 IsChain nodes entry at [] = onward nodes entry at ≡ None
 IsChain nodes entry at (next ∷ rest) = (onward nodes entry at ≡ Some next) × IsChain nodes entry next rest
@@ -98,5 +98,6 @@ pub record IsBlockAt (nodes : Nodes) (entry at : ℕ) (block : Block) : Type 0 w
 -- the blocks that begin at these offsets, in their order
 abbrev pub AreBlocksAt : Nodes → ℕ → List ℕ → List Block → Type 0
 AreBlocksAt nodes entry [] [] = Unit {0}
-AreBlocksAt nodes entry (at ∷ places) (block ∷ blocks) = IsBlockAt nodes entry at block × AreBlocksAt nodes entry places blocks
+AreBlocksAt nodes entry (at ∷ places) (block ∷ blocks) =
+    IsBlockAt nodes entry at block × AreBlocksAt nodes entry places blocks
 AreBlocksAt nodes entry _ _ = ⊥

@@ -22,5 +22,6 @@ IsPlace (flag_of flag) = Unit {0}
 -- at each block of the procedure a location is wanted in the graph just where the procedure wants it
 abbrev pub WantsTheSame : Image → Layout → Graph → Type 0
 WantsTheSame image layout graph =
-    (place : ℕ) (block : Block) (location : Location) → slice_get graph.blocks (suc place) ≡ Some block → IsPlace location
+    (place : ℕ) (block : Block) (location : Location)
+    → slice_get graph.blocks (suc place) ≡ Some block → IsPlace location
     → IsWanted image layout layout.start_ip block.at location ↔ IsWantedIn graph block block.stmts (place_of location)

@@ -106,7 +106,9 @@ carry_out_of_both w = by_carry w LeU LtU (result w) (left w)
 -- both operands have another sign than the sum
 abbrev pub sum_overflow : Width → Expr
 sum_overflow w =
-    Binary And 1 (Binary Xor 1 (sign w (left w)) (sign w (result w))) (Binary Xor 1 (sign w (right w)) (sign w (result w)))
+    Binary And 1
+    (Binary Xor 1 (sign w (left w)) (sign w (result w)))
+    (Binary Xor 1 (sign w (right w)) (sign w (result w)))
 
 abbrev pub difference : Width → Expr
 difference w = at_width Sub w (left w) (right w)

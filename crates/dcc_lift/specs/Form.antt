@@ -1,7 +1,7 @@
--- The form of the lifted program: its locations are halves of word registers, flags and temporaries, it neither reads nor
--- writes memory, and it neither divides nor writes strings. Each statement sets a location or is a DOS call that writes a
--- byte, takes a key into a half, or ends the run. Each block goes on, parts by a test, or stops. Few of the statements are
--- on flags.
+-- The form of the lifted program: its locations are halves of word registers, flags and temporaries, it neither reads
+-- nor writes memory, and it neither divides nor writes strings. Each statement sets a location or is a DOS call that
+-- writes a byte, takes a key into a half, or ends the run. Each block goes on, parts by a test, or stops. Few of the
+-- statements are on flags.
 use Rattle.std.specs.Prelude.{◌≡◌, ◌≤◌, ℕ, ◌==◌, Bool, true, false, ◌&&◌, ◌||◌, not, List, [], ◌∷◌, Option, Some, None, flat_map, sum_by, count_by}
 use Rattle.std.specs.List.{list_any, list_all}
 use Rattle.dcc_num.specs.declared.Reg.{Reg}
@@ -48,7 +48,8 @@ is_lifted_part e = true
 abbrev pub is_lifted_expr : Expr → Bool
 is_lifted_expr e = list_all is_lifted_part (parts_of e)
 
--- a DOS call: 02h and 4Ch have an argument and set no place, 01h and 08h set a half and have no argument; there is no other
+-- a DOS call: 02h and 4Ch have an argument and set no place, 01h and 08h set a half and have no argument; there is no
+-- other
 abbrev pub is_lifted_dos : ℕ → Option Loc → Option Expr → Bool
 is_lifted_dos number None (Some argument) = (number == 0x02 || number == 0x4C) && is_lifted_expr argument
 is_lifted_dos number (Some place) None = (number == 0x01 || number == 0x08) && is_lifted_half place
@@ -119,8 +120,12 @@ has_carry_in op = false
 abbrev pub graph_stmts : Graph → List Stmt
 graph_stmts graph = flat_map (λ block. block.stmts) graph.blocks
 
--- Statements on flags that set one are no more than the flags that the procedure's operations may write, added up over its
--- instructions; the others are no more than its ADCs, SBBs, RCLs and RCRs.
+-- Statements on flags that set one are no more than the flags that the procedure's operations may write, added up over
+-- its instructions; the others are no more than its ADCs, SBBs, RCLs and RCRs.
 pub record HasFewFlagStmts (proc : Proc) (graph : Graph) : Type 0 where
-  pub setters : count_by is_flag_setter (graph_stmts graph) ≤ sum_by (λ (found : ℕ × Node). flags_written found.1.instr.op) proc.nodes.entries
-  pub others : count_by is_other_flag_stmt (graph_stmts graph) ≤ count_by (λ (found : ℕ × Node). has_carry_in found.1.instr.op) proc.nodes.entries
+  pub setters :
+      count_by is_flag_setter (graph_stmts graph)
+      ≤ sum_by (λ (found : ℕ × Node). flags_written found.1.instr.op) proc.nodes.entries
+  pub others :
+      count_by is_other_flag_stmt (graph_stmts graph)
+      ≤ count_by (λ (found : ℕ × Node). has_carry_in found.1.instr.op) proc.nodes.entries

@@ -7,7 +7,7 @@ use Rattle.dcc_lift.specs.Temporaries.{temporary_bits}
 use Rattle.dcc_lift.specs.Blocks.{Nodes, leaders, AreBlocksAt}
 use Rattle.dcc_lift.specs.Translation.{prelude_block}
 
--- the block of the prelude, and behind it those of the instructions
+-- the block of the prelude, and after it those of the instructions
 pub record IsGraphOf (image : Image) (layout : Layout) (nodes : Nodes) (g : Graph) : Type 0 where
   pub blocks : List Block
   pub blocks_are : AreBlocksAt nodes layout.start_ip (leaders nodes layout.start_ip) blocks

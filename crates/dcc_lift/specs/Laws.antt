@@ -14,7 +14,7 @@ pub record IsFlowOfTrails (image : Image) (layout : Layout) (entry : ℕ) (flow 
   pub nodes : (a : ℕ) → (flow.has a ≡ true) ↔ IsNode image layout entry a
   pub edges : (a b : ℕ) → (flow.goes a b ≡ true) ↔ IsEdge image layout entry a b
 
--- the flow graph of the procedure that is found is that of the trails from the entry behind the prelude
+-- the flow graph of the procedure that is found is that of the trails from the entry after the prelude
 abbrev pub FlowIsOfTrails : Type 0
 FlowIsOfTrails =
     (image : Image) (layout : Layout) (procs : List Proc) → (are : AreFound image layout procs)

@@ -38,19 +38,24 @@ offset_mark t = option_map (λ (place : Place). place.at) (block_mark t)
 abbrev pub has_block_at : Program → ℕ → Bool
 has_block_at p at = list_any (λ graph. (flow_of graph).has at) p.graphs
 
--- For every fill and input the program's run comes to its blocks as the machine comes to their offsets, in the same order
--- and with the same output, and it ends as the machine does.
+-- For every fill and input the program's run comes to its blocks as the machine comes to their offsets, in the same
+-- order and with the same output, and it ends as the machine does.
 abbrev pub RunsAsMachine : Image → Program → Type 0
 RunsAsMachine image p =
     (fill : ℕ) (input : List ℕ) → fill < 65536 → All (λ byte. byte < 256) input
-    → VisitsKept (has_block_at p) machine_system instruction_mark (start_state image input) (inner_system p fill) offset_mark (first_state p fill input)
+    → VisitsKept (has_block_at p)
+    machine_system instruction_mark (start_state image input)
+    (inner_system p fill) offset_mark (first_state p fill input)
 
--- For every fill and input, the machine has put out what the program has after m of its steps within (m + 1) * 65536 steps,
--- and has ended alike where the program has.
+-- For every fill and input, the machine has put out what the program has after m of its steps within (m + 1) * 65536
+-- steps, and has ended alike where the program has.
 abbrev pub MachineFollows : Image → Program → Type 0
 MachineFollows image p =
     (fill : ℕ) (input : List ℕ) → fill < 65536 → All (λ byte. byte < 256) input
-    → Follows (λ m. Unit {0}) (inner_system p fill) (first_state p fill input) machine_system (start_state image input) (λ m. (m + 1) * 65536)
+    → Follows (λ m. Unit {0})
+    (inner_system p fill) (first_state p fill input)
+    machine_system (start_state image input)
+    (λ m. (m + 1) * 65536)
 
 -- no run of the program comes to a Switch that has no block for its value, to a Stop, or to a Ret of the first graph
 abbrev pub IsNeverStuck : Program → Type 0
@@ -65,29 +70,32 @@ abbrev pub procedure_flow : Proc → Flow
 procedure_flow proc = record {
   start = proc.entry;
   has = λ a. list_any (λ found. found.0 == a) proc.nodes.entries;
-  goes = λ a b. list_any (λ found. (found.0 == a) && list_any (λ next. next == b) found.1.succ.items) proc.nodes.entries;
+  goes = λ a b.
+      list_any (λ found. (found.0 == a) && list_any (λ next. next == b) found.1.succ.items) proc.nodes.entries;
 }
 
 -- the same with one block more, at an offset of the prelude, that goes to the procedure's entry
-abbrev pub behind_prelude : ℕ → Flow → Flow
-behind_prelude at flow = record {
+abbrev pub after_prelude : ℕ → Flow → Flow
+after_prelude at flow = record {
   start = at;
   has = λ a. (at == a) || flow.has a;
   goes = λ a b. ((at == a) && (flow.start == b)) || flow.goes a b;
 }
 
--- the instruction, a call, begins a block, and that behind it begins another
+-- the instruction, a call, begins a block, and that after it begins another
 pub record IsBlockOfCall (flow : Flow) (found : ℕ × Node) : Type 0 where
   pub begins : flow.has found.0 ≡ true
-  pub behind : flow.has (next_of found.0 found.1.instr) ≡ true
+  pub after : flow.has (next_of found.0 found.1.instr) ≡ true
 
 -- Every closed path of instructions holds a block. Each instruction that begins no block has one edge in, and the edges
--- of the graph are those of the instructions, with each such one taken into the one before it. A call stands alone in its
--- block.
+-- of the graph are those of the instructions, with each such one taken into the one before it. A call stands alone in
+-- its block.
 pub record HasBlocks (image : Image) (start : Proc) (p : Program) : Type 0 where
-  pub contraction : IsContraction (behind_prelude image.ip (procedure_flow start)) (flow_at p start.entry)
-  pub one_edge : HaveOneEdge (behind_prelude image.ip (procedure_flow start)) (flow_at p start.entry)
-  pub calls : All (λ (found : ℕ × Node). (target : ℕ) → found.1.instr.op ≡ Call target → IsBlockOfCall (flow_at p start.entry) found) start.nodes.entries
+  pub contraction : IsContraction (after_prelude image.ip (procedure_flow start)) (flow_at p start.entry)
+  pub one_edge : HaveOneEdge (after_prelude image.ip (procedure_flow start)) (flow_at p start.entry)
+  pub calls :
+      All (λ (found : ℕ × Node). (target : ℕ) → found.1.instr.op ≡ Call target
+      → IsBlockOfCall (flow_at p start.entry) found) start.nodes.entries
 
 -- The whole.
 
@@ -95,9 +103,9 @@ pub record HasBlocks (image : Image) (start : Proc) (p : Program) : Type 0 where
 abbrev pub IsShallow : ℕ → Graph → Type 0
 IsShallow depth graph = All (λ e. depth_of e ≤ depth) (graph_exprs graph)
 
--- what the program is made of: the one graph is that of the entry procedure, without params, without bytes of the frame and
--- with cells for pushes alone, and it has these temporaries; the memory holds the image's data segment, and the stack is the
--- layout's
+-- what the program is made of: the one graph is that of the entry procedure, without params, without bytes of the frame
+-- and with cells for pushes alone, and it has these temporaries; the memory holds the image's data segment, and the stack
+-- is the layout's
 pub record IsFramed (image : Image) (layout : Layout) (p : Program) : Type 0 where
   pub graph : Graph
   pub one : p.graphs ≡ graph ∷ []

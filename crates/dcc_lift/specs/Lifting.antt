@@ -14,7 +14,7 @@ pub record IsLiftableNode (found : ℕ × Node) : Type 0 where
   pub lifted : is_liftable found.1.instr.op ≡ true
   pub operation : IsOperation found.1.instr.op
 
--- each instruction is lifted, the instructions are sound, and the registers behind the prelude hold words
+-- each instruction is lifted, the instructions are sound, and the registers after the prelude hold words
 pub record IsLiftableProcedure (image : Image) (layout : Layout) (start : Proc) : Type 0 where
   pub nodes : All IsLiftableNode start.nodes.entries
   pub sound : AreSound start.nodes.entries layout.start_ip image.ip

@@ -1,5 +1,5 @@
--- What the translation rests on: the instructions stand in ascending order and go on to instructions, at as many places as
--- their operations say. This stands between the procedure and the code.
+-- What the translation rests on: the instructions stand in ascending order and go on to instructions, at as many places
+-- as their operations say. This stands between the procedure and the code.
 use Rattle.std.specs.Prelude.{◌<◌, ℕ, List, [], ◌∷◌, map, All, AllPairs, Contains, Option, Some, None}
 use Rattle.dcc_prog.specs.declared.procedure.Node.{Node}
 use Rattle.dcc_ir.specs.Tree.{Expr}
@@ -17,7 +17,8 @@ AgreesWith None [] = Unit {0}
 AgreesWith None (next ∷ []) = Unit {0}
 AgreesWith test places = ⊥
 
--- the instructions of a procedure with that entry, behind a prelude that begins at an offset where no instruction of it stands
+-- the instructions of a procedure with that entry, after a prelude that begins at an offset where no instruction of it
+-- stands
 pub record AreSound (nodes : Nodes) (entry prelude : ℕ) : Type 0 where
   pub ascending : AllPairs (λ (a b : ℕ × Node). a.0 < b.0) nodes
   pub below : All (λ (found : ℕ × Node). found.0 < 65536) nodes

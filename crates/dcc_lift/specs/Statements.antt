@@ -130,7 +130,10 @@ unary_stmts operation w a = []
 -- the flags of a shift
 abbrev pub shift_flags : Width → Bool → Expr → Expr → List Stmt
 shift_flags w by_cl overflow carry =
-    flags_taking (unless_zero w by_cl Of overflow) (unless_zero w by_cl Sf (sign w (result w))) (unless_zero w by_cl Zf (is_zero w (result w)))
+    flags_taking
+    (unless_zero w by_cl Of overflow)
+    (unless_zero w by_cl Sf (sign w (result w)))
+    (unless_zero w by_cl Zf (is_zero w (result w)))
     ++ carry_taking (unless_zero w by_cl Cf carry)
 
 -- those of a rotate
@@ -141,7 +144,9 @@ rotate_flags w by_cl overflow carry =
 abbrev pub shift_working : Shift → Width → Bool → List Stmt
 shift_working Shl w by_cl =
     result_taking w (shifted ShlOp w)
-    ++ shift_flags w by_cl (if_one w by_cl (Binary XorOp 1 (sign w (nearly_shifted ShlOp w)) (sign w (result w)))) (sign w (nearly_shifted ShlOp w))
+    ++ shift_flags w by_cl
+    (if_one w by_cl (Binary XorOp 1 (sign w (nearly_shifted ShlOp w)) (sign w (result w))))
+    (sign w (nearly_shifted ShlOp w))
 shift_working Shr w by_cl =
     result_taking w (shifted ShrOp w)
     ++ shift_flags w by_cl (if_one w by_cl (sign w (left w))) (lowest (nearly_shifted ShrOp w))
@@ -149,10 +154,14 @@ shift_working Sar w by_cl =
     result_taking w (shifted SarOp w) ++ shift_flags w by_cl (bit 0) (lowest (nearly_shifted SarOp w))
 shift_working Rol w by_cl =
     result_taking w (rotated_left w)
-    ++ rotate_flags w by_cl (if_one w by_cl (Binary XorOp 1 (lowest (result w)) (sign w (result w)))) (lowest (result w))
+    ++ rotate_flags w by_cl
+    (if_one w by_cl (Binary XorOp 1 (lowest (result w)) (sign w (result w))))
+    (lowest (result w))
 shift_working Ror w by_cl =
     result_taking w (rotated_right w)
-    ++ rotate_flags w by_cl (if_one w by_cl (Binary XorOp 1 (sign w (result w)) (below_sign w (result w)))) (sign w (result w))
+    ++ rotate_flags w by_cl
+    (if_one w by_cl (Binary XorOp 1 (sign w (result w)) (below_sign w (result w))))
+    (sign w (result w))
 shift_working Rcl w by_cl =
     result_taking w (turned_left w)
     ++ rotate_flags w false (Binary XorOp 1 (sign w (left w)) (sign w (result w))) (sign w (left w))
@@ -195,7 +204,9 @@ plain_stmts operation = []
 
 -- CX is lowered by 1
 abbrev pub counting : List Stmt
-counting = result_taking word_width (at_width SubOp word_width (word_of Cx) (number word_width 1)) ++ word_taking Cx 0 (result word_width)
+counting =
+    result_taking word_width (at_width SubOp word_width (word_of Cx) (number word_width 1))
+    ++ word_taking Cx 0 (result word_width)
 
 -- the DOS call of that number
 abbrev pub dos_stmts : Option ℕ → List Stmt

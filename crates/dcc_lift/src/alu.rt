@@ -44,7 +44,7 @@ impl Writer {
     }
 
     // A sum with the carry.
-    fn add_with_carry(&mut self, w: Width) -> Result<(), AllocError>
+    fn adc(&mut self, w: Width) -> Result<(), AllocError>
         ensures { OnOk result (written self.new ≡ written self.old ++ spec.alu_working Alu.Adc w) }
     {
         let maker = self.maker(w);
@@ -54,7 +54,7 @@ impl Writer {
     }
 
     // A difference.
-    fn subtract(&mut self, w: Width) -> Result<(), AllocError>
+    fn sub(&mut self, w: Width) -> Result<(), AllocError>
         ensures { OnOk result (written self.new ≡ written self.old ++ spec.subtracting w) }
     {
         let maker = self.maker(w);
@@ -64,7 +64,7 @@ impl Writer {
     }
 
     // A difference with the borrow.
-    fn subtract_with_borrow(&mut self, w: Width) -> Result<(), AllocError>
+    fn sbb(&mut self, w: Width) -> Result<(), AllocError>
         ensures { OnOk result (written self.new ≡ written self.old ++ spec.alu_working Alu.Sbb w) }
     {
         let maker = self.maker(w);
@@ -93,9 +93,9 @@ impl Writer {
     {
         match operation {
             Alu::Add => self.add(w),
-            Alu::Adc => self.add_with_carry(w),
-            Alu::Sub | Alu::Cmp => self.subtract(w),
-            Alu::Sbb => self.subtract_with_borrow(w),
+            Alu::Adc => self.adc(w),
+            Alu::Sub | Alu::Cmp => self.sub(w),
+            Alu::Sbb => self.sbb(w),
             Alu::And | Alu::Test => self.combine(w, BinOp::And),
             Alu::Or => self.combine(w, BinOp::Or),
             Alu::Xor => self.combine(w, BinOp::Xor),
@@ -124,7 +124,7 @@ impl Writer {
     }
 
     // INC.
-    fn increment(&mut self, w: Width, a: Operand) -> Result<(), AllocError>
+    fn inc(&mut self, w: Width, a: Operand) -> Result<(), AllocError>
         ensures { OnOk result (written self.new ≡ written self.old ++ spec.unary_stmts Unary.Inc w a) }
     {
         let maker = self.maker(w);
@@ -135,7 +135,7 @@ impl Writer {
     }
 
     // DEC.
-    fn decrement(&mut self, w: Width, a: Operand) -> Result<(), AllocError>
+    fn dec(&mut self, w: Width, a: Operand) -> Result<(), AllocError>
         ensures { OnOk result (written self.new ≡ written self.old ++ spec.unary_stmts Unary.Dec w a) }
     {
         let maker = self.maker(w);
@@ -146,17 +146,17 @@ impl Writer {
     }
 
     // NEG.
-    fn negate(&mut self, w: Width, a: Operand) -> Result<(), AllocError>
+    fn neg(&mut self, w: Width, a: Operand) -> Result<(), AllocError>
         ensures { OnOk result (written self.new ≡ written self.old ++ spec.unary_stmts Unary.Neg w a) }
     {
         let maker = self.maker(w);
         self.take_operands(w, maker.number(0), maker.operand(a)?)?;
-        self.subtract(w)?;
+        self.sub(w)?;
         self.store(a)
     }
 
     // NOT.
-    fn complement(&mut self, w: Width, a: Operand) -> Result<(), AllocError>
+    fn not(&mut self, w: Width, a: Operand) -> Result<(), AllocError>
         ensures { OnOk result (written self.new ≡ written self.old ++ spec.unary_stmts Unary.Not w a) }
     {
         let maker = self.maker(w);
@@ -170,10 +170,10 @@ impl Writer {
         ensures { OnOk result (written self.new ≡ written self.old ++ spec.unary_stmts operation w a) }
     {
         match operation {
-            Unary::Inc => self.increment(w, a),
-            Unary::Dec => self.decrement(w, a),
-            Unary::Neg => self.negate(w, a),
-            Unary::Not => self.complement(w, a),
+            Unary::Inc => self.inc(w, a),
+            Unary::Dec => self.dec(w, a),
+            Unary::Neg => self.neg(w, a),
+            Unary::Not => self.not(w, a),
             Unary::Mul => self.multiply(w, false, a),
             Unary::Imul => self.multiply(w, true, a),
             Unary::Div | Unary::Idiv => Ok(()),

@@ -7,8 +7,8 @@ use dcc_prog::Node;
 use indexmap::IndexMap;
 use std::alloc::{AllocError, Global};
 
-/// The number of offsets in a segment.
-const OFFSETS: usize = 65536;
+/// The number of offsets in a segment, each of which has a byte.
+pub const OFFSETS: usize = 65536;
 
 /// The edges to an offset.
 #[derive(Clone, Copy)]
@@ -37,7 +37,8 @@ impl Incoming {
 fn note(table: &mut [Incoming], from: u16, successors: &[u16])
     requires { length table.old ≡ 65536 }
     ensures { (to : ℕ) (edges : List ℕ) → get_or table.old to Incoming.Nowhere ≡ incoming_of edges
-        → get_or table.new to Incoming.Nowhere ≡ incoming_of (edges ++ map (λ _. from) (filter (λ next. next == to) successors.now)) }
+        → get_or table.new to Incoming.Nowhere
+        ≡ incoming_of (edges ++ map (λ _. from) (filter (λ next. next == to) successors.now)) }
 {
     for to in successors {
         let place = usize::from(*to);

@@ -18,8 +18,6 @@ mod product;
 mod program;
 mod shift;
 mod sum;
-#[cfg(test)]
-mod tests;
 mod writer;
 
 pub use program::lift;

@@ -129,7 +129,8 @@ impl<'a> Outline<'a> {
     pub fn blocks(&self, alloc: Global) -> Result<Vec<Block>, AllocError>
         requires { KnowsLeaders self.now }
         ensures { IfOk result (λ blocks.
-            AreBlocksAt (nodes_of self.now.instructions) self.now.instructions.start self.now.leaders.items (map block_of blocks.items)) }
+            AreBlocksAt (nodes_of self.now.instructions) self.now.instructions.start
+            self.now.leaders.items (map block_of blocks.items)) }
     {
         let mut blocks = Vec::new(alloc);
         for at in &self.leaders {

@@ -14,6 +14,7 @@ ghost use Rattle.dcc_lift.specs.Graphs.{IsGraphOf};
 ghost use Rattle.dcc_lift.specs.Known.{nodes_of, KnowsLeaders};
 ghost use Rattle.dcc_lift.specs.Writing.{written};
 
+use crate::edges::OFFSETS;
 use crate::expression::bit;
 use crate::flow::Instructions;
 use crate::outline::Outline;
@@ -23,14 +24,11 @@ use dcc_num::{FlagName, Flags, Half, Reg};
 use dcc_prog::{Image, LOAD_SEGMENT, Layout, Proc};
 use std::alloc::{AllocError, Global};
 
-/// The number of bytes in a segment.
-const SEGMENT: usize = 65536;
-
-/// The bits of the temporaries: the left operand, the right one and the result as bytes, the same as words, and a
-/// product of two words.
+// The bits of the temporaries: the left operand, the right one and the result as bytes, the same as words, and a
+// product of two words.
 const TEMPORARIES: [u8; 7] = [8, 8, 8, 16, 16, 16, 32];
 
-/// The word registers whose halves are locations.
+// The word registers whose halves are locations.
 const GENERAL: [Reg; 6] = [Reg::Ax, Reg::Cx, Reg::Dx, Reg::Bx, Reg::Si, Reg::Di];
 
 impl Writer {
@@ -125,7 +123,7 @@ fn data_image(alloc: Global, image: &Image, layout: &Layout) -> Result<Vec<u8>, 
         .bytes
         .iter()
         .skip(start)
-        .take(SEGMENT)
+        .take(OFFSETS)
         .copied()
         .collect(alloc)
 }

@@ -130,7 +130,9 @@ impl Maker {
     // The two highest bits of the result differ.
     fn top_bits_differ(self) -> Result<Expr, AllocError>
         ensures { IfOk result (λ bit. expr_of bit
-            ≡ tree.Binary BinOp.Xor 1 (expressions.sign self.w (expressions.result self.w)) (expressions.below_sign self.w (expressions.result self.w))) }
+            ≡ tree.Binary BinOp.Xor 1
+            (expressions.sign self.w (expressions.result self.w))
+            (expressions.below_sign self.w (expressions.result self.w))) }
     {
         let sign = self.sign(self.result())?;
         self.binary(BinOp::Xor, 1, sign, self.below_sign(self.result())?)
@@ -175,7 +177,7 @@ impl Writer {
     }
 
     // SHL.
-    fn shift_left(&mut self, w: Width, by_cl: bool) -> Result<(), AllocError>
+    fn shl(&mut self, w: Width, by_cl: bool) -> Result<(), AllocError>
         ensures { OnOk result (written self.new ≡ written self.old ++ spec.shift_working Shift.Shl w by_cl) }
     {
         let maker = self.maker(w);
@@ -187,7 +189,7 @@ impl Writer {
     }
 
     // SHR.
-    fn shift_right(&mut self, w: Width, by_cl: bool) -> Result<(), AllocError>
+    fn shr(&mut self, w: Width, by_cl: bool) -> Result<(), AllocError>
         ensures { OnOk result (written self.new ≡ written self.old ++ spec.shift_working Shift.Shr w by_cl) }
     {
         let maker = self.maker(w);
@@ -198,7 +200,7 @@ impl Writer {
     }
 
     // SAR.
-    fn shift_right_signed(&mut self, w: Width, by_cl: bool) -> Result<(), AllocError>
+    fn sar(&mut self, w: Width, by_cl: bool) -> Result<(), AllocError>
         ensures { OnOk result (written self.new ≡ written self.old ++ spec.shift_working Shift.Sar w by_cl) }
     {
         let maker = self.maker(w);
@@ -208,7 +210,7 @@ impl Writer {
     }
 
     // ROL.
-    fn rotate_left(&mut self, w: Width, by_cl: bool) -> Result<(), AllocError>
+    fn rol(&mut self, w: Width, by_cl: bool) -> Result<(), AllocError>
         ensures { OnOk result (written self.new ≡ written self.old ++ spec.shift_working Shift.Rol w by_cl) }
     {
         let maker = self.maker(w);
@@ -220,7 +222,7 @@ impl Writer {
     }
 
     // ROR.
-    fn rotate_right(&mut self, w: Width, by_cl: bool) -> Result<(), AllocError>
+    fn ror(&mut self, w: Width, by_cl: bool) -> Result<(), AllocError>
         ensures { OnOk result (written self.new ≡ written self.old ++ spec.shift_working Shift.Ror w by_cl) }
     {
         let maker = self.maker(w);
@@ -231,7 +233,7 @@ impl Writer {
     }
 
     // RCL, by one place alone.
-    fn turn_left(&mut self, w: Width) -> Result<(), AllocError>
+    fn rcl(&mut self, w: Width) -> Result<(), AllocError>
         ensures { OnOk result (written self.new ≡ written self.old ++ spec.shift_working Shift.Rcl w false) }
     {
         let maker = self.maker(w);
@@ -242,7 +244,7 @@ impl Writer {
     }
 
     // RCR, by one place alone.
-    fn turn_right(&mut self, w: Width) -> Result<(), AllocError>
+    fn rcr(&mut self, w: Width) -> Result<(), AllocError>
         ensures { OnOk result (written self.new ≡ written self.old ++ spec.shift_working Shift.Rcr w false) }
     {
         let maker = self.maker(w);
@@ -257,13 +259,13 @@ impl Writer {
         ensures { OnOk result (written self.new ≡ written self.old ++ spec.shift_working operation w by_cl) }
     {
         match operation {
-            Shift::Shl => self.shift_left(w, by_cl),
-            Shift::Shr => self.shift_right(w, by_cl),
-            Shift::Sar => self.shift_right_signed(w, by_cl),
-            Shift::Rol => self.rotate_left(w, by_cl),
-            Shift::Ror => self.rotate_right(w, by_cl),
-            Shift::Rcl => self.turn_left(w),
-            Shift::Rcr => self.turn_right(w),
+            Shift::Shl => self.shl(w, by_cl),
+            Shift::Shr => self.shr(w, by_cl),
+            Shift::Sar => self.sar(w, by_cl),
+            Shift::Rol => self.rol(w, by_cl),
+            Shift::Ror => self.ror(w, by_cl),
+            Shift::Rcl => self.rcl(w),
+            Shift::Rcr => self.rcr(w),
         }
     }
 

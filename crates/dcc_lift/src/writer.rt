@@ -13,7 +13,7 @@ use dcc_num::{FlagName, Half, Reg, Width};
 use dcc_prog::Operand;
 use std::alloc::{AllocError, Global};
 
-/// Writes the statements of a block, one behind the other.
+/// Writes the statements of a block, one after the other.
 #[derive(Drop)]
 pub struct Writer {
     pub stmts: Vec<Stmt>,

@@ -88,7 +88,7 @@ signed_cases Word a small = elim (cases_lt a 32768) [
 ]
 
 -- the bits of a signed operand are the operand
-wrapped_signed : (w : Width) (a : ℕ) → a < limit_of w → a ≡ wrapped_of w (halved_of (signed_of w a) 0)
+pub wrapped_signed : (w : Width) (a : ℕ) → a < limit_of w → a ≡ wrapped_of w (halved_of (signed_of w a) 0)
 wrapped_signed w a small = elim (signed_cases w a small) [
   | inl low ↦ rw low.1 (up w a small)
   | inr high ↦ rw high.1 (down w a small high.0)

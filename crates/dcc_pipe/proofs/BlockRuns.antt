@@ -40,12 +40,14 @@ expr-means values base memory cells held width e formed lifted =
     let x = expr-stands values memory base held cells e is lifted in
     (x.size, sym (eqb-true (width_of temporary_bits e) width same) ∙ x.width, x.means)
 
-byte-means : (values : Values) (base : ℕ) (memory cells : List ℕ) → AreHeld values → (e : inner.Expr) → is_expr_of temporary_bits 8 e ≡ true → is_lifted_expr e ≡ true → Means (scope_with values cells) byte (value_of (scene_with values base memory) e) (text_expr e)
+byte-means : (values : Values) (base : ℕ) (memory cells : List ℕ) → AreHeld values → (e : inner.Expr) → is_expr_of temporary_bits 8 e ≡ true → is_lifted_expr e
+    ≡ true → Means (scope_with values cells) byte (value_of (scene_with values base memory) e) (text_expr e)
 byte-means values base memory cells held e formed lifted =
     let x = expr-means values base memory cells held 8 e formed lifted in
     subst (λ s. Means (scope_with values cells) s (value_of (scene_with values base memory) e) (text_expr e)) (same-size x.0 byte (sym x.1)) x.2
 
-bit-means : (values : Values) (base : ℕ) (memory cells : List ℕ) → AreHeld values → (e : inner.Expr) → is_expr_of temporary_bits 1 e ≡ true → is_lifted_expr e ≡ true → Means (scope_with values cells) bit (value_of (scene_with values base memory) e) (text_expr e)
+bit-means : (values : Values) (base : ℕ) (memory cells : List ℕ) → AreHeld values → (e : inner.Expr) → is_expr_of temporary_bits 1 e ≡ true → is_lifted_expr e
+    ≡ true → Means (scope_with values cells) bit (value_of (scene_with values base memory) e) (text_expr e)
 bit-means values base memory cells held e formed lifted =
     let x = expr-means values base memory cells held 1 e formed lifted in
     subst (λ s. Means (scope_with values cells) s (value_of (scene_with values base memory) e) (text_expr e)) (same-size x.0 bit (sym x.1)) x.2
@@ -57,7 +59,9 @@ pub record IsGood (count most : ℕ) (block : inner.Block) : Type 0 where
   pub few : 3 + length block.stmts ≤ most
 
 -- The program, and the function of its text.
-module _ (image : List ℕ) (lo hi entry local pushed : ℕ) (params : List Param) (blocks : List inner.Block) (functions : List Function) (f : Function) (frame fill most : ℕ) (good : (place : ℕ) (block : inner.Block) → slice_get blocks place ≡ Some block → IsGood (length blocks) most block) (jumps : (place : ℕ) (block : inner.Block) → slice_get blocks place ≡ Some block → Lands blocks block f.body (ends_function f.last)) where
+module _ (image : List ℕ) (lo hi entry local pushed : ℕ) (params : List Param) (blocks : List inner.Block) (functions : List Function) (f : Function)
+    (frame fill most : ℕ) (good : (place : ℕ) (block : inner.Block) → slice_get blocks place ≡ Some block → IsGood (length blocks) most block)
+    (jumps : (place : ℕ) (block : inner.Block) → slice_get blocks place ≡ Some block → Lands blocks block f.body (ends_function f.last)) where
   abbrev pub graph : inner.Graph
   graph = record { entry = entry; params = params; local = local; pushed = pushed; blocks = blocks; bits = temporary_bits }
 
@@ -168,7 +172,8 @@ module _ (image : List ℕ) (lo hi entry local pushed : ℕ) (params : List Para
           goes_on = still_related (subst (IsAt (run.going_to place (inner_state block values base memory input out))) (sym to) (arrives block place next is unstuck));
         }
 
-    if-comes : (block : inner.Block) (test : inner.Expr) (one other i j at : ℕ) (lines : Lines) → is_expr_of temporary_bits 1 test ≡ true → is_lifted_expr test ≡ true → one < length blocks → other < length blocks
+    if-comes : (block : inner.Block) (test : inner.Expr) (one other i j at : ℕ) (lines : Lines) → is_expr_of temporary_bits 1 test ≡ true → is_lifted_expr test
+        ≡ true → one < length blocks → other < length blocks
         → IsUnstuck (run.exit_step (inner.If test one other) (inner_state block values base memory input out))
         → Comes (run.exit_step (inner.If test one other) (inner_state block values base memory input out)) 2
         (state (line (If (text_expr test) (line (Goto (label_at blocks one)) i no_lines) (line (Goto (label_at blocks other)) j no_lines)) at lines) values cells input out)
@@ -196,9 +201,13 @@ module _ (image : List ℕ) (lo hi entry local pushed : ℕ) (params : List Para
         chosen (suc (suc n)) low = absurd (omega (arith, low))
 
         each : Means (scope_with values cells) bit (value_of (scene_with values base memory) test) (text_expr test) → (k : ℕ) → k ≤ 1
-            → is_over (end_after (text_system (text lo hi functions f frame fill)) k (state (line (If (text_expr test) (line (Goto (label_at blocks one)) i no_lines) (line (Goto (label_at blocks other)) j no_lines)) at lines) values cells input out)) ≡ false
+            → is_over (end_after (text_system (text lo hi functions f frame fill)) k
+                (state (line (If (text_expr test) (line (Goto (label_at blocks one)) i no_lines) (line (Goto (label_at blocks other)) j no_lines)) at lines)
+                values cells input out)) ≡ false
         each x zero low = refl
-        each x (suc zero) low = ap is_over (if-running lo hi functions f frame fill at lines values cells input out (text_expr test) (value_of (scene_with values base memory) test) (line (Goto (label_at blocks one)) i no_lines) (line (Goto (label_at blocks other)) j no_lines) x)
+        each x (suc zero) low = ap is_over
+            (if-running lo hi functions f frame fill at lines values cells input out (text_expr test) (value_of (scene_with values base memory) test)
+            (line (Goto (label_at blocks one)) i no_lines) (line (Goto (label_at blocks other)) j no_lines) x)
         each x (suc (suc k)) low = absurd (omega (arith, low))
 
     exit-comes : (block : inner.Block) (exit : inner.Exit) (others : List Stmt) (lines : Lines) → is_exit temporary_bits (length blocks) exit ≡ true → is_lifted_exit exit ≡ true
@@ -247,7 +256,7 @@ module _ (image : List ℕ) (lo hi entry local pushed : ℕ) (params : List Para
   steps-are [] = refl
   steps-are (stmt ∷ stmts) = omega (arith, steps-are stmts)
 
-  -- the statements behind a statement, which the text has in these lines, from all states with an input of bytes
+  -- the statements after a statement, which the text has in these lines, from all states with an input of bytes
   abbrev Later : List inner.Stmt → inner.Block → List Stmt → Lines → Type 0
   Later stmts block others lines =
       (values : Values) (base : ℕ) (memory cells input out : List ℕ) → AreHeld values → AreBytes input
@@ -258,10 +267,12 @@ module _ (image : List ℕ) (lo hi entry local pushed : ℕ) (params : List Para
   only true e = refl
   only false e = absurd (true≢false (sym e))
 
-  module _ (block : inner.Block) (stmts : List inner.Stmt) (others : List Stmt) (at : ℕ) (lines : Lines) (later : Later stmts block others lines) (values : Values) (base : ℕ) (memory cells input out : List ℕ) (held : AreHeld values) (bytes : AreBytes input) where
+  module _ (block : inner.Block) (stmts : List inner.Stmt) (others : List Stmt) (at : ℕ) (lines : Lines) (later : Later stmts block others lines)
+      (values : Values) (base : ℕ) (memory cells input out : List ℕ) (held : AreHeld values) (bytes : AreBytes input) where
     set-comes : (location : Loc) (e : inner.Expr) → is_stmt temporary_bits (inner.Set location e) ≡ true → is_lifted_stmt (inner.Set location e) ≡ true
         → IsUnstuck (block_from (inner.Set location e ∷ stmts) (inner_state block values base memory input out))
-        → Comes (block_from (inner.Set location e ∷ stmts) (inner_state block values base memory input out)) (suc (steps_for stmts)) (state (line (text_stmt (inner.Set location e)) at lines) values cells input out)
+        → Comes (block_from (inner.Set location e ∷ stmts) (inner_state block values base memory input out)) (suc (steps_for stmts))
+            (state (line (text_stmt (inner.Set location e)) at lines) values cells input out)
     set-comes location e formed lifted unstuck =
         let (there, fits) = and_parts (is_location temporary_bits location) (is_expr_of temporary_bits (location_width temporary_bits location) e) formed in
         let (place, read) = and_parts (is_lifted_location location) (is_lifted_expr e) lifted in
@@ -276,7 +287,8 @@ module _ (image : List ℕ) (lo hi entry local pushed : ℕ) (params : List Para
 
     putc-comes : (e : inner.Expr) → is_stmt temporary_bits (inner.Dos 2 None (Some e)) ≡ true → is_lifted_expr e ≡ true
         → IsUnstuck (block_from (inner.Dos 2 None (Some e) ∷ stmts) (inner_state block values base memory input out))
-        → Comes (block_from (inner.Dos 2 None (Some e) ∷ stmts) (inner_state block values base memory input out)) (suc (steps_for stmts)) (state (line (text_stmt (inner.Dos 2 None (Some e))) at lines) values cells input out)
+        → Comes (block_from (inner.Dos 2 None (Some e) ∷ stmts) (inner_state block values base memory input out)) (suc (steps_for stmts))
+            (state (line (text_stmt (inner.Dos 2 None (Some e))) at lines) values cells input out)
     putc-comes e formed read unstuck =
         let n = value_of (scene_with values base memory) e in
         let x = byte-means values base memory cells held e (only (is_expr_of temporary_bits 8 e) formed) read in
@@ -286,7 +298,8 @@ module _ (image : List ℕ) (lo hi entry local pushed : ℕ) (params : List Para
         (later values base memory cells input (out ++ n ∷ []) held bytes unstuck)
 
     leave-comes : (e : inner.Expr) → is_stmt temporary_bits (inner.Dos 76 None (Some e)) ≡ true → is_lifted_expr e ≡ true
-        → Comes (block_from (inner.Dos 76 None (Some e) ∷ stmts) (inner_state block values base memory input out)) (suc (steps_for stmts)) (state (line (text_stmt (inner.Dos 76 None (Some e))) at lines) values cells input out)
+        → Comes (block_from (inner.Dos 76 None (Some e) ∷ stmts) (inner_state block values base memory input out)) (suc (steps_for stmts))
+            (state (line (text_stmt (inner.Dos 76 None (Some e))) at lines) values cells input out)
     leave-comes e formed read =
         let n = value_of (scene_with values base memory) e in
         let x = byte-means values base memory cells held e (only (is_expr_of temporary_bits 8 e) formed) read in
@@ -301,16 +314,19 @@ module _ (image : List ℕ) (lo hi entry local pushed : ℕ) (params : List Para
     -- a key that goes to a half
     key-comes : (number : ℕ) (echo : Bool) (location : Loc) → IsPlace location → location_width temporary_bits location ≡ 8
         → ((s : run.State) → run.dos_step number (Some location) 0 s ≡ run.keyed echo (Some location) s.input s)
-        → c_step (state (line (text_stmt (inner.Dos number (Some location) None)) at lines) values cells input out) ≡ state lines (with_value values location (key_of input)) cells (left_of input) (out ++ echo_of echo input)
+        → c_step (state (line (text_stmt (inner.Dos number (Some location) None)) at lines) values cells input out)
+            ≡ state lines (with_value values location (key_of input)) cells (left_of input) (out ++ echo_of echo input)
         → IsUnstuck (block_from (inner.Dos number (Some location) None ∷ stmts) (inner_state block values base memory input out))
-        → Comes (block_from (inner.Dos number (Some location) None ∷ stmts) (inner_state block values base memory input out)) (suc (steps_for stmts)) (state (line (text_stmt (inner.Dos number (Some location) None)) at lines) values cells input out)
+        → Comes (block_from (inner.Dos number (Some location) None ∷ stmts) (inner_state block values base memory input out)) (suc (steps_for stmts))
+            (state (line (text_stmt (inner.Dos number (Some location) None)) at lines) values cells input out)
     key-comes number echo location is width does to unstuck =
         let next = inner_state block (with_value values location (key_of input)) base memory (left_of input) (out ++ echo_of echo input) in
         let same : block_from (inner.Dos number (Some location) None ∷ stmts) (inner_state block values base memory input out) ≡ block_from stmts next =
         ap (λ u. if is_over u.end then u else block_from stmts u) (does (inner_state block values base memory input out) ∙ keyed-is block values base memory input out echo location) in
         let small : key_of input < 2 ^ location_width temporary_bits location = subst (λ w. key_of input < 2 ^ w) (sym width) (key-fits input bytes) in
         one_before (block_from (inner.Dos number (Some location) None ∷ stmts) (inner_state block values base memory input out)) (steps_for stmts)
-        (state (line (text_stmt (inner.Dos number (Some location) None)) at lines) values cells input out) (state lines (with_value values location (key_of input)) cells (left_of input) (out ++ echo_of echo input)) refl to
+        (state (line (text_stmt (inner.Dos number (Some location) None)) at lines) values cells input out)
+            (state lines (with_value values location (key_of input)) cells (left_of input) (out ++ echo_of echo input)) refl to
         (subst (λ u. Comes u (steps_for stmts) (state lines (with_value values location (key_of input)) cells (left_of input) (out ++ echo_of echo input))) (sym same)
         (later (with_value values location (key_of input)) base memory cells (left_of input) (out ++ echo_of echo input) (held-after values location (key_of input) held small) (left-bytes input bytes)
         (subst IsUnstuck same unstuck)))
@@ -318,7 +334,8 @@ module _ (image : List ℕ) (lo hi entry local pushed : ℕ) (params : List Para
     -- a DOS call with an argument
     argument-comes : (number : ℕ) (e : inner.Expr) → is_stmt temporary_bits (inner.Dos number None (Some e)) ≡ true → is_lifted_stmt (inner.Dos number None (Some e)) ≡ true
         → IsUnstuck (block_from (inner.Dos number None (Some e) ∷ stmts) (inner_state block values base memory input out))
-        → Comes (block_from (inner.Dos number None (Some e) ∷ stmts) (inner_state block values base memory input out)) (suc (steps_for stmts)) (state (line (text_stmt (inner.Dos number None (Some e))) at lines) values cells input out)
+        → Comes (block_from (inner.Dos number None (Some e) ∷ stmts) (inner_state block values base memory input out)) (suc (steps_for stmts))
+            (state (line (text_stmt (inner.Dos number None (Some e))) at lines) values cells input out)
     argument-comes number e formed lifted unstuck =
         let (which, read) = and_parts (number == 2 || number == 76) (is_lifted_expr e) lifted in
         elim (or_cases (number == 2) (number == 76) which) [
@@ -328,26 +345,31 @@ module _ (image : List ℕ) (lo hi entry local pushed : ℕ) (params : List Para
       where
         writes : (n : ℕ) → n ≡ 2 → is_lifted_expr e ≡ true → is_stmt temporary_bits (inner.Dos n None (Some e)) ≡ true
             → IsUnstuck (block_from (inner.Dos n None (Some e) ∷ stmts) (inner_state block values base memory input out))
-            → Comes (block_from (inner.Dos n None (Some e) ∷ stmts) (inner_state block values base memory input out)) (suc (steps_for stmts)) (state (line (text_stmt (inner.Dos n None (Some e))) at lines) values cells input out)
+            → Comes (block_from (inner.Dos n None (Some e) ∷ stmts) (inner_state block values base memory input out)) (suc (steps_for stmts))
+                (state (line (text_stmt (inner.Dos n None (Some e))) at lines) values cells input out)
         writes n is read =
             subst (λ k. is_stmt temporary_bits (inner.Dos k None (Some e)) ≡ true
             → IsUnstuck (block_from (inner.Dos k None (Some e) ∷ stmts) (inner_state block values base memory input out))
-            → Comes (block_from (inner.Dos k None (Some e) ∷ stmts) (inner_state block values base memory input out)) (suc (steps_for stmts)) (state (line (text_stmt (inner.Dos k None (Some e))) at lines) values cells input out))
+            → Comes (block_from (inner.Dos k None (Some e) ∷ stmts) (inner_state block values base memory input out)) (suc (steps_for stmts))
+                (state (line (text_stmt (inner.Dos k None (Some e))) at lines) values cells input out))
             (sym is) (λ formed unstuck. putc-comes e formed read unstuck)
 
         leaves : (n : ℕ) → n ≡ 76 → is_lifted_expr e ≡ true → is_stmt temporary_bits (inner.Dos n None (Some e)) ≡ true
             → IsUnstuck (block_from (inner.Dos n None (Some e) ∷ stmts) (inner_state block values base memory input out))
-            → Comes (block_from (inner.Dos n None (Some e) ∷ stmts) (inner_state block values base memory input out)) (suc (steps_for stmts)) (state (line (text_stmt (inner.Dos n None (Some e))) at lines) values cells input out)
+            → Comes (block_from (inner.Dos n None (Some e) ∷ stmts) (inner_state block values base memory input out)) (suc (steps_for stmts))
+                (state (line (text_stmt (inner.Dos n None (Some e))) at lines) values cells input out)
         leaves n is read =
             subst (λ k. is_stmt temporary_bits (inner.Dos k None (Some e)) ≡ true
             → IsUnstuck (block_from (inner.Dos k None (Some e) ∷ stmts) (inner_state block values base memory input out))
-            → Comes (block_from (inner.Dos k None (Some e) ∷ stmts) (inner_state block values base memory input out)) (suc (steps_for stmts)) (state (line (text_stmt (inner.Dos k None (Some e))) at lines) values cells input out))
+            → Comes (block_from (inner.Dos k None (Some e) ∷ stmts) (inner_state block values base memory input out)) (suc (steps_for stmts))
+                (state (line (text_stmt (inner.Dos k None (Some e))) at lines) values cells input out))
             (sym is) (λ formed unstuck. leave-comes e formed read)
 
     -- a DOS call that gives a byte
     byte-comes : (number : ℕ) (location : Loc) → is_stmt temporary_bits (inner.Dos number (Some location) None) ≡ true → is_lifted_stmt (inner.Dos number (Some location) None) ≡ true
         → IsUnstuck (block_from (inner.Dos number (Some location) None ∷ stmts) (inner_state block values base memory input out))
-        → Comes (block_from (inner.Dos number (Some location) None ∷ stmts) (inner_state block values base memory input out)) (suc (steps_for stmts)) (state (line (text_stmt (inner.Dos number (Some location) None)) at lines) values cells input out)
+        → Comes (block_from (inner.Dos number (Some location) None ∷ stmts) (inner_state block values base memory input out)) (suc (steps_for stmts))
+            (state (line (text_stmt (inner.Dos number (Some location) None)) at lines) values cells input out)
     byte-comes number location formed lifted unstuck =
         let (which, half) = and_parts (number == 1 || number == 8) (is_lifted_half location) lifted in
         let (also, place) = and_parts (number == 1 || number == 8) (is_byte_place temporary_bits (Some location)) formed in
@@ -355,18 +377,23 @@ module _ (image : List ℕ) (lo hi entry local pushed : ℕ) (params : List Para
         let is = half-place location half there in
         let width = eqb-true (location_width temporary_bits location) 8 wide in
         elim (or_cases (number == 1) (number == 8) which) [
-          | inl one ↦ by 1 number true (eqb-true number 1 one) is width (λ s. refl) (getche-step lo hi functions f frame fill at lines values cells input out location is width (key-fits input bytes)) unstuck
-          | inr eight ↦ by 8 number false (eqb-true number 8 eight) is width (λ s. refl) (getch-step lo hi functions f frame fill at lines values cells input out location is width (key-fits input bytes)) unstuck
+          | inl one ↦ by 1 number true (eqb-true number 1 one) is width (λ s. refl)
+              (getche-step lo hi functions f frame fill at lines values cells input out location is width (key-fits input bytes)) unstuck
+          | inr eight ↦ by 8 number false (eqb-true number 8 eight) is width (λ s. refl)
+              (getch-step lo hi functions f frame fill at lines values cells input out location is width (key-fits input bytes)) unstuck
         ]
       where
         by : (known n : ℕ) (echo : Bool) → n ≡ known → IsPlace location → location_width temporary_bits location ≡ 8
             → ((s : run.State) → run.dos_step known (Some location) 0 s ≡ run.keyed echo (Some location) s.input s)
-            → c_step (state (line (text_stmt (inner.Dos known (Some location) None)) at lines) values cells input out) ≡ state lines (with_value values location (key_of input)) cells (left_of input) (out ++ echo_of echo input)
+            → c_step (state (line (text_stmt (inner.Dos known (Some location) None)) at lines) values cells input out)
+                ≡ state lines (with_value values location (key_of input)) cells (left_of input) (out ++ echo_of echo input)
             → IsUnstuck (block_from (inner.Dos n (Some location) None ∷ stmts) (inner_state block values base memory input out))
-            → Comes (block_from (inner.Dos n (Some location) None ∷ stmts) (inner_state block values base memory input out)) (suc (steps_for stmts)) (state (line (text_stmt (inner.Dos n (Some location) None)) at lines) values cells input out)
+            → Comes (block_from (inner.Dos n (Some location) None ∷ stmts) (inner_state block values base memory input out)) (suc (steps_for stmts))
+                (state (line (text_stmt (inner.Dos n (Some location) None)) at lines) values cells input out)
         by known n echo same is width does to =
             subst (λ k. IsUnstuck (block_from (inner.Dos k (Some location) None ∷ stmts) (inner_state block values base memory input out))
-            → Comes (block_from (inner.Dos k (Some location) None ∷ stmts) (inner_state block values base memory input out)) (suc (steps_for stmts)) (state (line (text_stmt (inner.Dos k (Some location) None)) at lines) values cells input out))
+            → Comes (block_from (inner.Dos k (Some location) None ∷ stmts) (inner_state block values base memory input out)) (suc (steps_for stmts))
+                (state (line (text_stmt (inner.Dos k (Some location) None)) at lines) values cells input out))
             (sym same) (λ unstuck. key-comes known echo location is width does to unstuck)
 
     stmt-comes : (stmt : inner.Stmt) → is_stmt temporary_bits stmt ≡ true → is_lifted_stmt stmt ≡ true → (counted : Stmt) → IsCounted (text_stmt stmt) counted
@@ -382,7 +409,8 @@ module _ (image : List ℕ) (lo hi entry local pushed : ℕ) (params : List Para
     stmt-comes (inner.Div location e) formed lifted counted kept unstuck = absurd (true≢false (sym lifted))
     stmt-comes (inner.Call results entry' arguments depth) formed lifted counted kept unstuck = absurd (true≢false (sym lifted))
 
-  stmts-come : (stmts : List inner.Stmt) (block : inner.Block) → list_all (is_stmt temporary_bits) stmts ≡ true → list_all is_lifted_stmt stmts ≡ true → is_exit temporary_bits (length blocks) block.exit ≡ true → is_lifted_exit block.exit ≡ true
+  stmts-come : (stmts : List inner.Stmt) (block : inner.Block) → list_all (is_stmt temporary_bits) stmts ≡ true → list_all is_lifted_stmt stmts ≡ true
+      → is_exit temporary_bits (length blocks) block.exit ≡ true → is_lifted_exit block.exit ≡ true
       → (others : List Stmt) (lines : Lines) → AreLined (map text_stmt stmts ++ text_exit blocks block.exit ∷ others) lines → Later stmts block others lines
   stmts-come [] block formed lifted end_formed end_lifted others lines lined values base memory cells input out held bytes unstuck =
       exit-comes values base memory cells input out held bytes block block.exit others lines end_formed end_lifted lined unstuck
@@ -390,11 +418,13 @@ module _ (image : List ℕ) (lo hi entry local pushed : ℕ) (params : List Para
   stmts-come (stmt ∷ stmts) block formed lifted end_formed end_lifted others (line counted at lines) (one_more kept lined) values base memory cells input out held bytes unstuck =
       let (here, rest) = and_parts (is_stmt temporary_bits stmt) (list_all (is_stmt temporary_bits) stmts) formed in
       let (mine, theirs) = and_parts (is_lifted_stmt stmt) (list_all is_lifted_stmt stmts) lifted in
-      stmt-comes block stmts others at lines (stmts-come stmts block rest theirs end_formed end_lifted others lines lined) values base memory cells input out held bytes stmt here mine counted kept unstuck
+      stmt-comes block stmts others at lines
+          (stmts-come stmts block rest theirs end_formed end_lifted others lines lined) values base memory cells input out held bytes stmt here mine counted
+          kept unstuck
 
   -- Blocks.
 
-  -- what is behind a label
+  -- what is after a label
   label-behind : (block : inner.Block) (others : List Stmt) (lines : Lines) → AreLined (text_block blocks block ++ others) lines
       → (at : ℕ) × (after' : Lines) × (lines ≡ line (Label (label_name block.at)) at after') × AreLined (map text_stmt block.stmts ++ text_exit blocks block.exit ∷ others) after'
   label-behind block others no_lines lined = elim lined [ ]
@@ -412,10 +442,12 @@ module _ (image : List ℕ) (lo hi entry local pushed : ℕ) (params : List Para
       let start = inner_state x.block x.values x.base x.memory x.input x.out in
       let next : IsUnstuck (run.step program fill start) = subst (λ u. IsUnstuck (run.step program fill u)) x.inner_is (unstuck-later s x.unstuck) in
       let come = stmts-come x.block.stmts x.block stmts_formed stmts_lifted end_formed end_lifted x.others label.1 label.3 x.values x.base x.memory x.cells x.input x.out x.held x.bytes next in
-      let whole = one_before (run.step program fill start) (steps_for x.block.stmts) (state (line (Label (label_name x.block.at)) label.0 label.1) x.values x.cells x.input x.out) (state label.1 x.values x.cells x.input x.out) refl
+      let whole = one_before (run.step program fill start) (steps_for x.block.stmts)
+          (state (line (Label (label_name x.block.at)) label.0 label.1) x.values x.cells x.input x.out) (state label.1 x.values x.cells x.input x.out) refl
       (label-step lo hi functions f frame fill label.0 label.1 x.values x.cells x.input x.out (label_name x.block.at)) come in
       let text_is = x.text_is ∙ ap (λ l. state l x.values x.cells x.input x.out) label.2 in
-      let made : IsLeap (run.inner_system program fill) (text_system (text lo hi functions f frame fill)) IsAt most start (state (line (Label (label_name x.block.at)) label.0 label.1) x.values x.cells x.input x.out) = record {
+      let made : IsLeap (run.inner_system program fill) (text_system (text lo hi functions f frame fill)) IsAt most start
+          (state (line (Label (label_name x.block.at)) label.0 label.1) x.values x.cells x.input x.out) = record {
         further = whole.further;
         few = omega (arith, whole.within, steps-are x.block.stmts, x.good_block.few);
         running = whole.running;

@@ -42,7 +42,8 @@ not-less : (n m : ℕ) → not (nat_lt m n) ≡ nat_le n m
 not-less n m = grind (arith, nat_tests)
 
 -- signed numbers are compared by their places in the order
-signed-less : (size : Size) (n m : ℕ) → n < 2 ^ bits size → m < 2 ^ bits size → is_less (signed_reckons size) (signed_bits size n) (signed_bits size m) ≡ int_lt (signed_at (bits size) n) (signed_at (bits size) m)
+signed-less : (size : Size) (n m : ℕ) → n < 2 ^ bits size → m < 2 ^ bits size → is_less (signed_reckons size) (signed_bits size n) (signed_bits size m)
+    ≡ int_lt (signed_at (bits size) n) (signed_at (bits size) m)
 signed-less size n m fits small = elim (sign-of size n fits) [
   | positive low is same ↦ elim (sign-of size m small) [
     | positive low' is' same' ↦ rw is (rw is' (rw same (rw same' (both_up size low low'))))
@@ -60,19 +61,23 @@ signed-less size n m fits small = elim (sign-of size n fits) [
     both_up word low low' = grind (arith, nat_tests, ints)
     both_up long low low' = grind (arith, nat_tests, ints)
 
-    up_down : (size : Size) → m < 2 ^ bits size → n < 2 ^ (bits size - 1) → 2 ^ (bits size - 1) ≤ m → is_less (signed_reckons size) n (m + (2 ^ bits_of (signed_reckons size) - 2 ^ bits size)) ≡ int_lt (pos n) (negsuc (2 ^ bits size - 1 - m))
+    up_down : (size : Size) → m < 2 ^ bits size → n < 2 ^ (bits size - 1) → 2 ^ (bits size - 1) ≤ m
+        → is_less (signed_reckons size) n (m + (2 ^ bits_of (signed_reckons size) - 2 ^ bits size)) ≡ int_lt (pos n) (negsuc (2 ^ bits size - 1 - m))
     up_down bit small low high' = grind (arith, nat_tests, ints)
     up_down byte small low high' = grind (arith, nat_tests, ints)
     up_down word small low high' = grind (arith, nat_tests, ints)
     up_down long small low high' = grind (arith, nat_tests, ints)
 
-    down_up : (size : Size) → n < 2 ^ bits size → 2 ^ (bits size - 1) ≤ n → m < 2 ^ (bits size - 1) → is_less (signed_reckons size) (n + (2 ^ bits_of (signed_reckons size) - 2 ^ bits size)) m ≡ int_lt (negsuc (2 ^ bits size - 1 - n)) (pos m)
+    down_up : (size : Size) → n < 2 ^ bits size → 2 ^ (bits size - 1) ≤ n → m < 2 ^ (bits size - 1)
+        → is_less (signed_reckons size) (n + (2 ^ bits_of (signed_reckons size) - 2 ^ bits size)) m ≡ int_lt (negsuc (2 ^ bits size - 1 - n)) (pos m)
     down_up bit fits high low' = grind (arith, nat_tests, ints)
     down_up byte fits high low' = grind (arith, nat_tests, ints)
     down_up word fits high low' = grind (arith, nat_tests, ints)
     down_up long fits high low' = grind (arith, nat_tests, ints)
 
-    both_down : (size : Size) → n < 2 ^ bits size → m < 2 ^ bits size → 2 ^ (bits size - 1) ≤ n → 2 ^ (bits size - 1) ≤ m → is_less (signed_reckons size) (n + (2 ^ bits_of (signed_reckons size) - 2 ^ bits size)) (m + (2 ^ bits_of (signed_reckons size) - 2 ^ bits size)) ≡ int_lt (negsuc (2 ^ bits size - 1 - n)) (negsuc (2 ^ bits size - 1 - m))
+    both_down : (size : Size) → n < 2 ^ bits size → m < 2 ^ bits size → 2 ^ (bits size - 1) ≤ n → 2 ^ (bits size - 1) ≤ m
+        → is_less (signed_reckons size) (n + (2 ^ bits_of (signed_reckons size) - 2 ^ bits size)) (m + (2 ^ bits_of (signed_reckons size) - 2 ^ bits size))
+        ≡ int_lt (negsuc (2 ^ bits size - 1 - n)) (negsuc (2 ^ bits size - 1 - m))
     both_down bit fits small high high' = grind (arith, nat_tests, ints)
     both_down byte fits small high high' = grind (arith, nat_tests, ints)
     both_down word fits small high high' = grind (arith, nat_tests, ints)
@@ -139,7 +144,8 @@ module _ (scope : Scope) where
 
   -- a number against the constant 0
   pub zero-means : (size : Size) (n : ℕ) (a : Expr) → Means scope size n a → Means scope bit (inner.unary_value IsZero (bits size) n) (unary_expr IsZero (bits size) a)
-  zero-means size n a x = truth-means _ (n == 0) (Binary Eq a (small 0)) (same size x.base x.is x.fits) (comparing-number scope Eq _ eq-compares x.base Int n 0 a (small 0) x.number_is (small-number scope 0 (omega arith)))
+  zero-means size n a x = truth-means _ (n == 0) (Binary Eq a (small 0)) (same size x.base x.is x.fits)
+      (comparing-number scope Eq _ eq-compares x.base Int n 0 a (small 0) x.number_is (small-number scope 0 (omega arith)))
     where
       same : (s : Size) (base : Base) → holds s base ≡ true → n < 2 ^ bits s → (convert base (common_type base Int) n == convert Int (common_type base Int) 0) ≡ (n == 0)
       same s base is fits = ap₂ (λ k l. k == l) (ap (λ t. convert base t n) (common s base is) ∙ kept s base n is fits) (zero base)

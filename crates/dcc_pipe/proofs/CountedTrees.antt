@@ -114,7 +114,7 @@ switch-depth depth stmt e arms last middle end is middle_is end_is =
     ∙ sym (depth_behind-append depth (arm_stmts arms) (arm_stmts last))
     ∙ ap (λ s. depth_behind depth (s ∷ inner_stmts s)) (sym is)
 
--- One more of the lines that are left, and what of the count is left behind it.
+-- One more of the lines that are left, and what of the count is left after it.
 
 pub line-numbered : (depth at own here behind last : ℕ) (stmt new : Stmt) (was : ℕ) (rest left : Lines) → left ≡ line stmt was rest → own ≡ next_depth depth left
     → here ≡ at + rows (written_depth depth own) → new ≡ numbered_stmt own here stmt
@@ -143,12 +143,14 @@ pub line-depth : (depth own behind was : ℕ) (stmt : Stmt) (rest left : Lines) 
 line-depth depth own behind was stmt rest left is own_is behind_is =
     depth-step depth own behind was (depth_behind depth (stmts_in left)) stmt rest left is refl own_is behind_is
 
-pub line-unbroken : (stmt : Stmt) (was : ℕ) (rest left : Lines) → left ≡ line stmt was rest → are_unbroken (stmts_in left) ≡ true → (are_unbroken (stmt ∷ inner_stmts stmt) ≡ true) × (are_unbroken (stmts_in rest) ≡ true)
+pub line-unbroken : (stmt : Stmt) (was : ℕ) (rest left : Lines) → left ≡ line stmt was rest → are_unbroken (stmts_in left) ≡ true
+    → (are_unbroken (stmt ∷ inner_stmts stmt) ≡ true) × (are_unbroken (stmts_in rest) ≡ true)
 line-unbroken stmt was rest left is unbroken =
     both-unbroken (stmt ∷ inner_stmts stmt) (stmts_in rest) (subst (λ l. are_unbroken (stmts_in l) ≡ true) is unbroken)
 
 -- the lines of a slice in which one is counted
-pub one-line : (lines : List Line) (i : ℕ) (new : Line) (rest : Lines) → i < length lines → lines_before (take (i + 1) (set lines i new)) rest ≡ lines_before (take i lines) (line (stmt_of new.stmt) new.line rest)
+pub one-line : (lines : List Line) (i : ℕ) (new : Line) (rest : Lines) → i < length lines → lines_before (take (i + 1) (set lines i new)) rest
+    ≡ lines_before (take i lines) (line (stmt_of new.stmt) new.line rest)
 one-line lines i new rest within =
     ap (λ ls. lines_before ls rest) (take_more_set lines i new within) ∙ lines_before-append (take i lines) (new ∷ []) rest
 
@@ -156,7 +158,7 @@ pub one-arm : (arms : List Arm) (i : ℕ) (new : Arm) (rest : Arms) → i < leng
 one-arm arms i new rest within =
     ap (λ ls. arms_before ls rest) (take_more_set arms i new within) ∙ arms_before-append (take i arms) (new ∷ []) rest
 
--- the lines and arms that are left behind one that is counted
+-- the lines and arms that are left after one that is counted
 pub lines-left : (lines : List Line) (i : ℕ) (new : Line) → lines_of (drop (i + 1) (set lines i new)) ≡ lines_of (drop (i + 1) lines)
 lines-left lines i new = ap lines_of (drop-set-lt (i + 1) lines i new (omega arith))
 
@@ -215,7 +217,7 @@ pub own-line : (depth at last : ℕ) (stmt : Stmt) → has_block stmt ≡ false 
 own-line depth at last stmt none is last_is =
     last_is ∙ ap (λ n. at + n) (sym (own-count depth stmt (and_parts (is_unbroken_stmt stmt) (are_unbroken (inner_stmts stmt)) is).0 none))
 
--- What holds of the place behind a part.
+-- What holds of the place after a part.
 
 pub if-both : {T E : Type 0} (r : Result T E) (P Q R : T → Type 0) → ((x : T) → P x → Q x → R x) → IfOk r P → IfOk r Q → IfOk r R
 if-both (Ok x) P Q R both p q = both x p q

@@ -1,10 +1,11 @@
 -- What the text of an expression means: the value of the expression.
-use Rattle.std.proofs.Common.{◌≡◌, ℕ, ◌+◌, ◌*◌, ◌/◌, ◌%◌, ◌^◌, ◌<◌, ◌≤◌, ◌⊎◌, inl, inr, Bool, true, false, ◌==◌, List, ◌++◌, refl, sym, ap, ap₂, ◌∙◌, subst, true≢false, arith, mod-eq_of_lt}
+use Rattle.std.proofs.Common.{◌≡◌, ℕ, zero, suc, ◌+◌, ◌*◌, ◌/◌, ◌%◌, ◌^◌, ◌<◌, ◌≤◌, ◌⊎◌, inl, inr, Bool, true, false, ◌==◌, List, ◌++◌, refl, sym, ap, ap₂, ◌∙◌, subst, true≢false, arith, mod-eq_of_lt}
 use Rattle.std.specs.Prelude.{◌&&◌, ◌||◌, not, nat_lt, nat_le, if◌then◌else◌, option_and_then}
 use Rattle.std.specs.List.{list_all}
 use Rattle.std.proofs.lemmas.Bool.{and_parts, or_cases, eqb-true, ltb-true, leb-true}
 use Rattle.std.proofs.lemmas.List.Folds.{list_all-append}
 use Rattle.dcc_ir.specs.declared.syntax.Loc.{Loc}
+use Rattle.dcc_ir.specs.declared.syntax.Loc.TheVariants.{Half, Flag, Cell, Temp}
 use Rattle.dcc_ir.specs.declared.syntax.UnOp.{UnOp}
 use Rattle.dcc_ir.specs.declared.syntax.UnOp.TheVariants.{Neg, Not, IsZero}
 use Rattle.dcc_ir.specs.declared.syntax.BinOp.{BinOp}
@@ -28,7 +29,7 @@ use Rattle.dcc_pipe.proofs.SumMeanings.{add-means, sub-means, mul-means, and-mea
 use Rattle.dcc_pipe.proofs.CompareMeanings.{eq-means, ltu-means, leu-means, lts-means, les-means, zero-means}
 use Rattle.dcc_pipe.proofs.ShiftMeanings.{shl-means, shr-means, sar-means}
 use Rattle.dcc_pipe.proofs.PartMeanings.{widened-means, part-means, joined-means, chosen-means}
-use Rattle.dcc_pipe.proofs.Places.{IsPlace, at-place, scope_with, variable-found, variable-declared}
+use Rattle.dcc_pipe.proofs.Places.{IsPlace, scope_with, variable-found, variable-declared}
 
 -- what expressions read
 abbrev pub scene_with : Values → ℕ → List ℕ → Scene
@@ -44,32 +45,21 @@ pub record IsText (e : Expr) : Type 0 where
   pub lifted : is_lifted_expr e ≡ true
 
 -- the size of a location
+temp-size : (n : ℕ) → n < 7 → (size : Size) × (location_width temporary_bits (Temp n) ≡ bits size)
+temp-size zero low = (byte, refl)
+temp-size (suc zero) low = (byte, refl)
+temp-size (suc (suc zero)) low = (byte, refl)
+temp-size (suc (suc (suc zero))) low = (word, refl)
+temp-size (suc (suc (suc (suc zero)))) low = (word, refl)
+temp-size (suc (suc (suc (suc (suc zero))))) low = (word, refl)
+temp-size (suc (suc (suc (suc (suc (suc zero)))))) low = (long, refl)
+temp-size (suc (suc (suc (suc (suc (suc (suc n))))))) low = absurd (omega (arith, low))
+
 pub location-size : (location : Loc) → IsPlace location → (size : Size) × (location_width temporary_bits location ≡ bits size)
-location-size = at-place (λ location. (size : Size) × (location_width temporary_bits location ≡ bits size)) (record {
-  al = (byte, refl);
-  ah = (byte, refl);
-  cl = (byte, refl);
-  ch = (byte, refl);
-  dl = (byte, refl);
-  dh = (byte, refl);
-  bl = (byte, refl);
-  bh = (byte, refl);
-  si_low = (byte, refl);
-  si_high = (byte, refl);
-  di_low = (byte, refl);
-  di_high = (byte, refl);
-  cf = (bit, refl);
-  zf = (bit, refl);
-  sf = (bit, refl);
-  of = (bit, refl);
-  left_byte = (byte, refl);
-  right_byte = (byte, refl);
-  result_byte = (byte, refl);
-  left_word = (word, refl);
-  right_word = (word, refl);
-  result_word = (word, refl);
-  product = (long, refl);
-})
+location-size (Half r half) is = (byte, refl)
+location-size (Flag f) is = (bit, refl)
+location-size (Temp n) is = temp-size n (ltb-true n 7 is.there)
+location-size (Cell number half) is = (byte, refl)
 
 pub same-size : (s t : Size) → bits s ≡ bits t → s ≡ t
 same-size bit bit e = refl
@@ -126,8 +116,12 @@ module _ (values : Values) (memory : List ℕ) (base : ℕ) (held : AreHeld valu
         }
 
     const-means : (size : Size) (n : ℕ) → n < 2 ^ bits size → Means (scope_with values cells) size n (tree.Number n (constant_type (bits size)))
-    const-means bit n fits = record { base = Int; is = refl; number_is = record { typed = refl; valued = ap (λ k. Gives (number Int k)) (mod-eq_of_lt (let f : n < 65536 = omega (arith, fits) in f)) }; fits = fits }
-    const-means byte n fits = record { base = Int; is = refl; number_is = record { typed = refl; valued = ap (λ k. Gives (number Int k)) (mod-eq_of_lt (let f : n < 65536 = omega (arith, fits) in f)) }; fits = fits }
+    const-means bit n fits = record
+        { base = Int; is = refl; number_is =
+        record { typed = refl; valued = ap (λ k. Gives (number Int k)) (mod-eq_of_lt (let f : n < 65536 = omega (arith, fits) in f)) }; fits = fits }
+    const-means byte n fits = record
+        { base = Int; is = refl; number_is =
+        record { typed = refl; valued = ap (λ k. Gives (number Int k)) (mod-eq_of_lt (let f : n < 65536 = omega (arith, fits) in f)) }; fits = fits }
     const-means word n fits = record { base = Uint; is = refl; number_is = record { typed = refl; valued = ap (λ k. Gives (number Uint k)) (mod-eq_of_lt fits) }; fits = fits }
     const-means long n fits = record { base = Ulong; is = refl; number_is = record { typed = refl; valued = ap (λ k. Gives (number Ulong k)) (mod-eq_of_lt fits) }; fits = fits }
 
@@ -153,7 +147,9 @@ module _ (values : Values) (memory : List ℕ) (base : ℕ) (held : AreHeld valu
 
     -- an operator that gives a number of its operands' size
     wide-stands : (operator : BinOp) (width : ℕ) (a b : Expr) (x : Stands cells a) → width ≡ bits x.size → is_comparison operator ≡ false
-        → Means (scope_with values cells) x.size (binary_value operator (bits x.size) (value_of (scene_with values base memory) a) (value_of (scene_with values base memory) b)) (binary_expr operator (bits x.size) (text_expr a) (text_expr b))
+        → Means (scope_with values cells) x.size
+            (binary_value operator (bits x.size) (value_of (scene_with values base memory) a) (value_of (scene_with values base memory) b))
+            (binary_expr operator (bits x.size) (text_expr a) (text_expr b))
         → Stands cells (Binary operator width a b)
     wide-stands operator width a b x e wide means = record {
       size = x.size;
@@ -164,20 +160,26 @@ module _ (values : Values) (memory : List ℕ) (base : ℕ) (held : AreHeld valu
 
     -- a comparison
     bit-stands : (operator : BinOp) (width : ℕ) (a b : Expr) (x : Stands cells a) → width ≡ bits x.size → is_comparison operator ≡ true
-        → Means (scope_with values cells) bit (binary_value operator (bits x.size) (value_of (scene_with values base memory) a) (value_of (scene_with values base memory) b)) (binary_expr operator (bits x.size) (text_expr a) (text_expr b))
+        → Means (scope_with values cells) bit
+            (binary_value operator (bits x.size) (value_of (scene_with values base memory) a) (value_of (scene_with values base memory) b))
+            (binary_expr operator (bits x.size) (text_expr a) (text_expr b))
         → Stands cells (Binary operator width a b)
     bit-stands operator width a b x e narrow means = record {
       size = bit;
       width = rw narrow refl;
       counted = rw narrow refl;
-      means = subst (λ w. Means (scope_with values cells) bit (binary_value operator w (value_of (scene_with values base memory) a) (value_of (scene_with values base memory) b)) (binary_expr operator w (text_expr a) (text_expr b))) (sym e) means;
+      means = subst (λ w. Means (scope_with values cells) bit
+          (binary_value operator w (value_of (scene_with values base memory) a) (value_of (scene_with values base memory) b))
+          (binary_expr operator w (text_expr a) (text_expr b))) (sym e) means;
     }
 
-    binary-stands : (operator : BinOp) (width : ℕ) (a b : Expr) (x : Stands cells a) (y : Stands cells b) → width ≡ bits x.size → y.size ≡ x.size → is_division operator ≡ false → Stands cells (Binary operator width a b)
+    binary-stands : (operator : BinOp) (width : ℕ) (a b : Expr) (x : Stands cells a) (y : Stands cells b) → width ≡ bits x.size → y.size ≡ x.size
+        → is_division operator ≡ false → Stands cells (Binary operator width a b)
     binary-stands operator width a b x y e same reckons =
         by operator reckons (resized b y x.size same)
       where
-        by : (operator : BinOp) → is_division operator ≡ false → Means (scope_with values cells) x.size (value_of (scene_with values base memory) b) (text_expr b) → Stands cells (Binary operator width a b)
+        by : (operator : BinOp) → is_division operator ≡ false
+            → Means (scope_with values cells) x.size (value_of (scene_with values base memory) b) (text_expr b) → Stands cells (Binary operator width a b)
         by Add r m = wide-stands Add width a b x e refl (add-means _ x.size _ _ (text_expr a) (text_expr b) x.means m)
         by Sub r m = wide-stands Sub width a b x e refl (sub-means _ x.size _ _ (text_expr a) (text_expr b) x.means m)
         by Mul r m = wide-stands Mul width a b x e refl (mul-means _ x.size _ _ (text_expr a) (text_expr b) x.means m)
@@ -205,9 +207,15 @@ module _ (values : Values) (memory : List ℕ) (base : ℕ) (held : AreHeld valu
           size = s.0;
           width = s.1;
           counted = s.1;
-          means = subst (λ k. Means (scope_with values cells) s.0 (if signed then pattern_at k (signed_at (width_of temporary_bits a) (value_of (scene_with values base memory) a)) else value_of (scene_with values base memory) a) (widened signed (bits_in a) k (text_expr a))) (sym s.1)
-              (subst (λ k. Means (scope_with values cells) s.0 (if signed then pattern_at (bits s.0) (signed_at (width_of temporary_bits a) (value_of (scene_with values base memory) a)) else value_of (scene_with values base memory) a) (widened signed k (bits s.0) (text_expr a))) (sym x.counted)
-              (subst (λ k. Means (scope_with values cells) s.0 (if signed then pattern_at (bits s.0) (signed_at k (value_of (scene_with values base memory) a)) else value_of (scene_with values base memory) a) (widened signed (bits x.size) (bits s.0) (text_expr a))) (sym x.width) means));
+          means = subst (λ k. Means (scope_with values cells) s.0
+              (if signed then pattern_at k (signed_at (width_of temporary_bits a) (value_of (scene_with values base memory) a)) else value_of
+              (scene_with values base memory) a) (widened signed (bits_in a) k (text_expr a))) (sym s.1)
+              (subst (λ k. Means (scope_with values cells) s.0
+                  (if signed then pattern_at (bits s.0) (signed_at (width_of temporary_bits a) (value_of (scene_with values base memory) a)) else value_of
+                  (scene_with values base memory) a) (widened signed k (bits s.0) (text_expr a))) (sym x.counted)
+              (subst (λ k. Means (scope_with values cells) s.0
+                  (if signed then pattern_at (bits s.0) (signed_at k (value_of (scene_with values base memory) a)) else value_of
+                  (scene_with values base memory) a) (widened signed (bits x.size) (bits s.0) (text_expr a))) (sym x.width) means));
         }
 
     part-stands : (width first : ℕ) (a : Expr) (x : Stands cells a) → is_width width ≡ true → first + width ≤ width_of temporary_bits a → Stands cells (Part width first a)
@@ -241,8 +249,12 @@ module _ (values : Values) (memory : List ℕ) (base : ℕ) (held : AreHeld valu
           size = w.0;
           width = ap₂ (λ j k. j + k) high_width low_width ∙ sym w.1;
           counted = ap (λ k. if k == 8 then 16 else 32) low_counted ∙ w.2;
-          means = subst (λ k. Means (scope_with values cells) w.0 (value_of (scene_with values base memory) high * 2 ^ k + value_of (scene_with values base memory) low) (joined (bits_in low) (text_expr high) (text_expr low))) (sym low_width)
-              (subst (λ k. Means (scope_with values cells) w.0 (value_of (scene_with values base memory) high * 2 ^ bits s + value_of (scene_with values base memory) low) (joined k (text_expr high) (text_expr low))) (sym low_counted)
+          means = subst (λ k. Means (scope_with values cells) w.0
+              (value_of (scene_with values base memory) high * 2 ^ k + value_of (scene_with values base memory) low)
+              (joined (bits_in low) (text_expr high) (text_expr low))) (sym low_width)
+              (subst (λ k. Means (scope_with values cells) w.0
+                  (value_of (scene_with values base memory) high * 2 ^ bits s + value_of (scene_with values base memory) low)
+                  (joined k (text_expr high) (text_expr low))) (sym low_counted)
               (joined-means (scope_with values cells) s w.0 _ _ (text_expr high) (text_expr low) w.1 few h l));
         }
 
@@ -288,8 +300,10 @@ module _ (values : Values) (memory : List ℕ) (base : ℕ) (held : AreHeld valu
         let x = expr-stands a inner lifted in
         unary-stands operator width a x (sym (eqb-true (width_of temporary_bits a) width same) ∙ x.width)
     expr-stands (Binary operator width a b) formed lifted =
-        let (five, safe) = and_parts (is_width width && is_expr temporary_bits a && is_expr temporary_bits b && (width_of temporary_bits a == width) && (width_of temporary_bits b == width)) (not (is_division operator) || divides_safely operator width b) formed in
-        let (four, second_width) = and_parts (is_width width && is_expr temporary_bits a && is_expr temporary_bits b && (width_of temporary_bits a == width)) (width_of temporary_bits b == width) five in
+        let (five, safe) = and_parts (is_width width && is_expr temporary_bits a && is_expr temporary_bits b && (width_of temporary_bits a == width)
+            && (width_of temporary_bits b == width)) (not (is_division operator) || divides_safely operator width b) formed in
+        let (four, second_width) = and_parts (is_width width && is_expr temporary_bits a && is_expr temporary_bits b && (width_of temporary_bits a == width))
+            (width_of temporary_bits b == width) five in
         let (three, first_width) = and_parts (is_width width && is_expr temporary_bits a && is_expr temporary_bits b) (width_of temporary_bits a == width) four in
         let (two, second) = and_parts (is_width width && is_expr temporary_bits a) (is_expr temporary_bits b) three in
         let (one, first) = and_parts (is_width width) (is_expr temporary_bits a) two in
@@ -309,7 +323,8 @@ module _ (values : Values) (memory : List ℕ) (base : ℕ) (held : AreHeld valu
         let (is, inner) = and_parts (is_width width) (is_expr temporary_bits a) two in
         part-stands width first a (expr-stands a inner lifted) is (leb-true (first + width) (width_of temporary_bits a) within)
     expr-stands (Join high low) formed lifted =
-        let (three, few) = and_parts (is_expr temporary_bits high && is_expr temporary_bits low && (width_of temporary_bits high == width_of temporary_bits low)) (width_of temporary_bits low == 8 || width_of temporary_bits low == 16) formed in
+        let (three, few) = and_parts (is_expr temporary_bits high && is_expr temporary_bits low
+            && (width_of temporary_bits high == width_of temporary_bits low)) (width_of temporary_bits low == 8 || width_of temporary_bits low == 16) formed in
         let (two, same) = and_parts (is_expr temporary_bits high && is_expr temporary_bits low) (width_of temporary_bits high == width_of temporary_bits low) three in
         let (upper, lower) = and_parts (is_expr temporary_bits high) (is_expr temporary_bits low) two in
         let parts = both_lifted (parts_of high) (parts_of low) lifted in
@@ -322,7 +337,8 @@ module _ (values : Values) (memory : List ℕ) (base : ℕ) (held : AreHeld valu
           | inr sixteen ↦ inr (sym y.width ∙ eqb-true (width_of temporary_bits low) 16 sixteen)
         ])
     expr-stands (Choose test a b) formed lifted =
-        let (four, same) = and_parts (is_expr temporary_bits test && is_expr temporary_bits a && is_expr temporary_bits b && (width_of temporary_bits test == 1)) (width_of temporary_bits a == width_of temporary_bits b) formed in
+        let (four, same) = and_parts (is_expr temporary_bits test && is_expr temporary_bits a && is_expr temporary_bits b
+            && (width_of temporary_bits test == 1)) (width_of temporary_bits a == width_of temporary_bits b) formed in
         let (three, one) = and_parts (is_expr temporary_bits test && is_expr temporary_bits a && is_expr temporary_bits b) (width_of temporary_bits test == 1) four in
         let (two, third) = and_parts (is_expr temporary_bits test && is_expr temporary_bits a) (is_expr temporary_bits b) three in
         let (first, second) = and_parts (is_expr temporary_bits test) (is_expr temporary_bits a) two in

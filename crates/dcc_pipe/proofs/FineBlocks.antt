@@ -131,19 +131,25 @@ module _ (lo hi version : ℕ) (functions : List Function) (f : Function) (block
     abbrev FineAll : Bool → List Stmt → Type 0
     FineAll labelled stmts = AreFine tree f names-are (labels_of blocks) labelled stmts
 
-    argument-fine : (number : ℕ) (e : inner.Expr) → is_stmt temporary_bits (inner.Dos number None (Some e)) ≡ true → is_lifted_stmt (inner.Dos number None (Some e)) ≡ true → depth_of e ≤ 7 → Fine (text_stmt (inner.Dos number None (Some e)))
+    argument-fine : (number : ℕ) (e : inner.Expr) → is_stmt temporary_bits (inner.Dos number None (Some e)) ≡ true
+        → is_lifted_stmt (inner.Dos number None (Some e)) ≡ true → depth_of e ≤ 7 → Fine (text_stmt (inner.Dos number None (Some e)))
     argument-fine number e formed lifted low =
         let (which, read) = and_parts (number == 2 || number == 76) (is_lifted_expr e) lifted in
         elim (or_cases (number == 2) (number == 76) which) [
-          | inl two ↦ by 2 number (eqb-true number 2 two) (λ is. give-fine tree f names-are (labels_of blocks) (codes "dos_putc") (text_expr e) refl refl (expr-fine e (sized 8 e (only (is_expr_of temporary_bits 8 e) is)) read low)) formed
-          | inr leave ↦ by 76 number (eqb-true number 76 leave) (λ is. give-fine tree f names-are (labels_of blocks) (codes "dos_exit") (text_expr e) refl refl (expr-fine e (sized 8 e (only (is_expr_of temporary_bits 8 e) is)) read low)) formed
+          | inl two ↦ by 2 number (eqb-true number 2 two)
+              (λ is. give-fine tree f names-are (labels_of blocks) (codes "dos_putc") (text_expr e) refl refl
+              (expr-fine e (sized 8 e (only (is_expr_of temporary_bits 8 e) is)) read low)) formed
+          | inr leave ↦ by 76 number (eqb-true number 76 leave)
+              (λ is. give-fine tree f names-are (labels_of blocks) (codes "dos_exit") (text_expr e) refl refl
+              (expr-fine e (sized 8 e (only (is_expr_of temporary_bits 8 e) is)) read low)) formed
         ]
       where
         by : (known n : ℕ) → n ≡ known → (is_stmt temporary_bits (inner.Dos known None (Some e)) ≡ true → Fine (text_stmt (inner.Dos known None (Some e))))
             → is_stmt temporary_bits (inner.Dos n None (Some e)) ≡ true → Fine (text_stmt (inner.Dos n None (Some e)))
         by known n same fine = subst (λ k. is_stmt temporary_bits (inner.Dos k None (Some e)) ≡ true → Fine (text_stmt (inner.Dos k None (Some e)))) (sym same) fine
 
-    byte-fine : (number : ℕ) (location : Loc) → is_stmt temporary_bits (inner.Dos number (Some location) None) ≡ true → is_lifted_stmt (inner.Dos number (Some location) None) ≡ true → Fine (text_stmt (inner.Dos number (Some location) None))
+    byte-fine : (number : ℕ) (location : Loc) → is_stmt temporary_bits (inner.Dos number (Some location) None) ≡ true
+        → is_lifted_stmt (inner.Dos number (Some location) None) ≡ true → Fine (text_stmt (inner.Dos number (Some location) None))
     byte-fine number location formed lifted =
         let (which, half) = and_parts (number == 1 || number == 8) (is_lifted_half location) lifted in
         let (also, place) = and_parts (number == 1 || number == 8) (is_byte_place temporary_bits (Some location)) formed in
@@ -161,7 +167,8 @@ module _ (lo hi version : ℕ) (functions : List Function) (f : Function) (block
     stmt-fine (inner.Set location e) formed lifted shallow =
         let (there, fits) = and_parts (is_location temporary_bits location) (is_expr_of temporary_bits (location_width temporary_bits location) e) formed in
         let (place, read) = and_parts (is_lifted_location location) (is_lifted_expr e) lifted in
-        assign-fine tree f names-are (labels_of blocks) location (text_expr e) (record { lifted = place; there = there }) (expr-fine e (sized (location_width temporary_bits location) e fits) read shallow.0)
+        assign-fine tree f names-are (labels_of blocks) location (text_expr e) (record { lifted = place; there = there })
+            (expr-fine e (sized (location_width temporary_bits location) e fits) read shallow.0)
     stmt-fine (inner.Dos number None (Some e)) formed lifted shallow = argument-fine number e formed lifted shallow.0
     stmt-fine (inner.Dos number (Some location) None) formed lifted shallow = byte-fine number location formed lifted
     stmt-fine stmt formed lifted shallow = absurd (true≢false (sym lifted))
@@ -175,13 +182,15 @@ module _ (lo hi version : ℕ) (functions : List Function) (f : Function) (block
         let (tested, first) = and_parts (is_expr_of temporary_bits 1 test) (nat_lt one (length blocks)) two in
         let to = is-target blocks one (ltb-true one (length blocks) first) in
         let or_to = is-target blocks other (ltb-true other (length blocks) second) in
-        if-fine tree f names-are (labels_of blocks) (text_expr test) (label_at blocks one) (label_at blocks other) (expr-fine test (sized 1 test tested) lifted shallow.0) to.named or_to.named to.among or_to.among
+        if-fine tree f names-are (labels_of blocks) (text_expr test) (label_at blocks one) (label_at blocks other)
+            (expr-fine test (sized 1 test tested) lifted shallow.0) to.named or_to.named to.among or_to.among
     exit-fine (inner.Switch e places) formed lifted shallow = absurd (true≢false (sym lifted))
     exit-fine (inner.Ret values) formed lifted shallow = absurd (true≢false (sym lifted))
     exit-fine inner.Stop formed lifted shallow = empty-fine tree f names-are (labels_of blocks)
 
     -- the statements of a block, and its end, before others
-    stmts-fine : (stmts : List inner.Stmt) (exit : inner.Exit) (others : List Stmt) (labelled : Bool) → list_all (is_stmt temporary_bits) stmts ≡ true → list_all is_lifted_stmt stmts ≡ true → AreShallow (flat_map exprs_of stmts) → Fine (text_exit blocks exit) → FineAll false others
+    stmts-fine : (stmts : List inner.Stmt) (exit : inner.Exit) (others : List Stmt) (labelled : Bool) → list_all (is_stmt temporary_bits) stmts ≡ true
+        → list_all is_lifted_stmt stmts ≡ true → AreShallow (flat_map exprs_of stmts) → Fine (text_exit blocks exit) → FineAll false others
         → FineAll labelled (map text_stmt stmts ++ text_exit blocks exit ∷ others)
     stmts-fine [] exit others labelled formed lifted shallow end rest = fine_next end (subst (λ b. FineAll b others) (sym (exit-plain blocks exit)) rest)
     stmts-fine (stmt ∷ stmts) exit others labelled formed lifted shallow end rest =
@@ -190,7 +199,8 @@ module _ (lo hi version : ℕ) (functions : List Function) (f : Function) (block
         let low = shallow-parts (exprs_of stmt) (flat_map exprs_of stmts) shallow in
         fine_next (stmt-fine stmt here mine low.0) (stmts-fine stmts exit others (is_label (text_stmt stmt)) later theirs low.1 end rest)
 
-    block-fine : (block : inner.Block) (others : List Stmt) → is_block temporary_bits (length blocks) block ≡ true → is_lifted_block block ≡ true → AreShallow (block_exprs block) → FineAll false others → FineAll false (text_block blocks block ++ others)
+    block-fine : (block : inner.Block) (others : List Stmt) → is_block temporary_bits (length blocks) block ≡ true → is_lifted_block block ≡ true
+        → AreShallow (block_exprs block) → FineAll false others → FineAll false (text_block blocks block ++ others)
     block-fine block others formed lifted shallow rest =
         let (stmts_formed, end_formed) = and_parts (list_all (is_stmt temporary_bits) block.stmts) (is_exit temporary_bits (length blocks) block.exit) formed in
         let (stmts_lifted, end_lifted) = and_parts (list_all is_lifted_stmt block.stmts) (is_lifted_exit block.exit) lifted in
@@ -199,7 +209,8 @@ module _ (lo hi version : ℕ) (functions : List Function) (f : Function) (block
         (subst (FineAll true) (sym (append_assoc (map text_stmt block.stmts) (text_exit blocks block.exit ∷ []) others))
         (stmts-fine block.stmts block.exit others true stmts_formed stmts_lifted low.0 (exit-fine block.exit end_formed end_lifted low.1) rest))
 
-    pub blocks-fine : (bs : List inner.Block) → list_all (is_block temporary_bits (length blocks)) bs ≡ true → list_all is_lifted_block bs ≡ true → AreShallow (flat_map block_exprs bs) → FineAll false (flat_map (text_block blocks) bs)
+    pub blocks-fine : (bs : List inner.Block) → list_all (is_block temporary_bits (length blocks)) bs ≡ true → list_all is_lifted_block bs ≡ true
+        → AreShallow (flat_map block_exprs bs) → FineAll false (flat_map (text_block blocks) bs)
     blocks-fine [] formed lifted shallow = fine_end
     blocks-fine (block ∷ bs) formed lifted shallow =
         let (here, later) = and_parts (is_block temporary_bits (length blocks) block) (list_all (is_block temporary_bits (length blocks)) bs) formed in

@@ -61,7 +61,7 @@ module _ (tree : Tree) (f : Function) (names-are : declared_in tree f ≡ names)
     pub shallow : list_all (shallow_stmt 200) (stmt ∷ inner_stmts stmt) ≡ true
     pub jumps : list_all (is_among labels) (flat_map goto_of (stmt ∷ inner_stmts stmt)) ≡ true
 
-  -- so are all of a list, and behind a label comes one
+  -- so are all of a list, and after a label comes one
   pub data AreFine : Bool → List Stmt → Type 0 where
     fine_end : AreFine false []
     fine_next : {labelled : Bool} {stmt : Stmt} {stmts : List Stmt} → IsFine stmt → AreFine (is_label stmt) stmts → AreFine labelled (stmt ∷ stmts)
@@ -71,7 +71,8 @@ module _ (tree : Tree) (f : Function) (names-are : declared_in tree f ≡ names)
   fine-writable (fine_next is others) = and_from _ _ is.writable (fine-writable others)
 
   -- a test that holds of each statement holds of all
-  all_through : (test : Stmt → Bool) (stmt : Stmt) (rest : List Stmt) → list_all test (stmt ∷ inner_stmts stmt) ≡ true → list_all test rest ≡ true → list_all test (stmt ∷ (inner_stmts stmt ++ rest)) ≡ true
+  all_through : (test : Stmt → Bool) (stmt : Stmt) (rest : List Stmt) → list_all test (stmt ∷ inner_stmts stmt) ≡ true → list_all test rest ≡ true
+      → list_all test (stmt ∷ (inner_stmts stmt ++ rest)) ≡ true
   all_through test stmt rest here others = list_all-append test (stmt ∷ inner_stmts stmt) rest ∙ and_from _ _ here others
 
   pub fine-allowed : {labelled : Bool} {stmts : List Stmt} → AreFine labelled stmts → list_all (allows_stmt tree f) (stmts_in (uncounted stmts)) ≡ true
@@ -114,7 +115,8 @@ module _ (tree : Tree) (f : Function) (names-are : declared_in tree f ≡ names)
       }
 
   -- a call with one argument, which takes a byte
-  pub give-fine : (name : Word) (e : Expr) → is_name name ≡ true → signature_in tree name ≡ Some (record { result = None; params = plain Uchar ∷ [] }) → IsFineExpr e → IsFine (Call None name (e ∷ []) 2)
+  pub give-fine : (name : Word) (e : Expr) → is_name name ≡ true → signature_in tree name ≡ Some (record { result = None; params = plain Uchar ∷ [] })
+      → IsFineExpr e → IsFine (Call None name (e ∷ []) 2)
   give-fine name e is known x = record {
     writable = and_from (is_name name) ((is_writable_expr e && true) && is_small 2) is (and_from (is_writable_expr e && true) (is_small 2) (and_from (is_writable_expr e) true x.writable refl) refl);
     allowed = and_from (allows_stmt tree f (Call None name (e ∷ []) 2)) true
@@ -124,7 +126,8 @@ module _ (tree : Tree) (f : Function) (names-are : declared_in tree f ≡ names)
   }
 
   -- a call that gives a byte
-  pub take-fine : (name : Word) (location : Loc) → is_name name ≡ true → signature_in tree name ≡ Some (record { result = Some (plain Uchar); params = [] }) → IsPlace location → IsFine (Call (Some (place_of location)) name [] 2)
+  pub take-fine : (name : Word) (location : Loc) → is_name name ≡ true → signature_in tree name ≡ Some (record { result = Some (plain Uchar); params = [] })
+      → IsPlace location → IsFine (Call (Some (place_of location)) name [] 2)
   take-fine name location is known there =
       let p = place-typed location there in record {
         writable = and_from (is_writable_place (place_of location)) (is_name name && (true && is_small 2)) (place-writable location there) (and_from (is_name name) (true && is_small 2) is refl);
@@ -144,7 +147,8 @@ module _ (tree : Tree) (f : Function) (names-are : declared_in tree f ≡ names)
   pub if-fine : (e : Expr) (one other : Word) → IsFineExpr e → is_name one ≡ true → is_name other ≡ true → is_among labels one ≡ true → is_among labels other ≡ true
       → IsFine (If e (uncounted (Goto one ∷ [])) (uncounted (Goto other ∷ [])))
   if-fine e one other x is also there too = record {
-    writable = and_from (is_writable_expr e) ((is_name one && true) && (is_name other && true)) x.writable (and_from (is_name one && true) (is_name other && true) (and_from (is_name one) true is refl) (and_from (is_name other) true also refl));
+    writable = and_from (is_writable_expr e) ((is_name one && true) && (is_name other && true)) x.writable
+        (and_from (is_name one && true) (is_name other && true) (and_from (is_name one) true is refl) (and_from (is_name other) true also refl));
     allowed = and_from (is_number (declared_in tree f) e) true
         (ap (λ ns. elim (type_of ns e) [ Some type ↦ not type.pointer | None ↦ false ]) names-are ∙ ap (λ t. elim t [ Some type ↦ not type.pointer | None ↦ false ]) x.typed) refl;
     shallow = and_from (nat_le (expr_depth e) 200 && true) true (and_from (nat_le (expr_depth e) 200) true x.shallow refl) refl;

@@ -67,7 +67,9 @@ cut-filled : (fill : ℕ) → bindings_of (cut_values fill) ≡ bindings_of (fil
 cut-filled fill =
     let x : ℕ = if nat_le 32768 fill then fill + 4294901760 else fill in
     same-bound (cut_values fill) (filled temporary_bits fill) locations
-    (refl, (refl, (refl, (refl, (refl, (refl, (refl, (refl, (refl, (refl, (refl, (refl, (cut-twice x, (cut-twice x, (cut-twice x, (cut-twice x, (refl, (refl, (refl, (refl, (refl, (refl, (refl, tt)))))))))))))))))))))))
+    (refl, (refl, (refl, (refl, (refl,
+        (refl, (refl, (refl, (refl,
+        (refl, (refl, (refl, (cut-twice x, (cut-twice x, (cut-twice x, (cut-twice x, (refl, (refl, (refl, (refl, (refl, (refl, (refl, tt)))))))))))))))))))))))
 
 filled-held : (fill : ℕ) → AreHeld (filled temporary_bits fill)
 filled-held fill location is = mod-lt _ (pow_pos (location_width temporary_bits location))
@@ -103,18 +105,19 @@ flag-flat flag = flat (λ depth at. unchanged)
 pub flags-flat : AreFlat (map flag_cut flags)
 flags-flat = more_flat (flag-flat (Flag Cf)) (more_flat (flag-flat (Flag Zf)) (more_flat (flag-flat (Flag Sf)) (more_flat (flag-flat (Flag Of)) none_flat)))
 
-flag-passes : (name : List ℕ) (flag : Loc) (counted : Stmt) → IsCounted (flag_cut flag) counted → (at : ℕ) (lines : Lines) (rest : c.Continuation) → c.from_label_inside name counted at lines rest ≡ None
+flag-passes : (name : List ℕ) (flag : Loc) (counted : Stmt) → IsCounted (flag_cut flag) counted → (at : ℕ) (lines : Lines) (rest : c.Continuation)
+    → c.from_label_inside name counted at lines rest ≡ None
 flag-passes name flag counted unchanged at lines rest = refl
 
 flags-pass : (name : List ℕ) → Passes name (map flag_cut flags)
 flags-pass name = passes (flag-passes name (Flag Cf)) (passes (flag-passes name (Flag Zf)) (passes (flag-passes name (Flag Sf)) (passes (flag-passes name (Flag Of)) passed)))
 
--- the first of the lines, which cuts a flag, and those behind it
+-- the first of the lines, which cuts a flag, and those after it
 flag-line : (flag : Loc) (stmts : List Stmt) (lines : Lines) → AreLined (flag_cut flag ∷ stmts) lines → (at : ℕ) × (after' : Lines) × (lines ≡ line (flag_cut flag) at after') × AreLined stmts after'
 flag-line flag stmts no_lines lined = elim lined [ ]
 flag-line flag stmts (line counted at lines) (one_more unchanged lined) = (at, lines, refl, lined)
 
--- the lines behind the first four
+-- the lines after the first four
 record Begins (stmts : List Stmt) (lines : Lines) : Type 0 where
   a : ℕ
   b : ℕ
@@ -143,7 +146,9 @@ begins-with stmts lines lined =
 -- The text's first four steps.
 module _ (lo hi : ℕ) (functions : List Function) (f : Function) (frame fill : ℕ) (lines : Lines) (a b x d : ℕ) (cells input : List ℕ) where
   abbrev first_text : c.State
-  first_text = text_state lo hi functions f frame fill (line (flag_cut (Flag Cf)) a (line (flag_cut (Flag Zf)) b (line (flag_cut (Flag Sf)) x (line (flag_cut (Flag Of)) d lines)))) (first_values fill) cells input []
+  first_text = text_state lo hi functions f frame fill
+      (line (flag_cut (Flag Cf)) a (line (flag_cut (Flag Zf)) b (line (flag_cut (Flag Sf)) x (line (flag_cut (Flag Of)) d lines))))
+      (first_values fill) cells input []
 
   byte-room : (flag : Loc) → IsPlace flag → location_width temporary_bits flag ≡ 1 → first_values fill flag < 256
   byte-room flag is width = subst (λ w. convert Int (unsigned_type w) fill < 256) (sym width) (omega arith)
@@ -154,19 +159,28 @@ module _ (lo hi : ℕ) (functions : List Function) (f : Function) (frame fill : 
   abbrev text_step : c.State → c.State
   text_step t = c.step (text lo hi functions f frame fill) t
 
-  one-is : after text_step 1 first_text ≡ text_state lo hi functions f frame fill (line (flag_cut (Flag Zf)) b (line (flag_cut (Flag Sf)) x (line (flag_cut (Flag Of)) d lines))) (cut_at (Flag Cf) (first_values fill)) cells input []
+  one-is : after text_step 1 first_text
+      ≡ text_state lo hi functions f frame fill (line (flag_cut (Flag Zf)) b (line (flag_cut (Flag Sf)) x (line (flag_cut (Flag Of)) d lines)))
+      (cut_at (Flag Cf) (first_values fill)) cells input []
   one-is = flag-step lo hi functions f frame fill a _ (first_values fill) cells input [] (Flag Cf) (flag-place Cf) refl (byte-room (Flag Cf) (flag-place Cf) refl)
 
-  two-is : after text_step 2 first_text ≡ text_state lo hi functions f frame fill (line (flag_cut (Flag Sf)) x (line (flag_cut (Flag Of)) d lines)) (cut_at (Flag Zf) (cut_at (Flag Cf) (first_values fill))) cells input []
-  two-is = ap text_step one-is ∙ flag-step lo hi functions f frame fill b _ (cut_at (Flag Cf) (first_values fill)) cells input [] (Flag Zf) (flag-place Zf) refl (byte-room (Flag Zf) (flag-place Zf) refl)
+  two-is : after text_step 2 first_text
+      ≡ text_state lo hi functions f frame fill (line (flag_cut (Flag Sf)) x (line (flag_cut (Flag Of)) d lines))
+      (cut_at (Flag Zf) (cut_at (Flag Cf) (first_values fill))) cells input []
+  two-is = ap text_step one-is ∙ flag-step lo hi functions f frame fill b _ (cut_at (Flag Cf) (first_values fill)) cells input [] (Flag Zf)
+      (flag-place Zf) refl (byte-room (Flag Zf) (flag-place Zf) refl)
 
-  three-is : after text_step 3 first_text ≡ text_state lo hi functions f frame fill (line (flag_cut (Flag Of)) d lines) (cut_at (Flag Sf) (cut_at (Flag Zf) (cut_at (Flag Cf) (first_values fill)))) cells input []
-  three-is = ap text_step two-is ∙ flag-step lo hi functions f frame fill x _ (cut_at (Flag Zf) (cut_at (Flag Cf) (first_values fill))) cells input [] (Flag Sf) (flag-place Sf) refl (byte-room (Flag Sf) (flag-place Sf) refl)
+  three-is : after text_step 3 first_text
+      ≡ text_state lo hi functions f frame fill (line (flag_cut (Flag Of)) d lines)
+      (cut_at (Flag Sf) (cut_at (Flag Zf) (cut_at (Flag Cf) (first_values fill)))) cells input []
+  three-is = ap text_step two-is ∙ flag-step lo hi functions f frame fill x _ (cut_at (Flag Zf) (cut_at (Flag Cf) (first_values fill))) cells input []
+      (Flag Sf) (flag-place Sf) refl (byte-room (Flag Sf) (flag-place Sf) refl)
 
   four-is : after text_step 4 first_text ≡ text_state lo hi functions f frame fill lines (filled temporary_bits fill) cells input []
   four-is =
       ap text_step three-is
-      ∙ flag-step lo hi functions f frame fill d _ (cut_at (Flag Sf) (cut_at (Flag Zf) (cut_at (Flag Cf) (first_values fill)))) cells input [] (Flag Of) (flag-place Of) refl (byte-room (Flag Of) (flag-place Of) refl)
+      ∙ flag-step lo hi functions f frame fill d _ (cut_at (Flag Sf) (cut_at (Flag Zf) (cut_at (Flag Cf) (first_values fill)))) cells input [] (Flag Of)
+          (flag-place Of) refl (byte-room (Flag Of) (flag-place Of) refl)
       ∙ ap (λ bs. record (text_state lo hi functions f frame fill lines (cut_values fill) cells input []) { frame = record { function = f; base = frame; variables = bs } }) (cut-filled fill)
 
   first-quiet : (j : ℕ) → j ≤ 4 → is_over (end_after (text_system (text lo hi functions f frame fill)) j first_text) ≡ false
@@ -179,12 +193,14 @@ module _ (lo hi : ℕ) (functions : List Function) (f : Function) (frame fill : 
 
 -- The text's first state.
 
-locals-first : (fill base used : ℕ) (ls : List Loc) → c.local_bindings fill (map variable ls) (local_places base used (map variable ls)) ≡ map (λ location. bound location (first_values fill location)) ls
+locals-first : (fill base used : ℕ) (ls : List Loc) → c.local_bindings fill (map variable ls) (local_places base used (map variable ls))
+    ≡ map (λ location. bound location (first_values fill location)) ls
 locals-first fill base used [] = refl
 locals-first fill base used (location ∷ ls) = ap (λ bs. bound location (first_values fill location) ∷ bs) (locals-first fill base used ls)
 
 -- the variables of a function without parameters
-first-variables : (fill base : ℕ) (start : Function) (ls : List Loc) → start.params ≡ [] → start.locals ≡ map variable ls → (c.frame_of start base fill []).variables ≡ map (λ location. bound location (first_values fill location)) ls
+first-variables : (fill base : ℕ) (start : Function) (ls : List Loc) → start.params ≡ [] → start.locals ≡ map variable ls
+    → (c.frame_of start base fill []).variables ≡ map (λ location. bound location (first_values fill location)) ls
 first-variables fill base start ls no_params are =
     ap (λ params. c.param_bindings params (param_places start.body base 0 false params) [] ++ c.local_bindings fill start.locals (local_places base 4 start.locals)) no_params
     ∙ ap (λ locals. c.local_bindings fill locals (local_places base 4 locals)) are
@@ -229,7 +245,8 @@ pub record IsGotoStart (blocks : List inner.Block) (start : Function) : Type 0 w
   pub locals : start.locals ≡ map variable locations
   pub lined : AreLined (goto_stmts blocks) start.body
 
-module _ (image : List ℕ) (lo hi entry local pushed : ℕ) (params : List Param) (blocks : List inner.Block) (is : IsGotoGraph blocks) (functions : List Function) (start : Function) (starts : IsGotoStart blocks start) where
+module _ (image : List ℕ) (lo hi entry local pushed : ℕ) (params : List Param) (blocks : List inner.Block) (is : IsGotoGraph blocks)
+    (functions : List Function) (start : Function) (starts : IsGotoStart blocks start) where
   abbrev pub goto_graph : inner.Graph
   goto_graph = record { entry = entry; params = params; local = local; pushed = pushed; blocks = blocks; bits = temporary_bits }
 
@@ -262,7 +279,8 @@ module _ (image : List ℕ) (lo hi entry local pushed : ℕ) (params : List Para
       let to = land blocks blocks place block past.after (ends_function start.last) there is.differ is.below past.lined in
       record { to = to.to; others = to.others; lined = to.lined; found = past.same ∙ to.found }
 
-  module _ (fill : ℕ) (input : List ℕ) (bytes : All (λ byte. byte < 256) input) (unstuck : (n at : ℕ) → end_after (run.inner_system goto_program fill) n (run.first_state goto_program fill input) ≢ Stuck at) where
+  module _ (fill : ℕ) (input : List ℕ) (bytes : All (λ byte. byte < 256) input)
+      (unstuck : (n at : ℕ) → end_after (run.inner_system goto_program fill) n (run.first_state goto_program fill input) ≢ Stuck at) where
     abbrev frame : ℕ
     frame = (hi + 2) % 65536
 
@@ -272,11 +290,12 @@ module _ (image : List ℕ) (lo hi entry local pushed : ℕ) (params : List Para
     abbrev related : run.State → c.State → Type 0
     related = IsAt image lo hi entry local pushed params blocks functions start frame fill statements goto-good goto-jumps
 
-    -- the first block is among the lines behind the flags
+    -- the first block is among the lines after the flags
     first-lined : (lines : Lines) → AreLined (flat_map (text_block blocks) blocks) lines → (others : List Stmt) × AreLined (text_block blocks is.first ++ others) lines
     first-lined lines lined = from blocks is.begins lined
       where
-        from : (bs : List inner.Block) → slice_get bs 0 ≡ Some is.first → AreLined (flat_map (text_block blocks) bs) lines → (others : List Stmt) × AreLined (text_block blocks is.first ++ others) lines
+        from : (bs : List inner.Block) → slice_get bs 0 ≡ Some is.first → AreLined (flat_map (text_block blocks) bs) lines → (others : List Stmt)
+            × AreLined (text_block blocks is.first ++ others) lines
         from [] none lined = absurd cc
         from (b ∷ bs) one lined = (flat_map (text_block blocks) bs, subst (λ x. AreLined (text_block blocks x ++ flat_map (text_block blocks) bs) lines) (some-equal one) lined)
 
@@ -324,7 +343,8 @@ module _ (image : List ℕ) (lo hi entry local pushed : ℕ) (params : List Para
         ∙ first-quiet lo hi functions start frame fill lines_of.after_flags lines_of.a lines_of.b lines_of.c lines_of.d cells input j low
 
     -- the text follows the program
-    pub text-follows : Follows Always (run.inner_system goto_program fill) (run.first_state goto_program fill input) (text_system goto_text) (c.first_state goto_text start fill input) (λ n. n * statements + 4)
+    pub text-follows : Follows Always (run.inner_system goto_program fill) (run.first_state goto_program fill input) (text_system goto_text)
+        (c.first_state goto_text start fill input) (λ n. n * statements + 4)
     text-follows =
         leap-follows (run.inner_system goto_program fill) (text_system goto_text) related statements (inner_lawful goto_program fill) (text_lawful goto_text)
         (at-alike image lo hi entry local pushed params blocks functions start frame fill statements goto-good goto-jumps)

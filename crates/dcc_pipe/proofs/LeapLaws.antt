@@ -23,7 +23,8 @@ pub record AreAlike {S T : Type 0} (first : System S) (second : System T) (s : S
   pub out : second.out t ≡ first.out s
   pub end : second.end t ≡ first.end s
 
-module _ {S T : Type 0} (first : System S) (second : System T) (related : S → T → Type 0) (most : ℕ) (law : IsLawful first) (other_law : IsLawful second) (alike : (s : S) (t : T) → related s t → AreAlike first second s t) (leaps : (s : S) (t : T) → related s t → IsLeap first second related most s t) where
+module _ {S T : Type 0} (first : System S) (second : System T) (related : S → T → Type 0) (most : ℕ) (law : IsLawful first) (other_law : IsLawful second)
+    (alike : (s : S) (t : T) → related s t → AreAlike first second s t) (leaps : (s : S) (t : T) → related s t → IsLeap first second related most s t) where
   -- the second run stands where the first one stands after n steps, within n leaps
   meets : (n : ℕ) (s : S) (t : T) → related s t → (k : ℕ) × (k ≤ n * most) × Stands first s n second t k
   meets zero s t r =
@@ -58,7 +59,7 @@ module _ {S T : Type 0} (first : System S) (second : System T) (related : S → 
         | both_over o ↦ absurd (true≢false (sym o.over ∙ ap (λ u. is_over (first.end u)) (sym (after-over first law n (first.step s) o.over)) ∙ runs))
       ]
 
-  -- what is shown behind a leap
+  -- what is shown after a leap
   behind : (s : S) (t : T) → GoOn first second related s t → second.out t ≡ first.out s
   behind s t (still_related r) = (alike s t r).out
   behind s t (both_over o) = o.out

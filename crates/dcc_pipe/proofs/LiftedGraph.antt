@@ -41,7 +41,8 @@ listed-below at (found ∷ nodes) below is = elim (or_cases (found.0 == at) (lis
   | inr there ↦ listed-below at nodes (All-tail (λ (found : ℕ × Node). found.0 < 65536) found nodes below) there
 ]
 
-module _ (image : Image) (layout : Layout) (procs : List Proc) (p : inner.Program) (loaded : IsLoaded image) (has : HasLayout image layout) (are : AreFound image layout procs) (of : IsLiftOf image layout procs p) where
+module _ (image : Image) (layout : Layout) (procs : List Proc) (p : inner.Program) (loaded : IsLoaded image) (has : HasLayout image layout)
+    (are : AreFound image layout procs) (of : IsLiftOf image layout procs p) where
   abbrev lifted : IsLifted image layout of.start p
   lifted = of.lifted
 
@@ -60,7 +61,9 @@ module _ (image : Image) (layout : Layout) (procs : List Proc) (p : inner.Progra
       let here : (flow_at p of.start.entry).has block.at ≡ true = ap (λ g. (flow_of g).has block.at) found-graph ∙ has-address place block lifted.framed.graph.blocks is in
       elim (or_cases (image.ip == block.at) (list_any (λ (found : ℕ × Node). found.0 == block.at) of.start.nodes.entries) (lifted.blocks.contraction.blocks block.at here)) [
         | inl first ↦ subst (λ k. k < 65536) (eqb-true image.ip block.at first) (prelude-below image layout loaded has 0 (prelude-some image layout loaded has))
-        | inr node ↦ listed-below block.at of.start.nodes.entries (subst (λ (proc : Proc). All (λ (found : ℕ × Node). found.0 < 65536) proc.nodes.entries) (sym same-start) (found-sound image layout procs loaded has are).below) node
+        | inr node ↦ listed-below block.at of.start.nodes.entries
+            (subst (λ (proc : Proc). All (λ (found : ℕ × Node). found.0 < 65536) proc.nodes.entries) (sym same-start)
+            (found-sound image layout procs loaded has are).below) node
       ]
 
   graph-formed : IsGraph lifted.framed.graph

@@ -81,7 +81,9 @@ program-is p g one bits = ap (λ graphs. with_graph graphs p) one ∙ ap (λ ws.
 head-equal : {A : Type 0} {a b : A} {xs ys : List A} → a ∷ xs ≡ b ∷ ys → a ≡ b
 head-equal e = cc
 
-module _ (image : Image) (layout : Layout) (procs : List Proc) (p : inner.Program) (loaded : IsLoaded image) (has : HasLayout image layout) (are : AreFound image layout procs) (of : IsLiftOf image layout procs p) (text : List ℕ) (stands : StandsFor text (numbered (goto_tree p))) (input : List ℕ) (fill : ℕ) (bytes : All (λ b. b < 256) input) (fits : fill < 2 ^ 16) where
+module _ (image : Image) (layout : Layout) (procs : List Proc) (p : inner.Program) (loaded : IsLoaded image) (has : HasLayout image layout)
+    (are : AreFound image layout procs) (of : IsLiftOf image layout procs p) (text : List ℕ) (stands : StandsFor text (numbered (goto_tree p)))
+    (input : List ℕ) (fill : ℕ) (bytes : All (λ b. b < 256) input) (fits : fill < 2 ^ 16) where
   abbrev lifted : IsLifted image layout of.start p
   lifted = of.lifted
 
@@ -103,14 +105,16 @@ module _ (image : Image) (layout : Layout) (procs : List Proc) (p : inner.Progra
   unstuck : (n at : ℕ) → end_after (run.inner_system p fill) n (run.first_state p fill input) ≢ Stuck at
   unstuck n at = lifted.never_stuck fill input n at fits bytes
 
-  unstuck-there : (n at : ℕ) → end_after (run.inner_system (with_graph (with_bits temporary_bits g ∷ []) p) fill) n (run.first_state (with_graph (with_bits temporary_bits g ∷ []) p) fill input) ≢ Stuck at
+  unstuck-there : (n at : ℕ) → end_after (run.inner_system (with_graph (with_bits temporary_bits g ∷ []) p) fill) n
+      (run.first_state (with_graph (with_bits temporary_bits g ∷ []) p) fill input) ≢ Stuck at
   unstuck-there = subst (λ q. (n at : ℕ) → end_after (run.inner_system q fill) n (run.first_state q fill input) ≢ Stuck at) same unstuck
 
   -- what is known of the program and the text
   record Together (q : inner.Program) (t : Tree) : Type 0 where
     follows : Follows Always (run.inner_system q fill) (run.first_state q fill input) (text_system t) (c.first_state t start fill input) (λ n. n * length (goto_stmts g.blocks) + 4)
     leads : Follows Always (text_system t) (c.first_state t start fill input) (run.inner_system q fill) (run.first_state q fill input) (λ k. k)
-    marked : (m : ℕ) → is_over (end_after (run.inner_system q fill) m (run.first_state q fill input)) ≡ false → (place : ℕ) × (offset_mark (after (run.step q fill) m (run.first_state q fill input)) ≡ Some place)
+    marked : (m : ℕ) → is_over (end_after (run.inner_system q fill) m (run.first_state q fill input)) ≡ false → (place : ℕ)
+        × (offset_mark (after (run.step q fill) m (run.first_state q fill input)) ≡ Some place)
 
   together-there : (functions : List Function) → Together (with_graph (with_bits temporary_bits g ∷ []) p) (record { version = 1; lo = p.lo; hi = p.hi; globals = []; functions = functions })
   together-there functions =
@@ -131,10 +135,12 @@ module _ (image : Image) (layout : Layout) (procs : List Proc) (p : inner.Progra
       let s = start_state image input in
       let i = run.first_state p fill input in
       let t = c.first_state tree start fill input in
-      let there = visits-follow (has_block_at p) machine_system instruction_mark s (run.inner_system p fill) offset_mark i machine_lawful (inner_lawful p fill) (lifted.runs fill input fits bytes) together.marked in
+      let there = visits-follow (has_block_at p) machine_system instruction_mark s (run.inner_system p fill) offset_mark i machine_lawful (inner_lawful p fill)
+          (lifted.runs fill input fits bytes) together.marked in
       let whole = follows_trans Always machine_system s (run.inner_system p fill) i (text_system tree) t suc (λ n. n * length (goto_stmts g.blocks) + 4) there together.follows in
       record {
-        text_follows = follows_wider Always machine_system s (text_system tree) t (λ n. suc n * length (goto_stmts g.blocks) + 4) (λ n. (n + 1) * length stands.tokens) (text_lawful tree) (λ n. bound-wide n (length (goto_stmts g.blocks)) (length stands.tokens) enough) whole;
+        text_follows = follows_wider Always machine_system s (text_system tree) t (λ n. suc n * length (goto_stmts g.blocks) + 4)
+            (λ n. (n + 1) * length stands.tokens) (text_lawful tree) (λ n. bound-wide n (length (goto_stmts g.blocks)) (length stands.tokens) enough) whole;
         machine_follows = follows_trans Always (text_system tree) t (run.inner_system p fill) i machine_system s (λ k. k) (λ m. (m + 1) * 65536) together.leads (lifted.pace fill input fits bytes);
         never_stuck = λ k line ends.
             let over : is_over (end_after (text_system tree) k t) ≡ true = ap is_over ends in

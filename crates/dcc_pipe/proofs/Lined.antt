@@ -71,13 +71,15 @@ blocks-flat all (block ∷ blocks) = flat-append (block-flat all block) (blocks-
 -- no statement of these, however counted, holds the label
 pub data Passes (word : Word) : List Stmt → Type 0 where
   passed : Passes word []
-  passes : {stmt : Stmt} {stmts : List Stmt} → ((counted : Stmt) → IsCounted stmt counted → (at : ℕ) (lines : Lines) (rest : Continuation) → from_label_inside word counted at lines rest ≡ None) → Passes word stmts → Passes word (stmt ∷ stmts)
+  passes : {stmt : Stmt} {stmts : List Stmt}
+      → ((counted : Stmt) → IsCounted stmt counted → (at : ℕ) (lines : Lines) (rest : Continuation) → from_label_inside word counted at lines rest ≡ None)
+      → Passes word stmts → Passes word (stmt ∷ stmts)
 
 pub passes-append : {word : Word} {xs ys : List Stmt} → Passes word xs → Passes word ys → Passes word (xs ++ ys)
 passes-append passed b = b
 passes-append (passes is a) b = passes is (passes-append a b)
 
--- the lines behind statements without the label
+-- the lines after statements without the label
 pub record Behind (word : Word) (ys : List Stmt) (lines : Lines) (rest : Continuation) : Type 0 where
   pub after : Lines
   pub lined : AreLined ys after
@@ -102,7 +104,8 @@ module _ (word : Word) where
   stmt-passes (inner.Call results entry arguments depth) counted unchanged at lines rest = refl
   stmt-passes (inner.Dos number place argument) counted unchanged at lines rest = refl
 
-  exit-passes : (blocks : List inner.Block) (exit : inner.Exit) (counted : Stmt) → IsCounted (text_exit blocks exit) counted → (at : ℕ) (lines : Lines) (rest : Continuation) → from_label_inside word counted at lines rest ≡ None
+  exit-passes : (blocks : List inner.Block) (exit : inner.Exit) (counted : Stmt) → IsCounted (text_exit blocks exit) counted
+      → (at : ℕ) (lines : Lines) (rest : Continuation) → from_label_inside word counted at lines rest ≡ None
   exit-passes blocks (inner.Goto place) counted unchanged at lines rest = refl
   exit-passes blocks (inner.If test one other) counted unchanged at lines rest = refl
   exit-passes blocks (inner.If test one other) counted branches at lines rest = refl
@@ -110,7 +113,8 @@ module _ (word : Word) where
   exit-passes blocks (inner.Ret values) counted unchanged at lines rest = refl
   exit-passes blocks inner.Stop counted unchanged at lines rest = refl
 
-  label-passes : (other : Word) → same_bytes word other ≡ false → (counted : Stmt) → IsCounted (Label other) counted → (at : ℕ) (lines : Lines) (rest : Continuation) → from_label_inside word counted at lines rest ≡ None
+  label-passes : (other : Word) → same_bytes word other ≡ false → (counted : Stmt) → IsCounted (Label other) counted
+      → (at : ℕ) (lines : Lines) (rest : Continuation) → from_label_inside word counted at lines rest ≡ None
   label-passes other apart counted unchanged at lines rest = ap (λ b. if b then Some (runs (line (Label other) at lines) rest) else None) apart
 
   stmts-pass : (stmts : List inner.Stmt) → Passes word (map text_stmt stmts)
@@ -143,7 +147,8 @@ stands-among at zero block (b ∷ blocks) is same =
 stands-among at (suc place) block (b ∷ blocks) is same =
     or_right (at == b.at) (list_any (λ m. at == m) (map (λ b. b.at) blocks)) (stands-among at place block blocks is same)
 
-pub land : (all blocks : List inner.Block) (place : ℕ) (block : inner.Block) (lines : Lines) (rest : Continuation) → slice_get blocks place ≡ Some block → all_differ (map (λ b. b.at) blocks) ≡ true → AreBelow blocks
+pub land : (all blocks : List inner.Block) (place : ℕ) (block : inner.Block) (lines : Lines) (rest : Continuation) → slice_get blocks place ≡ Some block
+    → all_differ (map (λ b. b.at) blocks) ≡ true → AreBelow blocks
     → AreLined (flat_map (text_block all) blocks) lines → Lands all block lines rest
 land all [] place block lines rest is differ below lined = absurd cc
 land all (b ∷ blocks) zero block no_lines rest is differ below lined = elim lined [ ]

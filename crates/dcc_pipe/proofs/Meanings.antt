@@ -62,7 +62,8 @@ module _ (scope : Scope) where
   low-bit n e is fits =
       let one : IsNumber scope Int 1 (small 1) = small-number 1 (omega arith) in record {
         typed = binary-typed BitAnd Uchar Int n 1 e (small 1) is one;
-        valued = binary-valued BitAnd Uchar Int n 1 e (small 1) is one ∙ ap (λ m. Gives (number Int m)) (ap (λ m. bit_and m 1) (mod-eq_of_lt (let f : n < 65536 = omega (arith, fits) in f)) ∙ and_mask n 1);
+        valued = binary-valued BitAnd Uchar Int n 1 e (small 1) is one
+            ∙ ap (λ m. Gives (number Int m)) (ap (λ m. bit_and m 1) (mod-eq_of_lt (let f : n < 65536 = omega (arith, fits) in f)) ∙ and_mask n 1);
       }
 
   -- Cutting.

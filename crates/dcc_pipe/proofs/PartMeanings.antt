@@ -144,7 +144,8 @@ module _ (scope : Scope) where
   or-number a b n m e g x y = record { typed = binary-typed scope Or a b n m e g x y; valued = binary-valued scope Or a b n m e g x y }
 
   -- the upper half in the type of the whole, moved up by so many bits
-  upper-number : (whole base : Base) (h shift : ℕ) (high : Expr) → promoted_type whole ≡ whole → IsNumber scope base h high → shift < 32 → convert whole whole (convert base whole h) ≡ h → h * 2 ^ shift < 2 ^ bits_of whole
+  upper-number : (whole base : Base) (h shift : ℕ) (high : Expr) → promoted_type whole ≡ whole → IsNumber scope base h high → shift < 32
+      → convert whole whole (convert base whole h) ≡ h → h * 2 ^ shift < 2 ^ bits_of whole
       → IsNumber scope whole (h * 2 ^ shift) (Binary Shl (Cast (plain whole) high) (small shift))
   upper-number whole base h shift high promoted is near same fits =
       let up = cast-number scope whole base h high is in
@@ -161,10 +162,13 @@ module _ (scope : Scope) where
       let hf = x.fits in
       let up = upper-number Uint x.base h 8 high refl x.number_is (omega arith) (ap (λ k. k % 65536 % 65536) (extended-is byte x.base h x.is x.fits) ∙ omega (arith, hf)) (omega (arith, hf)) in
       let e = Binary Shl (Cast (plain Uint) high) (small 8) in
-      let both = subst (λ t. IsNumber scope t (bit_or (convert Uint t (h * 2 ^ 8)) (convert y.base t l)) (Binary Or e low)) (common y.base y.is) (or-number Uint y.base (h * 2 ^ 8) l e low up y.number_is) in
+      let both = subst (λ t. IsNumber scope t (bit_or (convert Uint t (h * 2 ^ 8)) (convert y.base t l)) (Binary Or e low)) (common y.base y.is)
+          (or-number Uint y.base (h * 2 ^ 8) l e low up y.number_is) in
       plain-means scope word (h * 2 ^ 8 + l) (Binary Or e low)
       (subst (λ k. IsNumber scope Uint k (Binary Or e low))
-      (ap₂ bit_or (mod-eq_of_lt (let f : h * 2 ^ 8 < 65536 = omega (arith, hf) in f)) (ap (λ k. k % 65536) (extended-is byte y.base l y.is y.fits) ∙ mod-eq_of_lt (let f : l < 65536 = omega (arith, y.fits) in f)) ∙ or_shifted h 8 l y.fits)
+      (ap₂ bit_or (mod-eq_of_lt (let f : h * 2 ^ 8 < 65536 = omega (arith, hf) in f))
+          (ap (λ k. k % 65536) (extended-is byte y.base l y.is y.fits) ∙ mod-eq_of_lt (let f : l < 65536 = omega (arith, y.fits) in f))
+          ∙ or_shifted h 8 l y.fits)
       both)
       (omega (arith, hf, y.fits))
     where
@@ -177,12 +181,16 @@ module _ (scope : Scope) where
   join-words : (h l : ℕ) (high low : Expr) → Means scope word h high → Means scope word l low → Means scope long (h * 2 ^ 16 + l) (joined 16 high low)
   join-words h l high low x y =
       let hf = x.fits in
-      let up = upper-number Ulong x.base h 16 high refl x.number_is (omega arith) (ap (λ k. k % 4294967296 % 4294967296) (extended-is word x.base h x.is x.fits) ∙ omega (arith, hf)) (omega (arith, hf)) in
+      let up = upper-number Ulong x.base h 16 high refl x.number_is (omega arith)
+          (ap (λ k. k % 4294967296 % 4294967296) (extended-is word x.base h x.is x.fits) ∙ omega (arith, hf)) (omega (arith, hf)) in
       let e = Binary Shl (Cast (plain Ulong) high) (small 16) in
-      let both = subst (λ t. IsNumber scope t (bit_or (convert Ulong t (h * 2 ^ 16)) (convert y.base t l)) (Binary Or e low)) (common y.base y.is) (or-number Ulong y.base (h * 2 ^ 16) l e low up y.number_is) in
+      let both = subst (λ t. IsNumber scope t (bit_or (convert Ulong t (h * 2 ^ 16)) (convert y.base t l)) (Binary Or e low)) (common y.base y.is)
+          (or-number Ulong y.base (h * 2 ^ 16) l e low up y.number_is) in
       plain-means scope long (h * 2 ^ 16 + l) (Binary Or e low)
       (subst (λ k. IsNumber scope Ulong k (Binary Or e low))
-      (ap₂ bit_or (mod-eq_of_lt (let f : h * 2 ^ 16 < 4294967296 = omega (arith, hf) in f)) (ap (λ k. k % 4294967296) (extended-is word y.base l y.is y.fits) ∙ mod-eq_of_lt (let f : l < 4294967296 = omega (arith, y.fits) in f)) ∙ or_shifted h 16 l y.fits)
+      (ap₂ bit_or (mod-eq_of_lt (let f : h * 2 ^ 16 < 4294967296 = omega (arith, hf) in f))
+          (ap (λ k. k % 4294967296) (extended-is word y.base l y.is y.fits) ∙ mod-eq_of_lt (let f : l < 4294967296 = omega (arith, y.fits) in f))
+          ∙ or_shifted h 16 l y.fits)
       both)
       (omega (arith, hf, y.fits))
     where
@@ -191,7 +199,8 @@ module _ (scope : Scope) where
       common b is = absurd (true≢false (sym is))
 
   -- halves of a word or of a long
-  pub joined-means : (size wide : Size) (h l : ℕ) (high low : Expr) → bits wide ≡ bits size + bits size → bits size ≡ 8 ⊎ bits size ≡ 16 → Means scope size h high → Means scope size l low → Means scope wide (h * 2 ^ bits size + l) (joined (bits size) high low)
+  pub joined-means : (size wide : Size) (h l : ℕ) (high low : Expr) → bits wide ≡ bits size + bits size → bits size ≡ 8 ⊎ bits size ≡ 16
+      → Means scope size h high → Means scope size l low → Means scope wide (h * 2 ^ bits size + l) (joined (bits size) high low)
   joined-means byte word h l high low double few x y = join-bytes h l high low x y
   joined-means word long h l high low double few x y = join-words h l high low x y
   joined-means bit wide h l high low double (inl e) x y = absurd (omega (arith, e))
@@ -207,7 +216,8 @@ module _ (scope : Scope) where
 
   -- Choices.
 
-  pub chosen-means : (size : Size) (t n m : ℕ) (test a b : Expr) → Means scope bit t test → Means scope size n a → Means scope size m b → Means scope size (if t == 1 then n else m) (Conditional test a b)
+  pub chosen-means : (size : Size) (t n m : ℕ) (test a b : Expr) → Means scope bit t test → Means scope size n a → Means scope size m b
+      → Means scope size (if t == 1 then n else m) (Conditional test a b)
   chosen-means size t n m test a b w x y =
       let c = common_type x.base y.base in
       plain-means scope size (if t == 1 then n else m) (Conditional test a b)
@@ -231,7 +241,8 @@ module _ (scope : Scope) where
       decides (suc zero) low = inl (refl, refl)
       decides (suc (suc k)) low = absurd (omega (arith, low))
 
-      converted-is : (size' : Base) (base : Base) (k : ℕ) (e : Expr) → (v : Outcome Value) → v ≡ Gives (number base k) → and_then (λ v. Gives (converted (plain size') v)) v ≡ Gives (number size' (convert base size' k))
+      converted-is : (size' : Base) (base : Base) (k : ℕ) (e : Expr) → (v : Outcome Value) → v ≡ Gives (number base k)
+          → and_then (λ v. Gives (converted (plain size') v)) v ≡ Gives (number size' (convert base size' k))
       converted-is c base k e v is = ap (and_then (λ v. Gives (converted (plain c) v))) is
 
       by : (zero_is one_is : Bool) → (zero_is ≡ false) × (one_is ≡ true) ⊎ (zero_is ≡ true) × (one_is ≡ false)

@@ -27,7 +27,8 @@ use Rattle.dcc_pipe.proofs.WritableText.{goto-writable}
 use Rattle.dcc_pipe.proofs.LiftedGraph.{lifted-goto}
 use Rattle.dcc_pipe.proofs.LiftedText.{text-agrees}
 
-module _ (image : Image) (layout : Layout) (procs : List Proc) (p : inner.Program) (loaded : IsLoaded image) (has : HasLayout image layout) (are : AreFound image layout procs) (of : IsLiftOf image layout procs p) where
+module _ (image : Image) (layout : Layout) (procs : List Proc) (p : inner.Program) (loaded : IsLoaded image) (has : HasLayout image layout)
+    (are : AreFound image layout procs) (of : IsLiftOf image layout procs p) where
   abbrev lifted : IsLifted image layout of.start p
   lifted = of.lifted
 

@@ -1,7 +1,9 @@
 -- The locations of a lifted program, one by one.
-use Rattle.std.proofs.Common.{◌≡◌, ℕ, zero, suc, ◌<◌, true, false, List, map, Some, refl, sym, true≢false, arith}
+use Rattle.std.proofs.Common.{◌≡◌, ℕ, zero, suc, ◌-◌, ◌<◌, true, false, List, map, Some, refl, sym, ap, ◌∙◌, true≢false, arith}
+use Rattle.std.specs.Prelude.{slice_get, option_map}
 use Rattle.std.specs.Fmt.{digits}
 use Rattle.std.proofs.lemmas.Bool.{ltb-true}
+use Rattle.std.proofs.lemmas.Option.{slice_get-map}
 use Rattle.dcc_num.specs.declared.Reg.TheVariants.{Ax, Cx, Dx, Bx, Sp, Bp, Si, Di}
 use Rattle.dcc_num.specs.declared.Half.TheVariants.{Low, High}
 use Rattle.dcc_num.specs.declared.FlagName.TheVariants.{Cf, Zf, Sf, Of}
@@ -14,70 +16,58 @@ use Rattle.dcc_lift.specs.Form.{is_lifted_location}
 use Rattle.dcc_c.specs.Types.{plain}
 use Rattle.dcc_c.specs.Typing.{declared_as}
 use Rattle.dcc_c.specs.Value.{Value, converted, Unplaced, Binding, variable_in, after_assignment, Scope, declared_by}
-use Rattle.dcc_pipe.specs.Variables.{locations, variable_name, unsigned_type}
-
--- what holds of each of them
-pub record AtEach (P : Loc → Type 0) : Type 0 where
-  pub al : P (Half Ax Low)
-  pub ah : P (Half Ax High)
-  pub cl : P (Half Cx Low)
-  pub ch : P (Half Cx High)
-  pub dl : P (Half Dx Low)
-  pub dh : P (Half Dx High)
-  pub bl : P (Half Bx Low)
-  pub bh : P (Half Bx High)
-  pub si_low : P (Half Si Low)
-  pub si_high : P (Half Si High)
-  pub di_low : P (Half Di Low)
-  pub di_high : P (Half Di High)
-  pub cf : P (Flag Cf)
-  pub zf : P (Flag Zf)
-  pub sf : P (Flag Sf)
-  pub of : P (Flag Of)
-  pub left_byte : P (Temp 0)
-  pub right_byte : P (Temp 1)
-  pub result_byte : P (Temp 2)
-  pub left_word : P (Temp 3)
-  pub right_word : P (Temp 4)
-  pub result_word : P (Temp 5)
-  pub product : P (Temp 6)
+use Rattle.dcc_pipe.specs.Variables.{locations, variable_number, variable_name, unsigned_type}
 
 -- it is one of them
 pub record IsPlace (location : Loc) : Type 0 where
   pub lifted : is_lifted_location location ≡ true
   pub there : is_location temporary_bits location ≡ true
 
-temp_at : (P : Loc → Type 0) → AtEach P → (n : ℕ) → n < 7 → P (Temp n)
-temp_at P each zero low = each.left_byte
-temp_at P each (suc zero) low = each.right_byte
-temp_at P each (suc (suc zero)) low = each.result_byte
-temp_at P each (suc (suc (suc zero))) low = each.left_word
-temp_at P each (suc (suc (suc (suc zero)))) low = each.right_word
-temp_at P each (suc (suc (suc (suc (suc zero))))) low = each.result_word
-temp_at P each (suc (suc (suc (suc (suc (suc zero)))))) low = each.product
-temp_at P each (suc (suc (suc (suc (suc (suc (suc n))))))) low = absurd (omega (arith, low))
+-- its place in the list of them
+abbrev place_in : Loc → ℕ
+place_in location = variable_number location - 1
 
-pub at-place : (P : Loc → Type 0) → AtEach P → (location : Loc) → IsPlace location → P location
-at-place P each (Half Ax Low) is = each.al
-at-place P each (Half Ax High) is = each.ah
-at-place P each (Half Cx Low) is = each.cl
-at-place P each (Half Cx High) is = each.ch
-at-place P each (Half Dx Low) is = each.dl
-at-place P each (Half Dx High) is = each.dh
-at-place P each (Half Bx Low) is = each.bl
-at-place P each (Half Bx High) is = each.bh
-at-place P each (Half Si Low) is = each.si_low
-at-place P each (Half Si High) is = each.si_high
-at-place P each (Half Di Low) is = each.di_low
-at-place P each (Half Di High) is = each.di_high
-at-place P each (Half Sp half) is = absurd (true≢false (sym is.lifted))
-at-place P each (Half Bp half) is = absurd (true≢false (sym is.lifted))
-at-place P each (Flag Cf) is = each.cf
-at-place P each (Flag Zf) is = each.zf
-at-place P each (Flag Sf) is = each.sf
-at-place P each (Flag Of) is = each.of
-at-place P each (Temp n) is = temp_at P each n (ltb-true n 7 is.there)
-at-place P each (Cell number half) is = absurd (true≢false (sym is.lifted))
+temp-found : (n : ℕ) → n < 7 → slice_get locations (place_in (Temp n)) ≡ Some (Temp n)
+temp-found zero low = refl
+temp-found (suc zero) low = refl
+temp-found (suc (suc zero)) low = refl
+temp-found (suc (suc (suc zero))) low = refl
+temp-found (suc (suc (suc (suc zero)))) low = refl
+temp-found (suc (suc (suc (suc (suc zero))))) low = refl
+temp-found (suc (suc (suc (suc (suc (suc zero)))))) low = refl
+temp-found (suc (suc (suc (suc (suc (suc (suc n))))))) low = absurd (omega (arith, low))
+
+place-found : (location : Loc) → IsPlace location → slice_get locations (place_in location) ≡ Some location
+place-found (Half Ax Low) is = refl
+place-found (Half Ax High) is = refl
+place-found (Half Cx Low) is = refl
+place-found (Half Cx High) is = refl
+place-found (Half Dx Low) is = refl
+place-found (Half Dx High) is = refl
+place-found (Half Bx Low) is = refl
+place-found (Half Bx High) is = refl
+place-found (Half Si Low) is = refl
+place-found (Half Si High) is = refl
+place-found (Half Di Low) is = refl
+place-found (Half Di High) is = refl
+place-found (Half Sp half) is = absurd (true≢false (sym is.lifted))
+place-found (Half Bp half) is = absurd (true≢false (sym is.lifted))
+place-found (Flag Cf) is = refl
+place-found (Flag Zf) is = refl
+place-found (Flag Sf) is = refl
+place-found (Flag Of) is = refl
+place-found (Temp n) is = temp-found n (ltb-true n 7 is.there)
+place-found (Cell number half) is = absurd (true≢false (sym is.lifted))
+
+-- what is equal at all of them in their list is equal at each
+pub same-at : {A : Type 0} (f g : Loc → A) → map f locations ≡ map g locations → (location : Loc) → IsPlace location → f location ≡ g location
+same-at f g e location is =
+    let found = place-found location is in
+    let i : ℕ = place_in location in
+    let one = slice_get-map f locations i ∙ ap (option_map f) found in
+    let other = slice_get-map g locations i ∙ ap (option_map g) found in
+    let same : Some (f location) ≡ Some (g location) = sym one ∙ ap (λ xs. slice_get xs i) e ∙ other in
+    cc
 
 -- The variables of the text while the locations hold these values.
 
@@ -97,98 +87,32 @@ abbrev pub scope_with : Values → List ℕ → Scope
 scope_with values memory = record { variables = bindings_of values; memory = memory }
 
 module _ (values : Values) where
-  found-each : AtEach (λ location. variable_in (bindings_of values) (variable_name location) ≡ Some (bound location (values location)))
+  found-all : map (λ location. variable_in (bindings_of values) (variable_name location)) locations ≡ map (λ location. Some (bound location (values location))) locations
   unfolding digits
-  found-each = record {
-    al = refl;
-    ah = refl;
-    cl = refl;
-    ch = refl;
-    dl = refl;
-    dh = refl;
-    bl = refl;
-    bh = refl;
-    si_low = refl;
-    si_high = refl;
-    di_low = refl;
-    di_high = refl;
-    cf = refl;
-    zf = refl;
-    sf = refl;
-    of = refl;
-    left_byte = refl;
-    right_byte = refl;
-    result_byte = refl;
-    left_word = refl;
-    right_word = refl;
-    result_word = refl;
-    product = refl;
-  }
+  found-all = refl
 
-  declared-each : AtEach (λ location. declared_as (map declared_by (bindings_of values)) (variable_name location) ≡ Some (declared_by (bound location (values location))))
+  declared-all :
+      map (λ location. declared_as (map declared_by (bindings_of values)) (variable_name location)) locations
+      ≡ map (λ location. Some (declared_by (bound location (values location)))) locations
   unfolding digits
-  declared-each = record {
-    al = refl;
-    ah = refl;
-    cl = refl;
-    ch = refl;
-    dl = refl;
-    dh = refl;
-    bl = refl;
-    bh = refl;
-    si_low = refl;
-    si_high = refl;
-    di_low = refl;
-    di_high = refl;
-    cf = refl;
-    zf = refl;
-    sf = refl;
-    of = refl;
-    left_byte = refl;
-    right_byte = refl;
-    result_byte = refl;
-    left_word = refl;
-    right_word = refl;
-    result_word = refl;
-    product = refl;
-  }
+  declared-all = refl
 
-  assigned-each : (v : Value) → AtEach (λ location. after_assignment (bindings_of values) (variable_name location) v ≡ bindings_of (with_value values location (converted (plain (unsigned_type (location_width temporary_bits location))) v).bits))
+  -- the values after an assignment to a location
+  abbrev assigned : Loc → Value → Values
+  assigned location v = with_value values location (converted (plain (unsigned_type (location_width temporary_bits location))) v).bits
+
+  assigned-all : (v : Value) → map (λ location. after_assignment (bindings_of values) (variable_name location) v) locations ≡ map (λ location. bindings_of (assigned location v)) locations
   unfolding digits
-  assigned-each v = record {
-    al = refl;
-    ah = refl;
-    cl = refl;
-    ch = refl;
-    dl = refl;
-    dh = refl;
-    bl = refl;
-    bh = refl;
-    si_low = refl;
-    si_high = refl;
-    di_low = refl;
-    di_high = refl;
-    cf = refl;
-    zf = refl;
-    sf = refl;
-    of = refl;
-    left_byte = refl;
-    right_byte = refl;
-    result_byte = refl;
-    left_word = refl;
-    right_word = refl;
-    result_word = refl;
-    product = refl;
-  }
+  assigned-all v = refl
 
   module _ (location : Loc) (is : IsPlace location) where
     -- the variable with the location's name
     pub variable-found : variable_in (bindings_of values) (variable_name location) ≡ Some (bound location (values location))
-    variable-found = at-place _ found-each location is
+    variable-found = same-at _ _ found-all location is
 
     pub variable-declared : declared_as (map declared_by (bindings_of values)) (variable_name location) ≡ Some (declared_by (bound location (values location)))
-    variable-declared = at-place _ declared-each location is
+    variable-declared = same-at _ _ declared-all location is
 
     -- the variables after an assignment to it
-    pub variable-assigned : (v : Value) → after_assignment (bindings_of values) (variable_name location) v ≡ bindings_of (with_value values location (converted (plain (unsigned_type (location_width temporary_bits location))) v).bits)
-    variable-assigned v = at-place _ (assigned-each v) location is
+    pub variable-assigned : (v : Value) → after_assignment (bindings_of values) (variable_name location) v ≡ bindings_of (assigned location v)
+    variable-assigned v = same-at _ _ (assigned-all v) location is

@@ -99,7 +99,8 @@ reading-low size wide n fits = elim (sign-of size n fits) [
     cut_of word k m small e = omega (arith, small, e)
     cut_of long k m small e = omega (arith, small, e)
 
-    down : (size wide : Size) → n < 2 ^ bits size → 2 ^ (bits size - 1) ≤ n → extended_bits (reading_type size) (reading_bits size n) % 2 ^ bits wide ≡ 2 ^ bits wide - 1 - (2 ^ bits size - 1 - n) % 2 ^ bits wide
+    down : (size wide : Size) → n < 2 ^ bits size → 2 ^ (bits size - 1) ≤ n → extended_bits (reading_type size) (reading_bits size n) % 2 ^ bits wide
+        ≡ 2 ^ bits wide - 1 - (2 ^ bits size - 1 - n) % 2 ^ bits wide
     down bit wide fits high = let one : n ≡ 1 = omega (arith, fits, high) in rw one (cut_of wide 0 4294967295 (omega arith) refl)
     down byte wide fits high = ap (λ b. (if b then n + 4294967040 else n) % 2 ^ bits wide) (le-leb 128 n high) ∙ cut_of wide (255 - n) (n + 4294967040) (omega arith) (omega (arith, fits))
     down word wide fits high = ap (λ b. (if b then n + 4294901760 else n) % 2 ^ bits wide) (le-leb 32768 n high) ∙ cut_of wide (65535 - n) (n + 4294901760) (omega arith) (omega (arith, fits))

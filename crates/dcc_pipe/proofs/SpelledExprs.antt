@@ -37,7 +37,9 @@ suffix-chosen n base false false true one two three any = three
 suffix-chosen n base false false false one two three any = any
 
 -- the number has a suffix that gives the type
-suffix-found : (n : ℕ) (base : Base) → (suffix_gives n base plain_number || suffix_gives n base unsigned_suffix || suffix_gives n base long_suffix || suffix_gives n base unsigned_long_suffix) ≡ true → suffix_gives n base (suffix_for n base) ≡ true
+suffix-found : (n : ℕ) (base : Base)
+    → (suffix_gives n base plain_number || suffix_gives n base unsigned_suffix || suffix_gives n base long_suffix || suffix_gives n base unsigned_long_suffix)
+    ≡ true → suffix_gives n base (suffix_for n base) ≡ true
 suffix-found n base any = suffix-chosen n base (suffix_gives n base plain_number) (suffix_gives n base unsigned_suffix) (suffix_gives n base long_suffix) refl refl refl any
 
 or_second : (a b c d : Bool) → b ≡ true → (a || b || c || d) ≡ true
@@ -55,7 +57,9 @@ or_last false true c = refl
 or_last false false true = refl
 or_last false false false = refl
 
-number-spelled : (n : ℕ) (base : Base) → n < 4294967296 → (suffix_gives n base plain_number || suffix_gives n base unsigned_suffix || suffix_gives n base long_suffix || suffix_gives n base unsigned_long_suffix) ≡ true → IsSpelled 1 (Number n base)
+number-spelled : (n : ℕ) (base : Base) → n < 4294967296
+    → (suffix_gives n base plain_number || suffix_gives n base unsigned_suffix || suffix_gives n base long_suffix || suffix_gives n base unsigned_long_suffix)
+    ≡ true → IsSpelled 1 (Number n base)
 number-spelled n base fits any = record {
   writable = and_from (is_small n) (suffix_gives n base (suffix_for n base)) (le-leb n 4294967295 (omega (arith, fits))) (suffix-found n base any);
   shallow = omega arith;
@@ -193,7 +197,8 @@ part-spelled d width first a few x = by (first == 0)
   where
     by : (b : Bool) → IsSpelled (suc d + 5) (cut width (if b then a else Binary ShiftRight a (small first)))
     by true = deeper _ (suc d + 5) (cut width a) (omega arith) (cut-spelled (suc d) width a x)
-    by false = deeper _ (suc d + 5) (cut width (Binary ShiftRight a (small first))) (omega arith) (cut-spelled (suc (suc d)) width (Binary ShiftRight a (small first)) (binary-spelled (suc d) ShiftRight a (small first) x (small-in d first few)))
+    by false = deeper _ (suc d + 5) (cut width (Binary ShiftRight a (small first))) (omega arith)
+        (cut-spelled (suc (suc d)) width (Binary ShiftRight a (small first)) (binary-spelled (suc d) ShiftRight a (small first) x (small-in d first few)))
 
 pub joined-spelled : (d width : ℕ) (high low : Expr) → width < 32768 → IsSpelled d high → IsSpelled d low → IsSpelled (d + 5) (joined width high low)
 joined-spelled d width high low few x y =

@@ -21,44 +21,20 @@ use Rattle.dcc_c.specs.Tree.{Number}
 use Rattle.dcc_c.specs.Grammar.{is_name}
 use Rattle.dcc_c.specs.Typing.{type_of}
 use Rattle.dcc_c.specs.Value.{declared_by}
-use Rattle.dcc_pipe.specs.Variables.{variable_name}
+use Rattle.dcc_pipe.specs.Variables.{locations, variable_name}
 use Rattle.dcc_pipe.specs.GotoExpr.{bits_in, constant_type, text_expr}
 use Rattle.dcc_pipe.proofs.Sizes.{Size, bit, byte, word, long, bits, size-of}
-use Rattle.dcc_pipe.proofs.Places.{IsPlace, AtEach, at-place, bindings_of}
+use Rattle.dcc_pipe.proofs.Places.{IsPlace, same-at, bindings_of}
 use Rattle.dcc_pipe.proofs.ExprMeanings.{AreHeld, Stands, expr-stands}
 use Rattle.dcc_pipe.proofs.SpelledExprs.{IsSpelled, deeper, constant-spelled, unary-spelled, operator-spelled, widened-spelled, part-spelled, joined-spelled, chosen-spelled}
 
 -- names of variables are names
-names-each : AtEach (λ location. is_name (variable_name location) ≡ true)
+names-all : map (λ location. is_name (variable_name location)) locations ≡ map (λ location. true) locations
 unfolding digits
-names-each = record {
-  al = refl;
-  ah = refl;
-  cl = refl;
-  ch = refl;
-  dl = refl;
-  dh = refl;
-  bl = refl;
-  bh = refl;
-  si_low = refl;
-  si_high = refl;
-  di_low = refl;
-  di_high = refl;
-  cf = refl;
-  zf = refl;
-  sf = refl;
-  of = refl;
-  left_byte = refl;
-  right_byte = refl;
-  result_byte = refl;
-  left_word = refl;
-  right_word = refl;
-  result_word = refl;
-  product = refl;
-}
+names-all = refl
 
 pub name-is : (location : Loc) → IsPlace location → is_name (variable_name location) ≡ true
-name-is location is = at-place (λ location. is_name (variable_name location) ≡ true) names-each location is
+name-is location is = same-at (λ location. is_name (variable_name location)) (λ location. true) names-all location is
 
 -- Types, told while each variable holds 0.
 
@@ -71,7 +47,8 @@ zeros-held location is = pow_pos (location_width temporary_bits location)
 zero-stands : (e : inner.Expr) → is_expr temporary_bits e ≡ true → list_all is_lifted_part (parts_of e) ≡ true → Stands zeros [] 0 zeros-held [] e
 zero-stands e formed lifted = expr-stands zeros [] 0 zeros-held [] e formed lifted
 
-pub expr-typed : (e : inner.Expr) → is_expr temporary_bits e ≡ true → list_all is_lifted_part (parts_of e) ≡ true → (base : Base) × (type_of (map declared_by (bindings_of zeros)) (text_expr e) ≡ Some (plain base))
+pub expr-typed : (e : inner.Expr) → is_expr temporary_bits e ≡ true → list_all is_lifted_part (parts_of e) ≡ true → (base : Base)
+    × (type_of (map declared_by (bindings_of zeros)) (text_expr e) ≡ Some (plain base))
 expr-typed e formed lifted =
     let x = zero-stands e formed lifted in
     (x.means.base, x.means.number_is.typed)
@@ -114,7 +91,8 @@ expr-spelled (inner.Unary operator width a) formed lifted =
     let x = deeper d (suc d) (text_expr a) (omega arith) (expr-spelled a below lifted) in
     deeper (suc d + 5) (6 * suc (depth_of a)) (text_expr (inner.Unary operator width a)) (omega arith) (unary-spelled d operator width (text_expr a) x)
 expr-spelled (inner.Binary operator width a b) formed lifted =
-    let (five, safe) = and_parts (is_width width && is_expr temporary_bits a && is_expr temporary_bits b && (width_of temporary_bits a == width) && (width_of temporary_bits b == width)) (not (is_division operator) || divides_safely operator width b) formed in
+    let (five, safe) = and_parts (is_width width && is_expr temporary_bits a && is_expr temporary_bits b && (width_of temporary_bits a == width)
+        && (width_of temporary_bits b == width)) (not (is_division operator) || divides_safely operator width b) formed in
     let (four, second_width) = and_parts (is_width width && is_expr temporary_bits a && is_expr temporary_bits b && (width_of temporary_bits a == width)) (width_of temporary_bits b == width) five in
     let (three, first_width) = and_parts (is_width width && is_expr temporary_bits a && is_expr temporary_bits b) (width_of temporary_bits a == width) four in
     let (two, second) = and_parts (is_width width && is_expr temporary_bits a) (is_expr temporary_bits b) three in
@@ -139,7 +117,9 @@ expr-spelled (inner.Part width first a) formed lifted =
     let x = deeper d (suc d) (text_expr a) (omega arith) (expr-spelled a below lifted) in
     deeper (suc d + 5) (6 * suc (depth_of a)) (text_expr (inner.Part width first a)) (omega arith) (part-spelled d width first (text_expr a) few x)
 expr-spelled (inner.Join high low) formed lifted =
-    let (three, halves) = and_parts (is_expr temporary_bits high && is_expr temporary_bits low && (width_of temporary_bits high == width_of temporary_bits low)) (width_of temporary_bits low == 8 || width_of temporary_bits low == 16) formed in
+    let (three, halves) = and_parts
+        (is_expr temporary_bits high && is_expr temporary_bits low && (width_of temporary_bits high == width_of temporary_bits low))
+        (width_of temporary_bits low == 8 || width_of temporary_bits low == 16) formed in
     let (two, same) = and_parts (is_expr temporary_bits high && is_expr temporary_bits low) (width_of temporary_bits high == width_of temporary_bits low) three in
     let (upper, lower) = and_parts (is_expr temporary_bits high) (is_expr temporary_bits low) two in
     let parts = both_lifted (parts_of high) (parts_of low) lifted in
@@ -150,7 +130,8 @@ expr-spelled (inner.Join high low) formed lifted =
     let y = deeper (6 * depth_of low) (6 * d) (text_expr low) (low_right (depth_of high) (depth_of low)) (expr-spelled low lower parts.1) in
     deeper (6 * d + 5) (6 * suc d) (text_expr (inner.Join high low)) (level d) (joined-spelled (6 * d) (bits_in low) (text_expr high) (text_expr low) few x y)
 expr-spelled (inner.Choose test a b) formed lifted =
-    let (four, same) = and_parts (is_expr temporary_bits test && is_expr temporary_bits a && is_expr temporary_bits b && (width_of temporary_bits test == 1)) (width_of temporary_bits a == width_of temporary_bits b) formed in
+    let (four, same) = and_parts (is_expr temporary_bits test && is_expr temporary_bits a && is_expr temporary_bits b && (width_of temporary_bits test == 1))
+        (width_of temporary_bits a == width_of temporary_bits b) formed in
     let (three, one) = and_parts (is_expr temporary_bits test && is_expr temporary_bits a && is_expr temporary_bits b) (width_of temporary_bits test == 1) four in
     let (two, third) = and_parts (is_expr temporary_bits test && is_expr temporary_bits a) (is_expr temporary_bits b) three in
     let (first, second) = and_parts (is_expr temporary_bits test) (is_expr temporary_bits a) two in

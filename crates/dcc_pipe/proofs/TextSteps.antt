@@ -76,7 +76,8 @@ module _ (lo hi : ℕ) (functions : List Function) (f : Function) (base fill : �
         ∙ ap (λ k. text_state lines (with_value values location k) memory input out) same
 
     -- an assignment
-    assigned : (location : Loc) (e : Expr) (a : Base) (n m : ℕ) → IsPlace location → IsNumber (scope_with values memory) a n e → convert a (unsigned_type (location_width temporary_bits location)) n ≡ m
+    assigned : (location : Loc) (e : Expr) (a : Base) (n m : ℕ) → IsPlace location → IsNumber (scope_with values memory) a n e
+        → convert a (unsigned_type (location_width temporary_bits location)) n ≡ m
         → step text (text_state (line (Assign (place_of location) e) at lines) values memory input out) ≡ text_state lines (with_value values location m) memory input out
     assigned location e a n m is gives same =
         let s = text_state lines values memory input out in
@@ -115,7 +116,8 @@ module _ (lo hi : ℕ) (functions : List Function) (f : Function) (base fill : �
     goto-step name to found = ap (λ o. jump_step o at (text_state lines values memory input out)) found
 
     -- a test that chooses between two jumps
-    pub if-step : (e : Expr) (n i j : ℕ) (one other : Word) (to : Lines) → Means (scope_with values memory) bit n e → after_goto f (if n == 0 then other else one) ≡ Some (runs to (ends_function f.last))
+    pub if-step : (e : Expr) (n i j : ℕ) (one other : Word) (to : Lines) → Means (scope_with values memory) bit n e
+        → after_goto f (if n == 0 then other else one) ≡ Some (runs to (ends_function f.last))
         → after (step text) 2 (text_state (line (If e (line (Goto one) i no_lines) (line (Goto other) j no_lines)) at lines) values memory input out) ≡ text_state to values memory input out
     if-step e n i j one other to x found =
         let s = text_state lines values memory input out in
@@ -123,7 +125,8 @@ module _ (lo hi : ℕ) (functions : List Function) (f : Function) (base fill : �
         ∙ by (n == 0) found
       where
         by : (zero_is : Bool) → after_goto f (if zero_is then other else one) ≡ Some (runs to (ends_function f.last))
-            → step text (goes_on (runs (if zero_is then line (Goto other) j no_lines else line (Goto one) i no_lines) (runs lines (ends_function f.last))) (text_state lines values memory input out)) ≡ text_state to values memory input out
+            → step text (goes_on (runs (if zero_is then line (Goto other) j no_lines else line (Goto one) i no_lines) (runs lines (ends_function f.last)))
+                (text_state lines values memory input out)) ≡ text_state to values memory input out
         by true found = ap (λ o. jump_step o j (goes_on (runs no_lines (runs lines (ends_function f.last))) (text_state lines values memory input out))) found
         by false found = ap (λ o. jump_step o i (goes_on (runs no_lines (runs lines (ends_function f.last))) (text_state lines values memory input out))) found
 
@@ -142,8 +145,11 @@ module _ (lo hi : ℕ) (functions : List Function) (f : Function) (base fill : �
           ap (λ bs. record (text_state lines values memory input' out') { frame = record { function = f; base = base; variables = bs } }) (variable-assigned values location is (number Uchar n))
           ∙ ap (λ k. text_state lines (with_value values location k) memory input' out') (ap (λ w. convert Uchar (unsigned_type w) n) width ∙ mod-eq_of_lt small)
 
-      key-step : (dos : Dos) (echo : Bool) → ((target : Option Target) → dos_step dos target [] at (text_state lines values memory input out) ≡ key_step echo input target at (text_state lines values memory input out)) → key_of input < 256
-          → on (result_target (scope_with values memory) (Some (place_of location))) at (text_state lines values memory input out) (λ target. dos_step dos target [] at (text_state lines values memory input out))
+      key-step : (dos : Dos) (echo : Bool)
+          → ((target : Option Target) → dos_step dos target [] at (text_state lines values memory input out)
+          ≡ key_step echo input target at (text_state lines values memory input out)) → key_of input < 256
+          → on (result_target (scope_with values memory) (Some (place_of location))) at (text_state lines values memory input out)
+              (λ target. dos_step dos target [] at (text_state lines values memory input out))
           ≡ text_state lines (with_value values location (key_of input)) memory (left_of input) (out ++ echo_of echo input)
       key-step dos echo does small =
           let s = text_state lines values memory input out in

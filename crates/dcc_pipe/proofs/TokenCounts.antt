@@ -67,7 +67,8 @@ mutual
   block-short : {limit : ℕ} {around : Around} {depth after : ℕ} {tokens rest : List Placed} {lines : Lines} → IsBlock limit around depth tokens lines after rest → length rest < length tokens
   block-short (block lines) = omega (arith, lines-count lines)
 
-  lines-count : {limit : ℕ} {around : Around} {labelled : Bool} {depth after : ℕ} {tokens rest : List Placed} {lines : Lines} → AreLines limit around labelled depth tokens lines after rest → count_of lines + length rest ≤ length tokens
+  lines-count : {limit : ℕ} {around : Around} {labelled : Bool} {depth after : ℕ} {tokens rest : List Placed} {lines : Lines}
+      → AreLines limit around labelled depth tokens lines after rest → count_of lines + length rest ≤ length tokens
   lines-count no_more = omega arith
   lines-count (depth_pragma few lines) = omega (arith, lines-count lines)
   lines-count (label word is few lines) = omega (arith, lines-count lines)
@@ -123,6 +124,8 @@ globals-short no_global = omega arith
 globals-short (placed_at g) = omega (arith, globals-short g)
 
 -- the first function of a text without global variables
-pub unit-count : (limit : ℕ) (tokens : List Placed) (tree : Tree) (f : Function) (others : List Function) → IsUnit limit tokens tree → tree.globals ≡ [] → tree.functions ≡ f ∷ others → count_of f.body + 4 ≤ length tokens
+pub unit-count : (limit : ℕ) (tokens : List Placed) (tree : Tree) (f : Function) (others : List Function) → IsUnit limit tokens tree → tree.globals ≡ []
+    → tree.functions ≡ f ∷ others → count_of f.body + 4 ≤ length tokens
 unit-count limit tokens tree f others unit no_globals functions =
-    omega (arith, ap length unit.head_is, globals-short (subst (λ gs. AreGlobals None unit.globals gs unit.functions) no_globals unit.globals_are), first-count (subst (AreFunctions limit unit.functions) functions unit.functions_are))
+    omega (arith, ap length unit.head_is, globals-short (subst (λ gs. AreGlobals None unit.globals gs unit.functions) no_globals unit.globals_are), first-count
+        (subst (AreFunctions limit unit.functions) functions unit.functions_are))

@@ -26,10 +26,12 @@ record IsVisited {S P : Type 0} (first : System S) (s : S) (n : ℕ) (v : Visit 
 later : {S P : Type 0} (first : System S) (s : S) (n m : ℕ) (v : Visit P) → n ≤ suc m → IsVisited first (first.step s) m v → IsVisited first s n v
 later first s n m v low x = record { at = suc x.at; late = omega (arith, low, x.late); out = x.out; runs = x.runs }
 
-visited : {S P : Type 0} (kept : P → Bool) (first : System S) (mark : S → Option P) (count n : ℕ) (s : S) (v : Visit P) → slice_get (visits_of kept (visits first mark count s)) n ≡ Some v → IsVisited first s n v
+visited : {S P : Type 0} (kept : P → Bool) (first : System S) (mark : S → Option P) (count n : ℕ) (s : S) (v : Visit P)
+    → slice_get (visits_of kept (visits first mark count s)) n ≡ Some v → IsVisited first s n v
 visited kept first mark zero n s v is = absurd cc
 visited {S} {P} kept first mark (suc count) n s v is =
-    by (is_over (first.end s)) (mark s) refl (λ m. visited kept first mark count m (first.step s) v) (sym (ap (λ l. slice_get l n) (visits_of-append kept (visit_of first mark s) (visits first mark count (first.step s)))) ∙ is)
+    by (is_over (first.end s)) (mark s) refl (λ m. visited kept first mark count m (first.step s) v)
+        (sym (ap (λ l. slice_get l n) (visits_of-append kept (visit_of first mark s) (visits first mark count (first.step s)))) ∙ is)
   where
     -- with a kept visit here
     one : (n : ℕ) (place : P) → is_over (first.end s) ≡ false → ((m : ℕ) → slice_get (visits_of kept (visits first mark count (first.step s))) m ≡ Some v → IsVisited first (first.step s) m v)
@@ -49,7 +51,8 @@ visited {S} {P} kept first mark (suc count) n s v is =
     by false (Some place) e onward there = kept_or (kept place) place e onward there
 
 -- where each step is a visit, the last of the first n + 1 visits is of the state after n steps
-last-visit : {T P : Type 0} (second : System T) (mark : T → Option P) (n : ℕ) (t : T) → ((m : ℕ) → m ≤ n → (is_over (end_after second m t) ≡ false) × ((place : P) × (mark (after second.step m t) ≡ Some place)))
+last-visit : {T P : Type 0} (second : System T) (mark : T → Option P) (n : ℕ) (t : T)
+    → ((m : ℕ) → m ≤ n → (is_over (end_after second m t) ≡ false) × ((place : P) × (mark (after second.step m t) ≡ Some place)))
     → (v : Visit P) × (slice_get (visits second mark (suc n) t) n ≡ Some v) × (v.out ≡ out_after second n t)
 last-visit second mark zero t each =
     let (runs, marked) = each 0 (omega arith) in
@@ -59,10 +62,13 @@ last-visit second mark (suc n) t each =
     let x = last-visit second mark n (second.step t) (λ m low. each (suc m) (omega (arith, low))) in
     (x.0, ap₂ (λ b m. slice_get ((if b then [] else visit_at second t m) ++ visits second mark (suc n) (second.step t)) (suc n)) runs marked.1 ∙ x.1, x.2)
 
-module _ {S T P : Type 0} (kept : P → Bool) (first : System S) (mark : S → Option P) (s : S) (second : System T) (other_mark : T → Option P) (t : T) (law : IsLawful first) (other_law : IsLawful second) (visits_kept : VisitsKept kept first mark s second other_mark t) (marked : (m : ℕ) → is_over (end_after second m t) ≡ false → (place : P) × (other_mark (after second.step m t) ≡ Some place)) where
+module _ {S T P : Type 0} (kept : P → Bool) (first : System S) (mark : S → Option P) (s : S) (second : System T) (other_mark : T → Option P) (t : T)
+    (law : IsLawful first) (other_law : IsLawful second) (visits_kept : VisitsKept kept first mark s second other_mark t)
+    (marked : (m : ℕ) → is_over (end_after second m t) ≡ false → (place : P) × (other_mark (after second.step m t) ≡ Some place)) where
   -- a run that is not over was not over before
   earlier : (m n : ℕ) → m ≤ n → is_over (end_after second n t) ≡ false → is_over (end_after second m t) ≡ false
-  earlier m n low runs = false_from_ne_true (is_over (end_after second m t)) (λ over. true≢false (sym over ∙ ap (λ u. is_over (second.end u)) (sym (over_stays second other_law m n t low over)) ∙ runs))
+  earlier m n low runs = false_from_ne_true (is_over (end_after second m t))
+      (λ over. true≢false (sym over ∙ ap (λ u. is_over (second.end u)) (sym (over_stays second other_law m n t low over)) ∙ runs))
 
   -- two numbers of steps after both of which the run is over give the same state
   both_stay : (m n : ℕ) → is_over (end_after first m s) ≡ true → is_over (end_after first n s) ≡ true → after first.step m s ≡ after first.step n s

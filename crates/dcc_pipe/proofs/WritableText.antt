@@ -56,7 +56,8 @@ exit-unlabelled blocks (inner.Switch e places) = refl
 exit-unlabelled blocks (inner.Ret values) = refl
 exit-unlabelled blocks inner.Stop = refl
 
-stmts-labels : (blocks : List inner.Block) (exit : inner.Exit) (stmts : List inner.Stmt) (others : List Stmt) → labels_among (map text_stmt stmts ++ text_exit blocks exit ∷ others) ≡ labels_among others
+stmts-labels : (blocks : List inner.Block) (exit : inner.Exit) (stmts : List inner.Stmt) (others : List Stmt)
+    → labels_among (map text_stmt stmts ++ text_exit blocks exit ∷ others) ≡ labels_among others
 stmts-labels blocks exit [] others = labels-none (text_exit blocks exit) others (exit-unlabelled blocks exit)
 stmts-labels blocks exit (stmt ∷ stmts) others = labels-none (text_stmt stmt) (map text_stmt stmts ++ text_exit blocks exit ∷ others) (stmt-unlabelled stmt) ∙ stmts-labels blocks exit stmts others
 
@@ -83,7 +84,8 @@ labels-apart [] below differ = refl
 labels-apart (b ∷ blocks) below differ =
     let (front, others) = and_parts (not (list_any (λ m. b.at == m) (map (λ b. b.at) blocks))) (formed.all_differ (map (λ b. b.at) blocks)) differ in
     and_from (not (is_among (labels_of blocks) (label_name b.at))) (all_differ (labels_of blocks))
-    (not_from_false (is_among (labels_of blocks) (label_name b.at)) (label-apart b.at blocks (below 0 b refl) (λ k. below (suc k)) (not-true (list_any (λ m. b.at == m) (map (λ b. b.at) blocks)) front)))
+    (not_from_false (is_among (labels_of blocks) (label_name b.at))
+        (label-apart b.at blocks (below 0 b refl) (λ k. below (suc k)) (not-true (list_any (λ m. b.at == m) (map (λ b. b.at) blocks)) front)))
     (labels-apart blocks (λ k. below (suc k)) others)
 
 -- What does not depend on the program.
@@ -105,7 +107,8 @@ own-names : all_differ (names_of (map variable locations) ++ (codes "start" ∷ 
 unfolding digits
 own-names = refl
 
-module _ (p : inner.Program) (g : inner.Graph) (one : p.graphs ≡ g ∷ []) (is : IsGotoGraph g.blocks) (shallow : AreShallow (flat_map block_exprs g.blocks)) (lo_fits : p.lo ≤ 65535) (hi_fits : p.hi ≤ 65535) where
+module _ (p : inner.Program) (g : inner.Graph) (one : p.graphs ≡ g ∷ []) (is : IsGotoGraph g.blocks) (shallow : AreShallow (flat_map block_exprs g.blocks))
+    (lo_fits : p.lo ≤ 65535) (hi_fits : p.hi ≤ 65535) where
   abbrev start : Function
   start = goto_start p.graphs
 
@@ -146,7 +149,8 @@ module _ (p : inner.Program) (g : inner.Graph) (one : p.graphs ≡ g ∷ []) (is
     version = refl;
     globals = refl;
     functions = and_from (is_writable_function start) true
-        (and_from (list_all is_writable_local (map variable locations)) (are_writable_lines outermost false start.body) locals-writable (fine-writable tree start names-are (labels_of g.blocks) whole-fine)) refl;
+        (and_from (list_all is_writable_local (map variable locations)) (are_writable_lines outermost false start.body) locals-writable
+            (fine-writable tree start names-are (labels_of g.blocks) whole-fine)) refl;
     allowed = record {
       start = start;
       others = [];

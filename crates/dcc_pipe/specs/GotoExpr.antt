@@ -1,5 +1,5 @@
--- The expressions of a lifted program as expressions of a text. At 1 and at 8 bits their values are small numbers of type
--- `unsigned char` or `int`, at 16 bits they have type `unsigned int`, and at 32 bits `unsigned long`.
+-- The expressions of a lifted program as expressions of a text. At 1 and at 8 bits their values are small numbers of
+-- type `unsigned char` or `int`, at 16 bits they have type `unsigned int`, and at 32 bits `unsigned long`.
 use Rattle.std.specs.Prelude.{ℕ, ◌+◌, ◌==◌, nat_le, Bool, if◌then◌else◌}
 use Rattle.dcc_ir.specs.declared.syntax.UnOp.{UnOp}
 use Rattle.dcc_ir.specs.declared.syntax.UnOp.TheVariants.{Neg, Not, IsZero}

@@ -1,4 +1,4 @@
--- The text of a lifted program: each block stands behind its label, and jumps lead to others.
+-- The text of a lifted program: each block stands after its label, and jumps lead to others.
 use Rattle.std.specs.Prelude.{ℕ, ◌/◌, ◌%◌, ◌==◌, false, if◌then◌else◌, List, [], ◌∷◌, ◌++◌, map, flat_map, codes, slice_get, Some, None, option_map, option_to_list}
 use Rattle.std.specs.Fmt.{digit_glyph}
 use Rattle.dcc_ir.specs.declared.syntax.Loc.{Loc}
@@ -17,7 +17,12 @@ hex_digit n = digit_glyph false n
 -- the label of the block at an address, below 65536: four digits in hexadecimal
 abbrev pub label_name : ℕ → Word
 label_name at =
-    codes "L_" ++ (hex_digit (at / 4096 % 16) ∷ hex_digit (at / 256 % 16) ∷ hex_digit (at / 16 % 16) ∷ hex_digit (at % 16) ∷ [])
+    codes "L_"
+    ++ (hex_digit (at / 4096 % 16)
+    ∷ hex_digit (at / 256 % 16)
+    ∷ hex_digit (at / 16 % 16)
+    ∷ hex_digit (at % 16)
+    ∷ [])
 
 -- the label of the block at a place in the graph
 abbrev pub label_at : List inner.Block → ℕ → Word
@@ -36,7 +41,8 @@ dos_function number =
     else if number == 0x01 then dos_name Getche
     else dos_name Getch
 
--- The statement of a statement. No call of the program's own functions stands in the text, so the depth of calls stays 2.
+-- The statement of a statement. No call of the program's own functions stands in the text, so the depth of calls stays
+-- 2.
 abbrev pub text_stmt : inner.Stmt → Stmt
 text_stmt (inner.Set location e) = Assign (place_of location) (text_expr e)
 text_stmt (inner.Dos number place argument) =

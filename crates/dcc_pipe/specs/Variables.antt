@@ -27,7 +27,7 @@ locations =
     ∷ Flag Cf ∷ Flag Zf ∷ Flag Sf ∷ Flag Of
     ∷ Temp 0 ∷ Temp 1 ∷ Temp 2 ∷ Temp 3 ∷ Temp 4 ∷ Temp 5 ∷ Temp 6 ∷ []
 
--- the place of a register among those whose halves have variables; SP and BP come behind
+-- the place of a register among those whose halves have variables; SP and BP come after
 abbrev pub place_among : Reg → ℕ
 place_among Ax = 0
 place_among Cx = 1

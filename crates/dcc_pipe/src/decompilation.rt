@@ -18,7 +18,7 @@ use dcc_procs::find;
 use dcc_prog::{Image, Layout, Proc, Refusal};
 use std::alloc::{AllocError, Global};
 
-/// The text of a program whose layout and procedures are found.
+// The text of a program whose layout and procedures are found.
 fn text_of(
     alloc: Global,
     image: &Image,

@@ -14,14 +14,14 @@ use dcc_c::{Base, CBin, CExpr, CType, CUn};
 use dcc_ir::{BinOp, Expr, UnOp};
 use std::alloc::{AllocError, Global};
 
-/// Whether an operator gives one bit.
+// Whether an operator gives one bit.
 fn is_test(operator: UnOp) -> bool
     ensures { result ≡ is_test operator }
 {
     operator == UnOp::IsZero
 }
 
-/// Whether an operator gives one bit.
+// Whether an operator gives one bit.
 fn is_comparison(operator: BinOp) -> bool
     ensures { result ≡ is_comparison operator }
 {
@@ -31,7 +31,7 @@ fn is_comparison(operator: BinOp) -> bool
     )
 }
 
-/// How many bits an expression has.
+// How many bits an expression has.
 fn bits_in(e: &Expr) -> u8
     ensures { result ≡ spec.bits_in (inner_of e.now) }
 {
@@ -57,14 +57,14 @@ fn bits_in(e: &Expr) -> u8
     }
 }
 
-/// A small number.
+// A small number.
 fn small(n: u8) -> CExpr
     ensures { expr_of result ≡ spec.small n }
 {
     CExpr::Num(u32::from(n), Base::Int)
 }
 
-/// The type of a constant of so many bits.
+// The type of a constant of so many bits.
 fn constant_type(width: u8) -> Base
     ensures { result ≡ spec.constant_type width }
 {
@@ -75,14 +75,14 @@ fn constant_type(width: u8) -> Base
     }
 }
 
-/// An operator on one operand.
+// An operator on one operand.
 fn unary(alloc: Global, operator: CUn, a: CExpr) -> Result<CExpr, AllocError>
     ensures { IfOk result (λ e. expr_of e ≡ tree.Unary operator (expr_of a)) }
 {
     Ok(CExpr::Un(operator, Box::new(alloc, a)?))
 }
 
-/// An operator on two operands.
+// An operator on two operands.
 fn binary(alloc: Global, operator: CBin, a: CExpr, b: CExpr) -> Result<CExpr, AllocError>
     ensures { IfOk result (λ e. expr_of e ≡ tree.Binary operator (expr_of a) (expr_of b)) }
 {
@@ -91,14 +91,14 @@ fn binary(alloc: Global, operator: CBin, a: CExpr, b: CExpr) -> Result<CExpr, Al
     Ok(CExpr::Bin(operator, a, b))
 }
 
-/// A value as one of a number type.
+// A value as one of a number type.
 fn cast(alloc: Global, base: Base, e: CExpr) -> Result<CExpr, AllocError>
     ensures { IfOk result (λ r. expr_of r ≡ tree.Cast (plain base) (expr_of e)) }
 {
     Ok(CExpr::Cast(CType::plain(base), Box::new(alloc, e)?))
 }
 
-/// The low bits of a value.
+// The low bits of a value.
 fn cut(alloc: Global, width: u8, e: CExpr) -> Result<CExpr, AllocError>
     ensures { IfOk result (λ r. expr_of r ≡ spec.cut width (expr_of e)) }
 {
@@ -110,7 +110,7 @@ fn cut(alloc: Global, width: u8, e: CExpr) -> Result<CExpr, AllocError>
     }
 }
 
-/// The low bits of what an operator gives, where the type in which it reckons is wider.
+// The low bits of what an operator gives, where the type in which it reckons is wider.
 fn wrapped(alloc: Global, width: u8, e: CExpr) -> Result<CExpr, AllocError>
     ensures { IfOk result (λ r. expr_of r ≡ spec.wrapped width (expr_of e)) }
 {
@@ -121,7 +121,7 @@ fn wrapped(alloc: Global, width: u8, e: CExpr) -> Result<CExpr, AllocError>
     }
 }
 
-/// The value as a signed number.
+// The value as a signed number.
 fn signed_reading(alloc: Global, width: u8, e: CExpr) -> Result<CExpr, AllocError>
     ensures { IfOk result (λ r. expr_of r ≡ spec.signed_reading width (expr_of e)) }
 {
@@ -132,7 +132,7 @@ fn signed_reading(alloc: Global, width: u8, e: CExpr) -> Result<CExpr, AllocErro
     }
 }
 
-/// An operator of a program on one operand.
+// An operator of a program on one operand.
 fn unary_expr(alloc: Global, operator: UnOp, width: u8, a: CExpr) -> Result<CExpr, AllocError>
     ensures { IfOk result (λ r. expr_of r ≡ spec.unary_expr operator width (expr_of a)) }
 {
@@ -144,7 +144,7 @@ fn unary_expr(alloc: Global, operator: UnOp, width: u8, a: CExpr) -> Result<CExp
     }
 }
 
-/// An operator on two operands whose result is cut to their width.
+// An operator on two operands whose result is cut to their width.
 fn wrapped_binary(
     alloc: Global,
     operator: CBin,
@@ -157,7 +157,7 @@ fn wrapped_binary(
     wrapped(alloc, width, binary(alloc, operator, a, b)?)
 }
 
-/// A comparison of two signed numbers.
+// A comparison of two signed numbers.
 fn signed_binary(
     alloc: Global,
     operator: CBin,
@@ -173,7 +173,7 @@ fn signed_binary(
     binary(alloc, operator, a, b)
 }
 
-/// A right shift of a signed number.
+// A right shift of a signed number.
 fn signed_shift(alloc: Global, width: u8, a: CExpr, b: CExpr) -> Result<CExpr, AllocError>
     ensures { IfOk result (λ r. expr_of r
         ≡ spec.cut width (tree.Binary CBin.Shr (spec.signed_reading width (expr_of a)) (expr_of b))) }
@@ -182,7 +182,7 @@ fn signed_shift(alloc: Global, width: u8, a: CExpr, b: CExpr) -> Result<CExpr, A
     cut(alloc, width, binary(alloc, CBin::Shr, a, b)?)
 }
 
-/// An operator of a program on two operands.
+// An operator of a program on two operands.
 fn binary_expr(
     alloc: Global,
     operator: BinOp,
@@ -211,7 +211,7 @@ fn binary_expr(
     }
 }
 
-/// A value of fewer bits in the type of so many.
+// A value of fewer bits in the type of so many.
 fn widened(alloc: Global, signed: bool, from: u8, width: u8, e: CExpr) -> Result<CExpr, AllocError>
     ensures { IfOk result (λ r. expr_of r ≡ spec.widened signed from width (expr_of e)) }
 {
@@ -223,7 +223,7 @@ fn widened(alloc: Global, signed: bool, from: u8, width: u8, e: CExpr) -> Result
     }
 }
 
-/// So many bits from that bit on.
+// So many bits from that bit on.
 fn part(alloc: Global, width: u8, first: u8, e: CExpr) -> Result<CExpr, AllocError>
     ensures { IfOk result (λ r. expr_of r ≡ spec.part_expr width first (expr_of e)) }
 {
@@ -234,7 +234,7 @@ fn part(alloc: Global, width: u8, first: u8, e: CExpr) -> Result<CExpr, AllocErr
     }
 }
 
-/// The unsigned type of twice so many bits.
+// The unsigned type of twice so many bits.
 fn double_type(width: u8) -> Base
     ensures { result ≡ variables.unsigned_type (width + width) }
 {
@@ -247,7 +247,7 @@ fn double_type(width: u8) -> Base
     }
 }
 
-/// Two halves of so many bits each.
+// Two halves of so many bits each.
 fn joined(alloc: Global, width: u8, high: CExpr, low: CExpr) -> Result<CExpr, AllocError>
     ensures { IfOk result (λ r. expr_of r ≡ spec.joined width (expr_of high) (expr_of low)) }
 {
@@ -256,7 +256,7 @@ fn joined(alloc: Global, width: u8, high: CExpr, low: CExpr) -> Result<CExpr, Al
     binary(alloc, CBin::Or, high, low)
 }
 
-/// The first expression where the test is not 0, else the second.
+// The first expression where the test is not 0, else the second.
 fn conditional(alloc: Global, test: CExpr, a: CExpr, b: CExpr) -> Result<CExpr, AllocError>
     ensures { IfOk result (λ r. expr_of r ≡ tree.Conditional (expr_of test) (expr_of a) (expr_of b)) }
 {

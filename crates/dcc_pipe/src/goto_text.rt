@@ -15,10 +15,10 @@ use dcc_ir::{Block, End, Expr, Graph, IrProgram, Loc, Stmt};
 use dcc_num::{FlagName, dos};
 use std::alloc::{AllocError, Global};
 
-/// The depth of calls, in bytes, that is in force where no pragma stands.
+// The depth of calls, in bytes, that is in force where no pragma stands.
 const DEPTH: u32 = 2;
 
-/// A digit in hexadecimal.
+// A digit in hexadecimal.
 fn hex_digit(n: u16) -> &'static str
     requires { n < 16 }
     ensures { result.now ≡ spec.hex_digit n ∷ [] }
@@ -43,7 +43,7 @@ fn hex_digit(n: u16) -> &'static str
     }
 }
 
-/// The label of the block at an address.
+// The label of the block at an address.
 fn label_name(alloc: Global, at: u16) -> Result<String, AllocError>
     ensures { IfOk result (λ name. string_bytes name ≡ spec.label_name at) }
 {
@@ -55,7 +55,7 @@ fn label_name(alloc: Global, at: u16) -> Result<String, AllocError>
     Ok(name)
 }
 
-/// The label of the block at a place in the graph.
+// The label of the block at a place in the graph.
 fn label_at(alloc: Global, blocks: &[Block], place: u32) -> Result<String, AllocError>
     ensures { IfOk result (λ name. string_bytes name ≡ spec.label_at (map inner.block_of blocks.now) place) }
 {
@@ -65,7 +65,7 @@ fn label_at(alloc: Global, blocks: &[Block], place: u32) -> Result<String, Alloc
     }
 }
 
-/// The function that makes the DOS call of that number.
+// The function that makes the DOS call of that number.
 fn dos_function(number: u8) -> &'static str
     ensures { result.now ≡ spec.dos_function number }
 {
@@ -77,7 +77,7 @@ fn dos_function(number: u8) -> &'static str
     }
 }
 
-/// The variable that takes the byte of a DOS call, where there is one.
+// The variable that takes the byte of a DOS call, where there is one.
 fn taken(alloc: Global, place: Option<Loc>) -> Result<Option<CExpr>, AllocError>
     ensures { IfOk result (λ e. option_map expr_of e ≡ option_map spec.place_of place) }
 {
@@ -87,7 +87,7 @@ fn taken(alloc: Global, place: Option<Loc>) -> Result<Option<CExpr>, AllocError>
     }
 }
 
-/// The argument of a DOS call, where there is one.
+// The argument of a DOS call, where there is one.
 fn arguments(alloc: Global, argument: &Option<Expr>) -> Result<Vec<CExpr>, AllocError>
     ensures { IfOk result (λ es. map expr_of es.items
         ≡ map text_expr (option_to_list (option_map inner.expr_of argument.now))) }
@@ -99,7 +99,7 @@ fn arguments(alloc: Global, argument: &Option<Expr>) -> Result<Vec<CExpr>, Alloc
     Ok(arguments)
 }
 
-/// A statement of a program as one of its text.
+// A statement of a program as one of its text.
 fn text_stmt(alloc: Global, stmt: &Stmt) -> Result<CStmt, AllocError>
     ensures { IfOk result (λ r. stmt_of r ≡ spec.text_stmt (inner.stmt_of stmt.now)) }
 {
@@ -124,14 +124,14 @@ fn text_stmt(alloc: Global, stmt: &Stmt) -> Result<CStmt, AllocError>
     }
 }
 
-/// The jump to the block at a place.
+// The jump to the block at a place.
 fn jump(alloc: Global, blocks: &[Block], place: u32) -> Result<CStmt, AllocError>
     ensures { IfOk result (λ r. stmt_of r ≡ spec.jump (map inner.block_of blocks.now) place) }
 {
     Ok(CStmt::Goto(label_at(alloc, blocks, place)?))
 }
 
-/// The jump to the block at a place, in braces.
+// The jump to the block at a place, in braces.
 fn jump_inside(alloc: Global, blocks: &[Block], place: u32) -> Result<Vec<Line>, AllocError>
     ensures { IfOk result (λ lines. lines_of lines.items
         ≡ spec.uncounted (spec.jump (map inner.block_of blocks.now) place ∷ [])) }
@@ -141,7 +141,7 @@ fn jump_inside(alloc: Global, blocks: &[Block], place: u32) -> Result<Vec<Line>,
     uncounted(alloc, stmts)
 }
 
-/// The statement at the end of a block.
+// The statement at the end of a block.
 fn text_exit(alloc: Global, blocks: &[Block], end: &End) -> Result<CStmt, AllocError>
     ensures { IfOk result (λ r. stmt_of r ≡ spec.text_exit (map inner.block_of blocks.now) (inner.exit_of end.now)) }
 {
@@ -157,7 +157,7 @@ fn text_exit(alloc: Global, blocks: &[Block], end: &End) -> Result<CStmt, AllocE
     }
 }
 
-/// Appends a block: its label, its statements and its end.
+// Appends a block: its label, its statements and its end.
 fn push_block(
     alloc: Global,
     stmts: &mut Vec<CStmt>,
@@ -175,7 +175,7 @@ fn push_block(
     Ok(())
 }
 
-/// Appends the blocks of a graph.
+// Appends the blocks of a graph.
 fn push_graph(alloc: Global, stmts: &mut Vec<CStmt>, graph: &Graph) -> Result<(), AllocError>
     ensures { OnOk result (map stmt_of stmts.new.items
         ≡ map stmt_of stmts.old.items ++ spec.text_graph (inner.graph_of graph.now)) }
@@ -186,7 +186,7 @@ fn push_graph(alloc: Global, stmts: &mut Vec<CStmt>, graph: &Graph) -> Result<()
     Ok(())
 }
 
-/// The statement that leaves only the lowest bit of a flag's variable.
+// The statement that leaves only the lowest bit of a flag's variable.
 fn flag_cut(alloc: Global, flag: FlagName) -> Result<CStmt, AllocError>
     ensures { IfOk result (λ stmt. stmt_of stmt ≡ spec.flag_cut (Loc.Flag flag)) }
 {
@@ -196,7 +196,7 @@ fn flag_cut(alloc: Global, flag: FlagName) -> Result<CStmt, AllocError>
     Ok(CStmt::Assign(place, CExpr::Bin(CBin::And, a, b)))
 }
 
-/// The statements of the text.
+// The statements of the text.
 fn text_stmts(alloc: Global, graphs: &[Graph]) -> Result<Vec<CStmt>, AllocError>
     ensures { IfOk result (λ stmts. map stmt_of stmts.items ≡ spec.text_stmts (map inner.graph_of graphs.now)) }
 {
@@ -211,7 +211,7 @@ fn text_stmts(alloc: Global, graphs: &[Graph]) -> Result<Vec<CStmt>, AllocError>
     Ok(stmts)
 }
 
-/// Statements, each in a line that is not counted yet.
+// Statements, each in a line that is not counted yet.
 fn lines(alloc: Global, stmts: Vec<CStmt>) -> Result<Vec<Line>, AllocError>
     ensures { IfOk result (λ lines. lines.items ≡ map uncounted_line stmts.items) }
 {
@@ -221,7 +221,7 @@ fn lines(alloc: Global, stmts: Vec<CStmt>) -> Result<Vec<Line>, AllocError>
         .collect(alloc)
 }
 
-/// The same, as the lines of a text.
+// The same, as the lines of a text.
 #[tactic(auto, using(crate::proofs::UncountedLaws::lines_uncounted))]
 fn uncounted(alloc: Global, stmts: Vec<CStmt>) -> Result<Vec<Line>, AllocError>
     ensures { IfOk result (λ lines. lines_of lines.items ≡ spec.uncounted (map stmt_of stmts.items)) }

@@ -16,10 +16,10 @@ use dcc_print::{globals_rows, next_depth};
 use std::alloc::{AllocError, Global};
 use std::mem;
 
-/// The depth of calls that is in force where a function's body begins, in bytes.
+// The depth of calls that is in force where a function's body begins, in bytes.
 const FIRST_DEPTH: u32 = 2;
 
-/// The place behind a part of a text.
+// The place after a part of a text.
 #[derive(Clone, Copy, PartialEq, Eq, Debug)]
 struct Place {
     /// The line.
@@ -29,7 +29,7 @@ struct Place {
 }
 
 impl Place {
-    /// The place one line further on.
+    // The place one line further on.
     fn below(self) -> Result<Place, AllocError>
         ensures line { IfOk result (λ place. place.line ≡ self.line + 1) }
         ensures depth { IfOk result (λ place. place.depth ≡ self.depth) }
@@ -41,7 +41,7 @@ impl Place {
     }
 }
 
-/// The line so many lines further on. A line whose number has more than 32 bits is told as want of memory.
+// The line so many lines further on. A line whose number has more than 32 bits is told as want of memory.
 fn further(line: u32, count: usize) -> Result<u32, AllocError>
     ensures { IfOk result (λ n. n ≡ line + count) }
 {
@@ -49,7 +49,7 @@ fn further(line: u32, count: usize) -> Result<u32, AllocError>
     line.checked_add(count).ok_or(AllocError)
 }
 
-/// The line behind the pragma that changes the depth in force, where it is another.
+// The line after the pragma that changes the depth in force, where it is another.
 fn behind_pragma(depth: u32, next: u32, line: u32) -> Result<u32, AllocError>
     ensures { IfOk result (λ n. n ≡ line + rows (written_depth depth next)) }
 {
@@ -60,7 +60,7 @@ fn behind_pragma(depth: u32, next: u32, line: u32) -> Result<u32, AllocError>
     }
 }
 
-/// The depth of the call that comes next in the lines from this one on, where one does, else that in force.
+// The depth of the call that comes next in the lines from this one on, where one does, else that in force.
 fn own_depth(depth: u32, lines: &[Line], from: usize) -> u32
     requires { from < length lines.now }
     ensures { result ≡ written.next_depth depth (lines_of (drop from lines.now)) }
@@ -68,7 +68,7 @@ fn own_depth(depth: u32, lines: &[Line], from: usize) -> u32
     next_depth(depth, &lines[from..])
 }
 
-/// How many lines the cases of an arm take.
+// How many lines the cases of an arm take.
 fn cases_rows(cases: &[u16]) -> usize
     ensures count { result ≡ length cases.now }
     ensures rows { result ≡ rows (written_cases 1 cases.now) }
@@ -76,7 +76,7 @@ fn cases_rows(cases: &[u16]) -> usize
     cases.len()
 }
 
-/// The place behind an `if` whose last block ends here: behind the brace that ends the else part, where it has one.
+// The place after an `if` whose last block ends here: after the brace that ends the else part, where it has one.
 fn behind_if(end: Place, has_else: bool) -> Result<Place, AllocError>
     ensures line { IfOk result (λ place. place.line ≡ end.line + (if has_else then 1 else 0)) }
     ensures depth { IfOk result (λ place. place.depth ≡ end.depth) }
@@ -84,7 +84,7 @@ fn behind_if(end: Place, has_else: bool) -> Result<Place, AllocError>
     if has_else { end.below() } else { Ok(end) }
 }
 
-/// The depth in force behind a statement without others inside it.
+// The depth in force after a statement without others inside it.
 fn depth_behind_simple(depth: u32, stmt: &CStmt) -> u32
     ensures { result ≡ depth_behind depth (stmt_of stmt.now ∷ []) }
 {
@@ -94,7 +94,7 @@ fn depth_behind_simple(depth: u32, stmt: &CStmt) -> u32
     }
 }
 
-/// The statement, which stands in this line, with the lines inside it counted, and the place behind it.
+// The statement, which stands in this line, with the lines inside it counted, and the place after it.
 #[cycle(number)]
 fn number_stmt(depth: u32, line: u32, stmt: CStmt) -> Result<(CStmt, Place), AllocError>
     ensures numbered { are_unbroken (stmt_of stmt ∷ inner_stmts (stmt_of stmt)) ≡ true →
@@ -136,8 +136,8 @@ fn number_stmt(depth: u32, line: u32, stmt: CStmt) -> Result<(CStmt, Place), All
     }
 }
 
-/// Counts the lines of the default arm of a `switch`, whose body begins in this line where there is one. The answer is
-/// the place behind the `switch`.
+// Counts the lines of the default arm of a `switch`, whose body begins in this line where there is one. The answer is
+// the place after the `switch`.
 #[cycle(number)]
 fn number_default(depth: u32, line: u32, last: &mut Option<Arm>) -> Result<Place, AllocError>
     ensures numbered { are_unbroken (arm_stmts (arms_if last.old)) ≡ true →
@@ -152,7 +152,7 @@ fn number_default(depth: u32, line: u32, last: &mut Option<Arm>) -> Result<Place
     }
 }
 
-/// Counts the lines of arms, the first case of which stands in this line. The answer is the place behind them.
+// Counts the lines of arms, the first case of which stands in this line. The answer is the place after them.
 #[cycle(number)]
 fn number_arms(depth: u32, line: u32, arms: &mut [Arm]) -> Result<Place, AllocError>
     ensures numbered { are_unbroken (arm_stmts (arms_of arms.old)) ≡ true →
@@ -168,8 +168,8 @@ fn number_arms(depth: u32, line: u32, arms: &mut [Arm]) -> Result<Place, AllocEr
     Ok(place)
 }
 
-/// Counts the lines of an arm whose first case stands in this line. The answer is the place behind its `break`, where
-/// the rest of the arms begins.
+// Counts the lines of an arm whose first case stands in this line. The answer is the place after its `break`, where
+// the rest of the arms begins.
 #[cycle(number)]
 fn number_arm(depth: u32, line: u32, arm: &mut Arm) -> Result<Place, AllocError>
     ensures numbered { (rest : Arms) → are_unbroken (arm_stmts (arm_before arm.old no_arms)) ≡ true →
@@ -185,8 +185,8 @@ fn number_arm(depth: u32, line: u32, arm: &mut Arm) -> Result<Place, AllocError>
     number_lines(depth, first, &mut arm.body)?.below()
 }
 
-/// Counts the lines of statements, the first of which stands in this line or behind its pragma. The answer is the place
-/// behind them.
+// Counts the lines of statements, the first of which stands in this line or after its pragma. The answer is the place
+// after them.
 #[cycle(number)]
 fn number_lines(depth: u32, line: u32, lines: &mut [Line]) -> Result<Place, AllocError>
     ensures numbered { are_unbroken (stmts_in (lines_of lines.old)) ≡ true →
@@ -204,7 +204,7 @@ fn number_lines(depth: u32, line: u32, lines: &mut [Line]) -> Result<Place, Allo
     Ok(place)
 }
 
-/// Counts the lines of a statement that stands in this line. The answer is the place behind it.
+// Counts the lines of a statement that stands in this line. The answer is the place after it.
 #[cycle(number)]
 fn number_line(depth: u32, here: u32, line: &mut Line) -> Result<Place, AllocError>
     ensures here { OnOk result (line.new.line ≡ here) }
@@ -223,7 +223,7 @@ fn number_line(depth: u32, here: u32, line: &mut Line) -> Result<Place, AllocErr
     Ok(behind)
 }
 
-/// Counts the lines of a function whose head stands in this line. The answer is the line behind it.
+// Counts the lines of a function whose head stands in this line. The answer is the line after it.
 fn number_function(line: u32, f: &mut Func) -> Result<u32, AllocError>
     ensures numbered { are_unbroken (stmts_in (lines_of f.old.body.items)) ≡ true →
         OnOk result (function_of f.new ≡ numbered_function line (function_of f.old)) }
@@ -234,7 +234,7 @@ fn number_function(line: u32, f: &mut Func) -> Result<u32, AllocError>
     further(f.last, 1)
 }
 
-/// Counts the lines of functions, the head of the first of which stands in this line.
+// Counts the lines of functions, the head of the first of which stands in this line.
 fn number_functions(line: u32, functions: &mut [Func]) -> Result<(), AllocError>
     ensures { list_all (λ f. are_unbroken (stmts_in f.body)) (map function_of functions.old) ≡ true →
         OnOk result (map function_of functions.new ≡ numbered_functions line (map function_of functions.old)) }

@@ -13,7 +13,7 @@ use std::alloc::{AllocError, Global};
 use std::process::Abort;
 use std::test::Fail;
 
-/// A file whose prelude sets DS to the segment behind the code.
+/// A file whose prelude sets DS to the segment after the code.
 fn file_of(rt: &impl Abort, alloc: Global, code: &[u8]) -> Result<Vec<u8>, AllocError> {
     assert!(rt; code.len() <= 64);
     let length = 5 + code.len() as u16;

@@ -12,7 +12,7 @@ use dcc_ir::Loc;
 use dcc_num::{FlagName, Half, Reg};
 use std::alloc::{AllocError, Global};
 
-/// The locations that have variables, in the variables' order.
+// The locations that have variables, in the variables' order.
 const LOCATIONS: [Loc; 23] = [
     Loc::Half(Reg::Ax, Half::Low),
     Loc::Half(Reg::Ax, Half::High),
@@ -39,7 +39,7 @@ const LOCATIONS: [Loc; 23] = [
     Loc::Temp(6),
 ];
 
-/// The place of a register among those whose halves have variables.
+// The place of a register among those whose halves have variables.
 fn place_among(r: Reg) -> u64
     ensures place { result ≡ spec.place_among r }
     ensures few { result ≤ 7 }
@@ -56,7 +56,7 @@ fn place_among(r: Reg) -> u64
     }
 }
 
-/// The number of a location's variable.
+// The number of a location's variable.
 fn variable_number(location: Loc) -> u64
     ensures { result ≡ spec.variable_number location }
 {
@@ -72,7 +72,7 @@ fn variable_number(location: Loc) -> u64
     }
 }
 
-/// The name of a location's variable.
+// The name of a location's variable.
 fn variable_name(alloc: Global, location: Loc) -> Result<String, AllocError>
     ensures { IfOk result (λ name. string_bytes name ≡ spec.variable_name location) }
 {
@@ -127,7 +127,7 @@ pub fn signed_type(width: u8) -> Base
     }
 }
 
-/// The declaration of a location's variable.
+// The declaration of a location's variable.
 fn variable(alloc: Global, location: Loc) -> Result<Var, AllocError>
     ensures { IfOk result (λ v. variable_of v ≡ spec.variable location) }
 {
@@ -139,7 +139,7 @@ fn variable(alloc: Global, location: Loc) -> Result<Var, AllocError>
     })
 }
 
-/// The declarations of the variables of some locations.
+// The declarations of the variables of some locations.
 fn declared(alloc: Global, locations: &[Loc]) -> Result<Vec<Var>, AllocError>
     ensures { IfOk result (λ vs. map variable_of vs.items ≡ map spec.variable locations.now) }
 {

@@ -28,5 +28,6 @@ pub returns : goal.returns
 returns c =
     let entries = c.args.nodes.now.entries in
     let start = c.into_iter-from-iterator.ensures.into_iter_gives ∙ c.iter-from-items.ensures.rest in
-    let e = iter_end deref_pair entries c.loop-from.yielded c.into_iter-from-iterator.result c.loop-from.from-iterator c.next.new.self c.next.result start c.loop-from.yielded_by c.in-None.is c.next.ensures.steps in
+    let e = iter_end deref_pair entries c.loop-from.yielded c.into_iter-from-iterator.result c.loop-from.from-iterator c.next.new.self c.next.result start
+    c.loop-from.yielded_by c.in-None.is c.next.ensures.steps in
     subst (λ ns. AreIncoming ns c.loop-from.table.items) e.0 c.loop-from.invariant

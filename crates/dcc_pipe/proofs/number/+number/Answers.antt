@@ -31,7 +31,8 @@ number_arm-returns-clause-numbered t c rest u =
     let last = c.in_ok-number_lines.field-0 in
     if-both c.below.result _ _ _
     (λ behind line_is depth_is. counted-arm a c.number_lines.new.lines (numbered_arms behind.depth behind.line rest) (c.number_lines.auto.lines ∙ ap length c.deref_mut.ensures.value)
-    ∙ arm-numbered c.args.depth at c.in_ok-first.first behind.depth last.line behind.line cases body (lines_of c.number_lines.new.lines) rest first_is (lines.numbered inner) (lines.line inner) (depth_is ∙ lines.depth) line_is
+    ∙ arm-numbered c.args.depth at c.in_ok-first.first behind.depth last.line behind.line cases body (lines_of c.number_lines.new.lines) rest first_is
+        (lines.numbered inner) (lines.line inner) (depth_is ∙ lines.depth) line_is
     ∙ ap (numbered_arms c.args.depth at) (sym is))
     c.below.ensures.line c.below.ensures.depth
 
@@ -70,7 +71,8 @@ number_default-returns-in_ok-below-in-Some-clause-numbered t c u =
     let body = lines_of c.deref_mut.result.now in
     let cases = (out-Arm a).cases.items in
     let is : arms_if c.args.last.now ≡ arm cases body no_arms = ap arms_if c.in-Some.is ∙ arm-parts a no_arms ∙ ap (λ ls. arm cases (lines_of ls) no_arms) (sym c.deref_mut.ensures.value) in
-    let inner : are_unbroken (stmts_in body) ≡ true = ap (λ ls. are_unbroken (stmts_in (lines_of ls))) c.deref_mut.ensures.value ∙ arm-unbroken a (ap (λ last. are_unbroken (arm_stmts (arms_if last))) (sym c.in-Some.is) ∙ u) in
+    let inner : are_unbroken (stmts_in body) ≡ true = ap (λ ls. are_unbroken (stmts_in (lines_of ls))) c.deref_mut.ensures.value
+        ∙ arm-unbroken a (ap (λ last. are_unbroken (arm_stmts (arms_if last))) (sym c.in-Some.is) ∙ u) in
     on-ok c.below-in-Some.result
     (counted-arm a c.number_lines.new.lines no_arms (c.number_lines.auto.lines ∙ ap length c.deref_mut.ensures.value)
     ∙ ap (λ b. arm cases b no_arms) (c.in_ok-number_lines-in-Some.ensures.numbered inner)
@@ -82,7 +84,8 @@ number_default-returns-in_ok-below-in-Some-clause-line t c u =
     let body = lines_of c.deref_mut.result.now in
     let cases = (out-Arm a).cases.items in
     let is : arms_if c.args.last.now ≡ arm cases body no_arms = ap arms_if c.in-Some.is ∙ arm-parts a no_arms ∙ ap (λ ls. arm cases (lines_of ls) no_arms) (sym c.deref_mut.ensures.value) in
-    let inner : are_unbroken (stmts_in body) ≡ true = ap (λ ls. are_unbroken (stmts_in (lines_of ls))) c.deref_mut.ensures.value ∙ arm-unbroken a (ap (λ last. are_unbroken (arm_stmts (arms_if last))) (sym c.in-Some.is) ∙ u) in
+    let inner : are_unbroken (stmts_in body) ≡ true = ap (λ ls. are_unbroken (stmts_in (lines_of ls))) c.deref_mut.ensures.value
+        ∙ arm-unbroken a (ap (λ last. are_unbroken (arm_stmts (arms_if last))) (sym c.in-Some.is) ∙ u) in
     let first = c.in_ok-number_lines-in-Some.ensures.line inner in
     let second = c.in_ok-below-in-Some.ensures.line in
     let all : rows (written_default 1 c.args.depth (arms_if c.args.last.now)) ≡ rows (written_lines 1 c.args.depth body) + 2 =
@@ -114,8 +117,11 @@ number_stmt-returns-in_ok-behind-in-If-clause-numbered t c u =
     let lines = c.in_ok-middle-in-If.ensures in
     let middle = c.in_ok-middle-in-If.middle in
     let counted : If e (lines_of c.number_lines.new.lines) (lines_of c.number_lines-in-If.new.lines) ≡ numbered_stmt c.args.depth c.args.line stmt =
-    if-numbered c.args.depth c.args.line stmt e body otherwise c.in_ok-further-in-If.field-0 middle.depth middle.line c.in_ok-further-in-If-2.field-0 (lines_of c.number_lines.new.lines) (lines_of c.number_lines-in-If.new.lines) is c.in_ok-further-in-If.ensures (lines.numbered inner.0) (lines.line inner.0) lines.depth c.in_ok-further-in-If-2.ensures (c.in_ok-end-in-If.ensures.numbered inner.1) in
-    counted-if _ _ _ c.in-If.test c.number_lines.new.lines c.number_lines-in-If.new.lines _ refl (c.number_lines.auto.lines ∙ ap length c.deref_mut.ensures.value) (c.number_lines-in-If.auto.lines ∙ ap length c.deref_mut-in-If.ensures.value) counted
+    if-numbered c.args.depth c.args.line stmt e body otherwise c.in_ok-further-in-If.field-0 middle.depth middle.line c.in_ok-further-in-If-2.field-0
+        (lines_of c.number_lines.new.lines) (lines_of c.number_lines-in-If.new.lines) is c.in_ok-further-in-If.ensures (lines.numbered inner.0)
+        (lines.line inner.0) lines.depth c.in_ok-further-in-If-2.ensures (c.in_ok-end-in-If.ensures.numbered inner.1) in
+    counted-if _ _ _ c.in-If.test c.number_lines.new.lines c.number_lines-in-If.new.lines _ refl
+        (c.number_lines.auto.lines ∙ ap length c.deref_mut.ensures.value) (c.number_lines-in-If.auto.lines ∙ ap length c.deref_mut-in-If.ensures.value) counted
 
 pub number_stmt-returns-in_ok-behind-in-If-clause-line : goal.number_stmt-returns-in_ok-behind-in-If-clause-line
 number_stmt-returns-in_ok-behind-in-If-clause-line t c u =
@@ -133,7 +139,9 @@ number_stmt-returns-in_ok-behind-in-If-clause-line t c u =
     let last = c.in_ok-behind-in-If.ensures.line in
     let has_else : not c.is_empty-has_else.result ≡ not (length c.deref_mut-in-If.result.now == 0) = ap not (c.is_empty-has_else.ensures ∙ ap (λ n. n == 0) (sym c.deref_mut-in-If.ensures.len)) in
     let more = else-lines middle.depth c.deref_mut-in-If.result.now (not c.is_empty-has_else.result) has_else in
-    if-line c.args.depth c.args.line stmt e body otherwise c.in_ok-further-in-If.field-0 middle.depth middle.line c.in_ok-further-in-If-2.field-0 c.in_ok-behind-in-If.behind.line is flat c.in_ok-further-in-If.ensures (lines.line inner.0) lines.depth c.in_ok-further-in-If-2.ensures (omega (arith, last, end, more))
+    if-line c.args.depth c.args.line stmt e body otherwise c.in_ok-further-in-If.field-0 middle.depth middle.line c.in_ok-further-in-If-2.field-0
+        c.in_ok-behind-in-If.behind.line is flat c.in_ok-further-in-If.ensures (lines.line inner.0) lines.depth c.in_ok-further-in-If-2.ensures
+        (omega (arith, last, end, more))
 
 pub number_stmt-returns-in_ok-behind-in-If-clause-depth : goal.number_stmt-returns-in_ok-behind-in-If-clause-depth
 number_stmt-returns-in_ok-behind-in-If-clause-depth t c =
@@ -143,7 +151,8 @@ number_stmt-returns-in_ok-behind-in-If-clause-depth t c =
     let stmt = stmt_of c.args.stmt in
     let is : stmt ≡ If e body otherwise = ap stmt_of c.in-If.is ∙ if-tree c.in-If.test c.in-If.body c.in-If.otherwise
     ∙ ap₂ (λ b o. If e (lines_of b) (lines_of o)) (sym c.deref_mut.ensures.value) (sym c.deref_mut-in-If.ensures.value) in
-    if-depth c.args.depth stmt e body otherwise c.in_ok-middle-in-If.middle.depth c.in_ok-behind-in-If.behind.depth is c.in_ok-middle-in-If.ensures.depth (c.in_ok-behind-in-If.ensures.depth ∙ c.in_ok-end-in-If.ensures.depth)
+    if-depth c.args.depth stmt e body otherwise c.in_ok-middle-in-If.middle.depth c.in_ok-behind-in-If.behind.depth is c.in_ok-middle-in-If.ensures.depth
+        (c.in_ok-behind-in-If.ensures.depth ∙ c.in_ok-end-in-If.ensures.depth)
 
 -- Loops.
 
@@ -155,7 +164,8 @@ number_stmt-returns-in_ok-behind-in-While-clause-numbered t c u =
     let is : stmt ≡ While e body = ap stmt_of c.in-While.is ∙ while-tree c.in-While.test c.in-While.body ∙ ap (λ b. While e (lines_of b)) (sym c.deref_mut-in-While.ensures.value) in
     let inner = inner-unbroken stmt (stmts_in body) (ap inner_stmts is) u in
     let counted : While e (lines_of c.number_lines-in-While.new.lines) ≡ numbered_stmt c.args.depth c.args.line stmt =
-    ap (λ b. While e b) (c.in_ok-number_lines-in-While.ensures.numbered inner ∙ ap (λ n. numbered_lines c.args.depth n body) c.in_ok-further-in-While.ensures) ∙ ap (numbered_stmt c.args.depth c.args.line) (sym is) in
+    ap (λ b. While e b) (c.in_ok-number_lines-in-While.ensures.numbered inner ∙ ap (λ n. numbered_lines c.args.depth n body) c.in_ok-further-in-While.ensures)
+        ∙ ap (numbered_stmt c.args.depth c.args.line) (sym is) in
     counted-while _ _ c.in-While.test c.number_lines-in-While.new.lines _ refl (c.number_lines-in-While.auto.lines ∙ ap length c.deref_mut-in-While.ensures.value) counted
 
 pub number_stmt-returns-in_ok-behind-in-While-clause-line : goal.number_stmt-returns-in_ok-behind-in-While-clause-line
@@ -188,7 +198,8 @@ number_stmt-returns-in_ok-behind-in-DoWhile-clause-numbered t c u =
     let is : stmt ≡ DoWhile body e = ap stmt_of c.in-DoWhile.is ∙ do_while-tree c.in-DoWhile.test c.in-DoWhile.body ∙ ap (λ b. DoWhile (lines_of b) e) (sym c.deref_mut-in-DoWhile.ensures.value) in
     let inner = inner-unbroken stmt (stmts_in body) (ap inner_stmts is) u in
     let counted : DoWhile (lines_of c.number_lines-in-DoWhile.new.lines) e ≡ numbered_stmt c.args.depth c.args.line stmt =
-    ap (λ b. DoWhile b e) (c.in_ok-number_lines-in-DoWhile.ensures.numbered inner ∙ ap (λ n. numbered_lines c.args.depth n body) c.in_ok-further-in-DoWhile.ensures) ∙ ap (numbered_stmt c.args.depth c.args.line) (sym is) in
+    ap (λ b. DoWhile b e) (c.in_ok-number_lines-in-DoWhile.ensures.numbered inner
+        ∙ ap (λ n. numbered_lines c.args.depth n body) c.in_ok-further-in-DoWhile.ensures) ∙ ap (numbered_stmt c.args.depth c.args.line) (sym is) in
     counted-do_while _ _ c.in-DoWhile.test c.number_lines-in-DoWhile.new.lines _ refl (c.number_lines-in-DoWhile.auto.lines ∙ ap length c.deref_mut-in-DoWhile.ensures.value) counted
 
 pub number_stmt-returns-in_ok-behind-in-DoWhile-clause-line : goal.number_stmt-returns-in_ok-behind-in-DoWhile-clause-line
@@ -220,7 +231,8 @@ number_stmt-returns-in_ok-behind-in-Forever-clause-numbered t c u =
     let is : stmt ≡ Forever body = ap stmt_of c.in-Forever.is ∙ forever-tree c.in-Forever.body ∙ ap (λ b. Forever (lines_of b)) (sym c.deref_mut-in-Forever.ensures.value) in
     let inner = inner-unbroken stmt (stmts_in body) (ap inner_stmts is) u in
     let counted : Forever (lines_of c.number_lines-in-Forever.new.lines) ≡ numbered_stmt c.args.depth c.args.line stmt =
-    ap (λ b. Forever b) (c.in_ok-number_lines-in-Forever.ensures.numbered inner ∙ ap (λ n. numbered_lines c.args.depth n body) c.in_ok-further-in-Forever.ensures) ∙ ap (numbered_stmt c.args.depth c.args.line) (sym is) in
+    ap (λ b. Forever b) (c.in_ok-number_lines-in-Forever.ensures.numbered inner
+        ∙ ap (λ n. numbered_lines c.args.depth n body) c.in_ok-further-in-Forever.ensures) ∙ ap (numbered_stmt c.args.depth c.args.line) (sym is) in
     counted-forever _ c.number_lines-in-Forever.new.lines _ (c.number_lines-in-Forever.auto.lines ∙ ap length c.deref_mut-in-Forever.ensures.value) counted
 
 pub number_stmt-returns-in_ok-behind-in-Forever-clause-line : goal.number_stmt-returns-in_ok-behind-in-Forever-clause-line
@@ -257,7 +269,9 @@ number_stmt-returns-in_ok-behind-in-Switch-clause-numbered t c u =
     let middle = c.in_ok-middle-in-Switch.middle in
     let behind = c.in_ok-behind-in-Switch.ensures in
     let counted : Switch e (arms_of c.number_arms.new.arms) (arms_if c.number_default.new.last) ≡ numbered_stmt c.args.depth c.args.line stmt =
-    switch-numbered c.args.depth c.args.line stmt e arms last c.in_ok-further-in-Switch.field-0 middle.depth middle.line c.in_ok-further-in-Switch-2.field-0 (arms_of c.number_arms.new.arms) (arms_if c.number_default.new.last) is c.in_ok-further-in-Switch.ensures (lines.numbered inner.0) (lines.line inner.0) lines.depth c.in_ok-further-in-Switch-2.ensures (behind.numbered inner.1) in
+    switch-numbered c.args.depth c.args.line stmt e arms last c.in_ok-further-in-Switch.field-0 middle.depth middle.line c.in_ok-further-in-Switch-2.field-0
+        (arms_of c.number_arms.new.arms) (arms_if c.number_default.new.last) is c.in_ok-further-in-Switch.ensures (lines.numbered inner.0)
+        (lines.line inner.0) lines.depth c.in_ok-further-in-Switch-2.ensures (behind.numbered inner.1) in
     counted-switch _ _ c.in-Switch.value c.number_default.new.last c.number_arms.new.arms _ refl (c.number_arms.auto.arms ∙ ap length c.deref_mut-in-Switch.ensures.value) counted
 
 pub number_stmt-returns-in_ok-behind-in-Switch-clause-line : goal.number_stmt-returns-in_ok-behind-in-Switch-clause-line
@@ -273,7 +287,9 @@ number_stmt-returns-in_ok-behind-in-Switch-clause-line t c u =
     let middle = c.in_ok-middle-in-Switch.middle in
     let behind = c.in_ok-behind-in-Switch.ensures in
     let flat = test-unbroken stmt e (ap exprs_of is) u in
-    switch-line c.args.depth c.args.line stmt e arms last c.in_ok-further-in-Switch.field-0 middle.depth middle.line c.in_ok-further-in-Switch-2.field-0 c.in_ok-behind-in-Switch.behind.line is flat c.in_ok-further-in-Switch.ensures (lines.line inner.0) lines.depth c.in_ok-further-in-Switch-2.ensures (behind.line inner.1)
+    switch-line c.args.depth c.args.line stmt e arms last c.in_ok-further-in-Switch.field-0 middle.depth middle.line c.in_ok-further-in-Switch-2.field-0
+        c.in_ok-behind-in-Switch.behind.line is flat c.in_ok-further-in-Switch.ensures (lines.line inner.0) lines.depth c.in_ok-further-in-Switch-2.ensures
+        (behind.line inner.1)
 
 pub number_stmt-returns-in_ok-behind-in-Switch-clause-depth : goal.number_stmt-returns-in_ok-behind-in-Switch-clause-depth
 number_stmt-returns-in_ok-behind-in-Switch-clause-depth t c =
@@ -283,7 +299,8 @@ number_stmt-returns-in_ok-behind-in-Switch-clause-depth t c =
     let stmt = stmt_of c.args.stmt in
     let is : stmt ≡ Switch e arms last = ap stmt_of c.in-Switch.is ∙ switch-tree c.in-Switch.value c.in-Switch.arms c.in-Switch.last
     ∙ ap (λ b. Switch e (arms_of b) last) (sym c.deref_mut-in-Switch.ensures.value) in
-    switch-depth c.args.depth stmt e arms last c.in_ok-middle-in-Switch.middle.depth c.in_ok-behind-in-Switch.behind.depth is c.in_ok-middle-in-Switch.ensures.depth c.in_ok-behind-in-Switch.ensures.depth
+    switch-depth c.args.depth stmt e arms last c.in_ok-middle-in-Switch.middle.depth c.in_ok-behind-in-Switch.behind.depth is
+        c.in_ok-middle-in-Switch.ensures.depth c.in_ok-behind-in-Switch.ensures.depth
 
 -- The lines of a slice, and the arms.
 
@@ -318,7 +335,9 @@ number_lines-loop-i-preserved t c =
           let inner = (line-unbroken stmt old.line rest left is (before.unbroken u)).0 in
           one-line lines i new (numbered_lines place.depth place.line (lines_of (drop (i + 1) (set lines i new)))) within
           ∙ ap₂ (λ n l. lines_before (take i lines) (line (stmt_of new.stmt) n (numbered_lines place.depth place.line l))) after.here behind
-          ∙ ap (lines_before (take i lines)) (line-numbered depth at own here place.depth place.line stmt (stmt_of new.stmt) old.line rest left is c.own_depth-own.ensures c.in_ok-here.ensures (after.numbered inner) (after.line inner) after.depth)
+          ∙ ap (lines_before (take i lines))
+              (line-numbered depth at own here place.depth place.line stmt
+              (stmt_of new.stmt) old.line rest left is c.own_depth-own.ensures c.in_ok-here.ensures (after.numbered inner) (after.line inner) after.depth)
           ∙ before.numbered u;
       line = λ u.
           let inner = (line-unbroken stmt old.line rest left is (before.unbroken u)).0 in

@@ -9,7 +9,8 @@ use Rattle.dcc_pipe.proofs.number.number_functions.Given as goal
 -- the functions so far are counted, and with those that are left the count is whole
 abbrev pub invariant-loop-i : goal.invariant-loop-i
 invariant-loop-i l = record {
-  unbroken : list_all (λ f. are_unbroken (stmts_in f.body)) (map function_of l.initial.functions) ≡ true → list_all (λ f. are_unbroken (stmts_in f.body)) (map function_of (drop l.i l.functions)) ≡ true;
+  unbroken : list_all (λ f. are_unbroken (stmts_in f.body)) (map function_of l.initial.functions) ≡ true
+      → list_all (λ f. are_unbroken (stmts_in f.body)) (map function_of (drop l.i l.functions)) ≡ true;
   numbered : list_all (λ f. are_unbroken (stmts_in f.body)) (map function_of l.initial.functions) ≡ true →
       map function_of (take l.i l.functions) ++ numbered_functions l.next (map function_of (drop l.i l.functions))
       ≡ numbered_functions l.initial.next (map function_of l.initial.functions);

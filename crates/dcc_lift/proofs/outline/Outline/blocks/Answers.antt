@@ -14,7 +14,8 @@ loop-at-preserved c =
     let i = c.loop-at.at-index in
     let value = c.deref-at-items.ensures.value in
     let inside : i < length leaders = subst (λ xs. i < length xs) value c.loop-at-test.true in
-    let more = blocks-more nodes start (take i leaders) (map block_of c.loop-at.blocks.items) (get_or c.deref-at-items.result.now i 0) (block_of c.in_ok-block.field-0) c.loop-at.invariant c.in_ok-block.ensures in
+    let more = blocks-more nodes start (take i leaders) (map block_of c.loop-at.blocks.items) (get_or c.deref-at-items.result.now i 0)
+    (block_of c.in_ok-block.field-0) c.loop-at.invariant c.in_ok-block.ensures in
     let places : take i leaders ++ get_or c.deref-at-items.result.now i 0 ∷ [] ≡ take (i + 1) leaders =
     ap (λ xs. take i leaders ++ get_or xs i 0 ∷ []) value ∙ sym (take_more leaders i 0 inside) in
     let blocks : map block_of c.loop-at.blocks.items ++ block_of c.in_ok-block.field-0 ∷ [] ≡ map block_of c.push.new.self.items =
