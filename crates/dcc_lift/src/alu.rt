@@ -4,7 +4,7 @@ ghost use Rattle.std.specs.Prelude.{◌≡◌, ◌++◌, OnOk};
 ghost use Rattle.dcc_lift.specs.Statements as spec;
 ghost use Rattle.dcc_lift.specs.Writing.{written};
 
-use crate::expression::{bit, bits};
+use crate::expression::bit;
 use crate::operand::operand_width;
 use crate::writer::Writer;
 use dcc_ir::{BinOp, UnOp};
@@ -160,7 +160,7 @@ impl Writer {
         ensures { OnOk result (written self.new ≡ written self.old ++ spec.unary_stmts Unary.Not w a) }
     {
         let maker = self.maker(w);
-        let complement = maker.unary(UnOp::Not, bits(w), maker.operand(a)?)?;
+        let complement = maker.unary(UnOp::Not, w.bits(), maker.operand(a)?)?;
         self.take_result(w, complement)?;
         self.store(a)
     }

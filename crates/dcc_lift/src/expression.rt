@@ -1,8 +1,7 @@
 //! How expressions are made.
 
-ghost use Rattle.std.specs.Prelude.{◌≡◌, ◌≤◌, ◌-◌, IfOk};
+ghost use Rattle.std.specs.Prelude.{◌≡◌, IfOk};
 ghost use Rattle.std.specs.Int.{from_bool};
-ghost use Rattle.dcc_num.specs.Numbers.{bits_of};
 ghost use Rattle.dcc_ir.specs.Views.{expr_of};
 ghost use Rattle.dcc_ir.specs.Tree as tree;
 ghost use Rattle.dcc_lift.specs.Temporaries as temporaries;
@@ -11,18 +10,6 @@ ghost use Rattle.dcc_lift.specs.Expressions as spec;
 use dcc_ir::{BinOp, Expr, Loc, UnOp};
 use dcc_num::{FlagName, Half, Reg, Width};
 use std::alloc::{AllocError, Global};
-
-/// The number of bits of a width.
-pub fn bits(w: Width) -> u8
-    ensures bits { result ≡ bits_of w }
-    ensures least { 8 ≤ result }
-    ensures most { result ≤ 16 }
-{
-    match w {
-        Width::Byte => 8,
-        Width::Word => 16,
-    }
-}
 
 /// The temporary of the left operand.
 pub fn left_place(w: Width) -> Loc
@@ -70,6 +57,16 @@ pub fn bit(n: bool) -> Expr
 {
     Expr::Const {
         width: 1,
+        number: u32::from(n),
+    }
+}
+
+/// A byte.
+pub fn byte(n: u8) -> Expr
+    ensures { expr_of result ≡ tree.Const 8 n }
+{
+    Expr::Const {
+        width: 8,
         number: u32::from(n),
     }
 }
@@ -194,7 +191,7 @@ impl Maker {
     pub fn at_width(self, operator: BinOp, a: Expr, b: Expr) -> Result<Expr, AllocError>
         ensures { IfOk result (λ e. expr_of e ≡ spec.at_width operator self.w (expr_of a) (expr_of b)) }
     {
-        self.binary(operator, bits(self.w), a, b)
+        self.binary(operator, self.w.bits(), a, b)
     }
 
     /// An operator on the left and the right operand.
@@ -209,7 +206,7 @@ impl Maker {
         ensures { expr_of result ≡ spec.number self.w n }
     {
         Expr::Const {
-            width: bits(self.w),
+            width: self.w.bits(),
             number: n,
         }
     }
@@ -225,21 +222,21 @@ impl Maker {
     pub fn is_zero(self, e: Expr) -> Result<Expr, AllocError>
         ensures { IfOk result (λ test. expr_of test ≡ spec.is_zero self.w (expr_of e)) }
     {
-        self.unary(UnOp::IsZero, bits(self.w), e)
+        self.unary(UnOp::IsZero, self.w.bits(), e)
     }
 
     /// The sign bit.
     pub fn sign(self, e: Expr) -> Result<Expr, AllocError>
         ensures { IfOk result (λ bit. expr_of bit ≡ spec.sign self.w (expr_of e)) }
     {
-        self.part(1, bits(self.w) - 1, e)
+        self.part(1, self.w.bits() - 1, e)
     }
 
     /// The bit below the sign bit.
     pub fn below_sign(self, e: Expr) -> Result<Expr, AllocError>
         ensures { IfOk result (λ bit. expr_of bit ≡ spec.below_sign self.w (expr_of e)) }
     {
-        self.part(1, bits(self.w) - 2, e)
+        self.part(1, self.w.bits() - 2, e)
     }
 
     /// The lowest bit.
@@ -253,6 +250,6 @@ impl Maker {
     pub fn carry(self) -> Result<Expr, AllocError>
         ensures { IfOk result (λ e. expr_of e ≡ spec.carry_at self.w) }
     {
-        self.widen(false, bits(self.w), flag(FlagName::Cf))
+        self.widen(false, self.w.bits(), flag(FlagName::Cf))
     }
 }

@@ -4,7 +4,7 @@ ghost use Rattle.std.specs.Prelude.{◌≡◌, ◌++◌, OnOk};
 ghost use Rattle.dcc_lift.specs.Statements as spec;
 ghost use Rattle.dcc_lift.specs.Writing.{written};
 
-use crate::expression::{bit, flag, half, left_place, product_place};
+use crate::expression::{bit, byte, flag, half, left_place, product_place};
 use crate::writer::Writer;
 use dcc_ir::{Expr, Loc};
 use dcc_num::{FlagName, Half, Reg, Width};
@@ -22,14 +22,8 @@ impl Writer {
                 self.set(Loc::Half(r, Half::High), half(q, Half::High))
             }
             (Operand::Word(r), Operand::Const(_, constant)) => {
-                let low = Expr::Const {
-                    width: 8,
-                    number: u32::from(constant % 256),
-                };
-                let high = Expr::Const {
-                    width: 8,
-                    number: u32::from(constant / 256),
-                };
+                let low = byte(Half::Low.of(constant));
+                let high = byte(Half::High.of(constant));
                 self.set(Loc::Half(r, Half::Low), low)?;
                 self.set(Loc::Half(r, Half::High), high)
             }

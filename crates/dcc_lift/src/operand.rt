@@ -5,7 +5,7 @@ ghost use Rattle.dcc_prog.specs.Machine as machine;
 ghost use Rattle.dcc_ir.specs.Views.{expr_of};
 ghost use Rattle.dcc_lift.specs.Expressions as spec;
 
-use crate::expression::{Maker, bits, half};
+use crate::expression::{Maker, half};
 use dcc_ir::Expr;
 use dcc_num::{Half, Reg, Width};
 use dcc_prog::Operand;
@@ -39,7 +39,7 @@ impl Maker {
             Operand::Byte(r, part) => Ok(half(r, part)),
             Operand::Const(width, constant) => {
                 Ok(Expr::Const {
-                    width: bits(width),
+                    width: width.bits(),
                     number: u32::from(constant),
                 })
             }

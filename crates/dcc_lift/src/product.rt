@@ -6,7 +6,7 @@ ghost use Rattle.dcc_lift.specs.Expressions as expressions;
 ghost use Rattle.dcc_lift.specs.Statements as spec;
 ghost use Rattle.dcc_lift.specs.Writing.{written};
 
-use crate::expression::{Maker, bit, bits, product_place};
+use crate::expression::{Maker, bit, product_place};
 use crate::writer::Writer;
 use dcc_ir::{BinOp, Expr};
 use dcc_num::{Reg, Width};
@@ -18,7 +18,7 @@ impl Maker {
     fn multiplied(self, signed: bool) -> Result<Expr, AllocError>
         ensures { IfOk result (λ e. expr_of e ≡ expressions.multiplied self.w signed) }
     {
-        let double = 2 * bits(self.w);
+        let double = 2 * self.w.bits();
         let left = self.widen(signed, double, self.left())?;
         let right = self.widen(signed, double, self.right())?;
         self.binary(BinOp::Mul, double, left, right)
@@ -28,8 +28,8 @@ impl Maker {
     fn needs_signed_upper_half(self) -> Result<Expr, AllocError>
         ensures { IfOk result (λ e. expr_of e ≡ expressions.needs_upper_half self.w true) }
     {
-        let double = 2 * bits(self.w);
-        let low = self.part(bits(self.w), 0, self.product())?;
+        let double = 2 * self.w.bits();
+        let low = self.part(self.w.bits(), 0, self.product())?;
         let extended = self.widen(true, double, low)?;
         let same = self.binary(BinOp::Eq, double, extended, self.product())?;
         self.negated(same)
@@ -42,7 +42,7 @@ impl Maker {
         if signed {
             return self.needs_signed_upper_half();
         }
-        let high = self.part(bits(self.w), bits(self.w), self.product())?;
+        let high = self.part(self.w.bits(), self.w.bits(), self.product())?;
         self.at_width(BinOp::LtU, self.number(0), high)
     }
 }

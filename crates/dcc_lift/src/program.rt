@@ -15,7 +15,7 @@ ghost use Rattle.dcc_lift.specs.Known.{nodes_of, KnowsLeaders};
 ghost use Rattle.dcc_lift.specs.Writing.{written};
 
 use crate::edges::OFFSETS;
-use crate::expression::bit;
+use crate::expression::{bit, byte};
 use crate::flow::Instructions;
 use crate::outline::Outline;
 use crate::writer::Writer;
@@ -37,14 +37,8 @@ impl Writer {
         ensures { OnOk result (written self.new ≡ written self.old ++ spec.register_starting regs.now r) }
     {
         let word = regs[r as usize];
-        let low = Expr::Const {
-            width: 8,
-            number: u32::from(word % 256),
-        };
-        let high = Expr::Const {
-            width: 8,
-            number: u32::from(word / 256),
-        };
+        let low = byte(Half::Low.of(word));
+        let high = byte(Half::High.of(word));
         self.set(Loc::Half(r, Half::Low), low)?;
         self.set(Loc::Half(r, Half::High), high)
     }

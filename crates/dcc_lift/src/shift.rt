@@ -8,7 +8,7 @@ ghost use Rattle.dcc_lift.specs.Expressions as expressions;
 ghost use Rattle.dcc_lift.specs.Statements as spec;
 ghost use Rattle.dcc_lift.specs.Writing.{written};
 
-use crate::expression::{Maker, bit, bits, flag, half};
+use crate::expression::{Maker, bit, flag, half};
 use crate::operand::operand_width;
 use crate::writer::Writer;
 use dcc_ir::{BinOp, Expr, Loc};
@@ -71,7 +71,7 @@ impl Maker {
     fn turn(self) -> Result<Expr, AllocError>
         ensures { IfOk result (λ e. expr_of e ≡ expressions.turn self.w) }
     {
-        let last = self.number(u32::from(bits(self.w)) - 1);
+        let last = self.number(u32::from(self.w.bits()) - 1);
         self.at_width(BinOp::And, self.right(), last)
     }
 
@@ -79,7 +79,7 @@ impl Maker {
     fn rest_of_turn(self) -> Result<Expr, AllocError>
         ensures { IfOk result (λ e. expr_of e ≡ expressions.rest_of_turn self.w) }
     {
-        let whole = self.number(u32::from(bits(self.w)));
+        let whole = self.number(u32::from(self.w.bits()));
         self.at_width(BinOp::Sub, whole, self.turn()?)
     }
 
@@ -113,7 +113,7 @@ impl Maker {
     fn turned_right(self) -> Result<Expr, AllocError>
         ensures { IfOk result (λ e. expr_of e ≡ expressions.turned_right self.w) }
     {
-        let last = self.number(u32::from(bits(self.w)) - 1);
+        let last = self.number(u32::from(self.w.bits()) - 1);
         let low = self.at_width(BinOp::Shr, self.left(), self.number(1))?;
         let high = self.at_width(BinOp::Shl, self.carry()?, last)?;
         self.at_width(BinOp::Or, low, high)

@@ -5,8 +5,6 @@ mod decompilation;
 mod goto_expr;
 mod goto_text;
 mod number;
-#[cfg(test)]
-mod tests;
 mod variables;
 
 pub use decompilation::decompile;
