@@ -104,8 +104,8 @@ abbrev pub IsShallow : ℕ → Graph → Type 0
 IsShallow depth graph = All (λ e. depth_of e ≤ depth) (graph_exprs graph)
 
 -- what the program is made of: the one graph is that of the entry procedure, without params, without bytes of the frame
--- and with cells for pushes alone, and it has these temporaries; the memory holds the image's data segment, and the stack
--- is the layout's
+-- and with cells for pushes alone, and it has these temporaries; the memory holds the image's data segment, and the
+-- stack is the layout's
 pub record IsFramed (image : Image) (layout : Layout) (p : Program) : Type 0 where
   pub graph : Graph
   pub one : p.graphs ≡ graph ∷ []

@@ -202,8 +202,8 @@ module _ (image : List ℕ) (lo hi entry local pushed : ℕ) (params : List Para
 
         each : Means (scope_with values cells) bit (value_of (scene_with values base memory) test) (text_expr test) → (k : ℕ) → k ≤ 1
             → is_over (end_after (text_system (text lo hi functions f frame fill)) k
-                (state (line (If (text_expr test) (line (Goto (label_at blocks one)) i no_lines) (line (Goto (label_at blocks other)) j no_lines)) at lines)
-                values cells input out)) ≡ false
+            (state (line (If (text_expr test) (line (Goto (label_at blocks one)) i no_lines) (line (Goto (label_at blocks other)) j no_lines)) at lines)
+            values cells input out)) ≡ false
         each x zero low = refl
         each x (suc zero) low = ap is_over
             (if-running lo hi functions f frame fill at lines values cells input out (text_expr test) (value_of (scene_with values base memory) test)
@@ -272,7 +272,7 @@ module _ (image : List ℕ) (lo hi entry local pushed : ℕ) (params : List Para
     set-comes : (location : Loc) (e : inner.Expr) → is_stmt temporary_bits (inner.Set location e) ≡ true → is_lifted_stmt (inner.Set location e) ≡ true
         → IsUnstuck (block_from (inner.Set location e ∷ stmts) (inner_state block values base memory input out))
         → Comes (block_from (inner.Set location e ∷ stmts) (inner_state block values base memory input out)) (suc (steps_for stmts))
-            (state (line (text_stmt (inner.Set location e)) at lines) values cells input out)
+        (state (line (text_stmt (inner.Set location e)) at lines) values cells input out)
     set-comes location e formed lifted unstuck =
         let (there, fits) = and_parts (is_location temporary_bits location) (is_expr_of temporary_bits (location_width temporary_bits location) e) formed in
         let (place, read) = and_parts (is_lifted_location location) (is_lifted_expr e) lifted in
@@ -288,7 +288,7 @@ module _ (image : List ℕ) (lo hi entry local pushed : ℕ) (params : List Para
     putc-comes : (e : inner.Expr) → is_stmt temporary_bits (inner.Dos 2 None (Some e)) ≡ true → is_lifted_expr e ≡ true
         → IsUnstuck (block_from (inner.Dos 2 None (Some e) ∷ stmts) (inner_state block values base memory input out))
         → Comes (block_from (inner.Dos 2 None (Some e) ∷ stmts) (inner_state block values base memory input out)) (suc (steps_for stmts))
-            (state (line (text_stmt (inner.Dos 2 None (Some e))) at lines) values cells input out)
+        (state (line (text_stmt (inner.Dos 2 None (Some e))) at lines) values cells input out)
     putc-comes e formed read unstuck =
         let n = value_of (scene_with values base memory) e in
         let x = byte-means values base memory cells held e (only (is_expr_of temporary_bits 8 e) formed) read in
@@ -299,7 +299,7 @@ module _ (image : List ℕ) (lo hi entry local pushed : ℕ) (params : List Para
 
     leave-comes : (e : inner.Expr) → is_stmt temporary_bits (inner.Dos 76 None (Some e)) ≡ true → is_lifted_expr e ≡ true
         → Comes (block_from (inner.Dos 76 None (Some e) ∷ stmts) (inner_state block values base memory input out)) (suc (steps_for stmts))
-            (state (line (text_stmt (inner.Dos 76 None (Some e))) at lines) values cells input out)
+        (state (line (text_stmt (inner.Dos 76 None (Some e))) at lines) values cells input out)
     leave-comes e formed read =
         let n = value_of (scene_with values base memory) e in
         let x = byte-means values base memory cells held e (only (is_expr_of temporary_bits 8 e) formed) read in
@@ -315,10 +315,10 @@ module _ (image : List ℕ) (lo hi entry local pushed : ℕ) (params : List Para
     key-comes : (number : ℕ) (echo : Bool) (location : Loc) → IsPlace location → location_width temporary_bits location ≡ 8
         → ((s : run.State) → run.dos_step number (Some location) 0 s ≡ run.keyed echo (Some location) s.input s)
         → c_step (state (line (text_stmt (inner.Dos number (Some location) None)) at lines) values cells input out)
-            ≡ state lines (with_value values location (key_of input)) cells (left_of input) (out ++ echo_of echo input)
+        ≡ state lines (with_value values location (key_of input)) cells (left_of input) (out ++ echo_of echo input)
         → IsUnstuck (block_from (inner.Dos number (Some location) None ∷ stmts) (inner_state block values base memory input out))
         → Comes (block_from (inner.Dos number (Some location) None ∷ stmts) (inner_state block values base memory input out)) (suc (steps_for stmts))
-            (state (line (text_stmt (inner.Dos number (Some location) None)) at lines) values cells input out)
+        (state (line (text_stmt (inner.Dos number (Some location) None)) at lines) values cells input out)
     key-comes number echo location is width does to unstuck =
         let next = inner_state block (with_value values location (key_of input)) base memory (left_of input) (out ++ echo_of echo input) in
         let same : block_from (inner.Dos number (Some location) None ∷ stmts) (inner_state block values base memory input out) ≡ block_from stmts next =
@@ -326,7 +326,7 @@ module _ (image : List ℕ) (lo hi entry local pushed : ℕ) (params : List Para
         let small : key_of input < 2 ^ location_width temporary_bits location = subst (λ w. key_of input < 2 ^ w) (sym width) (key-fits input bytes) in
         one_before (block_from (inner.Dos number (Some location) None ∷ stmts) (inner_state block values base memory input out)) (steps_for stmts)
         (state (line (text_stmt (inner.Dos number (Some location) None)) at lines) values cells input out)
-            (state lines (with_value values location (key_of input)) cells (left_of input) (out ++ echo_of echo input)) refl to
+        (state lines (with_value values location (key_of input)) cells (left_of input) (out ++ echo_of echo input)) refl to
         (subst (λ u. Comes u (steps_for stmts) (state lines (with_value values location (key_of input)) cells (left_of input) (out ++ echo_of echo input))) (sym same)
         (later (with_value values location (key_of input)) base memory cells (left_of input) (out ++ echo_of echo input) (held-after values location (key_of input) held small) (left-bytes input bytes)
         (subst IsUnstuck same unstuck)))
@@ -335,7 +335,7 @@ module _ (image : List ℕ) (lo hi entry local pushed : ℕ) (params : List Para
     argument-comes : (number : ℕ) (e : inner.Expr) → is_stmt temporary_bits (inner.Dos number None (Some e)) ≡ true → is_lifted_stmt (inner.Dos number None (Some e)) ≡ true
         → IsUnstuck (block_from (inner.Dos number None (Some e) ∷ stmts) (inner_state block values base memory input out))
         → Comes (block_from (inner.Dos number None (Some e) ∷ stmts) (inner_state block values base memory input out)) (suc (steps_for stmts))
-            (state (line (text_stmt (inner.Dos number None (Some e))) at lines) values cells input out)
+        (state (line (text_stmt (inner.Dos number None (Some e))) at lines) values cells input out)
     argument-comes number e formed lifted unstuck =
         let (which, read) = and_parts (number == 2 || number == 76) (is_lifted_expr e) lifted in
         elim (or_cases (number == 2) (number == 76) which) [
@@ -346,30 +346,30 @@ module _ (image : List ℕ) (lo hi entry local pushed : ℕ) (params : List Para
         writes : (n : ℕ) → n ≡ 2 → is_lifted_expr e ≡ true → is_stmt temporary_bits (inner.Dos n None (Some e)) ≡ true
             → IsUnstuck (block_from (inner.Dos n None (Some e) ∷ stmts) (inner_state block values base memory input out))
             → Comes (block_from (inner.Dos n None (Some e) ∷ stmts) (inner_state block values base memory input out)) (suc (steps_for stmts))
-                (state (line (text_stmt (inner.Dos n None (Some e))) at lines) values cells input out)
+            (state (line (text_stmt (inner.Dos n None (Some e))) at lines) values cells input out)
         writes n is read =
             subst (λ k. is_stmt temporary_bits (inner.Dos k None (Some e)) ≡ true
             → IsUnstuck (block_from (inner.Dos k None (Some e) ∷ stmts) (inner_state block values base memory input out))
             → Comes (block_from (inner.Dos k None (Some e) ∷ stmts) (inner_state block values base memory input out)) (suc (steps_for stmts))
-                (state (line (text_stmt (inner.Dos k None (Some e))) at lines) values cells input out))
+            (state (line (text_stmt (inner.Dos k None (Some e))) at lines) values cells input out))
             (sym is) (λ formed unstuck. putc-comes e formed read unstuck)
 
         leaves : (n : ℕ) → n ≡ 76 → is_lifted_expr e ≡ true → is_stmt temporary_bits (inner.Dos n None (Some e)) ≡ true
             → IsUnstuck (block_from (inner.Dos n None (Some e) ∷ stmts) (inner_state block values base memory input out))
             → Comes (block_from (inner.Dos n None (Some e) ∷ stmts) (inner_state block values base memory input out)) (suc (steps_for stmts))
-                (state (line (text_stmt (inner.Dos n None (Some e))) at lines) values cells input out)
+            (state (line (text_stmt (inner.Dos n None (Some e))) at lines) values cells input out)
         leaves n is read =
             subst (λ k. is_stmt temporary_bits (inner.Dos k None (Some e)) ≡ true
             → IsUnstuck (block_from (inner.Dos k None (Some e) ∷ stmts) (inner_state block values base memory input out))
             → Comes (block_from (inner.Dos k None (Some e) ∷ stmts) (inner_state block values base memory input out)) (suc (steps_for stmts))
-                (state (line (text_stmt (inner.Dos k None (Some e))) at lines) values cells input out))
+            (state (line (text_stmt (inner.Dos k None (Some e))) at lines) values cells input out))
             (sym is) (λ formed unstuck. leave-comes e formed read)
 
     -- a DOS call that gives a byte
     byte-comes : (number : ℕ) (location : Loc) → is_stmt temporary_bits (inner.Dos number (Some location) None) ≡ true → is_lifted_stmt (inner.Dos number (Some location) None) ≡ true
         → IsUnstuck (block_from (inner.Dos number (Some location) None ∷ stmts) (inner_state block values base memory input out))
         → Comes (block_from (inner.Dos number (Some location) None ∷ stmts) (inner_state block values base memory input out)) (suc (steps_for stmts))
-            (state (line (text_stmt (inner.Dos number (Some location) None)) at lines) values cells input out)
+        (state (line (text_stmt (inner.Dos number (Some location) None)) at lines) values cells input out)
     byte-comes number location formed lifted unstuck =
         let (which, half) = and_parts (number == 1 || number == 8) (is_lifted_half location) lifted in
         let (also, place) = and_parts (number == 1 || number == 8) (is_byte_place temporary_bits (Some location)) formed in
@@ -386,14 +386,14 @@ module _ (image : List ℕ) (lo hi entry local pushed : ℕ) (params : List Para
         by : (known n : ℕ) (echo : Bool) → n ≡ known → IsPlace location → location_width temporary_bits location ≡ 8
             → ((s : run.State) → run.dos_step known (Some location) 0 s ≡ run.keyed echo (Some location) s.input s)
             → c_step (state (line (text_stmt (inner.Dos known (Some location) None)) at lines) values cells input out)
-                ≡ state lines (with_value values location (key_of input)) cells (left_of input) (out ++ echo_of echo input)
+            ≡ state lines (with_value values location (key_of input)) cells (left_of input) (out ++ echo_of echo input)
             → IsUnstuck (block_from (inner.Dos n (Some location) None ∷ stmts) (inner_state block values base memory input out))
             → Comes (block_from (inner.Dos n (Some location) None ∷ stmts) (inner_state block values base memory input out)) (suc (steps_for stmts))
-                (state (line (text_stmt (inner.Dos n (Some location) None)) at lines) values cells input out)
+            (state (line (text_stmt (inner.Dos n (Some location) None)) at lines) values cells input out)
         by known n echo same is width does to =
             subst (λ k. IsUnstuck (block_from (inner.Dos k (Some location) None ∷ stmts) (inner_state block values base memory input out))
             → Comes (block_from (inner.Dos k (Some location) None ∷ stmts) (inner_state block values base memory input out)) (suc (steps_for stmts))
-                (state (line (text_stmt (inner.Dos k (Some location) None)) at lines) values cells input out))
+            (state (line (text_stmt (inner.Dos k (Some location) None)) at lines) values cells input out))
             (sym same) (λ unstuck. key-comes known echo location is width does to unstuck)
 
     stmt-comes : (stmt : inner.Stmt) → is_stmt temporary_bits stmt ≡ true → is_lifted_stmt stmt ≡ true → (counted : Stmt) → IsCounted (text_stmt stmt) counted
@@ -419,8 +419,8 @@ module _ (image : List ℕ) (lo hi entry local pushed : ℕ) (params : List Para
       let (here, rest) = and_parts (is_stmt temporary_bits stmt) (list_all (is_stmt temporary_bits) stmts) formed in
       let (mine, theirs) = and_parts (is_lifted_stmt stmt) (list_all is_lifted_stmt stmts) lifted in
       stmt-comes block stmts others at lines
-          (stmts-come stmts block rest theirs end_formed end_lifted others lines lined) values base memory cells input out held bytes stmt here mine counted
-          kept unstuck
+      (stmts-come stmts block rest theirs end_formed end_lifted others lines lined) values base memory cells input out held bytes stmt here mine counted
+      kept unstuck
 
   -- Blocks.
 
@@ -443,11 +443,11 @@ module _ (image : List ℕ) (lo hi entry local pushed : ℕ) (params : List Para
       let next : IsUnstuck (run.step program fill start) = subst (λ u. IsUnstuck (run.step program fill u)) x.inner_is (unstuck-later s x.unstuck) in
       let come = stmts-come x.block.stmts x.block stmts_formed stmts_lifted end_formed end_lifted x.others label.1 label.3 x.values x.base x.memory x.cells x.input x.out x.held x.bytes next in
       let whole = one_before (run.step program fill start) (steps_for x.block.stmts)
-          (state (line (Label (label_name x.block.at)) label.0 label.1) x.values x.cells x.input x.out) (state label.1 x.values x.cells x.input x.out) refl
+      (state (line (Label (label_name x.block.at)) label.0 label.1) x.values x.cells x.input x.out) (state label.1 x.values x.cells x.input x.out) refl
       (label-step lo hi functions f frame fill label.0 label.1 x.values x.cells x.input x.out (label_name x.block.at)) come in
       let text_is = x.text_is ∙ ap (λ l. state l x.values x.cells x.input x.out) label.2 in
       let made : IsLeap (run.inner_system program fill) (text_system (text lo hi functions f frame fill)) IsAt most start
-          (state (line (Label (label_name x.block.at)) label.0 label.1) x.values x.cells x.input x.out) = record {
+      (state (line (Label (label_name x.block.at)) label.0 label.1) x.values x.cells x.input x.out) = record {
         further = whole.further;
         few = omega (arith, whole.within, steps-are x.block.stmts, x.good_block.few);
         running = whole.running;

@@ -116,12 +116,20 @@ module _ (values : Values) (memory : List ℕ) (base : ℕ) (held : AreHeld valu
         }
 
     const-means : (size : Size) (n : ℕ) → n < 2 ^ bits size → Means (scope_with values cells) size n (tree.Number n (constant_type (bits size)))
-    const-means bit n fits = record
-        { base = Int; is = refl; number_is =
-        record { typed = refl; valued = ap (λ k. Gives (number Int k)) (mod-eq_of_lt (let f : n < 65536 = omega (arith, fits) in f)) }; fits = fits }
-    const-means byte n fits = record
-        { base = Int; is = refl; number_is =
-        record { typed = refl; valued = ap (λ k. Gives (number Int k)) (mod-eq_of_lt (let f : n < 65536 = omega (arith, fits) in f)) }; fits = fits }
+    const-means bit n fits = record {
+      base = Int;
+      is = refl;
+      number_is =
+          record { typed = refl; valued = ap (λ k. Gives (number Int k)) (mod-eq_of_lt (let f : n < 65536 = omega (arith, fits) in f)) };
+      fits = fits;
+    }
+    const-means byte n fits = record {
+      base = Int;
+      is = refl;
+      number_is =
+          record { typed = refl; valued = ap (λ k. Gives (number Int k)) (mod-eq_of_lt (let f : n < 65536 = omega (arith, fits) in f)) };
+      fits = fits;
+    }
     const-means word n fits = record { base = Uint; is = refl; number_is = record { typed = refl; valued = ap (λ k. Gives (number Uint k)) (mod-eq_of_lt fits) }; fits = fits }
     const-means long n fits = record { base = Ulong; is = refl; number_is = record { typed = refl; valued = ap (λ k. Gives (number Ulong k)) (mod-eq_of_lt fits) }; fits = fits }
 
@@ -148,8 +156,8 @@ module _ (values : Values) (memory : List ℕ) (base : ℕ) (held : AreHeld valu
     -- an operator that gives a number of its operands' size
     wide-stands : (operator : BinOp) (width : ℕ) (a b : Expr) (x : Stands cells a) → width ≡ bits x.size → is_comparison operator ≡ false
         → Means (scope_with values cells) x.size
-            (binary_value operator (bits x.size) (value_of (scene_with values base memory) a) (value_of (scene_with values base memory) b))
-            (binary_expr operator (bits x.size) (text_expr a) (text_expr b))
+        (binary_value operator (bits x.size) (value_of (scene_with values base memory) a) (value_of (scene_with values base memory) b))
+        (binary_expr operator (bits x.size) (text_expr a) (text_expr b))
         → Stands cells (Binary operator width a b)
     wide-stands operator width a b x e wide means = record {
       size = x.size;
@@ -161,8 +169,8 @@ module _ (values : Values) (memory : List ℕ) (base : ℕ) (held : AreHeld valu
     -- a comparison
     bit-stands : (operator : BinOp) (width : ℕ) (a b : Expr) (x : Stands cells a) → width ≡ bits x.size → is_comparison operator ≡ true
         → Means (scope_with values cells) bit
-            (binary_value operator (bits x.size) (value_of (scene_with values base memory) a) (value_of (scene_with values base memory) b))
-            (binary_expr operator (bits x.size) (text_expr a) (text_expr b))
+        (binary_value operator (bits x.size) (value_of (scene_with values base memory) a) (value_of (scene_with values base memory) b))
+        (binary_expr operator (bits x.size) (text_expr a) (text_expr b))
         → Stands cells (Binary operator width a b)
     bit-stands operator width a b x e narrow means = record {
       size = bit;
@@ -211,11 +219,11 @@ module _ (values : Values) (memory : List ℕ) (base : ℕ) (held : AreHeld valu
               (if signed then pattern_at k (signed_at (width_of temporary_bits a) (value_of (scene_with values base memory) a)) else value_of
               (scene_with values base memory) a) (widened signed (bits_in a) k (text_expr a))) (sym s.1)
               (subst (λ k. Means (scope_with values cells) s.0
-                  (if signed then pattern_at (bits s.0) (signed_at (width_of temporary_bits a) (value_of (scene_with values base memory) a)) else value_of
-                  (scene_with values base memory) a) (widened signed k (bits s.0) (text_expr a))) (sym x.counted)
+              (if signed then pattern_at (bits s.0) (signed_at (width_of temporary_bits a) (value_of (scene_with values base memory) a)) else value_of
+              (scene_with values base memory) a) (widened signed k (bits s.0) (text_expr a))) (sym x.counted)
               (subst (λ k. Means (scope_with values cells) s.0
-                  (if signed then pattern_at (bits s.0) (signed_at k (value_of (scene_with values base memory) a)) else value_of
-                  (scene_with values base memory) a) (widened signed (bits x.size) (bits s.0) (text_expr a))) (sym x.width) means));
+              (if signed then pattern_at (bits s.0) (signed_at k (value_of (scene_with values base memory) a)) else value_of
+              (scene_with values base memory) a) (widened signed (bits x.size) (bits s.0) (text_expr a))) (sym x.width) means));
         }
 
     part-stands : (width first : ℕ) (a : Expr) (x : Stands cells a) → is_width width ≡ true → first + width ≤ width_of temporary_bits a → Stands cells (Part width first a)
@@ -253,8 +261,8 @@ module _ (values : Values) (memory : List ℕ) (base : ℕ) (held : AreHeld valu
               (value_of (scene_with values base memory) high * 2 ^ k + value_of (scene_with values base memory) low)
               (joined (bits_in low) (text_expr high) (text_expr low))) (sym low_width)
               (subst (λ k. Means (scope_with values cells) w.0
-                  (value_of (scene_with values base memory) high * 2 ^ bits s + value_of (scene_with values base memory) low)
-                  (joined k (text_expr high) (text_expr low))) (sym low_counted)
+              (value_of (scene_with values base memory) high * 2 ^ bits s + value_of (scene_with values base memory) low)
+              (joined k (text_expr high) (text_expr low))) (sym low_counted)
               (joined-means (scope_with values cells) s w.0 _ _ (text_expr high) (text_expr low) w.1 few h l));
         }
 
@@ -301,9 +309,9 @@ module _ (values : Values) (memory : List ℕ) (base : ℕ) (held : AreHeld valu
         unary-stands operator width a x (sym (eqb-true (width_of temporary_bits a) width same) ∙ x.width)
     expr-stands (Binary operator width a b) formed lifted =
         let (five, safe) = and_parts (is_width width && is_expr temporary_bits a && is_expr temporary_bits b && (width_of temporary_bits a == width)
-            && (width_of temporary_bits b == width)) (not (is_division operator) || divides_safely operator width b) formed in
+        && (width_of temporary_bits b == width)) (not (is_division operator) || divides_safely operator width b) formed in
         let (four, second_width) = and_parts (is_width width && is_expr temporary_bits a && is_expr temporary_bits b && (width_of temporary_bits a == width))
-            (width_of temporary_bits b == width) five in
+        (width_of temporary_bits b == width) five in
         let (three, first_width) = and_parts (is_width width && is_expr temporary_bits a && is_expr temporary_bits b) (width_of temporary_bits a == width) four in
         let (two, second) = and_parts (is_width width && is_expr temporary_bits a) (is_expr temporary_bits b) three in
         let (one, first) = and_parts (is_width width) (is_expr temporary_bits a) two in
@@ -324,7 +332,7 @@ module _ (values : Values) (memory : List ℕ) (base : ℕ) (held : AreHeld valu
         part-stands width first a (expr-stands a inner lifted) is (leb-true (first + width) (width_of temporary_bits a) within)
     expr-stands (Join high low) formed lifted =
         let (three, few) = and_parts (is_expr temporary_bits high && is_expr temporary_bits low
-            && (width_of temporary_bits high == width_of temporary_bits low)) (width_of temporary_bits low == 8 || width_of temporary_bits low == 16) formed in
+        && (width_of temporary_bits high == width_of temporary_bits low)) (width_of temporary_bits low == 8 || width_of temporary_bits low == 16) formed in
         let (two, same) = and_parts (is_expr temporary_bits high && is_expr temporary_bits low) (width_of temporary_bits high == width_of temporary_bits low) three in
         let (upper, lower) = and_parts (is_expr temporary_bits high) (is_expr temporary_bits low) two in
         let parts = both_lifted (parts_of high) (parts_of low) lifted in
@@ -338,7 +346,7 @@ module _ (values : Values) (memory : List ℕ) (base : ℕ) (held : AreHeld valu
         ])
     expr-stands (Choose test a b) formed lifted =
         let (four, same) = and_parts (is_expr temporary_bits test && is_expr temporary_bits a && is_expr temporary_bits b
-            && (width_of temporary_bits test == 1)) (width_of temporary_bits a == width_of temporary_bits b) formed in
+        && (width_of temporary_bits test == 1)) (width_of temporary_bits a == width_of temporary_bits b) formed in
         let (three, one) = and_parts (is_expr temporary_bits test && is_expr temporary_bits a && is_expr temporary_bits b) (width_of temporary_bits test == 1) four in
         let (two, third) = and_parts (is_expr temporary_bits test && is_expr temporary_bits a) (is_expr temporary_bits b) three in
         let (first, second) = and_parts (is_expr temporary_bits test) (is_expr temporary_bits a) two in

@@ -168,7 +168,7 @@ module _ (lo hi version : ℕ) (functions : List Function) (f : Function) (block
         let (there, fits) = and_parts (is_location temporary_bits location) (is_expr_of temporary_bits (location_width temporary_bits location) e) formed in
         let (place, read) = and_parts (is_lifted_location location) (is_lifted_expr e) lifted in
         assign-fine tree f names-are (labels_of blocks) location (text_expr e) (record { lifted = place; there = there })
-            (expr-fine e (sized (location_width temporary_bits location) e fits) read shallow.0)
+        (expr-fine e (sized (location_width temporary_bits location) e fits) read shallow.0)
     stmt-fine (inner.Dos number None (Some e)) formed lifted shallow = argument-fine number e formed lifted shallow.0
     stmt-fine (inner.Dos number (Some location) None) formed lifted shallow = byte-fine number location formed lifted
     stmt-fine stmt formed lifted shallow = absurd (true≢false (sym lifted))
@@ -183,7 +183,7 @@ module _ (lo hi version : ℕ) (functions : List Function) (f : Function) (block
         let to = is-target blocks one (ltb-true one (length blocks) first) in
         let or_to = is-target blocks other (ltb-true other (length blocks) second) in
         if-fine tree f names-are (labels_of blocks) (text_expr test) (label_at blocks one) (label_at blocks other)
-            (expr-fine test (sized 1 test tested) lifted shallow.0) to.named or_to.named to.among or_to.among
+        (expr-fine test (sized 1 test tested) lifted shallow.0) to.named or_to.named to.among or_to.among
     exit-fine (inner.Switch e places) formed lifted shallow = absurd (true≢false (sym lifted))
     exit-fine (inner.Ret values) formed lifted shallow = absurd (true≢false (sym lifted))
     exit-fine inner.Stop formed lifted shallow = empty-fine tree f names-are (labels_of blocks)

@@ -66,10 +66,34 @@ cut-twice n = omega arith
 cut-filled : (fill : ℕ) → bindings_of (cut_values fill) ≡ bindings_of (filled temporary_bits fill)
 cut-filled fill =
     let x : ℕ = if nat_le 32768 fill then fill + 4294901760 else fill in
-    same-bound (cut_values fill) (filled temporary_bits fill) locations
-    (refl, (refl, (refl, (refl, (refl,
-        (refl, (refl, (refl, (refl,
-        (refl, (refl, (refl, (cut-twice x, (cut-twice x, (cut-twice x, (cut-twice x, (refl, (refl, (refl, (refl, (refl, (refl, (refl, tt)))))))))))))))))))))))
+    same-bound (cut_values fill) (filled temporary_bits fill) locations (
+      refl,
+      (
+        refl,
+        (
+          refl,
+          (
+            refl,
+            (
+              refl,
+              (
+                refl,
+                (
+                  refl,
+                  (
+                    refl,
+                    (
+                      refl,
+                      (refl, (refl, (refl, (cut-twice x, (cut-twice x, (cut-twice x, (cut-twice x, (refl, (refl, (refl, (refl, (refl, (refl, (refl, tt)))))))))))))),
+                    ),
+                  ),
+                ),
+              ),
+            ),
+          ),
+        ),
+      ),
+    )
 
 filled-held : (fill : ℕ) → AreHeld (filled temporary_bits fill)
 filled-held fill location is = mod-lt _ (pow_pos (location_width temporary_bits location))
@@ -180,7 +204,7 @@ module _ (lo hi : ℕ) (functions : List Function) (f : Function) (frame fill : 
   four-is =
       ap text_step three-is
       ∙ flag-step lo hi functions f frame fill d _ (cut_at (Flag Sf) (cut_at (Flag Zf) (cut_at (Flag Cf) (first_values fill)))) cells input [] (Flag Of)
-          (flag-place Of) refl (byte-room (Flag Of) (flag-place Of) refl)
+      (flag-place Of) refl (byte-room (Flag Of) (flag-place Of) refl)
       ∙ ap (λ bs. record (text_state lo hi functions f frame fill lines (cut_values fill) cells input []) { frame = record { function = f; base = frame; variables = bs } }) (cut-filled fill)
 
   first-quiet : (j : ℕ) → j ≤ 4 → is_over (end_after (text_system (text lo hi functions f frame fill)) j first_text) ≡ false

@@ -136,7 +136,7 @@ module _ (image : Image) (layout : Layout) (procs : List Proc) (p : inner.Progra
       let i = run.first_state p fill input in
       let t = c.first_state tree start fill input in
       let there = visits-follow (has_block_at p) machine_system instruction_mark s (run.inner_system p fill) offset_mark i machine_lawful (inner_lawful p fill)
-          (lifted.runs fill input fits bytes) together.marked in
+      (lifted.runs fill input fits bytes) together.marked in
       let whole = follows_trans Always machine_system s (run.inner_system p fill) i (text_system tree) t suc (λ n. n * length (goto_stmts g.blocks) + 4) there together.follows in
       record {
         text_follows = follows_wider Always machine_system s (text_system tree) t (λ n. suc n * length (goto_stmts g.blocks) + 4)

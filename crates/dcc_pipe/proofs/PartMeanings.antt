@@ -163,12 +163,12 @@ module _ (scope : Scope) where
       let up = upper-number Uint x.base h 8 high refl x.number_is (omega arith) (ap (λ k. k % 65536 % 65536) (extended-is byte x.base h x.is x.fits) ∙ omega (arith, hf)) (omega (arith, hf)) in
       let e = Binary Shl (Cast (plain Uint) high) (small 8) in
       let both = subst (λ t. IsNumber scope t (bit_or (convert Uint t (h * 2 ^ 8)) (convert y.base t l)) (Binary Or e low)) (common y.base y.is)
-          (or-number Uint y.base (h * 2 ^ 8) l e low up y.number_is) in
+      (or-number Uint y.base (h * 2 ^ 8) l e low up y.number_is) in
       plain-means scope word (h * 2 ^ 8 + l) (Binary Or e low)
       (subst (λ k. IsNumber scope Uint k (Binary Or e low))
       (ap₂ bit_or (mod-eq_of_lt (let f : h * 2 ^ 8 < 65536 = omega (arith, hf) in f))
-          (ap (λ k. k % 65536) (extended-is byte y.base l y.is y.fits) ∙ mod-eq_of_lt (let f : l < 65536 = omega (arith, y.fits) in f))
-          ∙ or_shifted h 8 l y.fits)
+      (ap (λ k. k % 65536) (extended-is byte y.base l y.is y.fits) ∙ mod-eq_of_lt (let f : l < 65536 = omega (arith, y.fits) in f))
+      ∙ or_shifted h 8 l y.fits)
       both)
       (omega (arith, hf, y.fits))
     where
@@ -182,15 +182,15 @@ module _ (scope : Scope) where
   join-words h l high low x y =
       let hf = x.fits in
       let up = upper-number Ulong x.base h 16 high refl x.number_is (omega arith)
-          (ap (λ k. k % 4294967296 % 4294967296) (extended-is word x.base h x.is x.fits) ∙ omega (arith, hf)) (omega (arith, hf)) in
+      (ap (λ k. k % 4294967296 % 4294967296) (extended-is word x.base h x.is x.fits) ∙ omega (arith, hf)) (omega (arith, hf)) in
       let e = Binary Shl (Cast (plain Ulong) high) (small 16) in
       let both = subst (λ t. IsNumber scope t (bit_or (convert Ulong t (h * 2 ^ 16)) (convert y.base t l)) (Binary Or e low)) (common y.base y.is)
-          (or-number Ulong y.base (h * 2 ^ 16) l e low up y.number_is) in
+      (or-number Ulong y.base (h * 2 ^ 16) l e low up y.number_is) in
       plain-means scope long (h * 2 ^ 16 + l) (Binary Or e low)
       (subst (λ k. IsNumber scope Ulong k (Binary Or e low))
       (ap₂ bit_or (mod-eq_of_lt (let f : h * 2 ^ 16 < 4294967296 = omega (arith, hf) in f))
-          (ap (λ k. k % 4294967296) (extended-is word y.base l y.is y.fits) ∙ mod-eq_of_lt (let f : l < 4294967296 = omega (arith, y.fits) in f))
-          ∙ or_shifted h 16 l y.fits)
+      (ap (λ k. k % 4294967296) (extended-is word y.base l y.is y.fits) ∙ mod-eq_of_lt (let f : l < 4294967296 = omega (arith, y.fits) in f))
+      ∙ or_shifted h 16 l y.fits)
       both)
       (omega (arith, hf, y.fits))
     where

@@ -148,7 +148,7 @@ signed-moved size b n m fits counted = elim (sign-of size n fits) [
       ∙ up size (n / 2 ^ m) (smaller size n m low)))
   | negative high stands same ↦
       rw stands (rw same (ap (λ k. extended_bits (signed_reckons size) k % 2 ^ bits size)
-          (right-negative (signed_reckons size) b (bits_below size n) m (turned-room size n fits) (below size n high) counted)
+      (right-negative (signed_reckons size) b (bits_below size n) m (turned-room size n fits) (below size n high) counted)
       ∙ ap (λ c. extended_bits (signed_reckons size) (complement (signed_reckons size) (c / 2 ^ m)) % 2 ^ bits size) (turned size n fits)
       ∙ down size (turned_bits size n / 2 ^ m) (less size n m fits high)))
 ]

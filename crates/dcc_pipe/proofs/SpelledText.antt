@@ -92,7 +92,7 @@ expr-spelled (inner.Unary operator width a) formed lifted =
     deeper (suc d + 5) (6 * suc (depth_of a)) (text_expr (inner.Unary operator width a)) (omega arith) (unary-spelled d operator width (text_expr a) x)
 expr-spelled (inner.Binary operator width a b) formed lifted =
     let (five, safe) = and_parts (is_width width && is_expr temporary_bits a && is_expr temporary_bits b && (width_of temporary_bits a == width)
-        && (width_of temporary_bits b == width)) (not (is_division operator) || divides_safely operator width b) formed in
+    && (width_of temporary_bits b == width)) (not (is_division operator) || divides_safely operator width b) formed in
     let (four, second_width) = and_parts (is_width width && is_expr temporary_bits a && is_expr temporary_bits b && (width_of temporary_bits a == width)) (width_of temporary_bits b == width) five in
     let (three, first_width) = and_parts (is_width width && is_expr temporary_bits a && is_expr temporary_bits b) (width_of temporary_bits a == width) four in
     let (two, second) = and_parts (is_width width && is_expr temporary_bits a) (is_expr temporary_bits b) three in
@@ -118,8 +118,8 @@ expr-spelled (inner.Part width first a) formed lifted =
     deeper (suc d + 5) (6 * suc (depth_of a)) (text_expr (inner.Part width first a)) (omega arith) (part-spelled d width first (text_expr a) few x)
 expr-spelled (inner.Join high low) formed lifted =
     let (three, halves) = and_parts
-        (is_expr temporary_bits high && is_expr temporary_bits low && (width_of temporary_bits high == width_of temporary_bits low))
-        (width_of temporary_bits low == 8 || width_of temporary_bits low == 16) formed in
+    (is_expr temporary_bits high && is_expr temporary_bits low && (width_of temporary_bits high == width_of temporary_bits low))
+    (width_of temporary_bits low == 8 || width_of temporary_bits low == 16) formed in
     let (two, same) = and_parts (is_expr temporary_bits high && is_expr temporary_bits low) (width_of temporary_bits high == width_of temporary_bits low) three in
     let (upper, lower) = and_parts (is_expr temporary_bits high) (is_expr temporary_bits low) two in
     let parts = both_lifted (parts_of high) (parts_of low) lifted in
@@ -131,7 +131,7 @@ expr-spelled (inner.Join high low) formed lifted =
     deeper (6 * d + 5) (6 * suc d) (text_expr (inner.Join high low)) (level d) (joined-spelled (6 * d) (bits_in low) (text_expr high) (text_expr low) few x y)
 expr-spelled (inner.Choose test a b) formed lifted =
     let (four, same) = and_parts (is_expr temporary_bits test && is_expr temporary_bits a && is_expr temporary_bits b && (width_of temporary_bits test == 1))
-        (width_of temporary_bits a == width_of temporary_bits b) formed in
+    (width_of temporary_bits a == width_of temporary_bits b) formed in
     let (three, one) = and_parts (is_expr temporary_bits test && is_expr temporary_bits a && is_expr temporary_bits b) (width_of temporary_bits test == 1) four in
     let (two, third) = and_parts (is_expr temporary_bits test && is_expr temporary_bits a) (is_expr temporary_bits b) three in
     let (first, second) = and_parts (is_expr temporary_bits test) (is_expr temporary_bits a) two in

@@ -126,7 +126,7 @@ module _ (lo hi : ℕ) (functions : List Function) (f : Function) (base fill : �
       where
         by : (zero_is : Bool) → after_goto f (if zero_is then other else one) ≡ Some (runs to (ends_function f.last))
             → step text (goes_on (runs (if zero_is then line (Goto other) j no_lines else line (Goto one) i no_lines) (runs lines (ends_function f.last)))
-                (text_state lines values memory input out)) ≡ text_state to values memory input out
+            (text_state lines values memory input out)) ≡ text_state to values memory input out
         by true found = ap (λ o. jump_step o j (goes_on (runs no_lines (runs lines (ends_function f.last))) (text_state lines values memory input out))) found
         by false found = ap (λ o. jump_step o i (goes_on (runs no_lines (runs lines (ends_function f.last))) (text_state lines values memory input out))) found
 
@@ -149,7 +149,7 @@ module _ (lo hi : ℕ) (functions : List Function) (f : Function) (base fill : �
           → ((target : Option Target) → dos_step dos target [] at (text_state lines values memory input out)
           ≡ key_step echo input target at (text_state lines values memory input out)) → key_of input < 256
           → on (result_target (scope_with values memory) (Some (place_of location))) at (text_state lines values memory input out)
-              (λ target. dos_step dos target [] at (text_state lines values memory input out))
+          (λ target. dos_step dos target [] at (text_state lines values memory input out))
           ≡ text_state lines (with_value values location (key_of input)) memory (left_of input) (out ++ echo_of echo input)
       key-step dos echo does small =
           let s = text_state lines values memory input out in

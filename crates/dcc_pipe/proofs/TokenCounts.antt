@@ -127,5 +127,10 @@ globals-short (placed_at g) = omega (arith, globals-short g)
 pub unit-count : (limit : ℕ) (tokens : List Placed) (tree : Tree) (f : Function) (others : List Function) → IsUnit limit tokens tree → tree.globals ≡ []
     → tree.functions ≡ f ∷ others → count_of f.body + 4 ≤ length tokens
 unit-count limit tokens tree f others unit no_globals functions =
-    omega (arith, ap length unit.head_is, globals-short (subst (λ gs. AreGlobals None unit.globals gs unit.functions) no_globals unit.globals_are), first-count
-        (subst (AreFunctions limit unit.functions) functions unit.functions_are))
+    omega (
+      arith,
+      ap length unit.head_is,
+      globals-short (subst (λ gs. AreGlobals None unit.globals gs unit.functions) no_globals unit.globals_are),
+      first-count
+          (subst (AreFunctions limit unit.functions) functions unit.functions_are),
+    )

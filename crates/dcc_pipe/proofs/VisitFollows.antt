@@ -31,7 +31,7 @@ visited : {S P : Type 0} (kept : P → Bool) (first : System S) (mark : S → Op
 visited kept first mark zero n s v is = absurd cc
 visited {S} {P} kept first mark (suc count) n s v is =
     by (is_over (first.end s)) (mark s) refl (λ m. visited kept first mark count m (first.step s) v)
-        (sym (ap (λ l. slice_get l n) (visits_of-append kept (visit_of first mark s) (visits first mark count (first.step s)))) ∙ is)
+    (sym (ap (λ l. slice_get l n) (visits_of-append kept (visit_of first mark s) (visits first mark count (first.step s)))) ∙ is)
   where
     -- with a kept visit here
     one : (n : ℕ) (place : P) → is_over (first.end s) ≡ false → ((m : ℕ) → slice_get (visits_of kept (visits first mark count (first.step s))) m ≡ Some v → IsVisited first (first.step s) m v)

@@ -85,7 +85,7 @@ labels-apart (b ∷ blocks) below differ =
     let (front, others) = and_parts (not (list_any (λ m. b.at == m) (map (λ b. b.at) blocks))) (formed.all_differ (map (λ b. b.at) blocks)) differ in
     and_from (not (is_among (labels_of blocks) (label_name b.at))) (all_differ (labels_of blocks))
     (not_from_false (is_among (labels_of blocks) (label_name b.at))
-        (label-apart b.at blocks (below 0 b refl) (λ k. below (suc k)) (not-true (list_any (λ m. b.at == m) (map (λ b. b.at) blocks)) front)))
+    (label-apart b.at blocks (below 0 b refl) (λ k. below (suc k)) (not-true (list_any (λ m. b.at == m) (map (λ b. b.at) blocks)) front)))
     (labels-apart blocks (λ k. below (suc k)) others)
 
 -- What does not depend on the program.
@@ -150,7 +150,7 @@ module _ (p : inner.Program) (g : inner.Graph) (one : p.graphs ≡ g ∷ []) (is
     globals = refl;
     functions = and_from (is_writable_function start) true
         (and_from (list_all is_writable_local (map variable locations)) (are_writable_lines outermost false start.body) locals-writable
-            (fine-writable tree start names-are (labels_of g.blocks) whole-fine)) refl;
+        (fine-writable tree start names-are (labels_of g.blocks) whole-fine)) refl;
     allowed = record {
       start = start;
       others = [];

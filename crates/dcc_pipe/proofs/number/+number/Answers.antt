@@ -36,7 +36,7 @@ number_arm-returns t c =
           if-both c.below.result _ _ _
           (λ behind line_is depth_is. counted-arm a c.number_lines.new.lines (numbered_arms behind.depth behind.line rest) (c.number_lines.auto.lines ∙ ap length c.deref_mut.ensures.value)
           ∙ arm-numbered c.args.depth at c.in_ok-first.first behind.depth last.line behind.line cases body (lines_of c.number_lines.new.lines) rest first_is
-              (lines.numbered (inner u)) (lines.line (inner u)) (depth_is ∙ lines.depth) line_is
+          (lines.numbered (inner u)) (lines.line (inner u)) (depth_is ∙ lines.depth) line_is
           ∙ ap (numbered_arms c.args.depth at) (sym (is rest)))
           c.below.ensures.line c.below.ensures.depth;
       line = λ rest u.
@@ -63,14 +63,14 @@ number_default-returns-in_ok-below-in-Some t c =
     record {
       numbered = λ u.
           let inner : are_unbroken (stmts_in body) ≡ true = ap (λ ls. are_unbroken (stmts_in (lines_of ls))) c.deref_mut.ensures.value
-              ∙ arm-unbroken a (ap (λ last. are_unbroken (arm_stmts (arms_if last))) (sym c.in-Some.is) ∙ u) in
+          ∙ arm-unbroken a (ap (λ last. are_unbroken (arm_stmts (arms_if last))) (sym c.in-Some.is) ∙ u) in
           on-ok c.below-in-Some.result
           (counted-arm a c.number_lines.new.lines no_arms (c.number_lines.auto.lines ∙ ap length c.deref_mut.ensures.value)
           ∙ ap (λ b. arm cases b no_arms) (c.in_ok-number_lines-in-Some.ensures.numbered inner)
           ∙ ap (numbered_default c.args.depth c.args.line) (sym is));
       line = λ u.
           let inner : are_unbroken (stmts_in body) ≡ true = ap (λ ls. are_unbroken (stmts_in (lines_of ls))) c.deref_mut.ensures.value
-              ∙ arm-unbroken a (ap (λ last. are_unbroken (arm_stmts (arms_if last))) (sym c.in-Some.is) ∙ u) in
+          ∙ arm-unbroken a (ap (λ last. are_unbroken (arm_stmts (arms_if last))) (sym c.in-Some.is) ∙ u) in
           let first = c.in_ok-number_lines-in-Some.ensures.line inner in
           let second = c.in_ok-below-in-Some.ensures.line in
           let all : rows (written_default 1 c.args.depth (arms_if c.args.last.now)) ≡ rows (written_lines 1 c.args.depth body) + 2 =
@@ -100,10 +100,10 @@ number_stmt-returns-in_ok-behind-in-If t c =
           let middle = c.in_ok-middle-in-If.middle in
           let counted : If e (lines_of c.number_lines.new.lines) (lines_of c.number_lines-in-If.new.lines) ≡ numbered_stmt c.args.depth c.args.line stmt =
           if-numbered c.args.depth c.args.line stmt e body otherwise c.in_ok-further-in-If.field-0 middle.depth middle.line c.in_ok-further-in-If-2.field-0
-              (lines_of c.number_lines.new.lines) (lines_of c.number_lines-in-If.new.lines) is c.in_ok-further-in-If.ensures (lines.numbered inner.0)
-              (lines.line inner.0) lines.depth c.in_ok-further-in-If-2.ensures (c.in_ok-end-in-If.ensures.numbered inner.1) in
+          (lines_of c.number_lines.new.lines) (lines_of c.number_lines-in-If.new.lines) is c.in_ok-further-in-If.ensures (lines.numbered inner.0)
+          (lines.line inner.0) lines.depth c.in_ok-further-in-If-2.ensures (c.in_ok-end-in-If.ensures.numbered inner.1) in
           counted-if _ _ _ c.in-If.test c.number_lines.new.lines c.number_lines-in-If.new.lines _ refl
-              (c.number_lines.auto.lines ∙ ap length c.deref_mut.ensures.value) (c.number_lines-in-If.auto.lines ∙ ap length c.deref_mut-in-If.ensures.value) counted;
+          (c.number_lines.auto.lines ∙ ap length c.deref_mut.ensures.value) (c.number_lines-in-If.auto.lines ∙ ap length c.deref_mut-in-If.ensures.value) counted;
       line = λ u.
           let inner = both-unbroken (stmts_in body) (stmts_in otherwise) (inner-unbroken stmt (stmts_in body ++ stmts_in otherwise) (ap inner_stmts is) u) in
           let lines = c.in_ok-middle-in-If.ensures in
@@ -111,14 +111,15 @@ number_stmt-returns-in_ok-behind-in-If t c =
           let flat = test-unbroken stmt e (ap exprs_of is) u in
           let end = c.in_ok-end-in-If.ensures.line inner.1 in
           let last = c.in_ok-behind-in-If.ensures.line in
-          let has_else : not c.is_empty-has_else.result ≡ not (length c.deref_mut-in-If.result.now == 0) = ap not (c.is_empty-has_else.ensures ∙ ap (λ n. n == 0) (sym c.deref_mut-in-If.ensures.len)) in
+          let has_else : not c.is_empty-has_else.result ≡ not (length c.deref_mut-in-If.result.now == 0) =
+          ap not (c.is_empty-has_else.ensures ∙ ap (λ n. n == 0) (sym c.deref_mut-in-If.ensures.len)) in
           let more = else-lines middle.depth c.deref_mut-in-If.result.now (not c.is_empty-has_else.result) has_else in
           if-line c.args.depth c.args.line stmt e body otherwise c.in_ok-further-in-If.field-0 middle.depth middle.line c.in_ok-further-in-If-2.field-0
-              c.in_ok-behind-in-If.behind.line is flat c.in_ok-further-in-If.ensures (lines.line inner.0) lines.depth c.in_ok-further-in-If-2.ensures
-              (omega (arith, last, end, more));
+          c.in_ok-behind-in-If.behind.line is flat c.in_ok-further-in-If.ensures (lines.line inner.0) lines.depth c.in_ok-further-in-If-2.ensures
+          (omega (arith, last, end, more));
       depth =
           if-depth c.args.depth stmt e body otherwise c.in_ok-middle-in-If.middle.depth c.in_ok-behind-in-If.behind.depth is c.in_ok-middle-in-If.ensures.depth
-              (c.in_ok-behind-in-If.ensures.depth ∙ c.in_ok-end-in-If.ensures.depth);
+          (c.in_ok-behind-in-If.ensures.depth ∙ c.in_ok-end-in-If.ensures.depth);
     }
 
 -- Loops.
@@ -134,7 +135,7 @@ number_stmt-returns-in_ok-behind-in-While t c =
           let inner = inner-unbroken stmt (stmts_in body) (ap inner_stmts is) u in
           let counted : While e (lines_of c.number_lines-in-While.new.lines) ≡ numbered_stmt c.args.depth c.args.line stmt =
           ap (λ b. While e b) (c.in_ok-number_lines-in-While.ensures.numbered inner ∙ ap (λ n. numbered_lines c.args.depth n body) c.in_ok-further-in-While.ensures)
-              ∙ ap (numbered_stmt c.args.depth c.args.line) (sym is) in
+          ∙ ap (numbered_stmt c.args.depth c.args.line) (sym is) in
           counted-while _ _ c.in-While.test c.number_lines-in-While.new.lines _ refl (c.number_lines-in-While.auto.lines ∙ ap length c.deref_mut-in-While.ensures.value) counted;
       line = λ u.
           let inner = inner-unbroken stmt (stmts_in body) (ap inner_stmts is) u in
@@ -158,7 +159,7 @@ number_stmt-returns-in_ok-behind-in-DoWhile t c =
           let inner = inner-unbroken stmt (stmts_in body) (ap inner_stmts is) u in
           let counted : DoWhile (lines_of c.number_lines-in-DoWhile.new.lines) e ≡ numbered_stmt c.args.depth c.args.line stmt =
           ap (λ b. DoWhile b e) (c.in_ok-number_lines-in-DoWhile.ensures.numbered inner
-              ∙ ap (λ n. numbered_lines c.args.depth n body) c.in_ok-further-in-DoWhile.ensures) ∙ ap (numbered_stmt c.args.depth c.args.line) (sym is) in
+          ∙ ap (λ n. numbered_lines c.args.depth n body) c.in_ok-further-in-DoWhile.ensures) ∙ ap (numbered_stmt c.args.depth c.args.line) (sym is) in
           counted-do_while _ _ c.in-DoWhile.test c.number_lines-in-DoWhile.new.lines _ refl (c.number_lines-in-DoWhile.auto.lines ∙ ap length c.deref_mut-in-DoWhile.ensures.value) counted;
       line = λ u.
           let inner = inner-unbroken stmt (stmts_in body) (ap inner_stmts is) u in
@@ -181,7 +182,7 @@ number_stmt-returns-in_ok-behind-in-Forever t c =
           let inner = inner-unbroken stmt (stmts_in body) (ap inner_stmts is) u in
           let counted : Forever (lines_of c.number_lines-in-Forever.new.lines) ≡ numbered_stmt c.args.depth c.args.line stmt =
           ap (λ b. Forever b) (c.in_ok-number_lines-in-Forever.ensures.numbered inner
-              ∙ ap (λ n. numbered_lines c.args.depth n body) c.in_ok-further-in-Forever.ensures) ∙ ap (numbered_stmt c.args.depth c.args.line) (sym is) in
+          ∙ ap (λ n. numbered_lines c.args.depth n body) c.in_ok-further-in-Forever.ensures) ∙ ap (numbered_stmt c.args.depth c.args.line) (sym is) in
           counted-forever _ c.number_lines-in-Forever.new.lines _ (c.number_lines-in-Forever.auto.lines ∙ ap length c.deref_mut-in-Forever.ensures.value) counted;
       line = λ u.
           let inner = inner-unbroken stmt (stmts_in body) (ap inner_stmts is) u in
@@ -211,8 +212,8 @@ number_stmt-returns-in_ok-behind-in-Switch t c =
           let behind = c.in_ok-behind-in-Switch.ensures in
           let counted : Switch e (arms_of c.number_arms.new.arms) (arms_if c.number_default.new.last) ≡ numbered_stmt c.args.depth c.args.line stmt =
           switch-numbered c.args.depth c.args.line stmt e arms last c.in_ok-further-in-Switch.field-0 middle.depth middle.line c.in_ok-further-in-Switch-2.field-0
-              (arms_of c.number_arms.new.arms) (arms_if c.number_default.new.last) is c.in_ok-further-in-Switch.ensures (lines.numbered inner.0)
-              (lines.line inner.0) lines.depth c.in_ok-further-in-Switch-2.ensures (behind.numbered inner.1) in
+          (arms_of c.number_arms.new.arms) (arms_if c.number_default.new.last) is c.in_ok-further-in-Switch.ensures (lines.numbered inner.0)
+          (lines.line inner.0) lines.depth c.in_ok-further-in-Switch-2.ensures (behind.numbered inner.1) in
           counted-switch _ _ c.in-Switch.value c.number_default.new.last c.number_arms.new.arms _ refl (c.number_arms.auto.arms ∙ ap length c.deref_mut-in-Switch.ensures.value) counted;
       line = λ u.
           let inner = both-unbroken (arm_stmts arms) (arm_stmts last) (inner-unbroken stmt (arm_stmts arms ++ arm_stmts last) (ap inner_stmts is) u) in
@@ -221,11 +222,11 @@ number_stmt-returns-in_ok-behind-in-Switch t c =
           let behind = c.in_ok-behind-in-Switch.ensures in
           let flat = test-unbroken stmt e (ap exprs_of is) u in
           switch-line c.args.depth c.args.line stmt e arms last c.in_ok-further-in-Switch.field-0 middle.depth middle.line c.in_ok-further-in-Switch-2.field-0
-              c.in_ok-behind-in-Switch.behind.line is flat c.in_ok-further-in-Switch.ensures (lines.line inner.0) lines.depth c.in_ok-further-in-Switch-2.ensures
-              (behind.line inner.1);
+          c.in_ok-behind-in-Switch.behind.line is flat c.in_ok-further-in-Switch.ensures (lines.line inner.0) lines.depth c.in_ok-further-in-Switch-2.ensures
+          (behind.line inner.1);
       depth =
           switch-depth c.args.depth stmt e arms last c.in_ok-middle-in-Switch.middle.depth c.in_ok-behind-in-Switch.behind.depth is
-              c.in_ok-middle-in-Switch.ensures.depth c.in_ok-behind-in-Switch.ensures.depth;
+          c.in_ok-middle-in-Switch.ensures.depth c.in_ok-behind-in-Switch.ensures.depth;
     }
 
 -- The lines of a slice, and the arms.
@@ -262,8 +263,8 @@ number_lines-loop-i-preserved t c =
           one-line lines i new (numbered_lines place.depth place.line (lines_of (drop (i + 1) (set lines i new)))) within
           ∙ ap₂ (λ n l. lines_before (take i lines) (line (stmt_of new.stmt) n (numbered_lines place.depth place.line l))) after.here behind
           ∙ ap (lines_before (take i lines))
-              (line-numbered depth at own here place.depth place.line stmt
-              (stmt_of new.stmt) old.line rest left is c.own_depth-own.ensures c.in_ok-here.ensures (after.numbered inner) (after.line inner) after.depth)
+          (line-numbered depth at own here place.depth place.line stmt
+          (stmt_of new.stmt) old.line rest left is c.own_depth-own.ensures c.in_ok-here.ensures (after.numbered inner) (after.line inner) after.depth)
           ∙ before.numbered u;
       line = λ u.
           let inner = (line-unbroken stmt old.line rest left is (before.unbroken u)).0 in

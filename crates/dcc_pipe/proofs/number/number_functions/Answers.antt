@@ -24,7 +24,7 @@ loop-i-preserved c =
     let front : map function_of (take (i + 1) (set functions i new)) ≡ map function_of (take i functions) ++ function_of new ∷ [] =
     ap (map function_of) (take_more_set functions i new within) ∙ map-append function_of (take i functions) (new ∷ []) in
     let parts : list_all (λ g. are_unbroken (stmts_in g.body)) (map function_of c.args.functions.now) ≡ true
-        → (are_unbroken (stmts_in (function_of f).body) ≡ true) × (list_all (λ g. are_unbroken (stmts_in g.body)) rest ≡ true) =
+    → (are_unbroken (stmts_in (function_of f).body) ≡ true) × (list_all (λ g. are_unbroken (stmts_in g.body)) rest ≡ true) =
     λ u. and_parts (are_unbroken (stmts_in (function_of f).body)) (list_all (λ g. are_unbroken (stmts_in g.body)) rest)
     (subst (λ gs. list_all (λ g. are_unbroken (stmts_in g.body)) gs ≡ true) is (c.loop-i.invariant.unbroken u)) in
     record {
