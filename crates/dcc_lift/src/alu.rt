@@ -1,26 +1,35 @@
 //! Operations on two operands, and those on one that work as them.
 
 ghost use Rattle.std.specs.Prelude.{◌≡◌, ◌++◌, OnOk};
+ghost use Rattle.dcc_ir.specs.Views.{expr_of};
+ghost use Rattle.dcc_lift.specs.Expressions as expressions;
 ghost use Rattle.dcc_lift.specs.Statements as spec;
 ghost use Rattle.dcc_lift.specs.Writing.{written};
 
 use crate::expression::bit;
 use crate::operand::operand_width;
 use crate::writer::Writer;
-use dcc_ir::{BinOp, UnOp};
+use dcc_ir::{BinOp, Expr, UnOp};
 use dcc_num::Width;
 use dcc_prog::{Alu, Operand, Unary};
 use std::alloc::AllocError;
 
 impl Writer {
+    // OF takes this; SF and ZF tell the sign of the result and whether it is 0.
+    fn take_result_flags(&mut self, w: Width, overflow: Expr) -> Result<(), AllocError>
+        ensures { OnOk result (written self.new ≡ written self.old ++ spec.flags_taking (expr_of overflow)
+            (expressions.sign w (expressions.result w)) (expressions.is_zero w (expressions.result w))) }
+    {
+        let maker = self.maker(w);
+        let negative = maker.sign(maker.result())?;
+        self.take_flags(overflow, negative, maker.is_zero(maker.result())?)
+    }
+
     // The flags of a sum, but for CF.
     fn sum_flags(&mut self, w: Width) -> Result<(), AllocError>
         ensures { OnOk result (written self.new ≡ written self.old ++ spec.sum_flags w) }
     {
-        let maker = self.maker(w);
-        let negative = maker.sign(maker.result())?;
-        let zero = maker.is_zero(maker.result())?;
-        self.take_flags(maker.sum_overflow()?, negative, zero)
+        self.take_result_flags(w, self.maker(w).sum_overflow()?)
     }
 
     // The flags of a difference, but for CF.
@@ -69,9 +78,7 @@ impl Writer {
     {
         let maker = self.maker(w);
         self.take_result(w, maker.difference_and_borrow()?)?;
-        let negative = maker.sign(maker.result())?;
-        let zero = maker.is_zero(maker.result())?;
-        self.take_flags(maker.difference_overflow_of_both()?, negative, zero)?;
+        self.take_result_flags(w, maker.difference_overflow_of_both()?)?;
         self.take_carry(maker.borrow_out_of_both()?)
     }
 
@@ -81,9 +88,7 @@ impl Writer {
     {
         let maker = self.maker(w);
         self.take_result(w, maker.combined(operator)?)?;
-        let negative = maker.sign(maker.result())?;
-        let zero = maker.is_zero(maker.result())?;
-        self.take_flags(bit(false), negative, zero)?;
+        self.take_result_flags(w, bit(false))?;
         self.take_carry(bit(false))
     }
 

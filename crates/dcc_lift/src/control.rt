@@ -2,13 +2,14 @@
 
 ghost use Rattle.std.specs.Prelude.{◌≡◌, ◌++◌, OnOk, IfOk, option_map};
 ghost use Rattle.dcc_ir.specs.Views.{expr_of};
+ghost use Rattle.dcc_ir.specs.Tree as tree;
 ghost use Rattle.dcc_lift.specs.Expressions as expressions;
 ghost use Rattle.dcc_lift.specs.Statements as spec;
 ghost use Rattle.dcc_lift.specs.Writing.{written};
 
 use crate::expression::{Maker, flag, half, result_place};
 use crate::writer::Writer;
-use dcc_ir::{BinOp, Expr, Loc, Stmt};
+use dcc_ir::{BinOp, Expr, Loc, Stmt, UnOp};
 use dcc_num::{FlagName, Half, Reg, Width, dos};
 use dcc_prog::{Cond, Op};
 use std::alloc::{AllocError, Global};
@@ -62,7 +63,14 @@ impl Maker {
         ensures { IfOk result (λ e. expr_of e ≡ expressions.goes_round) }
     {
         let lowered = Expr::Get(result_place(Width::Word));
-        self.negated(self.unary(dcc_ir::UnOp::IsZero, 16, lowered)?)
+        self.negated(self.unary(UnOp::IsZero, 16, lowered)?)
+    }
+
+    // The same, and one bit is set.
+    fn goes_round_and(self, e: Expr) -> Result<Expr, AllocError>
+        ensures { IfOk result (λ both. expr_of both ≡ tree.Binary BinOp.And 1 (expr_of e) expressions.goes_round) }
+    {
+        self.binary(BinOp::And, 1, e, self.goes_round()?)
     }
 }
 
@@ -75,17 +83,14 @@ pub fn op_test(alloc: Global, op: Op) -> Result<Option<Expr>, AllocError>
         w: Width::Word,
     };
     let test = match op {
-        Op::Branch(condition, _) => maker.condition(condition)?,
-        Op::Loop(_) => maker.goes_round()?,
-        Op::LoopE(_) => maker.binary(BinOp::And, 1, flag(FlagName::Zf), maker.goes_round()?)?,
-        Op::LoopNe(_) => {
-            let differs = maker.negated(flag(FlagName::Zf))?;
-            maker.binary(BinOp::And, 1, differs, maker.goes_round()?)?
-        }
-        Op::Jcxz(_) => maker.is_zero(maker.word_of(Reg::Cx)?)?,
+        Op::Branch(condition, _) => maker.condition(condition),
+        Op::Loop(_) => maker.goes_round(),
+        Op::LoopE(_) => maker.goes_round_and(flag(FlagName::Zf)),
+        Op::LoopNe(_) => maker.goes_round_and(maker.negated(flag(FlagName::Zf))?),
+        Op::Jcxz(_) => maker.is_zero(maker.word_of(Reg::Cx)?),
         _ => return Ok(None),
     };
-    Ok(Some(test))
+    Ok(Some(test?))
 }
 
 impl Writer {

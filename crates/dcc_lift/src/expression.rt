@@ -51,24 +51,25 @@ pub fn product_place(w: Width) -> Loc
     }
 }
 
+/// A number of so many bits.
+pub fn constant(width: u8, number: u32) -> Expr
+    ensures { expr_of result ≡ tree.Const width number }
+{
+    Expr::Const { width, number }
+}
+
 /// One bit.
 pub fn bit(n: bool) -> Expr
     ensures { expr_of result ≡ spec.bit (from_bool n) }
 {
-    Expr::Const {
-        width: 1,
-        number: u32::from(n),
-    }
+    constant(1, u32::from(n))
 }
 
 /// A byte.
 pub fn byte(n: u8) -> Expr
     ensures { expr_of result ≡ tree.Const 8 n }
 {
-    Expr::Const {
-        width: 8,
-        number: u32::from(n),
-    }
+    constant(8, u32::from(n))
 }
 
 /// The value of a flag.
@@ -205,10 +206,7 @@ impl Maker {
     pub fn number(self, n: u32) -> Expr
         ensures { expr_of result ≡ spec.number self.w n }
     {
-        Expr::Const {
-            width: self.w.bits(),
-            number: n,
-        }
+        constant(self.w.bits(), n)
     }
 
     /// The negation of one bit.

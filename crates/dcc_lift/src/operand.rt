@@ -5,7 +5,7 @@ ghost use Rattle.dcc_prog.specs.Machine as machine;
 ghost use Rattle.dcc_ir.specs.Views.{expr_of};
 ghost use Rattle.dcc_lift.specs.Expressions as spec;
 
-use crate::expression::{Maker, half};
+use crate::expression::{Maker, constant, half};
 use dcc_ir::Expr;
 use dcc_num::{Half, Reg, Width};
 use dcc_prog::Operand;
@@ -37,16 +37,8 @@ impl Maker {
         match operand {
             Operand::Word(r) => self.word_of(r),
             Operand::Byte(r, part) => Ok(half(r, part)),
-            Operand::Const(width, constant) => {
-                Ok(Expr::Const {
-                    width: width.bits(),
-                    number: u32::from(constant),
-                })
-            }
-            Operand::Seg(_) | Operand::Mem(..) => Ok(Expr::Const {
-                width: 16,
-                number: 0,
-            }),
+            Operand::Const(width, number) => Ok(constant(width.bits(), u32::from(number))),
+            Operand::Seg(_) | Operand::Mem(..) => Ok(constant(16, 0)),
         }
     }
 

@@ -62,14 +62,32 @@ impl Writer {
         }
     }
 
+    // The factors go to their temporaries: AL or AX, and the operand.
+    fn take_factors(&mut self, w: Width, a: Operand) -> Result<(), AllocError>
+        ensures { OnOk result (written self.new
+            ≡ written self.old ++ spec.taking w (expressions.accumulator w) (expressions.operand_expr a)) }
+    {
+        let maker = self.maker(w);
+        self.take_operands(w, maker.accumulator()?, maker.operand(a)?)
+    }
+
+    // OF tells whether the product needs its upper half; SF and ZF are 0.
+    fn take_product_flags(&mut self, w: Width, signed: bool) -> Result<(), AllocError>
+        ensures { OnOk result (written self.new ≡ written self.old
+            ++ spec.flags_taking (expressions.needs_upper_half w signed) (expressions.bit 0) (expressions.bit 0)) }
+    {
+        let overflow = self.maker(w).needs_upper_half(signed)?;
+        self.take_flags(overflow, bit(false), bit(false))
+    }
+
     /// MUL, or IMUL where the numbers are signed.
     pub fn multiply(&mut self, w: Width, signed: bool, a: Operand) -> Result<(), AllocError>
         ensures { OnOk result (written self.new ≡ written self.old ++ spec.multiplying w signed a) }
     {
         let maker = self.maker(w);
-        self.take_operands(w, maker.accumulator()?, maker.operand(a)?)?;
+        self.take_factors(w, a)?;
         self.set(product_place(w), maker.multiplied(signed)?)?;
-        self.take_flags(maker.needs_upper_half(signed)?, bit(false), bit(false))?;
+        self.take_product_flags(w, signed)?;
         self.take_carry(maker.needs_upper_half(signed)?)?;
         self.store_product(w)
     }

@@ -1,6 +1,6 @@
 //! Shifts and rotates. The right operand is the count.
 
-ghost use Rattle.std.specs.Prelude.{◌≡◌, ◌++◌, false, OnOk, IfOk};
+ghost use Rattle.std.specs.Prelude.{◌≡◌, ◌++◌, [], ◌∷◌, false, OnOk, IfOk};
 ghost use Rattle.dcc_prog.specs.Machine as machine;
 ghost use Rattle.dcc_ir.specs.Views.{expr_of};
 ghost use Rattle.dcc_ir.specs.Tree as tree;
@@ -83,22 +83,36 @@ impl Maker {
         self.at_width(BinOp::Sub, whole, self.turn()?)
     }
 
+    // The operand shifted by as many places as a rotate moves the bits.
+    fn moved(self, operator: BinOp) -> Result<Expr, AllocError>
+        ensures { IfOk result (λ e. expr_of e
+            ≡ expressions.at_width operator self.w (expressions.left self.w) (expressions.turn self.w)) }
+    {
+        self.at_width(operator, self.left(), self.turn()?)
+    }
+
+    // The operand shifted by what is missing to a whole turn: the bits that come round.
+    fn come_round(self, operator: BinOp) -> Result<Expr, AllocError>
+        ensures { IfOk result (λ e. expr_of e
+            ≡ expressions.at_width operator self.w (expressions.left self.w) (expressions.rest_of_turn self.w)) }
+    {
+        self.at_width(operator, self.left(), self.rest_of_turn()?)
+    }
+
     // The operand rotated to the left.
     fn rotated_left(self) -> Result<Expr, AllocError>
         ensures { IfOk result (λ e. expr_of e ≡ expressions.rotated_left self.w) }
     {
-        let high = self.at_width(BinOp::Shl, self.left(), self.turn()?)?;
-        let low = self.at_width(BinOp::Shr, self.left(), self.rest_of_turn()?)?;
-        self.at_width(BinOp::Or, high, low)
+        let high = self.moved(BinOp::Shl)?;
+        self.at_width(BinOp::Or, high, self.come_round(BinOp::Shr)?)
     }
 
     // The operand rotated to the right.
     fn rotated_right(self) -> Result<Expr, AllocError>
         ensures { IfOk result (λ e. expr_of e ≡ expressions.rotated_right self.w) }
     {
-        let low = self.at_width(BinOp::Shr, self.left(), self.turn()?)?;
-        let high = self.at_width(BinOp::Shl, self.left(), self.rest_of_turn()?)?;
-        self.at_width(BinOp::Or, low, high)
+        let low = self.moved(BinOp::Shr)?;
+        self.at_width(BinOp::Or, low, self.come_round(BinOp::Shl)?)
     }
 
     // The operand rotated to the left by one place, through CF.
@@ -137,9 +151,32 @@ impl Maker {
         let sign = self.sign(self.result())?;
         self.binary(BinOp::Xor, 1, sign, self.below_sign(self.result())?)
     }
+
+    // The bit that SHL moves out last.
+    fn out_at_top(self) -> Result<Expr, AllocError>
+        ensures { IfOk result (λ bit. expr_of bit
+            ≡ expressions.sign self.w (expressions.nearly_shifted BinOp.Shl self.w)) }
+    {
+        self.sign(self.nearly_shifted(BinOp::Shl)?)
+    }
 }
 
 impl Writer {
+    // A flag takes this, but stays where the count is in CL and 0.
+    fn take_shift_flag(
+        &mut self,
+        w: Width,
+        by_cl: bool,
+        f: FlagName,
+        e: Expr,
+    ) -> Result<(), AllocError>
+        ensures { OnOk result (written self.new
+            ≡ written self.old ++ tree.Set (Loc.Flag f) (expressions.unless_zero w by_cl f (expr_of e)) ∷ []) }
+    {
+        let set = self.maker(w).unless_zero(by_cl, f, e)?;
+        self.set(Loc::Flag(f), set)
+    }
+
     // The flags of a shift.
     fn shift_flags(
         &mut self,
@@ -152,11 +189,10 @@ impl Writer {
             ≡ written self.old ++ spec.shift_flags w by_cl (expr_of overflow) (expr_of carry)) }
     {
         let maker = self.maker(w);
-        let overflow = maker.unless_zero(by_cl, FlagName::Of, overflow)?;
-        let negative = maker.unless_zero(by_cl, FlagName::Sf, maker.sign(maker.result())?)?;
-        let zero = maker.unless_zero(by_cl, FlagName::Zf, maker.is_zero(maker.result())?)?;
-        self.take_flags(overflow, negative, zero)?;
-        self.take_carry(maker.unless_zero(by_cl, FlagName::Cf, carry)?)
+        self.take_shift_flag(w, by_cl, FlagName::Of, overflow)?;
+        self.take_shift_flag(w, by_cl, FlagName::Sf, maker.sign(maker.result())?)?;
+        self.take_shift_flag(w, by_cl, FlagName::Zf, maker.is_zero(maker.result())?)?;
+        self.take_shift_flag(w, by_cl, FlagName::Cf, carry)
     }
 
     // Those of a rotate.
@@ -170,10 +206,8 @@ impl Writer {
         ensures { OnOk result (written self.new
             ≡ written self.old ++ spec.rotate_flags w by_cl (expr_of overflow) (expr_of carry)) }
     {
-        let maker = self.maker(w);
-        let overflow = maker.unless_zero(by_cl, FlagName::Of, overflow)?;
-        self.set(Loc::Flag(FlagName::Of), overflow)?;
-        self.take_carry(maker.unless_zero(by_cl, FlagName::Cf, carry)?)
+        self.take_shift_flag(w, by_cl, FlagName::Of, overflow)?;
+        self.take_shift_flag(w, by_cl, FlagName::Cf, carry)
     }
 
     // SHL.
@@ -182,10 +216,9 @@ impl Writer {
     {
         let maker = self.maker(w);
         self.take_result(w, maker.combined(BinOp::Shl)?)?;
-        let out = maker.sign(maker.nearly_shifted(BinOp::Shl)?)?;
-        let overflow = maker.if_one(by_cl, maker.differs_from_sign(out)?)?;
-        let carry = maker.sign(maker.nearly_shifted(BinOp::Shl)?)?;
-        self.shift_flags(w, by_cl, overflow, carry)
+        let differ = maker.differs_from_sign(maker.out_at_top()?)?;
+        let overflow = maker.if_one(by_cl, differ)?;
+        self.shift_flags(w, by_cl, overflow, maker.out_at_top()?)
     }
 
     // SHR.
