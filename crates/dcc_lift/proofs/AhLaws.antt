@@ -268,10 +268,10 @@ moved (Mov (Word Ax) (Constant width c)) number scene n e = cc
 moved _ number scene n e = cc
 
 -- what is known of AH after an instruction holds of the location after its statements
-pub ah-behind : (instr : Instr) (number : Option ℕ) (scene : Scene) (known : Option ℕ) → instr.op ≢ Int21
+pub ah-after : (instr : Instr) (number : Option ℕ) (scene : Scene) (known : Option ℕ) → instr.op ≢ Int21
     → ((n : ℕ) → known ≡ Some n → scene.values (Half Ax High) ≡ n) → (n : ℕ) → ah_after (Some instr) known ≡ Some n
     → (executed (op_stmts instr.op number) scene).values (Half Ax High) ≡ n
-ah-behind instr number scene known d holds n e = both (writes_half instr.op Ax High) refl e
+ah-after instr number scene known d holds n e = both (writes_half instr.op Ax High) refl e
   where
     both : (b : Bool) → writes_half instr.op Ax High ≡ b → (if b then constant_to_ah instr.op else known) ≡ Some n → (executed (op_stmts instr.op number) scene).values (Half Ax High) ≡ n
     both true w k = moved instr.op number scene n k

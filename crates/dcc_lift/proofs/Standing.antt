@@ -30,7 +30,7 @@ use Rattle.dcc_lift.specs.Mirrors.{Mirrors, executed}
 use Rattle.dcc_lift.specs.Liftable.{is_liftable}
 use Rattle.dcc_lift.specs.Blocks.{Nodes, node_in, node_stmts}
 use Rattle.dcc_lift.proofs.MirrorLaws.{executed_values}
-use Rattle.dcc_lift.proofs.AhLaws.{ah-behind}
+use Rattle.dcc_lift.proofs.AhLaws.{ah-after}
 
 -- What operations do, each by itself.
 
@@ -227,7 +227,7 @@ module _ (laws : AreLifted) (image : Image) (layout : Layout) (graph : Graph) (n
           out = both.out ∙ sym (ap (λ u. u.out) stepped ∙ rest.out);
           bytes = subst (All (λ byte. byte < 256)) (sym (ap (λ u. u.input) stepped ∙ rest.input)) both.bytes;
           ah = λ n e.
-              ah-behind node.instr node.number (scene_of t) (known_ah image layout before) other both.ah n
+              ah-after node.instr node.number (scene_of t) (known_ah image layout before) other both.ah n
               (sym (ap (λ found. ah_after found (known_ah image layout before)) is.stands) ∙ e);
         }
 

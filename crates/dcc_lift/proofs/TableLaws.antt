@@ -329,11 +329,11 @@ constant-byte (Mov (Word Ax) (Const w constant)) n well e =
     omega (arith, fits, same)
 constant-byte op n well e = cc
 
-behind-byte :
+after-byte :
     (found : Option Instr) (known : Option ℕ) (n : ℕ) → IfSome found (λ instr. IsOperation instr.op)
     → ((m : ℕ) → known ≡ Some m → m < 256) → ah_after found known ≡ Some n → n < 256
-behind-byte None known n well fits e = fits n e
-behind-byte (Some instr) known n well fits e =
+after-byte None known n well fits e = fits n e
+after-byte (Some instr) known n well fits e =
     let P : Bool → Type 0 = λ b. (if b then constant_to_ah instr.op else known) ≡ Some n → n < 256 in
     let cases : (b : Bool) → P b = λ b. elim b as P [ true ↦ λ told. constant-byte instr.op n well told | false ↦ fits n ] in
     cases (writes_half instr.op Ax High) e
@@ -347,4 +347,4 @@ known-byte image layout (at ∷ before) n bytes e =
     let code = code_within image layout in
     let rest : (i : ℕ) → byte_at (drop at code) i < 256 = λ i. subst (λ b. b < 256) (sym (get_or-drop at code i 0)) (bytes (at + i)) in
     let well = found-operation at (drop at code) (instruction_in image layout at) rest refl in
-    behind-byte (instruction_in image layout at) (known_ah image layout before) n well (λ m told. known-byte image layout before m bytes told) e
+    after-byte (instruction_in image layout at) (known_ah image layout before) n well (λ m told. known-byte image layout before m bytes told) e

@@ -7,7 +7,6 @@ ghost use Rattle.dcc_lift.specs.Statements as spec;
 ghost use Rattle.dcc_lift.specs.Writing.{written};
 
 use crate::expression::bit;
-use crate::operand::operand_width;
 use crate::writer::Writer;
 use dcc_ir::{BinOp, Expr, UnOp};
 use dcc_num::Width;
@@ -121,7 +120,7 @@ impl Writer {
     pub fn alu(&mut self, operation: Alu, a: Operand, b: Operand) -> Result<(), AllocError>
         ensures { OnOk result (written self.new ≡ written self.old ++ spec.alu_stmts operation a b) }
     {
-        let w = operand_width(a);
+        let w = a.width();
         let maker = self.maker(w);
         self.take_operands(w, maker.operand(a)?, maker.operand(b)?)?;
         self.alu_working(operation, w)?;

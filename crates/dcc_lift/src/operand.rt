@@ -1,7 +1,6 @@
 //! What the operands of an instruction are.
 
 ghost use Rattle.std.specs.Prelude.{◌≡◌, IfOk};
-ghost use Rattle.dcc_prog.specs.Machine as machine;
 ghost use Rattle.dcc_ir.specs.Views.{expr_of};
 ghost use Rattle.dcc_lift.specs.Expressions as spec;
 
@@ -10,17 +9,6 @@ use dcc_ir::Expr;
 use dcc_num::{Half, Reg, Width};
 use dcc_prog::Operand;
 use std::alloc::AllocError;
-
-/// The width of an operand.
-pub fn operand_width(operand: Operand) -> Width
-    ensures { result ≡ machine.operand_width operand }
-{
-    match operand {
-        Operand::Word(_) | Operand::Seg(_) => Width::Word,
-        Operand::Byte(..) => Width::Byte,
-        Operand::Mem(width, _) | Operand::Const(width, _) => width,
-    }
-}
 
 impl Maker {
     /// A word register, by its halves.

@@ -4,7 +4,6 @@ ghost use Rattle.std.specs.Prelude.{◌≡◌, ◌++◌, OnOk};
 ghost use Rattle.dcc_lift.specs.Statements as spec;
 ghost use Rattle.dcc_lift.specs.Writing.{written};
 
-use crate::operand::operand_width;
 use crate::writer::Writer;
 use dcc_prog::Op;
 use std::alloc::AllocError;
@@ -17,7 +16,7 @@ impl Writer {
     {
         match op {
             Op::Alu(operation, a, b) => self.alu(operation, a, b),
-            Op::Unary(operation, a) => self.unary(operation, operand_width(a), a),
+            Op::Unary(operation, a) => self.unary(operation, a.width(), a),
             Op::Shift(operation, a, by_cl) => self.shift(operation, a, by_cl),
             Op::Mov(to, from) => self.mov(to, from),
             Op::Xchg(a, b) => self.xchg(a, b),

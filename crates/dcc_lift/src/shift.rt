@@ -9,7 +9,6 @@ ghost use Rattle.dcc_lift.specs.Statements as spec;
 ghost use Rattle.dcc_lift.specs.Writing.{written};
 
 use crate::expression::{Maker, bit, flag, half};
-use crate::operand::operand_width;
 use crate::writer::Writer;
 use dcc_ir::{BinOp, Expr, Loc};
 use dcc_num::{FlagName, Half, Reg, Width};
@@ -307,7 +306,7 @@ impl Writer {
         ensures { OnOk result (written self.new
             ≡ written self.old ++ spec.shift_stmts operation (machine.operand_width a) a by_cl) }
     {
-        let w = operand_width(a);
+        let w = a.width();
         let maker = self.maker(w);
         self.take_operands(w, maker.operand(a)?, maker.count(by_cl)?)?;
         self.shift_working(operation, w, by_cl)?;
