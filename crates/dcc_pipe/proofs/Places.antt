@@ -1,5 +1,5 @@
 -- The locations of a lifted program, one by one.
-use Rattle.std.proofs.Common.{◌≡◌, ℕ, zero, suc, ◌-◌, ◌<◌, true, false, List, map, Some, refl, sym, ap, ◌∙◌, true≢false, arith}
+use Rattle.std.proofs.Common.{◌≡◌, ℕ, zero, suc, ◌-◌, ◌<◌, true, false, List, map, Option, Some, refl, sym, ap, ◌∙◌, true≢false, arith}
 use Rattle.std.specs.Prelude.{slice_get, option_map}
 use Rattle.std.specs.Fmt.{digits}
 use Rattle.std.proofs.lemmas.Bool.{ltb-true}
@@ -14,7 +14,7 @@ use Rattle.dcc_ir.specs.WellFormed.{is_location}
 use Rattle.dcc_lift.specs.Temporaries.{temporary_bits}
 use Rattle.dcc_lift.specs.Form.{is_lifted_location}
 use Rattle.dcc_c.specs.Types.{plain}
-use Rattle.dcc_c.specs.Typing.{declared_as}
+use Rattle.dcc_c.specs.Typing.{Declared, declared_as}
 use Rattle.dcc_c.specs.Value.{Value, converted, Unplaced, Binding, variable_in, after_assignment, Scope, declared_by}
 use Rattle.dcc_pipe.specs.Variables.{locations, variable_number, variable_name, unsigned_type}
 
@@ -87,32 +87,48 @@ abbrev pub scope_with : Values → List ℕ → Scope
 scope_with values memory = record { variables = bindings_of values; memory = memory }
 
 module _ (values : Values) where
-  found-all : map (λ location. variable_in (bindings_of values) (variable_name location)) locations ≡ map (λ location. Some (bound location (values location))) locations
+  -- by a location: the variable that its name finds, and its own
+  abbrev found : Loc → Option Binding
+  found location = variable_in (bindings_of values) (variable_name location)
+
+  abbrev own : Loc → Option Binding
+  own location = Some (bound location (values location))
+
+  found-all : map found locations ≡ map own locations
   unfolding digits
   found-all = refl
 
-  declared-all :
-      map (λ location. declared_as (map declared_by (bindings_of values)) (variable_name location)) locations
-      ≡ map (λ location. Some (declared_by (bound location (values location)))) locations
+  -- the same of declarations
+  abbrev declared : Loc → Option Declared
+  declared location = declared_as (map declared_by (bindings_of values)) (variable_name location)
+
+  abbrev own_declared : Loc → Option Declared
+  own_declared location = Some (declared_by (bound location (values location)))
+
+  declared-all : map declared locations ≡ map own_declared locations
   unfolding digits
   declared-all = refl
 
-  -- the values after an assignment to a location
-  abbrev assigned : Loc → Value → Values
-  assigned location v = with_value values location (converted (plain (unsigned_type (location_width temporary_bits location))) v).bits
+  -- the variables after an assignment, and those of the values after it
+  abbrev after : Value → Loc → List Binding
+  after v location = after_assignment (bindings_of values) (variable_name location) v
 
-  assigned-all : (v : Value) → map (λ location. after_assignment (bindings_of values) (variable_name location) v) locations ≡ map (λ location. bindings_of (assigned location v)) locations
+  abbrev assigned : Value → Loc → List Binding
+  assigned v location = bindings_of (with_value values location (converted (plain (unsigned_type (location_width temporary_bits location))) v).bits)
+
+  assigned-all : (v : Value) → map (after v) locations ≡ map (assigned v) locations
   unfolding digits
   assigned-all v = refl
 
   module _ (location : Loc) (is : IsPlace location) where
     -- the variable with the location's name
     pub variable-found : variable_in (bindings_of values) (variable_name location) ≡ Some (bound location (values location))
-    variable-found = same-at _ _ found-all location is
+    variable-found = same-at found own found-all location is
 
     pub variable-declared : declared_as (map declared_by (bindings_of values)) (variable_name location) ≡ Some (declared_by (bound location (values location)))
-    variable-declared = same-at _ _ declared-all location is
+    variable-declared = same-at declared own_declared declared-all location is
 
     -- the variables after an assignment to it
-    pub variable-assigned : (v : Value) → after_assignment (bindings_of values) (variable_name location) v ≡ bindings_of (assigned location v)
-    variable-assigned v = same-at _ _ (assigned-all v) location is
+    pub variable-assigned : (v : Value) → after_assignment (bindings_of values) (variable_name location) v
+        ≡ bindings_of (with_value values location (converted (plain (unsigned_type (location_width temporary_bits location))) v).bits)
+    variable-assigned v = same-at (after v) (assigned v) (assigned-all v) location is

@@ -5,3 +5,6 @@ pub mod Agreement
 pub mod Unbroken
 pub mod Uncounted
 pub mod Answer
+pub use Rattle.dcc_prog.specs.MzImage
+pub use Rattle.dcc_c.specs.Views
+pub use Rattle.dcc_c.specs.Written
