@@ -4,6 +4,5 @@
 mod answers;
 mod both;
 mod files;
-mod lifted;
 mod runs;
 mod texts;
