@@ -1,456 +1,248 @@
 //! Layouts of small programs. The values come from a reference analysis apart from this one.
 
+ghost use Rattle.std.specs.Prelude.{IfOk};
+ghost use Rattle.dcc_prog.specs.MzImage.{IsLoaded};
+
 use crate::layout;
 use dcc_mz::load;
 use dcc_num::Flags;
-use dcc_prog::Refusal;
-use std::alloc::{AllocError, Global};
+use dcc_prog::{Image, Refusal, construct};
+use std::alloc::Global;
 use std::process::Abort;
 use std::test::Fail;
 
-/// What a file's header says of the start; segments count from the image's start.
+// What a file's header says of the start; segments count from the image's start.
 #[derive(Clone, Copy)]
 struct Start {
     cs: u16,
     ip: u16,
     ss: u16,
     sp: u16,
-    relocations: u16,
 }
 
-/// The stack segment begins 16 bytes behind the code segment, and one relocation moves a word.
+// The stack segment begins 16 bytes above the code segment.
 const START: Start = Start {
     cs: 0,
     ip: 0,
     ss: 1,
     sp: 0x0100,
-    relocations: 1,
 };
 
-/// A file with a header of two paragraphs, whose relocation is of the word at image offset 1, and
-/// with an image of at most 64 bytes.
-fn file_of(
-    rt: &impl Abort,
-    alloc: Global,
-    start: Start,
-    image: &[u8],
-) -> Result<Vec<u8>, AllocError> {
-    assert!(rt; image.len() <= 64);
-    let length = 32 + image.len() as u16;
-    let mut file = Vec::new(alloc);
-    file.extend_from_slice(b"MZ")?;
-    for word in [
-        length,
-        1,
-        start.relocations,
-        2,
-        0,
-        0xFFFF,
-        start.ss,
-        start.sp,
-        0,
-        start.ip,
-        start.cs,
-        28,
-        0,
-        1,
-        0,
-    ] {
+// At offset 3 of the code.
+const AT_3: Start = Start { ip: 3, ..START };
+
+// The image of a file with a header of two paragraphs, whose one relocation moves the word at image offset 1. The
+// bytes are at most 64.
+fn image_of(rt: &impl Abort, alloc: Global, start: Start, bytes: &[u8]) -> Result<Image, Fail>
+    ensures { IfOk result IsLoaded }
+{
+    assert!(rt; bytes.len() <= 64);
+    let mut file = b"MZ".to_vec(alloc)?;
+    for word in [32 + bytes.len() as u16, 1, 1, 2, 0, 0xFFFF, start.ss, start.sp, 0, start.ip] {
         file.extend_from_slice(&word.to_le_bytes())?;
     }
-    file.extend_from_slice(image)?;
-    Ok(file)
+    file.extend_from_slice(&start.cs.to_le_bytes())?;
+    file.extend_from_slice(b"\x1C\x00\x00\x00\x01\x00\x00\x00")?;
+    file.extend_from_slice(bytes)?;
+    Ok(load(alloc, &file)?)
 }
 
-/// DS, delta, the lowest offset of the stack, the offset above it, the offset behind the prelude and that behind the code.
-type Places = [u32; 6];
+// A program with its layout: DS, delta, the lowest offset of the stack, the offset above it, the offset after the
+// prelude and that after the code; the word registers by number; CF, ZF, SF and OF.
+type LayoutRow = (Start, &'static [u8], [u32; 6], [u16; 8], [bool; 4]);
 
-/// The program has this layout, with these word registers by number and these flags.
-fn check_layout(
-    rt: &impl Abort,
-    alloc: Global,
-    start: Start,
-    image: &[u8],
-    places: Places,
-    regs: [u16; 8],
-    flags: [bool; 4],
-) -> Result<(), Fail> {
-    let image = load(alloc, &file_of(rt, alloc, start, image)?)?;
-    let layout = layout(alloc, &image)?;
-    let found = [
-        u32::from(layout.ds),
-        u32::from(layout.delta),
-        u32::from(layout.lo),
-        u32::from(layout.hi),
-        u32::from(layout.start_ip),
-        layout.code_end,
-    ];
-    let Flags { cf, zf, sf, of } = layout.flags;
-    assert_eq!(rt; found, places);
-    assert_eq!(rt; layout.regs, regs);
-    assert_eq!(rt; [cf, zf, sf, of], flags);
-    Ok(())
-}
-
-/// The program has no layout, and is refused at its entry.
-fn check_refusal(rt: &impl Abort, alloc: Global, start: Start, image: &[u8]) -> Result<(), Fail> {
-    let image = load(alloc, &file_of(rt, alloc, start, image)?)?;
-    let refusal = Refusal::Construct {
-        kind: 1,
-        at: start.ip,
-    };
-    assert_eq!(rt; layout(alloc, &image).err(), Some(refusal));
-    Ok(())
-}
-
-#[test]
-fn the_usual_start_writes_ds(rt: HostRuntime) -> Result<(), Fail> {
-    check_layout(
-        &rt,
-        rt.alloc(),
+static LAYOUTS: [LayoutRow; 9] = [
+    // The usual start.
+    (
         START,
-        &[
-            0xB8, 0x01, 0x00, 0x8E, 0xD8, 0xB2, 0x41, 0xB4, 0x02, 0xCD, 0x21, 0xB8, 0x03, 0x4C,
-            0xCD, 0x21,
-        ],
+        b"\xB8\x01\x00\x8E\xD8\xB2\x41\xB4\x02\xCD\x21\xB8\x03\x4C\xCD\x21",
         [0x0111, 0, 0, 256, 5, 16],
         [0x0111, 0, 0, 0, 0x0100, 0, 0, 0],
         [false, false, false, false],
-    )?;
-    check_layout(
-        &rt,
-        rt.alloc(),
-        START,
-        &[
-            0xB8, 0x01, 0x00, 0x8E, 0xD8, 0xB4, 0x4C, 0xB0, 0x07, 0x90, 0x90, 0xCD, 0x21,
-        ],
-        [0x0111, 0, 0, 256, 5, 13],
-        [0x0111, 0, 0, 0, 0x0100, 0, 0, 0],
-        [false, false, false, false],
-    )?;
-    check_layout(
-        &rt,
-        rt.alloc(),
+    ),
+    // The code lies above other bytes.
+    (
         Start {
             cs: 1,
             ss: 2,
             ..START
         },
-        &[
-            0x00, 0x00, 0x00, 0x00, 0x00, 0x00, 0x00, 0x00, 0x00, 0x00, 0x00, 0x00, 0x00, 0x00,
-            0x00, 0x00, 0xB8, 0x12, 0x01, 0x8E, 0xD8, 0xB4, 0x4C, 0xCD, 0x21, 0x00, 0x00, 0x00,
-            0x00, 0x00, 0x00, 0x00, 0x41, 0x42,
-        ],
+        b"\0\0\0\0\0\0\0\0\0\0\0\0\0\0\0\0\xB8\x12\x01\x8E\xD8\xB4\x4C\xCD\x21\0\0\0\0\0\0\0\x41\x42",
         [0x0112, 0, 2, 256, 5, 16],
         [0x0112, 0, 0, 0, 0x0100, 0, 0, 0],
         [false, false, false, false],
-    )?;
-    Ok(())
-}
-
-#[test]
-fn a_start_may_move_the_stack(rt: HostRuntime) -> Result<(), Fail> {
-    check_layout(
-        &rt,
-        rt.alloc(),
+    ),
+    // SS takes DS, and SP the distance between them.
+    (
         Start {
             ss: 3,
             sp: 0x0400,
             ..START
         },
-        &[
-            0xB8, 0x02, 0x00, 0x8E, 0xD8, 0xFA, 0x8C, 0xD3, 0x2B, 0xD8, 0xB1, 0x04, 0xD3, 0xE3,
-            0x8E, 0xD0, 0x03, 0xE3, 0xFB, 0xB8, 0x00, 0x4C, 0xCD, 0x21, 0x00, 0x00, 0x00, 0x00,
-            0x00, 0x00, 0x00, 0x00, 0x41, 0x42,
-        ],
+        b"\xB8\x02\x00\x8E\xD8\xFA\x8C\xD3\x2B\xD8\xB1\x04\xD3\xE3\x8E\xD0\x03\xE3\xFB\xB8\x00\x4C\xCD\x21\0\0\0\0\0\0\0\0\x41\x42",
         [0x0112, 0, 16, 1040, 19, 32],
         [0x0112, 4, 0, 0x0010, 0x0410, 0, 0, 0],
         [false, false, false, false],
-    )?;
-    check_layout(
-        &rt,
-        rt.alloc(),
+    ),
+    // SP falls, and bytes are moved.
+    (
         Start { ss: 2, ..START },
-        &[
-            0xB8, 0x02, 0x00, 0x8E, 0xD8, 0xFA, 0x8E, 0xD0, 0xBC, 0x00, 0x02, 0xFB, 0xFC, 0x90,
-            0xB8, 0x00, 0x4C, 0xCD, 0x21,
-        ],
-        [0x0112, 0, 0, 512, 13, 19],
-        [0x0112, 0, 0, 0, 0x0200, 0, 0, 0],
-        [false, false, false, false],
-    )?;
-    check_layout(
-        &rt,
-        rt.alloc(),
-        Start { ss: 2, ..START },
-        &[
-            0xB8, 0x02, 0x00, 0x8E, 0xD8, 0x83, 0xEC, 0x08, 0x8A, 0xF4, 0x8A, 0xD6, 0x8E, 0xC2,
-            0x90, 0xB4, 0x4C, 0xCD, 0x21,
-        ],
+        b"\xB8\x02\x00\x8E\xD8\x83\xEC\x08\x8A\xF4\x8A\xD6\x8E\xC2\x90\xB4\x4C\xCD\x21",
         [0x0112, 0, 0, 248, 14, 19],
         [0x0112, 0, 0x0101, 0, 0x00F8, 0, 0, 0],
         [false, false, false, false],
-    )?;
-    Ok(())
-}
-
-#[test]
-fn counts_above_16_shift_all_out(rt: HostRuntime) -> Result<(), Fail> {
-    check_layout(
-        &rt,
-        rt.alloc(),
+    ),
+    // A shift by 16 and one by 17.
+    (
         START,
-        &[
-            0xB8, 0x01, 0x00, 0xBB, 0xFF, 0xFF, 0xB1, 0x10, 0xD3, 0xE3, 0x8E, 0xD8, 0xCD, 0x21,
-        ],
+        b"\xB8\x01\x00\xBB\xFF\xFF\xB1\x10\xD3\xE3\x8E\xD8\xCD\x21",
         [0x0111, 0, 0, 256, 12, 14],
         [0x0111, 0x0010, 0, 0, 0x0100, 0, 0, 0],
         [true, true, false, false],
-    )?;
-    check_layout(
-        &rt,
-        rt.alloc(),
+    ),
+    (
         START,
-        &[
-            0xB8, 0x01, 0x00, 0xBB, 0xFF, 0xFF, 0xB1, 0x11, 0xD3, 0xE3, 0x8E, 0xD8, 0xCD, 0x21,
-        ],
+        b"\xB8\x01\x00\xBB\xFF\xFF\xB1\x11\xD3\xE3\x8E\xD8\xCD\x21",
         [0x0111, 0, 0, 256, 12, 14],
         [0x0111, 0x0011, 0, 0, 0x0100, 0, 0, 0],
         [false, true, false, false],
-    )?;
-    check_layout(
-        &rt,
-        rt.alloc(),
-        START,
-        &[
-            0xB8, 0x01, 0x00, 0xBB, 0xFF, 0xFF, 0xB1, 0xC8, 0xD3, 0xE3, 0x8E, 0xD8, 0xCD, 0x21,
-        ],
-        [0x0111, 0, 0, 256, 12, 14],
-        [0x0111, 0x00C8, 0, 0, 0x0100, 0, 0, 0],
-        [false, true, false, false],
-    )?;
-    check_layout(
-        &rt,
-        rt.alloc(),
-        Start { ss: 2, ..START },
-        &[
-            0xB8, 0x02, 0x00, 0xBE, 0x01, 0xC0, 0xD1, 0xE6, 0x8E, 0xD8, 0xCD, 0x21,
-        ],
-        [0x0112, 0, 0, 256, 10, 12],
-        [0x0112, 0, 0, 0, 0x0100, 0, 0x8002, 0],
-        [true, false, true, false],
-    )?;
-    Ok(())
-}
-
-#[test]
-fn values_reach_their_bounds(rt: HostRuntime) -> Result<(), Fail> {
-    check_layout(
-        &rt,
-        rt.alloc(),
+    ),
+    // The greatest delta, the greatest end of the stack, and the highest data segment.
+    (
         Start {
             ss: 0x1000,
             sp: 15,
             ..START
         },
-        &[0xB8, 0x01, 0x00, 0x8E, 0xD8, 0xB4, 0x4C, 0xCD, 0x21],
+        b"\xB8\x01\x00\x8E\xD8\xB4\x4C\xCD\x21",
         [0x0111, 65520, 65520, 65535, 5, 9],
         [0x0111, 0, 0, 0, 15, 0, 0, 0],
         [false, false, false, false],
-    )?;
-    check_layout(
-        &rt,
-        rt.alloc(),
+    ),
+    (
         Start {
             ss: 2,
             sp: 0xFFEF,
             ..START
         },
-        &[0xB8, 0x01, 0x00, 0x8E, 0xD8, 0xB4, 0x4C, 0xCD, 0x21],
+        b"\xB8\x01\x00\x8E\xD8\xB4\x4C\xCD\x21",
         [0x0111, 16, 16, 65535, 5, 9],
         [0x0111, 0, 0, 0, 0xFFEF, 0, 0, 0],
         [false, false, false, false],
-    )?;
-    check_layout(
-        &rt,
-        rt.alloc(),
-        Start { sp: 9, ..START },
-        &[
-            0xB8, 0x01, 0x00, 0x8E, 0xD8, 0xB4, 0x4C, 0xCD, 0x21, 0x00, 0x00, 0x00, 0x00, 0x00,
-            0x00, 0x00, 0x00, 0x00, 0x00, 0x00, 0x00, 0x00, 0x00, 0x00,
-        ],
-        [0x0111, 0, 8, 9, 5, 16],
-        [0x0111, 0, 0, 0, 9, 0, 0, 0],
-        [false, false, false, false],
-    )?;
-    check_layout(
-        &rt,
-        rt.alloc(),
+    ),
+    (
         Start {
-            ip: 3,
             ss: 0xEEF0,
             sp: 1,
-            ..START
+            ..AT_3
         },
-        &[0x00, 0x00, 0x00, 0xB8, 0x00, 0xF0, 0x8E, 0xD8, 0x90],
+        b"\0\0\0\xB8\x00\xF0\x8E\xD8\x90",
         [0xF000, 0, 0, 1, 8, 9],
         [0xF000, 0, 0, 0, 1, 0, 0, 0],
         [false, false, false, false],
-    )?;
-    check_layout(
-        &rt,
-        rt.alloc(),
-        Start {
-            ip: 3,
-            ss: 0x1EF0,
-            sp: 1,
-            ..START
-        },
-        &[0x00, 0x00, 0x00, 0xB8, 0x00, 0x20, 0x8E, 0xD8, 0x8E],
-        [0x2000, 0, 0, 1, 8, 9],
-        [0x2000, 0, 0, 0, 1, 0, 0, 0],
-        [false, false, false, false],
-    )?;
-    Ok(())
+    ),
+];
+
+fn layouts() -> &'static [LayoutRow] {
+    &LAYOUTS
 }
 
 #[test]
-fn without_a_layout_construct_1_stands_at_the_entry(rt: HostRuntime) -> Result<(), Fail> {
-    // no prelude
-    check_refusal(
-        &rt,
-        rt.alloc(),
-        Start {
-            relocations: 0,
-            ..START
-        },
-        &[0xB8, 0x00, 0x4C, 0xCD, 0x21],
-    )?;
-    // ES alone is written
-    check_refusal(
-        &rt,
-        rt.alloc(),
-        START,
-        &[0xB8, 0x01, 0x00, 0x8E, 0xC0, 0xB4, 0x4C, 0xCD, 0x21],
-    )?;
-    // a move from CS is none of a prelude
-    check_refusal(
-        &rt,
-        rt.alloc(),
-        Start {
-            ip: 3,
-            ss: 2,
-            ..START
-        },
-        &[
-            0x00, 0x00, 0x00, 0x8C, 0xC8, 0x05, 0x02, 0x00, 0x8E, 0xD8, 0xB4, 0x4C, 0xCD, 0x21,
-        ],
-    )?;
-    // DS is CS
-    check_refusal(
-        &rt,
-        rt.alloc(),
-        Start {
-            ip: 3,
-            ss: 0,
-            ..START
-        },
-        &[
-            0x00, 0x00, 0x00, 0xB8, 0x10, 0x01, 0x8E, 0xD8, 0xB4, 0x4C, 0xCD, 0x21,
-        ],
-    )?;
-    // DS lies below CS
-    check_refusal(
-        &rt,
-        rt.alloc(),
+fn a_prelude_sets_segments_stack_and_registers(rt: HostRuntime) -> Result<(), Fail> {
+    let alloc = rt.alloc();
+    for (start, bytes, places, regs, flags) in layouts() {
+        let image = image_of(&rt, alloc, *start, bytes)?;
+        let layout = layout(alloc, &image)?;
+        let found = [
+            u32::from(layout.ds),
+            u32::from(layout.delta),
+            u32::from(layout.lo),
+            u32::from(layout.hi),
+            u32::from(layout.start_ip),
+            layout.code_end,
+        ];
+        let Flags { cf, zf, sf, of } = layout.flags;
+        assert_eq!(rt; found, *places);
+        assert_eq!(rt; layout.regs, *regs);
+        assert_eq!(rt; [cf, zf, sf, of], *flags);
+    }
+    Ok(())
+}
+
+static REFUSED: [(Start, &[u8]); 12] = [
+    // ES alone is written.
+    (START, b"\xB8\x01\x00\x8E\xC0\xB4\x4C\xCD\x21"),
+    // A move from CS is none of a prelude.
+    (
+        Start { ss: 2, ..AT_3 },
+        b"\0\0\0\x8C\xC8\x05\x02\x00\x8E\xD8\xB4\x4C\xCD\x21",
+    ),
+    // DS is CS.
+    (Start { ss: 0, ..AT_3 }, b"\0\0\0\xB8\x10\x01\x8E\xD8\xB4\x4C\xCD\x21"),
+    // DS lies below CS.
+    (
         Start { cs: 1, ..START },
-        &[
-            0x00, 0x00, 0x00, 0x00, 0x00, 0x00, 0x00, 0x00, 0x00, 0x00, 0x00, 0x00, 0x00, 0x00,
-            0x00, 0x00, 0xB8, 0x10, 0x01, 0x8E, 0xD8, 0xB4, 0x4C, 0xCD, 0x21,
-        ],
-    )?;
-    // DS lies above F000h
-    check_refusal(
-        &rt,
-        rt.alloc(),
+        b"\0\0\0\0\0\0\0\0\0\0\0\0\0\0\0\0\xB8\x10\x01\x8E\xD8\xB4\x4C\xCD\x21",
+    ),
+    // DS lies above F000h.
+    (
         Start {
-            ip: 3,
             ss: 0xEEF1,
             sp: 1,
-            ..START
+            ..AT_3
         },
-        &[0x00, 0x00, 0x00, 0xB8, 0x01, 0xF0, 0x8E, 0xD8, 0x90],
-    )?;
-    // SS lies below DS
-    check_refusal(
-        &rt,
-        rt.alloc(),
-        Start { ss: 0, ..START },
-        &[0xB8, 0x01, 0x00, 0x8E, 0xD8, 0xB4, 0x4C, 0xCD, 0x21],
-    )?;
-    // SS lies 65,536 bytes above DS
-    check_refusal(
-        &rt,
-        rt.alloc(),
+        b"\0\0\0\xB8\x01\xF0\x8E\xD8\x90",
+    ),
+    // SS lies below DS.
+    (Start { ss: 0, ..START }, b"\xB8\x01\x00\x8E\xD8\xB4\x4C\xCD\x21"),
+    // SS lies 65,536 bytes above DS.
+    (
         Start {
             ss: 0x1001,
             sp: 15,
             ..START
         },
-        &[0xB8, 0x01, 0x00, 0x8E, 0xD8, 0xB4, 0x4C, 0xCD, 0x21],
-    )?;
-    // the stack ends at 65,536
-    check_refusal(
-        &rt,
-        rt.alloc(),
+        b"\xB8\x01\x00\x8E\xD8\xB4\x4C\xCD\x21",
+    ),
+    // The stack ends at 65,536.
+    (
         Start {
             ss: 2,
             sp: 0xFFF0,
             ..START
         },
-        &[0xB8, 0x01, 0x00, 0x8E, 0xD8, 0xB4, 0x4C, 0xCD, 0x21],
-    )?;
-    // the stack has no byte
-    check_refusal(
-        &rt,
-        rt.alloc(),
+        b"\xB8\x01\x00\x8E\xD8\xB4\x4C\xCD\x21",
+    ),
+    // The stack has no byte.
+    (
         Start { sp: 8, ..START },
-        &[
-            0xB8, 0x01, 0x00, 0x8E, 0xD8, 0xB4, 0x4C, 0xCD, 0x21, 0x00, 0x00, 0x00, 0x00, 0x00,
-            0x00, 0x00, 0x00, 0x00, 0x00, 0x00, 0x00, 0x00, 0x00, 0x00,
-        ],
-    )?;
-    // the move to DS is cut by the end
-    check_refusal(
-        &rt,
-        rt.alloc(),
-        Start {
-            ip: 3,
-            ss: 0x1EF0,
-            ..START
-        },
-        &[0x00, 0x00, 0x00, 0xB8, 0x00, 0x20, 0x8E],
-    )?;
-    // the image ends with the prelude
-    check_refusal(
-        &rt,
-        rt.alloc(),
-        Start {
-            ip: 3,
-            ss: 0x1EF0,
-            ..START
-        },
-        &[0x00, 0x00, 0x00, 0xB8, 0x00, 0x20, 0x8E, 0xD8],
-    )?;
-    // the data begins in the prelude
-    check_refusal(
-        &rt,
-        rt.alloc(),
+        b"\xB8\x01\x00\x8E\xD8\xB4\x4C\xCD\x21\0\0\0\0\0\0\0\0\0\0\0\0\0\0\0",
+    ),
+    // The move to DS is cut by the end.
+    (Start { ss: 0x1EF0, ..AT_3 }, b"\0\0\0\xB8\x00\x20\x8E"),
+    // The image ends with the prelude.
+    (Start { ss: 0x1EF0, ..AT_3 }, b"\0\0\0\xB8\x00\x20\x8E\xD8"),
+    // The data begins in the prelude.
+    (
         START,
-        &[
-            0xB8, 0x01, 0x00, 0x90, 0x90, 0x90, 0x90, 0x90, 0x90, 0x90, 0x90, 0x90, 0x90, 0x90,
-            0x8E, 0xD8, 0x41,
-        ],
-    )?;
+        b"\xB8\x01\x00\x90\x90\x90\x90\x90\x90\x90\x90\x90\x90\x90\x8E\xD8\x41",
+    ),
+];
+
+fn refused() -> &'static [(Start, &'static [u8])] {
+    &REFUSED
+}
+
+#[test]
+fn a_program_without_a_layout_is_refused_at_its_entry(rt: HostRuntime) -> Result<(), Fail> {
+    let alloc = rt.alloc();
+    for (start, bytes) in refused() {
+        let image = image_of(&rt, alloc, *start, bytes)?;
+        let refusal = Refusal::Construct {
+            kind: construct::NO_LAYOUT,
+            at: start.ip,
+        };
+        assert_eq!(rt; layout(alloc, &image).err(), Some(refusal));
+    }
     Ok(())
 }

@@ -1,3 +1,4 @@
 pub mod Fault
 pub mod Header
 pub mod Laws
+pub use Rattle.dcc_prog.specs.MzImage

@@ -22,12 +22,12 @@ pub mod construct {
     /// INT 21h where AH is not known, has two values, or has another number than the five.
     pub const DOS_NUMBER: u8 = 5;
 
-    /// The stack has two heights there, falls above the procedure's entry or its saved BP, or is not empty at a RET;
-    /// or two RETs of the procedure remove different sizes; or the height is above 32,766.
+    /// Two trails give the stack two heights; or it is taken above the procedure's entry or its saved BP, or is not
+    /// empty at a RET; or two RETs of the procedure remove different sizes; or the height is above 32,766.
     pub const HEIGHTS: u8 = 6;
 
-    /// A frame is accessed outside of its arguments and of the bytes between SP and BP; or its bytes lie in memory
-    /// where the stack is apart from the data, or where the procedure sets up no BP.
+    /// A frame is accessed outside of its arguments and of the bytes between SP and BP; or the address of its bytes may
+    /// be computed where the stack lies apart from the data, or where the procedure sets up no BP.
     pub const FRAME_ACCESS: u8 = 7;
 
     /// A call finds fewer bytes in its own frame than the callee's arguments take.
