@@ -38,7 +38,18 @@ fn image_of(rt: &impl Abort, alloc: Global, start: Start, bytes: &[u8]) -> Resul
 {
     assert!(rt; bytes.len() <= 64);
     let mut file = b"MZ".to_vec(alloc)?;
-    for word in [32 + bytes.len() as u16, 1, 1, 2, 0, 0xFFFF, start.ss, start.sp, 0, start.ip] {
+    for word in [
+        32 + bytes.len() as u16,
+        1,
+        1,
+        2,
+        0,
+        0xFFFF,
+        start.ss,
+        start.sp,
+        0,
+        start.ip,
+    ] {
         file.extend_from_slice(&word.to_le_bytes())?;
     }
     file.extend_from_slice(&start.cs.to_le_bytes())?;
@@ -178,7 +189,10 @@ static REFUSED: [(Start, &[u8]); 12] = [
         b"\0\0\0\x8C\xC8\x05\x02\x00\x8E\xD8\xB4\x4C\xCD\x21",
     ),
     // DS is CS.
-    (Start { ss: 0, ..AT_3 }, b"\0\0\0\xB8\x10\x01\x8E\xD8\xB4\x4C\xCD\x21"),
+    (
+        Start { ss: 0, ..AT_3 },
+        b"\0\0\0\xB8\x10\x01\x8E\xD8\xB4\x4C\xCD\x21",
+    ),
     // DS lies below CS.
     (
         Start { cs: 1, ..START },
@@ -194,7 +208,10 @@ static REFUSED: [(Start, &[u8]); 12] = [
         b"\0\0\0\xB8\x01\xF0\x8E\xD8\x90",
     ),
     // SS lies below DS.
-    (Start { ss: 0, ..START }, b"\xB8\x01\x00\x8E\xD8\xB4\x4C\xCD\x21"),
+    (
+        Start { ss: 0, ..START },
+        b"\xB8\x01\x00\x8E\xD8\xB4\x4C\xCD\x21",
+    ),
     // SS lies 65,536 bytes above DS.
     (
         Start {

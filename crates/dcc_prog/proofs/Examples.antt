@@ -178,13 +178,13 @@ many_image = image_of many (omega arith)
 many-limit : IsAbove many_image (layout_of many) Entries 257
 unfolding instruction_at table code_of word_at sign_extension_of signed_of vec_of
 many-limit = entries {at = 0x0D} start (record {
-    before = 0x0B ∷ 0x09 ∷ 0x05 ∷ [];
-    trail = (first 0x0D [], (second 0x12 0x0B [], (first 0x09 [], refl)));
-    register = Bx;
-    table = 0;
-    stands = (record { op = Table Bx 0; len = 5 }, refl, refl);
-    number_is = refl;
-  }) (same 256)
+  before = 0x0B ∷ 0x09 ∷ 0x05 ∷ [];
+  trail = (first 0x0D [], (second 0x12 0x0B [], (first 0x09 [], refl)));
+  register = Bx;
+  table = 0;
+  stands = (record { op = Table Bx 0; len = 5 }, refl, refl);
+  number_is = refl;
+}) (same 256)
 
 -- Indirect jumps and calls.
 
