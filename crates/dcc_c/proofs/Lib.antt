@@ -14,6 +14,7 @@ pub mod LexingLaws
 pub mod WrittenLaws
 pub mod NameLaws
 pub mod TypeLaws
+pub mod RowLaws
 mod Examples
 pub mod TypingLaws
 pub mod refusals

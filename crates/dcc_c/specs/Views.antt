@@ -1,5 +1,5 @@
 -- The trees that the declared types stand for.
-use Rattle.std.specs.Prelude.{List, [], ◌∷◌, map, string_bytes}
+use Rattle.std.specs.Prelude.{List, [], ◌∷◌, Option, Some, None, map, string_bytes}
 use Rattle.std.specs.Option.{option_map}
 use Rattle.dcc_c.specs.declared.syntax.CExpr.{CExpr, Num, Name as NameOf, Un', Bin', Cond', Cast'}
 use Rattle.dcc_c.specs.declared.syntax.CStmt.{CStmt, Assign as AssignOf, Call as CallOf, If', While', DoWhile', Forever', Switch', Break as BreakOf, Continue as ContinueOf, Goto as GotoOf, Label as LabelOf, Empty as EmptyOf, Return as ReturnOf, Row_of-Line, end_of-Line, more_of-Line, Row_of-Arm, end_of-Arm, more_of-Arm, Held-CStmt-Switch-2, None', Some'}
@@ -66,6 +66,11 @@ lines_of (l ∷ ls) = line (stmt_of l.stmt) l.line (lines_of ls)
 abbrev pub arms_of : List Arm → Arms
 arms_of [] = no_arms
 arms_of (a ∷ rest) = arm_before a (arms_of rest)
+
+-- the tree of a list of at most one arm
+abbrev pub arms_if : Option Arm → Arms
+arms_if None = no_arms
+arms_if (Some a) = arm_before a no_arms
 
 -- the tree of a global variable
 abbrev pub global_of : Global_ → Global

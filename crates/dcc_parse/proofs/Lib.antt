@@ -1,6 +1,5 @@
 pub mod ParseRules
 pub mod RefusalLaws
-pub mod RowLaws
 pub mod StripLaws
 pub mod TextLaws
 pub mod left

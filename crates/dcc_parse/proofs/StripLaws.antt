@@ -8,7 +8,7 @@ use Rattle.dcc_c.specs.declared.syntax.Line.{Line}
 use Rattle.dcc_c.specs.declared.syntax.Arm.{Arm, roll-Arm, out-roll-Arm}
 use Rattle.dcc_c.specs.Tree as plain
 use Rattle.dcc_c.specs.Tree.{Lines, no_lines, line, Arms, no_arms, arm}
-use Rattle.dcc_c.specs.Views.{expr_of, stmt_of, lines_of, arms_of, arm_before}
+use Rattle.dcc_c.specs.Views.{expr_of, stmt_of, lines_of, arms_of, arm_before, arms_if}
 use Rattle.dcc_c.specs.Kinds.{of_depth, offence, only_if}
 use Rattle.dcc_c.specs.Partial.{NumberAt, PartialLines, PartialArms, no_cases, cases, row}
 use Rattle.dcc_c.specs.Offences.{Scene, default_offences, lines_offences, own_offences, inner_offences, arms_inner, case_offences, case_numbers}
@@ -20,8 +20,7 @@ use Rattle.dcc_reader.specs.declared.partial.Row.{Row}
 use Rattle.dcc_reader.specs.declared.partial.PartialArm.{PartialArm, out-PartialArm}
 use Rattle.dcc_reader.specs.PartialViews as partial
 use Rattle.dcc_reader.proofs.RowLaws.{arm-parts, if-tree as if-rows, while-tree as while-rows, do_while-tree as do-rows, forever-tree as forever-rows, switch-tree as switch-rows}
-use Rattle.dcc_parse.specs.Stripping.{arms_if}
-use Rattle.dcc_parse.proofs.RowLaws.{arm-parts as arm-tree, if-tree, while-tree, do_while-tree, forever-tree, switch-tree}
+use Rattle.dcc_c.proofs.RowLaws.{arm-parts as arm-tree, if-tree, while-tree, do_while-tree, forever-tree, switch-tree}
 
 -- lines before others
 abbrev pub lines_then : List Line → Lines → Lines

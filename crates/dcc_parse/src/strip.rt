@@ -6,7 +6,6 @@ ghost use Rattle.dcc_c.specs.Views as tree;
 ghost use Rattle.dcc_c.specs.Stripped as stripped;
 ghost use Rattle.dcc_c.specs.Offences.{Scene, default_offences, lines_offences, inner_offences, arms_inner};
 ghost use Rattle.dcc_reader.specs.PartialViews as partial;
-ghost use Rattle.dcc_parse.specs.Stripping.{arms_if};
 
 use dcc_c::{Arm, Base, CExpr, CStmt, CType, Line};
 use dcc_reader::{CaseAt, NumberAt, PartialArm, PartialExpr, PartialStmt, Row, WordAt};
@@ -179,7 +178,7 @@ fn strip_arms(alloc: Global, arms: &[PartialArm]) -> Result<Vec<Arm>, AllocError
 fn strip_default(alloc: Global, arms: &[PartialArm]) -> Result<Option<Arm>, AllocError>
     ensures { (scene : Scene) (blocks : ℕ) → arms_inner scene blocks (partial.arms_of arms.now) ≡ [] →
         default_offences false (partial.arms_of arms.now) ≡ [] →
-        IfOk result (λ r. arms_if r ≡ stripped.default_arms (partial.arms_of arms.now)) }
+        IfOk result (λ r. tree.arms_if r ≡ stripped.default_arms (partial.arms_of arms.now)) }
 {
     for arm in arms {
         if arm.default.is_some() {

@@ -5,7 +5,6 @@ pub mod PlacementLaws
 pub mod PointLaws
 pub mod PrepareLaws
 pub mod ProgramLaws
-pub mod RowLaws
 pub mod StartLaws
 pub mod StatementLaws
 pub mod TakesLaws

@@ -22,7 +22,7 @@ use Rattle.dcc_prepare.specs.Points.{names_in, Goes, MayGo, label_named, point_n
 use Rattle.dcc_prepare.specs.Emission.{Stay, Grows, Emits, EmitsArms, Leads}
 use Rattle.dcc_prepare.proofs.PointLaws.{get-last, stay_push, goes_new, goes_stay, may_stay}
 use Rattle.dcc_prepare.proofs.EmissionLaws.{stay_after, with_open, reserved, closed, relabels_moved, pushed_ok, grows_after, emits_after, emits_after_ok}
-use Rattle.dcc_prepare.proofs.RowLaws.{arm-parts}
+use Rattle.dcc_c.proofs.RowLaws.{arm-parts}
 
 -- the first of the lines that are left
 pub first_line : (lines : List Line) (i n : ℕ) (l : Line) → i + 1 ≡ n → i < length lines → l ≡ get_or lines i l →

@@ -1,9 +1,8 @@
 -- How the points of a function grow while its statements are gone through.
 use Rattle.std.specs.Prelude.{◌≡◌, ℕ, Bool, List, map, Option, Some, None, slice_get}
-use Rattle.dcc_c.specs.declared.syntax.Arm.{Arm}
-use Rattle.dcc_c.specs.Tree.{Word, Lines, Arms, no_arms, Function, Tree}
+use Rattle.dcc_c.specs.Tree.{Word, Lines, Arms, Function, Tree}
 use Rattle.dcc_c.specs.Run.{Continuation, runs, arm_for, after_break, after_continue}
-use Rattle.dcc_c.specs.Views.{arm_before, function_of}
+use Rattle.dcc_c.specs.Views.{function_of}
 use Rattle.dcc_prepare.specs.declared.program.Label.{Label}
 use Rattle.dcc_prepare.specs.declared.program.Case.{Case}
 use Rattle.dcc_prepare.specs.declared.code.Code.{Code}
@@ -11,11 +10,6 @@ use Rattle.dcc_prepare.specs.declared.code.Context.{Context}
 use Rattle.dcc_prepare.specs.declared.emit.Behind.{Behind}
 use Rattle.dcc_value.specs.Resolved.{names_of}
 use Rattle.dcc_prepare.specs.Points.{names_in, Goes, MayGo, label_named, point_named, case_point, AreRows}
-
--- the arms of a `switch` that has at most one
-abbrev pub arms_if : Option Arm → Arms
-arms_if None = no_arms
-arms_if (Some a) = arm_before a no_arms
 
 -- the points of the first list stay
 abbrev pub Stay : List Continuation → List Continuation → Type 0

@@ -5,10 +5,10 @@ ghost use Rattle.std.specs.Prelude.{◌≡◌, ℕ, Bool, List, map, Option, Non
 ghost use Rattle.dcc_c.specs.Tree.{Lines, line as before_lines, Arms, Assign, If, While, DoWhile, Switch, Goto, Label, Return, Function, Tree};
 ghost use Rattle.dcc_c.specs.Run.{Continuation, runs, tests, turns, from_label, from_label_inside, from_label_in_arms, default_body, ends_switch, State, step_at, jump_step, goes_on, function_in};
 ghost use Rattle.dcc_c.specs.Dos.{dos_of};
-ghost use Rattle.dcc_c.specs.Views.{expr_of, stmt_of, lines_of, arms_of, function_of};
+ghost use Rattle.dcc_c.specs.Views.{expr_of, stmt_of, lines_of, arms_of, function_of, arms_if};
 ghost use Rattle.dcc_prepare.specs.Points.{Goes, MayGo, AreRows, IsCallee, StandsIf, StandAll, dos_call};
 ghost use Rattle.dcc_value.specs.Resolved.{names_of};
-ghost use Rattle.dcc_prepare.specs.Emission.{Emits, EmitsArms, Leads, IsContext, arms_if};
+ghost use Rattle.dcc_prepare.specs.Emission.{Emits, EmitsArms, Leads, IsContext};
 
 use crate::code::{Code, Context, resolve_all, resolve_option};
 use crate::program::{Action, CallRow, Callee, Case, Dos};

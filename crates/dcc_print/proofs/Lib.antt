@@ -3,5 +3,4 @@ pub mod DepthLaws
 pub mod IndentLaws
 pub mod JoinedLaws
 pub mod MinusLaws
-pub mod RowLaws
 pub mod EndLaws

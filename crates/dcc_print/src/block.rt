@@ -4,8 +4,7 @@ ghost use Rattle.std.specs.Prelude.{◌≡◌, ◌+◌, ◌++◌, ◌∷◌, OnO
 ghost use Rattle.dcc_c.specs.Tree.{DoWhile};
 ghost use Rattle.dcc_c.specs.Parts.{stmts_in, inner_stmts, arm_stmts};
 ghost use Rattle.dcc_c.specs.Written.{indentation, depth_behind, written_stmt, written_else, written_lines, written_arms, written_default};
-ghost use Rattle.dcc_c.specs.Views.{expr_of, stmt_of, lines_of, arms_of};
-ghost use Rattle.dcc_print.specs.Blocks.{arms_if};
+ghost use Rattle.dcc_c.specs.Views.{expr_of, stmt_of, lines_of, arms_of, arms_if};
 
 use crate::expression::push_expr;
 use crate::statement::{

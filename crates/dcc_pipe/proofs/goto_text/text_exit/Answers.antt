@@ -1,5 +1,5 @@
 use Rattle.std.proofs.Common.{map, [], ◌∷◌, sym, ap, ◌∙◌}
-use Rattle.dcc_print.proofs.RowLaws.{if-tree}
+use Rattle.dcc_c.proofs.RowLaws.{if-tree}
 use Rattle.dcc_ir.specs.Views as inner
 use Rattle.dcc_c.specs.Tree.{If}
 use Rattle.dcc_c.specs.Views.{lines_of}

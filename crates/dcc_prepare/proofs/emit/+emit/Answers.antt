@@ -6,15 +6,15 @@ use Rattle.dcc_c.specs.declared.syntax.Line.{Line}
 use Rattle.dcc_c.specs.declared.syntax.Arm.{Arm, out-Arm}
 use Rattle.dcc_c.specs.Tree.{Word, Assign, Call, If, While, DoWhile, Forever, Switch, Break, Continue, Goto, Label, Empty, Return, no_lines, line, Arms, no_arms, arm}
 use Rattle.dcc_c.specs.Run.{runs, tests, turns, ends_switch, from_label, from_label_in_arms, default_body, first_of, after_break, after_continue}
-use Rattle.dcc_c.specs.Views.{expr_of, stmt_of, lines_of, arms_of}
+use Rattle.dcc_c.specs.Views.{expr_of, stmt_of, lines_of, arms_of, arms_if}
 use Rattle.dcc_value.specs.Resolved.{Names}
 use Rattle.dcc_prepare.specs.Points.{Goes, StandsIf, StandAll}
 use Rattle.dcc_prepare.specs.declared.emit.Behind.{Behind}
-use Rattle.dcc_prepare.specs.Emission.{Emits, EmitsArms, Leads, arms_if}
+use Rattle.dcc_prepare.specs.Emission.{Emits, EmitsArms, Leads}
 use Rattle.dcc_prepare.proofs.PointLaws.{stay_push, stay_all, goes_stay, goes_alike}
 use Rattle.dcc_prepare.proofs.EmissionLaws.{emits_none, emits_found, emits_alike, first_of-none, emits_after_ok, pushed_ok}
 use Rattle.dcc_prepare.proofs.StatementLaws.{stmt_at, lines_step, leads_stay, leads_behind, loop_test, stands_here, emits_push, goes_push, if_test, while_test, switch_test, loop_made, first_arm, arms_step}
-use Rattle.dcc_prepare.proofs.RowLaws.{arm-parts, if-tree, while-tree, do_while-tree, forever-tree, switch-tree}
+use Rattle.dcc_c.proofs.RowLaws.{arm-parts, if-tree, while-tree, do_while-tree, forever-tree, switch-tree}
 use Rattle.dcc_prepare.proofs.emit.+emit.Goals as goal
 
 pub emit_stmt-returns-in-Assign : goal.emit_stmt-returns-in-Assign

@@ -5,10 +5,9 @@ use Rattle.std.specs.List.{list_any}
 use Rattle.dcc_c.specs.declared.syntax.Line.{Line}
 use Rattle.dcc_c.specs.declared.syntax.Arm.{Arm, out-Arm}
 use Rattle.dcc_c.specs.Tree.{Word, no_arms, arm}
-use Rattle.dcc_c.specs.Views.{expr_of, stmt_of, lines_of, arms_of, arm_before}
-use Rattle.dcc_prepare.specs.Emission.{arms_if}
+use Rattle.dcc_c.specs.Views.{expr_of, stmt_of, lines_of, arms_of, arm_before, arms_if}
 use Rattle.dcc_prepare.specs.Takes.{expr_takes, stmt_takes, lines_take, arms_take}
-use Rattle.dcc_prepare.proofs.RowLaws.{arm-parts, if-tree, while-tree, do_while-tree, forever-tree, switch-tree}
+use Rattle.dcc_c.proofs.RowLaws.{arm-parts, if-tree, while-tree, do_while-tree, forever-tree, switch-tree}
 use Rattle.dcc_prepare.proofs.TakesLaws.{or-false, any-map}
 use Rattle.dcc_prepare.proofs.placement.+takes.Goals as goal
 

@@ -5,12 +5,11 @@ use Rattle.dcc_c.specs.declared.syntax.Arm.{Arm, out-Arm}
 use Rattle.dcc_c.specs.Tree.{If, While, DoWhile, Forever, Switch, line, arm, no_arms, Word}
 use Rattle.dcc_c.specs.Parts.{stmts_in, inner_stmts, arm_stmts}
 use Rattle.dcc_c.specs.Written.{indentation, depth_behind, next_depth, written_depth, written_test, written_stmt, written_else, written_lines, written_arms, written_default}
-use Rattle.dcc_c.specs.Views.{expr_of, stmt_of, lines_of, arms_of, arm_before}
-use Rattle.dcc_print.specs.Blocks.{arms_if}
+use Rattle.dcc_c.specs.Views.{expr_of, stmt_of, lines_of, arms_of, arm_before, arms_if}
 use Rattle.dcc_print.proofs.BlockLaws.{append-on_ok, depth-on_ok, else-some, default-written, lines-step, depth-step, label-step, arms-step, arm_depth-step}
 use Rattle.dcc_print.proofs.DepthLaws.{depth_behind-append}
 use Rattle.dcc_print.proofs.IndentLaws.{lines-counted, arms-counted, default-counted}
-use Rattle.dcc_print.proofs.RowLaws.{arm-parts, if-tree, while-tree, do_while-tree, forever-tree, switch-tree}
+use Rattle.dcc_c.proofs.RowLaws.{arm-parts, if-tree, while-tree, do_while-tree, forever-tree, switch-tree}
 use Rattle.dcc_print.proofs.block.+block.Goals as goal
 
 -- the first of the lines that are left

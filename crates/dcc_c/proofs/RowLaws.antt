@@ -1,4 +1,4 @@
--- The trees of statements with blocks, by the lists of their lines and arms.
+-- The trees of statements with blocks, as the lists of their lines and arms give them.
 use Rattle.std.proofs.Common.{◌≡◌, List, Vec, Global, Option, Some, None, refl, sym, ap, ◌∙◌}
 use mathlib.Core.Former.{Count}
 use Rattle.dcc_c.specs.declared.syntax.CExpr.{CExpr}
@@ -6,8 +6,7 @@ use Rattle.dcc_c.specs.declared.syntax.CStmt.{CStmt, If as IfOf, If', While as W
 use Rattle.dcc_c.specs.declared.syntax.Line.{Line}
 use Rattle.dcc_c.specs.declared.syntax.Arm.{Arm, Arm', out-Arm, outs-Arm'}
 use Rattle.dcc_c.specs.Tree.{If, While, DoWhile, Forever, Switch, line, Arms, no_arms, arm}
-use Rattle.dcc_c.specs.Views.{expr_of, stmt_of, lines_of, lines_of_row, arm_before, arms_of, arms_of_row}
-use Rattle.dcc_prepare.specs.Emission.{arms_if}
+use Rattle.dcc_c.specs.Views.{expr_of, stmt_of, lines_of, lines_of_row, arm_before, arms_of, arms_of_row, arms_if}
 
 row-lines : {n : _} (row : Row_of-Line n) → lines_of (items-the_row-Line n row) ≡ lines_of_row row
 row-lines end_of-Line = refl
