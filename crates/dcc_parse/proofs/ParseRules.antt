@@ -138,7 +138,7 @@ line-there [] at last p within is = absurd (omega (arith, within))
 line-there (q ∷ ps) zero last p within is = ap (λ (r : Read). r.line) is
 line-there (q ∷ ps) (suc at) last p within is = line-there ps at last p (omega (arith, within)) is
 
--- behind the last piece
+-- past the last piece
 pub line-last : (ps : List Read) (at last : ℕ) → length ps ≤ at → last ≡ line_at (pieces_of ps) last at
 line-last [] at last over = refl
 line-last (q ∷ ps) zero last over = absurd (omega (arith, over))

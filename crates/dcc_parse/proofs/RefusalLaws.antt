@@ -15,7 +15,7 @@ use Rattle.dcc_lex.proofs.laws.TextParsed.{parsed-stands, stands-parsed}
 use Rattle.dcc_parse.specs.Laws.{HasTree, HasRefusal}
 use Rattle.dcc_parse.proofs.ParseRules.{tree-parsed, no-rest, rest-same, offends-none}
 
--- nothing offends in the pieces behind the version line
+-- nothing offends in the pieces after the version line
 clean-stands : (text rest : List ℕ) → behind_version text ≡ Some rest → first_of (offences_of (pieces_of rest)) ≡ None → HasTree text
 clean-stands text rest begins none =
     let pieces = pieces_of rest in

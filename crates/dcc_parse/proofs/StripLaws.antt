@@ -64,13 +64,13 @@ first_arm arms i a within is =
     ∙ ap (λ x. partial.arm_before x (partial.arms_of (drop (i + 1) arms))) (sym is)
     ∙ arm-parts a (partial.arms_of (drop (i + 1) arms))
 
--- behind a `default` no other may stand
+-- after a `default` no other may stand
 pub no-default : (arms : PartialArms) → default_offences true arms ≡ [] → default_arms arms ≡ no_arms
 no-default no_cases _ = refl
 no-default (cases numbers None body arms) clean = no-default arms clean
 no-default (cases numbers (Some at) body arms) clean = absurd cc
 
--- nothing is left behind the end
+-- nothing is left after the end
 pub lines-end : (lines : List Line) (rows : List Row) (i : ℕ) {whole : Lines} → length rows ≤ i →
     lines_then lines (plain_lines (partial.lines_of (drop i rows))) ≡ whole → lines_of lines ≡ whole
 lines-end lines rows i over same =
@@ -177,7 +177,8 @@ module _ (scene : Scene) (blocks : ℕ) (arms : List PartialArm) (i : ℕ) (a : 
 
   pub default-skip : {whole : Arms} → is_some (out-PartialArm a).default ≡ false →
       (arms_inner scene blocks (partial.arms_of (drop i arms)) ≡ []) × (default_offences false (partial.arms_of (drop i arms)) ≡ []) × (whole ≡ default_arms (partial.arms_of (drop i arms))) →
-      (arms_inner scene blocks (partial.arms_of (drop (i + 1) arms)) ≡ []) × (default_offences false (partial.arms_of (drop (i + 1) arms)) ≡ []) × (whole ≡ default_arms (partial.arms_of (drop (i + 1) arms)))
+      (arms_inner scene blocks (partial.arms_of (drop (i + 1) arms)) ≡ []) × (default_offences false (partial.arms_of (drop (i + 1) arms)) ≡ []) ×
+      (whole ≡ default_arms (partial.arms_of (drop (i + 1) arms)))
   default-skip none before =
       let numbers = map partial.case_of (out-PartialArm a).numbers.items in
       let body = partial.lines_of (out-PartialArm a).body.items in
@@ -207,7 +208,7 @@ module _ (scene : Scene) (blocks : ℕ) (arms : List PartialArm) (i : ℕ) (a : 
 
 -- Statements with blocks.
 module _ (scene : Scene) (blocks : ℕ) where
-  -- statements behind a reference
+  -- statements of a reference
   pub lines-behind : {now items : List Row} {lines : Lines} → now ≡ items →
       (lines_offences scene blocks (partial.lines_of now) ≡ [] → lines ≡ plain_lines (partial.lines_of now)) →
       lines_offences scene blocks (partial.lines_of items) ≡ [] → lines ≡ plain_lines (partial.lines_of items)

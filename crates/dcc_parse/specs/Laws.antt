@@ -11,8 +11,8 @@ use Rattle.dcc_c.specs.Written.{written_form}
 abbrev pub TextsHaveOneTree : Type 0
 TextsHaveOneTree = (text : List ℕ) (a b : Tree) → StandsFor text a → StandsFor text b → a ≡ b
 
--- What is printed of a tree that a text stands for is a text of the same tree, with its lines counted anew. It is refused
--- for nothing, but for its length where it is too long.
+-- What is printed of a tree that a text stands for is a text of the same tree, with its lines counted anew. It is
+-- refused for nothing, but for its length where it is too long.
 pub record PrintedTextsStand : Type 0 where
   pub stands : (text : List ℕ) (tree : Tree) → StandsFor text tree → StandsFor (written_form tree) (numbered tree)
   pub not_refused : (text : List ℕ) (tree : Tree) → StandsFor text tree → length (written_form tree) ≤ 67108864 →
@@ -29,9 +29,10 @@ pub record HasRefusal (text : List ℕ) : Type 0 where
   pub kind : Kind
   pub refused : IsRefused text line kind
 
--- A text that is not too long stands for a tree or is refused, and not both; and it is refused in one line for one kind.
+-- A text that is not too long stands for a tree or is refused, and not both; and it is refused in one line for one
+-- kind.
 pub record TextsStandOrAreRefused : Type 0 where
   pub one : (text : List ℕ) → length text ≤ 67108864 → HasTree text ⊎ HasRefusal text
   pub not_both : (text : List ℕ) → length text ≤ 67108864 → HasTree text → ¬ HasRefusal text
-  pub first : (text : List ℕ) (line other : ℕ) (kind last : Kind) → IsRefused text line kind → IsRefused text other last →
-      (line ≡ other) × (kind ≡ last)
+  pub first : (text : List ℕ) (line other : ℕ) (kind last : Kind) → IsRefused text line kind →
+      IsRefused text other last → (line ≡ other) × (kind ≡ last)

@@ -21,7 +21,7 @@ use dcc_read::read;
 use dcc_reader::{Offence, ParseKind, Reader};
 use std::alloc::{AllocError, Global};
 
-/// The pieces that have not been read, where reading stopped.
+// The pieces that have not been read, where reading stopped.
 fn unread<'a>(reader: &Reader<'a>) -> &'a [Piece]
     ensures { pieces_of result.now ≡ offences.unread (reader_of reader.now) }
 {
@@ -32,7 +32,7 @@ fn unread<'a>(reader: &Reader<'a>) -> &'a [Piece]
     &all[reader.at..]
 }
 
-/// The unit of the pieces behind the version line, or what offends in them first. It fails only for want of memory.
+// The unit of the pieces after the version line, or what offends in them first. It fails only for want of memory.
 fn parse_pieces(alloc: Global, pieces: &[Piece]) -> Result<Result<Unit, Offence>, AllocError>
     requires few { length pieces.now < 67108864 }
     ensures unit { IfOk result (λ found. IfOk found (λ unit. IsTreeOf (pieces_of pieces.now) (tree_of unit))) }
@@ -47,7 +47,7 @@ fn parse_pieces(alloc: Global, pieces: &[Piece]) -> Result<Result<Unit, Offence>
     }
 }
 
-/// The line of the piece at a place, or the last line.
+// The line of the piece at a place, or the last line.
 fn line_at(pieces: &[Piece], last: u32, at: usize) -> u32
     ensures { result ≡ spec.line_at (pieces_of pieces.now) last at }
 {
@@ -57,50 +57,48 @@ fn line_at(pieces: &[Piece], last: u32, at: usize) -> u32
     }
 }
 
-/// The unit of a text, or what offends in it first. It fails only for want of memory.
-fn parse_bytes(alloc: Global, bytes: &[u8]) -> Result<Result<Unit, ParseFault>, AllocError>
-    ensures stands { IfOk result (λ parsed. IfOk parsed (λ unit. StandsFor bytes.now (tree_of unit))) }
-    ensures length { IfOk result (λ parsed. OnOk parsed (length bytes.now ≤ 67108864)) }
-    ensures refused { IfOk result (λ parsed. IfErr parsed (IsFaultOf bytes.now)) }
+// The unit of a text, or why there is none.
+fn parse_bytes(alloc: Global, bytes: &[u8]) -> Result<Unit, ParseFault>
+    ensures stands { IfOk result (λ unit. StandsFor bytes.now (tree_of unit)) }
+    ensures length { OnOk result (length bytes.now ≤ 67108864) }
+    ensures refused { IfErr result (IsFaultOf bytes.now) }
 {
     if bytes.len() > 67_108_864 {
-        return Ok(Err(ParseFault::At {
+        return Err(ParseFault::At {
             line: 0,
             kind: ParseKind::Length,
-        }));
+        });
     }
     let Some(rest) = behind_version(bytes) else {
-        return Ok(Err(ParseFault::At {
+        return Err(ParseFault::At {
             line: 1,
             kind: ParseKind::Version,
-        }));
+        });
     };
     let pieces = pieces(alloc, rest)?;
     match parse_pieces(alloc, &pieces)? {
-        Ok(unit) => Ok(Ok(unit)),
+        Ok(unit) => Ok(unit),
         Err(offence) => {
             let last = 1 + line_feeds(bytes);
-            Ok(Err(ParseFault::At {
+            Err(ParseFault::At {
                 line: line_at(&pieces, last, offence.at),
                 kind: offence.kind,
-            }))
+            })
         }
     }
 }
 
-/// The unit of a text. One of more than 67,108,864 bytes is refused.
+/// The unit of a text of the dialect.
 ///
 /// # Errors
 ///
-/// What offends in the text first, and in which line; or that memory ran out.
+/// What offends in the text first, and in which line: in a text of more than 67,108,864 bytes its length, in line 0. Or
+/// that memory ran out.
 pub fn parse(alloc: Global, bytes: &Vec<u8>) -> Result<Unit, ParseFault>
     ensures stands { IfOk result (λ unit. StandsFor bytes.now.items (tree_of unit)) }
     ensures alone { IfOk result (λ unit. (tree : Tree) → StandsFor bytes.now.items tree → tree ≡ tree_of unit) }
     ensures length { OnOk result (length bytes.now.items ≤ 67108864) }
     ensures refused { IfErr result (IsFaultOf bytes.now.items) }
 {
-    match parse_bytes(alloc, bytes) {
-        Ok(parsed) => parsed,
-        Err(_) => Err(ParseFault::Memory),
-    }
+    parse_bytes(alloc, bytes)
 }

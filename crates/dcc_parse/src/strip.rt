@@ -11,7 +11,7 @@ use dcc_c::{Arm, Base, CExpr, CStmt, CType, Line};
 use dcc_reader::{CaseAt, NumberAt, PartialArm, PartialExpr, PartialStmt, Row, WordAt};
 use std::alloc::{AllocError, Global};
 
-/// An expression.
+// An expression.
 fn strip_expr(alloc: Global, e: &PartialExpr) -> Result<CExpr, AllocError>
     ensures { IfOk result (λ r. tree.expr_of r ≡ stripped.plain_expr (partial.expr_of e.now)) }
 {
@@ -41,9 +41,10 @@ fn strip_expr(alloc: Global, e: &PartialExpr) -> Result<CExpr, AllocError>
     }
 }
 
-/// An expression, where there is one.
+// An expression, where there is one.
 fn strip_if(alloc: Global, e: &Option<PartialExpr>) -> Result<Option<CExpr>, AllocError>
-    ensures { IfOk result (λ r. option_map tree.expr_of r ≡ option_map stripped.plain_expr (option_map partial.expr_of e.now)) }
+    ensures { IfOk result
+        (λ r. option_map tree.expr_of r ≡ option_map stripped.plain_expr (option_map partial.expr_of e.now)) }
 {
     match e {
         Some(e) => Ok(Some(strip_expr(alloc, e)?)),
@@ -51,7 +52,7 @@ fn strip_if(alloc: Global, e: &Option<PartialExpr>) -> Result<Option<CExpr>, All
     }
 }
 
-/// The value of an assignment.
+// The value of an assignment.
 fn strip_value(alloc: Global, e: &Option<PartialExpr>) -> Result<CExpr, AllocError>
     ensures { IfOk result (λ r. tree.expr_of r ≡ stripped.plain_value (option_map partial.expr_of e.now)) }
 {
@@ -61,9 +62,10 @@ fn strip_value(alloc: Global, e: &Option<PartialExpr>) -> Result<CExpr, AllocErr
     }
 }
 
-/// The arguments of a call.
+// The arguments of a call.
 fn strip_arguments(alloc: Global, arguments: &[PartialExpr]) -> Result<Vec<CExpr>, AllocError>
-    ensures { IfOk result (λ r. map tree.expr_of r.items ≡ map stripped.plain_expr (map partial.expr_of arguments.now)) }
+    ensures { IfOk result
+        (λ r. map tree.expr_of r.items ≡ map stripped.plain_expr (map partial.expr_of arguments.now)) }
 {
     let mut found = Vec::new(alloc);
     for e in arguments {
@@ -82,7 +84,7 @@ pub(crate) fn strip_name(alloc: Global, name: &Option<WordAt>) -> Result<String,
     }
 }
 
-/// The numbers of cases.
+// The numbers of cases.
 fn strip_numbers(alloc: Global, numbers: &[CaseAt]) -> Result<Vec<u16>, AllocError>
     ensures { IfOk result (λ r. r.items ≡ stripped.plain_numbers (map partial.case_of numbers.now)) }
 {
@@ -93,7 +95,7 @@ fn strip_numbers(alloc: Global, numbers: &[CaseAt]) -> Result<Vec<u16>, AllocErr
     Ok(found)
 }
 
-/// A statement.
+// A statement.
 #[cycle(strip)]
 fn strip_stmt(alloc: Global, stmt: &PartialStmt) -> Result<CStmt, AllocError>
     ensures { (scene : Scene) (blocks : ℕ) → inner_offences scene blocks (partial.stmt_of stmt.now) ≡ [] →
@@ -156,7 +158,7 @@ pub(crate) fn strip_lines(alloc: Global, rows: &[Row]) -> Result<Vec<Line>, Allo
     Ok(lines)
 }
 
-/// The arms with cases.
+// The arms with cases.
 #[cycle(strip)]
 fn strip_arms(alloc: Global, arms: &[PartialArm]) -> Result<Vec<Arm>, AllocError>
     ensures { (scene : Scene) (blocks : ℕ) → arms_inner scene blocks (partial.arms_of arms.now) ≡ [] →
@@ -173,7 +175,7 @@ fn strip_arms(alloc: Global, arms: &[PartialArm]) -> Result<Vec<Arm>, AllocError
     Ok(found)
 }
 
-/// The arm with `default`, of which there is at most one.
+// The arm with `default`, of which there is at most one.
 #[cycle(strip)]
 fn strip_default(alloc: Global, arms: &[PartialArm]) -> Result<Option<Arm>, AllocError>
     ensures { (scene : Scene) (blocks : ℕ) → arms_inner scene blocks (partial.arms_of arms.now) ≡ [] →

@@ -16,7 +16,7 @@ use dcc_c::{Base, CType, Func, Global_, Unit, Var};
 use dcc_reader::{NumberAt, PartialFunction, PartialText, PartialVariable};
 use std::alloc::{AllocError, Global};
 
-/// A type.
+// A type.
 fn strip_type(ty: Option<CType>) -> CType
     ensures { result ≡ stripped.plain_type ty }
 {
@@ -29,7 +29,7 @@ fn strip_type(ty: Option<CType>) -> CType
     }
 }
 
-/// The number of elements of an array.
+// The number of elements of an array.
 fn strip_size(size: Option<NumberAt>) -> Option<u32>
     ensures { result ≡ option_map (λ n. n.value) (option_map partial.number_of size) }
 {
@@ -39,7 +39,7 @@ fn strip_size(size: Option<NumberAt>) -> Option<u32>
     }
 }
 
-/// Initial values.
+// Initial values.
 fn strip_init(alloc: Global, init: &[NumberAt]) -> Result<Vec<u32>, AllocError>
     ensures { IfOk result (λ r. r.items ≡ stripped.plain_numbers (map partial.number_of init.now)) }
 {
@@ -50,7 +50,7 @@ fn strip_init(alloc: Global, init: &[NumberAt]) -> Result<Vec<u32>, AllocError>
     Ok(found)
 }
 
-/// A parameter or a local variable.
+// A parameter or a local variable.
 fn strip_variable(alloc: Global, v: &PartialVariable) -> Result<Var, AllocError>
     ensures { IfOk result (λ r. tree.variable_of r ≡ stripped.plain_variable (partial.variable_of v.now)) }
 {
@@ -62,7 +62,7 @@ fn strip_variable(alloc: Global, v: &PartialVariable) -> Result<Var, AllocError>
     })
 }
 
-/// Parameters or local variables.
+// Parameters or local variables.
 fn strip_variables(alloc: Global, vs: &[PartialVariable]) -> Result<Vec<Var>, AllocError>
     ensures { IfOk result (λ r.
         map tree.variable_of r.items ≡ map stripped.plain_variable (map partial.variable_of vs.now)) }
@@ -74,14 +74,14 @@ fn strip_variables(alloc: Global, vs: &[PartialVariable]) -> Result<Vec<Var>, Al
     Ok(found)
 }
 
-/// The address of a global variable in memory.
+// The address of a global variable in memory.
 fn strip_address(address: u64) -> u32
     ensures { address ≤ 65536 → result ≡ address }
 {
     u32::try_from(address).unwrap_or(0)
 }
 
-/// A global variable, which stands in memory.
+// A global variable, which stands in memory.
 fn strip_global(alloc: Global, v: &PartialVariable) -> Result<Global_, AllocError>
     ensures { v.now.address ≤ 65536 →
         IfOk result (λ r. tree.global_of r ≡ stripped.plain_global (partial.variable_of v.now)) }
@@ -95,7 +95,7 @@ fn strip_global(alloc: Global, v: &PartialVariable) -> Result<Global_, AllocErro
     })
 }
 
-/// Global variables.
+// Global variables.
 fn strip_globals(alloc: Global, vs: &[PartialVariable]) -> Result<Vec<Global_>, AllocError>
     ensures { list_all is_in_memory (map partial.variable_of vs.now) ≡ true → IfOk result (λ r.
         map tree.global_of r.items ≡ map stripped.plain_global (map partial.variable_of vs.now)) }
@@ -107,7 +107,7 @@ fn strip_globals(alloc: Global, vs: &[PartialVariable]) -> Result<Vec<Global_>, 
     Ok(found)
 }
 
-/// A function.
+// A function.
 fn strip_function(alloc: Global, f: &PartialFunction) -> Result<Func, AllocError>
     ensures { (scene : Scene) → lines_offences scene 0 (partial.lines_of f.now.body.items) ≡ [] →
         IfOk result (λ r. tree.function_of r ≡ stripped.plain_function (partial.function_of f.now)) }
@@ -122,10 +122,11 @@ fn strip_function(alloc: Global, f: &PartialFunction) -> Result<Func, AllocError
     })
 }
 
-/// Functions.
+// Functions.
 fn strip_functions(alloc: Global, functions: &[PartialFunction]) -> Result<Vec<Func>, AllocError>
-    ensures { (whole : Whole) → functions_offences whole (map partial.function_of functions.now) ≡ [] → IfOk result (λ r.
-        map tree.function_of r.items ≡ map stripped.plain_function (map partial.function_of functions.now)) }
+    ensures { (whole : Whole) → functions_offences whole (map partial.function_of functions.now) ≡ [] →
+        IfOk result (λ r. map tree.function_of r.items
+        ≡ map stripped.plain_function (map partial.function_of functions.now)) }
 {
     let mut found = Vec::new(alloc);
     for f in functions {
@@ -134,7 +135,7 @@ fn strip_functions(alloc: Global, functions: &[PartialFunction]) -> Result<Vec<F
     Ok(found)
 }
 
-/// A number of the stack line, which is an offset.
+// A number of the stack line, which is an offset.
 fn strip_offset(number: Option<NumberAt>) -> u16
     ensures { stack_offences (option_map partial.number_of number) ≡ [] →
         result ≡ stripped.plain_number (option_map partial.number_of number) }

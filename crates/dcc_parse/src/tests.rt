@@ -13,15 +13,35 @@ mod statements;
 mod texts;
 mod whole;
 
-/// A part of a text, the line of the first offence, and what offends; None where nothing does.
+// A part of a text, the line of the first offence, and what offends; line 0 and `FITS` where nothing does.
 type Case = (&'static str, u32, Option<ParseKind>);
 
-/// The lines before a function or an address line.
-const HEAD: &str = "#pragma dcc text 1
-#pragma dcc stack 0 256
-";
+const FITS: Option<ParseKind> = None;
 
-/// The lines before a statement.
+const VERSION: Option<ParseKind> = Some(ParseKind::Version);
+
+const TOKEN: Option<ParseKind> = Some(ParseKind::Token);
+
+const GRAMMAR: Option<ParseKind> = Some(ParseKind::Grammar);
+
+const NAME: Option<ParseKind> = Some(ParseKind::Name);
+
+const TYPE: Option<ParseKind> = Some(ParseKind::Type_);
+
+const PLACE: Option<ParseKind> = Some(ParseKind::Place);
+
+const DEPTH: Option<ParseKind> = Some(ParseKind::Depth);
+
+// The version line.
+const FIRST: &str = "#pragma dcc text 1\n";
+
+// The lines before a function or an address line.
+const HEAD: &str = "#pragma dcc text 1\n#pragma dcc stack 0 256\n";
+
+// The lines before another function.
+const START: &str = "#pragma dcc text 1\n#pragma dcc stack 0 256\nvoid start(void)\n{\n}\n";
+
+// The lines before a statement.
 const BEFORE: &str = "#pragma dcc text 1
 #pragma dcc stack 0 256
 #pragma dcc at 256
@@ -34,8 +54,8 @@ void start(void)
     int x; long y; unsigned char c; int *p; long *l; auto int m; int n[3];
 ";
 
-/// The lines behind a statement.
-const BEHIND: &str = "
+// The lines after a statement.
+const AFTER: &str = "
 }
 int f(int i, int *s)
 {
@@ -46,52 +66,47 @@ void v(void)
 }
 ";
 
-/// The lines before a declaration.
+// The lines before a declaration.
 const GLOBAL_BEFORE: &str = "#pragma dcc text 1
 #pragma dcc stack 0 256
 #pragma dcc at 256
 int y;
 ";
 
-/// The lines behind a declaration.
-const GLOBAL_BEHIND: &str = "
-void start(void)
-{
-}
-";
+// The lines after a declaration.
+const GLOBAL_AFTER: &str = "\nvoid start(void)\n{\n}\n";
 
-/// The line and the kind of the first offence in a part of a text and what stands before and behind it, or none.
+// The line and the kind of the first offence in a text that is put together from three parts.
 fn offence(
     rt: &impl Abort,
     alloc: Global,
-    before: &str,
-    part: &str,
-    behind: &str,
+    parts: [&str; 3],
 ) -> Result<(u32, Option<ParseKind>), AllocError> {
-    let mut text = before.as_bytes().to_vec(alloc)?;
-    text.extend_from_slice(part.as_bytes())?;
-    text.extend_from_slice(behind.as_bytes())?;
+    let mut text = Vec::new(alloc);
+    for part in parts {
+        text.extend_from_slice(part.as_bytes())?;
+    }
     Ok(match parse(alloc, &text) {
-        Ok(_) => (0, None),
+        Ok(_) => (0, FITS),
         Err(ParseFault::At { line, kind }) => (line, Some(kind)),
         Err(ParseFault::Memory) => {
             assert!(rt; false);
-            (0, None)
+            (0, FITS)
         }
     })
 }
 
-/// Each case, between these lines, is answered as it says.
+// Each case, between these lines, is answered as it says.
 fn each_is_answered(
     rt: &impl Abort,
     alloc: Global,
     before: &str,
     cases: &[Case],
-    behind: &str,
+    after: &str,
 ) -> Result<(), AllocError> {
     for case in cases {
         let (text, line, kind) = *case;
-        let answer = offence(rt, alloc, before, text, behind)?;
+        let answer = offence(rt, alloc, [before, text, after])?;
         assert_eq!(rt; answer, (line, kind), "{text}");
     }
     Ok(())
@@ -99,7 +114,7 @@ fn each_is_answered(
 
 #[test]
 fn numbers_words_and_marks_have_edges(rt: HostRuntime) -> Result<(), Fail> {
-    each_is_answered(&rt, rt.alloc(), BEFORE, &statements::TOKENS, BEHIND)?;
+    each_is_answered(&rt, rt.alloc(), BEFORE, &statements::TOKENS, AFTER)?;
     Ok(())
 }
 
@@ -107,19 +122,19 @@ fn numbers_words_and_marks_have_edges(rt: HostRuntime) -> Result<(), Fail> {
 fn the_grammar_refuses_at_the_first_piece_that_it_does_not_allow(
     rt: HostRuntime,
 ) -> Result<(), Fail> {
-    each_is_answered(&rt, rt.alloc(), BEFORE, &statements::GRAMMAR, BEHIND)?;
+    each_is_answered(&rt, rt.alloc(), BEFORE, &statements::GRAMMARS, AFTER)?;
     Ok(())
 }
 
 #[test]
 fn names_and_types_fit(rt: HostRuntime) -> Result<(), Fail> {
-    each_is_answered(&rt, rt.alloc(), BEFORE, &meanings::NAMES_AND_TYPES, BEHIND)?;
+    each_is_answered(&rt, rt.alloc(), BEFORE, &meanings::NAMES_AND_TYPES, AFTER)?;
     Ok(())
 }
 
 #[test]
 fn of_two_offences_the_first_counts(rt: HostRuntime) -> Result<(), Fail> {
-    each_is_answered(&rt, rt.alloc(), BEFORE, &meanings::TWO_OFFENCES, BEHIND)?;
+    each_is_answered(&rt, rt.alloc(), BEFORE, &meanings::TWO_OFFENCES, AFTER)?;
     Ok(())
 }
 
@@ -132,18 +147,16 @@ fn a_text_that_ends_in_the_middle_is_refused_in_its_last_line(rt: HostRuntime) -
 
 #[test]
 fn declarations_have_names_and_places(rt: HostRuntime) -> Result<(), Fail> {
-    each_is_answered(
-        &rt,
-        rt.alloc(),
-        GLOBAL_BEFORE,
-        &texts::DECLARATIONS,
-        GLOBAL_BEHIND,
-    )?;
+    let cases = &texts::DECLARATIONS;
+    each_is_answered(&rt, rt.alloc(), GLOBAL_BEFORE, cases, GLOBAL_AFTER)?;
     Ok(())
 }
 
 #[test]
 fn whole_texts_have_a_version_a_stack_and_start(rt: HostRuntime) -> Result<(), Fail> {
-    each_is_answered(&rt, rt.alloc(), "", &texts::TEXTS, "")?;
+    each_is_answered(&rt, rt.alloc(), "", &texts::VERSIONS, "")?;
+    each_is_answered(&rt, rt.alloc(), FIRST, &texts::STACKS, "")?;
+    each_is_answered(&rt, rt.alloc(), HEAD, &texts::FUNCTIONS, "")?;
+    each_is_answered(&rt, rt.alloc(), START, &texts::OTHER_FUNCTIONS, "")?;
     Ok(())
 }

@@ -16,7 +16,7 @@ append-on_ok r old mid new first second whole before all after =
     on_ok_weaker r (λ is. is ∙ ap (λ l. l ++ second) before ∙ append_assoc old first second ∙ ap (λ l. old ++ l) all) after
 
 -- the depth that a call answers, by another name
-pub depth-on_ok : {E : Type 0} (r : Result ℕ E) (first second : ℕ) → first ≡ second → IfOk r (λ behind. behind ≡ first) → IfOk r (λ behind. behind ≡ second)
+pub depth-on_ok : {E : Type 0} (r : Result ℕ E) (first second : ℕ) → first ≡ second → IfOk r (λ after. after ≡ first) → IfOk r (λ after. after ≡ second)
 depth-on_ok (Result.Ok v) first second same is = is ∙ same
 depth-on_ok (Result.Err e) first second same is = is
 
@@ -27,16 +27,19 @@ else-some braces (l ∷ ls) block some = refl
 
 -- The statements that are left, after one more.
 
-pub lines-step : (braces depth own behind at : ℕ) (stmt : Stmt) (rest left : Lines) (total old before text : Word) → left ≡ line stmt at rest → old ++ written_lines braces depth left ≡ total → own ≡ next_depth depth left → before ≡ old ++ written_depth depth (next_depth depth left) → text ≡ before ++ written_stmt braces own stmt → behind ≡ depth_behind own (stmt ∷ inner_stmts stmt) → text ++ written_lines braces behind rest ≡ total
-lines-step braces depth own behind at stmt rest left total old before text is whole own_is before_is text_is behind_is =
+pub lines-step : (braces depth own after at : ℕ) (stmt : Stmt) (rest left : Lines) (total old before text : Word) →
+    left ≡ line stmt at rest → old ++ written_lines braces depth left ≡ total → own ≡ next_depth depth left →
+    before ≡ old ++ written_depth depth (next_depth depth left) → text ≡ before ++ written_stmt braces own stmt →
+    after ≡ depth_behind own (stmt ∷ inner_stmts stmt) → text ++ written_lines braces after rest ≡ total
+lines-step braces depth own after at stmt rest left total old before text is whole own_is before_is text_is after_is =
     let with : ℕ → Word → Word = λ n l. (l ++ written_stmt braces n stmt) ++ written_lines braces (depth_behind n (stmt ∷ inner_stmts stmt)) rest in
     let all : Lines → Word = λ l. with (next_depth depth l) (old ++ written_depth depth (next_depth depth l)) in
     let next = next_depth depth (line stmt at rest) in
     let pragma = written_depth depth next in
     let own_text = written_stmt braces next stmt in
     let others = written_lines braces (depth_behind next (stmt ∷ inner_stmts stmt)) rest in
-    ap (λ l. l ++ written_lines braces behind rest) text_is
-    ∙ ap (λ n. (before ++ written_stmt braces own stmt) ++ written_lines braces n rest) behind_is
+    ap (λ l. l ++ written_lines braces after rest) text_is
+    ∙ ap (λ n. (before ++ written_stmt braces own stmt) ++ written_lines braces n rest) after_is
     ∙ ap (with own) before_is
     ∙ ap (λ n. with n (old ++ written_depth depth (next_depth depth left))) own_is
     ∙ ap all is
@@ -45,20 +48,24 @@ lines-step braces depth own behind at stmt rest left total old before text is wh
     ∙ sym (ap (λ l. old ++ written_lines braces depth l) is)
     ∙ whole
 
-pub depth-step : (depth own behind at total : ℕ) (stmt : Stmt) (rest left : Lines) → left ≡ line stmt at rest → depth_behind depth (stmts_in left) ≡ total → own ≡ next_depth depth left → behind ≡ depth_behind own (stmt ∷ inner_stmts stmt) → depth_behind behind (stmts_in rest) ≡ total
-depth-step depth own behind at total stmt rest left is whole own_is behind_is =
-    ap (λ n. depth_behind n (stmts_in rest)) behind_is
+pub depth-step : (depth own after at total : ℕ) (stmt : Stmt) (rest left : Lines) → left ≡ line stmt at rest →
+    depth_behind depth (stmts_in left) ≡ total → own ≡ next_depth depth left →
+    after ≡ depth_behind own (stmt ∷ inner_stmts stmt) → depth_behind after (stmts_in rest) ≡ total
+depth-step depth own after at total stmt rest left is whole own_is after_is =
+    ap (λ n. depth_behind n (stmts_in rest)) after_is
     ∙ sym (depth_behind-append own (stmt ∷ inner_stmts stmt) (stmts_in rest))
     ∙ sym (ap (λ l. depth_behind own (stmts_in l)) is)
     ∙ ap (λ n. depth_behind n (stmts_in left)) own_is
     ∙ depth_behind-next depth left
     ∙ whole
 
-pub label-step : (depth own behind at : ℕ) (stmt : Stmt) (rest left : Lines) → left ≡ line stmt at rest → own ≡ next_depth depth left → behind ≡ depth_behind own (stmt ∷ inner_stmts stmt) → is_label stmt ≡ true → next_depth behind rest ≡ behind
-label-step depth own behind at (Label word) rest left is own_is behind_is label =
-    let same : behind ≡ next_depth depth rest = behind_is ∙ own_is ∙ ap (next_depth depth) is in
+pub label-step : (depth own after at : ℕ) (stmt : Stmt) (rest left : Lines) → left ≡ line stmt at rest →
+    own ≡ next_depth depth left → after ≡ depth_behind own (stmt ∷ inner_stmts stmt) → is_label stmt ≡ true →
+    next_depth after rest ≡ after
+label-step depth own after at (Label word) rest left is own_is after_is label =
+    let same : after ≡ next_depth depth rest = after_is ∙ own_is ∙ ap (next_depth depth) is in
     ap (λ n. next_depth n rest) same ∙ next_depth-again depth rest ∙ sym same
-label-step depth own behind at stmt rest left is own_is behind_is label = cc
+label-step depth own after at stmt rest left is own_is after_is label = cc
 
 -- the default arm and the end of its `switch`
 pub default-written : (old label lines last end : Word) → (((old ++ label) ++ lines) ++ last) ++ end ≡ old ++ ((label ++ (lines ++ last)) ++ end)
@@ -66,13 +73,17 @@ default-written old label lines last end = simp append_assoc
 
 -- The arms that are left, after one more.
 
-pub arms-step : (braces depth behind : ℕ) (cases : List ℕ) (body : Lines) (rest left : Arms) (total old heads before text : Word) → left ≡ arm cases body rest → old ++ written_arms braces depth left ≡ total → heads ≡ old ++ written_cases braces cases → before ≡ heads ++ written_lines braces depth body → text ≡ before ++ (indentation braces ++ codes "break;\n") → behind ≡ depth_behind depth (stmts_in body) → text ++ written_arms braces behind rest ≡ total
-arms-step braces depth behind cases body rest left total old heads before text is whole heads_is before_is text_is behind_is =
+pub arms-step : (braces depth after : ℕ) (cases : List ℕ) (body : Lines) (rest left : Arms) (total old heads before text : Word) →
+    left ≡ arm cases body rest → old ++ written_arms braces depth left ≡ total →
+    heads ≡ old ++ written_cases braces cases → before ≡ heads ++ written_lines braces depth body →
+    text ≡ before ++ (indentation braces ++ codes "break;\n") → after ≡ depth_behind depth (stmts_in body) →
+    text ++ written_arms braces after rest ≡ total
+arms-step braces depth after cases body rest left total old heads before text is whole heads_is before_is text_is after_is =
     let first = written_cases braces cases in
     let lines = written_lines braces depth body in
     let last = indentation braces ++ codes "break;\n" in
     let others = written_arms braces (depth_behind depth (stmts_in body)) rest in
-    ap (λ n. text ++ written_arms braces n rest) behind_is
+    ap (λ n. text ++ written_arms braces n rest) after_is
     ∙ ap (λ l. l ++ others) (text_is ∙ ap (λ l. l ++ last) (before_is ∙ ap (λ l. l ++ lines) heads_is))
     ∙ append_assoc ((old ++ first) ++ lines) last others
     ∙ append_assoc (old ++ first) lines (last ++ others)
@@ -80,9 +91,11 @@ arms-step braces depth behind cases body rest left total old heads before text i
     ∙ sym (ap (λ l. old ++ written_arms braces depth l) is)
     ∙ whole
 
-pub arm_depth-step : (depth behind total : ℕ) (cases : List ℕ) (body : Lines) (rest left : Arms) → left ≡ arm cases body rest → depth_behind depth (arm_stmts left) ≡ total → behind ≡ depth_behind depth (stmts_in body) → depth_behind behind (arm_stmts rest) ≡ total
-arm_depth-step depth behind total cases body rest left is whole behind_is =
-    ap (λ n. depth_behind n (arm_stmts rest)) behind_is
+pub arm_depth-step : (depth after total : ℕ) (cases : List ℕ) (body : Lines) (rest left : Arms) →
+    left ≡ arm cases body rest → depth_behind depth (arm_stmts left) ≡ total →
+    after ≡ depth_behind depth (stmts_in body) → depth_behind after (arm_stmts rest) ≡ total
+arm_depth-step depth after total cases body rest left is whole after_is =
+    ap (λ n. depth_behind n (arm_stmts rest)) after_is
     ∙ sym (depth_behind-append depth (stmts_in body) (arm_stmts rest))
     ∙ sym (ap (λ l. depth_behind depth (arm_stmts l)) is)
     ∙ whole

@@ -4,7 +4,7 @@ use Rattle.dcc_c.specs.Tree.{Stmt, Call, Label, Lines, no_lines, line}
 use Rattle.dcc_c.specs.Parts.{stmts_in}
 use Rattle.dcc_c.specs.Written.{depth_behind, next_depth}
 
--- behind some statements, and then more
+-- after some statements, and then more
 pub depth_behind-append : (depth : ℕ) (first second : List Stmt) → depth_behind depth (first ++ second) ≡ depth_behind (depth_behind depth first) second
 depth_behind-append depth [] second = refl
 depth_behind-append depth (Call place function arguments own ∷ stmts) second = depth_behind-append own stmts second
@@ -17,7 +17,7 @@ next_depth-again depth (line (Label word) at lines) = next_depth-again depth lin
 next_depth-again depth (line (Call place function arguments own) at lines) = refl
 next_depth-again depth (line stmt at lines) = refl
 
--- where the depth of the call that comes next is in force already, it is the same behind the statements
+-- where the depth of the call that comes next is in force already, it is the same after the statements
 pub depth_behind-next : (depth : ℕ) (lines : Lines) → depth_behind (next_depth depth lines) (stmts_in lines) ≡ depth_behind depth (stmts_in lines)
 depth_behind-next depth no_lines = refl
 depth_behind-next depth (line (Label word) at lines) = depth_behind-next depth lines

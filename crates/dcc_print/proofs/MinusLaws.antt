@@ -8,10 +8,10 @@ glyph-no_minus : (digit : ℕ) → (digit_glyph false digit == 45) ≡ false
 glyph-no_minus digit = grind (arith, nat_tests)
 
 -- digits before bytes that do not begin with `-`
-digits_onto-no_minus : (most n : ℕ) (behind rest : List ℕ) → begins_with_minus (behind ++ rest) ≡ false → begins_with_minus (digits_onto most 10 false n behind ++ rest) ≡ false
-digits_onto-no_minus zero n behind rest not_behind = not_behind
-digits_onto-no_minus (suc most) n behind rest not_behind =
-    let more : List ℕ = digit_glyph false (n % 10) ∷ behind in
+digits_onto-no_minus : (most n : ℕ) (after rest : List ℕ) → begins_with_minus (after ++ rest) ≡ false → begins_with_minus (digits_onto most 10 false n after ++ rest) ≡ false
+digits_onto-no_minus zero n after rest not_after = not_after
+digits_onto-no_minus (suc most) n after rest not_after =
+    let more : List ℕ = digit_glyph false (n % 10) ∷ after in
     let Holds : Bool → Type 0 =
     λ b. begins_with_minus ((if b then more else digits_onto most 10 false (n / 10) more) ++ rest) ≡ false in
     elim (n / 10 == 0) as Holds [
@@ -29,7 +29,7 @@ some_digits-no_minus most n rest =
       | false ↦ digits_onto-no_minus most (n / 10) last rest (glyph-no_minus (n % 10))
     ]
 
--- a decimal number does not begin with `-`, whatever stands behind it
+-- a decimal number does not begin with `-`, whatever stands after it
 pub decimal-no_minus : (n : ℕ) (rest : List ℕ) → begins_with_minus (decimal n ++ rest) ≡ false
 unfolding digits
 decimal-no_minus n rest = some_digits-no_minus 63 n rest

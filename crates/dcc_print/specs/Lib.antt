@@ -1,1 +1,6 @@
 pub mod Blocks
+pub use Rattle.dcc_c.specs.Numbered
+pub use Rattle.dcc_c.specs.Views
+pub use Rattle.dcc_c.specs.Written
+pub use Rattle.dcc_io.specs.Count
+pub use Rattle.dcc_io.specs.Told

@@ -14,7 +14,7 @@ use crate::statement::{
 use dcc_c::{Arm, CExpr, CStmt, Line};
 use std::alloc::AllocError;
 
-/// The pairs of braces around what is inside a statement, as far as the indentation counts them.
+// The pairs of braces around what is inside a statement, as far as the indentation counts them.
 fn inside(braces: usize) -> usize
     ensures { min result 16 ≡ min (1 + braces) 16 }
 {
@@ -22,7 +22,7 @@ fn inside(braces: usize) -> usize
 }
 
 /// Appends a statement inside so many pairs of braces, where calls have this depth. The answer is
-/// the depth in force behind it.
+/// the depth in force after it.
 #[cycle(block)]
 pub(crate) fn push_stmt(
     text: &mut String,
@@ -30,8 +30,10 @@ pub(crate) fn push_stmt(
     depth: u32,
     stmt: &CStmt,
 ) -> Result<u32, AllocError>
-    ensures text { OnOk result (string_bytes text.new ≡ string_bytes text.old ++ written_stmt braces depth (stmt_of stmt.now)) }
-    ensures depth { IfOk result (λ behind. behind ≡ depth_behind depth (stmt_of stmt.now ∷ inner_stmts (stmt_of stmt.now))) }
+    ensures text { OnOk result
+        (string_bytes text.new ≡ string_bytes text.old ++ written_stmt braces depth (stmt_of stmt.now)) }
+    ensures depth { IfOk result
+        (λ in_force. in_force ≡ depth_behind depth (stmt_of stmt.now ∷ inner_stmts (stmt_of stmt.now))) }
 {
     match stmt {
         CStmt::Assign(place, e) => push_assign(text, braces, place, e)?,
@@ -68,8 +70,8 @@ pub(crate) fn push_stmt(
     Ok(depth)
 }
 
-/// Appends the statements inside a statement, and the line that ends it. The answer is the depth in
-/// force behind it.
+// Appends the statements inside a statement, and the line that ends it. The answer is the depth in
+// force after it.
 #[cycle(block)]
 fn push_block(
     text: &mut String,
@@ -79,15 +81,15 @@ fn push_block(
 ) -> Result<u32, AllocError>
     ensures text { OnOk result (string_bytes text.new ≡ string_bytes text.old
         ++ (written_lines (1 + braces) depth (lines_of body.now) ++ (indentation braces ++ codes "}\n"))) }
-    ensures depth { IfOk result (λ behind. behind ≡ depth_behind depth (stmts_in (lines_of body.now))) }
+    ensures depth { IfOk result (λ in_force. in_force ≡ depth_behind depth (stmts_in (lines_of body.now))) }
 {
-    let behind = push_inner(text, braces, depth, body)?;
+    let in_force = push_inner(text, braces, depth, body)?;
     push_line(text, braces, "}\n")?;
-    Ok(behind)
+    Ok(in_force)
 }
 
-/// Appends the else part of an `if`, where it is not empty, and the line that ends the `if`. The
-/// answer is the depth in force behind it.
+// Appends the else part of an `if`, where it is not empty, and the line that ends the `if`. The
+// answer is the depth in force after it.
 #[cycle(block)]
 fn push_else(
     text: &mut String,
@@ -98,7 +100,7 @@ fn push_else(
     ensures text { OnOk result (string_bytes text.new ≡ string_bytes text.old
         ++ (written_else braces (lines_of otherwise.now) (written_lines (1 + braces) depth (lines_of otherwise.now))
         ++ (indentation braces ++ codes "}\n"))) }
-    ensures depth { IfOk result (λ behind. behind ≡ depth_behind depth (stmts_in (lines_of otherwise.now))) }
+    ensures depth { IfOk result (λ in_force. in_force ≡ depth_behind depth (stmts_in (lines_of otherwise.now))) }
 {
     if otherwise.is_empty() {
         push_line(text, braces, "}\n")?;
@@ -108,7 +110,7 @@ fn push_else(
     push_block(text, braces, depth, otherwise)
 }
 
-/// Appends a `do` loop. The answer is the depth in force behind it.
+// Appends a `do` loop. The answer is the depth in force after it.
 #[cycle(block)]
 fn push_do_while(
     text: &mut String,
@@ -119,18 +121,18 @@ fn push_do_while(
 ) -> Result<u32, AllocError>
     ensures text { OnOk result (string_bytes text.new ≡ string_bytes text.old
         ++ written_stmt braces depth (DoWhile (lines_of body.now) (expr_of e.now))) }
-    ensures depth { IfOk result (λ behind. behind ≡ depth_behind depth (stmts_in (lines_of body.now))) }
+    ensures depth { IfOk result (λ in_force. in_force ≡ depth_behind depth (stmts_in (lines_of body.now))) }
 {
     push_line(text, braces, "do {\n")?;
-    let behind = push_inner(text, braces, depth, body)?;
+    let in_force = push_inner(text, braces, depth, body)?;
     push_line(text, braces, "} while (")?;
     push_expr(text, e)?;
     text.push_str(");\n")?;
-    Ok(behind)
+    Ok(in_force)
 }
 
 /// Appends the arms of a `switch`, each with the `break` that ends it. The answer is the depth in
-/// force behind them.
+/// force after them.
 #[cycle(block)]
 pub(crate) fn push_arms(
     text: &mut String,
@@ -138,20 +140,21 @@ pub(crate) fn push_arms(
     depth: u32,
     arms: &[Arm],
 ) -> Result<u32, AllocError>
-    ensures text { OnOk result (string_bytes text.new ≡ string_bytes text.old ++ written_arms braces depth (arms_of arms.now)) }
-    ensures depth { IfOk result (λ behind. behind ≡ depth_behind depth (arm_stmts (arms_of arms.now))) }
+    ensures text { OnOk result
+        (string_bytes text.new ≡ string_bytes text.old ++ written_arms braces depth (arms_of arms.now)) }
+    ensures depth { IfOk result (λ in_force. in_force ≡ depth_behind depth (arm_stmts (arms_of arms.now))) }
 {
-    let mut behind = depth;
+    let mut in_force = depth;
     for arm in arms {
         push_cases(text, braces, &arm.cases)?;
-        behind = push_lines(text, braces, behind, &arm.body)?;
+        in_force = push_lines(text, braces, in_force, &arm.body)?;
         push_line(text, braces, "break;\n")?;
     }
-    Ok(behind)
+    Ok(in_force)
 }
 
-/// Appends the default arm of a `switch`, where there is one, and the line that ends the `switch`.
-/// The answer is the depth in force behind it.
+// Appends the default arm of a `switch`, where there is one, and the line that ends the `switch`.
+// The answer is the depth in force after it.
 #[cycle(block)]
 fn push_default(
     text: &mut String,
@@ -161,7 +164,7 @@ fn push_default(
 ) -> Result<u32, AllocError>
     ensures text { OnOk result (string_bytes text.new ≡ string_bytes text.old
         ++ (written_default (1 + braces) depth (arms_if last.now) ++ (indentation braces ++ codes "}\n"))) }
-    ensures depth { IfOk result (λ behind. behind ≡ depth_behind depth (arm_stmts (arms_if last.now))) }
+    ensures depth { IfOk result (λ in_force. in_force ≡ depth_behind depth (arm_stmts (arms_if last.now))) }
 {
     match last {
         None => {
@@ -171,16 +174,16 @@ fn push_default(
         Some(arm) => {
             let inner = inside(braces);
             push_line(text, inner, "default:\n")?;
-            let behind = push_lines(text, inner, depth, &arm.body)?;
+            let in_force = push_lines(text, inner, depth, &arm.body)?;
             push_line(text, inner, "break;\n")?;
             push_line(text, braces, "}\n")?;
-            Ok(behind)
+            Ok(in_force)
         }
     }
 }
 
-/// Appends the statements inside a statement that is itself inside so many pairs of braces. The
-/// answer is the depth in force behind them.
+// Appends the statements inside a statement that is itself inside so many pairs of braces. The
+// answer is the depth in force after them.
 #[cycle(block)]
 fn push_inner(
     text: &mut String,
@@ -188,14 +191,15 @@ fn push_inner(
     depth: u32,
     lines: &[Line],
 ) -> Result<u32, AllocError>
-    ensures text { OnOk result (string_bytes text.new ≡ string_bytes text.old ++ written_lines (1 + braces) depth (lines_of lines.now)) }
-    ensures depth { IfOk result (λ behind. behind ≡ depth_behind depth (stmts_in (lines_of lines.now))) }
+    ensures text { OnOk result
+        (string_bytes text.new ≡ string_bytes text.old ++ written_lines (1 + braces) depth (lines_of lines.now)) }
+    ensures depth { IfOk result (λ in_force. in_force ≡ depth_behind depth (stmts_in (lines_of lines.now))) }
 {
     push_lines(text, inside(braces), depth, lines)
 }
 
 /// Appends statements, with this depth in force before them. The answer is the depth in force
-/// behind them.
+/// after them.
 #[cycle(block)]
 pub(crate) fn push_lines(
     text: &mut String,
@@ -203,15 +207,16 @@ pub(crate) fn push_lines(
     depth: u32,
     lines: &[Line],
 ) -> Result<u32, AllocError>
-    ensures text { OnOk result (string_bytes text.new ≡ string_bytes text.old ++ written_lines braces depth (lines_of lines.now)) }
-    ensures depth { IfOk result (λ behind. behind ≡ depth_behind depth (stmts_in (lines_of lines.now))) }
+    ensures text { OnOk result
+        (string_bytes text.new ≡ string_bytes text.old ++ written_lines braces depth (lines_of lines.now)) }
+    ensures depth { IfOk result (λ in_force. in_force ≡ depth_behind depth (stmts_in (lines_of lines.now))) }
 {
-    let mut behind = depth;
-    let mut is_behind_label = false;
+    let mut in_force = depth;
+    let mut is_after_label = false;
     for (i, line) in lines.iter().enumerate() {
-        let own = push_depth(text, behind, is_behind_label, &lines[i..])?;
-        behind = push_stmt(text, braces, own, &line.stmt)?;
-        is_behind_label = is_label(&line.stmt);
+        let own = push_depth(text, in_force, is_after_label, &lines[i..])?;
+        in_force = push_stmt(text, braces, own, &line.stmt)?;
+        is_after_label = is_label(&line.stmt);
     }
-    Ok(behind)
+    Ok(in_force)
 }

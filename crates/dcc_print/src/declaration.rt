@@ -9,7 +9,7 @@ use crate::expression::base_words;
 use dcc_c::{CType, Class, Global_, Var};
 use std::alloc::AllocError;
 
-/// Appends a type and the name that has it.
+// Appends a type and the name that has it.
 fn push_variable(text: &mut String, ty: CType, name: &str) -> Result<(), AllocError>
     ensures { OnOk result (string_bytes text.new ≡ string_bytes text.old ++ written_variable ty name.now) }
 {
@@ -18,7 +18,7 @@ fn push_variable(text: &mut String, ty: CType, name: &str) -> Result<(), AllocEr
     text.push_str(name)
 }
 
-/// Appends the number of elements of an array.
+// Appends the number of elements of an array.
 fn push_size(text: &mut String, len: Option<u32>) -> Result<(), AllocError>
     ensures { OnOk result (string_bytes text.new ≡ string_bytes text.old ++ written_size len) }
 {
@@ -28,7 +28,7 @@ fn push_size(text: &mut String, len: Option<u32>) -> Result<(), AllocError>
     }
 }
 
-/// The word of a class.
+// The word of a class.
 fn class_word(class: Class) -> &'static str
     ensures { result.now ≡ written_class class }
 {
@@ -50,7 +50,7 @@ pub(crate) fn push_local(text: &mut String, v: &Var) -> Result<(), AllocError>
     text.push_str(";\n")
 }
 
-/// Appends a parameter.
+// Appends a parameter.
 fn push_param(text: &mut String, v: &Var) -> Result<(), AllocError>
     ensures { OnOk result (string_bytes text.new ≡ string_bytes text.old ++ written_param (variable_of v.now)) }
 {
@@ -60,7 +60,8 @@ fn push_param(text: &mut String, v: &Var) -> Result<(), AllocError>
 
 /// Appends the parameters in a function's head.
 pub(crate) fn push_params(text: &mut String, params: &[Var]) -> Result<(), AllocError>
-    ensures { OnOk result (string_bytes text.new ≡ string_bytes text.old ++ written_head_params (map variable_of params.now)) }
+    ensures { OnOk result
+        (string_bytes text.new ≡ string_bytes text.old ++ written_head_params (map variable_of params.now)) }
 {
     match params {
         [] => text.push_str("void"),
@@ -88,7 +89,7 @@ pub(crate) fn push_head(text: &mut String, ty: Option<CType>, name: &str) -> Res
     }
 }
 
-/// Appends numbers with a comma and a space between them.
+// Appends numbers with a comma and a space between them.
 fn push_numbers(text: &mut String, numbers: &[u32]) -> Result<(), AllocError>
     ensures { OnOk result (string_bytes text.new ≡ string_bytes text.old ++ written_numbers numbers.now) }
 {
@@ -104,7 +105,7 @@ fn push_numbers(text: &mut String, numbers: &[u32]) -> Result<(), AllocError>
     }
 }
 
-/// Appends initial values, where there are any.
+// Appends initial values, where there are any.
 fn push_initial(text: &mut String, len: Option<u32>, init: &[u32]) -> Result<(), AllocError>
     ensures { OnOk result (string_bytes text.new ≡ string_bytes text.old ++ written_initial len init.now) }
 {
@@ -124,7 +125,7 @@ fn push_initial(text: &mut String, len: Option<u32>, init: &[u32]) -> Result<(),
     }
 }
 
-/// Appends the declaration of a global variable.
+// Appends the declaration of a global variable.
 fn push_global(text: &mut String, global: &Global_) -> Result<(), AllocError>
     ensures { OnOk result (string_bytes text.new ≡ string_bytes text.old ++ written_global (global_of global.now)) }
 {
@@ -134,8 +135,8 @@ fn push_global(text: &mut String, global: &Global_) -> Result<(), AllocError>
     text.push_str(";\n")
 }
 
-/// The address behind a global variable.
-fn behind_global(global: &Global_) -> u64
+// The address after a global variable.
+fn address_after(global: &Global_) -> u64
     ensures { result ≡ behind_global (global_of global.now) }
 {
     let size = u64::from(global.ty.size());
@@ -146,11 +147,11 @@ fn behind_global(global: &Global_) -> u64
     u64::from(global.at) + bytes
 }
 
-/// Appends the line with the address of a global variable, where the one before does not end there.
-fn push_place(text: &mut String, behind: Option<u64>, at: u32) -> Result<(), AllocError>
-    ensures { OnOk result (string_bytes text.new ≡ string_bytes text.old ++ written_place behind at) }
+// Appends the line with the address of a global variable, where the one before does not end there.
+fn push_place(text: &mut String, end: Option<u64>, at: u32) -> Result<(), AllocError>
+    ensures { OnOk result (string_bytes text.new ≡ string_bytes text.old ++ written_place end at) }
 {
-    if behind == Some(u64::from(at)) {
+    if end == Some(u64::from(at)) {
         return Ok(());
     }
     write!(text, "#pragma dcc at {at}\n")
@@ -158,13 +159,14 @@ fn push_place(text: &mut String, behind: Option<u64>, at: u32) -> Result<(), All
 
 /// Appends the global variables.
 pub(crate) fn push_globals(text: &mut String, globals: &[Global_]) -> Result<(), AllocError>
-    ensures { OnOk result (string_bytes text.new ≡ string_bytes text.old ++ written_globals None (map global_of globals.now)) }
+    ensures { OnOk result
+        (string_bytes text.new ≡ string_bytes text.old ++ written_globals None (map global_of globals.now)) }
 {
-    let mut behind = None;
+    let mut end = None;
     for global in globals {
-        push_place(text, behind, global.at)?;
+        push_place(text, end, global.at)?;
         push_global(text, global)?;
-        behind = Some(behind_global(global));
+        end = Some(address_after(global));
     }
     Ok(())
 }

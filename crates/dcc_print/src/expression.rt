@@ -9,7 +9,7 @@ ghost use Rattle.dcc_c.specs.Views.{expr_of};
 use dcc_c::{Base, CBin, CExpr, CType, CUn};
 use std::alloc::AllocError;
 
-/// The suffix with which the number has the type; `UL` where none does.
+// The suffix with which the number has the type; `UL` where none does.
 fn suffix_for(n: u32, base: Base) -> &'static str
     ensures { result.now ≡ suffix_bytes (suffix_for n base) }
 {
@@ -38,7 +38,7 @@ pub(crate) fn base_words(base: Base) -> &'static str
     }
 }
 
-/// The mark of a unary operator.
+// The mark of a unary operator.
 fn unary_mark(operator: CUn) -> &'static str
     ensures { result.now ≡ unary_mark operator }
 {
@@ -51,7 +51,7 @@ fn unary_mark(operator: CUn) -> &'static str
     }
 }
 
-/// The mark of a binary operator.
+// The mark of a binary operator.
 fn binary_mark(operator: CBin) -> &'static str
     ensures { result.now ≡ binary_mark operator }
 {
@@ -77,14 +77,14 @@ fn binary_mark(operator: CBin) -> &'static str
     }
 }
 
-/// Whether the expression stands in parentheses where it is an operand.
+// Whether the expression stands in parentheses where it is an operand.
 fn is_compound(e: &CExpr) -> bool
     ensures { result ≡ is_compound (expr_of e.now) }
 {
     matches!(e, CExpr::Bin(..) | CExpr::Cond(..))
 }
 
-/// Whether the operand begins with `-`.
+// Whether the operand begins with `-`.
 #[tactic(auto, using(crate::proofs::MinusLaws::minus_rules))]
 fn begins_with_minus(e: &CExpr) -> bool
     ensures { result ≡ begins_with_minus (in_parentheses (is_compound (expr_of e.now)) (written_expr (expr_of e.now))) }
@@ -96,7 +96,7 @@ fn begins_with_minus(e: &CExpr) -> bool
     }
 }
 
-/// Appends a type in a cast.
+// Appends a type in a cast.
 fn push_cast(text: &mut String, ty: CType) -> Result<(), AllocError>
     ensures { OnOk result (string_bytes text.new ≡ string_bytes text.old ++ written_cast ty) }
 {
@@ -148,7 +148,7 @@ pub(crate) fn push_expr(text: &mut String, e: &CExpr) -> Result<(), AllocError>
     }
 }
 
-/// Appends an expression as an operand.
+// Appends an expression as an operand.
 #[cycle(expression)]
 fn push_operand(text: &mut String, e: &CExpr) -> Result<(), AllocError>
     ensures { OnOk result (string_bytes text.new
@@ -165,7 +165,8 @@ fn push_operand(text: &mut String, e: &CExpr) -> Result<(), AllocError>
 
 /// Appends the arguments of a call.
 pub(crate) fn push_arguments(text: &mut String, arguments: &[CExpr]) -> Result<(), AllocError>
-    ensures { OnOk result (string_bytes text.new ≡ string_bytes text.old ++ written_arguments (map expr_of arguments.now)) }
+    ensures { OnOk result
+        (string_bytes text.new ≡ string_bytes text.old ++ written_arguments (map expr_of arguments.now)) }
 {
     match arguments {
         [] => Ok(()),

@@ -9,7 +9,7 @@ use crate::declaration::push_globals;
 use dcc_c::Global_;
 use std::alloc::{AllocError, Global};
 
-/// The number of line ends in some bytes.
+// The number of line ends in some bytes.
 fn line_ends(bytes: &[u8]) -> usize
     ensures { result ≡ count_by (λ b. b == 10) bytes.now }
 {
@@ -22,7 +22,7 @@ fn line_ends(bytes: &[u8]) -> usize
     count
 }
 
-/// The number of lines of a text.
+// The number of lines of a text.
 #[tactic(auto, using(crate::proofs::EndLaws::ends_are_rows))]
 fn text_rows(text: &String) -> usize
     ensures { result ≡ rows (string_bytes text.now) }

@@ -10,7 +10,7 @@ use crate::expression::{push_arguments, push_expr};
 use dcc_c::{CExpr, CStmt, Line};
 use std::alloc::AllocError;
 
-/// Appends the spaces before a line inside so many pairs of braces.
+// Appends the spaces before a line inside so many pairs of braces.
 fn push_indentation(text: &mut String, braces: usize) -> Result<(), AllocError>
     ensures { OnOk result (string_bytes text.new ≡ string_bytes text.old ++ indentation braces) }
 {
@@ -43,19 +43,19 @@ pub fn next_depth(depth: u32, lines: &[Line]) -> u32
 }
 
 /// Appends the pragma that changes the depth in force to that of the call that comes next, where it
-/// is another. The answer is the depth now in force. Behind a label it is so already.
+/// is another. The answer is the depth now in force. After a label it is so already.
 pub(crate) fn push_depth(
     text: &mut String,
     depth: u32,
-    is_behind_label: bool,
+    is_after_label: bool,
     lines: &[Line],
 ) -> Result<u32, AllocError>
-    requires { is_behind_label ≡ true → next_depth depth (lines_of lines.now) ≡ depth }
+    requires { is_after_label ≡ true → next_depth depth (lines_of lines.now) ≡ depth }
     ensures text { OnOk result (string_bytes text.new
         ≡ string_bytes text.old ++ written_depth depth (next_depth depth (lines_of lines.now))) }
     ensures depth { IfOk result (λ own. own ≡ next_depth depth (lines_of lines.now)) }
 {
-    if is_behind_label {
+    if is_after_label {
         return Ok(depth);
     }
     let own = next_depth(depth, lines);

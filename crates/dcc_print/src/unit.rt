@@ -10,10 +10,10 @@ ghost use Rattle.dcc_io.specs.Told.{append_told, AppendsProperPrefix};
 use crate::block::push_lines;
 use crate::declaration::{push_globals, push_head, push_local, push_params};
 use dcc_c::{Func, Unit, Var};
-use dcc_io::{Sink, put_all};
+use dcc_io::{Failed, Sink, put_all};
 use std::alloc::{AllocError, Global};
 
-/// The depth of calls that is in force where a function begins, in bytes.
+// The depth of calls that is in force where a function begins, in bytes.
 const FIRST_DEPTH: u32 = 2;
 
 /// Why a text was not written.
@@ -35,7 +35,17 @@ impl From<AllocError> for PrintFault {
     }
 }
 
-/// Appends the declarations of local variables.
+impl From<Failed> for PrintFault {
+    ghost use Rattle.dcc_print.specs.declared.unit.PrintFault.TheVariants as fault;
+
+    ghost from_gives = { λ _ given. given ≡ fault.Failed };
+
+    fn from(_error: Failed) -> PrintFault {
+        PrintFault::Failed
+    }
+}
+
+// Appends the declarations of local variables.
 fn push_locals(text: &mut String, locals: &[Var]) -> Result<(), AllocError>
     ensures { OnOk result (string_bytes text.new
         ≡ string_bytes text.old ++ flat_map written_local (map variable_of locals.now)) }
@@ -46,7 +56,7 @@ fn push_locals(text: &mut String, locals: &[Var]) -> Result<(), AllocError>
     Ok(())
 }
 
-/// Appends a function.
+// Appends a function.
 fn push_function(text: &mut String, function: &Func) -> Result<(), AllocError>
     ensures { OnOk result (string_bytes text.new
         ≡ string_bytes text.old ++ written_function (function_of function.now)) }
@@ -60,7 +70,7 @@ fn push_function(text: &mut String, function: &Func) -> Result<(), AllocError>
     text.push_str("}\n")
 }
 
-/// Appends functions.
+// Appends functions.
 fn push_functions(text: &mut String, functions: &[Func]) -> Result<(), AllocError>
     ensures { OnOk result (string_bytes text.new
         ≡ string_bytes text.old ++ written_functions (map function_of functions.now)) }
@@ -71,7 +81,7 @@ fn push_functions(text: &mut String, functions: &[Func]) -> Result<(), AllocErro
     Ok(())
 }
 
-/// The written form of the unit.
+// The written form of the unit.
 fn unit_text(alloc: Global, unit: &Unit) -> Result<String, AllocError>
     ensures { IfOk result (λ text. string_bytes text ≡ written_form (tree_of unit.now)) }
 {
@@ -86,8 +96,7 @@ fn unit_text(alloc: Global, unit: &Unit) -> Result<String, AllocError>
 /// Writes the written form of the unit. Where a write fails, a part of it was written, and not all;
 /// where memory ran out, nothing was.
 pub fn print<O: Sink>(alloc: Global, sink: &mut O, unit: &Unit) -> Result<(), PrintFault>
-    ensures whole { OnOk result (O.taken sink.new
-        ≡ append_told (O.taken sink.old) (written_form (tree_of unit.now))) }
+    ensures whole { OnOk result (O.taken sink.new ≡ append_told (O.taken sink.old) (written_form (tree_of unit.now))) }
     ensures part { IsErrOf result PrintFault.Failed →
         AppendsProperPrefix (O.taken sink.old) (O.taken sink.new) (written_form (tree_of unit.now)) }
     ensures memory { IsErrOf result PrintFault.Memory → sink.new ≡ sink.old }
@@ -97,8 +106,6 @@ pub fn print<O: Sink>(alloc: Global, sink: &mut O, unit: &Unit) -> Result<(), Pr
     ensures failed { IsErrOf result PrintFault.Failed → Rose (O.faults sink.old) (O.faults sink.new) }
 {
     let text = unit_text(alloc, unit)?;
-    match put_all(sink, text.as_bytes()) {
-        Ok(()) => Ok(()),
-        Err(_) => Err(PrintFault::Failed),
-    }
+    put_all(sink, text.as_bytes())?;
+    Ok(())
 }

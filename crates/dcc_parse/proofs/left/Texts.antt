@@ -125,7 +125,8 @@ declared-leaves n (suc calls) address r =
     (λ _ more. skip-leaves n r (number-leaves n (line_of r.left) (skip r) (declared-leaves n calls (Some (address_of number.value)) number.behind more)))
     (λ _. by address (λ here. declared-leaves n calls (Some (here + size_in_bytes (read_global calls here (read_begun r)).value)) (read_global calls here (read_begun r)).behind))
   where
-    by : (a : Option ℕ) → ((here : ℕ) → Leaves n (read_global calls here (read_begun r)).behind (read_declared calls (Some (here + size_in_bytes (read_global calls here (read_begun r)).value)) (read_global calls here (read_begun r)).behind).behind) →
+    by : (a : Option ℕ) →
+        ((here : ℕ) → Leaves n (read_global calls here (read_begun r)).behind (read_declared calls (Some (here + size_in_bytes (read_global calls here (read_begun r)).value)) (read_global calls here (read_begun r)).behind).behind) →
         Leaves n r (here_declared calls a r).behind
     by (Some here) others =
         let v = read_global calls here (read_begun r) in

@@ -10,7 +10,7 @@ use Rattle.dcc_c.specs.ReadingStatements.{sees_head, take_head, take_number_of_l
 use Rattle.dcc_c.proofs.reading.Passing.{if-cases}
 use Rattle.dcc_c.proofs.reading.Stopping.{choice-cases}
 
--- where more than this number of pieces are left behind, more were left before
+-- where more than this number of pieces are left after, more were left before
 abbrev pub Leaves : ℕ → Reader → Reader → Type 0
 Leaves n r behind = n < length behind.left → n < length r.left
 

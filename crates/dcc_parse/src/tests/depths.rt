@@ -1,13 +1,12 @@
 //! Texts at the limits of depth: 200 open parentheses, expressions 200 deep, 200 blocks around a statement. The answers
 //! come from a reference reader apart from this parser.
 
-use super::{BEFORE, BEHIND, offence};
-use crate::ParseKind;
+use super::{AFTER, BEFORE, DEPTH, FITS, offence};
 use std::alloc::{AllocError, Global};
 use std::test::Fail;
 
-/// A statement with a part that is repeated: what stands before, the part and what closes it, what stands inside, what
-/// stands behind, how often the part may be repeated, and the line of what is too deep.
+// A statement with a part that is repeated: what stands before, the part and what closes it, what stands inside, what
+// stands after, how often the part may be repeated, and the line of what is too deep.
 type Nest = (
     &'static str,
     [&'static str; 2],
@@ -56,9 +55,9 @@ static NESTS: [Nest; 15] = [
     ),
 ];
 
-/// The statement with the part repeated so many times.
+// The statement with the part repeated so many times.
 fn nested(alloc: Global, nest: &Nest, count: usize) -> Result<String, AllocError> {
-    let (before, [opening, closing], inside, behind, _, _) = nest;
+    let (before, [opening, closing], inside, after, _, _) = nest;
     let mut text = String::from_str(alloc, before)?;
     for _ in 0..count {
         text.push_str(opening)?;
@@ -67,7 +66,7 @@ fn nested(alloc: Global, nest: &Nest, count: usize) -> Result<String, AllocError
     for _ in 0..count {
         text.push_str(closing)?;
     }
-    text.push_str(behind)?;
+    text.push_str(after)?;
     Ok(text)
 }
 
@@ -77,14 +76,11 @@ fn parts_may_be_nested_up_to_their_limits(rt: HostRuntime) -> Result<(), Fail> {
     for nest in &NESTS {
         let (_, _, _, _, most, line) = *nest;
         let most = usize::from(most);
-        let text = nested(alloc, nest, most)?;
-        assert_eq!(rt;
-            offence(&rt, alloc, BEFORE, text.as_str(), BEHIND)?,
-            (0, None)
-        );
-        let text = nested(alloc, nest, most + 1)?;
-        let answer = offence(&rt, alloc, BEFORE, text.as_str(), BEHIND)?;
-        assert_eq!(rt; answer, (line, Some(ParseKind::Depth)));
+        for (count, answer) in [(most, (0, FITS)), (most + 1, (line, DEPTH))] {
+            let text = nested(alloc, nest, count)?;
+            let parts = [BEFORE, text.as_str(), AFTER];
+            assert_eq!(rt; offence(&rt, alloc, parts)?, answer);
+        }
     }
     Ok(())
 }

@@ -5,10 +5,10 @@ use std::alloc::{AllocError, Global};
 use std::process::Abort;
 use std::test::Fail;
 
-/// The lines before the statements of a text, and those behind them.
+// The lines before the statements of a text.
 const START: &[u8] = b"#pragma dcc text 1\n#pragma dcc stack 0 256\nvoid start(void)\n{\n";
 
-/// The answer to the first lines of a text and bytes that are repeated behind them.
+// The answer to the first lines of a text and bytes that are repeated after them.
 fn fault(alloc: Global, bytes: &[u8], count: usize) -> Result<Option<ParseFault>, AllocError> {
     let mut text = START.to_vec(alloc)?;
     for _ in 0..count {

@@ -19,7 +19,8 @@ first_line lines i l within is =
     ∙ ap (λ x. line (stmt_of x.stmt) x.line (lines_of (drop (i + 1) lines))) (sym is)
 
 -- the first of the arms that are left
-first_arm : (arms : List Arm) (i : ℕ) (a : Arm) → i < length arms → a ≡ get_or arms i a → arms_of (drop i arms) ≡ arm (out-Arm a).cases.items (lines_of (out-Arm a).body.items) (arms_of (drop (i + 1) arms))
+first_arm : (arms : List Arm) (i : ℕ) (a : Arm) → i < length arms → a ≡ get_or arms i a →
+    arms_of (drop i arms) ≡ arm (out-Arm a).cases.items (lines_of (out-Arm a).body.items) (arms_of (drop (i + 1) arms))
 first_arm arms i a within is =
     ap arms_of (at_drop_more (λ xs. xs) arms i a within)
     ∙ ap (λ x. arm_before x (arms_of (drop (i + 1) arms))) (sym is)
@@ -37,10 +38,11 @@ push_arms-loop-arm-preserved t c =
     first_arm arms i c.arm-item.result within c.arm-item.is
     ∙ ap (λ l. arm l (lines_of (out-Arm c.arm-item.result).body.items) rest) (sym c.deref.ensures.value)
     ∙ ap (λ l. arm cases (lines_of l) rest) (sym c.deref-in-loop-arm.ensures.value) in
-    let after = c.in_ok-behind.ensures in
+    let after = c.in_ok-in_force.ensures in
     record {
-      text = arms-step c.args.braces c.loop-arm.behind c.in_ok-behind.behind cases body rest (arms_of (drop i arms)) _ _ _ _ _ is c.loop-arm.invariant.text c.in_ok-push_cases.ensures after.text c.in_ok-push_line.ensures after.depth;
-      depth = arm_depth-step c.loop-arm.behind c.in_ok-behind.behind _ cases body rest (arms_of (drop i arms)) is c.loop-arm.invariant.depth after.depth;
+      text = arms-step c.args.braces c.loop-arm.in_force c.in_ok-in_force.in_force cases body rest
+          (arms_of (drop i arms)) _ _ _ _ _ is c.loop-arm.invariant.text c.in_ok-push_cases.ensures after.text c.in_ok-push_line.ensures after.depth;
+      depth = arm_depth-step c.loop-arm.in_force c.in_ok-in_force.in_force _ cases body rest (arms_of (drop i arms)) is c.loop-arm.invariant.depth after.depth;
     }
 
 pub push_default-returns-in_ok-push_line-in-Some-3-clause-text :
@@ -58,7 +60,7 @@ push_default-returns-in_ok-push_line-in-Some-3-clause-text t c =
     ∙ sym (arm-parts c.in-Some.arm no_arms)
     ∙ ap arms_if (sym c.in-Some.is) in
     c.in_ok-push_line-in-Some-3.ensures
-    ∙ ap (λ l. l ++ end) (c.in_ok-push_line-in-Some-2.ensures ∙ ap (λ l. l ++ last) (c.in_ok-behind-in-Some.ensures.text ∙ ap (λ l. l ++ lines) c.in_ok-push_line-in-Some.ensures))
+    ∙ ap (λ l. l ++ end) (c.in_ok-push_line-in-Some-2.ensures ∙ ap (λ l. l ++ last) (c.in_ok-in_force-in-Some.ensures.text ∙ ap (λ l. l ++ lines) c.in_ok-push_line-in-Some.ensures))
     ∙ default-written old label lines last end
     ∙ ap (λ l. old ++ (written_default inner depth l ++ end)) arms
     ∙ ap (λ l. old ++ (l ++ end)) (default-counted inner (1 + c.args.braces) c.inside-inner.ensures depth (arms_if c.args.last.now))
@@ -70,7 +72,7 @@ push_default-returns-in_ok-push_line-in-Some-3-clause-depth t c =
     ap (λ l. arm (out-Arm c.in-Some.arm).cases.items (lines_of l) no_arms) c.deref.ensures.value
     ∙ sym (arm-parts c.in-Some.arm no_arms)
     ∙ ap arms_if (sym c.in-Some.is) in
-    c.in_ok-behind-in-Some.ensures.depth
+    c.in_ok-in_force-in-Some.ensures.depth
     ∙ ap (depth_behind c.args.depth) (sym (append-nil (stmts_in (lines_of c.deref.result.now))))
     ∙ ap (λ l. depth_behind c.args.depth (arm_stmts l)) arms
 
@@ -96,9 +98,9 @@ push_lines-loop-i-preserved t c =
     let lines = c.args.lines.now in
     let i = c.loop-i.i in
     let within : i < length lines = omega arith in
-    let depth = c.loop-i.behind in
+    let depth = c.loop-i.in_force in
     let own = c.in_ok-own.own in
-    let behind = c.in_ok-behind.behind in
+    let in_force = c.in_ok-in_force.in_force in
     let item = c.index-lines-i.result in
     let stmt = stmt_of item.stmt in
     let rest = lines_of (drop (i + 1) lines) in
@@ -109,11 +111,11 @@ push_lines-loop-i-preserved t c =
     let own_is : own ≡ next_depth depth left = c.in_ok-own.ensures.depth ∙ ap (next_depth depth) slice in
     let pragma : string_bytes c.push_depth.new.text ≡ string_bytes c.loop-i.text ++ written_depth depth (next_depth depth left) =
     c.in_ok-own.ensures.text ∙ ap (λ l. string_bytes c.loop-i.text ++ written_depth depth (next_depth depth l)) slice in
-    let after = c.in_ok-behind.ensures in
+    let after = c.in_ok-in_force.ensures in
     record {
-      text = lines-step c.args.braces depth own behind item.line stmt rest left _ _ _ _ is c.loop-i.invariant.text own_is pragma after.text after.depth;
-      depth = depth-step depth own behind item.line _ stmt rest left is c.loop-i.invariant.depth own_is after.depth;
-      label = λ label. label-step depth own behind item.line stmt rest left is own_is after.depth (sym c.is_label-is_behind_label.ensures ∙ label);
+      text = lines-step c.args.braces depth own in_force item.line stmt rest left _ _ _ _ is c.loop-i.invariant.text own_is pragma after.text after.depth;
+      depth = depth-step depth own in_force item.line _ stmt rest left is c.loop-i.invariant.depth own_is after.depth;
+      label = λ label. label-step depth own in_force item.line stmt rest left is own_is after.depth (sym c.is_label-is_after_label.ensures ∙ label);
     }
 
 pub push_stmt-returns-in-If-clause-text : goal.push_stmt-returns-in-If-clause-text
