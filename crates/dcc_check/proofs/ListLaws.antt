@@ -1,4 +1,4 @@
--- What is left of lists, one step on, and arguments that are left.
+-- Arguments that are left, one step on.
 use Rattle.std.proofs.Common.{◌≡◌, ℕ, ◌+◌, ◌-◌, ◌<◌, Bool, true, false, ◌||◌, List, [], ◌∷◌, ◌++◌, length, map, drop, get_or, Some, refl, sym, ap, ◌∙◌, append_assoc, arith}
 use Rattle.std.specs.Prelude.{nat_lt, nat_eq}
 use Rattle.std.proofs.lemmas.Bool.{lt-ltb, le-ltb, ltb-true, ltb-false, eq-eqb, ne_eqb}
@@ -6,10 +6,6 @@ use Rattle.std.proofs.lemmas.List.{at_drop_more, append-nil, length-drop, length
 use Rattle.dcc_c.specs.declared.syntax.CType.{CType}
 use Rattle.dcc_c.specs.Partial.{PartialExpr}
 use Rattle.dcc_c.specs.Offences.{Scene, becomes, arguments_become}
-
--- the first of what is left
-pub next-left : {X Y : Type 0} (F : List X → Y) (xs : List X) (i : ℕ) (x : X) → i < length xs → x ≡ get_or xs i x → F (drop i xs) ≡ F (x ∷ drop (i + 1) xs)
-next-left F xs i x within is = at_drop_more F xs i x within ∙ ap (λ y. F (y ∷ drop (i + 1) xs)) (sym is)
 
 or-false : (a : Bool) → (a || false) ≡ a
 or-false true = refl
@@ -44,16 +40,11 @@ ltb-left : (a b : ℕ) → (t : Bool) → nat_lt a b ≡ t → nat_lt 0 (b - a) 
 ltb-left a b true e = lt-ltb 0 (b - a) (let l = ltb-true a b e in omega arith)
 ltb-left a b false e = le-ltb 0 (b - a) (let l = ltb-false a b e in omega arith)
 
--- another one is left behind that
+-- another one is left after that
 pub more-left : {X Y : Type 0} (f : X → Y) (xs : List X) (i : ℕ) → nat_lt 0 (length (map f (drop (i + 1) xs))) ≡ nat_lt (i + 1) (length xs)
 more-left f xs i =
     ap (nat_lt 0) (length-map (drop (i + 1) xs) f ∙ length-drop (i + 1) xs)
     ∙ ltb-left (i + 1) (length xs) (nat_lt (i + 1) (length xs)) refl
-
--- some of what is left is put behind
-pub step-listed : {X : Type 0} (old new end xs rest whole : List X) → new ≡ old ++ xs → whole ≡ xs ++ rest → old ++ whole ≡ end → new ++ rest ≡ end
-step-listed old new end xs rest whole listed parts behind =
-    ap (λ l. l ++ rest) listed ∙ append_assoc old xs rest ∙ ap (λ l. old ++ l) (sym parts) ∙ behind
 
 room-is : (room blocks : ℕ) (t : Bool) → nat_lt 200 blocks ≡ t → room ≡ 201 - blocks → nat_eq room 0 ≡ t
 room-is room blocks true e is = eq-eqb room 0 (let l = ltb-true 200 blocks e in omega arith)

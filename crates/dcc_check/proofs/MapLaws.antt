@@ -16,7 +16,7 @@ use Rattle.dcc_c.proofs.NameLaws.{same_bytes-equal}
 use Rattle.dcc_check.specs.declared.scene.Signature.{Signature}
 use Rattle.dcc_check.specs.Declarations.{first_found}
 use Rattle.dcc_check.specs.Scenes.{held, head_of, signature_of}
-use Rattle.dcc_check.proofs.SetLaws.{same_bytes-bytes_eq}
+use Rattle.dcc_reader.proofs.SetLaws.{same_bytes-bytes_eq}
 
 pub first-none : {X : Type 0} (o : Option X) → first_found o None ≡ o
 first-none (Some x) = refl

@@ -17,7 +17,7 @@ use Rattle.dcc_c.specs.TextOffences.{words_of}
 use Rattle.dcc_c.proofs.refusals.FirstRules.{first-append}
 use Rattle.dcc_reader.specs.declared.partial.WordAt.{WordAt}
 use Rattle.dcc_check.specs.Names.{lent_names}
-use Rattle.dcc_check.specs.Scenes.{holds}
+use Rattle.dcc_reader.specs.WordViews.{holds}
 
 turn : (a x o : Bool) → (a || x) || o ≡ x || (a || o)
 turn true true o = refl

@@ -12,7 +12,7 @@ use Rattle.std.proofs.lemmas.Bool.Decides.{nat_tests}
 use Rattle.dcc_c.specs.Partial.{PartialVariable}
 use Rattle.dcc_c.specs.ReadingText.{size_in_bytes}
 use Rattle.dcc_c.specs.TextOffences.{end_of, stand_apart, takes_bytes, first_number, size_offences, surplus, globals_places}
-use Rattle.dcc_check.specs.Places.{earlier_with, earlier_behind, earlier_of, is_covered, misplaced_here, IsOccupied}
+use Rattle.dcc_check.specs.Places.{earlier_with, earlier_after, earlier_of, is_covered, misplaced_here, IsOccupied}
 
 -- the variable stands apart from each that takes bytes
 abbrev pub all_apart : PartialVariable → List PartialVariable → Bool
@@ -30,11 +30,11 @@ swap true false e = refl
 swap false true e = refl
 swap false false e = refl
 
-pub all-behind : (v : PartialVariable) (es variables : List PartialVariable) →
-    list_all (stand_apart v) (earlier_behind es variables) ≡ all_apart v variables && list_all (stand_apart v) es
-all-behind v es [] = refl
-all-behind v es (u ∷ variables) =
-    all-behind v (earlier_with u es) variables
+pub all-after : (v : PartialVariable) (es variables : List PartialVariable) →
+    list_all (stand_apart v) (earlier_after es variables) ≡ all_apart v variables && list_all (stand_apart v) es
+all-after v es [] = refl
+all-after v es (u ∷ variables) =
+    all-after v (earlier_with u es) variables
     ∙ ap (λ b. all_apart v variables && b) (all-with (stand_apart v) u es (takes_bytes u))
     ∙ swap (all_apart v variables) (not (takes_bytes u) || stand_apart v u) (list_all (stand_apart v) es)
 
@@ -43,21 +43,21 @@ and-true true = refl
 and-true false = refl
 
 pub all-earlier : (v : PartialVariable) (variables : List PartialVariable) → list_all (stand_apart v) (earlier_of variables) ≡ all_apart v variables
-all-earlier v variables = all-behind v [] variables ∙ and-true (all_apart v variables)
+all-earlier v variables = all-after v [] variables ∙ and-true (all_apart v variables)
 
 -- those that take bytes
-takes-behind : (es variables : List PartialVariable) → list_all takes_bytes es ≡ true → list_all takes_bytes (earlier_behind es variables) ≡ true
-takes-behind es [] all = all
-takes-behind es (u ∷ variables) all =
-    takes-behind (earlier_with u es) variables (all-with takes_bytes u es (takes_bytes u) ∙ either (takes_bytes u) (list_all takes_bytes es) all) where
+takes-after : (es variables : List PartialVariable) → list_all takes_bytes es ≡ true → list_all takes_bytes (earlier_after es variables) ≡ true
+takes-after es [] all = all
+takes-after es (u ∷ variables) all =
+    takes-after (earlier_with u es) variables (all-with takes_bytes u es (takes_bytes u) ∙ either (takes_bytes u) (list_all takes_bytes es) all) where
       either : (t r : Bool) → r ≡ true → (not t || t) && r ≡ true
       either true r e = e
       either false r e = e
 
 pub takes-earlier : (variables : List PartialVariable) → list_all takes_bytes (earlier_of variables) ≡ true
-takes-earlier variables = takes-behind [] variables refl
+takes-earlier variables = takes-after [] variables refl
 
-pub earlier-append : (es variables : List PartialVariable) (v : PartialVariable) → earlier_behind es (variables ++ v ∷ []) ≡ earlier_with v (earlier_behind es variables)
+pub earlier-append : (es variables : List PartialVariable) (v : PartialVariable) → earlier_after es (variables ++ v ∷ []) ≡ earlier_with v (earlier_after es variables)
 earlier-append es [] v = refl
 earlier-append es (u ∷ variables) v = earlier-append (earlier_with u es) variables v
 

@@ -72,8 +72,8 @@ then-if_not old middle new xs ys zs test fails first second =
 -- some of the offences that are left are told
 pub step-told : (old new end : Option Offence) (xs rest whole : List Offence) → new ≡ first_behind old xs → whole ≡ xs ++ rest → first_behind old whole ≡ end →
     first_behind new rest ≡ end
-step-told old new end xs rest whole told parts behind =
-    ap (λ o. first_behind o rest) told ∙ sym (first-append old xs rest) ∙ ap (first_behind old) (sym parts) ∙ behind
+step-told old new end xs rest whole told parts later =
+    ap (λ o. first_behind o rest) told ∙ sym (first-append old xs rest) ∙ ap (first_behind old) (sym parts) ∙ later
 
 pub not-alone : (a b : Bool) → b ≡ true → (a && not b) ≡ false
 not-alone true b holds = ap not holds

@@ -8,8 +8,8 @@ use Rattle.dcc_c.specs.Tree.{Word}
 use Rattle.dcc_c.specs.Dos as dos
 use Rattle.dcc_c.specs.Partial.{PartialVariable}
 use Rattle.dcc_c.specs.Placement.{is_auto, is_register}
-use Rattle.dcc_check.specs.declared.declarations.Scope.{Scope}
-use Rattle.dcc_check.specs.declared.declarations.Scope.TheVariants.{Text, Head, Body}
+use Rattle.dcc_check.specs.declared.scene.Scope.{Scope}
+use Rattle.dcc_check.specs.declared.scene.Scope.TheVariants.{Text, Head, Body}
 use Rattle.dcc_check.specs.declared.scene.Signature.{Signature}
 use Rattle.dcc_check.specs.Scenes.{held, signature_of}
 

@@ -1,8 +1,11 @@
-pub mod Views
 pub mod Scenes
 pub mod Operands
 pub mod Names
 pub mod Declarations
 pub mod Places
 pub mod Wholes
-pub mod Heads
+pub use Rattle.dcc_c.specs.Kinds
+pub use Rattle.dcc_c.specs.TextOffences
+pub use Rattle.dcc_lex.specs.TokenViews
+pub use Rattle.dcc_reader.specs.OffenceViews
+pub use Rattle.dcc_reader.specs.PartialViews

@@ -3,7 +3,7 @@ use Rattle.std.specs.Prelude.{List, map}
 use denote.Ref.{Bor}
 use Rattle.dcc_c.specs.Partial as partial
 use Rattle.dcc_reader.specs.declared.partial.WordAt.{WordAt}
-use Rattle.dcc_check.specs.Views.{lent_word}
+use Rattle.dcc_reader.specs.WordViews.{lent_word}
 
 -- the names that a list of references stands for
 abbrev pub lent_names : List (Bor WordAt) → List partial.WordAt

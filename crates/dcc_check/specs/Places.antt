@@ -11,12 +11,12 @@ abbrev pub earlier_with : PartialVariable → List PartialVariable → List Part
 earlier_with v earlier = if takes_bytes v then v ∷ earlier else earlier
 
 -- the variables that take bytes, the last one first, before earlier ones
-abbrev pub earlier_behind : List PartialVariable → List PartialVariable → List PartialVariable
-earlier_behind earlier [] = earlier
-earlier_behind earlier (v ∷ variables) = earlier_behind (earlier_with v earlier) variables
+abbrev pub earlier_after : List PartialVariable → List PartialVariable → List PartialVariable
+earlier_after earlier [] = earlier
+earlier_after earlier (v ∷ variables) = earlier_after (earlier_with v earlier) variables
 
 abbrev pub earlier_of : List PartialVariable → List PartialVariable
-earlier_of variables = earlier_behind [] variables
+earlier_of variables = earlier_after [] variables
 
 -- the variable has a byte in the stack
 abbrev pub in_stack : ℕ → ℕ → PartialVariable → Bool

@@ -1,7 +1,6 @@
 -- What the declared scene says of a function's body.
 use Rattle.std.specs.Prelude.{◌≡◌, ℕ, Bool, List, Option, Some, None, option_map}
 use Rattle.std.specs.BTreeMap.{BTreeMap, get_by}
-use Rattle.std.specs.BTreeSet as set
 use Rattle.std.specs.Cmp.Lexicographic.{slice_cmp}
 use Rattle.std.specs.Ordering.{nat_cmp}
 use denote.Ref.{Bor}
@@ -13,6 +12,7 @@ use Rattle.dcc_c.specs.Grammar.{is_among}
 use Rattle.dcc_c.specs.Offences as offences
 use Rattle.dcc_types.specs.declared.names.Declared.{Declared}
 use Rattle.dcc_types.specs.NameViews.{unnamed}
+use Rattle.dcc_reader.specs.WordViews.{holds}
 use Rattle.dcc_check.specs.declared.scene.Signature.{Signature}
 use Rattle.dcc_check.specs.declared.scene.Scene.{Scene}
 
@@ -30,10 +30,6 @@ head_of k = k.signature
 abbrev pub held : {X : Type 0} → BTreeMap (Bor (List ℕ)) X → Word → Option X
 held m word = get_by (λ k. slice_cmp nat_cmp word k.now) m
 
--- a set of words holds the word
-abbrev pub holds : set.BTreeSet (Bor (List ℕ)) → Word → Bool
-holds words word = set.contains_by (λ k. slice_cmp nat_cmp word k.now) words
-
 -- a local variable, or else a global one
 abbrev pub variable_in : Scene → Word → Option Declared
 variable_in scene word = elim (held scene.locals.now word) [
@@ -44,7 +40,8 @@ variable_in scene word = elim (held scene.locals.now word) [
 -- the declared scene says what the scene does
 pub record IsScene (scene : Scene) (s : offences.Scene) : Type 0 where
   pub names : (word : Word) → variable_in scene word ≡ option_map unnamed (typing.declared_as s.names word)
-  pub functions : (word : Word) → option_map (λ head. option_map signature_of head) (held scene.functions.now word) ≡ option_map head_of (known_as s.functions word)
+  pub functions : (word : Word) → option_map (λ head. option_map signature_of head) (held scene.functions.now word)
+      ≡ option_map head_of (known_as s.functions word)
   pub labels : (word : Word) → holds scene.labels.now word ≡ is_among s.labels word
   pub has_result : scene.has_result ≡ s.has_result
   pub result : scene.result ≡ s.result

@@ -1,22 +1,47 @@
 //! What offends in the statements of a function, at every depth.
 
-ghost use Rattle.std.specs.Prelude.{◌≡◌, ℕ, ◌-◌, OnOk};
-ghost use Rattle.dcc_c.specs.Kinds.{first_behind};
+ghost use Rattle.std.specs.Prelude.{◌≡◌, ℕ, ◌-◌, [], false, OnOk};
 ghost use Rattle.dcc_c.specs.Offences as offences;
-ghost use Rattle.dcc_c.specs.Offences.{lines_offences, inner_offences, arms_inner};
+ghost use Rattle.dcc_c.specs.Offences.{case_offences, case_numbers, default_offences, lines_offences, inner_offences, arms_inner};
 ghost use Rattle.dcc_reader.specs.PartialViews.{stmt_of, lines_of, arms_of};
-ghost use Rattle.dcc_check.specs.Views.{told};
+ghost use Rattle.dcc_reader.specs.Told.{Tells};
 ghost use Rattle.dcc_check.specs.Scenes.{IsScene};
 
-use crate::check_case::{check_cases, check_defaults};
 use crate::check_statement::check_own;
-use crate::first::First;
 use crate::scene::Scene;
-use dcc_reader::{ParseKind, PartialArm, PartialStmt, Row};
+use dcc_reader::{First, ParseKind, PartialArm, PartialStmt, Row};
 use std::alloc::{AllocError, Global};
+use std::collections::BTreeSet;
 
-/// How many blocks may stand one inside the other, with the body of the function.
+// How many blocks may stand one inside the other, with the body of the function.
 const MOST_BLOCKS: usize = 201;
+
+// Tells which numbers of cases stand twice.
+fn check_cases(alloc: Global, arms: &[PartialArm], first: &mut First) -> Result<(), AllocError>
+    ensures { OnOk result (Tells first.old first.new (case_offences [] (case_numbers (arms_of arms.now)))) }
+{
+    let mut known = BTreeSet::new(alloc);
+    for arm in arms {
+        for number in &arm.numbers {
+            let is_new = known.insert(number.value)?;
+            first.tell_if(!is_new, ParseKind::Name, number.at);
+        }
+    }
+    Ok(())
+}
+
+// Tells a second `default`.
+fn check_defaults(arms: &[PartialArm], first: &mut First)
+    ensures { Tells first.old first.new (default_offences false (arms_of arms.now)) }
+{
+    let mut is_known = false;
+    for arm in arms {
+        if let Some(at) = arm.default {
+            first.tell_if(is_known, ParseKind::Name, at);
+            is_known = true;
+        }
+    }
+}
 
 /// Tells what offends in the statements of a function, but for labels that stand twice.
 ///
@@ -29,12 +54,12 @@ pub(crate) fn check_body(
     first: &mut First,
 ) -> Result<(), AllocError>
     ensures { (s : offences.Scene) → IsScene scene.now s →
-        OnOk result (told first.new ≡ first_behind (told first.old) (lines_offences s 0 (lines_of body.now))) }
+        OnOk result (Tells first.old first.new (lines_offences s 0 (lines_of body.now))) }
 {
     check_lines(alloc, scene, MOST_BLOCKS, body, first)
 }
 
-/// Tells what offends in statements, where so many blocks more may stand, that of these statements among them.
+// Tells what offends in statements, where so many blocks more may stand, that of these statements among them.
 #[cycle(block)]
 fn check_lines(
     alloc: Global,
@@ -44,7 +69,7 @@ fn check_lines(
     first: &mut First,
 ) -> Result<(), AllocError>
     ensures { (s : offences.Scene) (blocks : ℕ) → IsScene scene.now s → room ≡ 201 - blocks →
-        OnOk result (told first.new ≡ first_behind (told first.old) (lines_offences s blocks (lines_of rows.now))) }
+        OnOk result (Tells first.old first.new (lines_offences s blocks (lines_of rows.now))) }
 {
     for row in rows {
         first.tell_if(room == 0, ParseKind::Depth, row.at);
@@ -54,7 +79,7 @@ fn check_lines(
     Ok(())
 }
 
-/// Tells what offends in the statements inside a statement, where so many blocks more may stand.
+// Tells what offends in the statements inside a statement, where so many blocks more may stand.
 #[cycle(block)]
 fn check_inner(
     alloc: Global,
@@ -64,7 +89,7 @@ fn check_inner(
     first: &mut First,
 ) -> Result<(), AllocError>
     ensures { (s : offences.Scene) (blocks : ℕ) → IsScene scene.now s → room ≡ 201 - blocks →
-        OnOk result (told first.new ≡ first_behind (told first.old) (inner_offences s blocks (stmt_of stmt.now))) }
+        OnOk result (Tells first.old first.new (inner_offences s blocks (stmt_of stmt.now))) }
 {
     match stmt {
         PartialStmt::If(_, _, body, otherwise) => {
@@ -90,7 +115,7 @@ fn check_inner(
     }
 }
 
-/// Tells what offends in the statements of arms, where so many blocks more may stand.
+// Tells what offends in the statements of arms, where so many blocks more may stand.
 #[cycle(block)]
 fn check_arms(
     alloc: Global,
@@ -100,7 +125,7 @@ fn check_arms(
     first: &mut First,
 ) -> Result<(), AllocError>
     ensures { (s : offences.Scene) (blocks : ℕ) → IsScene scene.now s → room ≡ 201 - blocks →
-        OnOk result (told first.new ≡ first_behind (told first.old) (arms_inner s blocks (arms_of arms.now))) }
+        OnOk result (Tells first.old first.new (arms_inner s blocks (arms_of arms.now))) }
 {
     for arm in arms {
         check_lines(alloc, scene, room, &arm.body, first)?;

@@ -1,33 +1,31 @@
 //! What offends in calls.
 
 ghost use Rattle.std.specs.Prelude.{◌≡◌, ◌+◌, ◌<◌, ◌||◌, nat_lt, Option, Some, map, option_map};
-ghost use Rattle.dcc_c.specs.Kinds.{first_behind};
 ghost use Rattle.dcc_c.specs.Offences as offences;
 ghost use Rattle.dcc_c.specs.Offences.{arguments_inner, arguments_become, count_read, count_offends, result_offences, signature_offences, callee_offences, place_if, call_offences};
 ghost use Rattle.dcc_c.specs.Partial as partial;
 ghost use Rattle.dcc_reader.specs.PartialViews.{expr_of, word_of, call_of};
-ghost use Rattle.dcc_check.specs.Views.{told};
+ghost use Rattle.dcc_reader.specs.Told.{Tells};
 ghost use Rattle.dcc_check.specs.Scenes.{signature_of, IsScene};
 ghost use Rattle.dcc_check.specs.Operands.{target};
 
 use crate::check_expression::{check_expr, check_place, is_missing, operand_of};
-use crate::first::First;
 use crate::operand::{Operand, check_becomes, check_conversion};
 use crate::scene::{Scene, Signature};
 use dcc_c::CType;
-use dcc_reader::{ParseKind, PartialCall, PartialExpr, WordAt};
+use dcc_reader::{First, ParseKind, PartialCall, PartialExpr, WordAt};
 
-/// Tells what offends in the arguments, each by itself.
+// Tells what offends in the arguments, each by itself.
 fn check_arguments(scene: &Scene<'_, '_>, arguments: &[PartialExpr], first: &mut First)
     ensures { (s : offences.Scene) → IsScene scene.now s →
-        told first.new ≡ first_behind (told first.old) (arguments_inner s (map expr_of arguments.now)) }
+        Tells first.old first.new (arguments_inner s (map expr_of arguments.now)) }
 {
     for e in arguments {
         check_expr(scene, e, first);
     }
 }
 
-/// How many arguments have been read, at least in part.
+// How many arguments have been read, at least in part.
 fn count_read(arguments: &[PartialExpr]) -> usize
     ensures { result ≡ count_read (map expr_of arguments.now) }
 {
@@ -40,7 +38,7 @@ fn count_read(arguments: &[PartialExpr]) -> usize
     count
 }
 
-/// Whether an argument has been read to its end: another one follows, or the closing parenthesis does.
+// Whether an argument has been read to its end: another one follows, or the closing parenthesis does.
 fn is_done(closed: bool, i: usize, count: usize) -> bool
     requires { i < count }
     ensures { result ≡ closed || nat_lt (i + 1) count }
@@ -48,8 +46,8 @@ fn is_done(closed: bool, i: usize, count: usize) -> bool
     closed || i + 1 < count
 }
 
-/// Tells which arguments do not become values of the parameters' types. The last one has been read to its end where the
-/// closing parenthesis has.
+// Tells which arguments do not become values of the parameters' types. The last one has been read to its end where the
+// closing parenthesis has.
 fn check_arguments_become(
     scene: &Scene<'_, '_>,
     closed: bool,
@@ -58,7 +56,7 @@ fn check_arguments_become(
     first: &mut First,
 )
     ensures { (s : offences.Scene) → IsScene scene.now s →
-        told first.new ≡ first_behind (told first.old) (arguments_become s closed params.now (map expr_of arguments.now)) }
+        Tells first.old first.new (arguments_become s closed params.now (map expr_of arguments.now)) }
 {
     for i in 0..params.len().min(arguments.len()) {
         let done = is_done(closed, i, arguments.len());
@@ -67,7 +65,7 @@ fn check_arguments_become(
     }
 }
 
-/// Whether there are more arguments than parameters, or fewer up to the closing parenthesis.
+// Whether there are more arguments than parameters, or fewer up to the closing parenthesis.
 fn count_offends(call: &PartialCall, params: &[CType]) -> bool
     ensures { result ≡ count_offends (call_of call.now) params.now }
 {
@@ -75,7 +73,7 @@ fn count_offends(call: &PartialCall, params: &[CType]) -> bool
     params.len() < count || (call.closed && count < params.len())
 }
 
-/// Tells whether the result does not go to the place, where there is one.
+// Tells whether the result does not go to the place, where there is one.
 fn check_result(
     place: Option<Operand>,
     at: usize,
@@ -84,7 +82,7 @@ fn check_result(
     first: &mut First,
 )
     ensures { (s : offences.Scene) (e : Option partial.PartialExpr) → place ≡ option_map (target s) e →
-        told first.new ≡ first_behind (told first.old) (result_offences s at e (word_of function.now) result_type) }
+        Tells first.old first.new (result_offences s at e (word_of function.now) result_type) }
 {
     match (place, result_type) {
         (None, _) => {}
@@ -93,7 +91,7 @@ fn check_result(
     }
 }
 
-/// Tells what offends in the call of a function with the signature, which begins at a place.
+// Tells what offends in the call of a function with the signature, which begins at a place.
 fn check_signature(
     scene: &Scene<'_, '_>,
     at: usize,
@@ -102,8 +100,9 @@ fn check_signature(
     signature: &Signature,
     first: &mut First,
 )
-    ensures { (s : offences.Scene) (e : Option partial.PartialExpr) → IsScene scene.now s → place ≡ option_map (target s) e →
-        told first.new ≡ first_behind (told first.old) (signature_offences s at e (call_of call.now) (Some (signature_of signature.now))) }
+    ensures { (s : offences.Scene) (e : Option partial.PartialExpr) → IsScene scene.now s →
+        place ≡ option_map (target s) e →
+        Tells first.old first.new (signature_offences s at e (call_of call.now) (Some (signature_of signature.now))) }
 {
     check_result(place, at, &call.function, signature.result, first);
     let miscounted = count_offends(call, &signature.params);
@@ -117,7 +116,7 @@ fn check_signature(
     );
 }
 
-/// Tells what offends in the function that is called: it is no variable, and known.
+// Tells what offends in the function that is called: it is no variable, and known.
 fn check_callee(
     scene: &Scene<'_, '_>,
     at: usize,
@@ -125,8 +124,8 @@ fn check_callee(
     call: &PartialCall,
     first: &mut First,
 )
-    ensures { (s : offences.Scene) (e : Option partial.PartialExpr) → IsScene scene.now s → place ≡ option_map (target s) e →
-        told first.new ≡ first_behind (told first.old) (callee_offences s at e (call_of call.now)) }
+    ensures { (s : offences.Scene) (e : Option partial.PartialExpr) → IsScene scene.now s →
+        place ≡ option_map (target s) e → Tells first.old first.new (callee_offences s at e (call_of call.now)) }
 {
     let word = call.function.word.as_str();
     if scene.variable(word).is_some() {
@@ -140,15 +139,16 @@ fn check_callee(
     }
 }
 
-/// Tells what offends in the place of a result, where there is one.
+// Tells what offends in the place of a result, where there is one.
 fn check_place_if(
     scene: &Scene<'_, '_>,
     place: &Option<PartialExpr>,
     first: &mut First,
 ) -> Option<Operand>
-    ensures place { (s : offences.Scene) → IsScene scene.now s → result ≡ option_map (target s) (option_map expr_of place.now) }
+    ensures place { (s : offences.Scene) → IsScene scene.now s →
+        result ≡ option_map (target s) (option_map expr_of place.now) }
     ensures told { (s : offences.Scene) → IsScene scene.now s →
-        told first.new ≡ first_behind (told first.old) (place_if s (option_map expr_of place.now)) }
+        Tells first.old first.new (place_if s (option_map expr_of place.now)) }
 {
     match place {
         Some(place) => Some(check_place(scene, place, first)),
@@ -165,7 +165,7 @@ pub(crate) fn check_call(
     first: &mut First,
 )
     ensures { (s : offences.Scene) → IsScene scene.now s →
-        told first.new ≡ first_behind (told first.old) (call_offences s at (option_map expr_of place.now) (call_of call.now)) }
+        Tells first.old first.new (call_offences s at (option_map expr_of place.now) (call_of call.now)) }
 {
     let place = check_place_if(scene, place, first);
     check_arguments(scene, &call.arguments, first);

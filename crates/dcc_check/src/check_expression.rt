@@ -2,22 +2,20 @@
 
 ghost use Rattle.std.specs.Prelude.{◌≡◌, true, option_map};
 ghost use Rattle.dcc_c.specs.declared.syntax.CUn.TheVariants.{AddressOf};
-ghost use Rattle.dcc_c.specs.Kinds.{first_behind};
 ghost use Rattle.dcc_c.specs.Offences as offences;
 ghost use Rattle.dcc_c.specs.Offences.{operand_of_address, no_variable, expr_offences, place_offences};
 ghost use Rattle.dcc_c.specs.Partial as partial;
 ghost use Rattle.dcc_c.specs.Partial.{is_missing, is_name_here};
 ghost use Rattle.dcc_reader.specs.PartialViews.{expr_of};
-ghost use Rattle.dcc_check.specs.Views.{told};
+ghost use Rattle.dcc_reader.specs.Told.{Tells};
 ghost use Rattle.dcc_types.specs.NameViews.{unnamed};
 ghost use Rattle.dcc_check.specs.Scenes.{IsScene};
 ghost use Rattle.dcc_check.specs.Operands.{operand, target};
 
-use crate::first::First;
 use crate::operand::{Operand, check_binary, check_choice, check_unary, tell_typed, want_number};
 use crate::scene::Scene;
 use dcc_c::{CType, CUn};
-use dcc_reader::{ParseKind, PartialExpr};
+use dcc_reader::{First, ParseKind, PartialExpr};
 use dcc_types::Declared;
 use dcc_types::names::{type_of_address, type_of_name, type_of_variable};
 use dcc_types::operators::{both_arms_type, both_types, type_of_unary};
@@ -36,10 +34,10 @@ pub(crate) fn is_name(e: &PartialExpr) -> bool
     matches!(e, PartialExpr::Name(_, _, _))
 }
 
-/// A name that is no variable: a function's offends as an operand, but not before a parenthesis.
+// A name that is no variable: a function's offends as an operand, but not before a parenthesis.
 fn tell_no_variable(scene: &Scene<'_, '_>, at: usize, word: &str, called: bool, first: &mut First)
     ensures { (s : offences.Scene) → IsScene scene.now s →
-        told first.new ≡ first_behind (told first.old) (no_variable s at word.now called) }
+        Tells first.old first.new (no_variable s at word.now called) }
 {
     match scene.function(word) {
         Some(_) => first.tell_if(!called, ParseKind::Type_, at),
@@ -47,7 +45,7 @@ fn tell_no_variable(scene: &Scene<'_, '_>, at: usize, word: &str, called: bool, 
     }
 }
 
-/// A name as a value: that of an array of pointers has no type.
+// A name as a value: that of an array of pointers has no type.
 fn check_name(
     scene: &Scene<'_, '_>,
     at: usize,
@@ -58,7 +56,7 @@ fn check_name(
     ensures operand { (s : offences.Scene) → IsScene scene.now s →
         result ≡ operand s (partial.NameHere at word.now called) }
     ensures told { (s : offences.Scene) → IsScene scene.now s →
-        told first.new ≡ first_behind (told first.old) (expr_offences s (partial.NameHere at word.now called)) }
+        Tells first.old first.new (expr_offences s (partial.NameHere at word.now called)) }
 {
     match scene.variable(word) {
         Some(declared) => {
@@ -73,7 +71,7 @@ fn check_name(
     }
 }
 
-/// The operand of `&`, where it is the name of a variable.
+// The operand of `&`, where it is the name of a variable.
 fn operand_of_address(scene: &Scene<'_, '_>, a: &PartialExpr) -> Option<Declared>
     ensures { (s : offences.Scene) → IsScene scene.now s →
         result ≡ option_map unnamed (operand_of_address s.names (expr_of a.now)) }
@@ -84,7 +82,7 @@ fn operand_of_address(scene: &Scene<'_, '_>, a: &PartialExpr) -> Option<Declared
     }
 }
 
-/// The place where a name stands, and 0 for another expression.
+// The place where a name stands, and 0 for another expression.
 fn place_of_name(a: &PartialExpr) -> usize
     ensures { is_name_here (expr_of a.now) ≡ true → result ≡ partial.place_of (expr_of a.now) }
 {
@@ -99,7 +97,7 @@ fn place_of_name(a: &PartialExpr) -> usize
 pub(crate) fn check_expr(scene: &Scene<'_, '_>, e: &PartialExpr, first: &mut First) -> Operand
     ensures operand { (s : offences.Scene) → IsScene scene.now s → result ≡ operand s (expr_of e.now) }
     ensures told { (s : offences.Scene) → IsScene scene.now s →
-        told first.new ≡ first_behind (told first.old) (expr_offences s (expr_of e.now)) }
+        Tells first.old first.new (expr_offences s (expr_of e.now)) }
 {
     match e {
         PartialExpr::Missing => Operand { ty: None, at: 0 },
@@ -141,7 +139,7 @@ pub(crate) fn check_expr(scene: &Scene<'_, '_>, e: &PartialExpr, first: &mut Fir
     }
 }
 
-/// Tells what offends in a unary operator and its operand.
+// Tells what offends in a unary operator and its operand.
 #[cycle(expression)]
 fn check_operator(
     scene: &Scene<'_, '_>,
@@ -153,7 +151,7 @@ fn check_operator(
     ensures operand { (s : offences.Scene) → IsScene scene.now s →
         result ≡ operand s (partial.UnaryHere at operator (expr_of a.now)) }
     ensures told { (s : offences.Scene) → IsScene scene.now s →
-        told first.new ≡ first_behind (told first.old) (expr_offences s (partial.UnaryHere at operator (expr_of a.now))) }
+        Tells first.old first.new (expr_offences s (partial.UnaryHere at operator (expr_of a.now))) }
 {
     if operator == CUn::AddressOf {
         return check_address(scene, at, a, first);
@@ -166,13 +164,13 @@ fn check_operator(
     }
 }
 
-/// Tells what offends in `&` and its operand: a variable that has an address, and is no array and no pointer.
+// Tells what offends in `&` and its operand: a variable that has an address, and is no array and no pointer.
 #[cycle(expression)]
 fn check_address(scene: &Scene<'_, '_>, at: usize, a: &PartialExpr, first: &mut First) -> Operand
     ensures operand { (s : offences.Scene) → IsScene scene.now s →
         result ≡ operand s (partial.UnaryHere at AddressOf (expr_of a.now)) }
     ensures told { (s : offences.Scene) → IsScene scene.now s →
-        told first.new ≡ first_behind (told first.old) (expr_offences s (partial.UnaryHere at AddressOf (expr_of a.now))) }
+        Tells first.old first.new (expr_offences s (partial.UnaryHere at AddressOf (expr_of a.now))) }
 {
     match operand_of_address(scene, a) {
         Some(declared) => {
@@ -200,7 +198,7 @@ pub(crate) fn operand_of(scene: &Scene<'_, '_>, e: &PartialExpr) -> Operand
 pub(crate) fn check_place(scene: &Scene<'_, '_>, e: &PartialExpr, first: &mut First) -> Operand
     ensures place { (s : offences.Scene) → IsScene scene.now s → result ≡ target s (expr_of e.now) }
     ensures told { (s : offences.Scene) → IsScene scene.now s →
-        told first.new ≡ first_behind (told first.old) (place_offences s (expr_of e.now)) }
+        Tells first.old first.new (place_offences s (expr_of e.now)) }
 {
     match e {
         PartialExpr::Name(at, word, called) => match scene.variable(word.as_str()) {

@@ -1,21 +1,19 @@
 //! What offends in a statement, without the statements inside it.
 
 ghost use Rattle.std.specs.Prelude.{◌≡◌, option_map};
-ghost use Rattle.dcc_c.specs.Kinds.{first_behind};
 ghost use Rattle.dcc_c.specs.Offences as offences;
 ghost use Rattle.dcc_c.specs.Offences.{assigned_offences, test_offences, switch_offences, return_offences, goto_offences, own_offences};
 ghost use Rattle.dcc_reader.specs.PartialViews.{expr_of, word_of, stmt_of};
-ghost use Rattle.dcc_check.specs.Views.{told};
+ghost use Rattle.dcc_reader.specs.Told.{Tells};
 ghost use Rattle.dcc_check.specs.Scenes.{IsScene};
 
 use crate::check_call::check_call;
 use crate::check_expression::{check_expr, check_place, is_missing, is_name};
-use crate::first::First;
 use crate::operand::{check_becomes, check_selector, want_number};
 use crate::scene::Scene;
-use dcc_reader::{ParseKind, PartialExpr, PartialStmt, WordAt};
+use dcc_reader::{First, ParseKind, PartialExpr, PartialStmt, WordAt};
 
-/// Tells what offends in an assignment: a name alone that is not read to its end may be called.
+// Tells what offends in an assignment: a name alone that is not read to its end may be called.
 fn check_assign(
     scene: &Scene<'_, '_>,
     place: &PartialExpr,
@@ -24,7 +22,7 @@ fn check_assign(
     first: &mut First,
 )
     ensures { (s : offences.Scene) → IsScene scene.now s →
-        told first.new ≡ first_behind (told first.old) (assigned_offences s (expr_of place.now) (option_map expr_of e.now) done) }
+        Tells first.old first.new (assigned_offences s (expr_of place.now) (option_map expr_of e.now) done) }
 {
     match e {
         Some(e) => {
@@ -42,10 +40,10 @@ fn check_assign(
     }
 }
 
-/// Tells what offends in a test, read to its parenthesis or not.
+// Tells what offends in a test, read to its parenthesis or not.
 fn check_test(scene: &Scene<'_, '_>, e: &PartialExpr, done: bool, first: &mut First)
     ensures { (s : offences.Scene) → IsScene scene.now s →
-        told first.new ≡ first_behind (told first.old) (test_offences s (expr_of e.now) done) }
+        Tells first.old first.new (test_offences s (expr_of e.now) done) }
 {
     let a = check_expr(scene, e, first);
     if done {
@@ -53,16 +51,16 @@ fn check_test(scene: &Scene<'_, '_>, e: &PartialExpr, done: bool, first: &mut Fi
     }
 }
 
-/// Tells what offends in the value of a `switch`: it is an int or an unsigned int after promotion.
+// Tells what offends in the value of a `switch`: it is an int or an unsigned int after promotion.
 fn check_switch(scene: &Scene<'_, '_>, e: &PartialExpr, done: bool, first: &mut First)
     ensures { (s : offences.Scene) → IsScene scene.now s →
-        told first.new ≡ first_behind (told first.old) (switch_offences s (expr_of e.now) done) }
+        Tells first.old first.new (switch_offences s (expr_of e.now) done) }
 {
     let a = check_expr(scene, e, first);
     check_selector(a, done, first);
 }
 
-/// Tells what offends in a `return`: a value stands where the function has a result, and there alone.
+// Tells what offends in a `return`: a value stands where the function has a result, and there alone.
 fn check_return(
     scene: &Scene<'_, '_>,
     at: usize,
@@ -71,7 +69,7 @@ fn check_return(
     first: &mut First,
 )
     ensures { (s : offences.Scene) → IsScene scene.now s →
-        told first.new ≡ first_behind (told first.old) (return_offences s at (option_map expr_of e.now) done) }
+        Tells first.old first.new (return_offences s at (option_map expr_of e.now) done) }
 {
     match e {
         Some(e) => {
@@ -86,10 +84,10 @@ fn check_return(
     }
 }
 
-/// Tells whether a `goto` names no label of the function.
+// Tells whether a `goto` names no label of the function.
 fn check_goto(scene: &Scene<'_, '_>, name: &Option<WordAt>, first: &mut First)
     ensures { (s : offences.Scene) → IsScene scene.now s →
-        told first.new ≡ first_behind (told first.old) (goto_offences s (option_map word_of name.now)) }
+        Tells first.old first.new (goto_offences s (option_map word_of name.now)) }
 {
     if let Some(name) = name {
         first.tell_if(
@@ -103,7 +101,7 @@ fn check_goto(scene: &Scene<'_, '_>, name: &Option<WordAt>, first: &mut First)
 /// Tells what offends in a statement that begins at a place, without the statements inside it.
 pub(crate) fn check_own(scene: &Scene<'_, '_>, at: usize, stmt: &PartialStmt, first: &mut First)
     ensures { (s : offences.Scene) → IsScene scene.now s →
-        told first.new ≡ first_behind (told first.old) (own_offences s at (stmt_of stmt.now)) }
+        Tells first.old first.new (own_offences s at (stmt_of stmt.now)) }
 {
     match stmt {
         PartialStmt::Assign(place, e, done) => check_assign(scene, place, e, *done, first),

@@ -3,19 +3,17 @@
 ghost use Rattle.std.specs.Prelude.{◌≡◌, ◌++◌, ◌||◌, List, map, IfOk, OnOk};
 ghost use Rattle.dcc_c.specs.Dos.{dos_names};
 ghost use Rattle.dcc_c.specs.Grammar as grammar;
-ghost use Rattle.dcc_c.specs.Kinds.{first_behind};
 ghost use Rattle.dcc_c.specs.Known.{known_functions};
 ghost use Rattle.dcc_c.specs.Offences.{repeated};
 ghost use Rattle.dcc_c.specs.TextOffences as offences;
-ghost use Rattle.dcc_c.specs.Token.{same_bytes};
 ghost use Rattle.dcc_c.specs.Tree.{Word};
 ghost use Rattle.dcc_reader.specs.PartialViews.{variable_of, function_of};
 ghost use Rattle.dcc_check.specs.Names.{lent_names};
-ghost use Rattle.dcc_check.specs.Scenes.{holds};
-ghost use Rattle.dcc_check.specs.Views.{told};
+ghost use Rattle.dcc_reader.specs.WordViews.{holds};
+ghost use Rattle.dcc_reader.specs.Told.{Tells};
 
-use crate::first::First;
-use dcc_reader::{ParseKind, PartialFunction, PartialVariable, WordAt};
+use dcc_reader::words::add_word;
+use dcc_reader::{First, ParseKind, PartialFunction, PartialVariable, WordAt};
 use std::alloc::{AllocError, Global};
 use std::collections::BTreeSet;
 
@@ -56,8 +54,10 @@ pub fn known_names<'a>(
     functions: &'a [PartialFunction],
     names: &mut Vec<&'a WordAt>,
 ) -> Result<(), AllocError>
-    ensures { OnOk result (offences.words_of (lent_names names.new.items)
-        ≡ offences.words_of (lent_names names.old.items) ++ map (λ k. k.name) (known_functions (map function_of functions.now))) }
+    ensures { OnOk result
+        (offences.words_of (lent_names names.new.items)
+        ≡ offences.words_of (lent_names names.old.items)
+        ++ map (λ k. k.name) (known_functions (map function_of functions.now))) }
 {
     for function in functions {
         if function.opened.is_some() {
@@ -88,7 +88,7 @@ pub fn tell_repeated(
     first: &mut First,
 ) -> Result<(), AllocError>
     ensures { (known : List Word) → ((word : Word) → holds taken.now word ≡ grammar.is_among known word) →
-        OnOk result (told first.new ≡ first_behind (told first.old) (repeated known (lent_names names.now))) }
+        OnOk result (Tells first.old first.new (repeated known (lent_names names.now))) }
 {
     let mut own = BTreeSet::new(alloc);
     for name in names {
@@ -99,7 +99,7 @@ pub fn tell_repeated(
     Ok(())
 }
 
-/// Whether one of the sets has the word.
+// Whether one of the sets has the word.
 fn is_among(taken: &BTreeSet<&str>, own: &BTreeSet<&str>, word: &str) -> bool
     ensures { result ≡ holds taken.now word.now || holds own.now word.now }
 {
@@ -117,12 +117,4 @@ pub fn dos_words<'a>(alloc: Global) -> Result<BTreeSet<&'a str>, AllocError>
     add_word(&mut words, "dos_getche")?;
     add_word(&mut words, "dos_putc")?;
     Ok(words)
-}
-
-/// Adds a word to the set.
-pub fn add_word<'a>(words: &mut BTreeSet<&'a str>, word: &'a str) -> Result<(), AllocError>
-    ensures { OnOk result ((other : Word) → holds words.new other ≡ same_bytes other word.now || holds words.old other) }
-{
-    words.insert(word)?;
-    Ok(())
 }

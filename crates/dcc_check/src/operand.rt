@@ -1,16 +1,15 @@
 //! Expressions as operands: what offends in their types.
 
 ghost use Rattle.std.specs.Prelude.{◌≡◌, is_some};
-ghost use Rattle.dcc_c.specs.Kinds.{of_type, offence, only_if, first_behind};
+ghost use Rattle.dcc_c.specs.Kinds.{of_type, offence, only_if};
 ghost use Rattle.dcc_c.specs.Offences as offences;
 ghost use Rattle.dcc_c.specs.Offences.{wants_number, unary_offences, binary_offences, arms_offences, conversion, becomes, switch_offences, told_type};
 ghost use Rattle.dcc_c.specs.Partial as partial;
-ghost use Rattle.dcc_check.specs.Views.{told};
+ghost use Rattle.dcc_reader.specs.Told.{Tells};
 ghost use Rattle.dcc_check.specs.Operands.{operand, selector_offences};
 
-use crate::first::First;
 use dcc_c::{CBin, CType, CUn};
-use dcc_reader::ParseKind;
+use dcc_reader::{First, ParseKind};
 use dcc_types::operators::{
     both_arms_type, both_types, converts, is_comparison, is_pointer, is_sum, is_switch_type,
 };
@@ -27,15 +26,15 @@ pub(crate) struct Operand {
 /// A number is wanted.
 pub(crate) fn want_number(a: Operand, first: &mut First)
     ensures { (s : offences.Scene) (e : partial.PartialExpr) → a ≡ operand s e →
-        told first.new ≡ first_behind (told first.old) (wants_number s e) }
+        Tells first.old first.new (wants_number s e) }
 {
     first.tell_if(is_pointer(a.ty), ParseKind::Type_, a.at);
 }
 
-/// A pointer is wanted.
+// A pointer is wanted.
 fn want_pointer(a: Operand, first: &mut First)
     ensures { (s : offences.Scene) (e : partial.PartialExpr) → a ≡ operand s e →
-        told first.new ≡ first_behind (told first.old) (offences.wants_pointer s e) }
+        Tells first.old first.new (offences.wants_pointer s e) }
 {
     if let Some(ty) = a.ty {
         first.tell_if(!ty.pointer, ParseKind::Type_, a.at);
@@ -45,7 +44,7 @@ fn want_pointer(a: Operand, first: &mut First)
 /// The operand of `&` is no variable: it offends where it has a type.
 pub(crate) fn tell_typed(a: Operand, first: &mut First)
     ensures { (s : offences.Scene) (e : partial.PartialExpr) → a ≡ operand s e →
-        told first.new ≡ first_behind (told first.old) (only_if (is_some (told_type s.names e)) (offence of_type (partial.place_of e))) }
+        Tells first.old first.new (only_if (is_some (told_type s.names e)) (offence of_type (partial.place_of e))) }
 {
     first.tell_if(a.ty.is_some(), ParseKind::Type_, a.at);
 }
@@ -53,7 +52,7 @@ pub(crate) fn tell_typed(a: Operand, first: &mut First)
 /// The operand of a unary operator but `&`.
 pub(crate) fn check_unary(operator: CUn, a: Operand, first: &mut First)
     ensures { (s : offences.Scene) (e : partial.PartialExpr) → a ≡ operand s e →
-        told first.new ≡ first_behind (told first.old) (unary_offences s operator e) }
+        Tells first.old first.new (unary_offences s operator e) }
 {
     match operator {
         CUn::Deref => want_pointer(a, first),
@@ -65,7 +64,7 @@ pub(crate) fn check_unary(operator: CUn, a: Operand, first: &mut First)
 /// the first, of any other each is a number.
 pub(crate) fn check_binary(operator: CBin, a: Operand, b: Operand, first: &mut First)
     ensures { (s : offences.Scene) (d e : partial.PartialExpr) → a ≡ operand s d → b ≡ operand s e →
-        told first.new ≡ first_behind (told first.old) (binary_offences s operator d e) }
+        Tells first.old first.new (binary_offences s operator d e) }
 {
     if is_comparison(operator) || is_sum(operator) {
         let ty = both_types(operator, a.ty, b.ty);
@@ -83,7 +82,7 @@ pub(crate) fn check_binary(operator: CBin, a: Operand, b: Operand, first: &mut F
 /// The last two operands of `?:`.
 pub(crate) fn check_choice(b: Operand, c: Operand, first: &mut First)
     ensures { (s : offences.Scene) (d e : partial.PartialExpr) → b ≡ operand s d → c ≡ operand s e →
-        told first.new ≡ first_behind (told first.old) (arms_offences s d e) }
+        Tells first.old first.new (arms_offences s d e) }
 {
     let ty = both_arms_type(b.ty, c.ty);
     first.tell_if(
@@ -96,7 +95,7 @@ pub(crate) fn check_choice(b: Operand, c: Operand, first: &mut First)
 /// The value of a `switch`, read to its parenthesis or not: an int or an unsigned int after promotion.
 pub(crate) fn check_selector(a: Operand, done: bool, first: &mut First)
     ensures { (s : offences.Scene) (e : partial.PartialExpr) → a ≡ operand s e →
-        told first.new ≡ first_behind (told first.old) (selector_offences s e done) }
+        Tells first.old first.new (selector_offences s e done) }
 {
     if let Some(ty) = a.ty {
         let is_other = done && !is_switch_type(ty);
@@ -106,7 +105,7 @@ pub(crate) fn check_selector(a: Operand, done: bool, first: &mut First)
 
 /// A value of the first type goes where one of the second is wanted, and offends at a place.
 pub(crate) fn check_conversion(from: Option<CType>, to: Option<CType>, at: usize, first: &mut First)
-    ensures { told first.new ≡ first_behind (told first.old) (conversion from to at) }
+    ensures { Tells first.old first.new (conversion from to at) }
 {
     if let (Some(from), Some(to)) = (from, to) {
         first.tell_if(!converts(from, to), ParseKind::Type_, at);
@@ -116,7 +115,7 @@ pub(crate) fn check_conversion(from: Option<CType>, to: Option<CType>, at: usize
 /// The value goes where one of the type is wanted, where it has been read to its end.
 pub(crate) fn check_becomes(a: Operand, done: bool, to: Option<CType>, first: &mut First)
     ensures { (s : offences.Scene) (e : partial.PartialExpr) → a ≡ operand s e →
-        told first.new ≡ first_behind (told first.old) (becomes s e done to) }
+        Tells first.old first.new (becomes s e done to) }
 {
     if done {
         check_conversion(a.ty, to, a.at, first);

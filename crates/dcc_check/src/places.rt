@@ -3,22 +3,21 @@
 ghost use Rattle.std.specs.Prelude.{◌≡◌, ◌+◌, ◌<◌, ◌≤◌, ◌^◌, ◌&&◌, ◌||◌, ℕ, Bool, true, false, not, nat_le, nat_lt, List, [], ◌∷◌, ◌++◌, length, map, option_map, IfOk, OnOk, slice_get, if◌then◌else◌};
 ghost use Rattle.std.proofs.Common.{get_or};
 ghost use Rattle.std.specs.List.{list_all};
-ghost use Rattle.dcc_c.specs.Kinds.{of_place, offence, earlier, first_behind};
+ghost use Rattle.dcc_c.specs.Kinds.{of_place, offence, earlier};
 ghost use Rattle.dcc_c.specs.Partial as partial;
 ghost use Rattle.dcc_c.specs.ReadingText as reading;
 ghost use Rattle.dcc_c.specs.TextOffences as offences;
 ghost use Rattle.dcc_reader.specs.PartialViews.{number_of, variable_of};
 ghost use Rattle.dcc_check.specs.Places.{earlier_of, in_stack, IsOccupied, misplaced_here, earlier_with, is_covered};
-ghost use Rattle.dcc_check.specs.Views.{told};
+ghost use Rattle.dcc_reader.specs.Told.{told, Tells};
 
-use crate::first::First;
-use dcc_reader::{NumberAt, ParseKind, PartialVariable};
+use dcc_reader::{First, NumberAt, ParseKind, PartialVariable};
 use std::alloc::{AllocError, Global};
 
-/// How many bytes a memory has.
+// How many bytes a memory has.
 const MEMORY: u64 = 65536;
 
-/// How many elements a variable has.
+// How many elements a variable has.
 fn element_count(size: Option<NumberAt>) -> u64
     ensures value { result ≡ offences.element_count (option_map number_of size) }
     ensures small { result ≤ 4294967295 }
@@ -29,7 +28,7 @@ fn element_count(size: Option<NumberAt>) -> u64
     }
 }
 
-/// How many bytes a variable takes.
+// How many bytes a variable takes.
 fn size_in_bytes(variable: &PartialVariable) -> u64
     ensures value { result ≡ reading.size_in_bytes (variable_of variable.now) }
     ensures small { result ≤ 17179869180 }
@@ -40,9 +39,9 @@ fn size_in_bytes(variable: &PartialVariable) -> u64
     }
 }
 
-/// Tells a size of no element.
+// Tells a size of no element.
 fn tell_size(size: Option<NumberAt>, first: &mut First)
-    ensures { told first.new ≡ first_behind (told first.old) (offences.size_offences (option_map number_of size)) }
+    ensures { Tells first.old first.new (offences.size_offences (option_map number_of size)) }
 {
     if let Some(number) = size {
         first.tell_if(number.value == 0, ParseKind::Place, number.at);
@@ -51,16 +50,16 @@ fn tell_size(size: Option<NumberAt>, first: &mut First)
 
 /// Tells the sizes of no element.
 pub fn tell_sizes(variables: &[PartialVariable], first: &mut First)
-    ensures { told first.new ≡ first_behind (told first.old) (offences.sizes_of (map variable_of variables.now)) }
+    ensures { Tells first.old first.new (offences.sizes_of (map variable_of variables.now)) }
 {
     for variable in variables {
         tell_size(variable.size, first);
     }
 }
 
-/// Tells the first initial value for which there is no element.
+// Tells the first initial value for which there is no element.
 fn tell_surplus(variable: &PartialVariable, first: &mut First)
-    ensures { told first.new ≡ first_behind (told first.old) (offences.surplus (variable_of variable.now)) }
+    ensures { Tells first.old first.new (offences.surplus (variable_of variable.now)) }
 {
     let count = element_count(variable.size) as usize;
     if count < variable.init.len() {
@@ -69,7 +68,7 @@ fn tell_surplus(variable: &PartialVariable, first: &mut First)
     }
 }
 
-/// Whether the variable ends at the address or below it.
+// Whether the variable ends at the address or below it.
 fn ends_by(variable: &PartialVariable, address: u64) -> bool
     ensures { result ≡ nat_le (offences.end_of (variable_of variable.now)) address }
 {
@@ -79,14 +78,14 @@ fn ends_by(variable: &PartialVariable, address: u64) -> bool
     }
 }
 
-/// Whether the two variables take no byte in common.
+// Whether the two variables take no byte in common.
 fn stand_apart(a: &PartialVariable, b: &PartialVariable) -> bool
     ensures { result ≡ offences.stand_apart (variable_of a.now) (variable_of b.now) }
 {
     ends_by(a, b.address) || ends_by(b, a.address)
 }
 
-/// Whether the variable has been read to its end, and takes a byte.
+// Whether the variable has been read to its end, and takes a byte.
 fn takes_bytes(variable: &PartialVariable) -> bool
     ensures { result ≡ offences.takes_bytes (variable_of variable.now) }
 {
@@ -98,18 +97,18 @@ fn takes_bytes(variable: &PartialVariable) -> bool
 pub struct Stack {
     /// Its lowest address.
     pub lo: u64,
-    /// The address behind it.
+    /// The address after it.
     pub hi: u64,
 }
 
-/// Whether a variable, which has a byte, has one in the stack.
+// Whether a variable, which has a byte, has one in the stack.
 fn is_in_stack(stack: Stack, variable: &PartialVariable) -> bool
     ensures { result ≡ in_stack stack.lo stack.hi (variable_of variable.now) }
 {
     !(stack.hi <= stack.lo || ends_by(variable, stack.lo) || stack.hi <= variable.address)
 }
 
-/// The bytes that variables take.
+// The bytes that variables take.
 #[derive(Drop)]
 struct Occupied {
     /// Whether each byte of memory is taken.
@@ -119,7 +118,7 @@ struct Occupied {
     complete: bool,
 }
 
-/// Whether none of the bytes from one address up to another is taken.
+// Whether none of the bytes from one address up to another is taken.
 fn is_free(marks: &[bool], from: usize, to: usize) -> bool
     requires { to ≤ length marks.now }
     ensures free { result ≡ true → (k : ℕ) → from ≤ k → k < to → get_or marks.now k false ≡ false }
@@ -133,20 +132,22 @@ fn is_free(marks: &[bool], from: usize, to: usize) -> bool
     true
 }
 
-/// Marks the bytes from one address up to another.
+// Marks the bytes from one address up to another.
 fn mark(marks: &mut [bool], from: usize, to: usize)
     requires order { from ≤ to }
     requires within { to ≤ length marks.old }
-    ensures { (k : ℕ) → k < length marks.old → get_or marks.new k false ≡ (nat_le from k && nat_lt k to) || get_or marks.old k false }
+    ensures { (k : ℕ) → k < length marks.old →
+        get_or marks.new k false ≡ (nat_le from k && nat_lt k to) || get_or marks.old k false }
 {
     for k in from..to {
         marks[k] = true;
     }
 }
 
-/// Whether the variable has a byte in an earlier one.
+// Whether the variable has a byte in an earlier one.
 fn clashes(earlier: &[PartialVariable], variable: &PartialVariable) -> bool
-    ensures { result ≡ not (list_all (offences.stand_apart (variable_of variable.now)) (earlier_of (map variable_of earlier.now))) }
+    ensures { result ≡ not
+        (list_all (offences.stand_apart (variable_of variable.now)) (earlier_of (map variable_of earlier.now))) }
 {
     for other in earlier {
         if takes_bytes(other) && !stand_apart(variable, other) {
@@ -156,7 +157,7 @@ fn clashes(earlier: &[PartialVariable], variable: &PartialVariable) -> bool
     false
 }
 
-/// Whether an offence at this place may be the first.
+// Whether an offence at this place may be the first.
 fn may_be_first(first: &First, at: usize) -> bool
     ensures { result ≡ false → earlier (told first.now) (offence of_place at) ≡ told first.now }
 {
@@ -166,12 +167,14 @@ fn may_be_first(first: &First, at: usize) -> bool
     }
 }
 
-/// Whether the variable, which takes a byte and ends in memory, has a byte in an earlier one.
+// Whether the variable, which takes a byte and ends in memory, has a byte in an earlier one.
 fn overlaps(occupied: &Occupied, earlier: &[PartialVariable], variable: &PartialVariable) -> bool
-    requires held { IsOccupied occupied.now.marks.items occupied.now.complete (earlier_of (map variable_of earlier.now)) }
+    requires held { IsOccupied occupied.now.marks.items occupied.now.complete
+        (earlier_of (map variable_of earlier.now)) }
     requires has_byte { nat_lt 0 (reading.size_in_bytes (variable_of variable.now)) ≡ true }
     requires within { nat_le (offences.end_of (variable_of variable.now)) 65536 ≡ true }
-    ensures { result ≡ not (list_all (offences.stand_apart (variable_of variable.now)) (earlier_of (map variable_of earlier.now))) }
+    ensures { result ≡ not
+        (list_all (offences.stand_apart (variable_of variable.now)) (earlier_of (map variable_of earlier.now))) }
 {
     if !occupied.complete {
         return clashes(earlier, variable);
@@ -181,15 +184,17 @@ fn overlaps(occupied: &Occupied, earlier: &[PartialVariable], variable: &Partial
     !is_free(&occupied.marks, from, to)
 }
 
-/// Whether the variable takes a byte beyond memory, in the stack or in an earlier variable.
+// Whether the variable takes a byte beyond memory, in the stack or in an earlier variable.
 fn is_misplaced(
     occupied: &Occupied,
     stack: Stack,
     earlier: &[PartialVariable],
     variable: &PartialVariable,
 ) -> bool
-    requires held { IsOccupied occupied.now.marks.items occupied.now.complete (earlier_of (map variable_of earlier.now)) }
-    ensures { result ≡ offences.is_misplaced stack.lo stack.hi (earlier_of (map variable_of earlier.now)) (variable_of variable.now) }
+    requires held { IsOccupied occupied.now.marks.items occupied.now.complete
+        (earlier_of (map variable_of earlier.now)) }
+    ensures { result ≡ offences.is_misplaced stack.lo stack.hi (earlier_of (map variable_of earlier.now))
+        (variable_of variable.now) }
 {
     if size_in_bytes(variable) == 0 {
         return false;
@@ -203,11 +208,12 @@ fn is_misplaced(
     overlaps(occupied, earlier, variable)
 }
 
-/// Marks the bytes of a variable that is not misplaced.
+// Marks the bytes of a variable that is not misplaced.
 fn take(occupied: &mut Occupied, variable: &PartialVariable)
     requires whole { length occupied.old.marks.items ≡ 65536 }
     requires within { nat_le (offences.end_of (variable_of variable.now)) 65536 ≡ true }
-    ensures { (earlier : List partial.PartialVariable) → IsOccupied occupied.old.marks.items occupied.old.complete earlier →
+    ensures { (earlier : List partial.PartialVariable) →
+        IsOccupied occupied.old.marks.items occupied.old.complete earlier →
         IsOccupied occupied.new.marks.items occupied.new.complete (variable_of variable.now ∷ earlier) }
 {
     if occupied.complete {
@@ -217,7 +223,7 @@ fn take(occupied: &mut Occupied, variable: &PartialVariable)
     }
 }
 
-/// Tells that a variable is misplaced.
+// Tells that a variable is misplaced.
 fn tell_place(
     occupied: &mut Occupied,
     stack: Stack,
@@ -225,8 +231,9 @@ fn tell_place(
     variable: &PartialVariable,
     first: &mut First,
 )
-    requires held { IsOccupied occupied.old.marks.items occupied.old.complete (earlier_of (map variable_of earlier.now)) }
-    ensures tells { told first.new ≡ first_behind (told first.old)
+    requires held { IsOccupied occupied.old.marks.items occupied.old.complete
+        (earlier_of (map variable_of earlier.now)) }
+    ensures tells { Tells first.old first.new
         (misplaced_here stack.lo stack.hi (earlier_of (map variable_of earlier.now)) (variable_of variable.now)) }
     ensures held { IsOccupied occupied.new.marks.items occupied.new.complete
         (earlier_with (variable_of variable.now) (earlier_of (map variable_of earlier.now))) }
@@ -251,27 +258,7 @@ fn tell_place(
     take(occupied, variable);
 }
 
-/// Tells the size, the first surplus initial value and the place of a global variable.
-fn tell_global(
-    occupied: &mut Occupied,
-    stack: Stack,
-    earlier: &[PartialVariable],
-    variable: &PartialVariable,
-    first: &mut First,
-)
-    requires held { IsOccupied occupied.old.marks.items occupied.old.complete (earlier_of (map variable_of earlier.now)) }
-    ensures tells { told first.new ≡ first_behind (told first.old)
-        (offences.size_offences (variable_of variable.now).size ++ (offences.surplus (variable_of variable.now)
-        ++ misplaced_here stack.lo stack.hi (earlier_of (map variable_of earlier.now)) (variable_of variable.now))) }
-    ensures held { IsOccupied occupied.new.marks.items occupied.new.complete
-        (earlier_with (variable_of variable.now) (earlier_of (map variable_of earlier.now))) }
-{
-    tell_size(variable.size, first);
-    tell_surplus(variable, first);
-    tell_place(occupied, stack, earlier, variable, first);
-}
-
-/// Marks for so many bytes, none of which is taken.
+// Marks for so many bytes, none of which is taken.
 fn unmarked(alloc: Global, count: usize) -> Result<Vec<bool>, AllocError>
     ensures whole { IfOk result (λ marks. length marks.items ≡ count) }
     ensures free { IfOk result (λ marks. (k : ℕ) → k < count → get_or marks.items k false ≡ false) }
@@ -287,14 +274,18 @@ pub fn tell_globals(
     globals: &[PartialVariable],
     first: &mut First,
 ) -> Result<(), AllocError>
-    ensures { OnOk result (told first.new ≡ first_behind (told first.old) (offences.globals_places stack.lo stack.hi [] (map variable_of globals.now))) }
+    ensures { OnOk result
+        (Tells first.old first.new (offences.globals_places stack.lo stack.hi [] (map variable_of globals.now))) }
 {
     let mut occupied = Occupied {
         marks: unmarked(alloc, 65536)?,
         complete: true,
     };
     for i in 0..globals.len() {
-        tell_global(&mut occupied, stack, &globals[..i], &globals[i], first);
+        let variable = &globals[i];
+        tell_size(variable.size, first);
+        tell_surplus(variable, first);
+        tell_place(&mut occupied, stack, &globals[..i], variable, first);
     }
     Ok(())
 }

@@ -3,7 +3,7 @@
 ghost use Rattle.std.specs.Prelude.{◌≡◌, ◌≤◌, ◌++◌, Bool, true, List, [], length, map, option_map, Option, IfOk, OnOk, if◌then◌else◌};
 ghost use Rattle.dcc_c.specs.Grammar as grammar;
 ghost use Rattle.dcc_c.specs.Dos.{dos_names};
-ghost use Rattle.dcc_c.specs.Kinds.{first_of, first_behind};
+ghost use Rattle.dcc_c.specs.Kinds.{first_of};
 ghost use Rattle.dcc_c.specs.Known as known;
 ghost use Rattle.dcc_c.specs.Offences.{label_list, repeated};
 ghost use Rattle.dcc_c.specs.Partial as partial;
@@ -18,28 +18,27 @@ ghost use Rattle.dcc_c.specs.Typing.{declared_as};
 ghost use Rattle.dcc_check.specs.Declarations.{held_head};
 ghost use Rattle.dcc_check.specs.Names.{lent_names};
 ghost use Rattle.dcc_types.specs.NameViews.{unnamed};
-ghost use Rattle.dcc_check.specs.Scenes.{holds, held, head_of};
+ghost use Rattle.dcc_reader.specs.WordViews.{holds};
+ghost use Rattle.dcc_check.specs.Scenes.{held, head_of};
 ghost use Rattle.dcc_check.specs.Wholes.{IsWhole, labels_if, own_names};
-ghost use Rattle.dcc_check.specs.Views.{told};
+ghost use Rattle.dcc_reader.specs.Told.{Tells};
 
 use crate::check_block::check_body;
-use crate::declarations::{Scope, add_dos, add_functions, declare};
-use crate::first::First;
-use crate::labels::push_labels;
 use crate::names::{
     add_words, dos_words, function_names, known_names, tell_repeated, variable_names,
 };
 use crate::places::{Stack, tell_globals, tell_sizes};
-use crate::scene::{Scene, Signature};
-use crate::unread::{add_labels, heads_in};
+use crate::scene::{Scene, Scope, Signature, add_dos, add_functions, declare};
 use dcc_lex::Piece;
+use dcc_reader::labels::push_labels;
 use dcc_reader::token::same_text;
-use dcc_reader::{NumberAt, Offence, ParseKind, PartialFunction, PartialText, WordAt};
+use dcc_reader::unread::{add_labels, heads_in};
+use dcc_reader::{First, NumberAt, Offence, ParseKind, PartialFunction, PartialText, WordAt};
 use dcc_types::Declared;
 use std::alloc::{AllocError, Global};
 use std::collections::{BTreeMap, BTreeSet};
 
-/// What the whole text knows.
+// What the whole text knows.
 #[derive(Drop)]
 struct Whole<'a> {
     /// The names of global variables and of functions, those of DOS calls among them.
@@ -50,14 +49,15 @@ struct Whole<'a> {
     functions: BTreeMap<&'a str, Option<Signature>>,
 }
 
-/// The names of global variables and of functions. `heads` are the functions behind what has been read.
+// The names of global variables and of functions. `heads` are the functions after what has been read.
 fn words_of<'a>(
     alloc: Global,
     text: &'a PartialText,
     heads: &'a [PartialFunction],
 ) -> Result<BTreeSet<&'a str>, AllocError>
     ensures { (rest : List pieces.Piece) → known.known_functions (map function_of heads.now) ≡ known.heads_in rest →
-        IfOk result (λ words. (word : Word) → holds words word ≡ grammar.is_among (offences.known_in (text_of text.now) rest).words word) }
+        IfOk result (λ words. (word : Word) →
+        holds words word ≡ grammar.is_among (offences.known_in (text_of text.now) rest).words word) }
 {
     let mut names = Vec::new(alloc);
     variable_names(&text.globals, &mut names)?;
@@ -68,7 +68,7 @@ fn words_of<'a>(
     Ok(words)
 }
 
-/// The functions, first the DOS calls.
+// The functions, first the DOS calls.
 fn functions_of<'a>(
     alloc: Global,
     text: &'a PartialText,
@@ -85,7 +85,7 @@ fn functions_of<'a>(
     Ok(functions)
 }
 
-/// What the whole text knows. `heads` are the functions behind what has been read.
+// What the whole text knows. `heads` are the functions after what has been read.
 fn known_of<'a>(
     alloc: Global,
     text: &'a PartialText,
@@ -105,16 +105,16 @@ fn known_of<'a>(
     })
 }
 
-/// Tells a number of the stack line that is beyond memory.
+// Tells a number of the stack line that is beyond memory.
 fn tell_stack(number: Option<NumberAt>, first: &mut First)
-    ensures { told first.new ≡ first_behind (told first.old) (offences.stack_offences (option_map number_of number)) }
+    ensures { Tells first.old first.new (offences.stack_offences (option_map number_of number)) }
 {
     if let Some(number) = number {
         first.tell_if(65535 < number.value, ParseKind::Place, number.at);
     }
 }
 
-/// The number, or 0.
+// The number, or 0.
 fn number_or_zero(number: Option<NumberAt>) -> u64
     ensures { result ≡ offences.number_or_zero (option_map number_of number) }
 {
@@ -124,9 +124,9 @@ fn number_or_zero(number: Option<NumberAt>) -> u64
     }
 }
 
-/// Tells a name other than `start`.
+// Tells a name other than `start`.
 fn tell_unless_start(name: &Option<WordAt>, first: &mut First)
-    ensures { told first.new ≡ first_behind (told first.old) (offences.not_named_start (option_map word_of name.now)) }
+    ensures { Tells first.old first.new (offences.not_named_start (option_map word_of name.now)) }
 {
     if let Some(name) = name {
         let is_start = same_text(name.word.as_str(), "start");
@@ -134,9 +134,9 @@ fn tell_unless_start(name: &Option<WordAt>, first: &mut First)
     }
 }
 
-/// Tells what differs from `void start(void)` in the first function.
+// Tells what differs from `void start(void)` in the first function.
 fn tell_start(functions: &[PartialFunction], first: &mut First)
-    ensures { told first.new ≡ first_behind (told first.old) (offences.start_offences (map function_of functions.now)) }
+    ensures { Tells first.old first.new (offences.start_offences (map function_of functions.now)) }
 {
     if let Some(function) = functions.first() {
         if let Some(inside) = function.opened {
@@ -147,10 +147,12 @@ fn tell_start(functions: &[PartialFunction], first: &mut First)
     }
 }
 
-/// Tells names of global variables and of functions that are taken.
+// Tells names of global variables and of functions that are taken.
 fn tell_names(alloc: Global, text: &PartialText, first: &mut First) -> Result<(), AllocError>
-    ensures { OnOk result (told first.new ≡ first_behind (told first.old)
-        (repeated dos_names (offences.name_list (text_of text.now).globals ++ offences.function_names (text_of text.now).functions))) }
+    ensures { OnOk result
+        (Tells first.old first.new
+        (repeated dos_names (offences.name_list (text_of text.now).globals
+        ++ offences.function_names (text_of text.now).functions))) }
 {
     let mut names = Vec::new(alloc);
     variable_names(&text.globals, &mut names)?;
@@ -159,7 +161,7 @@ fn tell_names(alloc: Global, text: &PartialText, first: &mut First) -> Result<()
     tell_repeated(alloc, &taken, &names, first)
 }
 
-/// Tells names of parameters and local variables that are taken.
+// Tells names of parameters and local variables that are taken.
 fn tell_variables(
     alloc: Global,
     words: &BTreeSet<&str>,
@@ -167,8 +169,9 @@ fn tell_variables(
     first: &mut First,
 ) -> Result<(), AllocError>
     ensures { (known : List Word) → ((word : Word) → holds words.now word ≡ grammar.is_among known word) →
-        OnOk result (told first.new ≡ first_behind (told first.old)
-        (repeated known (offences.name_list (function_of function.now).params ++ offences.name_list (function_of function.now).locals))) }
+        OnOk result (Tells first.old first.new
+        (repeated known (offences.name_list (function_of function.now).params
+        ++ offences.name_list (function_of function.now).locals))) }
 {
     let mut names = Vec::new(alloc);
     variable_names(&function.params, &mut names)?;
@@ -176,15 +179,15 @@ fn tell_variables(
     tell_repeated(alloc, words, &names, first)
 }
 
-/// Tells labels that stand twice.
+// Tells labels that stand twice.
 fn tell_labels(alloc: Global, labels: &[&WordAt], first: &mut First) -> Result<(), AllocError>
-    ensures { OnOk result (told first.new ≡ first_behind (told first.old) (repeated [] (lent_names labels.now))) }
+    ensures { OnOk result (Tells first.old first.new (repeated [] (lent_names labels.now))) }
 {
     let none = BTreeSet::new(alloc);
     tell_repeated(alloc, &none, labels, first)
 }
 
-/// The words of labels; with `is_last`, also of those behind what has been read.
+// The words of labels; with `is_last`, also of those after what has been read.
 fn label_words<'a>(
     alloc: Global,
     labels: &[&'a WordAt],
@@ -203,7 +206,7 @@ fn label_words<'a>(
     Ok(words)
 }
 
-/// The parameters and the local variables of a function.
+// The parameters and the local variables of a function.
 fn locals_of<'a>(
     alloc: Global,
     function: &'a PartialFunction,
@@ -217,7 +220,7 @@ fn locals_of<'a>(
     Ok(locals)
 }
 
-/// Tells what offends in the body of a function; `labels` are those of its statements.
+// Tells what offends in the body of a function; `labels` are those of its statements.
 fn check_statements<'a>(
     alloc: Global,
     whole: &Whole<'a>,
@@ -226,8 +229,9 @@ fn check_statements<'a>(
     first: &mut First,
 ) -> Result<(), AllocError>
     ensures { (w : offences.Whole) (more : List Word) → IsWhole whole.now w →
-        ((word : Word) → holds labels.now word ≡ grammar.is_among (offences.words_of (label_list (lines_of function.now.body.items)) ++ more) word) →
-        OnOk result (told first.new ≡ first_behind (told first.old)
+        ((word : Word) → holds labels.now word
+        ≡ grammar.is_among (offences.words_of (label_list (lines_of function.now.body.items)) ++ more) word) →
+        OnOk result (Tells first.old first.new
         (lines_offences (offences.scene_of w more (function_of function.now)) 0 (lines_of function.now.body.items))) }
 {
     let locals = locals_of(alloc, function)?;
@@ -243,7 +247,7 @@ fn check_statements<'a>(
     Ok(())
 }
 
-/// Tells what offends in a function. With `is_last`, labels may stand behind what has been read.
+// Tells what offends in a function. With `is_last`, labels may stand after what has been read.
 fn check_function<'a>(
     alloc: Global,
     whole: &Whole<'a>,
@@ -254,7 +258,7 @@ fn check_function<'a>(
 ) -> Result<(), AllocError>
     requires few { length rest.now ≤ 67108864 }
     ensures { (w : offences.Whole) → IsWhole whole.now w →
-        OnOk result (told first.new ≡ first_behind (told first.old)
+        OnOk result (Tells first.old first.new
         (offences.function_offences w (labels_if is_last (pieces_of rest.now)) (function_of function.now))) }
 {
     tell_variables(alloc, &whole.words, function, first)?;
@@ -267,7 +271,7 @@ fn check_function<'a>(
     Ok(())
 }
 
-/// Tells what offends in functions.
+// Tells what offends in functions.
 fn check_functions<'a>(
     alloc: Global,
     whole: &Whole<'a>,
@@ -277,7 +281,7 @@ fn check_functions<'a>(
 ) -> Result<(), AllocError>
     requires few { length rest.now ≤ 67108864 }
     ensures { (w : offences.Whole) → IsWhole whole.now w → w.labels ≡ known.labels_before_head (pieces_of rest.now) →
-        OnOk result (told first.new ≡ first_behind (told first.old) (offences.functions_offences w (map function_of functions.now))) }
+        OnOk result (Tells first.old first.new (offences.functions_offences w (map function_of functions.now))) }
 {
     for i in 0..functions.len() {
         let is_last = i + 1 == functions.len();
@@ -298,8 +302,10 @@ pub fn first_offence(
     rest: &[Piece],
 ) -> Result<Option<Offence>, AllocError>
     requires few { length rest.now ≤ 67108864 }
-    ensures { IfOk result (λ o. option_map offence_of o
-        ≡ first_of (offences.stop_offences (option_map offence_of stop) ++ offences.text_offences (text_of text.now) (pieces_of rest.now))) }
+    ensures { IfOk result
+        (λ o. option_map offence_of o
+        ≡ first_of (offences.stop_offences (option_map offence_of stop)
+        ++ offences.text_offences (text_of text.now) (pieces_of rest.now))) }
 {
     let heads = heads_in(alloc, rest)?;
     let whole = known_of(alloc, text, &heads)?;

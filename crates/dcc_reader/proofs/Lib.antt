@@ -4,3 +4,6 @@ pub mod ReaderLaws
 pub mod RowLaws
 pub mod SeenLaws
 pub mod VariableLaws
+pub mod LeftLaws
+pub mod SetLaws
+pub mod UnreadLaws

@@ -3,3 +3,7 @@ pub mod Behind
 pub mod OffenceViews
 pub mod PartialViews
 pub mod ReaderViews
+pub mod Told
+pub mod WordViews
+pub mod Heads
+pub mod KindWords

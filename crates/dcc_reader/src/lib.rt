@@ -3,14 +3,19 @@
 #![tactic(auto)]
 
 pub mod declaration;
+pub mod first;
 pub mod head;
+pub mod labels;
 pub mod list;
 pub mod offence;
 pub mod partial;
 pub mod pragma;
 pub mod reader;
 pub mod token;
+pub mod unread;
+pub mod words;
 
+pub use first::First;
 pub use head::head_at;
 pub use offence::{Offence, ParseKind};
 pub use partial::{

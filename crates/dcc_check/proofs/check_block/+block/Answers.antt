@@ -5,9 +5,10 @@ use Rattle.dcc_c.specs.Offences.{own_offences, lines_offences, inner_offences, a
 use Rattle.dcc_c.proofs.refusals.FirstRules.{first-append}
 use Rattle.dcc_reader.specs.PartialViews.{stmt_of, lines_of, arms_of}
 use Rattle.dcc_reader.proofs.RowLaws.{arm-parts, if-tree, while-tree, do_while-tree, forever-tree, switch-tree}
-use Rattle.dcc_check.specs.Views.{told}
+use Rattle.dcc_reader.specs.Told.{told}
 use Rattle.dcc_check.proofs.TellLaws.{step-told, then-told}
-use Rattle.dcc_check.proofs.ListLaws.{next-left, room-out}
+use Rattle.dcc_reader.proofs.LeftLaws.{next-left}
+use Rattle.dcc_check.proofs.ListLaws.{room-out}
 use Rattle.dcc_check.proofs.check_block.+block.Goals as goal
 
 pub check_lines-loop-row-preserved : goal.check_lines-loop-row-preserved

@@ -2,7 +2,7 @@ use Rattle.std.proofs.Common.{◌≡◌, ℕ, ◌-◌, drop}
 use Rattle.dcc_c.specs.Kinds.{first_behind}
 use Rattle.dcc_c.specs.Offences.{Scene, lines_offences, arms_inner}
 use Rattle.dcc_reader.specs.PartialViews.{lines_of, arms_of}
-use Rattle.dcc_check.specs.Views.{told}
+use Rattle.dcc_reader.specs.Told.{told}
 use Rattle.dcc_check.specs.Scenes.{IsScene}
 use Rattle.dcc_check.proofs.check_block.+block.Given as goal
 

@@ -6,9 +6,10 @@ use Rattle.dcc_c.specs.declared.syntax.CType.{CType}
 use Rattle.dcc_c.specs.Kinds.{first_behind}
 use Rattle.dcc_c.specs.Offences.{becomes, arguments_become}
 use Rattle.dcc_reader.specs.PartialViews.{expr_of}
-use Rattle.dcc_check.specs.Views.{told}
+use Rattle.dcc_reader.specs.Told.{told}
 use Rattle.dcc_check.proofs.TellLaws.{step-told}
-use Rattle.dcc_check.proofs.ListLaws.{next-left, become-more, become-empty, more-left}
+use Rattle.dcc_reader.proofs.LeftLaws.{next-left}
+use Rattle.dcc_check.proofs.ListLaws.{become-more, become-empty, more-left}
 use Rattle.dcc_check.proofs.check_call.check_arguments_become.Goals as goal
 
 pub loop-i-preserved : goal.loop-i-preserved

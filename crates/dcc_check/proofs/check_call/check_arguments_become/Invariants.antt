@@ -2,7 +2,7 @@ use Rattle.std.proofs.Common.{◌≡◌, map, drop}
 use Rattle.dcc_c.specs.Kinds.{first_behind}
 use Rattle.dcc_c.specs.Offences.{Scene, arguments_become}
 use Rattle.dcc_reader.specs.PartialViews.{expr_of}
-use Rattle.dcc_check.specs.Views.{told}
+use Rattle.dcc_reader.specs.Told.{told}
 use Rattle.dcc_check.specs.Scenes.{IsScene}
 use Rattle.dcc_check.proofs.check_call.check_arguments_become.Given as goal
 

@@ -3,7 +3,7 @@ use Rattle.std.specs.Prelude.{option_map}
 use Rattle.dcc_c.specs.Kinds.{first_behind}
 use Rattle.dcc_c.specs.Offences.{place_if, arguments_inner, callee_offences}
 use Rattle.dcc_reader.specs.PartialViews.{expr_of, call_of}
-use Rattle.dcc_check.specs.Views.{told}
+use Rattle.dcc_reader.specs.Told.{told}
 use Rattle.dcc_check.proofs.TellLaws.{then-told}
 use Rattle.dcc_check.proofs.check_call.check_call.Goals as goal
 

@@ -2,7 +2,7 @@ use Rattle.std.proofs.Common.{◌++◌, map, ap, ◌∙◌}
 use Rattle.dcc_c.specs.Kinds.{of_type, offence, only_if, first_behind}
 use Rattle.dcc_c.specs.Offences.{result_offences, count_offends, arguments_become}
 use Rattle.dcc_reader.specs.PartialViews.{expr_of, word_of, call_of}
-use Rattle.dcc_check.specs.Views.{told}
+use Rattle.dcc_reader.specs.Told.{told}
 use Rattle.dcc_check.proofs.TellLaws.{then-told}
 use Rattle.dcc_check.proofs.check_call.check_signature.Goals as goal
 

@@ -6,7 +6,7 @@ use Rattle.dcc_c.specs.Offences.{expr_offences, told_type, unary_offences, binar
 use Rattle.dcc_c.specs.Partial.{BinaryOf, ConditionalOf, place_of}
 use Rattle.dcc_c.specs.Typing as typing
 use Rattle.dcc_reader.specs.PartialViews.{expr_of}
-use Rattle.dcc_check.specs.Views.{told}
+use Rattle.dcc_reader.specs.Told.{told}
 use Rattle.dcc_check.specs.Operands.{operand}
 use Rattle.dcc_check.proofs.TellLaws.{then-told, no-image, operator-told, address-told}
 use Rattle.dcc_check.proofs.check_expression.+expression.Goals as goal
@@ -51,7 +51,11 @@ check_expr-returns-in-Conditional-clause-operand t c = λ s is.
     ap (λ ty. record { ty = ty; at = a.result.at }) c.both_arms_type.ensures
     ∙ ap (λ o. record { ty = typing.both_arms_type b.result.ty c'.result.ty; at = o.at }) (a.ensures.operand s is)
     ∙ ap (λ o. record { ty = typing.both_arms_type o.ty c'.result.ty; at = (operand s (expr_of c.deref-in-Conditional.result.now)).at }) (b.ensures.operand s is)
-    ∙ ap (λ o. record { ty = typing.both_arms_type (told_type s.names (expr_of c.deref-in-Conditional-2.result.now)) o.ty; at = (operand s (expr_of c.deref-in-Conditional.result.now)).at }) (c'.ensures.operand s is)
+    ∙ ap (λ o. record {
+      ty = typing.both_arms_type (told_type s.names (expr_of c.deref-in-Conditional-2.result.now)) o.ty;
+      at =
+          (operand s (expr_of c.deref-in-Conditional.result.now)).at;
+    }) (c'.ensures.operand s is)
     ∙ ap (operand s) tree
 
 pub check_expr-returns-in-Conditional-clause-told :
@@ -86,5 +90,6 @@ check_operator-returns-clause-told t c = λ s is.
     let a = c.check_expr-a.ensures in
     let e = expr_of c.args.a.now in
     let other : c.args.operator ≡ AddressOf → ⊥ = search rules in
-    then-told (told c.args.first.now) (told c.check_expr-a.new.first) (told c.check_unary.new.first) (expr_offences s e) (unary_offences s c.args.operator e) (a.told s is) (c.check_unary.ensures s e (a.operand s is))
+    then-told (told c.args.first.now) (told c.check_expr-a.new.first) (told c.check_unary.new.first) (expr_offences s e)
+    (unary_offences s c.args.operator e) (a.told s is) (c.check_unary.ensures s e (a.operand s is))
     ∙ ap (first_behind (told c.args.first.now)) (sym (operator-told s c.args.at c.args.operator (expr_of c.args.a.now) other))

@@ -1,6 +1,6 @@
 use Rattle.std.proofs.Common.{sym, ap, ◌∙◌}
 use Rattle.dcc_c.specs.Kinds.{first_behind}
-use Rattle.dcc_check.specs.Views.{told}
+use Rattle.dcc_reader.specs.Told.{told}
 use Rattle.dcc_check.proofs.TellLaws.{place-other}
 use Rattle.dcc_check.proofs.check_expression.check_place.Goals as goal
 

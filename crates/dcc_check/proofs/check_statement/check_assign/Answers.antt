@@ -4,7 +4,7 @@ use Rattle.dcc_c.specs.Kinds.{first_behind}
 use Rattle.dcc_c.specs.Partial.{is_name_here}
 use Rattle.dcc_c.specs.Offences.{expr_offences, place_offences, assigned_offences, becomes, told_place}
 use Rattle.dcc_reader.specs.PartialViews.{expr_of}
-use Rattle.dcc_check.specs.Views.{told}
+use Rattle.dcc_reader.specs.Told.{told}
 use Rattle.dcc_check.proofs.TellLaws.{then-told, then-if_not, not-alone, alone-not}
 use Rattle.dcc_check.proofs.check_statement.check_assign.Goals as goal
 use Rattle.dcc_check.proofs.check_statement.check_assign.Goals.{then-done-via-then-done, then-done-via-else-done+then-not-is_name}

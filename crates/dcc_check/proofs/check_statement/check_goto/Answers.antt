@@ -4,7 +4,7 @@ use Rattle.dcc_c.specs.Kinds.{of_name, offence, only_if, first_behind}
 use Rattle.dcc_c.specs.Grammar.{is_among}
 use Rattle.dcc_c.specs.Offences.{goto_offences}
 use Rattle.dcc_reader.specs.PartialViews.{word_of}
-use Rattle.dcc_check.specs.Views.{told}
+use Rattle.dcc_reader.specs.Told.{told}
 use Rattle.dcc_check.proofs.check_statement.check_goto.Goals as goal
 
 pub returns-in-Some : goal.returns-in-Some

@@ -3,7 +3,7 @@ use Rattle.dcc_c.specs.Tree.{Word}
 use Rattle.dcc_c.specs.Grammar.{is_among}
 use Rattle.dcc_c.specs.TextOffences.{words_of}
 use Rattle.dcc_check.specs.Names.{lent_names}
-use Rattle.dcc_check.specs.Scenes.{holds}
+use Rattle.dcc_reader.specs.WordViews.{holds}
 use Rattle.dcc_check.proofs.names.add_words.Given as goal
 
 -- with the words that are left, all are there

@@ -4,7 +4,7 @@ use Rattle.dcc_c.specs.Grammar.{is_among}
 use Rattle.dcc_c.specs.Kinds.{first_behind}
 use Rattle.dcc_c.specs.Offences.{repeated}
 use Rattle.dcc_check.specs.Names.{lent_names}
-use Rattle.dcc_check.specs.Views.{told}
+use Rattle.dcc_reader.specs.Told.{told}
 use Rattle.dcc_check.proofs.NameLaws.{known-step, told-step, none-held}
 use Rattle.dcc_check.proofs.names.tell_repeated.Goals as goal
 

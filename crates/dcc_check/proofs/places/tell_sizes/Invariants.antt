@@ -2,7 +2,7 @@ use Rattle.std.proofs.Common.{◌≡◌, map, drop}
 use Rattle.dcc_c.specs.Kinds.{first_behind}
 use Rattle.dcc_c.specs.TextOffences.{sizes_of}
 use Rattle.dcc_reader.specs.PartialViews.{variable_of}
-use Rattle.dcc_check.specs.Views.{told}
+use Rattle.dcc_reader.specs.Told.{told}
 use Rattle.dcc_check.proofs.places.tell_sizes.Given as goal
 
 -- the sizes that are left tell what all sizes do

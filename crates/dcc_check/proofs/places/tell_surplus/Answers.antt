@@ -2,7 +2,7 @@ use Rattle.std.proofs.Common.{◌<◌, length, drop, map, sym, ap, ◌∙◌, ar
 use Rattle.dcc_c.specs.Kinds.{first_behind}
 use Rattle.dcc_c.specs.TextOffences.{first_number}
 use Rattle.dcc_reader.specs.PartialViews.{number_of}
-use Rattle.dcc_check.specs.Views.{told}
+use Rattle.dcc_reader.specs.Told.{told}
 use Rattle.dcc_check.proofs.PlaceLaws.{surplus-at}
 use Rattle.dcc_check.proofs.places.tell_surplus.Goals as goal
 

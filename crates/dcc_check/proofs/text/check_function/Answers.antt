@@ -7,7 +7,7 @@ use Rattle.dcc_lex.specs.TokenViews.{pieces_of}
 use Rattle.dcc_reader.specs.PartialViews.{function_of, lines_of, variable_of}
 use Rattle.dcc_check.specs.Names.{lent_names}
 use Rattle.dcc_check.specs.Wholes.{labels_if}
-use Rattle.dcc_check.specs.Views.{told}
+use Rattle.dcc_reader.specs.Told.{told}
 use Rattle.dcc_check.proofs.ToldLaws.{told-four}
 use Rattle.dcc_check.proofs.text.check_function.Goals as goal
 

@@ -3,7 +3,7 @@ use Rattle.std.specs.Prelude.{if◌then◌else◌}
 use Rattle.dcc_c.specs.Kinds.{first_behind}
 use Rattle.dcc_c.specs.TextOffences.{function_offences}
 use Rattle.dcc_reader.specs.PartialViews.{function_of}
-use Rattle.dcc_check.specs.Views.{told}
+use Rattle.dcc_reader.specs.Told.{told}
 use Rattle.dcc_check.proofs.ToldLaws.{function-step}
 use Rattle.dcc_check.proofs.text.check_functions.Goals as goal
 

@@ -5,7 +5,7 @@ use Rattle.dcc_c.specs.TextOffences.{Whole, functions_offences}
 use Rattle.dcc_lex.specs.TokenViews.{pieces_of}
 use Rattle.dcc_reader.specs.PartialViews.{function_of}
 use Rattle.dcc_check.specs.Wholes.{IsWhole}
-use Rattle.dcc_check.specs.Views.{told}
+use Rattle.dcc_reader.specs.Told.{told}
 use Rattle.dcc_check.proofs.text.check_functions.Given as goal
 
 -- the functions that are left tell what all functions do

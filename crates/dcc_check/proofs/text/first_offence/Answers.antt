@@ -9,7 +9,7 @@ use Rattle.dcc_c.proofs.refusals.FirstRules.{first-append}
 use Rattle.dcc_lex.specs.TokenViews.{pieces_of}
 use Rattle.dcc_reader.specs.OffenceViews.{offence_of}
 use Rattle.dcc_reader.specs.PartialViews.{function_of, variable_of, text_of}
-use Rattle.dcc_check.specs.Views.{told}
+use Rattle.dcc_reader.specs.Told.{told}
 use Rattle.dcc_check.proofs.ToldLaws.{told-two, told-four, stop-first}
 use Rattle.dcc_check.proofs.text.first_offence.Goals as goal
 
