@@ -76,16 +76,17 @@ int y;
 // The lines after a declaration.
 const GLOBAL_AFTER: &str = "\nvoid start(void)\n{\n}\n";
 
-// The line and the kind of the first offence in a text that is put together from three parts.
+// The line and the kind of the first offence in a part of a text and what stands before and after it, or none.
 fn offence(
     rt: &impl Abort,
     alloc: Global,
-    parts: [&str; 3],
+    before: &str,
+    part: &str,
+    after: &str,
 ) -> Result<(u32, Option<ParseKind>), AllocError> {
-    let mut text = Vec::new(alloc);
-    for part in parts {
-        text.extend_from_slice(part.as_bytes())?;
-    }
+    let mut text = before.as_bytes().to_vec(alloc)?;
+    text.extend_from_slice(part.as_bytes())?;
+    text.extend_from_slice(after.as_bytes())?;
     Ok(match parse(alloc, &text) {
         Ok(_) => (0, FITS),
         Err(ParseFault::At { line, kind }) => (line, Some(kind)),
@@ -106,7 +107,7 @@ fn each_is_answered(
 ) -> Result<(), AllocError> {
     for case in cases {
         let (text, line, kind) = *case;
-        let answer = offence(rt, alloc, [before, text, after])?;
+        let answer = offence(rt, alloc, before, text, after)?;
         assert_eq!(rt; answer, (line, kind), "{text}");
     }
     Ok(())

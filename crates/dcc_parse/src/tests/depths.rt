@@ -78,8 +78,8 @@ fn parts_may_be_nested_up_to_their_limits(rt: HostRuntime) -> Result<(), Fail> {
         let most = usize::from(most);
         for (count, answer) in [(most, (0, FITS)), (most + 1, (line, DEPTH))] {
             let text = nested(alloc, nest, count)?;
-            let parts = [BEFORE, text.as_str(), AFTER];
-            assert_eq!(rt; offence(&rt, alloc, parts)?, answer);
+            let told = offence(&rt, alloc, BEFORE, text.as_str(), AFTER)?;
+            assert_eq!(rt; told, answer);
         }
     }
     Ok(())
