@@ -9,8 +9,8 @@ use Rattle.dcc_c.specs.Run.{Continuation, State, goes_on, on, scope_of, argument
 use Rattle.dcc_value.specs.declared.variable.Binding.{Binding as Bound}
 use Rattle.dcc_value.specs.declared.expression.Resolved.{Resolved}
 use Rattle.dcc_value.specs.declared.expression.Target.{Target as Place}
-use Rattle.dcc_crun.specs.declared.ending.Fault.{Fault}
-use Rattle.dcc_crun.specs.declared.ending.Fault.TheVariants.{Input, Output, Memory}
+use Rattle.dcc_crun.specs.declared.ending.Refusal.{Refusal}
+use Rattle.dcc_crun.specs.declared.ending.Refusal.TheVariants.{Input, Output, Memory}
 use Rattle.dcc_crun.specs.declared.ending.Stop.{Stop}
 use Rattle.dcc_crun.specs.declared.ending.Stop.TheVariants.{Divides as HaltsDividing, Undefined as HaltsUndefined, Refused}
 use Rattle.dcc_prepare.specs.declared.program.Dos.TheVariants.{Getche as calls_getche, Getch as calls_getch}
@@ -25,7 +25,7 @@ use Rattle.dcc_crun.specs.Ending.{end_of}
 use Rattle.dcc_value.specs.Resolved.{Names, target_named}
 use Rattle.dcc_prepare.specs.Points.{locals_declared, StandAll, IsCall, Acts}
 use Rattle.dcc_prepare.specs.Programs.{IsProcedure, HasProcedure}
-use Rattle.dcc_crun.specs.Doing.{Operation, names_at, IsKept, IsStood, IsEnded, Does, Halts, Refuses, ComesTo, Kept, Stood, TakesKey, CallsDos, CallsAny, Performs, Steps}
+use Rattle.dcc_crun.specs.Doing.{Operation, names_at, IsKept, IsStood, IsEnded, Does, Halts, Refuses, ComesTo, Kept, Stood, CallsForKey, CallsDos, CallsAny, Performs, Steps}
 use Rattle.dcc_crun.proofs.ActLaws.{running_on}
 use Rattle.dcc_crun.proofs.Scenes.{does_quiet}
 
@@ -58,7 +58,7 @@ halts_from op done other after end left taken left_now taken_now from halts = re
   same_taken = halts.same_taken;
 }
 
-pub refuses_from : (fault : Fault) (op done other after : Operation) (left taken left_now taken_now : Option (List ℕ)) → From op done other after →
+pub refuses_from : (fault : Refusal) (op done other after : Operation) (left taken left_now taken_now : Option (List ℕ)) → From op done other after →
     Refuses fault op left taken left_now taken_now → Refuses fault other left taken left_now taken_now
 refuses_from Input op done other after left taken left_now taken_now from refused = record {
   takes = λ tree points s now byte rest is has.
@@ -99,14 +99,14 @@ some_exprs names [] (r ∷ rs) stand other = absurd stand
 some_exprs names (e ∷ es) rs stand other = (e, es, refl)
 
 pub getche_from : (m now : Moment) (globals : List Bound) (target : Option Place) (arguments : List Resolved) (line : ℕ) → arguments ≡ [] →
-    From (TakesKey m true target line) (Kept now) (CallsDos m globals calls_getche target arguments line) (Kept now)
+    From (CallsForKey m true target line) (Kept now) (CallsDos m globals calls_getche target arguments line) (Kept now)
 getche_from m now globals target arguments line none tree points s after call =
     let empty = no_exprs m (names_at tree s) call.exprs arguments call.stand none in
     let to = option_map (target_named (locals_declared s.frame.function)) target in
     (s, record { state = call.state; lands = call.lands; is = call.is ∙ ap (λ es. on (arguments_of (scope_of tree s) [] es) line s (λ vs. dos_step Getche to vs line s)) empty }, refl, refl, λ done. done)
 
 pub getch_from : (m now : Moment) (globals : List Bound) (target : Option Place) (arguments : List Resolved) (line : ℕ) → arguments ≡ [] →
-    From (TakesKey m false target line) (Kept now) (CallsDos m globals calls_getch target arguments line) (Kept now)
+    From (CallsForKey m false target line) (Kept now) (CallsDos m globals calls_getch target arguments line) (Kept now)
 getch_from m now globals target arguments line none tree points s after call =
     let empty = no_exprs m (names_at tree s) call.exprs arguments call.stand none in
     let to = option_map (target_named (locals_declared s.frame.function)) target in

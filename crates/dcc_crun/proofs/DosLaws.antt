@@ -22,8 +22,9 @@ use Rattle.dcc_value.specs.Evaluation.{nothing_of, outcome_of}
 use Rattle.dcc_value.specs.Resolved.{Names, Scene, Fits, scope_over, target_named}
 use Rattle.dcc_prepare.specs.Points.{locals_declared, StandAll, dos_call}
 use Rattle.dcc_crun.specs.Standing.{IsTargetIf, IsRunning}
-use Rattle.dcc_crun.specs.Stepped.{told_bytes}
-use Rattle.dcc_crun.specs.Doing.{scene_in, names_at, IsEnded, end_at, single, Kept, TakesKey, CallsDos, Does, CannotRead, CannotWrite}
+use Rattle.dcc_console.specs.Key.{echoed, TakesKey, next_byte, no_byte, IsUntaken, IsCutKey}
+use Rattle.dcc_console.specs.Scene.{told_bytes}
+use Rattle.dcc_crun.specs.Doing.{scene_in, names_at, IsEnded, end_at, single, Kept, CallsForKey, CallsDos, Does, CannotRead, CannotWrite}
 use Rattle.dcc_crun.proofs.MomentLaws.{fits_here, scope_here, ended, goes_further, takes-quiet, takes-rest}
 
 -- The argument of a call.
@@ -114,17 +115,31 @@ result-rest : (target : Option Target) (v : Value) (line : ℕ) (s : State) → 
 result-rest None v line s = refl
 result-rest (Some t) v line s = takes-rest t v s
 
--- a key was asked for at the end of the input
-pub key_ended : (m now : Moment) (echo : Bool) (target : Option Place) (line : ℕ) (left left_now taken : Option (List ℕ)) →
-    left ≡ prepend_told [] left_now → told_bytes left_now ≡ [] →
+-- a key was taken, and written where it is echoed
+pub key_made : (m now : Moment) (echo : Bool) (target : Option Place) (line key : ℕ) (left taken left_now taken_now : Option (List ℕ)) →
+    TakesKey echo left taken left_now taken_now key →
     ((tree : Tree) (points : ℕ → List Continuation) (s : State) → IsRunning tree points m s → IsTargetIf (locals_declared s.frame.function) target →
-    IsRunning tree points now (result_step (option_map (target_named (locals_declared s.frame.function)) target) (Some (number Uchar 0x1A)) line s)) →
-    Does (TakesKey m echo target line) (Kept now) left taken left_now taken
-key_ended m now echo target line left left_now taken took none made = record {
+    IsRunning tree points now (result_step (option_map (target_named (locals_declared s.frame.function)) target) (Some (number Uchar key)) line s)) →
+    Does (CallsForKey m echo target line) (Kept now) left taken left_now taken_now
+key_made m now echo target line key left taken left_now taken_now (next_byte took wrote) made = record {
+  given = key ∷ [];
+  written = echoed echo key;
+  took = took;
+  wrote = wrote;
+  made = λ tree points s after call has.
+      let to = option_map (target_named (locals_declared s.frame.function)) target in
+      let t : State = record s { input = told_bytes left_now; out = s.out ++ echoed echo key } in
+      let step : State = result_step to (Some (number Uchar key)) line t in
+      let is : after ≡ step = call.is ∙ ap (λ l. key_step echo l to line s) has in
+      let there : IsRunning tree points m t = record { call = call.state.call; waiting = call.state.waiting; fill = call.state.fill; memory = call.state.memory; end = call.state.end } in
+      subst (λ (u : State). (IsRunning tree points now u × (u.rest ≡ s.rest)) × (u.input ≡ told_bytes left_now) × (u.out ≡ s.out ++ echoed echo key)) (sym is)
+      ((made tree points t there call.lands, result-rest to (number Uchar key) line t), result-input to (number Uchar key) line t, result-out to (number Uchar key) line t);
+}
+key_made m now echo target line key left taken left_now taken_now (no_byte took none same) made = record {
   given = [];
   written = [];
   took = took;
-  wrote = sym (append_told-nil taken);
+  wrote = same ∙ sym (append_told-nil taken);
   made = λ tree points s after call has.
       let to = option_map (target_named (locals_declared s.frame.function)) target in
       let step : State = result_step to (Some (number Uchar 0x1A)) line s in
@@ -133,52 +148,31 @@ key_ended m now echo target line left left_now taken took none made = record {
       ((made tree points s call.state call.lands, result-rest to (number Uchar 0x1A) line s), result-input to (number Uchar 0x1A) line s ∙ has, result-out to (number Uchar 0x1A) line s ∙ sym (append-nil s.out));
 }
 
--- a key was taken, and written where it is echoed
-pub key_made : (m now : Moment) (echo : Bool) (target : Option Place) (line byte : ℕ) (left left_now taken taken_now : Option (List ℕ)) →
-    left ≡ prepend_told (byte ∷ []) left_now → taken_now ≡ append_told taken (if echo then byte ∷ [] else []) →
-    ((tree : Tree) (points : ℕ → List Continuation) (s : State) → IsRunning tree points m s → IsTargetIf (locals_declared s.frame.function) target →
-    IsRunning tree points now (result_step (option_map (target_named (locals_declared s.frame.function)) target) (Some (number Uchar byte)) line s)) →
-    Does (TakesKey m echo target line) (Kept now) left taken left_now taken_now
-key_made m now echo target line byte left left_now taken taken_now took wrote made = record {
-  given = byte ∷ [];
-  written = if echo then byte ∷ [] else [];
-  took = took;
-  wrote = wrote;
-  made = λ tree points s after call has.
+-- a key was not taken
+pub key_unread : (m : Moment) (echo : Bool) (target : Option Place) (line : ℕ) (left taken left_now taken_now : Option (List ℕ)) →
+    IsUntaken left taken left_now taken_now → CannotRead (CallsForKey m echo target line) left taken left_now taken_now
+key_unread m echo target line left taken left_now taken_now untaken = record {
+  takes = λ tree points s now byte rest call has.
       let to = option_map (target_named (locals_declared s.frame.function)) target in
-      let t : State = record s { input = told_bytes left_now; out = s.out ++ (if echo then byte ∷ [] else []) } in
-      let step : State = result_step to (Some (number Uchar byte)) line t in
-      let is : after ≡ step = call.is ∙ ap (λ l. key_step echo l to line s) has in
-      let there : IsRunning tree points m t = record { call = call.state.call; waiting = call.state.waiting; fill = call.state.fill; memory = call.state.memory; end = call.state.end } in
-      subst (λ (u : State). (IsRunning tree points now u × (u.rest ≡ s.rest)) × (u.input ≡ told_bytes left_now) × (u.out ≡ s.out ++ (if echo then byte ∷ [] else []))) (sym is)
-      ((made tree points t there call.lands, result-rest to (number Uchar byte) line t), result-input to (number Uchar byte) line t, result-out to (number Uchar byte) line t);
+      let t : State = record s { input = rest; out = s.out ++ echoed echo byte } in
+      ap (λ u. u.input) (call.is ∙ ap (λ l. key_step echo l to line s) has) ∙ result-input to (number Uchar byte) line t;
+  same_left = untaken.same_left;
+  same_taken = untaken.same_taken;
 }
 
 -- a key was taken, and not wholly written
-pub key_unwritten : (m : Moment) (echo : Bool) (target : Option Place) (line byte : ℕ) (left left_now taken taken_now : Option (List ℕ)) →
-    left ≡ prepend_told (byte ∷ []) left_now → AppendsProperPrefix taken taken_now (if echo then byte ∷ [] else []) →
-    CannotWrite (TakesKey m echo target line) left taken left_now taken_now
-key_unwritten m echo target line byte left left_now taken taken_now took part = record {
-  given = byte ∷ [];
-  written = if echo then byte ∷ [] else [];
+pub key_unwritten : (m : Moment) (echo : Bool) (target : Option Place) (line : ℕ) (left taken left_now taken_now : Option (List ℕ)) →
+    IsCutKey echo left taken left_now taken_now → CannotWrite (CallsForKey m echo target line) left taken left_now taken_now
+key_unwritten m echo target line left taken left_now taken_now cut = record {
+  given = cut.byte ∷ [];
+  written = echoed echo cut.byte;
   makes = λ tree points s now rest call has.
       let to = option_map (target_named (locals_declared s.frame.function)) target in
       let is = call.is ∙ ap (λ l. key_step echo l to line s) has in
-      let t : State = record s { input = rest; out = s.out ++ (if echo then byte ∷ [] else []) } in
-      (ap (λ u. u.input) is ∙ result-input to (number Uchar byte) line t, ap (λ u. u.out) is ∙ result-out to (number Uchar byte) line t);
-  took = took;
-  part = part;
-}
-
-pub key_unread : (m : Moment) (echo : Bool) (target : Option Place) (line : ℕ) (left taken left_now : Option (List ℕ)) → left_now ≡ left →
-    CannotRead (TakesKey m echo target line) left taken left_now taken
-key_unread m echo target line left taken left_now same = record {
-  takes = λ tree points s now byte rest call has.
-      let to = option_map (target_named (locals_declared s.frame.function)) target in
-      let t : State = record s { input = rest; out = s.out ++ (if echo then byte ∷ [] else []) } in
-      ap (λ u. u.input) (call.is ∙ ap (λ l. key_step echo l to line s) has) ∙ result-input to (number Uchar byte) line t;
-  same_left = same;
-  same_taken = refl;
+      let t : State = record s { input = rest; out = s.out ++ echoed echo cut.byte } in
+      (ap (λ u. u.input) is ∙ result-input to (number Uchar cut.byte) line t, ap (λ u. u.out) is ∙ result-out to (number Uchar cut.byte) line t);
+  took = cut.took;
+  part = cut.part;
 }
 
 -- Bytes.

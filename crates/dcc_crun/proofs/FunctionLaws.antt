@@ -11,7 +11,7 @@ use Rattle.dcc_c.specs.Value.{Value, Outcome, Gives}
 use Rattle.dcc_c.specs.Run.{Continuation, State, on, scope_of, arguments_of, param_types, enter_step}
 use Rattle.dcc_value.specs.declared.value.Value.{Value as Held}
 use Rattle.dcc_value.specs.declared.expression.Target.{Target as Place}
-use Rattle.dcc_crun.specs.declared.ending.Fault.TheVariants.{Input, Output, Memory}
+use Rattle.dcc_crun.specs.declared.ending.Refusal.TheVariants.{Input, Output, Memory}
 use Rattle.dcc_crun.specs.declared.ending.Stop.{Stop}
 use Rattle.dcc_crun.specs.declared.ending.Stop.TheVariants.{Divides as HaltsDividing, Undefined as HaltsUndefined, Refused}
 use Rattle.dcc_prepare.specs.declared.program.Variable.{Variable}

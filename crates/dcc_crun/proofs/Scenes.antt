@@ -1,22 +1,11 @@
 -- What operations read and write.
-use Rattle.std.proofs.Common.{◌≡◌, ℕ, List, [], ◌++◌, take, refl, sym, ap, ◌∙◌}
-use Rattle.std.specs.Prelude.{Option, None, Some}
+use Rattle.std.proofs.Common.{ℕ, List, [], sym, ◌∙◌}
+use Rattle.std.specs.Prelude.{Option}
 use Rattle.std.proofs.lemmas.List.{append-nil}
-use Rattle.dcc_io.specs.Told.{prepend_told, WhenTold}
 use Rattle.dcc_io.proofs.ToldLemmas.{append_told-nil, prepend_told-nil}
 use Rattle.dcc_c.specs.Tree.{Tree}
 use Rattle.dcc_c.specs.Run.{Continuation, State}
-use Rattle.dcc_crun.specs.Stepped.{told_bytes}
 use Rattle.dcc_crun.specs.Doing.{Operation, IsQuiet, Does}
-
--- nothing is left where a read of no bytes said so
-pub end_told : (before after : Option (List ℕ)) (bytes : List ℕ) (count : ℕ) → count ≡ 0
-    → before ≡ prepend_told (take count bytes) after → WhenTold before (λ held. held ≡ []) → told_bytes after ≡ []
-unfolding prepend_told
-end_told before None bytes count none took end = refl
-end_told before (Some rest) bytes count none took end =
-    let whole : before ≡ Some rest = took ∙ ap (λ n. Some (take n bytes ++ rest)) none in
-    end rest whole
 
 -- an operation that reads and writes nothing
 pub does_quiet : (op done : Operation) (left taken : Option (List ℕ)) →

@@ -1,18 +1,21 @@
 -- What a run stands for while steps are made.
-use Rattle.std.proofs.Common.{◌≡◌, ℕ, List, Option, sym, ap, ◌∙◌, subst}
+use Rattle.std.proofs.Common.{◌≡◌, ℕ, List, Option, refl, sym, ap, ◌∙◌, subst}
 use Rattle.std.specs.Prelude.{if◌then◌else◌}
 use Rattle.dcc_run.specs.End.{Running as running, is_over}
 use Rattle.dcc_c.specs.Tree.{Tree}
 use Rattle.dcc_c.specs.Run.{Continuation, State, step, step_at}
-use Rattle.dcc_crun.specs.declared.ending.Fault.{Fault}
-use Rattle.dcc_crun.specs.declared.ending.Fault.TheVariants.{Input, Output, Memory}
+use Rattle.dcc_crun.specs.declared.ending.Refusal.{Refusal}
+use Rattle.dcc_crun.specs.declared.ending.Refusal.TheVariants.{Input, Output, Memory}
 use Rattle.dcc_crun.specs.declared.moment.Moment.{Moment}
 use Rattle.dcc_crun.specs.declared.run.CRun.{CRun}
 use Rattle.dcc_crun.specs.Ending.{end_of, fault_answer_of}
 use Rattle.dcc_crun.specs.Standing.{IsCallOf, AreWaiting, IsMoment, StandsAt}
 use Rattle.dcc_prepare.specs.Points.{Goes}
-use Rattle.dcc_crun.specs.Stepped.{scene, Makes, TellsEnd}
-use Rattle.dcc_crun.specs.Stepped.{Steps as StepsTo}
+use Rattle.dcc_console.specs.Scene.{Scene, scene}
+use Rattle.dcc_console.specs.Steps.{HasEnded, Makes}
+use Rattle.dcc_console.specs.Steps.{Steps as StepsTo}
+use Rattle.dcc_crun.specs.declared.ending.CStepped.{CStepped}
+use Rattle.dcc_crun.specs.Stepped.{texts, outcome_of, end_told}
 use Rattle.dcc_crun.specs.Doing.{Does, Refuses, IsSame, StaysAt, Stood, Steps}
 
 -- the step of a state that a run stands for
@@ -30,7 +33,7 @@ steps_of run tree s stands runs =
 -- a step that was made
 pub step_made : (run : CRun) (now : Moment) (left taken left_now taken_now : Option (List ℕ)) → end_of run.moment.end ≡ running →
     Does (Steps run.program run.moment) (Stood now) left taken left_now taken_now →
-    Makes (scene run left taken) (scene (record { program = run.program; moment = now }) left_now taken_now)
+    Makes texts (scene run left taken) (scene (record { program = run.program; moment = now }) left_now taken_now)
 step_made run now left taken left_now taken_now runs does = record {
   given = does.given;
   written = does.written;
@@ -43,6 +46,22 @@ step_made run now left taken left_now taken_now runs does = record {
         left = one.1;
         out = one.2;
       };
+}
+
+-- a run stands for a state whatever its input
+pub stands_with_input : (tree : Tree) (run : CRun) (s : State) (input : List ℕ) → StandsAt tree run s → StandsAt tree run (record s { input = input })
+stands_with_input tree run s input a = record {
+  points = a.points;
+  program = a.program;
+  moment = record {
+    end = a.moment.end;
+    going = λ runs.
+        let g = a.moment.going runs in
+        record {
+          state = record { call = g.state.call; waiting = g.state.waiting; fill = g.state.fill; memory = g.state.memory; end = g.state.end };
+          rest = g.rest;
+        };
+  };
 }
 
 -- a moment that is the same stands for the same
@@ -64,9 +83,9 @@ same_moment tree points m now s same is = record {
 }
 
 -- a step that was refused
-pub step_refused : (fault : Fault) (run : CRun) (now : Moment) (left taken left_now taken_now : Option (List ℕ)) → end_of run.moment.end ≡ running →
+pub step_refused : (fault : Refusal) (run : CRun) (now : Moment) (left taken left_now taken_now : Option (List ℕ)) → end_of run.moment.end ≡ running →
     Refuses fault (Steps run.program run.moment) left taken left_now taken_now → StaysAt fault run.moment now →
-    StepsTo (fault_answer_of fault) (scene run left taken) (scene (record { program = run.program; moment = now }) left_now taken_now)
+    StepsTo texts (outcome_of (fault_answer_of fault)) (scene run left taken) (scene (record { program = run.program; moment = now }) left_now taken_now)
 step_refused Input run now left taken left_now taken_now runs refused stays = record {
   takes = λ tree s byte rest stands has. refused.takes tree stands.points s (step tree s) byte rest (steps_of run tree s stands runs) has;
   unchanged =
@@ -89,8 +108,24 @@ step_refused Memory run now left taken left_now taken_now runs refused stays = r
   same_taken = refused.same_taken;
 }
 
--- the end of a moment after a fault
-pub refused_end : (fault : Fault) (before now : Moment) → StaysAt fault before now → end_of before.end ≡ running → TellsEnd (fault_answer_of fault) (end_of now.end)
-refused_end Input before now stays runs = ap (λ (m : Moment). end_of m.end) stays ∙ runs
-refused_end Output before now stays runs = ap (λ (m : Moment). end_of m.end) stays ∙ runs
-refused_end Memory before now stays runs = ap end_of stays.end ∙ runs
+-- what is answered to it
+pub refused : (fault : Refusal) (answer : CStepped) (before now : Scene CRun) → answer ≡ fault_answer_of fault →
+    StepsTo texts (outcome_of (fault_answer_of fault)) before now → StepsTo texts (outcome_of answer) before now
+refused fault answer before now is was_refused =
+    subst (λ a. StepsTo texts (outcome_of a) before now) (sym is) was_refused
+
+refused_end : (fault : Refusal) → end_told (fault_answer_of fault) ≡ running
+refused_end Input = refl
+refused_end Output = refl
+refused_end Memory = refl
+
+same_end : (fault : Refusal) (before now : Moment) → StaysAt fault before now → now.end ≡ before.end
+same_end Input before now stays = ap (λ (m : Moment). m.end) stays
+same_end Output before now stays = ap (λ (m : Moment). m.end) stays
+same_end Memory before now stays = stays.end
+
+-- the end of a run after a fault
+pub refused_ends : (fault : Refusal) (answer : CStepped) (run now : CRun) → answer ≡ fault_answer_of fault → StaysAt fault run.moment now.moment →
+    end_of run.moment.end ≡ running → HasEnded texts now (end_told answer)
+refused_ends fault answer run now is stays runs tree s stands =
+    sym stands.moment.end ∙ ap end_of (same_end fault run.moment now.moment stays) ∙ runs ∙ sym (ap end_told is ∙ refused_end fault)

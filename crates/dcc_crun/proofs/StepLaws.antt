@@ -18,7 +18,7 @@ use Rattle.dcc_crun.specs.declared.moment.Moment.{Moment}
 use Rattle.dcc_value.specs.Evaluation.{nothing_of}
 use Rattle.dcc_value.specs.Resolved.{Stands, evaluated, targeted, target_named, IsTargetIn, LandsIn}
 use Rattle.dcc_prepare.specs.Points.{locals_declared, Goes, StandsIf}
-use Rattle.dcc_crun.specs.declared.ending.Fault.{Fault}
+use Rattle.dcc_crun.specs.declared.ending.Refusal.{Refusal}
 use Rattle.dcc_crun.specs.declared.ending.Stop.{Stop}
 use Rattle.dcc_crun.specs.declared.ending.Stop.TheVariants.{Refused}
 use Rattle.dcc_crun.specs.Ending.{end_of, stop_of}
@@ -181,7 +181,7 @@ comes_err line (Err y) op done left taken why is ends =
 
 -- What gives nothing is not refused.
 
-pub not_refused : (r : Result (Unit {0}) Stop) (why : NoValue) (fault : Fault) → IsErrAnd r (λ y. y ≡ stop_of why) → IsErrOf r (Refused fault) → ⊥
+pub not_refused : (r : Result (Unit {0}) Stop) (why : NoValue) (fault : Refusal) → IsErrAnd r (λ y. y ≡ stop_of why) → IsErrOf r (Refused fault) → ⊥
 not_refused (Ok a) why fault is refused = absurd is
 not_refused (Err y) Faults fault is refused = cc
 not_refused (Err y) Meaningless fault is refused = cc

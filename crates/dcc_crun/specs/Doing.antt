@@ -14,8 +14,8 @@ use Rattle.dcc_value.specs.declared.value.NoValue.{NoValue}
 use Rattle.dcc_value.specs.declared.value.NoValue.TheVariants.{Divides as Faults, Undefined as Meaningless}
 use Rattle.dcc_value.specs.declared.variable.Binding.{Binding as Bound}
 use Rattle.dcc_value.specs.declared.expression.Resolved.{Resolved}
-use Rattle.dcc_crun.specs.declared.ending.Fault.{Fault}
-use Rattle.dcc_crun.specs.declared.ending.Fault.TheVariants.{Input, Output, Memory}
+use Rattle.dcc_crun.specs.declared.ending.Refusal.{Refusal}
+use Rattle.dcc_crun.specs.declared.ending.Refusal.TheVariants.{Input, Output, Memory}
 use Rattle.dcc_crun.specs.declared.ending.Stop.{Stop}
 use Rattle.dcc_crun.specs.declared.ending.Stop.TheVariants.{Divides as HaltsDividing, Undefined as HaltsUndefined, Refused}
 use Rattle.dcc_value.specs.declared.expression.Target.{Target as Place}
@@ -31,7 +31,7 @@ use Rattle.dcc_value.specs.Resolved.{Names, Scene, evaluated, target_named}
 use Rattle.dcc_prepare.specs.Points.{names_in, locals_declared, Goes, Acts, StandsIf, StandAll, IsCallee, dos_call}
 use Rattle.dcc_prepare.specs.Programs.{IsProgram, IsProcedure}
 use Rattle.dcc_crun.specs.Standing.{IsTargetIf, IsRunning, IsGoing, IsMoment}
-use Rattle.dcc_crun.specs.Stepped.{told_bytes}
+use Rattle.dcc_console.specs.Scene.{told_bytes}
 
 -- what the expressions of the call are evaluated over
 abbrev pub scene_in : Moment → List Bound → Scene
@@ -71,7 +71,8 @@ pub record IsEnded (s now : State) (end : End) : Type 0 where
   pub is : now.end ≡ end
   pub quiet : IsQuiet s now
 
-abbrev pub Keeps : {A : Type 0} → Tree → (ℕ → List Continuation) → ℕ → Result A NoValue → Moment → State → State → Type 0
+abbrev pub Keeps : {A : Type 0} → Tree → (ℕ → List Continuation) → ℕ → Result A NoValue → Moment → State → State
+    → Type 0
 Keeps tree points line (Ok _) m s now = IsKept tree points m s now
 Keeps tree points line (Err why) m s now = IsEnded s now (end_at line why)
 
@@ -84,7 +85,8 @@ pub record IsStood (tree : Tree) (points : ℕ → List Continuation) (m : Momen
   pub stood : IsMoment tree points m now
   pub quiet : IsQuiet s now
 
-abbrev pub Stays : {A : Type 0} → Tree → (ℕ → List Continuation) → ℕ → Result A NoValue → Moment → State → State → Type 0
+abbrev pub Stays : {A : Type 0} → Tree → (ℕ → List Continuation) → ℕ → Result A NoValue → Moment → State → State
+    → Type 0
 Stays tree points line (Ok _) m s now = IsStood tree points m s now
 Stays tree points line (Err why) m s now = IsEnded s now (end_at line why)
 
@@ -101,7 +103,8 @@ single v = typed v ∷ []
 abbrev pub resolved_arguments : Scene → List CType → List Resolved → Outcome (List Value)
 resolved_arguments scene [] [] = Gives []
 resolved_arguments scene (type ∷ types) (e ∷ es) =
-    and_then (λ v. and_then (λ vs. Gives (converted type v ∷ vs)) (resolved_arguments scene types es)) (evaluated scene e)
+    and_then (λ v. and_then (λ vs. Gives (converted type v ∷ vs)) (resolved_arguments scene types es))
+    (evaluated scene e)
 resolved_arguments scene (type ∷ types) [] = Undefined
 resolved_arguments scene [] (e ∷ es) = Undefined
 
@@ -118,8 +121,8 @@ ArgumentsAre (Err (Refused fault)) o = fault ≡ Memory
 abbrev pub Operation : Type 1
 Operation = Tree → (ℕ → List Continuation) → State → State → Type 0
 
--- The operation was made. The input gave some bytes and the output took some; and with just these bytes to read the state
--- that the operation leads to is one of these, and has put out just these bytes more.
+-- The operation was made. The input gave some bytes and the output took some; and with just these bytes to read the
+-- state that the operation leads to is one of these, and has put out just these bytes more.
 pub record Does (op done : Operation) (left taken left_now taken_now : Option (List ℕ)) : Type 0 where
   pub given : List ℕ
   pub written : List ℕ
@@ -136,7 +139,8 @@ pub record CannotRead (op : Operation) (left taken left_now taken_now : Option (
   pub same_left : left_now ≡ left
   pub same_taken : taken_now ≡ taken
 
--- a write failed: the input gave what the operation takes, and the output took a part of what it writes, and not all of it
+-- a write failed: the input gave what the operation takes, and the output took a part of what it writes, and not all of
+-- it
 pub record CannotWrite (op : Operation) (left taken left_now taken_now : Option (List ℕ)) : Type 0 where
   pub given : List ℕ
   pub written : List ℕ
@@ -156,17 +160,21 @@ pub record Halts (op : Operation) (end : End) (left taken left_now taken_now : O
   pub same_left : left_now ≡ left
   pub same_taken : taken_now ≡ taken
 
-abbrev pub Refuses : Fault → Operation → Option (List ℕ) → Option (List ℕ) → Option (List ℕ) → Option (List ℕ) → Type 0
+abbrev pub Refuses : Refusal → Operation → Option (List ℕ) → Option (List ℕ) → Option (List ℕ) → Option (List ℕ)
+    → Type 0
 Refuses Input op left taken left_now taken_now = CannotRead op left taken left_now taken_now
 Refuses Output op left taken left_now taken_now = CannotWrite op left taken left_now taken_now
 Refuses Memory op left taken left_now taken_now = CannotGrow left taken left_now taken_now
 
 -- what an operation comes to, in this line, with what it leaves
-abbrev pub ComesTo : {A : Type 0} → ℕ → Result A Stop → Operation → Operation → Option (List ℕ) → Option (List ℕ) → Option (List ℕ) → Option (List ℕ) → Type 0
+abbrev pub ComesTo : {A : Type 0} → ℕ → Result A Stop → Operation → Operation → Option (List ℕ) → Option (List ℕ)
+    → Option (List ℕ) → Option (List ℕ) → Type 0
 ComesTo line (Ok _) op done left taken left_now taken_now = Does op done left taken left_now taken_now
 ComesTo line (Err HaltsDividing) op done left taken left_now taken_now = Halts op divided left taken left_now taken_now
-ComesTo line (Err HaltsUndefined) op done left taken left_now taken_now = Halts op (stuck line) left taken left_now taken_now
-ComesTo line (Err (Refused fault)) op done left taken left_now taken_now = Refuses fault op left taken left_now taken_now
+ComesTo line (Err HaltsUndefined) op done left taken left_now taken_now =
+    Halts op (stuck line) left taken left_now taken_now
+ComesTo line (Err (Refused fault)) op done left taken left_now taken_now =
+    Refuses fault op left taken left_now taken_now
 
 -- nothing has changed but where a list stands in the interpreter's own memory
 pub record IsSame (before now : Moment) : Type 0 where
@@ -177,7 +185,7 @@ pub record IsSame (before now : Moment) : Type 0 where
   pub end : now.end ≡ before.end
 
 -- where something is refused nothing of the moment has changed
-abbrev pub StaysAt : Fault → Moment → Moment → Type 0
+abbrev pub StaysAt : Refusal → Moment → Moment → Type 0
 StaysAt Input before now = now ≡ before
 StaysAt Output before now = now ≡ before
 StaysAt Memory before now = IsSame before now
@@ -199,7 +207,8 @@ abbrev pub Stood : Moment → Operation
 Stood m = λ tree points s now. IsMoment tree points m now
 
 -- the step of the text, from what a moment stands for
-pub record Steps (program : Program) (m : Moment) (tree : Tree) (points : ℕ → List Continuation) (s now : State) : Type 0 where
+pub record Steps (program : Program) (m : Moment)
+    (tree : Tree) (points : ℕ → List Continuation) (s now : State) : Type 0 where
   pub program_is : IsProgram tree points program
   pub state : IsGoing tree points m s
   pub running : s.end ≡ running
@@ -217,14 +226,15 @@ pub record Performs (program : Program) (procedure : Procedure) (line : ℕ) (ac
   pub is : now ≡ step_at tree own s
 
 -- a call of a DOS function that takes a key
-pub record TakesKey (m : Moment) (echo : Bool) (target : Option Place) (line : ℕ)
+pub record CallsForKey (m : Moment) (echo : Bool) (target : Option Place) (line : ℕ)
     (tree : Tree) (points : ℕ → List Continuation) (s now : State) : Type 0 where
   pub state : IsRunning tree points m s
   pub lands : IsTargetIf (locals_declared s.frame.function) target
   pub is : now ≡ key_step echo s.input (option_map (target_named (locals_declared s.frame.function)) target) line s
 
 -- a call of a DOS function
-pub record CallsDos (m : Moment) (globals : List Bound) (dos : DosCall) (target : Option Place) (arguments : List Resolved) (line : ℕ)
+pub record CallsDos (m : Moment) (globals : List Bound) (dos : DosCall) (target : Option Place)
+    (arguments : List Resolved) (line : ℕ)
     (tree : Tree) (points : ℕ → List Continuation) (s now : State) : Type 0 where
   pub globals_are : AreGlobals tree globals
   pub state : IsRunning tree points m s
@@ -235,7 +245,8 @@ pub record CallsDos (m : Moment) (globals : List Bound) (dos : DosCall) (target 
       (λ vs. dos_step (dos_call dos) (option_map (target_named (locals_declared s.frame.function)) target) vs line s)
 
 -- a call of a function of the text
-pub record CallsFunction (m : Moment) (program : Program) (row : CallRow) (number : ℕ) (target : Option Place) (line : ℕ)
+pub record CallsFunction (m : Moment) (program : Program) (row : CallRow) (number : ℕ) (target : Option Place)
+    (line : ℕ)
     (tree : Tree) (points : ℕ → List Continuation) (s now : State) : Type 0 where
   pub program_is : IsProgram tree points program
   pub state : IsRunning tree points m s

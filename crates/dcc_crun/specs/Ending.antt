@@ -6,8 +6,8 @@ use Rattle.dcc_crun.specs.declared.ending.CStepped.{CStepped}
 use Rattle.dcc_crun.specs.declared.ending.CStepped.TheVariants.{Running as still_running, Exit as exit_answered, Divide as divide_answered, Stuck as stuck_answered, InFault, OutFault, Memory as memory_answered}
 use Rattle.dcc_crun.specs.declared.ending.Ending.{Ending}
 use Rattle.dcc_crun.specs.declared.ending.Ending.TheVariants.{Running, Exit, Divide, Stuck}
-use Rattle.dcc_crun.specs.declared.ending.Fault.{Fault}
-use Rattle.dcc_crun.specs.declared.ending.Fault.TheVariants.{Input, Output, Memory}
+use Rattle.dcc_crun.specs.declared.ending.Refusal.{Refusal}
+use Rattle.dcc_crun.specs.declared.ending.Refusal.TheVariants.{Input, Output, Memory}
 use Rattle.dcc_crun.specs.declared.ending.Stop.{Stop}
 use Rattle.dcc_crun.specs.declared.ending.Stop.TheVariants.{Divides, Undefined}
 
@@ -31,7 +31,7 @@ stop_of Faults = Divides
 stop_of Meaningless = Undefined
 
 -- what a step answers that is refused
-abbrev pub fault_answer_of : Fault → CStepped
+abbrev pub fault_answer_of : Refusal → CStepped
 fault_answer_of Input = InFault
 fault_answer_of Output = OutFault
 fault_answer_of Memory = memory_answered

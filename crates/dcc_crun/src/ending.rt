@@ -40,7 +40,7 @@ pub enum Ending {
 
 /// Why a step is refused.
 #[derive(Clone, Copy, PartialEq, Eq, Debug)]
-pub(crate) enum Fault {
+pub(crate) enum Refusal {
     /// A read failed.
     Input,
     /// A write failed.
@@ -57,7 +57,7 @@ pub(crate) enum Stop {
     /// It has no meaning.
     Undefined,
     /// It is refused.
-    Refused(Fault),
+    Refused(Refusal),
 }
 
 impl From<NoValue> for Stop {
@@ -74,24 +74,24 @@ impl From<NoValue> for Stop {
 }
 
 impl From<AllocError> for Stop {
-    ghost use Rattle.dcc_crun.specs.declared.ending.Fault.TheVariants.{Memory};
+    ghost use Rattle.dcc_crun.specs.declared.ending.Refusal.TheVariants.{Memory};
     ghost use Rattle.dcc_crun.specs.declared.ending.Stop.TheVariants.{Refused};
 
     ghost from_gives = { λ _ stop. stop ≡ Refused Memory };
 
     fn from(_: AllocError) -> Stop {
-        Stop::Refused(Fault::Memory)
+        Stop::Refused(Refusal::Memory)
     }
 }
 
 impl<T: Drop> From<AllocFailed<T>> for Stop {
-    ghost use Rattle.dcc_crun.specs.declared.ending.Fault.TheVariants.{Memory};
+    ghost use Rattle.dcc_crun.specs.declared.ending.Refusal.TheVariants.{Memory};
     ghost use Rattle.dcc_crun.specs.declared.ending.Stop.TheVariants.{Refused};
 
     ghost from_gives = { λ _ stop. stop ≡ Refused Memory };
 
     fn from(_: AllocFailed<T>) -> Stop {
-        Stop::Refused(Fault::Memory)
+        Stop::Refused(Refusal::Memory)
     }
 }
 
@@ -109,15 +109,15 @@ impl Ending {
     }
 }
 
-impl Fault {
+impl Refusal {
     /// What a step answers that is refused.
     pub(crate) fn answer(self) -> CStepped
         ensures { result ≡ fault_answer_of self }
     {
         match self {
-            Fault::Input => CStepped::InFault,
-            Fault::Output => CStepped::OutFault,
-            Fault::Memory => CStepped::Memory,
+            Refusal::Input => CStepped::InFault,
+            Refusal::Output => CStepped::OutFault,
+            Refusal::Memory => CStepped::Memory,
         }
     }
 }

@@ -14,12 +14,13 @@ ghost use Rattle.dcc_value.specs.Resolved.{Names, Fits, Stands, IsTargetIn, scen
 ghost use Rattle.dcc_prepare.specs.Points.{Goes, StandsIf, StandAll, case_point, label_point, locals_declared};
 ghost use Rattle.dcc_prepare.specs.Programs.{IsProgram, IsProcedure};
 ghost use Rattle.dcc_crun.specs.Standing.{IsTargetIf, IsRunning};
-ghost use Rattle.dcc_crun.specs.Doing.{scene_in, names_at, AreGlobals, single, ArgumentsAre, resolved_arguments, IsSame, StaysAt, StepsAside, Keeps, Led, IsLed, Kept, Stood, ComesTo, StaysIfRefused, TakesKey, CallsDos, CallsFunction, CallsAny, IsNoCall, Stays, Performs, Steps, Does, Refuses};
+ghost use Rattle.dcc_crun.specs.Doing.{scene_in, names_at, AreGlobals, single, ArgumentsAre, resolved_arguments, IsSame, StaysAt, StepsAside, Keeps, Led, IsLed, Kept, Stood, ComesTo, StaysIfRefused, CallsForKey, CallsDos, CallsFunction, CallsAny, IsNoCall, Stays, Performs, Steps, Does, Refuses};
 
 use crate::call::{Call, Waiting};
-use crate::dos::{END_OF_INPUT, echo_key, next_key, put_string};
-use crate::ending::{Ending, Fault, Stop};
+use crate::dos::put_string;
+use crate::ending::{Ending, Refusal, Stop};
 use dcc_c::{Base, CType};
+use dcc_console::{Fault, take_key};
 use dcc_io::{Sink, Source, put_all};
 use dcc_prepare::program::{Action, CallRow, Callee, Case, Dos, Label, Procedure, Program, Row};
 use dcc_value::expression::{Resolved, Target, take};
@@ -43,7 +44,7 @@ pub struct Moment {
     pub end: Ending,
 }
 
-/// The point of the case that the value is, or else the last one.
+// The point of the case that the value is, or else the last one.
 fn case_point(cases: &[Case], n: u16, otherwise: usize) -> usize
     ensures { result ≡ case_point cases.now n otherwise }
 {
@@ -54,7 +55,7 @@ fn case_point(cases: &[Case], n: u16, otherwise: usize) -> usize
     point
 }
 
-/// The point of the case, where the value is one of it, or else the other one.
+// The point of the case, where the value is one of it, or else the other one.
 fn case_or(case: &Case, n: u16, otherwise: usize) -> usize
     ensures { result ≡ (if list_any (λ v. v == n) case.now.values.items then case.now.point else otherwise) }
 {
@@ -65,21 +66,21 @@ fn case_or(case: &Case, n: u16, otherwise: usize) -> usize
     }
 }
 
-/// Whether the value is one of these.
+// Whether the value is one of these.
 fn has_value(values: &[u16], n: u16) -> bool
     ensures { result ≡ list_any (λ v. v == n) values.now }
 {
     values.iter().any(|v| *v == n)
 }
 
-/// The base of a call with this depth below the base of its caller.
+// The base of a call with this depth below the base of its caller.
 fn base_below(base: u16, depth: u32) -> u16
     ensures { result ≡ below base depth }
 {
     base.wrapping_sub((depth % 0x1_0000) as u16)
 }
 
-/// The point where the label stands.
+// The point where the label stands.
 fn label_point(labels: &[Label], number: usize) -> Result<usize, NoValue>
     ensures { outcome_of itself result ≡ given (label_point labels.now number) }
 {
@@ -89,9 +90,10 @@ fn label_point(labels: &[Label], number: usize) -> Result<usize, NoValue>
     }
 }
 
-/// The value of the only argument, converted to the type.
+// The value of the only argument, converted to the type.
 fn only_argument(scene: &Scene<'_>, ty: CType, arguments: &[Resolved]) -> Result<Value, NoValue>
-    ensures value { (names : Names) (es : List Expr) → StandAll names es arguments.now → Fits names (scene_of scene.now) →
+    ensures value { (names : Names) (es : List Expr) → StandAll names es arguments.now →
+        Fits names (scene_of scene.now) →
         outcome_of single result ≡ arguments_of (scope_over names (scene_of scene.now)) (ty ∷ []) es }
     ensures kind { IfOk result (λ v. v.ty ≡ ty) }
 {
@@ -105,7 +107,7 @@ fn only_argument(scene: &Scene<'_>, ty: CType, arguments: &[Resolved]) -> Result
     }
 }
 
-/// The values of arguments, from left to right, each converted to the type of its parameter.
+// The values of arguments, from left to right, each converted to the type of its parameter.
 fn argument_values(
     alloc: Global,
     scene: &Scene<'_>,
@@ -130,10 +132,11 @@ fn argument_values(
     Ok(values)
 }
 
-/// Where the result goes, where it goes anywhere.
+// Where the result goes, where it goes anywhere.
 fn result_target(scene: &Scene<'_>, place: &Option<Resolved>) -> Result<Option<Target>, NoValue>
     ensures value { (names : Names) (e : Option Expr) → StandsIf names e place.now → Fits names (scene_of scene.now) →
-        outcome_of (option_map (target_named names.locals)) result ≡ result_target (scope_over names (scene_of scene.now)) e }
+        outcome_of (option_map (target_named names.locals)) result
+        ≡ result_target (scope_over names (scene_of scene.now)) e }
     ensures lands { (names : Names) (e : Option Expr) → StandsIf names e place.now → Fits names (scene_of scene.now) →
         IfOk result (IsTargetIf names.locals) }
 {
@@ -144,7 +147,7 @@ fn result_target(scene: &Scene<'_>, place: &Option<Resolved>) -> Result<Option<T
 }
 
 impl Moment {
-    /// What expressions are evaluated over.
+    // What expressions are evaluated over.
     fn scene<'a>(&'a self, globals: &'a [Binding]) -> Scene<'a>
         ensures { scene_of result ≡ scene_in self.now globals.now }
     {
@@ -155,17 +158,18 @@ impl Moment {
         }
     }
 
-    /// The target takes the value, converted to its type.
+    // The target takes the value, converted to its type.
     fn take(&mut self, target: Target, v: Value)
         ensures state { (tree : Tree) (points : ℕ → List Continuation) (s : State) → IsRunning tree points self.old s →
             IsTargetIn (locals_declared s.frame.function) target →
-            IsRunning tree points self.new (takes (target_named (locals_declared s.frame.function) target) (typed v) s) }
+            IsRunning tree points self.new
+            (takes (target_named (locals_declared s.frame.function) target) (typed v) s) }
         ensures at { StepsAside self.old self.new }
     {
         take(target, v, &mut self.call.variables, &mut self.memory);
     }
 
-    /// The place takes the value of the expression.
+    // The place takes the value of the expression.
     fn assign(&mut self, globals: &[Binding], place: &Resolved, e: &Resolved) -> Result<(), NoValue>
         ensures state { (tree : Tree) (points : ℕ → List Continuation) (s : State) (place_expr expr : Expr) (line : ℕ) →
             AreGlobals tree globals.now → IsRunning tree points self.old s →
@@ -180,7 +184,7 @@ impl Moment {
         Ok(())
     }
 
-    /// The point where the run goes on after a `switch` is tested.
+    // The point where the run goes on after a `switch` is tested.
     fn switch(
         &self,
         globals: &[Binding],
@@ -188,7 +192,8 @@ impl Moment {
         cases: &[Case],
         otherwise: usize,
     ) -> Result<usize, NoValue>
-        ensures { outcome_of itself result ≡ and_then (λ v. Gives (case_point cases.now (converted (plain Uint) v).bits otherwise))
+        ensures { outcome_of itself result
+            ≡ and_then (λ v. Gives (case_point cases.now (converted (plain Uint) v).bits otherwise))
             (evaluated (scene_in self.now globals.now) e.now) }
     {
         let v = e.evaluate(&self.scene(globals))?;
@@ -196,7 +201,7 @@ impl Moment {
         Ok(case_point(cases, n, otherwise))
     }
 
-    /// The point where the run goes on after a test.
+    // The point where the run goes on after a test.
     fn test(
         &self,
         globals: &[Binding],
@@ -211,12 +216,14 @@ impl Moment {
         Ok(if is_zero(v) { no } else { yes })
     }
 
-    /// The waiting call takes the result, where it wants one.
+    // The waiting call takes the result, where it wants one.
     fn take_result(&mut self, target: Option<Target>, v: Option<Value>) -> Result<(), NoValue>
-        ensures state { (tree : Tree) (points : ℕ → List Continuation) (s : State) (line : ℕ) → IsRunning tree points self.old s →
+        ensures state { (tree : Tree) (points : ℕ → List Continuation) (s : State) (line : ℕ) →
+            IsRunning tree points self.old s →
             IsTargetIf (locals_declared s.frame.function) target →
             Keeps tree points line result self.new s
-            (result_step (option_map (target_named (locals_declared s.frame.function)) target) (option_map typed v) line s) }
+            (result_step (option_map (target_named (locals_declared s.frame.function)) target)
+            (option_map typed v) line s) }
         ensures at { StepsAside self.old self.new }
     {
         match (target, v) {
@@ -229,9 +236,10 @@ impl Moment {
         }
     }
 
-    /// The newest of the waiting calls goes on.
+    // The newest of the waiting calls goes on.
     fn go_back(&mut self, v: Option<Value>) -> Result<(), NoValue>
-        ensures { (tree : Tree) (points : ℕ → List Continuation) (s : State) (line : ℕ) → IsRunning tree points self.old s →
+        ensures { (tree : Tree) (points : ℕ → List Continuation) (s : State) (line : ℕ) →
+            IsRunning tree points self.old s →
             Led tree points line result self.new s (back_step s.waiting (option_map typed v) line s) }
     {
         let Some(waiting) = self.waiting.pop() else {
@@ -242,9 +250,10 @@ impl Moment {
         self.take_result(target, v)
     }
 
-    /// The closing brace.
+    // The closing brace.
     fn close(&mut self, procedure: &Procedure) -> Result<(), NoValue>
-        ensures { (tree : Tree) (points : ℕ → List Continuation) (s : State) (line : ℕ) → IsRunning tree points self.old s →
+        ensures { (tree : Tree) (points : ℕ → List Continuation) (s : State) (line : ℕ) →
+            IsRunning tree points self.old s →
             IsProcedure tree s.frame.function (points self.old.call.procedure) procedure.now →
             Led tree points line result self.new s (close_step line s) }
     {
@@ -254,7 +263,7 @@ impl Moment {
         self.go_back(None)
     }
 
-    /// A `return`, with a value where there is one, which becomes one of the function's result.
+    // A `return`, with a value where there is one, which becomes one of the function's result.
     fn give(
         &mut self,
         globals: &[Binding],
@@ -280,7 +289,7 @@ impl Moment {
         self.go_back(Some(converted(ty, v)))
     }
 
-    /// A function's body begins, and its caller waits.
+    // A function's body begins, and its caller waits.
     fn enter(
         &mut self,
         alloc: Global,
@@ -322,11 +331,13 @@ impl Moment {
         Ok(())
     }
 
-    /// The waiting call takes a key, where it wants one.
+    // The waiting call takes a key, where it wants one.
     fn take_byte(&mut self, target: Option<Target>, byte: u8)
-        ensures state { (tree : Tree) (points : ℕ → List Continuation) (s : State) (line : ℕ) → IsRunning tree points self.old s →
+        ensures state { (tree : Tree) (points : ℕ → List Continuation) (s : State) (line : ℕ) →
+            IsRunning tree points self.old s →
             IsTargetIf (locals_declared s.frame.function) target →
-            IsRunning tree points self.new (result_step (option_map (target_named (locals_declared s.frame.function)) target)
+            IsRunning tree points self.new
+            (result_step (option_map (target_named (locals_declared s.frame.function)) target)
             (Some (number Uchar byte)) line s) }
         ensures at { StepsAside self.old self.new }
     {
@@ -335,7 +346,7 @@ impl Moment {
         }
     }
 
-    /// A DOS call that takes a key.
+    // A DOS call that takes a key.
     fn key<I: Source, O: Sink>(
         &mut self,
         echo: bool,
@@ -343,7 +354,7 @@ impl Moment {
         input: &mut I,
         out: &mut O,
     ) -> Result<(), Stop>
-        ensures comes { (line : ℕ) → ComesTo line result (TakesKey self.old echo target line) (Kept self.new)
+        ensures comes { (line : ℕ) → ComesTo line result (CallsForKey self.old echo target line) (Kept self.new)
             (I.left input.old) (O.taken out.old) (I.left input.new) (O.taken out.new) }
         ensures stays { StaysIfRefused result self.old self.new }
         ensures at { StepsAside self.old self.new }
@@ -351,24 +362,22 @@ impl Moment {
         // The counts never fall, and a fault comes only where its count rose.
         ensures input_faults { I.faults input.old ≤ I.faults input.new }
         ensures output_faults { O.faults out.old ≤ O.faults out.new }
-        ensures read_failed { IsErrOf result (Stop.Refused Fault.Input) → Rose (I.faults input.old) (I.faults input.new) }
-        ensures write_failed { IsErrOf result (Stop.Refused Fault.Output) → Rose (O.faults out.old) (O.faults out.new) }
+        ensures read_failed { IsErrOf result (Stop.Refused Refusal.Input)
+            → Rose (I.faults input.old) (I.faults input.new) }
+        ensures write_failed { IsErrOf result (Stop.Refused Refusal.Output)
+            → Rose (O.faults out.old) (O.faults out.new) }
     {
-        let Ok(key) = next_key(input) else {
-            return Err(Stop::Refused(Fault::Input));
-        };
-        let Some(byte) = key else {
-            self.take_byte(target, END_OF_INPUT);
-            return Ok(());
-        };
-        let Ok(()) = echo_key(echo, byte, out) else {
-            return Err(Stop::Refused(Fault::Output));
-        };
-        self.take_byte(target, byte);
-        Ok(())
+        match take_key(echo, input, out) {
+            Ok(byte) => {
+                self.take_byte(target, byte);
+                Ok(())
+            }
+            Err(Fault::Input) => Err(Stop::Refused(Refusal::Input)),
+            Err(Fault::Output) => Err(Stop::Refused(Refusal::Output)),
+        }
     }
 
-    /// The DOS call that writes a byte.
+    // The DOS call that writes a byte.
     fn putc<O: Sink>(
         &self,
         globals: &[Binding],
@@ -382,8 +391,9 @@ impl Moment {
 
         // The count never falls, and a fault comes only where it rose.
         ensures output_faults { O.faults out.old ≤ O.faults out.new }
-        ensures read_failed { IsErrOf result (Stop.Refused Fault.Input) → ⊥ }
-        ensures write_failed { IsErrOf result (Stop.Refused Fault.Output) → Rose (O.faults out.old) (O.faults out.new) }
+        ensures read_failed { IsErrOf result (Stop.Refused Refusal.Input) → ⊥ }
+        ensures write_failed { IsErrOf result (Stop.Refused Refusal.Output)
+            → Rose (O.faults out.old) (O.faults out.new) }
     {
         let v = only_argument(&self.scene(globals), CType::plain(Base::Uchar), arguments)?;
         if target.is_some() {
@@ -391,12 +401,12 @@ impl Moment {
         }
         let byte = (v.bits % 256) as u8;
         let Ok(()) = put_all(out, &[byte]) else {
-            return Err(Stop::Refused(Fault::Output));
+            return Err(Stop::Refused(Refusal::Output));
         };
         Ok(())
     }
 
-    /// The DOS call that writes a string.
+    // The DOS call that writes a string.
     fn puts<O: Sink>(
         &self,
         globals: &[Binding],
@@ -410,20 +420,21 @@ impl Moment {
 
         // The count never falls, and a fault comes only where it rose.
         ensures output_faults { O.faults out.old ≤ O.faults out.new }
-        ensures read_failed { IsErrOf result (Stop.Refused Fault.Input) → ⊥ }
-        ensures write_failed { IsErrOf result (Stop.Refused Fault.Output) → Rose (O.faults out.old) (O.faults out.new) }
+        ensures read_failed { IsErrOf result (Stop.Refused Refusal.Input) → ⊥ }
+        ensures write_failed { IsErrOf result (Stop.Refused Refusal.Output)
+            → Rose (O.faults out.old) (O.faults out.new) }
     {
         let v = only_argument(&self.scene(globals), CType::plain(Base::Uint), arguments)?;
         if target.is_some() {
             return Err(Stop::Undefined);
         }
         let Ok(()) = put_string(&self.memory, v.bits, out) else {
-            return Err(Stop::Refused(Fault::Output));
+            return Err(Stop::Refused(Refusal::Output));
         };
         Ok(())
     }
 
-    /// The DOS call that ends the run.
+    // The DOS call that ends the run.
     fn leave(
         &mut self,
         globals: &[Binding],
@@ -443,7 +454,7 @@ impl Moment {
         Ok(())
     }
 
-    /// A DOS call.
+    // A DOS call.
     fn dos<I: Source, O: Sink>(
         &mut self,
         globals: &[Binding],
@@ -453,7 +464,8 @@ impl Moment {
         input: &mut I,
         out: &mut O,
     ) -> Result<(), Stop>
-        ensures comes { (line : ℕ) → ComesTo line result (CallsDos self.old globals.now dos target arguments.now line) (Kept self.new)
+        ensures comes { (line : ℕ) →
+            ComesTo line result (CallsDos self.old globals.now dos target arguments.now line) (Kept self.new)
             (I.left input.old) (O.taken out.old) (I.left input.new) (O.taken out.new) }
         ensures stays { StaysIfRefused result self.old self.new }
         ensures at { StepsAside self.old self.new }
@@ -461,8 +473,10 @@ impl Moment {
         // The counts never fall, and a fault comes only where its count rose.
         ensures input_faults { I.faults input.old ≤ I.faults input.new }
         ensures output_faults { O.faults out.old ≤ O.faults out.new }
-        ensures read_failed { IsErrOf result (Stop.Refused Fault.Input) → Rose (I.faults input.old) (I.faults input.new) }
-        ensures write_failed { IsErrOf result (Stop.Refused Fault.Output) → Rose (O.faults out.old) (O.faults out.new) }
+        ensures read_failed { IsErrOf result (Stop.Refused Refusal.Input)
+            → Rose (I.faults input.old) (I.faults input.new) }
+        ensures write_failed { IsErrOf result (Stop.Refused Refusal.Output)
+            → Rose (O.faults out.old) (O.faults out.new) }
     {
         match dos {
             Dos::Getche if arguments.is_empty() => self.key(true, target, input, out),
@@ -474,7 +488,7 @@ impl Moment {
         }
     }
 
-    /// A call of a function of the text.
+    // A call of a function of the text.
     fn call_function(
         &mut self,
         alloc: Global,
@@ -484,10 +498,11 @@ impl Moment {
         target: Option<Target>,
     ) -> Result<(), Stop>
         ensures comes { (line : ℕ) (left taken : Option (List ℕ)) →
-            ComesTo line result (CallsFunction self.old program.now row.now number target line) (Stood self.new) left taken left taken }
+            ComesTo line result (CallsFunction self.old program.now row.now number target line) (Stood self.new)
+            left taken left taken }
         ensures stays { StaysIfRefused result self.old self.new }
-        ensures no_fault { IsErrOf result (Stop.Refused Fault.Input) → ⊥ }
-        ensures no_write { IsErrOf result (Stop.Refused Fault.Output) → ⊥ }
+        ensures no_fault { IsErrOf result (Stop.Refused Refusal.Input) → ⊥ }
+        ensures no_write { IsErrOf result (Stop.Refused Refusal.Output) → ⊥ }
     {
         if number >= program.procedures.len() {
             return Err(Stop::Undefined);
@@ -505,7 +520,7 @@ impl Moment {
         Ok(())
     }
 
-    /// A call.
+    // A call.
     fn call<I: Source, O: Sink>(
         &mut self,
         alloc: Global,
@@ -521,8 +536,10 @@ impl Moment {
         // The counts never fall, and a fault comes only where its count rose.
         ensures input_faults { I.faults input.old ≤ I.faults input.new }
         ensures output_faults { O.faults out.old ≤ O.faults out.new }
-        ensures read_failed { IsErrOf result (Stop.Refused Fault.Input) → Rose (I.faults input.old) (I.faults input.new) }
-        ensures write_failed { IsErrOf result (Stop.Refused Fault.Output) → Rose (O.faults out.old) (O.faults out.new) }
+        ensures read_failed { IsErrOf result (Stop.Refused Refusal.Input)
+            → Rose (I.faults input.old) (I.faults input.new) }
+        ensures write_failed { IsErrOf result (Stop.Refused Refusal.Output)
+            → Rose (O.faults out.old) (O.faults out.new) }
     {
         let target = result_target(&self.scene(&program.globals), &row.place)?;
         match row.callee {
@@ -536,7 +553,7 @@ impl Moment {
         }
     }
 
-    /// What reads and writes nothing.
+    // What reads and writes nothing.
     fn act(
         &mut self,
         program: &Program,
@@ -567,7 +584,7 @@ impl Moment {
         Ok(())
     }
 
-    /// What stands at a point of a function.
+    // What stands at a point of a function.
     fn perform<I: Source, O: Sink>(
         &mut self,
         alloc: Global,
@@ -577,15 +594,18 @@ impl Moment {
         input: &mut I,
         out: &mut O,
     ) -> Result<(), Stop>
-        ensures comes { (line : ℕ) → ComesTo line result (Performs program.now procedure.now line action.now self.old) (Stood self.new)
+        ensures comes { (line : ℕ) →
+            ComesTo line result (Performs program.now procedure.now line action.now self.old) (Stood self.new)
             (I.left input.old) (O.taken out.old) (I.left input.new) (O.taken out.new) }
         ensures stays { StaysIfRefused result self.old self.new }
 
         // The counts never fall, and a fault comes only where its count rose.
         ensures input_faults { I.faults input.old ≤ I.faults input.new }
         ensures output_faults { O.faults out.old ≤ O.faults out.new }
-        ensures read_failed { IsErrOf result (Stop.Refused Fault.Input) → Rose (I.faults input.old) (I.faults input.new) }
-        ensures write_failed { IsErrOf result (Stop.Refused Fault.Output) → Rose (O.faults out.old) (O.faults out.new) }
+        ensures read_failed { IsErrOf result (Stop.Refused Refusal.Input)
+            → Rose (I.faults input.old) (I.faults input.new) }
+        ensures write_failed { IsErrOf result (Stop.Refused Refusal.Output)
+            → Rose (O.faults out.old) (O.faults out.new) }
     {
         match action {
             Action::Call(row) => self.call(alloc, program, row, input, out),
@@ -600,7 +620,7 @@ impl Moment {
         program: &Program,
         input: &mut I,
         out: &mut O,
-    ) -> Result<(), Fault>
+    ) -> Result<(), Refusal>
         ensures made { OnOk result (Does (Steps program.now self.old) (Stood self.new)
             (I.left input.old) (O.taken out.old) (I.left input.new) (O.taken out.new)) }
         ensures refused { IfErr result (λ fault. Refuses fault (Steps program.now self.old)
@@ -610,8 +630,8 @@ impl Moment {
         // The counts never fall, and a fault comes only where its count rose.
         ensures input_faults { I.faults input.old ≤ I.faults input.new }
         ensures output_faults { O.faults out.old ≤ O.faults out.new }
-        ensures read_failed { IsErrOf result Fault.Input → Rose (I.faults input.old) (I.faults input.new) }
-        ensures write_failed { IsErrOf result Fault.Output → Rose (O.faults out.old) (O.faults out.new) }
+        ensures read_failed { IsErrOf result Refusal.Input → Rose (I.faults input.old) (I.faults input.new) }
+        ensures write_failed { IsErrOf result Refusal.Output → Rose (O.faults out.old) (O.faults out.new) }
     {
         let number = self.call.procedure;
         if number >= program.procedures.len() {

@@ -5,9 +5,10 @@ ghost use Rattle.dcc_io.specs.Count.{Rose};
 ghost use Rattle.dcc_c.specs.Tree.{Function};
 ghost use Rattle.dcc_c.specs.Run.{first_state};
 ghost use Rattle.dcc_c.specs.Views.{tree_of};
-ghost use Rattle.dcc_crun.specs.Ending.{end_of};
+ghost use Rattle.dcc_console.specs.Scene.{scene};
+ghost use Rattle.dcc_console.specs.Steps.{Steps, HasEnded, Runs};
 ghost use Rattle.dcc_crun.specs.Standing.{StandsAt};
-ghost use Rattle.dcc_crun.specs.Stepped.{scene, Steps, TellsEnd, Runs};
+ghost use Rattle.dcc_crun.specs.Stepped.{texts, outcome_of, end_told};
 
 use crate::call::Call;
 use crate::ending::{CStepped, Ending};
@@ -69,10 +70,10 @@ impl CRun {
         input: &mut I,
         out: &mut O,
     ) -> CStepped
-        ensures step { Steps result
+        ensures step { Steps texts (outcome_of result)
             (scene self.old (I.left input.old) (O.taken out.old))
             (scene self.new (I.left input.new) (O.taken out.new)) }
-        ensures answer { TellsEnd result (end_of self.new.moment.end) }
+        ensures answer { HasEnded texts self.new (end_told result) }
 
         // The counts never fall, and a fault comes only where its count rose.
         ensures input_faults { I.faults input.old ≤ I.faults input.new }
@@ -98,10 +99,10 @@ impl CRun {
         out: &mut O,
         most: u64,
     ) -> CStepped
-        ensures run { Runs most result
+        ensures run { Runs texts most (outcome_of result)
             (scene self.old (I.left input.old) (O.taken out.old))
             (scene self.new (I.left input.new) (O.taken out.new)) }
-        ensures answer { TellsEnd result (end_of self.new.moment.end) }
+        ensures answer { HasEnded texts self.new (end_told result) }
 
         // The counts never fall, and a fault comes only where its count rose.
         ensures input_faults { I.faults input.old ≤ I.faults input.new }

@@ -1,5 +1,5 @@
+pub mod Laws
 pub mod Loaded
 pub mod Strings
 pub mod Scenes
 pub mod Steps
-pub mod Runs

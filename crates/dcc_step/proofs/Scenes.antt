@@ -1,132 +1,189 @@
 -- Operations on the machine and its console, made or refused.
-use Rattle.std.proofs.Common.{◌≡◌, ◌≢◌, ℕ, Bool, false, List, [], ◌∷◌, ◌++◌, take, refl, sym, ap, ◌∙◌, arith}
-use Rattle.std.specs.Prelude.{Option, None, Some, if◌then◌else◌, ◌==◌}
+use Rattle.std.proofs.Common.{◌≡◌, ◌≢◌, ℕ, Bool, false, List, [], ◌∷◌, ◌++◌, refl, sym, ap, ◌∙◌, subst, arith}
+use Rattle.std.specs.Prelude.{Option, Result, Ok, Err, OnOk, if◌then◌else◌, ◌==◌}
 use Rattle.std.proofs.lemmas.Bool.Decides.{nat_tests}
+use Rattle.std.proofs.lemmas.List.{append-nil}
 use Rattle.dcc_run.specs.End.{Outside}
 use Rattle.dcc_num.specs.declared.Reg.TheVariants.{Ax}
 use Rattle.dcc_num.specs.declared.Half.TheVariants.{High}
-use Rattle.std.proofs.lemmas.List.{append-nil}
-use Rattle.dcc_io.specs.Told.{append_told, prepend_told, WhenTold, AppendsProperPrefix}
+use Rattle.dcc_io.specs.Told.{append_told, AppendsProperPrefix}
 use Rattle.dcc_io.proofs.ToldLemmas.{append_told-nil, prepend_told-nil}
 use Rattle.dcc_prog.specs.Machine.{State, word_in, half_of_word}
 use Rattle.dcc_prog.specs.Operations.{with_end, with_al}
 use Rattle.dcc_prog.specs.Dos.{bytes_from, dos_string, key_step, dos_step, dos_call}
+use Rattle.dcc_console.specs.declared.fault.Fault.{Fault}
+use Rattle.dcc_console.specs.declared.fault.Fault.TheVariants.{Input, Output}
+use Rattle.dcc_console.specs.Key.{echoed, TakesKey, next_byte, no_byte, IsRefusedKey}
+use Rattle.dcc_console.specs.Scene.{Scene, scene, told_bytes}
+use Rattle.dcc_console.specs.Steps.{Comes, Makes, IsRefusedWrite, Steps, refusal_of}
 use Rattle.dcc_step.specs.Core.{Core, with_console, core_of, state_of}
-use Rattle.dcc_step.specs.declared.ending.Fault.{Fault}
-use Rattle.dcc_step.specs.declared.ending.Fault.TheVariants.{Input, Output}
-use Rattle.dcc_step.specs.Stepped.{Scene, scene, told_bytes, Makes, IsRefusedWrite, IsRefused}
+use Rattle.dcc_step.specs.Stepped.{machine_by}
 
--- nothing is left where a read of no bytes said so
-pub end_told : (before after : Option (List ℕ)) (bytes : List ℕ) (count : ℕ) → count ≡ 0
-    → before ≡ prepend_told (take count bytes) after → WhenTold before (λ held. held ≡ []) → told_bytes after ≡ []
-unfolding prepend_told
-end_told before None bytes count none took end = refl
-end_told before (Some rest) bytes count none took end =
-    let whole : before ≡ Some rest = took ∙ ap (λ n. Some (take n bytes ++ rest)) none in
-    end rest whole
+-- what follows for a call that answers
+pub on_ok : {T E P Q : Type 0} (r : Result T E) → (P → Q) → OnOk r P → OnOk r Q
+on_ok (Ok t) f p = f p
+on_ok (Err e) f p = p
+
+-- what an operation does to a state, from what it does to the machine beside the state's console
+done_beside : (operation : State → State) (old : Core) (s : State) (input : List ℕ) → core_of s ≡ old → s.input ≡ input
+    → operation s ≡ operation (with_console old input s.out)
+done_beside operation old s input stands has =
+    ap (λ (c : Core). operation (with_console c s.input s.out)) stands ∙ ap (λ i. operation (with_console old i s.out)) has
+
+-- where that is one equation
+comes_by : (operation : State → State) (old new : Core) (given rest written : List ℕ)
+    → ((out : List ℕ) → operation (with_console old (given ++ rest) out) ≡ with_console new rest (out ++ written))
+    → (s : State) → core_of s ≡ old → s.input ≡ given ++ rest
+    → Comes (machine_by operation) tt new rest (s.out ++ written) (operation s)
+comes_by operation old new given rest written is s stands has =
+    let there : operation s ≡ with_console new rest (s.out ++ written) =
+    done_beside operation old s (given ++ rest) stands has ∙ is s.out in
+    record { stands = ap core_of there; left = ap (λ (t : State). t.input) there; out = ap (λ (t : State). t.out) there }
 
 -- an operation that does the same beside any console, and leaves that
 pub made_quiet : (operation : State → State) (old new : Core) (left taken : Option (List ℕ))
     → ((input out : List ℕ) → operation (with_console old input out) ≡ with_console new input out)
-    → Makes operation (scene old left taken) (scene new left taken)
+    → Makes (machine_by operation) (scene old left taken) (scene new left taken)
 made_quiet operation old new left taken is = record {
   given = [];
   written = [];
   took = sym (prepend_told-nil left);
   wrote = sym (append_told-nil taken);
-  made = λ out.
-      is (told_bytes left) out
-      ∙ ap (λ (o : List ℕ). with_console new (told_bytes left) o) (sym (append-nil out));
+  made = λ w s stands has.
+      comes_by operation old new [] (told_bytes left) []
+      (λ out. is (told_bytes left) out ∙ ap (λ (o : List ℕ). with_console new (told_bytes left) o) (sym (append-nil out))) s stands has;
 }
 
 -- an operation that does, from one machine, what another does from another machine
-pub made_as : (f g : State → State) (from old : Core) (left taken : Option (List ℕ)) (now : Scene)
+pub made_as : (f g : State → State) (from old : Core) (left taken : Option (List ℕ)) (now : Scene Core)
     → ((input out : List ℕ) → g (with_console from input out) ≡ f (with_console old input out))
-    → Makes f (scene old left taken) now → Makes g (scene from left taken) now
+    → Makes (machine_by f) (scene old left taken) now → Makes (machine_by g) (scene from left taken) now
 made_as f g from old left taken now same made = record {
   given = made.given;
   written = made.written;
   took = made.took;
   wrote = made.wrote;
-  made = λ out. same (made.given ++ told_bytes now.left) out ∙ made.made out;
+  made = λ w s stands has.
+      let is : g s ≡ f (with_console old s.input s.out) = done_beside g from s s.input stands refl ∙ same s.input s.out in
+      let comes = made.made w (with_console old s.input s.out) refl has in
+      record {
+        stands = ap core_of is ∙ comes.stands;
+        left = ap (λ (t : State). t.input) is ∙ comes.left;
+        out = ap (λ (t : State). t.out) is ∙ comes.out;
+      };
 }
 
 -- the same where it is refused: the machine is then as it was before
 pub refused_as : (f g : State → State) (fault : Fault) (from old new : Core) (left taken left_now taken_now : Option (List ℕ))
     → ((input out : List ℕ) → g (with_console from input out) ≡ f (with_console old input out))
-    → IsRefused f fault (scene old left taken) (scene new left_now taken_now)
-    → IsRefused g fault (scene from left taken) (scene from left_now taken_now)
+    → Steps (machine_by f) (refusal_of fault) (scene old left taken) (scene new left_now taken_now)
+    → Steps (machine_by g) (refusal_of fault) (scene from left taken) (scene from left_now taken_now)
 refused_as f g Input from old new left taken left_now taken_now same refused = record {
-  takes = λ byte rest out. ap (λ (s : State). s.input) (same (byte ∷ rest) out) ∙ refused.takes byte rest out;
-  unchanged =
-      ap (λ (v : Scene). scene from v.left v.taken) refused.unchanged;
+  takes = λ w s byte rest stands has.
+      ap (λ (t : State). t.input) (done_beside g from s s.input stands refl ∙ same s.input s.out)
+      ∙ refused.takes w (with_console old s.input s.out) byte rest refl has;
+  unchanged = ap (λ (v : Scene Core). scene from v.left v.taken) refused.unchanged;
 }
 refused_as f g Output from old new left taken left_now taken_now same refused = record {
   given = refused.given;
   written = refused.written;
-  after = refused.after;
-  writes = λ rest out. same (refused.given ++ rest) out ∙ refused.writes rest out;
+  takes = λ w s rest stands has.
+      ap (λ (t : State). t.input) (done_beside g from s s.input stands refl ∙ same s.input s.out)
+      ∙ refused.takes w (with_console old s.input s.out) rest refl has;
+  writes = λ w s rest stands has.
+      ap (λ (t : State). t.out) (done_beside g from s s.input stands refl ∙ same s.input s.out)
+      ∙ refused.writes w (with_console old s.input s.out) rest refl has;
   unchanged = refl;
   took = refused.took;
   part = refused.part;
 }
 
+-- a refused operation leaves the machine
+pub refused_core : (f : State → State) (fault : Fault) (old new : Core) (left taken left_now taken_now : Option (List ℕ))
+    → Steps (machine_by f) (refusal_of fault) (scene old left taken) (scene new left_now taken_now) → new ≡ old
+refused_core f Input old new left taken left_now taken_now refused = ap (λ (v : Scene Core). v.code) refused.unchanged
+refused_core f Output old new left taken left_now taken_now refused = refused.unchanged
+
+-- the same from one machine, where the other operation left it
+pub refused_here : (f g : State → State) (fault : Fault) (old new : Core) (left taken left_now taken_now : Option (List ℕ))
+    → ((input out : List ℕ) → g (with_console old input out) ≡ f (with_console old input out))
+    → Steps (machine_by f) (refusal_of fault) (scene old left taken) (scene new left_now taken_now)
+    → Steps (machine_by g) (refusal_of fault) (scene old left taken) (scene new left_now taken_now)
+refused_here f g fault old new left taken left_now taken_now same refused =
+    let kept : new ≡ old = refused_core f fault old new left taken left_now taken_now refused in
+    subst (λ k. Steps (machine_by g) (refusal_of fault) (scene old left taken) (scene k left_now taken_now)) (sym kept)
+    (refused_as f g fault old old new left taken left_now taken_now same refused)
+
 -- an operation that only writes some bytes
 pub made_writing : (operation : State → State) (m : Core) (bytes : List ℕ) (left taken taken_now : Option (List ℕ))
     → ((input out : List ℕ) → operation (with_console m input out) ≡ with_console m input (out ++ bytes))
     → taken_now ≡ append_told taken bytes
-    → Makes operation (scene m left taken) (scene m left taken_now)
+    → Makes (machine_by operation) (scene m left taken) (scene m left taken_now)
 made_writing operation m bytes left taken taken_now is wrote = record {
   given = [];
   written = bytes;
   took = sym (prepend_told-nil left);
   wrote = wrote;
-  made = λ out. is (told_bytes left) out;
+  made = λ w s stands has. comes_by operation m m [] (told_bytes left) bytes (is (told_bytes left)) s stands has;
 }
 
 pub refused_writing : (operation : State → State) (m : Core) (bytes : List ℕ) (left taken taken_now : Option (List ℕ))
     → ((input out : List ℕ) → operation (with_console m input out) ≡ with_console m input (out ++ bytes))
     → AppendsProperPrefix taken taken_now bytes
-    → IsRefusedWrite operation (scene m left taken) (scene m left taken_now)
+    → IsRefusedWrite (machine_by operation) (scene m left taken) (scene m left taken_now)
 refused_writing operation m bytes left taken taken_now is part = record {
   given = [];
   written = bytes;
-  after = m;
-  writes = λ rest out. is rest out;
+  takes = λ w s rest stands has. (comes_by operation m m [] rest bytes (is rest) s stands has).left;
+  writes = λ w s rest stands has. (comes_by operation m m [] rest bytes (is rest) s stands has).out;
   unchanged = refl;
   took = sym (prepend_told-nil left);
   part = part;
 }
 
--- a key was asked for at the end of the input
-pub key_ended : (echo : Bool) (m new : Core) (left left_now taken : Option (List ℕ))
-    → left ≡ prepend_told [] left_now → told_bytes left_now ≡ [] → new ≡ core_of (with_al 0x1A (state_of m))
-    → Makes (key_step echo) (scene m left taken) (scene new left_now taken)
-key_ended echo m new left left_now taken took none is = record {
+-- a key was taken into AL
+pub key_made : (echo : Bool) (m new : Core) (key : ℕ) (left taken left_now taken_now : Option (List ℕ))
+    → TakesKey echo left taken left_now taken_now key → new ≡ core_of (with_al key (state_of m))
+    → Makes (machine_by (key_step echo)) (scene m left taken) (scene new left_now taken_now)
+key_made echo m new key left taken left_now taken_now (next_byte took wrote) is = record {
+  given = key ∷ [];
+  written = echoed echo key;
+  took = took;
+  wrote = wrote;
+  made = λ w s stands has.
+      comes_by (key_step echo) m new (key ∷ []) (told_bytes left_now) (echoed echo key)
+      (λ out. ap (λ (c : Core). with_console c (told_bytes left_now) (out ++ echoed echo key)) (sym is)) s stands has;
+}
+key_made echo m new key left taken left_now taken_now (no_byte took none same) is = record {
   given = [];
   written = [];
   took = took;
-  wrote = sym (append_told-nil taken);
-  made = λ out.
+  wrote = same ∙ sym (append_told-nil taken);
+  made = λ w s stands has.
+      comes_by (key_step echo) m new [] (told_bytes left_now) []
+      (λ out.
       ap (λ (l : List ℕ). key_step echo (with_console m l out)) none
       ∙ ap (λ (c : Core). with_console c [] out) (sym is)
       ∙ ap (λ (o : List ℕ). with_console new [] o) (sym (append-nil out))
-      ∙ ap (λ (l : List ℕ). with_console new l (out ++ [])) (sym none);
+      ∙ ap (λ (l : List ℕ). with_console new l (out ++ [])) (sym none)) s stands has;
 }
 
--- a key was taken, and not wholly written
-pub key_refused : (echo : Bool) (m : Core) (byte : ℕ) (left left_now taken taken_now : Option (List ℕ))
-    → left ≡ prepend_told (byte ∷ []) left_now
-    → AppendsProperPrefix taken taken_now (if echo then byte ∷ [] else [])
-    → IsRefusedWrite (key_step echo) (scene m left taken) (scene m left_now taken_now)
-key_refused echo m byte left left_now taken taken_now took part = record {
-  given = byte ∷ [];
-  written = if echo then byte ∷ [] else [];
-  after = core_of (with_al byte (state_of m));
-  writes = λ rest out. refl;
+-- a key was not taken, or not wholly written
+pub key_refused : (echo : Bool) (m : Core) (fault : Fault) (left taken left_now taken_now : Option (List ℕ))
+    → IsRefusedKey echo left taken left_now taken_now fault
+    → Steps (machine_by (key_step echo)) (refusal_of fault) (scene m left taken) (scene m left_now taken_now)
+key_refused echo m Input left taken left_now taken_now refused = record {
+  takes = λ w s byte rest stands has. ap (λ (t : State). t.input) (done_beside (key_step echo) m s (byte ∷ rest) stands has);
+  unchanged = ap (λ l. scene m l taken_now) refused.same_left ∙ ap (scene m left) refused.same_taken;
+}
+key_refused echo m Output left taken left_now taken_now refused = record {
+  given = refused.byte ∷ [];
+  written = echoed echo refused.byte;
+  takes = λ w s rest stands has. ap (λ (t : State). t.input) (done_beside (key_step echo) m s (refused.byte ∷ rest) stands has);
+  writes = λ w s rest stands has. ap (λ (t : State). t.out) (done_beside (key_step echo) m s (refused.byte ∷ rest) stands has);
   unchanged = refl;
-  took = took;
-  part = part;
+  took = refused.took;
+  part = refused.part;
 }
 
 -- INT 21h with a number in AH

@@ -1,5 +1,5 @@
 -- How a step is made of an operation.
-use Rattle.std.proofs.Common.{◌≡◌, ◌≢◌, ℕ, ◌+◌, ◌%◌, true, List, Option, Some, None, refl, sym, ap, ◌∙◌}
+use Rattle.std.proofs.Common.{◌≡◌, ◌≢◌, ℕ, ◌+◌, ◌%◌, true, List, Option, Some, None, refl, sym, ap, ◌∙◌, subst}
 use Rattle.std.specs.Prelude.{if◌then◌else◌}
 use Rattle.dcc_run.specs.End.{End, Running as running, Outside as outside, is_over}
 use Rattle.dcc_prog.specs.declared.instr.Op.{Op}
@@ -12,34 +12,55 @@ use Rattle.dcc_prog.specs.Step.{code_bytes, op_step, instruction_step, step}
 use Rattle.dcc_prog.proofs.ConsoleLaws.{op-keeps}
 use Rattle.dcc_step.specs.declared.ending.Ending.{Ending}
 use Rattle.dcc_step.specs.declared.ending.Ending.TheVariants.{Running, Exit, Divide, Outside}
-use Rattle.dcc_step.specs.declared.ending.Fault.{Fault}
-use Rattle.dcc_step.specs.declared.ending.Fault.TheVariants.{Input, Output}
+use Rattle.dcc_step.specs.declared.ending.Stepped.{Stepped}
+use Rattle.dcc_step.specs.declared.ending.Stepped.TheVariants.{Running as goes_on, Exit as exits, Divide as divides, Outside as is_outside, InFault as read_fails, OutFault as write_fails}
+use Rattle.dcc_console.specs.declared.fault.Fault.{Fault}
+use Rattle.dcc_console.specs.declared.fault.Fault.TheVariants.{Input, Output}
+use Rattle.dcc_console.specs.Scene.{Scene, scene}
+use Rattle.dcc_console.specs.Steps.{HasEnded, Makes, MakesSteps, Outcome, made, Steps, Runs, refusal_of}
 use Rattle.dcc_step.specs.Core.{Core, with_console, core_of, state_of}
-use Rattle.dcc_step.specs.Ending.{end_of, answer_of}
-use Rattle.dcc_step.specs.Stepped.{Scene, scene, Makes, IsRefused, Steps, TellsEnd, fault_answer_of}
-use Rattle.dcc_step.proofs.Scenes.{made_quiet, made_as, refused_as}
+use Rattle.dcc_step.specs.Ending.{end_of, answer_of, fault_answer_of}
+use Rattle.dcc_step.specs.Stepped.{machine, machine_by, outcome_of, end_told}
+use Rattle.dcc_step.proofs.Scenes.{made_quiet, made_as, refused_as, refused_core}
 
 -- an operation other than INT 21h
 pub operation_made : (op : Op) (at : ℕ) (m new : Core) (left taken : Option (List ℕ)) → op ≢ Int21
     → new ≡ core_of (op_step op at (state_of m))
-    → Makes (op_step op at) (scene m left taken) (scene new left taken)
+    → Makes (machine_by (op_step op at)) (scene m left taken) (scene new left taken)
 operation_made op at m new left taken other is =
     made_quiet (op_step op at) m new left taken
     (λ input out. op-keeps op at other input out (state_of m) ∙ ap (λ k. with_console k input out) (sym is))
 
 -- what a step answers
 
-pub answered : (e : Ending) (before now : Scene) → Makes step before now → Steps (answer_of e) before now
-answered Running before now made = made
-answered (Exit code) before now made = made
-answered Divide before now made = made
-answered (Outside at) before now made = made
+pub answer_made : (e : Ending) → outcome_of (answer_of e) ≡ made
+answer_made Running = refl
+answer_made (Exit code) = refl
+answer_made Divide = refl
+answer_made (Outside at) = refl
 
-pub answers : (e : Ending) (end : End) → end ≡ end_of e → TellsEnd (answer_of e) end
-answers Running end is = is
-answers (Exit code) end is = is
-answers Divide end is = is
-answers (Outside at) end is = is
+pub answer_tells : (e : Ending) → end_told (answer_of e) ≡ end_of e
+answer_tells Running = refl
+answer_tells (Exit code) = refl
+answer_tells Divide = refl
+answer_tells (Outside at) = refl
+
+-- a step that was made answers how the run has ended
+pub answered : (e : Ending) (answer : Stepped) (before now : Scene Core) → answer ≡ answer_of e → Makes machine before now
+    → Steps machine (outcome_of answer) before now
+answered e answer before now is step_was_made =
+    subst (λ o. Steps machine o before now) (sym (ap outcome_of is ∙ answer_made e)) step_was_made
+
+pub answered_run : (e : Ending) (answer : Stepped) (most : ℕ) (before now : Scene Core) → answer ≡ answer_of e
+    → MakesSteps machine most before now → Runs machine most (outcome_of answer) before now
+answered_run e answer most before now is run =
+    subst (λ o. Runs machine most o before now) (sym (ap outcome_of is ∙ answer_made e)) run
+
+pub ended : (m : Core) (end : End) → m.end ≡ end → HasEnded machine m end
+ended m end is w s stands = ap (λ (c : Core). c.end) stands ∙ is
+
+pub answers : (e : Ending) (answer : Stepped) (m : Core) → answer ≡ answer_of e → m.end ≡ end_of e → HasEnded machine m (end_told answer)
+answers e answer m is end = ended m (end_told answer) (end ∙ sym (ap end_told is ∙ answer_tells e))
 
 pub over : (e : Ending) → e ≢ Running → is_over (end_of e) ≡ true
 over Running other = absurd (other refl)
@@ -47,8 +68,17 @@ over (Exit code) other = refl
 over Divide other = refl
 over (Outside at) other = refl
 
+-- the answer of a step or a run tells that it is over, where it was made and does not say that it goes on
+pub answer_over : (answer : Stepped) → answer ≢ goes_on → outcome_of answer ≡ made → is_over (end_told answer) ≡ true
+answer_over goes_on other is = absurd (other refl)
+answer_over (exits code) other is = refl
+answer_over divides other is = refl
+answer_over (is_outside at) other is = refl
+answer_over read_fails other is = cc
+answer_over write_fails other is = cc
+
 -- a machine whose run has ended
-pub stays_over : (m : Core) (left taken : Option (List ℕ)) → is_over m.end ≡ true → Makes step (scene m left taken) (scene m left taken)
+pub stays_over : (m : Core) (left taken : Option (List ℕ)) → is_over m.end ≡ true → Makes machine (scene m left taken) (scene m left taken)
 stays_over m left taken over =
     made_quiet step m m left taken
     (λ input out. ap (λ b. if b then with_console m input out else instruction_step (instruction_at m.ip (code_bytes (with_console m input out))) (with_console m input out)) over)
@@ -63,39 +93,61 @@ step_is m found runs is input out =
 
 pub step_outside : (m new : Core) (left taken : Option (List ℕ)) → m.end ≡ running → instruction_at m.ip (code_bytes (state_of m)) ≡ None
     → new ≡ core_of (with_end (outside m.ip) m.ip (state_of m))
-    → Makes step (scene m left taken) (scene new left taken)
+    → Makes machine (scene m left taken) (scene new left taken)
 step_outside m new left taken runs none is =
     made_quiet step m new left taken
     (λ input out. step_is m None runs none input out ∙ ap (λ k. with_console k input out) (sym is))
 
--- the machine with its instruction pointer behind an instruction
+-- the machine with its instruction pointer past an instruction
 abbrev pub moved_past : Instr → Core → Core
 moved_past instr m = record m { ip = (m.ip + instr.len) % 65536 }
 
-pub step_made : (m : Core) (instr : Instr) (left taken : Option (List ℕ)) (now : Scene) → m.end ≡ running
+pub step_made : (m : Core) (instr : Instr) (left taken : Option (List ℕ)) (now : Scene Core) → m.end ≡ running
     → instruction_at m.ip (code_bytes (state_of m)) ≡ Some instr
-    → Makes (op_step instr.op m.ip) (scene (moved_past instr m) left taken) now
-    → Makes step (scene m left taken) now
-step_made m instr left taken now runs found made =
-    made_as (op_step instr.op m.ip) step m (moved_past instr m) left taken now (step_is m (Some instr) runs found) made
-
--- a refused operation leaves the machine
-pub refused_core : (f : State → State) (fault : Fault) (old new : Core) (left taken left_now taken_now : Option (List ℕ))
-    → IsRefused f fault (scene old left taken) (scene new left_now taken_now) → new ≡ old
-refused_core f Input old new left taken left_now taken_now refused = ap (λ (v : Scene). v.core) refused.unchanged
-refused_core f Output old new left taken left_now taken_now refused = refused.unchanged
+    → Makes (machine_by (op_step instr.op m.ip)) (scene (moved_past instr m) left taken) now
+    → Makes machine (scene m left taken) now
+step_made m instr left taken now runs found done =
+    made_as (op_step instr.op m.ip) step m (moved_past instr m) left taken now (step_is m (Some instr) runs found) done
 
 pub step_refused : (m new : Core) (instr : Instr) (fault : Fault) (left taken left_now taken_now : Option (List ℕ)) → m.end ≡ running
     → instruction_at m.ip (code_bytes (state_of m)) ≡ Some instr
-    → IsRefused (op_step instr.op m.ip) fault (scene (moved_past instr m) left taken) (scene new left_now taken_now)
-    → IsRefused step fault (scene m left taken) (scene m left_now taken_now)
+    → Steps (machine_by (op_step instr.op m.ip)) (refusal_of fault) (scene (moved_past instr m) left taken) (scene new left_now taken_now)
+    → Steps machine (refusal_of fault) (scene m left taken) (scene m left_now taken_now)
 step_refused m new instr fault left taken left_now taken_now runs found refused =
     refused_as (op_step instr.op m.ip) step fault m (moved_past instr m) new left taken left_now taken_now (step_is m (Some instr) runs found) refused
 
-pub refused_step : (fault : Fault) (before now : Scene) → IsRefused step fault before now → Steps (fault_answer_of fault) before now
-refused_step Input before now refused = refused
-refused_step Output before now refused = refused
+-- the same, as the code has it: the instruction's offset, and the machine with its instruction pointer moved
+pub step_made_at : (m old : Core) (at : ℕ) (instr : Instr) (left taken : Option (List ℕ)) (now : Scene Core) → m.end ≡ running
+    → instruction_at m.ip (code_bytes (state_of m)) ≡ Some instr
+    → Makes (machine_by (op_step instr.op at)) (scene old left taken) now
+    → at ≡ m.ip → old ≡ moved_past instr m → Makes machine (scene m left taken) now
+step_made_at m old at instr left taken now runs found done here moved =
+    step_made m instr left taken now runs found
+    (subst (λ k. Makes (machine_by (op_step instr.op m.ip)) (scene k left taken) now) moved
+    (subst (λ a. Makes (machine_by (op_step instr.op a)) (scene old left taken) now) here done))
 
-pub fault_answers : (fault : Fault) (end : End) → end ≡ running → TellsEnd (fault_answer_of fault) end
-fault_answers Input end is = is
-fault_answers Output end is = is
+pub step_refused_at : (m old new back : Core) (at : ℕ) (instr : Instr) (fault : Fault) (left taken left_now taken_now : Option (List ℕ)) → m.end ≡ running
+    → instruction_at m.ip (code_bytes (state_of m)) ≡ Some instr
+    → Steps (machine_by (op_step instr.op at)) (refusal_of fault) (scene old left taken) (scene new left_now taken_now)
+    → at ≡ m.ip → old ≡ moved_past instr m → (new ≡ moved_past instr m → back ≡ m)
+    → Steps machine (refusal_of fault) (scene m left taken) (scene back left_now taken_now)
+step_refused_at m old new back at instr fault left taken left_now taken_now runs found refused here moved put_back =
+    let kept : new ≡ old = refused_core (op_step instr.op at) fault old new left taken left_now taken_now refused in
+    subst (λ k. Steps machine (refusal_of fault) (scene m left taken) (scene k left_now taken_now)) (sym (put_back (kept ∙ moved)))
+    (step_refused m new instr fault left taken left_now taken_now runs found
+    (subst (λ k. Steps (machine_by (op_step instr.op m.ip)) (refusal_of fault) (scene k left taken) (scene new left_now taken_now)) moved
+    (subst (λ a. Steps (machine_by (op_step instr.op a)) (refusal_of fault) (scene old left taken) (scene new left_now taken_now)) here refused)))
+
+-- what a step answers that is refused
+pub refused_outcome : (fault : Fault) → outcome_of (fault_answer_of fault) ≡ refusal_of fault
+refused_outcome Input = refl
+refused_outcome Output = refl
+
+pub refused_end : (fault : Fault) → end_told (fault_answer_of fault) ≡ running
+refused_end Input = refl
+refused_end Output = refl
+
+pub refused : (fault : Fault) (answer : Stepped) (before now : Scene Core) → answer ≡ fault_answer_of fault
+    → Steps machine (refusal_of fault) before now → Steps machine (outcome_of answer) before now
+refused fault answer before now is was_refused =
+    subst (λ o. Steps machine o before now) (sym (ap outcome_of is ∙ refused_outcome fault)) was_refused

@@ -9,23 +9,11 @@ ghost use Rattle.dcc_step.specs.Core.{core_of, state_of};
 
 use crate::ending::Ending;
 use crate::machine::Machine;
-use crate::operand::half_of;
 use dcc_num::{
     Flags, Half, NO_FLAGS, Reg, Width, add, and, dec, div, idiv, imul, inc, mul, neg, or, rcl1,
     rcr1, rol, ror, sar, shl, shr, sub, xor,
 };
 use dcc_prog::{Alu, Operand, Shift, Unary};
-
-// The width of an operand.
-fn width_of(operand: Operand) -> Width
-    ensures { result ≡ operand_width operand }
-{
-    match operand {
-        Operand::Word(_) | Operand::Seg(_) => Width::Word,
-        Operand::Byte(..) => Width::Byte,
-        Operand::Mem(width, _) | Operand::Const(width, _) => width,
-    }
-}
 
 // NOT: the bits that are not in the operand.
 fn complement(w: Width, a: u16) -> u16
@@ -73,7 +61,7 @@ impl Machine {
         ensures { self.new ≡ core_of (alu_step kind (operand_width a) a
             (operand_value (state_of self.old) a) (operand_value (state_of self.old) b) (state_of self.old)) }
     {
-        let w = width_of(a);
+        let w = a.width();
         let x = self.value(a);
         let y = self.value(b);
         match kind {
@@ -95,7 +83,7 @@ impl Machine {
         ensures width { result < limit_of w }
     {
         match w {
-            Width::Byte => u16::from(half_of(Half::Low, self.reg(Reg::Ax))),
+            Width::Byte => u16::from(Half::Low.of(self.reg(Reg::Ax))),
             Width::Word => self.reg(Reg::Ax),
         }
     }
@@ -106,7 +94,7 @@ impl Machine {
         ensures width { result < limit_of w }
     {
         match w {
-            Width::Byte => u16::from(half_of(Half::High, self.reg(Reg::Ax))),
+            Width::Byte => u16::from(Half::High.of(self.reg(Reg::Ax))),
             Width::Word => self.reg(Reg::Dx),
         }
     }
@@ -156,7 +144,7 @@ impl Machine {
         ensures { self.new ≡ core_of (unary_step kind (operand_width x) x
             (operand_value (state_of self.old) x) at (state_of self.old)) }
     {
-        let w = width_of(x);
+        let w = x.width();
         let a = self.value(x);
         match kind {
             Unary::Inc => self.put_result(x, inc(w, a, self.flags)),
@@ -181,7 +169,7 @@ impl Machine {
         ensures { result ≡ count_in by_cl (state_of self.now) }
     {
         if by_cl {
-            half_of(Half::Low, self.reg(Reg::Cx))
+            Half::Low.of(self.reg(Reg::Cx))
         } else {
             1
         }
@@ -192,7 +180,7 @@ impl Machine {
         requires { IsOperand x }
         ensures { self.new ≡ core_of (shift_step kind x by_cl (state_of self.old)) }
     {
-        let w = width_of(x);
+        let w = x.width();
         let a = self.value(x);
         let outcome = shift_by(kind, w, a, self.count(by_cl), self.flags);
         self.put_result(x, outcome);

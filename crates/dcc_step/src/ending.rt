@@ -1,8 +1,9 @@
 //! How a step comes out, and how a run has ended.
 
 ghost use Rattle.std.specs.Prelude.{◌≡◌};
-ghost use Rattle.dcc_step.specs.Ending.{answer_of};
-ghost use Rattle.dcc_step.specs.Stepped.{fault_answer_of};
+ghost use Rattle.dcc_step.specs.Ending.{answer_of, fault_answer_of};
+
+use dcc_console::Fault;
 
 /// How a step or a run came out.
 #[derive(Clone, Copy, PartialEq, Eq, Debug)]
@@ -34,15 +35,6 @@ pub enum Ending {
     Outside(u16),
 }
 
-/// Why a step is refused.
-#[derive(Clone, Copy, PartialEq, Eq, Debug)]
-pub enum Fault {
-    /// A read failed.
-    Input,
-    /// A write failed.
-    Output,
-}
-
 impl Ending {
     /// What a step answers.
     pub fn answer(self) -> Stepped
@@ -57,12 +49,11 @@ impl Ending {
     }
 }
 
-impl Fault {
-    /// What a step answers that is refused.
-    pub fn answer(self) -> Stepped
-        ensures { result ≡ fault_answer_of self }
-    {
-        match self {
+impl From<Fault> for Stepped {
+    ghost from_gives = { λ fault answer. answer ≡ fault_answer_of fault };
+
+    fn from(fault: Fault) -> Stepped {
+        match fault {
             Fault::Input => Stepped::InFault,
             Fault::Output => Stepped::OutFault,
         }

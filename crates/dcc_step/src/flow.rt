@@ -1,37 +1,13 @@
 //! Jumps, and operations without operands.
 
 ghost use Rattle.std.specs.Prelude.{◌≡◌};
-ghost use Rattle.dcc_prog.specs.Operations.{after_jump, after_jump_if, holds, loop_step, table_step, with_carry, plain_step, lea_step, mov_step, xchg_step};
+ghost use Rattle.dcc_prog.specs.Operations.{after_jump, after_jump_if, loop_step, table_step, with_carry, plain_step, lea_step, mov_step, xchg_step};
 ghost use Rattle.dcc_prog.specs.WellFormed.{AreOperands};
 ghost use Rattle.dcc_step.specs.Core.{core_of, state_of};
 
 use crate::machine::Machine;
-use crate::operand::half_of;
-use dcc_num::{Flags, Half, Reg, sign8};
-use dcc_prog::{Cond, Ea, Operand, Plain};
-
-/// Whether a condition holds.
-pub fn is_met(condition: Cond, flags: Flags) -> bool
-    ensures { result ≡ holds condition flags }
-{
-    let less = flags.sf != flags.of;
-    match condition {
-        Cond::O => flags.of,
-        Cond::No => !flags.of,
-        Cond::B => flags.cf,
-        Cond::Ae => !flags.cf,
-        Cond::Z => flags.zf,
-        Cond::Nz => !flags.zf,
-        Cond::Be => flags.cf || flags.zf,
-        Cond::A => !(flags.cf || flags.zf),
-        Cond::S => flags.sf,
-        Cond::Ns => !flags.sf,
-        Cond::L => less,
-        Cond::Ge => !less,
-        Cond::Le => flags.zf || less,
-        Cond::G => !(flags.zf || less),
-    }
-}
+use dcc_num::{Half, Reg, sign8};
+use dcc_prog::{Ea, Operand, Plain};
 
 impl Machine {
     /// To the target where so, else to the next instruction.
@@ -93,7 +69,7 @@ impl Machine {
         ensures { self.new ≡ core_of (plain_step kind (state_of self.old)) }
     {
         let ax = self.reg(Reg::Ax);
-        let al = half_of(Half::Low, ax);
+        let al = Half::Low.of(ax);
         match kind {
             Plain::Nop | Plain::Cli | Plain::Sti | Plain::Cld => {}
             Plain::Cbw => self.set_reg(Reg::Ax, sign8(al)),

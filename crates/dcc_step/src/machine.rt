@@ -8,7 +8,7 @@ ghost use Rattle.dcc_step.specs.Core.{with_console, state_of};
 use crate::cache::{Decoded, first_cache};
 use crate::ending::Ending;
 use dcc_num::{Flags, NO_FLAGS, Reg};
-use dcc_prog::{Image, LOAD_SEGMENT};
+use dcc_prog::{Image, LOAD_SEGMENT, PREFIX_SEGMENT};
 use std::alloc::{AllocError, Global};
 use std::marker::Model;
 
@@ -17,9 +17,6 @@ const MEMORY_SIZE: usize = 0x10_0000;
 
 // The physical address at which the load image begins.
 const IMAGE_ADDRESS: usize = LOAD_SEGMENT as usize * 16;
-
-// The segment of the program prefix, in which DS and ES begin.
-const PREFIX_SEGMENT: u16 = 0x0100;
 
 /// A machine: registers, flags, memory, and how its run has ended.
 #[derive(Drop)]
@@ -48,7 +45,14 @@ impl Model for Machine {
 
     ghost use Rattle.dcc_step.specs.Ending.{end_of};
 
-    ghost view = { λ m. record { regs = m.regs; segs = m.segs; flags = m.flags; ip = m.ip; memory = m.memory.items; end = end_of m.end } };
+    ghost view = { λ m. record {
+      regs = m.regs;
+      segs = m.segs;
+      flags = m.flags;
+      ip = m.ip;
+      memory = m.memory.items;
+      end = end_of m.end;
+    } };
 
     ghost invariant = { λ m. (vec_len m.memory ≡ 2 ^ 20) × (vec_len m.cache ≡ 4096) };
 }
@@ -58,7 +62,8 @@ impl Machine {
     /// the load segment on and 0 elsewhere.
     pub fn new(alloc: Global, image: &Image) -> Result<Machine, AllocError>
         requires { image_address + vec_len image.now.bytes ≤ 2 ^ 20 }
-        ensures { IfOk result (λ machine. (input : List ℕ) → with_console machine input [] ≡ start_state image.now input) }
+        ensures { IfOk result (λ machine. (input : List ℕ) →
+            with_console machine input [] ≡ start_state image.now input) }
     {
         let mut memory = Vec::with_capacity(alloc, MEMORY_SIZE)?;
         memory.resize(IMAGE_ADDRESS, 0)?;

@@ -2,13 +2,13 @@
 
 ghost use Rattle.std.specs.Prelude.{◌≡◌, ◌<◌, ◌^◌};
 ghost use Rattle.dcc_num.specs.Numbers.{limit_of};
-ghost use Rattle.dcc_prog.specs.Machine.{physical, byte_in, word_at_offset, with_byte_in, with_word_at_offset, word_with_half, half_of_word, with_word_in, code_segment, stack_segment, data_segment, part_of, offset_of, is_bp, segment_of, operand_value, with_operand, operand_width};
+ghost use Rattle.dcc_prog.specs.Machine.{physical, byte_in, word_at_offset, with_byte_in, with_word_at_offset, with_word_in, code_segment, stack_segment, data_segment, part_of, offset_of, is_bp, segment_of, operand_value, with_operand, operand_width};
 ghost use Rattle.dcc_prog.specs.WellFormed.{IsOperand};
 ghost use Rattle.dcc_step.specs.Core.{core_of, state_of};
 
 use crate::machine::Machine;
 use dcc_num::{Half, Reg, Width};
-use dcc_prog::{Ea, Operand};
+use dcc_prog::{CS, DS, Ea, Operand, SS};
 
 /// The physical address of an offset in a segment.
 pub(crate) fn physical_address(segment: u16, offset: u16) -> usize
@@ -16,26 +16,6 @@ pub(crate) fn physical_address(segment: u16, offset: u16) -> usize
     ensures within { result < 2 ^ 20 }
 {
     (usize::from(segment) * 16 + usize::from(offset)) % 0x10_0000
-}
-
-/// One byte of a word.
-pub fn half_of(half: Half, word: u16) -> u8
-    ensures { result ≡ half_of_word half word }
-{
-    match half {
-        Half::Low => (word % 256) as u8,
-        Half::High => (word / 256) as u8,
-    }
-}
-
-/// A word after one of its bytes has taken a value.
-pub fn with_half(half: Half, word: u16, byte: u8) -> u16
-    ensures { result ≡ word_with_half half word byte }
-{
-    match half {
-        Half::Low => word / 256 * 256 + u16::from(byte),
-        Half::High => u16::from(byte) * 256 + word % 256,
-    }
 }
 
 // Whether a part of an address is BP.
@@ -88,21 +68,21 @@ impl Machine {
     pub(crate) fn cs(&self) -> u16
         ensures { result ≡ code_segment (state_of self.now) }
     {
-        self.segs[1]
+        self.segs[CS as usize]
     }
 
     /// The stack segment.
     pub(crate) fn ss(&self) -> u16
         ensures { result ≡ stack_segment (state_of self.now) }
     {
-        self.segs[2]
+        self.segs[SS as usize]
     }
 
     /// The data segment.
     pub(crate) fn ds(&self) -> u16
         ensures { result ≡ data_segment (state_of self.now) }
     {
-        self.segs[3]
+        self.segs[DS as usize]
     }
 
     // What a part of an address adds to it.
@@ -142,7 +122,7 @@ impl Machine {
     {
         match operand {
             Operand::Word(r) => self.reg(r),
-            Operand::Byte(r, half) => u16::from(half_of(half, self.reg(r))),
+            Operand::Byte(r, half) => u16::from(half.of(self.reg(r))),
             Operand::Seg(number) => self.segs[number as usize],
             Operand::Mem(Width::Byte, ea) => {
                 u16::from(self.load_byte(self.segment(ea), self.offset(ea)))
@@ -161,7 +141,7 @@ impl Machine {
         match operand {
             Operand::Word(r) => self.set_reg(r, value),
             Operand::Byte(r, half) => {
-                let word = with_half(half, self.reg(r), value as u8);
+                let word = half.put(self.reg(r), value as u8);
                 self.set_reg(r, word);
             }
             Operand::Seg(number) => self.segs[number as usize] = value,

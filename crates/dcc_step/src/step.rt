@@ -7,19 +7,21 @@ ghost use Rattle.dcc_prog.specs.Table.{instruction_at};
 ghost use Rattle.dcc_prog.specs.Step.{code_byte, code_bytes, op_step};
 ghost use Rattle.dcc_prog.specs.WellFormed.{IsOperation};
 ghost use Rattle.dcc_step.specs.Core.{core_of, state_of};
-ghost use Rattle.dcc_step.specs.Stepped.{scene, Makes, IsRefused, Steps, TellsEnd, Runs};
+ghost use Rattle.dcc_console.specs.Scene.{scene};
+ghost use Rattle.dcc_console.specs.Steps.{Makes, Steps, HasEnded, Runs, refusal_of};
+ghost use Rattle.dcc_step.specs.Stepped.{machine, machine_by, outcome_of, end_told};
 
 use crate::cache::{CACHE_SIZE, Decoded};
-use crate::ending::{Ending, Fault, Stepped};
-use crate::flow::is_met;
+use crate::ending::{Ending, Stepped};
 use crate::machine::Machine;
 use crate::operand::physical_address;
+use dcc_console::Fault;
 use dcc_io::{Sink, Source};
 use dcc_num::Reg;
 use dcc_prog::{Instr, Op};
 
 impl Machine {
-    // The byte at so many bytes behind the instruction pointer, whose offset wraps.
+    // The byte at so many bytes past the instruction pointer, whose offset wraps.
     fn code_byte(&self, k: u16) -> u8
         ensures { result ≡ code_byte (state_of self.now) k }
     {
@@ -27,7 +29,7 @@ impl Machine {
     }
 
     // The bytes at the instruction pointer, as many as the longest instruction has. They stand one
-    // behind another where neither the offset nor the address wraps among them.
+    // after another where neither the offset nor the address wraps among them.
     fn window(&self) -> [u8; 6]
         ensures { result ≡ code_bytes (state_of self.now) }
     {
@@ -88,7 +90,7 @@ impl Machine {
             Op::Pop(x) => self.pop(x),
             Op::Plain(kind) => self.plain(kind),
             Op::Jump(target) => self.ip = target,
-            Op::Branch(condition, target) => self.jump_if(is_met(condition, self.flags), target),
+            Op::Branch(condition, target) => self.jump_if(condition.holds(self.flags), target),
             Op::Loop(target) => self.count_down(true, target),
             Op::LoopE(target) => self.count_down(self.flags.zf, target),
             Op::LoopNe(target) => self.count_down(!self.flags.zf, target),
@@ -109,10 +111,10 @@ impl Machine {
         out: &mut O,
     ) -> Result<(), Fault>
         requires { IsOperation op }
-        ensures made { OnOk result (Makes (op_step op at)
+        ensures made { OnOk result (Makes (machine_by (op_step op at))
             (scene self.old (I.left input.old) (O.taken out.old))
             (scene self.new (I.left input.new) (O.taken out.new))) }
-        ensures refused { IfErr result (λ fault. IsRefused (op_step op at) fault
+        ensures refused { IfErr result (λ fault. Steps (machine_by (op_step op at)) (refusal_of fault)
             (scene self.old (I.left input.old) (O.taken out.old))
             (scene self.new (I.left input.new) (O.taken out.new))) }
 
@@ -138,10 +140,10 @@ impl Machine {
     /// no instruction of the table stands or INT 21h has another number. InFault and OutFault come
     /// where a read or a write failed: the machine is as before, and what was read or written stays so.
     pub fn step<I: Source, O: Sink>(&mut self, input: &mut I, out: &mut O) -> Stepped
-        ensures step { Steps result
+        ensures step { Steps machine (outcome_of result)
             (scene self.old (I.left input.old) (O.taken out.old))
             (scene self.new (I.left input.new) (O.taken out.new)) }
-        ensures answer { TellsEnd result self.new.end }
+        ensures answer { HasEnded machine self.new (end_told result) }
 
         // The counts never fall, and a fault comes only where its count rose.
         ensures input_faults { I.faults input.old ≤ I.faults input.new }
@@ -157,10 +159,10 @@ impl Machine {
             self.finish(Ending::Outside(at), at);
             return self.end.answer();
         };
-        self.ip = at.wrapping_add(u16::from(instr.len));
+        self.ip = instr.next_of(at);
         if let Err(fault) = self.perform(instr.op, at, input, out) {
             self.ip = at;
-            return fault.answer();
+            return Stepped::from(fault);
         }
         self.end.answer()
     }
@@ -168,10 +170,10 @@ impl Machine {
     /// Makes steps until one answers something else than Running, at most so many. After a fault the
     /// steps before the one that failed stay made.
     pub fn run<I: Source, O: Sink>(&mut self, input: &mut I, out: &mut O, most: u64) -> Stepped
-        ensures run { Runs most result
+        ensures run { Runs machine most (outcome_of result)
             (scene self.old (I.left input.old) (O.taken out.old))
             (scene self.new (I.left input.new) (O.taken out.new)) }
-        ensures answer { TellsEnd result self.new.end }
+        ensures answer { HasEnded machine self.new (end_told result) }
 
         // The counts never fall, and a fault comes only where its count rose.
         ensures input_faults { I.faults input.old ≤ I.faults input.new }

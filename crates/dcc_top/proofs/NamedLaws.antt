@@ -54,13 +54,13 @@ refused-one (NotYetRefused at) = inr (inr (inl refl))
 refused-one MemoryRefused = inr (inr (inr (inr (inr (inl refl)))))
 
 -- the status of a run on an input that is told
-run-ended : {S : Type 0} (subject : Subject S) (steps : ℕ) (before left : Option (List ℕ)) (reply : Reply) (output bytes : List ℕ) → before ≡ Some bytes → Finishes subject steps before left reply output → IsOneOf (status_of reply) (end_status (end_after subject.system steps (subject.start bytes)) ∷ (4 ∷ (5 ∷ (6 ∷ (7 ∷ [])))))
+run-ended : {S : Type 0} (subject : Subject S) (steps : ℕ) (before left : Option (List ℕ)) (reply : Reply) (output bytes : List ℕ) → before ≡ Some bytes → Finishes subject steps before left reply output → IsOneOf (status_of reply) (end_status (end_after subject.console.system steps (subject.start bytes)) ∷ (4 ∷ (5 ∷ (6 ∷ (7 ∷ [])))))
 run-ended subject steps before left _ output bytes told (ended end h) =
     inl (end-status steps end ∙ ap end_status (sym (h bytes told).end_is))
 run-ended subject steps before left _ output bytes told (stopped_at_read h) = inr (inr (inl refl))
 run-ended subject steps before left _ _ bytes told (not_begun same) = inr (inr (inr (inr (inl refl))))
 
-text-run-ended : {S : Type 0} (subject : Subject S) (steps : ℕ) (before left : Option (List ℕ)) (reply : Reply) (output bytes : List ℕ) → before ≡ Some bytes → FinishesOrStops subject steps before left reply output → IsOneOf (status_of reply) (end_status (end_after subject.system steps (subject.start bytes)) ∷ (4 ∷ (5 ∷ (6 ∷ (7 ∷ [])))))
+text-run-ended : {S : Type 0} (subject : Subject S) (steps : ℕ) (before left : Option (List ℕ)) (reply : Reply) (output bytes : List ℕ) → before ≡ Some bytes → FinishesOrStops subject steps before left reply output → IsOneOf (status_of reply) (end_status (end_after subject.console.system steps (subject.start bytes)) ∷ (4 ∷ (5 ∷ (6 ∷ (7 ∷ [])))))
 text-run-ended subject steps before left reply output bytes told (finishes h) =
     run-ended subject steps before left reply output bytes told h
 text-run-ended subject steps before left _ output bytes told (found_none h) = inr (inr (inr (inr (inl refl))))

@@ -1,41 +1,53 @@
-use Rattle.std.proofs.Common.{◌≡◌, ◌+◌, sym, ap, ◌∙◌, arith, subst, take, rules}
-use Rattle.dcc_io.specs.Told.{append_told}
-use Rattle.dcc_io.proofs.ToldLemmas.{append_told-nil}
+use Rattle.std.proofs.Common.{◌≡◌, ◌+◌, ◌<◌, ◌≤◌, length, sym, ap, ◌∙◌, arith, subst, rules}
+use Rattle.dcc_io.specs.Told.{append_told, AppendsProperPrefix}
+use Rattle.dcc_c.specs.Dos.{is_not_dollar, string_at}
 use Rattle.dcc_c.specs.Memory.{byte_at}
-use Rattle.dcc_crun.proofs.StringLaws.{AreInString, string_room, none_in_string, string_ends, string_fills, string_goes_on, string_so_far, string_part, other_byte}
+use Rattle.dcc_console.proofs.Strings.{none_written, one_written, all_up_to, all_of_them, not_all}
+use Rattle.dcc_crun.proofs.StringLaws.{string_room, length-string_room, get_or-string_room, string_is, other_byte}
 use Rattle.dcc_crun.proofs.dos.put_string.Goals as goal
 
 pub loop-k-init : goal.loop-k-init
-loop-k-init g c = record {
-  in_string = none_in_string _ _;
-  taken = sym (append_told-nil _);
-  faults = omega arith;
-}
+loop-k-init g c = record { written = none_written is_not_dollar _ _; faults = omega arith }
 
 pub returns-then-byte-eq36-clause-whole : goal.returns-then-byte-eq36-clause-whole
 returns-then-byte-eq36-clause-whole g c =
-    let read : c.byte_at-byte.result ≡ byte_at c.args.memory.now (c.args.at + c.loop-k.k) = cc in
-    let end = string_ends c.args.memory.now c.args.at c.loop-k.k c.byte_at-byte.result c.loop-k.invariant.in_string c.loop-k-test.true read c.if-byte-eq36.true in
-    c.loop-k.invariant.taken ∙ ap (append_told (g.O.Sink.taken c.args.out.now)) (sym end)
+    let memory = c.args.memory.now in
+    let at = c.args.at in
+    let read : c.byte_at-byte.result ≡ byte_at memory (at + c.loop-k.k) = cc in
+    let inside : c.loop-k.k < length (string_room memory at) = omega (arith, length-string_room memory at) in
+    all_up_to is_not_dollar (string_room memory at) _ _ c.loop-k.k c.byte_at-byte.result c.loop-k.invariant.written inside
+    (get_or-string_room memory at c.loop-k.k c.loop-k-test.true ∙ sym read) (ap is_not_dollar c.if-byte-eq36.true)
+    ∙ ap (append_told (g.O.Sink.taken c.args.out.now)) (string_is memory at)
 
 pub returns-in_err-put_all-clause-part : goal.returns-in_err-put_all-clause-part
 returns-in_err-put_all-clause-part g c =
-    let read : c.byte_at-byte.result ≡ byte_at c.args.memory.now (c.args.at + c.loop-k.k) = cc in
-    let part = string_part c.args.memory.now c.args.at c.loop-k.k c.byte_at-byte.result _ _ _ c.loop-k.invariant.in_string c.loop-k-test.true read (other_byte _ c.if-byte-eq36.false) c.loop-k.invariant.taken c.in_err-put_all.ensures.part in
+    let memory = c.args.memory.now in
+    let at = c.args.at in
+    let read : c.byte_at-byte.result ≡ byte_at memory (at + c.loop-k.k) = cc in
+    let inside : c.loop-k.k < length (string_room memory at) = omega (arith, length-string_room memory at) in
+    let part : AppendsProperPrefix (g.O.Sink.taken c.args.out.now) (g.O.Sink.taken c.put_all.new.sink) (string_at memory at) =
+    subst (AppendsProperPrefix (g.O.Sink.taken c.args.out.now) (g.O.Sink.taken c.put_all.new.sink)) (string_is memory at)
+    (not_all is_not_dollar (string_room memory at) _ _ _ c.loop-k.k c.byte_at-byte.result c.loop-k.invariant.written inside
+    (get_or-string_room memory at c.loop-k.k c.loop-k-test.true ∙ sym read) (other_byte _ c.if-byte-eq36.false) c.in_err-put_all.ensures.part) in
     search rules
 
 pub loop-k-preserved : goal.loop-k-preserved
 loop-k-preserved g c =
-    let read : c.byte_at-byte.result ≡ byte_at c.args.memory.now (c.args.at + c.loop-k.k) = cc in
+    let memory = c.args.memory.now in
+    let at = c.args.at in
+    let read : c.byte_at-byte.result ≡ byte_at memory (at + c.loop-k.k) = cc in
+    let inside : c.loop-k.k < length (string_room memory at) = omega (arith, length-string_room memory at) in
     record {
-      in_string = string_goes_on c.args.memory.now c.args.at c.loop-k.k c.byte_at-byte.result c.loop-k.invariant.in_string c.loop-k-test.true read (other_byte _ c.if-byte-eq36.false);
-      taken = string_so_far c.args.memory.now c.args.at c.loop-k.k c.byte_at-byte.result _ _ _ c.loop-k-test.true read c.loop-k.invariant.taken c.in_ok-put_all.ensures.whole;
+      written =
+          one_written is_not_dollar (string_room memory at) _ _ _ c.loop-k.k c.byte_at-byte.result c.loop-k.invariant.written inside
+          (get_or-string_room memory at c.loop-k.k c.loop-k-test.true ∙ sym read) (other_byte _ c.if-byte-eq36.false) c.in_ok-put_all.ensures.whole;
       faults = omega (arith, c.in_ok-put_all.ensures.faults);
     }
 
 pub returns-clause-whole : goal.returns-clause-whole
 returns-clause-whole g c =
-    let all : c.loop-k.k ≡ 65536 = omega arith in
-    let end = string_fills c.args.memory.now c.args.at (subst (λ k. AreInString c.args.memory.now c.args.at k) all c.loop-k.invariant.in_string) in
-    c.loop-k.invariant.taken ∙ ap (λ k. append_told (g.O.Sink.taken c.args.out.now) (take k (string_room c.args.memory.now c.args.at))) all
-    ∙ ap (append_told (g.O.Sink.taken c.args.out.now)) (sym end)
+    let memory = c.args.memory.now in
+    let at = c.args.at in
+    let past : length (string_room memory at) ≤ c.loop-k.k = omega (arith, length-string_room memory at) in
+    all_of_them is_not_dollar (string_room memory at) _ _ c.loop-k.k c.loop-k.invariant.written past
+    ∙ ap (append_told (g.O.Sink.taken c.args.out.now)) (string_is memory at)

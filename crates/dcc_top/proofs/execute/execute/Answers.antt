@@ -1,7 +1,7 @@
 use Rattle.std.proofs.Common.{arith}
 use Rattle.dcc_run.specs.End.{Running, Exit, Divide, Outside}
 use Rattle.dcc_prog.proofs.MzImageLaws.{length-loaded}
-use Rattle.dcc_step.specs.Stepped.{scene}
+use Rattle.dcc_console.specs.Scene.{scene}
 use Rattle.dcc_top.specs.Execution.{machine_of}
 use Rattle.dcc_top.proofs.ExecuteLaws.{ran-nothing, ran-ended, ran-to_read, broke-off}
 use Rattle.dcc_top.proofs.execute.execute.Goals as goal

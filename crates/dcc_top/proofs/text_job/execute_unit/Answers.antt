@@ -1,6 +1,6 @@
 use Rattle.dcc_run.specs.End.{Running, Exit, Divide, Stuck}
 use Rattle.dcc_c.specs.Views.{tree_of}
-use Rattle.dcc_crun.specs.Stepped.{scene}
+use Rattle.dcc_console.specs.Scene.{scene}
 use Rattle.dcc_top.proofs.TextRunLaws.{text-nothing, text-ended, text-to_read, text-found_none, text-broke_off}
 use Rattle.dcc_top.proofs.text_job.execute_unit.Goals as goal
 

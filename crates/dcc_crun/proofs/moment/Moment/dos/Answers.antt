@@ -1,6 +1,6 @@
 use Rattle.std.proofs.Common.{◌≡◌, ◌==◌, true, false, length, subst}
 use Rattle.dcc_prepare.specs.declared.program.Dos.{Dos as DosCall}
-use Rattle.dcc_crun.specs.Doing.{Kept, TakesKey, CallsDos}
+use Rattle.dcc_crun.specs.Doing.{Kept, CallsForKey, CallsDos}
 use Rattle.dcc_crun.proofs.StepLaws.{comes_err}
 use Rattle.dcc_crun.proofs.FunctionLaws.{empty_list}
 use Rattle.dcc_crun.proofs.ComingLaws.{comes_from, getche_from, getch_from, does_kept}
@@ -23,7 +23,7 @@ returns-in_ok-leave-in-Leave-clause-comes g c line =
 pub returns-in-Getche-clause-comes : goal.returns-in-Getche-clause-comes
 returns-in-Getche-clause-comes g c line =
     let flag : (length c.args.arguments.now == 0) ≡ true = cc in
-    comes_from line c.key.result (TakesKey c.args.self.now true c.args.target line) (Kept c.key.new.self) _ (Kept c.key.new.self) _ _ _ _
+    comes_from line c.key.result (CallsForKey c.args.self.now true c.args.target line) (Kept c.key.new.self) _ (Kept c.key.new.self) _ _ _ _
     (λ tree points s now call.
     getche_from c.args.self.now c.key.new.self c.args.globals.now c.args.target c.args.arguments.now line (empty_list c.args.arguments.now flag) tree points s now
     (subst (λ (d : DosCall). CallsDos c.args.self.now c.args.globals.now d c.args.target c.args.arguments.now line tree points s now) c.in-Getche.is call))
@@ -32,7 +32,7 @@ returns-in-Getche-clause-comes g c line =
 pub returns-in-Getch-clause-comes : goal.returns-in-Getch-clause-comes
 returns-in-Getch-clause-comes g c line =
     let flag : (length c.args.arguments.now == 0) ≡ true = cc in
-    comes_from line c.key-in-Getch.result (TakesKey c.args.self.now false c.args.target line) (Kept c.key-in-Getch.new.self) _ (Kept c.key-in-Getch.new.self) _ _ _ _
+    comes_from line c.key-in-Getch.result (CallsForKey c.args.self.now false c.args.target line) (Kept c.key-in-Getch.new.self) _ (Kept c.key-in-Getch.new.self) _ _ _ _
     (λ tree points s now call.
     getch_from c.args.self.now c.key-in-Getch.new.self c.args.globals.now c.args.target c.args.arguments.now line (empty_list c.args.arguments.now flag) tree points s now
     (subst (λ (d : DosCall). CallsDos c.args.self.now c.args.globals.now d c.args.target c.args.arguments.now line tree points s now) c.in-Getch.is call))

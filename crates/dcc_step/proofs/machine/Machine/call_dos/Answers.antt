@@ -1,20 +1,22 @@
-use Rattle.std.proofs.Common.{arith, ◌≡◌, ◌++◌, sym, ap, ◌∙◌, ◌∷◌, []}
+use Rattle.std.proofs.Common.{true, false, arith, ◌≡◌, ◌++◌, sym, ap, ◌∙◌, ◌∷◌, []}
+use Rattle.std.proofs.lemmas.Result.{IfErr-weaker}
 use Rattle.dcc_run.specs.End.{Exit}
 use Rattle.dcc_num.specs.declared.Half.TheVariants.{Low, High}
 use Rattle.dcc_num.specs.declared.Reg.TheVariants.{Ax, Dx}
 use Rattle.dcc_prog.specs.Machine.{half_of_word, word_in}
 use Rattle.dcc_prog.specs.Operations.{with_end}
-use Rattle.dcc_prog.specs.Dos.{dos_call, dos_string}
-use Rattle.dcc_step.specs.Core.{state_of, with_console}
-use Rattle.dcc_step.proofs.Scenes.{made_quiet, made_writing, refused_writing, numbered, no_call, string-keeps}
+use Rattle.dcc_prog.specs.Dos.{dos_call, dos_string, key_step}
+use Rattle.dcc_console.specs.Scene.{Scene, scene}
+use Rattle.dcc_step.specs.Core.{Core, state_of, with_console}
+use Rattle.dcc_step.proofs.Scenes.{on_ok, made_as, refused_here, made_quiet, made_writing, refused_writing, numbered, no_call, string-keeps}
 use Rattle.dcc_step.proofs.machine.Machine.call_dos.Goals as goal
 
 pub returns-in_default-put_all-clause-refused : goal.returns-in_default-put_all-clause-refused
 returns-in_default-put_all-clause-refused g c =
     let m = c.args.self.now in
-    let ah : 2 ≡ half_of_word High (word_in (state_of m) Ax) = sym c.in-2.is ∙ c.half_of.ensures ∙ ap (half_of_word High) c.reg-ax.ensures in
-    let byte : c.half_of-byte.result ≡ half_of_word Low (word_in (state_of m) Dx) = c.half_of-byte.ensures ∙ ap (half_of_word Low) c.reg.ensures in
-    refused_writing (dos_call c.args.at) m (c.half_of-byte.result ∷ []) _ _ _
+    let ah : 2 ≡ half_of_word High (word_in (state_of m) Ax) = sym c.in-2.is ∙ c.of.ensures ∙ ap (half_of_word High) c.reg-ax.ensures in
+    let byte : c.of-byte.result ≡ half_of_word Low (word_in (state_of m) Dx) = c.of-byte.ensures ∙ ap (half_of_word Low) c.reg.ensures in
+    refused_writing (dos_call c.args.at) m (c.of-byte.result ∷ []) _ _ _
     (λ input out. numbered c.args.at 2 m ah input out ∙ ap (λ b. with_console m input (out ++ b ∷ [])) (sym byte))
     c.in_default-put_all.ensures.part
 
@@ -22,7 +24,7 @@ pub returns-in_default-write_string-clause-refused :
     goal.returns-in_default-write_string-clause-refused
 returns-in_default-write_string-clause-refused g c =
     let m = c.args.self.now in
-    let ah : 9 ≡ half_of_word High (word_in (state_of m) Ax) = sym c.in-9.is ∙ c.half_of.ensures ∙ ap (half_of_word High) c.reg-ax.ensures in
+    let ah : 9 ≡ half_of_word High (word_in (state_of m) Ax) = sym c.in-9.is ∙ c.of.ensures ∙ ap (half_of_word High) c.reg-ax.ensures in
     refused_writing (dos_call c.args.at) m (dos_string (state_of m)) _ _ _
     (λ input out. numbered c.args.at 9 m ah input out ∙ ap (λ l. with_console m input (out ++ l)) (string-keeps m input out))
     c.in_default-write_string.ensures.part
@@ -30,16 +32,16 @@ returns-in_default-write_string-clause-refused g c =
 pub returns-in-Ok-clause-made : goal.returns-in-Ok-clause-made
 returns-in-Ok-clause-made g c =
     let m = c.args.self.now in
-    let ah : 2 ≡ half_of_word High (word_in (state_of m) Ax) = sym c.in-2.is ∙ c.half_of.ensures ∙ ap (half_of_word High) c.reg-ax.ensures in
-    let byte : c.half_of-byte.result ≡ half_of_word Low (word_in (state_of m) Dx) = c.half_of-byte.ensures ∙ ap (half_of_word Low) c.reg.ensures in
-    made_writing (dos_call c.args.at) m (c.half_of-byte.result ∷ []) _ _ _
+    let ah : 2 ≡ half_of_word High (word_in (state_of m) Ax) = sym c.in-2.is ∙ c.of.ensures ∙ ap (half_of_word High) c.reg-ax.ensures in
+    let byte : c.of-byte.result ≡ half_of_word Low (word_in (state_of m) Dx) = c.of-byte.ensures ∙ ap (half_of_word Low) c.reg.ensures in
+    made_writing (dos_call c.args.at) m (c.of-byte.result ∷ []) _ _ _
     (λ input out. numbered c.args.at 2 m ah input out ∙ ap (λ b. with_console m input (out ++ b ∷ [])) (sym byte))
     c.in-Ok.ensures.whole
 
 pub returns-in-Ok-write_string-clause-made : goal.returns-in-Ok-write_string-clause-made
 returns-in-Ok-write_string-clause-made g c =
     let m = c.args.self.now in
-    let ah : 9 ≡ half_of_word High (word_in (state_of m) Ax) = sym c.in-9.is ∙ c.half_of.ensures ∙ ap (half_of_word High) c.reg-ax.ensures in
+    let ah : 9 ≡ half_of_word High (word_in (state_of m) Ax) = sym c.in-9.is ∙ c.of.ensures ∙ ap (half_of_word High) c.reg-ax.ensures in
     made_writing (dos_call c.args.at) m (dos_string (state_of m)) _ _ _
     (λ input out. numbered c.args.at 9 m ah input out ∙ ap (λ l. with_console m input (out ++ l)) (string-keeps m input out))
     c.in-Ok-write_string.ensures.whole
@@ -47,8 +49,8 @@ returns-in-Ok-write_string-clause-made g c =
 pub returns-in-76-clause-made : goal.returns-in-76-clause-made
 returns-in-76-clause-made g c =
     let m = c.args.self.now in
-    let ah : 76 ≡ half_of_word High (word_in (state_of m) Ax) = sym c.in-76.is ∙ c.half_of.ensures ∙ ap (half_of_word High) c.reg-ax.ensures in
-    let code : c.half_of-in-76.result ≡ half_of_word Low (word_in (state_of m) Ax) = c.half_of-in-76.ensures ∙ ap (half_of_word Low) c.reg-ax.ensures in
+    let ah : 76 ≡ half_of_word High (word_in (state_of m) Ax) = sym c.in-76.is ∙ c.of.ensures ∙ ap (half_of_word High) c.reg-ax.ensures in
+    let code : c.of-in-76.result ≡ half_of_word Low (word_in (state_of m) Ax) = c.of-in-76.ensures ∙ ap (half_of_word Low) c.reg-ax.ensures in
     made_quiet (dos_call c.args.at) m c.finish.new.self _ _
     (λ input out. numbered c.args.at 76 m ah input out
     ∙ ap (λ k. with_end (Exit k) c.args.at (with_console m input out)) (sym code)
@@ -57,8 +59,46 @@ returns-in-76-clause-made g c =
 pub returns-in_default-clause-made : goal.returns-in_default-clause-made
 returns-in_default-clause-made g c =
     let m = c.args.self.now in
-    let number : c.half_of.result ≡ half_of_word High (word_in (state_of m) Ax) = c.half_of.ensures ∙ ap (half_of_word High) c.reg-ax.ensures in
+    let number : c.of.result ≡ half_of_word High (word_in (state_of m) Ax) = c.of.ensures ∙ ap (half_of_word High) c.reg-ax.ensures in
     made_quiet (dos_call c.args.at) m c.finish-in_default.new.self _ _
-    (λ input out. numbered c.args.at c.half_of.result m number input out
-    ∙ no_call c.half_of.result c.args.at (with_console m input out) (omega arith) (omega arith) (omega arith) (omega arith) (omega arith)
+    (λ input out. numbered c.args.at c.of.result m number input out
+    ∙ no_call c.of.result c.args.at (with_console m input out) (omega arith) (omega arith) (omega arith) (omega arith) (omega arith)
     ∙ ap (λ k. with_console k input out) (sym c.finish-in_default.ensures))
+
+pub returns-in-1-clause-made : goal.returns-in-1-clause-made
+returns-in-1-clause-made g c =
+    let m = c.args.self.now in
+    let ah : 1 ≡ half_of_word High (word_in (state_of m) Ax) = sym c.in-1.is ∙ c.of.ensures ∙ ap (half_of_word High) c.reg-ax.ensures in
+    let now : Scene Core = scene c.read_key.new.self (g.I.Source.left c.read_key.new.input) (g.O.Sink.taken c.read_key.new.out) in
+    on_ok c.read_key.result
+    (made_as (key_step true) (dos_call c.args.at) m m (g.I.Source.left c.args.input.now) (g.O.Sink.taken c.args.out.now) now (numbered c.args.at 1 m ah))
+    c.read_key.ensures.made
+
+pub returns-in-1-clause-refused : goal.returns-in-1-clause-refused
+returns-in-1-clause-refused g c =
+    let m = c.args.self.now in
+    let ah : 1 ≡ half_of_word High (word_in (state_of m) Ax) = sym c.in-1.is ∙ c.of.ensures ∙ ap (half_of_word High) c.reg-ax.ensures in
+    IfErr-weaker c.read_key.result _ _
+    (λ fault refused.
+    refused_here (key_step true) (dos_call c.args.at) fault m c.read_key.new.self (g.I.Source.left c.args.input.now) (g.O.Sink.taken c.args.out.now)
+    (g.I.Source.left c.read_key.new.input) (g.O.Sink.taken c.read_key.new.out) (numbered c.args.at 1 m ah) refused)
+    c.read_key.ensures.refused
+
+pub returns-in-8-clause-made : goal.returns-in-8-clause-made
+returns-in-8-clause-made g c =
+    let m = c.args.self.now in
+    let ah : 8 ≡ half_of_word High (word_in (state_of m) Ax) = sym c.in-8.is ∙ c.of.ensures ∙ ap (half_of_word High) c.reg-ax.ensures in
+    let now : Scene Core = scene c.read_key-in-8.new.self (g.I.Source.left c.read_key-in-8.new.input) (g.O.Sink.taken c.read_key-in-8.new.out) in
+    on_ok c.read_key-in-8.result
+    (made_as (key_step false) (dos_call c.args.at) m m (g.I.Source.left c.args.input.now) (g.O.Sink.taken c.args.out.now) now (numbered c.args.at 8 m ah))
+    c.read_key-in-8.ensures.made
+
+pub returns-in-8-clause-refused : goal.returns-in-8-clause-refused
+returns-in-8-clause-refused g c =
+    let m = c.args.self.now in
+    let ah : 8 ≡ half_of_word High (word_in (state_of m) Ax) = sym c.in-8.is ∙ c.of.ensures ∙ ap (half_of_word High) c.reg-ax.ensures in
+    IfErr-weaker c.read_key-in-8.result _ _
+    (λ fault refused.
+    refused_here (key_step false) (dos_call c.args.at) fault m c.read_key-in-8.new.self (g.I.Source.left c.args.input.now) (g.O.Sink.taken c.args.out.now)
+    (g.I.Source.left c.read_key-in-8.new.input) (g.O.Sink.taken c.read_key-in-8.new.out) (numbered c.args.at 8 m ah) refused)
+    c.read_key-in-8.ensures.refused

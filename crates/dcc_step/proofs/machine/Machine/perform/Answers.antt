@@ -1,6 +1,25 @@
+use Rattle.std.proofs.Common.{subst, sym, OnOk, IfErr}
+use Rattle.dcc_prog.specs.Step.{op_step}
+use Rattle.dcc_console.specs.Scene.{Scene, scene}
+use Rattle.dcc_console.specs.Steps.{Makes, Steps, refusal_of}
+use Rattle.dcc_step.specs.Core.{Core}
+use Rattle.dcc_step.specs.Stepped.{machine_by}
 use Rattle.dcc_step.proofs.Steps.{operation_made}
 use Rattle.dcc_step.proofs.machine.Machine.perform.Goals as goal
 
 pub returns-in_default-clause-made : goal.returns-in_default-clause-made
 returns-in_default-clause-made g c =
     operation_made c.args.op c.args.at c.args.self.now c.operate.new.self _ _ c.in_default.not-Int21 c.operate.ensures
+
+pub returns-in-Int21-clause-made : goal.returns-in-Int21-clause-made
+returns-in-Int21-clause-made g c =
+    let before : Scene Core = scene c.args.self.now (g.I.Source.left c.args.input.now) (g.O.Sink.taken c.args.out.now) in
+    let now : Scene Core = scene c.call_dos.new.self (g.I.Source.left c.call_dos.new.input) (g.O.Sink.taken c.call_dos.new.out) in
+    subst (λ o. OnOk c.call_dos.result (Makes (machine_by (op_step o c.args.at)) before now)) (sym c.in-Int21.is) c.call_dos.ensures.made
+
+pub returns-in-Int21-clause-refused : goal.returns-in-Int21-clause-refused
+returns-in-Int21-clause-refused g c =
+    let before : Scene Core = scene c.args.self.now (g.I.Source.left c.args.input.now) (g.O.Sink.taken c.args.out.now) in
+    let now : Scene Core = scene c.call_dos.new.self (g.I.Source.left c.call_dos.new.input) (g.O.Sink.taken c.call_dos.new.out) in
+    subst (λ o. IfErr c.call_dos.result (λ fault. Steps (machine_by (op_step o c.args.at)) (refusal_of fault) before now)) (sym c.in-Int21.is)
+    c.call_dos.ensures.refused

@@ -1,6 +1,6 @@
 use Rattle.std.proofs.Common.{◌∙◌, ap, Ok, arith}
-use Rattle.dcc_crun.proofs.Scenes.{end_told}
-use Rattle.dcc_crun.proofs.dos.next_key.Goals as goal
+use Rattle.dcc_console.proofs.KeyLaws.{end_told}
+use Rattle.dcc_console.proofs.key.next_byte.Goals as goal
 
 pub returns-then-count-eq0-clause-end : goal.returns-then-count-eq0-clause-end
 returns-then-count-eq0-clause-end g c =

@@ -1,0 +1,4 @@
+pub mod KeyLaws
+pub mod RanLaws
+pub mod Runs
+pub mod Strings

@@ -1,0 +1,6 @@
+pub mod Console
+pub mod Key
+pub mod Laws
+pub mod Ran
+pub mod Scene
+pub mod Steps

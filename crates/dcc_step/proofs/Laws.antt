@@ -1,0 +1,12 @@
+-- The machine as code that executes a system with a console.
+use Rattle.std.proofs.Common.{refl}
+use Rattle.dcc_prog.proofs.StepLaws.{machine_lawful}
+use Rattle.dcc_console.specs.Laws.{IsLawfulExecutor}
+use Rattle.dcc_step.specs.Stepped.{machine}
+
+pub machine_executes : IsLawfulExecutor machine
+machine_executes = record {
+  lawful = λ w. machine_lawful;
+  left_is = λ w input s. refl;
+  stands_with = λ w input core s stands. stands;
+}
