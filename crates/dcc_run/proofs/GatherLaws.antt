@@ -22,7 +22,8 @@ module _ {S P : Type 0} (system : System S) (mark : S → Option P) (law : IsLaw
       ap₂ (λ b vs. cond b [] (visit_at system s (mark s)) ++ vs) over
       (ap (λ t. visits system mark n t) (law.stays s over) ∙ visits-over n s over)
 
-module _ {S T P : Type 0} (kept : P → Bool) (first : System S) (mark : S → Option P) (second : System T) (other_mark : T → Option P) (related : S → T → Type 0) (law : IsLawful first) (other_law : IsLawful second) (gathers : Gathers kept first mark second other_mark related) (other_runs : (s : S) (t : T) → related s t → is_over (second.end t) ≡ false) where
+module _ {S T P : Type 0} (kept : P → Bool) (first : System S) (mark : S → Option P) (second : System T) (other_mark : T → Option P) (related : S → T → Type 0) (law : IsLawful first)
+    (other_law : IsLawful second) (gathers : Gathers kept first mark second other_mark related) (other_runs : (s : S) (t : T) → related s t → is_over (second.end t) ≡ false) where
   -- fewer of the further steps come to no kept place either
   quieter : (s : S) (n m : ℕ) → n ≤ m → visits_of kept (visits first mark m s) ≡ [] → visits_of kept (visits first mark n s) ≡ []
   quieter s n m le quiet =
@@ -41,8 +42,9 @@ module _ {S T P : Type 0} (kept : P → Bool) (first : System S) (mark : S → O
       ∙ ap (λ vs. visits_of kept (visit_of first mark s) ++ vs) (sym (quieter (first.step s) n g.further le g.quiet))
       ∙ sym (visits_of-append kept (visit_of first mark s) (visits first mark n (first.step s)))
 
-  -- with visits behind it
-  all-visits : (s : S) (t : T) (g : IsGathered kept first mark second other_mark related s t) (n : ℕ) → visits_of kept (visits first mark (suc g.further + n) s) ≡ visit_of second other_mark t ++ visits_of kept (visits first mark n (after first.step (suc g.further) s))
+  -- with visits after it
+  all-visits : (s : S) (t : T) (g : IsGathered kept first mark second other_mark related s t) (n : ℕ) → visits_of kept
+      (visits first mark (suc g.further + n) s) ≡ visit_of second other_mark t ++ visits_of kept (visits first mark n (after first.step (suc g.further) s))
   all-visits s t g n =
       let le : g.further ≤ g.further = omega arith in
       ap (visits_of kept) (visits-add first mark (suc g.further) n s)
@@ -54,8 +56,9 @@ module _ {S T P : Type 0} (kept : P → Bool) (first : System S) (mark : S → O
     visits_are : visits second other_mark m t ≡ visits_of kept (visits first mark n s)
     alike : over (after first.step n s) (after second.step m t) ≡ true → EndsAlike first s n second t m
 
-  -- behind the gathered steps, where the runs go on
-  later-shows : (over : S → T → Bool) (s : S) (t : T) (g : IsGathered kept first mark second other_mark related s t) (n m : ℕ) → Shows over (after first.step (suc g.further) s) (second.step t) n m → Shows over s t (suc g.further + n) (suc m)
+  -- after the gathered steps, where the runs go on
+  later-shows : (over : S → T → Bool) (s : S) (t : T) (g : IsGathered kept first mark second other_mark related s t) (n m : ℕ) → Shows over (after first.step (suc g.further) s) (second.step t) n m →
+      Shows over s t (suc g.further + n) (suc m)
   later-shows over s t g n m x =
       let there = after-add first.step (suc g.further) n s in
       record {

@@ -2,3 +2,8 @@ pub mod PrefixLaws
 pub mod RunLaws
 pub mod VisitLaws
 pub mod GatherLaws
+pub mod ShadowLaws
+pub mod AgreementLaws
+pub mod KeptLaws
+pub mod CountLaws
+pub mod MatchLaws

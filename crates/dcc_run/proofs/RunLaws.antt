@@ -39,7 +39,8 @@ module _ {S : Type 0} (system : System S) (law : IsLawful system) where
       ap (λ k. after system.step k s) e ∙ after-add system.step m (n - m) s ∙ after-over (n - m) (after system.step m s) over
 
 -- a run that meets another within a bound follows it within that bound, and within each greater one
-pub follows_from_meets : {S T : Type 0} (premise : ℕ → Type 0) (first : System S) (s : S) (second : System T) (t : T) (near bound : ℕ → ℕ) → IsLawful second → ((n : ℕ) → near n ≤ bound n) → Meets premise first s second t near → Follows premise first s second t bound
+pub follows_from_meets : {S T : Type 0} (premise : ℕ → Type 0) (first : System S) (s : S) (second : System T) (t : T) (near bound : ℕ → ℕ) → IsLawful second → ((n : ℕ) → near n ≤ bound n) →
+    Meets premise first s second t near → Follows premise first s second t bound
 follows_from_meets premise first s second t near bound law wider meets = record {
   out = λ n held.
       let m = meets n held in

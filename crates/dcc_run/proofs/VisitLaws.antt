@@ -15,7 +15,7 @@ visits-add system mark (suc m) n s =
     ∙ ap (λ vs. visit_of system mark s ++ vs) (visits-add system mark m n (system.step s))
     ∙ sym (append_assoc (visit_of system mark s) (visits system mark m (system.step s)) (visits system mark n (after system.step m (system.step s))))
 
--- what is kept of visits, and of others behind them
+-- what is kept of visits, and of others after them
 pub visits_of-append : {P : Type 0} (kept : P → Bool) (vs us : List (Visit P)) → visits_of kept (vs ++ us) ≡ visits_of kept vs ++ visits_of kept us
 visits_of-append kept [] us = refl
 visits_of-append kept (v ∷ vs) us =
@@ -95,7 +95,8 @@ pub record StepsTogether {S T P : Type 0} (kept : P → Bool) (first : System S)
   pub end : (s : S) (t : T) → related s t → second.end t ≡ first.end s
   pub out : (s : S) (t : T) → related s t → second.out t ≡ first.out s
 
-module _ {S T P : Type 0} (kept : P → Bool) (first : System S) (mark : S → Option P) (second : System T) (other_mark : T → Option P) (related : S → T → Type 0) (together : StepsTogether kept first mark second other_mark related) where
+module _ {S T P : Type 0} (kept : P → Bool) (first : System S) (mark : S → Option P) (second : System T) (other_mark : T → Option P) (related : S → T → Type 0)
+    (together : StepsTogether kept first mark second other_mark related) where
   visits_together : (n : ℕ) (s : S) (t : T) → related s t → visits second other_mark n t ≡ visits_of kept (visits first mark n s)
   visits_together zero s t r = refl
   visits_together (suc n) s t r =

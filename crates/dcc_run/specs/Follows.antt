@@ -6,10 +6,13 @@ use Rattle.dcc_run.specs.System.{System, out_after, end_after}
 
 -- Wherever the premise holds of n: after `bound n` steps the second run has put out at least what the first
 -- one has after n steps; and where the first has ended by then, the second has ended alike, with the same output.
-pub record Follows {S T : Type 0} (premise : ℕ → Type 0) (first : System S) (s : S) (second : System T) (t : T) (bound : ℕ → ℕ) : Type 0 where
+pub record Follows {S T : Type 0} (premise : ℕ → Type 0) (first : System S) (s : S) (second : System T) (t : T)
+    (bound : ℕ → ℕ) : Type 0 where
   pub out : (n : ℕ) → premise n → IsPrefix (out_after first n s) (out_after second (bound n) t)
-  pub end : (n : ℕ) → premise n → is_over (end_after first n s) ≡ true → end_after second (bound n) t ≡ end_after first n s
-  pub same : (n : ℕ) → premise n → is_over (end_after first n s) ≡ true → out_after second (bound n) t ≡ out_after first n s
+  pub end : (n : ℕ) → premise n → is_over (end_after first n s) ≡ true → end_after second
+      (bound n) t ≡ end_after first n s
+  pub same : (n : ℕ) → premise n → is_over (end_after first n s) ≡ true → out_after second
+      (bound n) t ≡ out_after first n s
 
 -- the second run stands, after k steps, where the first one stands after n: the same output and the same end
 pub record Stands {S T : Type 0} (first : System S) (s : S) (n : ℕ) (second : System T) (t : T) (k : ℕ) : Type 0 where

@@ -4,3 +4,5 @@ pub mod System
 pub mod Follows
 pub mod Visits
 pub mod Gathers
+pub mod Watched
+pub mod Shadows

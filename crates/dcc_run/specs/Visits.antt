@@ -27,12 +27,16 @@ abbrev pub visits_of : {P : Type 0} → (P → Bool) → List (Visit P) → List
 visits_of kept vs = filter (λ v. kept v.place) vs
 
 -- the two runs end alike, with the same output
-pub record EndsAlike {S T : Type 0} (first : System S) (s : S) (n : ℕ) (second : System T) (t : T) (m : ℕ) : Type 0 where
+pub record EndsAlike {S T : Type 0} (first : System S) (s : S) (n : ℕ) (second : System T) (t : T)
+    (m : ℕ) : Type 0 where
   pub end : end_after second m t ≡ end_after first n s
   pub out : out_after second m t ≡ out_after first n s
 
 -- The second run visits the kept places that the first one visits, with the same outputs, and the two end alike.
 -- For each number of steps of one of them there is a number of steps of the other that shows it.
-pub record VisitsKept {S T P : Type 0} (kept : P → Bool) (first : System S) (mark : S → Option P) (s : S) (second : System T) (other_mark : T → Option P) (t : T) : Type 0 where
-  pub forth : (n : ℕ) → (m : ℕ) × (visits second other_mark m t ≡ visits_of kept (visits first mark n s)) × (is_over (end_after first n s) ≡ true → EndsAlike first s n second t m)
-  pub back : (m : ℕ) → (n : ℕ) × (visits second other_mark m t ≡ visits_of kept (visits first mark n s)) × (is_over (end_after second m t) ≡ true → EndsAlike first s n second t m)
+pub record VisitsKept {S T P : Type 0} (kept : P → Bool) (first : System S) (mark : S → Option P) (s : S)
+    (second : System T) (other_mark : T → Option P) (t : T) : Type 0 where
+  pub forth : (n : ℕ) → (m : ℕ) × (visits second other_mark m t ≡ visits_of kept (visits first mark n s)) ×
+      (is_over (end_after first n s) ≡ true → EndsAlike first s n second t m)
+  pub back : (m : ℕ) → (n : ℕ) × (visits second other_mark m t ≡ visits_of kept (visits first mark n s)) ×
+      (is_over (end_after second m t) ≡ true → EndsAlike first s n second t m)
