@@ -6,8 +6,6 @@ mod dos;
 mod ending;
 mod moment;
 mod run;
-#[cfg(test)]
-mod run_tests;
 
 pub use ending::CStepped;
 pub use run::CRun;

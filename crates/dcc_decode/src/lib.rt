@@ -5,8 +5,6 @@ mod fields;
 pub mod laws;
 mod operand;
 mod operation;
-#[cfg(test)]
-mod tests;
 
 ghost use Rattle.std.specs.Prelude.{◌≡◌, ◌≢◌, ◌<◌, ◌∷◌, ℕ, drop, length, slice_index, IfSome};
 ghost use Rattle.dcc_prog.specs.Table.{instruction_at};

@@ -184,6 +184,3 @@ pub fn run(
         end: run.end,
     })
 }
-
-#[cfg(test)]
-mod tests;

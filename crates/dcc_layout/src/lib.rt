@@ -6,7 +6,5 @@ pub mod laws;
 mod prelude;
 mod registers;
 mod segments;
-#[cfg(test)]
-mod tests;
 
 pub use segments::layout;

@@ -7,8 +7,6 @@ mod header;
 pub mod laws;
 pub mod loader;
 mod relocation;
-#[cfg(test)]
-mod tests;
 
 pub use fault::MzFault;
 pub use loader::load;

@@ -6,8 +6,6 @@ pub mod laws;
 mod parser;
 mod strip;
 mod strip_text;
-#[cfg(test)]
-mod tests;
 
 pub use dcc_reader::ParseKind;
 pub use fault::ParseFault;

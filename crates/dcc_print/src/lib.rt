@@ -11,6 +11,3 @@ pub mod unit;
 pub use rows::globals_rows;
 pub use statement::next_depth;
 pub use unit::{PrintFault, print};
-
-#[cfg(test)]
-mod tests;

@@ -10,7 +10,5 @@ pub mod plain;
 mod procedures;
 mod search;
 mod seen;
-#[cfg(test)]
-mod tests;
 
 pub use procedures::find;

@@ -14,6 +14,3 @@ pub use instr::{Alu, Cond, Ea, Instr, Op, Operand, Plain, Shift, Unary};
 pub use procedure::{Layout, Node, Proc};
 pub use refusal::{LimitName, Refusal, construct};
 pub use segment::{CS, DS, ES, SS};
-
-#[cfg(test)]
-mod tests;

@@ -13,6 +13,3 @@ mod step;
 
 pub use ending::Stepped;
 pub use machine::Machine;
-
-#[cfg(test)]
-mod tests;

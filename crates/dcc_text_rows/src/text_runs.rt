@@ -1,7 +1,7 @@
 //! Small texts, with what a reference apart from this interpreter gives.
 
-use crate::{CRun, CStepped};
 use dcc_c::{Arm, Base, CBin, CExpr, CStmt, CType, CUn, Class, Func, Global_, Line, Unit, Var};
+use dcc_crun::{CRun, CStepped};
 use dcc_io::{MemSink, MemSource};
 use std::alloc::{AllocError, Global};
 use std::process::Abort;

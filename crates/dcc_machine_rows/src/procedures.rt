@@ -5,10 +5,10 @@ ghost use Rattle.std.specs.Prelude.{IfOk};
 ghost use Rattle.dcc_prog.specs.Layout.{HasLayout};
 ghost use Rattle.dcc_prog.specs.MzImage.{IsLoaded};
 
-use crate::find;
-use crate::plain::{is_trail, known_ah, successors};
 use dcc_layout::layout;
 use dcc_mz::load;
+use dcc_procs::find;
+use dcc_procs::plain::{is_trail, known_ah, successors};
 use dcc_prog::{Image, Layout, Proc};
 use std::alloc::{AllocError, Global};
 use std::process::Abort;

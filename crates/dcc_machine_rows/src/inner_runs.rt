@@ -1,7 +1,10 @@
-// Runs of small programs.
-use super::*;
-use crate::syntax::{BinOp, Block, End as BlockEnd, Expr, Loc, Param, Put};
+//! Runs of small programs of the inner language.
+use dcc_ir::plain::*;
+use dcc_ir::syntax::{
+    BinOp, Block, End as BlockEnd, Expr, Graph, IrProgram, Loc, Param, Put, Stmt,
+};
 use dcc_num::{Half, Reg, dos};
+use std::alloc::{AllocError, Global};
 
 const AL: Loc = Loc::Half(Reg::Ax, Half::Low);
 

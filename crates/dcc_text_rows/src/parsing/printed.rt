@@ -1,8 +1,8 @@
 //! Texts that are read and printed. What is printed comes from a reference writer apart from this project.
 
-use crate::parse;
 use dcc_c::Unit;
 use dcc_io::MemSink;
+use dcc_parse::parse;
 use dcc_print::print;
 use std::alloc::Global;
 use std::process::Abort;

@@ -1,6 +1,6 @@
 //! Files and their images. The values come from a reference loader apart from this one.
 
-use crate::{MzFault, load};
+use dcc_mz::{MzFault, load};
 use std::alloc::{AllocError, Global};
 use std::process::Abort;
 use std::test::Fail;

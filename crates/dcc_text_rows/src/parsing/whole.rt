@@ -1,6 +1,6 @@
 //! Whole texts: what is refused before anything is read, bytes that are no text, and texts that go on and on.
 
-use crate::{ParseFault, ParseKind, parse};
+use dcc_parse::{ParseFault, ParseKind, parse};
 use std::alloc::{AllocError, Global};
 use std::process::Abort;
 use std::test::Fail;

@@ -1,6 +1,6 @@
 //! Encodings with the instructions that an independent decoder of the 8086 gives for them.
 
-use crate::decode;
+use dcc_decode::decode;
 use dcc_num::Half::{High, Low};
 use dcc_num::Reg::{Ax, Bp, Bx, Cx, Di, Dx, Si, Sp};
 use dcc_num::{Reg, Width};

@@ -1,9 +1,9 @@
 //! Small programs, with what a reference machine apart from this one gives.
 
-use crate::{Machine, Stepped};
 use dcc_io::{MemSink, MemSource};
 use dcc_num::Reg;
 use dcc_prog::{Image, LOAD_SEGMENT};
+use dcc_step::{Machine, Stepped};
 use std::alloc::{AllocError, Global};
 use std::process::Abort;
 use std::test::Fail;

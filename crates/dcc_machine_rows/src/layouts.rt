@@ -3,7 +3,7 @@
 ghost use Rattle.std.specs.Prelude.{IfOk};
 ghost use Rattle.dcc_prog.specs.MzImage.{IsLoaded};
 
-use crate::layout;
+use dcc_layout::layout;
 use dcc_mz::load;
 use dcc_num::Flags;
 use dcc_prog::{Image, Refusal, construct};

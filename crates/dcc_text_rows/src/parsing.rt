@@ -1,6 +1,6 @@
 //! Texts and what is answered to them.
 
-use crate::{ParseFault, ParseKind, parse};
+use dcc_parse::{ParseFault, ParseKind, parse};
 use std::alloc::{AllocError, Global};
 use std::process::Abort;
 use std::test::Fail;

@@ -1,9 +1,9 @@
 //! A unit that is written, also where a write fails. What other units are written as, the tests of dcc_parse show:
 //! there they are read from their texts.
 
-use crate::unit::{PrintFault, print};
 use dcc_c::{Func, Unit};
 use dcc_io::MemSink;
+use dcc_print::unit::{PrintFault, print};
 use std::alloc::{AllocError, Global};
 use std::test::Fail;
 

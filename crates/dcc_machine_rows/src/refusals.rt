@@ -1,6 +1,6 @@
 //! What stands for want of memory.
 
-use super::*;
+use dcc_prog::*;
 use std::alloc::AllocError;
 
 #[test]

@@ -1,0 +1,9 @@
+//! Tests of what reads, writes and runs texts. Expected values come from references apart from this code.
+#![tactic(auto)]
+
+#[cfg(test)]
+mod parsing;
+#[cfg(test)]
+mod printing;
+#[cfg(test)]
+mod text_runs;
