@@ -58,6 +58,13 @@ fn image_of(rt: &impl Abort, alloc: Global, start: Start, bytes: &[u8]) -> Resul
     Ok(load(alloc, &file)?)
 }
 
+// A start that moves the stack to the data: SS takes DS, and SP the distance between them.
+const MOVES_STACK: [u8; 34] = [
+    0xB8, 0x02, 0x00, 0x8E, 0xD8, 0xFA, 0x8C, 0xD3, 0x2B, 0xD8, 0xB1, 0x04, 0xD3, 0xE3, 0x8E, 0xD0,
+    0x03, 0xE3, 0xFB, 0xB8, 0x00, 0x4C, 0xCD, 0x21, 0x00, 0x00, 0x00, 0x00, 0x00, 0x00, 0x00, 0x00,
+    0x41, 0x42,
+];
+
 // A program with its layout: DS, delta, the lowest offset of the stack, the offset above it, the offset after the
 // prelude and that after the code; the word registers by number; CF, ZF, SF and OF.
 type LayoutRow = (Start, &'static [u8], [u32; 6], [u16; 8], [bool; 4]);
@@ -83,14 +90,14 @@ static LAYOUTS: [LayoutRow; 9] = [
         [0x0112, 0, 0, 0, 0x0100, 0, 0, 0],
         [false, false, false, false],
     ),
-    // SS takes DS, and SP the distance between them.
+    // The stack is moved to the data.
     (
         Start {
             ss: 3,
             sp: 0x0400,
             ..START
         },
-        b"\xB8\x02\x00\x8E\xD8\xFA\x8C\xD3\x2B\xD8\xB1\x04\xD3\xE3\x8E\xD0\x03\xE3\xFB\xB8\x00\x4C\xCD\x21\0\0\0\0\0\0\0\0\x41\x42",
+        &MOVES_STACK,
         [0x0112, 0, 16, 1040, 19, 32],
         [0x0112, 4, 0, 0x0010, 0x0410, 0, 0, 0],
         [false, false, false, false],

@@ -4,5 +4,6 @@
 mod answers;
 mod both;
 mod files;
+mod lifted;
 mod runs;
 mod texts;

@@ -26,19 +26,22 @@ decompiles-image : (file text : List ℕ) (image : Image) → IsImageOf file ima
 decompiles-image file text image is t = record { image = image; is_image = is; is_text = t }
 
 -- what is allowed for an image is allowed for the file that it is the image of
-text-of_image : (told : Files) (name : List ℕ) (image : Image) (reply : Reply) (output : List ℕ) → OfFile told name (λ file. IsImageOf file image) → AllowsImage image reply output → AllowsText told name reply output
+text-of_image : (told : Files) (name : List ℕ) (image : Image) (reply : Reply) (output : List ℕ) → OfFile told name (λ file. IsImageOf file image) → AllowsImage image reply output →
+    AllowsText told name reply output
 text-of_image told name image _ output f (image_decompiled t) =
     decompiled (record { file = f.file; has = f.has; holds = decompiles-image f.file output image f.holds t })
 text-of_image told name image _ _ f (image_refused refusal h) =
     refused refusal (record { file = f.file; has = f.has; holds = record { image = image; is_image = f.holds; refused = h } })
 
 -- the same for the job of `c`, of which none reads the input
-pub answer-of_image : (told : Files) (name : List ℕ) (left : Option (List ℕ)) (image : Image) (out now : Option (List ℕ)) (result : Result Reply Failed) → OfFile told name (λ file. IsImageOf file image) → IfOk result (Answers (AllowsImage image) out now) → IfOk result (Answers (Allows told left left (Some (Decompile name))) out now)
+pub answer-of_image : (told : Files) (name : List ℕ) (left : Option (List ℕ)) (image : Image) (out now : Option (List ℕ)) (result : Result Reply Failed) → OfFile told name
+    (λ file. IsImageOf file image) → IfOk result (Answers (AllowsImage image) out now) → IfOk result (Answers (Allows told left left (Some (Decompile name))) out now)
 answer-of_image told name left image out now (Ok reply) f a =
     record { output = a.output; wrote = a.wrote; is_answer = for_text (text-of_image told name image reply a.output f a.is_answer) refl }
 answer-of_image told name left image out now (Err e) f a = a
 
-pub cut-of_image : (told : Files) (name : List ℕ) (left : Option (List ℕ)) (image : Image) (out now : Option (List ℕ)) (result : Result Reply Failed) → OfFile told name (λ file. IsImageOf file image) → OnErr result (CutsShort (IsTextOfImage image) out now) → OnErr result (CutsShort (IsDue told left (Some (Decompile name))) out now)
+pub cut-of_image : (told : Files) (name : List ℕ) (left : Option (List ℕ)) (image : Image) (out now : Option (List ℕ)) (result : Result Reply Failed) → OfFile told name
+    (λ file. IsImageOf file image) → OnErr result (CutsShort (IsTextOfImage image) out now) → OnErr result (CutsShort (IsDue told left (Some (Decompile name))) out now)
 cut-of_image told name left image out now (Ok reply) f c = c
 cut-of_image told name left image out now (Err e) f c = record {
   due = c.due;

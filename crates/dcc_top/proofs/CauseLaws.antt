@@ -74,7 +74,8 @@ module _ (call : Call) where
   told-among ns far is a =
       is-told a (λ six. apart call.status (6 ∷ (7 ∷ [])) ns far (inl six) is) (λ seven. apart call.status (6 ∷ (7 ∷ [])) ns far (inr (inl seven)) is)
 
-  -- the status is one of some, where those of the allowed answers are, with that of a failed write and of want of memory
+  -- the status is one of some, where those of the allowed answers are, with that of a failed write and of want of
+  -- memory
   one-of : (ns : List ℕ) → IsOneOf 6 ns → IsOneOf 7 ns → ((reply : Reply) (output : List ℕ) → Allowed call.job reply output → IsOneOf (status_of reply) ns) → Comes → IsOneOf call.status ns
   one-of ns six seven each (answered reply gives cause (inl t)) =
       subst (λ n. IsOneOf n ns) (sym t.0) (each reply gives.output gives.is_answer)
@@ -198,9 +199,11 @@ module _ (call : Call) where
   named-file : (j : Job) (file : List ℕ) → call.job ≡ Some j → (n : Names call file) → n.files (name_of j) ≡ Some file
   named-file j file named n = ap n.files (file-name (name_of j) (ap file_of named) n) ∙ n.has
 
-  pub ran-always : Comes → (j : Job) (file bytes : List ℕ) (end : End) → call.job ≡ Some j → Names call file → before ≡ Some bytes → EndsSo file bytes j end → IsOneOf call.status (end_status end ∷ exit.run_faults)
+  pub ran-always : Comes → (j : Job) (file bytes : List ℕ) (end : End) → call.job ≡ Some j → Names call file → before ≡ Some bytes → EndsSo file bytes j end → IsOneOf call.status
+      (end_status end ∷ exit.run_faults)
   ran-always a j file bytes end named n told_left ends =
-      one-of (end_status end ∷ exit.run_faults) (inr (inr (inr (inl refl)))) (inr (inr (inr (inr (inl refl))))) (λ reply output h. job-ended told before left n.files n.tells j file bytes end (named-file j file named n) told_left ends reply output (subst (λ x. Allowed x reply output) named h)) a
+      one-of (end_status end ∷ exit.run_faults) (inr (inr (inr (inl refl)))) (inr (inr (inr (inr (inl refl)))))
+          (λ reply output h. job-ended told before left n.files n.tells j file bytes end (named-file j file named n) told_left ends reply output (subst (λ x. Allowed x reply output) named h)) a
 
   -- The file has no image.
 
@@ -251,7 +254,8 @@ module _ (call : Call) where
       }
 
   -- what holds of every job whose file is named
-  format-always_of : (j : Option Job) → call.job ≡ j → (file : List ℕ) (fault : FormatFault) → Names call file → LoadsImage j → IsFirstFault file fault → (reply : Reply) (output : List ℕ) → Allowed j reply output → IsOneOf (status_of reply) (8 ∷ exit.faults)
+  format-always_of : (j : Option Job) → call.job ≡ j → (file : List ℕ) (fault : FormatFault) → Names call file → LoadsImage j → IsFirstFault file fault → (reply : Reply) (output : List ℕ) →
+      Allowed j reply output → IsOneOf (status_of reply) (8 ∷ exit.faults)
   format-always_of None is file fault n loads first reply output h = absurd loads
   format-always_of (Some j) is file fault n loads first reply output h =
       job-misshapen told before left n.files n.tells j file fault (named-file j file is n) loads first reply output h
@@ -316,13 +320,15 @@ module _ (call : Call) where
       }
 
   -- what holds of every answer for the text of a file that is named
-  of-text : (name file : List ℕ) (ns : List ℕ) → IsOneOf 6 ns → IsOneOf 7 ns → call.job ≡ Some (Decompile name) → Comes → ((reply : Reply) (output : List ℕ) → AllowsText told name reply output → IsOneOf (status_of reply) ns) → IsOneOf call.status ns
+  of-text : (name file : List ℕ) (ns : List ℕ) → IsOneOf 6 ns → IsOneOf 7 ns → call.job ≡ Some (Decompile name) → Comes →
+      ((reply : Reply) (output : List ℕ) → AllowsText told name reply output → IsOneOf (status_of reply) ns) → IsOneOf call.status ns
   of-text name file ns six seven named a each =
       one-of ns six seven (λ reply output h. each reply output (for-text name reply output (subst (λ j. Allowed j reply output) named h))) a
 
   pub refused-always : Comes → (name file : List ℕ) → call.job ≡ Some (Decompile name) → Names call file → OfImages file IsRefusedImage → IsOneOf call.status (9 ∷ (10 ∷ (12 ∷ exit.faults)))
   refused-always a name file named n each =
-      of-text name file (9 ∷ (10 ∷ (12 ∷ exit.faults))) (inr (inr (inr (inr (inl refl))))) (inr (inr (inr (inr (inr (inl refl)))))) named a (always-refused told name n.files n.tells file (named-file (Decompile name) file named n) each)
+      of-text name file (9 ∷ (10 ∷ (12 ∷ exit.faults))) (inr (inr (inr (inr (inl refl))))) (inr (inr (inr (inr (inr (inl refl)))))) named a
+          (always-refused told name n.files n.tells file (named-file (Decompile name) file named n) each)
 
   pub text-always : Comes → (name file : List ℕ) → call.job ≡ Some (Decompile name) → Names call file → OfImages file IsAcceptedProgram → IsOneOf call.status (0 ∷ exit.faults)
   text-always a name file named n each =
@@ -379,7 +385,8 @@ module _ (call : Call) where
 
   pub text_fault-always : Comes → (name file : List ℕ) (steps fill : ℕ) → call.job ≡ Some (ExecuteText name steps fill) → Names call file → IsNoText file → IsOneOf call.status (11 ∷ exit.faults)
   text_fault-always a name file steps fill named n none =
-      one-of (11 ∷ exit.faults) (inr (inr (inl refl))) (inr (inr (inr (inl refl)))) (λ reply output h. text-refused told before left n.files n.tells name steps fill file (named-file (ExecuteText name steps fill) file named n) none reply output (subst (λ j. Allowed j reply output) named h)) a
+      one-of (11 ∷ exit.faults) (inr (inr (inl refl))) (inr (inr (inr (inl refl))))
+          (λ reply output h. text-refused told before left n.files n.tells name steps fill file (named-file (ExecuteText name steps fill) file named n) none reply output (subst (λ j. Allowed j reply output) named h)) a
 
   -- What is written.
 

@@ -33,7 +33,8 @@ pub of-whole : (told : Files) (name given : List ℕ) (most : ℕ) (P : List ℕ
 of-whole told name given most P gave p = record { file = given; has = λ files e. (gave files e).0; holds = p }
 
 -- what holds of every file that is longer holds of the file of the name
-of-front : (told : Files) (name given : List ℕ) (most : ℕ) (P : List ℕ → Type 0) → GaveFront told name most given → length given ≡ most → ((bytes : List ℕ) → most < length bytes → P bytes) → OfFile told name P
+of-front : (told : Files) (name given : List ℕ) (most : ℕ) (P : List ℕ → Type 0) → GaveFront told name most given → length given ≡ most → ((bytes : List ℕ) → most < length bytes → P bytes) →
+    OfFile told name P
 of-front None name given most P gave len each = record {
   file = given ++ 0 ∷ [];
   has = λ files e. cc;
@@ -58,7 +59,8 @@ no_unit-of_fault told name given most (At line kind) gave h = offends (of-whole 
 no_unit-of_fault told name given most ParseMemory gave h = no_text no_memory
 
 -- why the shelf gave no file
-pub no_file-of_fault : (told : Files) (name given : List ℕ) (most : ℕ) (fault : ShelfFault) → WhenTold told (λ files. Fetches (files name) most (Err fault) given) → HasNoFile told name (shelf_reply fault)
+pub no_file-of_fault : (told : Files) (name given : List ℕ) (most : ℕ) (fault : ShelfFault) → WhenTold told (λ files. Fetches (files name) most (Err fault) given) → HasNoFile told name
+    (shelf_reply fault)
 no_file-of_fault told name given most Absent lacks = no_file lacks
 no_file-of_fault told name given most Failed h = file_fault
 no_file-of_fault told name given most ShelfMemory h = no_memory
@@ -79,7 +81,8 @@ by-error (Err r) reply P is p = subst P (sym is) p
 -- What is asked of the shelf.
 
 -- the shelf gave the file, or its front; what was done with it finds no fault of the shelf
-asks-found : {T : Type 0} (name : List ℕ) (most : ℕ) (shelf : ShelfChange) (fetched : Fetched) (result : Result T Reply) → Records shelf.asked.before shelf.asked.after (name, most) (Ok fetched) → (IsErrOf result NoFile → ⊥) → (IsErrOf result FileFault → ⊥) → AsksOnce name most shelf result
+asks-found : {T : Type 0} (name : List ℕ) (most : ℕ) (shelf : ShelfChange) (fetched : Fetched) (result : Result T Reply) → Records shelf.asked.before shelf.asked.after (name, most) (Ok fetched) →
+    (IsErrOf result NoFile → ⊥) → (IsErrOf result FileFault → ⊥) → AsksOnce name most shelf result
 asks-found name most shelf fetched result asked no_absence no_failure = record {
   asked = inr asked;
   asked_prefix = inl asked;
@@ -87,23 +90,27 @@ asks-found name most shelf fetched result asked no_absence no_failure = record {
   failed = λ is. absurd (no_failure is);
 }
 
-pub asks-loaded : {T : Type 0} (name : List ℕ) (most : ℕ) (shelf : ShelfChange) (fetched : Fetched) (x : T) → Records shelf.asked.before shelf.asked.after (name, most) (Ok fetched) → AsksOnce name most shelf (Ok x)
+pub asks-loaded : {T : Type 0} (name : List ℕ) (most : ℕ) (shelf : ShelfChange) (fetched : Fetched) (x : T) → Records shelf.asked.before shelf.asked.after (name, most) (Ok fetched) →
+    AsksOnce name most shelf (Ok x)
 asks-loaded name most shelf fetched x asked = asks-found name most shelf fetched (Ok x) asked (λ bad. cc) (λ bad. cc)
 
-pub asks-misshapen : {T : Type 0} (name : List ℕ) (most : ℕ) (shelf : ShelfChange) (fetched : Fetched) (fault : MzFault) → Records shelf.asked.before shelf.asked.after (name, most) (Ok fetched) → AsksOnce {T = T} name most shelf (Err (fault_reply fault))
+pub asks-misshapen : {T : Type 0} (name : List ℕ) (most : ℕ) (shelf : ShelfChange) (fetched : Fetched) (fault : MzFault) → Records shelf.asked.before shelf.asked.after (name, most) (Ok fetched) →
+    AsksOnce {T = T} name most shelf (Err (fault_reply fault))
 asks-misshapen {T = T} name most shelf fetched NoMemory asked =
     asks-found {T = T} name most shelf fetched (Err Memory) asked (λ bad. cc) (λ bad. cc)
 asks-misshapen {T = T} name most shelf fetched _ asked =
     asks-found {T = T} name most shelf fetched (Err (Format _)) asked (λ bad. cc) (λ bad. cc)
 
-pub asks-offended : {T : Type 0} (name : List ℕ) (most : ℕ) (shelf : ShelfChange) (fetched : Fetched) (fault : ParseFault) → Records shelf.asked.before shelf.asked.after (name, most) (Ok fetched) → AsksOnce {T = T} name most shelf (Err (parse_reply fault))
+pub asks-offended : {T : Type 0} (name : List ℕ) (most : ℕ) (shelf : ShelfChange) (fetched : Fetched) (fault : ParseFault) → Records shelf.asked.before shelf.asked.after (name, most) (Ok fetched) →
+    AsksOnce {T = T} name most shelf (Err (parse_reply fault))
 asks-offended {T = T} name most shelf fetched (At line kind) asked =
     asks-found {T = T} name most shelf fetched (Err (TextFault line kind)) asked (λ bad. cc) (λ bad. cc)
 asks-offended {T = T} name most shelf fetched ParseMemory asked =
     asks-found {T = T} name most shelf fetched (Err Memory) asked (λ bad. cc) (λ bad. cc)
 
 -- the shelf gave nothing
-pub asks-in_vain : {T : Type 0} (name : List ℕ) (most : ℕ) (shelf : ShelfChange) (fault : ShelfFault) → Records shelf.asked.before shelf.asked.after (name, most) (Err fault) → (IsErrOf {T = Fetched} (Err fault) Absent → Rises shelf.absences) → (IsErrOf {T = Fetched} (Err fault) Failed → Rises shelf.faults) → AsksOnce {T = T} name most shelf (Err (shelf_reply fault))
+pub asks-in_vain : {T : Type 0} (name : List ℕ) (most : ℕ) (shelf : ShelfChange) (fault : ShelfFault) → Records shelf.asked.before shelf.asked.after (name, most) (Err fault) →
+    (IsErrOf {T = Fetched} (Err fault) Absent → Rises shelf.absences) → (IsErrOf {T = Fetched} (Err fault) Failed → Rises shelf.faults) → AsksOnce {T = T} name most shelf (Err (shelf_reply fault))
 asks-in_vain name most shelf Absent asked absent failed =
     record { asked = inr asked; asked_prefix = inl asked; absent = λ is. absent refl; failed = λ bad. cc }
 asks-in_vain name most shelf Failed asked absent failed =

@@ -54,13 +54,15 @@ refused-one (NotYetRefused at) = inr (inr (inl refl))
 refused-one MemoryRefused = inr (inr (inr (inr (inr (inl refl)))))
 
 -- the status of a run on an input that is told
-run-ended : {S : Type 0} (subject : Subject S) (steps : ℕ) (before left : Option (List ℕ)) (reply : Reply) (output bytes : List ℕ) → before ≡ Some bytes → Finishes subject steps before left reply output → IsOneOf (status_of reply) (end_status (end_after subject.console.system steps (subject.start bytes)) ∷ (4 ∷ (5 ∷ (6 ∷ (7 ∷ [])))))
+run-ended : {S : Type 0} (subject : Subject S) (steps : ℕ) (before left : Option (List ℕ)) (reply : Reply) (output bytes : List ℕ) → before ≡ Some bytes →
+    Finishes subject steps before left reply output → IsOneOf (status_of reply) (end_status (end_after subject.console.system steps (subject.start bytes)) ∷ (4 ∷ (5 ∷ (6 ∷ (7 ∷ [])))))
 run-ended subject steps before left _ output bytes told (ended end h) =
     inl (end-status steps end ∙ ap end_status (sym (h bytes told).end_is))
 run-ended subject steps before left _ output bytes told (stopped_at_read h) = inr (inr (inl refl))
 run-ended subject steps before left _ _ bytes told (not_begun same) = inr (inr (inr (inr (inl refl))))
 
-text-run-ended : {S : Type 0} (subject : Subject S) (steps : ℕ) (before left : Option (List ℕ)) (reply : Reply) (output bytes : List ℕ) → before ≡ Some bytes → FinishesOrStops subject steps before left reply output → IsOneOf (status_of reply) (end_status (end_after subject.console.system steps (subject.start bytes)) ∷ (4 ∷ (5 ∷ (6 ∷ (7 ∷ [])))))
+text-run-ended : {S : Type 0} (subject : Subject S) (steps : ℕ) (before left : Option (List ℕ)) (reply : Reply) (output bytes : List ℕ) → before ≡ Some bytes →
+    FinishesOrStops subject steps before left reply output → IsOneOf (status_of reply) (end_status (end_after subject.console.system steps (subject.start bytes)) ∷ (4 ∷ (5 ∷ (6 ∷ (7 ∷ [])))))
 text-run-ended subject steps before left reply output bytes told (finishes h) =
     run-ended subject steps before left reply output bytes told h
 text-run-ended subject steps before left _ output bytes told (found_none h) = inr (inr (inr (inr (inl refl))))
@@ -120,7 +122,8 @@ module _ (told : Files) (name : List ℕ) (files : List ℕ → Option (List ℕ
 
   -- the file has no image
 
-  text-misshapen : (file : List ℕ) (fault : FormatFault) → files name ≡ Some file → IsFirstFault file fault → (reply : Reply) (output : List ℕ) → AllowsText told name reply output → IsOneOf (status_of reply) (8 ∷ (4 ∷ (6 ∷ (7 ∷ []))))
+  text-misshapen : (file : List ℕ) (fault : FormatFault) → files name ≡ Some file → IsFirstFault file fault → (reply : Reply) (output : List ℕ) → AllowsText told name reply output → IsOneOf
+      (status_of reply) (8 ∷ (4 ∷ (6 ∷ (7 ∷ []))))
   text-misshapen file fault has first _ output (decompiled f) =
       let d = held file (λ x. Decompiles x output) has f in absurd (not_both file d.image fault d.is_image first)
   text-misshapen file fault has first _ _ (refused refusal f) =
@@ -134,7 +137,8 @@ module _ (told : Files) (name : List ℕ) (files : List ℕ → Option (List ℕ
 
   -- the program is accepted, or it is refused
 
-  pub accepted-one : (file : List ℕ) → files name ≡ Some file → OfImages file IsAcceptedProgram → (reply : Reply) (output : List ℕ) → AllowsText told name reply output → IsOneOf (status_of reply) (0 ∷ (4 ∷ (6 ∷ (7 ∷ []))))
+  pub accepted-one : (file : List ℕ) → files name ≡ Some file → OfImages file IsAcceptedProgram → (reply : Reply) (output : List ℕ) → AllowsText told name reply output → IsOneOf (status_of reply)
+      (0 ∷ (4 ∷ (6 ∷ (7 ∷ []))))
   accepted-one file has a _ output (decompiled f) = inl refl
   accepted-one file has a _ _ (refused refusal f) =
       let d = held file (IsRefusedAs refusal) has f in
@@ -142,7 +146,8 @@ module _ (told : Files) (name : List ℕ) (files : List ℕ → Option (List ℕ
   accepted-one file has a reply _ (no_image h) =
       faulty-one 0 (status_of reply) (no_image-faulty file has a.image a.is_image reply h)
 
-  pub refused-always : (file : List ℕ) → files name ≡ Some file → OfImages file IsRefusedImage → (reply : Reply) (output : List ℕ) → AllowsText told name reply output → IsOneOf (status_of reply) (9 ∷ (10 ∷ (12 ∷ (4 ∷ (6 ∷ (7 ∷ []))))))
+  pub refused-always : (file : List ℕ) → files name ≡ Some file → OfImages file IsRefusedImage → (reply : Reply) (output : List ℕ) → AllowsText told name reply output → IsOneOf (status_of reply)
+      (9 ∷ (10 ∷ (12 ∷ (4 ∷ (6 ∷ (7 ∷ []))))))
   refused-always file has a _ output (decompiled f) =
       let d = held file (λ x. Decompiles x output) has f in
       let r = a.each d.image d.is_image in
@@ -153,10 +158,13 @@ module _ (told : Files) (name : List ℕ) (files : List ℕ → Option (List ℕ
 
   -- runs
 
-  pub file-ended : (file : List ℕ) (image : Image) (steps : ℕ) (bytes : List ℕ) (before left : Option (List ℕ)) → files name ≡ Some file → IsImageOf file image → before ≡ Some bytes → (reply : Reply) (output : List ℕ) → OfFile told name (λ x. RunsFile x steps before left reply output) → IsOneOf (status_of reply) (end_status (end_after machine_system steps ((machine_of image).start bytes)) ∷ (4 ∷ (5 ∷ (6 ∷ (7 ∷ [])))))
+  pub file-ended : (file : List ℕ) (image : Image) (steps : ℕ) (bytes : List ℕ) (before left : Option (List ℕ)) → files name ≡ Some file → IsImageOf file image → before ≡ Some bytes → (reply : Reply)
+      (output : List ℕ) → OfFile told name (λ x. RunsFile x steps before left reply output) → IsOneOf (status_of reply)
+      (end_status (end_after machine_system steps ((machine_of image).start bytes)) ∷ (4 ∷ (5 ∷ (6 ∷ (7 ∷ [])))))
   file-ended file image steps bytes before left has is told_left reply output f =
       let r = held file (λ x. RunsFile x steps before left reply output) has f in
-      subst (λ s. IsOneOf (status_of reply) (end_status (end_after machine_system steps s) ∷ (4 ∷ (5 ∷ (6 ∷ (7 ∷ [])))))) (same-start file r.image image bytes r.is_image is) (run-ended (machine_of r.image) steps before left reply output bytes told_left r.finishes)
+      subst (λ s. IsOneOf (status_of reply) (end_status (end_after machine_system steps s) ∷ (4 ∷ (5 ∷ (6 ∷ (7 ∷ [])))))) (same-start file r.image image bytes r.is_image is)
+          (run-ended (machine_of r.image) steps before left reply output bytes told_left r.finishes)
 
   -- a fault among the statuses of a run
   faulty-run : (first : ℕ) (status : ℕ) → (status ≡ 4) ⊎ (status ≡ 7) → IsOneOf status (first ∷ (4 ∷ (5 ∷ (6 ∷ (7 ∷ [])))))
@@ -166,7 +174,8 @@ module _ (told : Files) (name : List ℕ) (files : List ℕ → Option (List ℕ
 -- What is allowed for a job, where the shelf tells the file of its name.
 
 module _ (told : Files) (before left : Option (List ℕ)) (files : List ℕ → Option (List ℕ)) (tells : told ≡ Some files) where
-  pub job-misshapen : (job : Job) (file : List ℕ) (fault : FormatFault) → files (name_of job) ≡ Some file → LoadsImage (Some job) → IsFirstFault file fault → (reply : Reply) (output : List ℕ) → Allows told before left (Some job) reply output → IsOneOf (status_of reply) (8 ∷ (4 ∷ (6 ∷ (7 ∷ []))))
+  pub job-misshapen : (job : Job) (file : List ℕ) (fault : FormatFault) → files (name_of job) ≡ Some file → LoadsImage (Some job) → IsFirstFault file fault → (reply : Reply) (output : List ℕ) →
+      Allows told before left (Some job) reply output → IsOneOf (status_of reply) (8 ∷ (4 ∷ (6 ∷ (7 ∷ []))))
   job-misshapen _ file fault has loads first reply output (for_text {name = name} h same) =
       text-misshapen told name files tells file fault has first reply output h
   job-misshapen _ file fault has loads first reply output (ran_file {name = name} {steps = steps} f) =
@@ -177,7 +186,8 @@ module _ (told : Files) (before left : Option (List ℕ)) (files : List ℕ → 
   job-misshapen _ file fault has loads first reply output (ran_text f) = absurd loads
   job-misshapen _ file fault has loads first reply _ (ran_no_text h same) = absurd loads
 
-  pub job-missing : (job : Job) → files (name_of job) ≡ None → (reply : Reply) (output : List ℕ) → Allows told before left (Some job) reply output → IsOneOf (status_of reply) (3 ∷ (4 ∷ (6 ∷ (7 ∷ []))))
+  pub job-missing : (job : Job) → files (name_of job) ≡ None → (reply : Reply) (output : List ℕ) → Allows told before left (Some job) reply output → IsOneOf (status_of reply)
+      (3 ∷ (4 ∷ (6 ∷ (7 ∷ []))))
   job-missing _ lacks reply output (for_text {name = name} h same) =
       text-missing told name files tells lacks reply output h
   job-missing _ lacks reply output (ran_file {name = name} {steps = steps} f) =
@@ -191,7 +201,8 @@ module _ (told : Files) (before left : Option (List ℕ)) (files : List ℕ → 
       absurd (not-held told name files tells _ lacks f)
 
   -- the text is refused
-  pub text-refused : (name : List ℕ) (steps fill : ℕ) (file : List ℕ) → files name ≡ Some file → IsNoText file → (reply : Reply) (output : List ℕ) → Allows told before left (Some (ExecuteText name steps fill)) reply output → IsOneOf (status_of reply) (11 ∷ (4 ∷ (6 ∷ (7 ∷ []))))
+  pub text-refused : (name : List ℕ) (steps fill : ℕ) (file : List ℕ) → files name ≡ Some file → IsNoText file → (reply : Reply) (output : List ℕ) → Allows told before left
+      (Some (ExecuteText name steps fill)) reply output → IsOneOf (status_of reply) (11 ∷ (4 ∷ (6 ∷ (7 ∷ []))))
   text-refused name steps fill file has none reply output (ran_text f) =
       let r = held told name files tells file (λ x. RunsText x steps fill before left reply output) has f in
       elim none [
@@ -202,23 +213,27 @@ module _ (told : Files) (before left : Option (List ℕ)) (files : List ℕ → 
       no_unit-faulty told name files tells file has reply h
 
   -- what the run of a text ends with
-  text-ended : (name : List ℕ) (steps fill : ℕ) (file bytes : List ℕ) (end : End) → files name ≡ Some file → before ≡ Some bytes → EndsSo file bytes (ExecuteText name steps fill) end → (reply : Reply) (output : List ℕ) → OfFile told name (λ x. RunsText x steps fill before left reply output) → IsOneOf (status_of reply) (end_status end ∷ (4 ∷ (5 ∷ (6 ∷ (7 ∷ [])))))
+  text-ended : (name : List ℕ) (steps fill : ℕ) (file bytes : List ℕ) (end : End) → files name ≡ Some file → before ≡ Some bytes → EndsSo file bytes (ExecuteText name steps fill) end → (reply : Reply)
+      (output : List ℕ) → OfFile told name (λ x. RunsText x steps fill before left reply output) → IsOneOf (status_of reply) (end_status end ∷ (4 ∷ (5 ∷ (6 ∷ (7 ∷ [])))))
   text-ended name steps fill file bytes _ has told_left (text_ends {tree = tree} stands within) reply output f =
       let r = held told name files tells file (λ x. RunsText x steps fill before left reply output) has f in
       let runs = subst (λ t. RunsUnit t steps fill before left reply output) (sym (r.is_read.alone tree stands)) r.runs in
       text-run-ended (text_of tree stands.allowed.start fill) steps before left reply output bytes told_left (runs file stands)
 
-  no_unit-ended : (name : List ℕ) (steps fill : ℕ) (file bytes : List ℕ) (end : End) → files name ≡ Some file → EndsSo file bytes (ExecuteText name steps fill) end → (reply : Reply) → HasNoUnit told name reply → IsOneOf (status_of reply) (end_status end ∷ (4 ∷ (5 ∷ (6 ∷ (7 ∷ [])))))
+  no_unit-ended : (name : List ℕ) (steps fill : ℕ) (file bytes : List ℕ) (end : End) → files name ≡ Some file → EndsSo file bytes (ExecuteText name steps fill) end → (reply : Reply) →
+      HasNoUnit told name reply → IsOneOf (status_of reply) (end_status end ∷ (4 ∷ (5 ∷ (6 ∷ (7 ∷ [])))))
   no_unit-ended name steps fill file bytes end has e reply (no_text h) =
       faulty-run told name files tells (end_status end) (status_of reply) (faulty told name files tells file has reply h)
   no_unit-ended name steps fill file bytes _ has (text_ends {tree = tree} stands within) _ (offends f) =
       absurd ((held told name files tells file _ has f).no_tree within tree stands)
 
-  run-of_file : (name : List ℕ) (steps : ℕ) (file bytes : List ℕ) (end : End) → files name ≡ Some file → before ≡ Some bytes → EndsSo file bytes (Execute name steps) end → (reply : Reply) (output : List ℕ) → OfFile told name (λ x. RunsFile x steps before left reply output) → IsOneOf (status_of reply) (end_status end ∷ (4 ∷ (5 ∷ (6 ∷ (7 ∷ [])))))
+  run-of_file : (name : List ℕ) (steps : ℕ) (file bytes : List ℕ) (end : End) → files name ≡ Some file → before ≡ Some bytes → EndsSo file bytes (Execute name steps) end → (reply : Reply)
+      (output : List ℕ) → OfFile told name (λ x. RunsFile x steps before left reply output) → IsOneOf (status_of reply) (end_status end ∷ (4 ∷ (5 ∷ (6 ∷ (7 ∷ [])))))
   run-of_file name steps file bytes _ has told_left (file_ends {image = image} is) reply output f =
       file-ended told name files tells file image steps bytes before left has is told_left reply output f
 
-  no_image-ended : (name : List ℕ) (steps : ℕ) (file bytes : List ℕ) (end : End) → files name ≡ Some file → EndsSo file bytes (Execute name steps) end → (reply : Reply) → HasNoImage told name reply → IsOneOf (status_of reply) (end_status end ∷ (4 ∷ (5 ∷ (6 ∷ (7 ∷ [])))))
+  no_image-ended : (name : List ℕ) (steps : ℕ) (file bytes : List ℕ) (end : End) → files name ≡ Some file → EndsSo file bytes (Execute name steps) end → (reply : Reply) → HasNoImage told name reply →
+      IsOneOf (status_of reply) (end_status end ∷ (4 ∷ (5 ∷ (6 ∷ (7 ∷ [])))))
   no_image-ended name steps file bytes end has (file_ends {image = image} is) reply h =
       faulty-run told name files tells (end_status end) (status_of reply) (no_image-faulty told name files tells file has image is reply h)
 
@@ -226,7 +241,8 @@ module _ (told : Files) (before left : Option (List ℕ)) (files : List ℕ → 
   no-text_end name file bytes end e = elim e [ ]
 
   -- the run that a job asks for ends as the definition says
-  pub job-ended : (job : Job) (file bytes : List ℕ) (end : End) → files (name_of job) ≡ Some file → before ≡ Some bytes → EndsSo file bytes job end → (reply : Reply) (output : List ℕ) → Allows told before left (Some job) reply output → IsOneOf (status_of reply) (end_status end ∷ (4 ∷ (5 ∷ (6 ∷ (7 ∷ [])))))
+  pub job-ended : (job : Job) (file bytes : List ℕ) (end : End) → files (name_of job) ≡ Some file → before ≡ Some bytes → EndsSo file bytes job end → (reply : Reply) (output : List ℕ) →
+      Allows told before left (Some job) reply output → IsOneOf (status_of reply) (end_status end ∷ (4 ∷ (5 ∷ (6 ∷ (7 ∷ [])))))
   job-ended _ file bytes end has told_left e reply output (for_text {name = name} h same) =
       absurd (no-text_end name file bytes end e)
   job-ended _ file bytes end has told_left e reply output (ran_file {name = name} {steps = steps} f) =

@@ -14,7 +14,8 @@ use Rattle.dcc_top.proofs.CauseLaws.{usage, usage-always, text, exited, ran, ran
 
 module _ (call : Call) where
   -- all that holds of what a call comes to, with what it has asked
-  promises : IsAnswered call → AsksPrefix call.job call.shelf.asked → (call.status ≢ 6 → call.status ≢ 7 → AsksAll call.job call.shelf.asked) → (call.status ≡ 6 → AsksAll call.job call.shelf.asked ⊎ AppendsPart call.errors (line_of Memory)) → KeepsPromises call
+  promises : IsAnswered call → AsksPrefix call.job call.shelf.asked → (call.status ≢ 6 → call.status ≢ 7 → AsksAll call.job call.shelf.asked) →
+      (call.status ≡ 6 → AsksAll call.job call.shelf.asked ⊎ AppendsPart call.errors (line_of Memory)) → KeepsPromises call
   promises a prefix asked cut = record {
     text = record { text = text call a; text_always = text-always call a };
     runs = record {

@@ -134,13 +134,15 @@ end_status-one (stuck line) = inr (inr (inr (inr (inl refl))))
 abbrev pub run_statuses : List ℕ
 run_statuses = 5 ∷ (7 ∷ (0 ∷ (20 ∷ (21 ∷ (22 ∷ (24 ∷ []))))))
 
-pub run-status : {S : Type 0} (subject : Subject S) (steps : ℕ) (before left : Option (List ℕ)) (reply : Reply) (output : List ℕ) → Finishes subject steps before left reply output → IsOneOf (status_of reply) run_statuses
+pub run-status : {S : Type 0} (subject : Subject S) (steps : ℕ) (before left : Option (List ℕ)) (reply : Reply) (output : List ℕ) → Finishes subject steps before left reply output → IsOneOf
+    (status_of reply) run_statuses
 run-status subject steps before left _ output (ended end h) =
     inr (inr (subst (λ n. IsOneOf n (0 ∷ (20 ∷ (21 ∷ (22 ∷ (24 ∷ [])))))) (sym (end-status steps end)) (end_status-one end)))
 run-status subject steps before left _ output (stopped_at_read h) = inl refl
 run-status subject steps before left _ _ (not_begun same) = inr (inl refl)
 
-pub text_run-status : {S : Type 0} (subject : Subject S) (steps : ℕ) (before left : Option (List ℕ)) (reply : Reply) (output : List ℕ) → FinishesOrStops subject steps before left reply output → IsOneOf (status_of reply) run_statuses
+pub text_run-status : {S : Type 0} (subject : Subject S) (steps : ℕ) (before left : Option (List ℕ)) (reply : Reply) (output : List ℕ) → FinishesOrStops subject steps before left reply output →
+    IsOneOf (status_of reply) run_statuses
 text_run-status subject steps before left reply output (finishes h) =
     run-status subject steps before left reply output h
 text_run-status subject steps before left _ output (found_none h) = inr (inl refl)
@@ -151,7 +153,8 @@ other-than reply other ns far is same =
     apart (status_of reply) (status_of other ∷ []) ns far (inl (ap status_of same)) is
 
 -- an answer that has none of these statuses is not given
-pub never : (P : Reply → List ℕ → Type 0) (ns : List ℕ) → ((reply : Reply) (output : List ℕ) → P reply output → IsOneOf (status_of reply) ns) → (other : Reply) → are_apart (status_of other ∷ []) ns ≡ true → (A : Type 0) (out now : Option (List ℕ)) (result : Result Reply Failed) → IfOk result (Answers P out now) → IfOk result (λ reply. reply ≡ other → A)
+pub never : (P : Reply → List ℕ → Type 0) (ns : List ℕ) → ((reply : Reply) (output : List ℕ) → P reply output → IsOneOf (status_of reply) ns) → (other : Reply) → are_apart
+    (status_of other ∷ []) ns ≡ true → (A : Type 0) (out now : Option (List ℕ)) (result : Result Reply Failed) → IfOk result (Answers P out now) → IfOk result (λ reply. reply ≡ other → A)
 never P ns each other far A out now (Ok reply) a = λ is.
     absurd (apart (status_of reply) (status_of other ∷ []) ns far (inl (ap status_of is)) (each reply a.output a.is_answer))
 never P ns each other far A out now (Err e) a = a

@@ -76,7 +76,8 @@ option-from word name h = elim (option-chosen (bytes_eq word (codes "--steps")) 
   | inr b ↦ word-same word (codes "--fill") b.0 ∙ ap option_word b.1
 ]
 
-command-chosen : (a b d : Bool) (c : Command) → (if a then Some C else (if b then Some Run else (if d then Some RunC else None))) ≡ Some c → ((a ≡ true) × (C ≡ c)) ⊎ (((b ≡ true) × (Run ≡ c)) ⊎ ((d ≡ true) × (RunC ≡ c)))
+command-chosen : (a b d : Bool) (c : Command) → (if a then Some C else (if b then Some Run else (if d then Some RunC else None))) ≡ Some c → ((a ≡ true) × (C ≡ c)) ⊎
+    (((b ≡ true) × (Run ≡ c)) ⊎ ((d ≡ true) × (RunC ≡ c)))
 command-chosen true b d c h = inl (refl, cc)
 command-chosen false true d c h = inr (inl (refl, cc))
 command-chosen false false true c h = inr (inr (refl, cc))
@@ -102,7 +103,8 @@ unfolding Told
 named-told word None h = tt
 named-told word (Some name) h = option-from word name h
 
-given-told : (word : List ℕ) (name : Option OptionName) → option_of (before_first is_equals word) ≡ name → position_or_len is_equals word < length word → Told word (given name (after_first is_equals word))
+given-told : (word : List ℕ) (name : Option OptionName) → option_of (before_first is_equals word) ≡ name → position_or_len is_equals word < length word → Told word
+    (given name (after_first is_equals word))
 unfolding Told
 given-told word None h small = tt
 given-told word (Some name) h small =
@@ -176,7 +178,8 @@ pub parts-from : (words : List (List ℕ)) (parts : Parts) → parts_of words �
 unfolding Claim
 parts-from words parts h = words-from words None parts h
 
-steps-asked : (words : List (List ℕ)) (job : Job) (file : List ℕ) (value : Option (List ℕ)) (steps : Option ℕ) → steps_of value ≡ steps → HasParts words (record { positional = file ∷ []; steps = value; fill = None }) →
+steps-asked : (words : List (List ℕ)) (job : Job) (file : List ℕ) (value : Option (List ℕ)) (steps : Option ℕ) → steps_of value ≡ steps → HasParts words
+    (record { positional = file ∷ []; steps = value; fill = None }) →
     option_map (λ n. Execute file n) steps ≡ Some job → AskFor (command_word Run ∷ words) job
 steps-asked words job file value None is has h = absurd (let f : ⊥ = cc in f)
 steps-asked words job file value (Some n) is has h =
@@ -192,7 +195,8 @@ text-asked words job file value other (Some n) (Some w) is also has h =
     let same : ExecuteText file n w ≡ job = cc in
     subst (λ j. AskFor (command_word RunC ∷ words) j) same (execute_text has is also)
 
-job-asked : (words : List (List ℕ)) (job : Job) (c : Command) (positional : List (List ℕ)) (steps fill : Option (List ℕ)) → HasParts words (record { positional = positional; steps = steps; fill = fill }) →
+job-asked : (words : List (List ℕ)) (job : Job) (c : Command) (positional : List (List ℕ)) (steps fill : Option (List ℕ)) → HasParts words
+    (record { positional = positional; steps = steps; fill = fill }) →
     job_for c positional steps fill ≡ Some job → AskFor (command_word c ∷ words) job
 job-asked words job C (file ∷ []) None None has h =
     let same : Decompile file ≡ job = cc in

@@ -75,12 +75,14 @@ joined-two front word (Some parts) h =
 
 -- one more option
 fresh-steps : (front : Parts) (value : List ℕ) (back : List (List ℕ)) (other fill : Option (List ℕ)) →
-    joined (record front { steps = None }) (if is_some other then None else Some (record { positional = back; steps = Some value; fill = fill })) ≡ built (front.positional ++ back) (merged (Some value) other) (merged front.fill fill)
+    joined (record front { steps = None }) (if is_some other then None else Some (record { positional = back; steps = Some value; fill = fill })) ≡ built (front.positional ++ back)
+        (merged (Some value) other) (merged front.fill fill)
 fresh-steps front value back None fill = refl
 fresh-steps front value back (Some other) fill = refl
 
 fresh-fill : (front : Parts) (value : List ℕ) (back : List (List ℕ)) (steps other : Option (List ℕ)) →
-    joined (record front { fill = None }) (if is_some other then None else Some (record { positional = back; steps = steps; fill = Some value })) ≡ built (front.positional ++ back) (merged front.steps steps) (merged (Some value) other)
+    joined (record front { fill = None }) (if is_some other then None else Some (record { positional = back; steps = steps; fill = Some value })) ≡ built (front.positional ++ back)
+        (merged front.steps steps) (merged (Some value) other)
 fresh-fill front value back steps None = refl
 fresh-fill front value back steps (Some other) = sym (built-none (front.positional ++ back) (merged front.steps steps))
 
@@ -133,25 +135,29 @@ unfolding by_kind
 stop-word found all word words inv kind some =
     subst HasTwoFiles (ap (joined found) (sym (parts-at_kind word words Positional kind)) ∙ inv) (joined-two found word (parts_of words) some)
 
-pub step-given : (found next : Parts) (all : Option Parts) (name : OptionName) (word value : List ℕ) (words : List (List ℕ)) → joined found (parts_of (word ∷ words)) ≡ all → Gives name value ≡ kind_of word →
+pub step-given : (found next : Parts) (all : Option Parts) (name : OptionName) (word value : List ℕ) (words : List (List ℕ)) → joined found (parts_of (word ∷ words)) ≡ all →
+    Gives name value ≡ kind_of word →
     value_in name found ≡ None → next ≡ set_value name value found → joined next (parts_of words) ≡ all
 unfolding by_kind
 step-given found next all name word value words inv kind none is =
     ap (λ p. joined p (parts_of words)) is ∙ sym (joined-value found name value (parts_of words) none) ∙ ap (joined found) (sym (parts-at_kind word words (Gives name value) kind)) ∙ inv
 
-pub stop-given : (found : Parts) (all : Option Parts) (name : OptionName) (word value : List ℕ) (words : List (List ℕ)) → joined found (parts_of (word ∷ words)) ≡ all → Gives name value ≡ kind_of word →
+pub stop-given : (found : Parts) (all : Option Parts) (name : OptionName) (word value : List ℕ) (words : List (List ℕ)) → joined found (parts_of (word ∷ words)) ≡ all →
+    Gives name value ≡ kind_of word →
     IsSome (value_in name found) → HasTwoFiles all
 unfolding by_kind
 stop-given found all name word value words inv kind some =
     none-when all (sym inv ∙ ap (joined found) (parts-at_kind word words (Gives name value) kind) ∙ joined-taken found name value (parts_of words) some)
 
-pub step-named : (found next : Parts) (all : Option Parts) (name : OptionName) (word value : List ℕ) (words : List (List ℕ)) → joined found (parts_of (word ∷ (value ∷ words))) ≡ all → Names name ≡ kind_of word →
+pub step-named : (found next : Parts) (all : Option Parts) (name : OptionName) (word value : List ℕ) (words : List (List ℕ)) → joined found (parts_of (word ∷ (value ∷ words))) ≡ all →
+    Names name ≡ kind_of word →
     value_in name found ≡ None → next ≡ set_value name value found → joined next (parts_of words) ≡ all
 unfolding by_kind
 step-named found next all name word value words inv kind none is =
     ap (λ p. joined p (parts_of words)) is ∙ sym (joined-value found name value (parts_of words) none) ∙ ap (joined found) (sym (parts-at_kind word (value ∷ words) (Names name) kind)) ∙ inv
 
-pub stop-named : (found : Parts) (all : Option Parts) (name : OptionName) (word value : List ℕ) (words : List (List ℕ)) → joined found (parts_of (word ∷ (value ∷ words))) ≡ all → Names name ≡ kind_of word →
+pub stop-named : (found : Parts) (all : Option Parts) (name : OptionName) (word value : List ℕ) (words : List (List ℕ)) → joined found (parts_of (word ∷ (value ∷ words))) ≡ all →
+    Names name ≡ kind_of word →
     IsSome (value_in name found) → HasTwoFiles all
 unfolding by_kind
 stop-named found all name word value words inv kind some =

@@ -206,7 +206,8 @@ pub data AllowsText (told : Files) (name : List ℕ) : Reply → List ℕ → Ty
 -- Runs.
 
 -- the answer is one for a run of the file's image
-pub record RunsFile (file : List ℕ) (steps : ℕ) (before left : Option (List ℕ)) (reply : Reply) (output : List ℕ) : Type 0 where
+pub record RunsFile (file : List ℕ) (steps : ℕ) (before left : Option (List ℕ)) (reply : Reply)
+  (output : List ℕ) : Type 0 where
   pub image : Image
   pub is_image : IsImageOf file image
   pub finishes : Finishes (machine_of image) steps before left reply output
@@ -241,7 +242,8 @@ UnitPutsOut tree steps fill before output =
     → PutsOut (text_of tree stands.allowed.start fill) steps before output
 
 -- the answer is one for a run of the text
-pub record RunsText (text : List ℕ) (steps fill : ℕ) (before left : Option (List ℕ)) (reply : Reply) (output : List ℕ) : Type 0 where
+pub record RunsText (text : List ℕ) (steps fill : ℕ) (before left : Option (List ℕ)) (reply : Reply)
+  (output : List ℕ) : Type 0 where
   pub tree : Tree
   pub is_read : IsReadAs text tree
   pub runs : RunsUnit tree steps fill before left reply output

@@ -33,8 +33,8 @@ AsksPrefix job asked =
 abbrev pub AsksAll : Option Job → Change Requests → Type 0
 AsksAll job asked = asked.after ≡ asked.before ++ requests_of job
 
--- One file is asked for, of at most so many bytes, and perhaps not where memory ran out; no file and a fault of the shelf
--- come where their counts rose.
+-- One file is asked for, of at most so many bytes, and perhaps not where memory ran out; no file and a fault of the
+-- shelf come where their counts rose.
 pub record AsksOnce {T : Type 0} (name : List ℕ) (most : ℕ) (shelf : ShelfChange) (result : Result T Reply) : Type 0
   where
   pub asked : IsErrOf result Memory ⊎ (shelf.asked.after ≡ shelf.asked.before ++ (name, most) ∷ [])
@@ -83,9 +83,9 @@ pub record BreaksOff (call : Call) (due : List ℕ) : Type 0 where
   pub err : call.errors.taken.after ≡ call.errors.taken.before
   pub failed : Rises call.output.faults
 
--- What a call comes to. An answer that is allowed for the job was told, after all that is due, and has its cause in this
--- call; or its line found no memory, and that was told in its place; or a write of what is due failed, and a part of it
--- is there.
+-- What a call comes to. An answer that is allowed for the job was told, after all that is due, and has its cause in
+-- this call; or its line found no memory, and that was told in its place; or a write of what is due failed, and a part
+-- of it is there.
 pub data IsAnswered (call : Call) : Type 0 where
   answered : (reply : Reply)
     → GivesReply call reply
@@ -104,8 +104,8 @@ pub data IsAnswered (call : Call) : Type 0 where
 
 -- Runs.
 
--- The file of the words was run: its output was appended, the line tells how it finished, and the input has lost what it
--- took.
+-- The file of the words was run: its output was appended, the line tells how it finished, and the input has lost what
+-- it took.
 pub record HasRunFile (call : Call) : Type 0 where
   pub job : Job
   pub file : List ℕ
@@ -172,8 +172,8 @@ pub record HasFormatFault (call : Call) : Type 0 where
   pub first : IsFormatRefusal file fault
   pub line : Appends call.errors (line_of (Format fault))
 
--- The program that the words name is refused, and the line tells why: a construct stands at the offset, the count passes
--- its number, or an instruction that is reached at the offset is of a form that is not built.
+-- The program that the words name is refused, and the line tells why: a construct stands at the offset, the count
+-- passes its number, or an instruction that is reached at the offset is of a form that is not built.
 pub record HasRefusal (call : Call) : Type 0 where
   pub name : List ℕ
   pub file : List ℕ

@@ -9,3 +9,6 @@ pub mod Call
 pub mod Delivery
 pub mod Causes
 pub mod Promises
+pub use Rattle.dcc_prog.specs.MzImage
+pub use Rattle.dcc_c.specs.Views
+pub use Rattle.dcc_io.specs.Count

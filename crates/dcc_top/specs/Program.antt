@@ -22,8 +22,8 @@ pub record ReachesUnbuilt (image : Image) (at : ℕ) : Type 0 where
   pub has : HasLayout image layout
   pub reached : IsNotYet image layout at
 
--- a construct of the kind stands at the offset, a count passes its greatest number, or an instruction that is not built is
--- reached at the offset; want of memory has no cause
+-- a construct of the kind stands at the offset, a count passes its greatest number, or an instruction that is not built
+-- is reached at the offset; want of memory has no cause
 abbrev pub IsRefusedFor : Image → Refusal → Type 0
 IsRefusedFor image (Construct kind at) = IsConstruct kind image at
 IsRefusedFor image (Limit what count) = PassesLimit image what count

@@ -67,7 +67,7 @@ refusals = construct ∷ (limit ∷ (not_yet ∷ []))
 abbrev pub stops : List ℕ
 stops = input_fault ∷ (unfinished ∷ (divided ∷ (outside ∷ (stuck ∷ []))))
 
--- an answer behind no output
+-- an answer after no output
 abbrev pub without_output : List ℕ
 without_output =
     usage ∷ (no_file ∷ (file_fault ∷ (format ∷ (construct ∷ (limit ∷ (text_fault ∷ (not_yet ∷ [])))))))

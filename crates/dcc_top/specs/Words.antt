@@ -31,8 +31,9 @@ abbrev pub option_word : OptionName → List ℕ
 option_word Steps = codes "--steps"
 option_word Fill = codes "--fill"
 
--- The words after the command are of three sorts: positional words in their order, options, and the first `--` that isn't an
--- option's value, after which every word is positional. These are the positional words, and the value of each option that stands.
+-- The words after the command are of three sorts: positional words in their order, options, and the first `--` that
+-- isn't an option's value, after which every word is positional. These are the positional words, and the value of each
+-- option that stands.
 pub record Parts : Type 0 where
   pub positional : List (List ℕ)
   pub steps : Option (List ℕ)
@@ -65,10 +66,19 @@ is_positional (c ∷ (d ∷ cs)) = not (c == 45)
 -- the words after the command have these parts
 pub data HasParts : List (List ℕ) → Parts → Type 0 where
   no_word : HasParts [] (only_positional [])
-  positional_word : {word : List ℕ} {words : List (List ℕ)} {parts : Parts} → is_positional word ≡ true → HasParts words parts → HasParts (word ∷ words) (with_word word parts)
+  positional_word : {word : List ℕ} {words : List (List ℕ)} {parts : Parts}
+    → is_positional word ≡ true
+    → HasParts words parts
+    → HasParts (word ∷ words) (with_word word parts)
   -- an option, at most once: `--steps N` as two words, or `--steps=N` as one (byte 61 is `=`)
-  option_in_two : (name : OptionName) (value : List ℕ) (words : List (List ℕ)) (parts : Parts) → value_in name parts ≡ None → HasParts words parts → HasParts (option_word name ∷ (value ∷ words)) (set_value name value parts)
-  option_in_one : (name : OptionName) (value : List ℕ) (words : List (List ℕ)) (parts : Parts) → value_in name parts ≡ None → HasParts words parts → HasParts ((option_word name ++ (61 ∷ value)) ∷ words) (set_value name value parts)
+  option_in_two : (name : OptionName) (value : List ℕ) (words : List (List ℕ)) (parts : Parts)
+    → value_in name parts ≡ None
+    → HasParts words parts
+    → HasParts (option_word name ∷ (value ∷ words)) (set_value name value parts)
+  option_in_one : (name : OptionName) (value : List ℕ) (words : List (List ℕ)) (parts : Parts)
+    → value_in name parts ≡ None
+    → HasParts words parts
+    → HasParts ((option_word name ++ (61 ∷ value)) ∷ words) (set_value name value parts)
   end_of_options : {words : List (List ℕ)} → HasParts (codes "--" ∷ words) (only_positional words)
 
 -- the word is one or more decimal digits, at most so many, and nothing else
@@ -85,17 +95,26 @@ abbrev pub steps_of : Option (List ℕ) → Option ℕ
 steps_of None = Some 1000000
 steps_of (Some word) = number_of 10 1000000000 word
 
--- what the variables of a text hold before they have a value: 0 to 65535 in at most 5 digits, or 0 where the option doesn't
--- stand
+-- what the variables of a text hold before they have a value: 0 to 65535 in at most 5 digits, or 0 where the option
+-- doesn't stand
 abbrev pub fill_of : Option (List ℕ) → Option ℕ
 fill_of None = Some 0
 fill_of (Some word) = number_of 5 65535 word
 
 -- the words ask for this job
 pub data AskFor : List (List ℕ) → Job → Type 0 where
-  decompile : {words : List (List ℕ)} {file : List ℕ} → HasParts words (only_positional (file ∷ [])) → AskFor (command_word C ∷ words) (Decompile file)
-  execute : {words : List (List ℕ)} {file : List ℕ} {value : Option (List ℕ)} {steps : ℕ} → HasParts words (record { positional = file ∷ []; steps = value; fill = None }) → steps_of value ≡ Some steps → AskFor (command_word Run ∷ words) (Execute file steps)
-  execute_text : {words : List (List ℕ)} {file : List ℕ} {value other : Option (List ℕ)} {steps fill : ℕ} → HasParts words (record { positional = file ∷ []; steps = value; fill = other }) → steps_of value ≡ Some steps → fill_of other ≡ Some fill → AskFor (command_word RunC ∷ words) (ExecuteText file steps fill)
+  decompile : {words : List (List ℕ)} {file : List ℕ}
+    → HasParts words (only_positional (file ∷ []))
+    → AskFor (command_word C ∷ words) (Decompile file)
+  execute : {words : List (List ℕ)} {file : List ℕ} {value : Option (List ℕ)} {steps : ℕ}
+    → HasParts words (record { positional = file ∷ []; steps = value; fill = None })
+    → steps_of value ≡ Some steps
+    → AskFor (command_word Run ∷ words) (Execute file steps)
+  execute_text : {words : List (List ℕ)} {file : List ℕ} {value other : Option (List ℕ)} {steps fill : ℕ}
+    → HasParts words (record { positional = file ∷ []; steps = value; fill = other })
+    → steps_of value ≡ Some steps
+    → fill_of other ≡ Some fill
+    → AskFor (command_word RunC ∷ words) (ExecuteText file steps fill)
 
 -- The same as functions: the one job that the words ask for, if any.
 
@@ -184,7 +203,9 @@ job_for _ _ _ _ = None
 unfoldable pub job_of : List (List ℕ) → Option Job
 job_of [] = None
 job_of (word ∷ words) =
-    option_and_then (λ command. option_and_then (λ parts. job_for command parts.positional parts.steps parts.fill) (parts_of words)) (command_of word)
+    option_and_then
+        (λ command. option_and_then (λ parts. job_for command parts.positional parts.steps parts.fill) (parts_of words))
+        (command_of word)
 
 -- a job is that of the words exactly where they ask for it
 abbrev pub AskForOneJob : Type 0

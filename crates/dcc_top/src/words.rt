@@ -52,6 +52,7 @@ pub enum OptionName {
 /// What a word is that isn't an option's value and stands before any `--`.
 #[derive(Clone, Copy)]
 pub enum Kind<'a> {
+    /// A positional word.
     Positional,
     /// The word `--`.
     End,
@@ -59,29 +60,33 @@ pub enum Kind<'a> {
     Names(OptionName),
     /// An option with its value.
     Gives(OptionName, &'a str),
+    /// A word that begins with `-` and is none of these.
     Unknown,
 }
 
 /// The words after the command: the one positional word and the options' values, as far as they stand.
 #[derive(Clone, Copy)]
 pub struct Found<'a> {
+    /// The file's name.
     pub file: Option<&'a str>,
+    /// What `--steps` gives.
     pub steps: Option<&'a str>,
+    /// What `--fill` gives.
     pub fill: Option<&'a str>,
 }
 
-/// The steps of a run where no option gives them.
+// The steps of a run where no option gives them.
 const STEPS: u64 = 1_000_000;
 
+// The most steps that an option gives, and the digits that may write them.
 const GREATEST_STEPS: u64 = 1_000_000_000;
-
 const STEPS_DIGITS: usize = 10;
 
-/// The fill of a text's run where no option gives it.
+// The fill of a text's run where no option gives it.
 const FILL: u16 = 0;
 
+// The greatest fill that an option gives, and the digits that may write it.
 const GREATEST_FILL: u64 = 65_535;
-
 const FILL_DIGITS: usize = 5;
 
 // The command of this name.
@@ -122,6 +127,7 @@ fn is_positional(word: &str) -> bool
     }
 }
 
+// What the word is.
 fn kind_of(word: &str) -> Kind<'_>
     ensures { kind_read result ≡ kind_of word.now }
 {
@@ -143,6 +149,7 @@ fn kind_of(word: &str) -> Kind<'_>
     }
 }
 
+// Each byte of the word is a decimal digit.
 fn has_digits_alone(word: &str) -> bool
     ensures { result ≡ list_all is_ascii_digit word.now }
 {
@@ -196,7 +203,8 @@ impl<'a> Found<'a> {
     // One more positional word: no command takes two.
     fn with_word(self, word: &'a str) -> Option<Found<'a>>
         ensures { MatchOption result (IsSome self.entry.file)
-            (λ found. (self.entry.file ≡ None) × (parts_read found ≡ record (parts_read self.entry) { positional = word.now ∷ [] })) }
+            (λ found. (self.entry.file ≡ None)
+                × (parts_read found ≡ record (parts_read self.entry) { positional = word.now ∷ [] })) }
     {
         match self.file {
             Some(_) => None,
@@ -210,7 +218,8 @@ impl<'a> Found<'a> {
     // The value of one more option, which may stand once.
     fn with_value(self, option: OptionName, value: &'a str) -> Option<Found<'a>>
         ensures { MatchOption result (IsSome (value_in option (parts_read self.entry)))
-            (λ found. (value_in option (parts_read self.entry) ≡ None) × (parts_read found ≡ set_value option value.now (parts_read self.entry))) }
+            (λ found. (value_in option (parts_read self.entry) ≡ None)
+                × (parts_read found ≡ set_value option value.now (parts_read self.entry))) }
     {
         match option {
             OptionName::Steps => match self.steps {
@@ -233,7 +242,9 @@ impl<'a> Found<'a> {
     // The words after `--`, all positional.
     fn with_all(self, words: &'a [String]) -> Option<Found<'a>>
         ensures { MatchOption result (2 ≤ length ((parts_read self.entry).positional ++ map string_bytes words.now))
-            (λ found. parts_read found ≡ record (parts_read self.entry) { positional = (parts_read self.entry).positional ++ map string_bytes words.now }) }
+            (λ found. parts_read found ≡ record (parts_read self.entry) {
+                positional = (parts_read self.entry).positional ++ map string_bytes words.now
+            }) }
     {
         match words {
             [] => Some(self),

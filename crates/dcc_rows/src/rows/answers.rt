@@ -101,13 +101,13 @@ fn files_without_an_image_are_refused(rt: HostRuntime) -> Result<(), Fail> {
     Ok(())
 }
 
-// The code behind the instructions that set DS, the status and the line.
+// The code after the instructions that set DS, the status and the line.
 type RefusalRow = (&'static [u8], u8, &'static str);
 
 static REFUSALS: [RefusalRow; 21] = [
     // No instruction of the profile.
     (b"\xCD\x20", 9, "dcc: construct 2 at 0005\n"),
-    // CLI behind the prelude.
+    // CLI after the prelude.
     (
         b"\xB8\x00\x4C\x90\x43\xFA\xCD\x21",
         9,
@@ -177,7 +177,8 @@ fn a_program_without_a_layout_is_refused(rt: HostRuntime) -> Result<(), Fail> {
     let alloc = rt.alloc();
     // An image of one paragraph without a relocation, which sets no DS: its header and its five bytes of code.
     let file =
-        b"MZ\x25\x00\x01\x00\x00\x00\x02\x00\x00\x00\xFF\xFF\x01\x00\x00\x01\x00\x00\x00\x00\x00\x00\x1C\x00\x00\x00\x00\x00\x00\x00\xB8\x00\x4C\xCD\x21";
+        b"MZ\x25\x00\x01\x00\x00\x00\x02\x00\x00\x00\xFF\xFF\x01\x00\x00\x01\x00\x00\x00\x00\x00\
+            \x00\x1C\x00\x00\x00\x00\x00\x00\x00\xB8\x00\x4C\xCD\x21";
     let given = answered(alloc, &["c", "ROW1.EXE"], file, NO_FAULTS)?;
     check_refused(&rt, &given, 9, "dcc: construct 1 at 0000\n");
     Ok(())

@@ -5,7 +5,7 @@ use std::alloc::Global;
 use std::process::Abort;
 use std::test::Fail;
 
-/// A program: the code behind the instructions that set DS, the input, the output and the line at its end.
+// A program: the code after the instructions that set DS, the input, the output and the line at its end.
 #[derive(Drop)]
 struct Program {
     code: &'static [u8],
@@ -143,14 +143,14 @@ fn programs() -> &'static [Program] {
     &PROGRAMS
 }
 
-/// The call must answer status 0, this output and this line.
+// The call must answer status 0, this output and this line.
 fn check(rt: &impl Abort, given: &Answer, output: &[u8], line: &str) {
     assert_eq!(rt; given.err.as_slice(), line.as_bytes());
     assert_eq!(rt; given.out.as_slice(), output, "{line}");
     assert_eq!(rt; given.status, 0, "{line}");
 }
 
-/// The text of the program of this file.
+// The text of the program of this file.
 fn text_of(rt: &impl Abort, alloc: Global, file: &[u8]) -> Result<Vec<u8>, Fail> {
     let given = answered(alloc, &["c", "ROW1.EXE"], file, NO_FAULTS)?;
     assert_eq!(rt; given.status, 0);
@@ -163,7 +163,7 @@ fn text_of(rt: &impl Abort, alloc: Global, file: &[u8]) -> Result<Vec<u8>, Fail>
     Ok(given.out.clone()?)
 }
 
-/// The file and its text put out the same and end alike, the text with this fill.
+// The file and its text put out the same and end alike, the text with this fill.
 fn check_both(
     rt: &impl Abort,
     alloc: Global,

@@ -15,7 +15,7 @@ pub(super) const PRINTS_A: [u8; 48] = [
     0xB8, 0x01, 0x00, 0x8E, 0xD8, 0xB2, 0x41, 0xB4, 0x02, 0xCD, 0x21, 0xB8, 0x03, 0x4C, 0xCD, 0x21,
 ];
 
-/// The paragraphs of 16 bytes that the code takes behind the two instructions that set DS.
+/// The paragraphs of 16 bytes that the code takes, with the two instructions that set DS before it.
 pub(super) fn paragraphs(rt: &impl Abort, code: &[u8]) -> u16
     ensures { result ≤ 4096 }
 {
@@ -25,7 +25,7 @@ pub(super) fn paragraphs(rt: &impl Abort, code: &[u8]) -> u16
 }
 
 /// The file of a program. The image is `mov ax, p`, `mov ds, ax` and the code, with zeros up to a whole
-/// paragraph; p, the image's paragraphs, is relocated, so that DS and SS are the segment behind the image.
+/// paragraph; p, the image's paragraphs, is relocated, so that DS and SS are the segment after the image.
 pub(super) fn program(rt: &impl Abort, alloc: Global, code: &[u8]) -> Result<Vec<u8>, AllocError> {
     let paragraphs = paragraphs(rt, code);
     let length = 32 + 16 * u32::from(paragraphs);

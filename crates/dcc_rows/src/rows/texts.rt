@@ -5,7 +5,7 @@ use std::alloc::{AllocError, Global};
 use std::process::Abort;
 use std::test::Fail;
 
-/// The text with these lines in its function.
+// The text with these lines in its function.
 fn text(alloc: Global, lines: &[&str]) -> Result<String, AllocError> {
     let head = "#pragma dcc text 1\n#pragma dcc stack 0 256\nvoid start(void)\n{\n";
     let mut text = String::from_str(alloc, head)?;
@@ -16,7 +16,7 @@ fn text(alloc: Global, lines: &[&str]) -> Result<String, AllocError> {
     Ok(text)
 }
 
-/// The call must answer this status, this output and this line.
+// The call must answer this status, this output and this line.
 fn check(rt: &impl Abort, given: &Answer, status: u8, output: &[u8], line: &str) {
     assert_eq!(rt; given.err.as_slice(), line.as_bytes());
     assert_eq!(rt; given.out.as_slice(), output, "{line}");
@@ -84,7 +84,7 @@ fn another_version_is_refused(rt: HostRuntime) -> Result<(), Fail> {
     Ok(())
 }
 
-/// A part so many times, what stands inside, and another part as often.
+// A part so many times, what stands inside, and another part as often.
 fn nested(
     alloc: Global,
     count: usize,

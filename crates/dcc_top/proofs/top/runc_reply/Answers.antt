@@ -15,7 +15,8 @@ pub execute_unit-requires : goal.execute_unit-requires
 execute_unit-requires g c = record { text = c.in-Ok.ensures.unit.file; stands = c.in-Ok.ensures.unit.holds.stands }
 
 -- the statuses of a run of the unit
-run : (g : given.Over) (c : goal.After-drop-unit-in-Ok g) → (reply : Reply) (output : List ℕ) → RunsUnit (tree_of c.in-Ok.unit) c.args.steps c.args.fill (g.I.Source.left c.args.input.now) (g.I.Source.left c.execute_unit.new.input) reply output → IsOneOf (status_of reply) run_statuses
+run : (g : given.Over) (c : goal.After-drop-unit-in-Ok g) → (reply : Reply) (output : List ℕ) → RunsUnit (tree_of c.in-Ok.unit) c.args.steps c.args.fill (g.I.Source.left c.args.input.now)
+    (g.I.Source.left c.execute_unit.new.input) reply output → IsOneOf (status_of reply) run_statuses
 run g c reply output h =
     let read = c.in-Ok.ensures.unit in
     text_run-status _ c.args.steps _ _ reply output (h read.file read.holds.stands)

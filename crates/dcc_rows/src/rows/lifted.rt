@@ -1,0 +1,70 @@
+//! The texts of lifted programs: where their blocks begin, and the lines of their statements.
+
+use super::files::program;
+use dcc_c::{CStmt, Line, Unit};
+use dcc_io::MemSink;
+use dcc_mz::load;
+use dcc_pipe::decompile;
+use dcc_print::print;
+use std::alloc::{AllocError, Global};
+use std::process::Abort;
+use std::test::Fail;
+
+/// A loop with two entries, by the key that is taken first.
+const TWO_ENTRIES: &[u8] =
+    b"\xB4\x08\xCD\x21\x3C\x30\x74\x01\x43\x41\x83\xF9\x05\x75\xF9\x8A\xC3\xB4\x4C\xCD\x21";
+
+/// The unit of the program of some code.
+fn decompiled(rt: &impl Abort, alloc: Global, code: &[u8]) -> Result<Unit, Fail> {
+    let image = load(alloc, &program(rt, alloc, code)?)?;
+    Ok(decompile(alloc, &image)?)
+}
+
+/// The labels among some lines, each with its line.
+fn labels(alloc: Global, lines: &[Line]) -> Result<Vec<(u32, &str)>, AllocError> {
+    let mut labels = Vec::new(alloc);
+    for line in lines {
+        if let CStmt::Label(name) = &line.stmt {
+            labels.push((line.line, name.as_str()))?;
+        }
+    }
+    Ok(labels)
+}
+
+#[test]
+fn blocks_begin_where_edges_meet_or_part(rt: HostRuntime) -> Result<(), Fail> {
+    let alloc = rt.alloc();
+    let unit = decompiled(&rt, alloc, TWO_ENTRIES)?;
+    assert_eq!(&rt; unit.funcs.len(), 1);
+    let labels = labels(alloc, &unit.funcs[0].body)?;
+    let names = ["L_0000", "L_0005", "L_000d", "L_000e", "L_0014"];
+    assert_eq!(&rt; labels.len(), names.len());
+    for ((_, label), name) in labels.iter().zip(names) {
+        assert_eq!(&rt; *label, name);
+    }
+    Ok(())
+}
+
+#[test]
+fn lines_are_those_of_the_printed_text(rt: HostRuntime) -> Result<(), Fail> {
+    let alloc = rt.alloc();
+    let unit = decompiled(&rt, alloc, TWO_ENTRIES)?;
+    let mut sink = MemSink::new(alloc, Vec::new(alloc), 1_000_000);
+    assert_eq!(&rt; print(alloc, &mut sink, &unit), Ok(()));
+    let text = String::from_utf8_lossy(alloc, sink.taken())?;
+    assert_eq!(&rt; unit.funcs.len(), 1);
+    let start = &unit.funcs[0];
+    for (line, label) in labels(alloc, &start.body)? {
+        let written = format!(in alloc; "{label}:")?;
+        assert!(&rt; line > 0);
+        assert_eq!(&rt;
+            text.split('\n').nth(line as usize - 1),
+            Some(written.as_str())
+        );
+    }
+    // The brace that ends the function stands in its last line, the last of the text.
+    assert!(&rt; start.last > 0);
+    assert_eq!(&rt; text.split('\n').nth(start.last as usize - 1), Some("}"));
+    assert_eq!(&rt; text.split('\n').nth(start.last as usize), Some(""));
+    Ok(())
+}
