@@ -1,12 +1,12 @@
--- Which locations are wanted before a statement: those whose value a test, a store, a division or a DOS call may come to use
--- (liveness by demand). So far no call takes part: a graph with calls has further rules.
+-- Which locations are wanted before a statement: those whose value a test, a store, a division or a DOS call may come
+-- to use (liveness by demand). So far no call takes part: a graph with calls has further rules.
 use Rattle.std.specs.Prelude.{◌≡◌, ℕ, List, [], ◌∷◌, ◌++◌, flat_map, Contains, slice_get, option_to_list, Some}
 use Rattle.dcc_ir.specs.declared.syntax.Loc.{Loc}
 use Rattle.dcc_ir.specs.Tree.{Stmt, Set, Fetch, Store, Div, Dos, Exit, If, Switch, Block, Graph}
 use Rattle.dcc_ir.specs.Use.{reads_of, writes_of}
 use Rattle.dcc_ir.specs.Flow.{targets}
 
--- the locations that a statement uses whatever is wanted behind it
+-- the locations that a statement uses whatever is wanted after it
 abbrev pub uses_of : Stmt → List Loc
 uses_of (Store width address e) = reads_of address ++ reads_of e
 uses_of (Div location e) = reads_of e
@@ -27,8 +27,15 @@ tests_of exit = []
 
 -- the least relation: the location is wanted in the block before these statements, which are the last ones of it
 pub data IsWantedIn (graph : Graph) : Block → List Stmt → Loc → Type 0 where
-  used : {block : Block} {stmt : Stmt} {rest : List Stmt} {location : Loc} → Contains (uses_of stmt) location → IsWantedIn graph block (stmt ∷ rest) location
-  made_of : {block : Block} {stmt : Stmt} {rest : List Stmt} {location to : Loc} → Contains (writes_of stmt) to → Contains (makes_of stmt) location → IsWantedIn graph block rest to → IsWantedIn graph block (stmt ∷ rest) location
-  left : {block : Block} {stmt : Stmt} {rest : List Stmt} {location : Loc} → ¬ Contains (writes_of stmt) location → IsWantedIn graph block rest location → IsWantedIn graph block (stmt ∷ rest) location
-  tested : {block : Block} {location : Loc} → Contains (tests_of block.exit) location → IsWantedIn graph block [] location
-  goes : {block next : Block} {place : ℕ} {location : Loc} → Contains (targets block.exit) place → slice_get graph.blocks place ≡ Some next → IsWantedIn graph next next.stmts location → IsWantedIn graph block [] location
+  used : {block : Block} {stmt : Stmt} {rest : List Stmt} {location : Loc} → Contains (uses_of stmt) location
+      → IsWantedIn graph block (stmt ∷ rest) location
+  made_of : {block : Block} {stmt : Stmt} {rest : List Stmt} {location to : Loc} → Contains (writes_of stmt) to
+      → Contains (makes_of stmt) location → IsWantedIn graph block rest to
+      → IsWantedIn graph block (stmt ∷ rest) location
+  left : {block : Block} {stmt : Stmt} {rest : List Stmt} {location : Loc} → ¬ Contains (writes_of stmt) location
+      → IsWantedIn graph block rest location → IsWantedIn graph block (stmt ∷ rest) location
+  tested : {block : Block} {location : Loc} → Contains (tests_of block.exit) location
+      → IsWantedIn graph block [] location
+  goes : {block next : Block} {place : ℕ} {location : Loc} → Contains (targets block.exit) place
+      → slice_get graph.blocks place ≡ Some next → IsWantedIn graph next next.stmts location
+      → IsWantedIn graph block [] location

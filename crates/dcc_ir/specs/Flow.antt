@@ -62,7 +62,8 @@ Any a = Unit {0}
 
 -- the block is the first one, or a path leads there from it
 abbrev pub Reached : Flow → ℕ → Type 0
-Reached flow a = ((a ≡ flow.start) × (flow.has a ≡ true)) ⊎ ((between : List ℕ) × IsPath flow.goes Any flow.start between a)
+Reached flow a = ((a ≡ flow.start) × (flow.has a ≡ true))
+    ⊎ ((between : List ℕ) × IsPath flow.goes Any flow.start between a)
 
 -- Contraction.
 
@@ -77,10 +78,13 @@ pub record IsContraction (p q : Flow) : Type 0 where
   pub start : q.start ≡ p.start
   pub blocks : (a : ℕ) → q.has a ≡ true → p.has a ≡ true
   pub first : p.has p.start ≡ true → q.has p.start ≡ true
-  pub cycles : (a : ℕ) (between : List ℕ) → Reached p a → IsPath p.goes Any a between a → list_any q.has (a ∷ between) ≡ true
+  pub cycles : (a : ℕ) (between : List ℕ) → Reached p a → IsPath p.goes Any a between a
+      → list_any q.has (a ∷ between) ≡ true
   pub edges : (a b : ℕ) → Reached q a → q.has b ≡ true → (q.goes a b ≡ true) ↔ Leads p q a b
-  pub behind_one : (a b c : ℕ) → Reached p a → Reached p b → q.has a ≡ true → q.has b ≡ true → q.has c ≡ false → Leads p q a c → Leads p q b c → a ≡ b
+  pub behind_one : (a b c : ℕ) → Reached p a → Reached p b → q.has a ≡ true → q.has b ≡ true → q.has c ≡ false
+      → Leads p q a c → Leads p q b c → a ≡ b
 
 -- each reached block that the second graph has not has one edge in
 abbrev pub HaveOneEdge : Flow → Flow → Type 0
-HaveOneEdge p q = (a b c : ℕ) → Reached p a → Reached p b → q.has c ≡ false → p.goes a c ≡ true → p.goes b c ≡ true → a ≡ b
+HaveOneEdge p q = (a b c : ℕ) → Reached p a → Reached p b → q.has c ≡ false → p.goes a c ≡ true → p.goes b c ≡ true
+    → a ≡ b

@@ -136,7 +136,8 @@ one_of width = 1
 
 -- an operator twice in a row, at one width
 abbrev pub is_twice : UnOp → Expr → Bool
-is_twice operator (Unary op width (Unary op' width' a)) = same_unary op operator && same_unary op' operator && width == width'
+is_twice operator (Unary op width (Unary op' width' a)) = same_unary op operator && same_unary op' operator
+    && width == width'
 is_twice operator _ = false
 
 -- a constant added to, or subtracted from, what another one was added to or subtracted from, at one width
@@ -205,7 +206,8 @@ is_choice_by_constant _ = false
 -- the forms 1 to 40, in their order
 abbrev pub forms : List (Expr → Bool)
 forms =
-    is_binary Add (right_is zero_of) ∷ is_binary Add (left_is zero_of) ∷ is_binary Sub (right_is zero_of) ∷ is_binary Sub are_same
+    is_binary Add (right_is zero_of) ∷ is_binary Add (left_is zero_of) ∷ is_binary Sub (right_is zero_of)
+    ∷ is_binary Sub are_same
     ∷ is_binary Mul (right_is zero_of) ∷ is_binary Mul (right_is one_of) ∷ is_binary Mul (left_is one_of)
     ∷ is_binary And (right_is zero_of) ∷ is_binary And (right_is ones) ∷ is_binary And are_same
     ∷ is_binary Or (right_is zero_of) ∷ is_binary Or are_same ∷ is_binary Or (right_is ones)

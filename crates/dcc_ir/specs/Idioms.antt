@@ -33,7 +33,8 @@ pub record SameBut (locations : List Loc) (s t : State) : Type 0 where
   pub out : t.out ≡ s.out
   pub input : t.input ≡ s.input
   pub memory : s.end ≡ Running → t.memory ≡ s.memory
-  pub values : s.end ≡ Running → (location : Loc) → is_among locations location ≡ false → t.running.values location ≡ s.running.values location
+  pub values : s.end ≡ Running → (location : Loc) → is_among locations location ≡ false
+      → t.running.values location ≡ s.running.values location
 
 abbrev pub is_call : Stmt → Bool
 is_call (Call results entry arguments depth) = true
@@ -80,15 +81,15 @@ last_is_truth [] = false
 last_is_truth (e ∷ []) = is_truth e
 last_is_truth (e ∷ es) = last_is_truth es
 
--- Statements with one truth node: it is the whole value of their last Set, and the given statements hold several, one of
--- them in a Set, Load or Div.
+-- Statements with one truth node: it is the whole value of their last Set, and the given statements hold several, one
+-- of them in a Set, Load or Div.
 pub record OneTruth (given other : List Stmt) : Type 0 where
   pub whole : last_is_truth (flat_map set_by other) ≡ true
   pub several : 1 < all_truths given
   pub assigned : 0 < sum_by truths_of (flat_map assigned_by given)
 
--- The given statements are well formed under these widths and hold no call, and the last of the locations is a temporary
--- of 32 bits.
+-- The given statements are well formed under these widths and hold no call, and the last of the locations is a
+-- temporary of 32 bits.
 pub record IsWindow (bits : List ℕ) (given : List Stmt) (locations : List Loc) : Type 0 where
   pub widths : are_widths bits ≡ true
   pub formed : list_all (is_stmt bits) given ≡ true
@@ -103,16 +104,20 @@ pub record IsShorter (bits : List ℕ) (given : List Stmt) (locations : List Loc
   pub nodes : all_nodes other < all_nodes given
   pub names : All (Contains (named_by given ++ locations)) (named_by other)
   pub addresses : All (Contains (addressed_by_all given)) (addressed_by_all other)
-  pub effect : (s : State) → s.end ≡ Running → s.running.graph.bits ≡ bits → Fits (scene_of s) → SameBut locations (performed given s) (performed other s)
+  pub effect : (s : State) → s.end ≡ Running → s.running.graph.bits ≡ bits → Fits (scene_of s)
+      → SameBut locations (performed given s) (performed other s)
   pub depth : deepest (all_exprs other) ≤ max 32 (deepest (all_exprs given))
   pub truths : (all_truths other ≡ 0) ⊎ ((all_truths other ≡ 1) × OneTruth given other)
 
 -- what an idiom may answer for a window of statements and locations that are not wanted afterwards
 abbrev pub IdiomAnswers : List Stmt → List Loc → Option (List Stmt) → Type 0
 IdiomAnswers given locations answer =
-    (bits : List ℕ) (other : List Stmt) → IsWindow bits given locations → answer ≡ Some other → IsShorter bits given locations other
+    (bits : List ℕ) (other : List Stmt) → IsWindow bits given locations → answer ≡ Some other
+    → IsShorter bits given locations other
 
 -- what a call of an idiom may answer for these statements and locations
-abbrev pub MeetsIdiom : Vec Statement Global → Vec Loc Global → Result (Option (Vec Statement Global)) AllocError → Type 0
+abbrev pub MeetsIdiom : Vec Statement Global → Vec Loc Global → Result (Option (Vec Statement Global)) AllocError
+    → Type 0
 MeetsIdiom given locations result =
-    IfOk result (λ answer. IdiomAnswers (map stmt_of given.items) locations.items (option_map (λ v. map stmt_of v.items) answer))
+    IfOk result (λ answer.
+    IdiomAnswers (map stmt_of given.items) locations.items (option_map (λ v. map stmt_of v.items) answer))

@@ -21,7 +21,8 @@ with_value_for location value (Binary operator width a b) =
     Binary operator width (with_value_for location value a) (with_value_for location value b)
 with_value_for location value (Widen signed width a) = Widen signed width (with_value_for location value a)
 with_value_for location value (Part width first a) = Part width first (with_value_for location value a)
-with_value_for location value (Join high low) = Join (with_value_for location value high) (with_value_for location value low)
+with_value_for location value (Join high low) =
+    Join (with_value_for location value high) (with_value_for location value low)
 with_value_for location value (Choose test a b) =
     Choose (with_value_for location value test) (with_value_for location value a) (with_value_for location value b)
 with_value_for location value (Address distance) = Address distance
@@ -52,9 +53,9 @@ abbrev pub next_exprs : List Stmt → Exit → List Expr
 next_exprs [] exit = exit_exprs exit
 next_exprs (stmt ∷ stmts) exit = exprs_of stmt
 
--- The temporary is no param's place; one statement writes it, a Set, and one Get of it stands in the graph, further on in
--- the same block. What stands between lets the value pass, and with the value in its place the expression of the Get is
--- at most 32 deep.
+-- The temporary is no param's place; one statement writes it, a Set, and one Get of it stands in the graph, further on
+-- in the same block. What stands between lets the value pass, and with the value in its place the expression of the
+-- Get is at most 32 deep.
 pub record IsJoinable (graph : Graph) (temporary : ℕ) : Type 0 where
   pub no_param : is_among (flat_map (λ p. places_of p.put) graph.params) (Temp temporary) ≡ false
   pub written_once : times_in (flat_map (λ b. flat_map writes_of b.stmts) graph.blocks) (Temp temporary) ≡ 1

@@ -30,16 +30,19 @@ calls_at p entry at = flat_map calls_of (block_at p entry at).stmts
 -- The calls stay in their blocks, and the second program has each block that holds a call and each to which such a
 -- block goes.
 pub record KeepsCalls (p q : Program) (entry : ℕ) : Type 0 where
-  pub same : (a : ℕ) → Reached (flow_at p entry) a → (flow_at q entry).has a ≡ true → calls_at q entry a ≡ calls_at p entry a
+  pub same : (a : ℕ) → Reached (flow_at p entry) a → (flow_at q entry).has a ≡ true
+      → calls_at q entry a ≡ calls_at p entry a
   pub kept : (a : ℕ) → Reached (flow_at p entry) a → calls_at p entry a ≢ [] → (flow_at q entry).has a ≡ true
-  pub after : (a b : ℕ) → Reached (flow_at p entry) a → calls_at p entry a ≢ [] → (flow_at p entry).goes a b ≡ true → (flow_at q entry).has b ≡ true
+  pub after : (a b : ℕ) → Reached (flow_at p entry) a → calls_at p entry a ≢ [] → (flow_at p entry).goes a b ≡ true
+      → (flow_at q entry).has b ≡ true
 
 -- The second program has the first one's graphs, each with a part of its blocks. For every fill and input its run
 -- visits those blocks as the first one's run does, with the same outputs, and the two end alike.
 pub record Keeps (p q : Program) : Type 0 where
   pub entries : map (λ g. g.entry) q.graphs ≡ map (λ g. g.entry) p.graphs
   pub runs : (fill : ℕ) (input : List ℕ) → fill < 65536 → All (λ byte. byte < 256) input →
-      VisitsKept (has_block q) (inner_system p fill) block_mark (first_state p fill input) (inner_system q fill) block_mark (first_state q fill input)
+      VisitsKept (has_block q) (inner_system p fill) block_mark (first_state p fill input)
+      (inner_system q fill) block_mark (first_state q fill input)
   pub flow : (entry : ℕ) → IsContraction (flow_at p entry) (flow_at q entry)
   pub calls : (entry : ℕ) → KeepsCalls p q entry
 

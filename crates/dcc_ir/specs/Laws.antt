@@ -21,8 +21,10 @@ KeepsComposes = (p q r : Program) → Keeps p q → Keeps q r → Keeps p r
 
 -- where each block that goes has one edge in, it lies behind one block alone that stays
 abbrev pub OneEdgeLiesBehindOne : Type 0
-OneEdgeLiesBehindOne = (p q : Flow) → HaveOneEdge p q → (a b c : ℕ) → Reached p a → Reached p b → q.has a ≡ true → q.has b ≡ true → q.has c ≡ false → Leads p q a c → Leads p q b c → a ≡ b
+OneEdgeLiesBehindOne = (p q : Flow) → HaveOneEdge p q → (a b c : ℕ) → Reached p a → Reached p b → q.has a ≡ true
+    → q.has b ≡ true → q.has c ≡ false → Leads p q a c → Leads p q b c → a ≡ b
 
 -- the value of a well-formed expression fits its width
 abbrev pub ValuesFit : Type 0
-ValuesFit = (scene : Scene) → Fits scene → (e : Expr) → is_expr scene.bits e ≡ true → value_of scene e < 2 ^ width_of scene.bits e
+ValuesFit = (scene : Scene) → Fits scene → (e : Expr) → is_expr scene.bits e ≡ true
+    → value_of scene e < 2 ^ width_of scene.bits e

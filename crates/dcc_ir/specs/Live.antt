@@ -48,4 +48,5 @@ pub record IsLiveAfter (graph : Graph) (block : ℕ) (location : Loc) : Type 0 w
 -- the lists hold, for each block of the graph, exactly what is live at its end
 pub record IsLive (graph : Graph) (at_end : List (List Loc)) : Type 0 where
   pub len : length at_end ≡ length graph.blocks
-  pub exact : (block : ℕ) (location : Loc) → block < length graph.blocks → Contains (get_or at_end block []) location ↔ IsLiveAfter graph block location
+  pub exact : (block : ℕ) (location : Loc) → block < length graph.blocks
+      → Contains (get_or at_end block []) location ↔ IsLiveAfter graph block location

@@ -23,7 +23,12 @@ values_of bits fill held = fold (λ values h. with_value values h.at h.bits) (fi
 
 -- what the expressions read
 abbrev pub scene_of : View → Scene
-scene_of view = record { bits = view.bits.now; values = values_of view.bits.now view.fill view.held.now; base = view.base; memory = view.memory.now }
+scene_of view = record {
+  bits = view.bits.now;
+  values = values_of view.bits.now view.fill view.held.now;
+  base = view.base;
+  memory = view.memory.now;
+}
 
 -- how a run ends
 abbrev pub end_of : Ending → End

@@ -19,8 +19,10 @@ are_widths bits = list_all is_width bits
 -- It has fewer nodes, is no deeper, has no more truth nodes, and reads no other location and no other address.
 pub record IsSimpler (given other : Expr) : Type 0 where
   pub formed : (bits : List ℕ) → are_widths bits ≡ true → is_expr bits given ≡ true → is_expr bits other ≡ true
-  pub width : (bits : List ℕ) → are_widths bits ≡ true → is_expr bits given ≡ true → width_of bits other ≡ width_of bits given
-  pub value : (scene : Scene) → are_widths scene.bits ≡ true → Fits scene → is_expr scene.bits given ≡ true → value_of scene other ≡ value_of scene given
+  pub width : (bits : List ℕ) → are_widths bits ≡ true → is_expr bits given ≡ true
+      → width_of bits other ≡ width_of bits given
+  pub value : (scene : Scene) → are_widths scene.bits ≡ true → Fits scene → is_expr scene.bits given ≡ true
+      → value_of scene other ≡ value_of scene given
   pub nodes : nodes_of other < nodes_of given
   pub depth : depth_of other ≤ depth_of given
   pub truths : truths_of other ≤ truths_of given

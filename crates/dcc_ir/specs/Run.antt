@@ -191,7 +191,8 @@ exit_step Stop s = stuck s
 abbrev pub block_step : List Graph → ℕ → List Stmt → State → State
 block_step graphs fill [] s = exit_step s.running.block.exit s
 block_step graphs fill (Call results entry arguments depth ∷ rest) s =
-    calling fill results depth (map (value_in s) arguments) (graph_at graphs entry) (record s { running = record s.running { rest = rest; begins = false } })
+    calling fill results depth (map (value_in s) arguments) (graph_at graphs entry)
+    (record s { running = record s.running { rest = rest; begins = false } })
 block_step graphs fill (stmt ∷ rest) s =
     let next = stmt_step stmt s in
     if is_over next.end then next else block_step graphs fill rest next
@@ -202,7 +203,7 @@ step p fill s = if is_over s.end then s else block_step p.graphs fill s.running.
 
 -- The start.
 
--- the memory at the start: the low byte of the fill from `lo` to below `hi`, elsewhere the image and zeros behind it
+-- the memory at the start: the low byte of the fill from `lo` to below `hi`, elsewhere the image and zeros above it
 unfoldable pub first_memory : Program → ℕ → List ℕ
 first_memory p fill =
     map (λ at. if nat_le p.lo at && nat_lt at p.hi then fill % 256 else slice_index p.image at) (range_with_len 0 65536)

@@ -59,7 +59,8 @@ divided operation a b = if b == 0 then None else Some (operation a b)
 -- a division of signed numbers, where it does not fault
 abbrev pub divided_signed : (ℤ → ℤ → ℤ) → ℕ → ℕ → ℕ → Option ℕ
 divided_signed operation width a b =
-    if faults_signed width a b then None else Some (pattern_at width (operation (signed_at width a) (signed_at width b)))
+    if faults_signed width a b then None
+    else Some (pattern_at width (operation (signed_at width a) (signed_at width b)))
 
 -- the quotient, rounded towards 0, or the remainder, which has the dividend's sign; none at a divide fault
 abbrev pub division_at : BinOp → ℕ → ℕ → ℕ → Option ℕ

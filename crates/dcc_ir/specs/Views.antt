@@ -63,9 +63,12 @@ graph_of g = record {
 abbrev pub program_of : IrProgram → Program
 program_of p = record { graphs = map graph_of p.graphs.items; image = p.image.items; lo = p.lo; hi = p.hi }
 
+abbrev pub summary_of : Sum → Summary
+summary_of x = record { params = x.params.items; results = x.results.items; preserved = x.preserved.items }
+
 -- the locations that pass, of each graph
 abbrev pub sums_of : Sums → List Summary
-sums_of s = map (λ (x : Sum). record { params = x.params.items; results = x.results.items; preserved = x.preserved.items }) s.of.items
+sums_of s = map summary_of s.of.items
 
 -- the locations that are live at the end of each block
 abbrev pub live_of : Live → List (List Loc)

@@ -59,7 +59,8 @@ is_expr bits (Join high low) =
     is_expr bits high && is_expr bits low && (width_of bits high == width_of bits low)
     && (width_of bits low == 8 || width_of bits low == 16)
 is_expr bits (Choose test a b) =
-    is_expr bits test && is_expr bits a && is_expr bits b && (width_of bits test == 1) && (width_of bits a == width_of bits b)
+    is_expr bits test && is_expr bits a && is_expr bits b && (width_of bits test == 1)
+    && (width_of bits a == width_of bits b)
 is_expr bits (Address distance) = nat_lt distance 65536
 
 -- a well-formed expression of that width
@@ -89,7 +90,8 @@ is_dos bits number (Some location) (Some e) = false
 abbrev pub is_stmt : List ℕ → Stmt → Bool
 is_stmt bits (Set location e) = is_location bits location && is_expr_of bits (location_width bits location) e
 is_stmt bits (Fetch location width address) =
-    is_location bits location && is_stored_width width && (location_width bits location == width) && is_expr_of bits 16 address
+    is_location bits location && is_stored_width width && (location_width bits location == width)
+    && is_expr_of bits 16 address
 is_stmt bits (Store width address e) = is_stored_width width && is_expr_of bits 16 address && is_expr_of bits width e
 is_stmt bits (Div location e) = is_location bits location && is_dividing bits (location_width bits location) e
 is_stmt bits (Call results entry arguments depth) =
@@ -145,7 +147,8 @@ is_memory _ = false
 abbrev pub is_param_list : List ℕ → List Param → Bool
 is_param_list bits [] = true
 is_param_list bits (p ∷ ps) =
-    (if p.stack then put_width bits p.put == 16 else (not (is_memory p.put) && list_all (λ q. not q.stack) ps)) && is_param_list bits ps
+    (if p.stack then put_width bits p.put == 16 else (not (is_memory p.put) && list_all (λ q. not q.stack) ps))
+    && is_param_list bits ps
 
 -- the widths of the values that a block's end gives back, where it is a Ret
 abbrev pub ret_widths : List ℕ → Exit → List (List ℕ)

@@ -18,7 +18,7 @@ pub use scene::{Held, View};
 pub use state::{Activation, End, PlainRun, Refused, Waiting};
 use std::alloc::{AllocError, Global};
 
-/// The graph with that entry.
+// The graph with that entry.
 fn graph_at(graphs: &[Graph], entry: u16) -> Option<&Graph>
     ensures { option_map shared_graph_of result ≡ inner.graph_at (map graph_of graphs.now) entry }
 {
@@ -37,15 +37,15 @@ pub struct Outcome {
     pub end: End,
 }
 
-/// The memory at the start: the low byte of the fill from `lo` to below `hi`, elsewhere the image and zeros behind
-/// it.
+// The memory at the start: the low byte of the fill from `lo` to below `hi`, elsewhere the image and zeros above
+// it.
 fn first_memory(alloc: Global, program: &IrProgram, fill: u16) -> Result<Vec<u8>, AllocError>
     ensures { IfOk result (λ memory. memory.items ≡ inner.first_memory (program_of program.now) fill) }
 {
     first_bytes(alloc, &program.image, program.lo, program.hi, fill, 65_536)
 }
 
-/// The first `len` bytes of the memory at the start.
+// The first `len` bytes of the memory at the start.
 fn first_bytes(
     alloc: Global,
     image: &[u8],
@@ -108,7 +108,7 @@ impl<'p> PlainRun<'p> {
         self.end != End::Running
     }
 
-    /// The block from these statements on, up to its next call, return or end.
+    // The block from these statements on, up to its next call, return or end.
     fn go_on(
         &mut self,
         alloc: Global,
@@ -116,7 +116,8 @@ impl<'p> PlainRun<'p> {
         stmts: &'p [Stmt],
     ) -> Result<(), Refused>
         ensures after { OnOk result (state_of self.new
-            ≡ inner.block_step (map graph_of program.entry.now.graphs.items) self.old.fill (map stmt_of stmts.entry.now) (state_of self.old)) }
+            ≡ inner.block_step (map graph_of program.entry.now.graphs.items) self.old.fill
+            (map stmt_of stmts.entry.now) (state_of self.old)) }
         ensures fill { self.new.fill ≡ self.old.fill }
     {
         for i in 0..stmts.len() {
@@ -169,9 +170,11 @@ pub fn run(
     steps: u64,
 ) -> Result<Outcome, Refused>
     ensures out { IfOk result (λ outcome. outcome.out.items
-        ≡ out_after (inner.inner_system (program_of program.now) fill) steps (inner.first_state (program_of program.now) fill input.now)) }
+        ≡ out_after (inner.inner_system (program_of program.now) fill) steps
+        (inner.first_state (program_of program.now) fill input.now)) }
     ensures end { IfOk result (λ outcome. end_of outcome.end
-        ≡ end_after (inner.inner_system (program_of program.now) fill) steps (inner.first_state (program_of program.now) fill input.now)) }
+        ≡ end_after (inner.inner_system (program_of program.now) fill) steps
+        (inner.first_state (program_of program.now) fill input.now)) }
 {
     let mut run = PlainRun::new(alloc, program, input, fill)?;
     let mut done = 0;

@@ -11,9 +11,10 @@ use std::alloc::Global;
 use std::mem;
 
 impl<'p> PlainRun<'p> {
-    /// The running activation comes to that block, where there is one.
+    // The running activation comes to that block, where there is one.
     fn enter(&mut self, block: Option<&'p Block>)
-        ensures after { state_of self.new ≡ inner.entering (option_map shared_block_of block.entry) (state_of self.old) }
+        ensures after { state_of self.new
+            ≡ inner.entering (option_map shared_block_of block.entry) (state_of self.old) }
         ensures fill { self.new.fill ≡ self.old.fill }
     {
         match block {
@@ -35,7 +36,7 @@ impl<'p> PlainRun<'p> {
         self.enter(graph.blocks.get(place as usize));
     }
 
-    /// One argument, the one at place `j`, goes where its param says.
+    // One argument, the one at place `j`, goes where its param says.
     fn put(&mut self, j: u32, put: Put, n: u32) -> Result<(), Refused>
         ensures after { OnOk result (state_of self.new ≡ inner.putting j put n (state_of self.old)) }
         ensures fill { self.new.fill ≡ self.old.fill }
@@ -67,7 +68,7 @@ impl<'p> PlainRun<'p> {
         Ok(values)
     }
 
-    /// The arguments go where the params say.
+    // The arguments go where the params say.
     fn pass(&mut self, params: &[Param], arguments: &[u32]) -> Result<(), Refused>
         ensures after { OnOk result (state_of self.new ≡ inner.passing 0 params.now arguments.now (state_of self.old)) }
         ensures fill { self.new.fill ≡ self.old.fill }
@@ -80,7 +81,7 @@ impl<'p> PlainRun<'p> {
         Ok(())
     }
 
-    /// The values go to the places of the results.
+    // The values go to the places of the results.
     fn give(&mut self, results: &[Loc], values: &[u32]) -> Result<(), Refused>
         ensures after { OnOk result (state_of self.new ≡ inner.giving results.now values.now (state_of self.old)) }
         ensures fill { self.new.fill ≡ self.old.fill }
@@ -92,7 +93,7 @@ impl<'p> PlainRun<'p> {
         Ok(())
     }
 
-    /// The values go back to the innermost activation that waits.
+    // The values go back to the innermost activation that waits.
     fn give_back(&mut self, values: &[u32]) -> Result<(), Refused>
         ensures after { OnOk result (state_of self.new
             ≡ inner.returning values.now (state_of self.old).waiting (state_of self.old)) }
@@ -120,7 +121,8 @@ impl<'p> PlainRun<'p> {
         depth: u16,
     ) -> Result<(), Refused>
         ensures after { OnOk result (state_of self.new
-            ≡ inner.calling self.old.fill results.entry.now depth arguments.now (option_map shared_graph_of graph.entry) (state_of self.old)) }
+            ≡ inner.calling self.old.fill results.entry.now depth arguments.now
+            (option_map shared_graph_of graph.entry) (state_of self.old)) }
         ensures fill { self.new.fill ≡ self.old.fill }
     {
         let Some(graph) = graph else {

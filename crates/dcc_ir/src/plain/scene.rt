@@ -8,7 +8,6 @@ ghost use Rattle.dcc_ir.specs.Plain.{values_of, scene_of};
 
 use super::values::{binary_value, limit, moved_down, pattern, signed, unary_value, wrapped};
 use crate::syntax::{BinOp, Expr, Loc, UnOp};
-use dcc_num::{FlagName, Half, Reg};
 
 /// A location that has taken a value.
 #[derive(Clone, Copy, PartialEq, Eq, Debug)]
@@ -31,54 +30,14 @@ pub struct View<'a> {
     pub memory: &'a [u8],
 }
 
-/// The place of a register among the word registers.
-fn register_number(r: Reg) -> u8
-    ensures { result ≡ Rattle.dcc_ir.specs.Location.register_number r }
-{
-    match r {
-        Reg::Ax => 0,
-        Reg::Cx => 1,
-        Reg::Dx => 2,
-        Reg::Bx => 3,
-        Reg::Sp => 4,
-        Reg::Bp => 5,
-        Reg::Si => 6,
-        Reg::Di => 7,
-    }
-}
-
-/// The place of a half in its word.
-fn half_number(h: Half) -> u8
-    ensures { result ≡ Rattle.dcc_ir.specs.Location.half_number h }
-{
-    match h {
-        Half::Low => 0,
-        Half::High => 1,
-    }
-}
-
-/// The place of a flag among the flags.
-fn flag_number(f: FlagName) -> u8
-    ensures { result ≡ Rattle.dcc_ir.specs.Location.flag_number f }
-{
-    match f {
-        FlagName::Cf => 0,
-        FlagName::Zf => 1,
-        FlagName::Sf => 2,
-        FlagName::Of => 3,
-    }
-}
-
 /// Whether the two are one location.
 pub fn same_location(a: Loc, b: Loc) -> bool
     ensures { result ≡ same_location a b }
 {
     match (a, b) {
-        (Loc::Half(r, h), Loc::Half(s, k)) => {
-            register_number(r) == register_number(s) && half_number(h) == half_number(k)
-        }
-        (Loc::Flag(f), Loc::Flag(g)) => flag_number(f) == flag_number(g),
-        (Loc::Cell(n, h), Loc::Cell(m, k)) => n == m && half_number(h) == half_number(k),
+        (Loc::Half(r, h), Loc::Half(s, k)) => { r as u8 == s as u8 && h as u8 == k as u8 }
+        (Loc::Flag(f), Loc::Flag(g)) => f as u8 == g as u8,
+        (Loc::Cell(n, h), Loc::Cell(m, k)) => n == m && h as u8 == k as u8,
         (Loc::Temp(n), Loc::Temp(m)) => n == m,
         _ => false,
     }
@@ -95,7 +54,7 @@ pub fn location_width(bits: &[u8], location: Loc) -> u8
     }
 }
 
-/// The fill, cut or sign-extended to a width.
+// The fill, cut or sign-extended to a width.
 fn fill_at(width: u8, fill: u16) -> Option<u32>
     ensures { IfSome result (λ r. r ≡ fill_at width fill) }
 {
@@ -103,7 +62,7 @@ fn fill_at(width: u8, fill: u16) -> Option<u32>
     wrapped(width, if n >= 0x8000 { n + 0xFFFF_0000 } else { n })
 }
 
-/// What a location holds.
+// What a location holds.
 fn held_by(bits: &[u8], fill: u16, held: &[Held], location: Loc) -> Option<u32>
     ensures { IfSome result (λ r. r ≡ values_of bits.now fill held.now location) }
 {
@@ -126,7 +85,7 @@ pub fn byte_at(memory: &[u8], address: u32) -> u8
         .unwrap_or(0)
 }
 
-/// The word at an address, low byte first.
+// The word at an address, low byte first.
 fn word_at(memory: &[u8], address: u32) -> u32
     requires { address + 1 < 2 ^ 32 }
     ensures word { result ≡ bytes_at memory.now 2 address }
@@ -176,7 +135,7 @@ pub fn width_of(bits: &[u8], e: &Expr) -> Option<u8>
     }
 }
 
-/// Whether an operator gives one bit.
+// Whether an operator gives one bit.
 fn is_test(operator: UnOp) -> bool
     ensures { result ≡ Rattle.dcc_ir.specs.Value.is_test operator }
 {
@@ -186,7 +145,7 @@ fn is_test(operator: UnOp) -> bool
     }
 }
 
-/// Whether an operator gives one bit.
+// Whether an operator gives one bit.
 fn is_comparison(operator: BinOp) -> bool
     ensures { result ≡ Rattle.dcc_ir.specs.Value.is_comparison operator }
 {
@@ -196,7 +155,7 @@ fn is_comparison(operator: BinOp) -> bool
     }
 }
 
-/// A number at a greater width, extended by its sign or by zeros.
+// A number at a greater width, extended by its sign or by zeros.
 fn widened(by_sign: bool, from: u8, to: u8, n: u32) -> Option<u32>
     ensures { IfSome result (λ r. r ≡ (if by_sign then pattern_at to (signed_at from n) else n)) }
 {
@@ -207,7 +166,7 @@ fn widened(by_sign: bool, from: u8, to: u8, n: u32) -> Option<u32>
     }
 }
 
-/// A number from its upper and its lower half, of so many bits, where it has at most 32.
+// A number from its upper and its lower half, of so many bits, where it has at most 32.
 fn joined(high: u32, width: u8, low: u32) -> Option<u32>
     ensures { IfSome result (λ r. r ≡ high * 2 ^ width + low) }
 {

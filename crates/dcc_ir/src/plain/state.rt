@@ -87,7 +87,7 @@ pub struct PlainRun<'p> {
     pub fill: u16,
 }
 
-/// A byte is stored at an address, which wraps.
+// A byte is stored at an address, which wraps.
 fn store_byte(memory: &mut [u8], address: u32, byte: u8)
     ensures { memory.new ≡ slice_set memory.old (address % 65536) byte }
 {
@@ -116,7 +116,7 @@ pub fn store(memory: &mut [u8], width: u8, address: u32, n: u32) -> Result<(), R
     Ok(())
 }
 
-/// The lower 16 bits of a number are stored at an address.
+// The lower 16 bits of a number are stored at an address.
 fn store_word(memory: &mut [u8], address: u32, n: u32)
     requires { address < 2 ^ 32 - 1 }
     ensures { memory.new ≡ with_bytes_at memory.old 2 address n }
@@ -125,7 +125,7 @@ fn store_word(memory: &mut [u8], address: u32, n: u32)
     store_byte(memory, address + 1, (n / 256 % 256) as u8);
 }
 
-/// The bytes from an address on up to the first `$`, at most 65,536.
+// The bytes from an address on up to the first `$`, at most 65,536.
 #[tactic(auto, unfolding(crate::specs::Dos::dos_string))]
 fn string_at(alloc: Global, memory: &[u8], address: u32) -> Result<Vec<u8>, Refused>
     ensures { IfOk result (λ string. string.items ≡ dos_string memory.now address) }
@@ -172,7 +172,7 @@ impl<'p> PlainRun<'p> {
         self.end = End::Stuck(self.running.graph.entry);
     }
 
-    /// The value of a division, or none where it faults.
+    // The value of a division, or none where it faults.
     fn division(&self, e: &Expr) -> Result<Option<u32>, Refused>
         ensures { IfOk result (λ n. n ≡ division_of (inner.scene_of (state_of self.now)) (expr_of e.now)) }
     {
@@ -189,7 +189,7 @@ impl<'p> PlainRun<'p> {
         }
     }
 
-    /// The place takes a byte, where there is one.
+    // The place takes a byte, where there is one.
     fn take(&mut self, place: Option<Loc>, byte: u32) -> Result<(), Refused>
         ensures after { OnOk result (state_of self.new ≡ inner.taking place byte (state_of self.old)) }
         ensures fill { self.new.fill ≡ self.old.fill }
@@ -200,9 +200,10 @@ impl<'p> PlainRun<'p> {
         }
     }
 
-    /// The next byte of the input is taken, and written too where it is echoed; where there is none, 1Ah is taken.
+    // The next byte of the input is taken, and written too where it is echoed; where there is none, 1Ah is taken.
     fn key(&mut self, echo: bool, place: Option<Loc>) -> Result<(), Refused>
-        ensures after { OnOk result (state_of self.new ≡ inner.keyed echo place (state_of self.old).input (state_of self.old)) }
+        ensures after { OnOk result (state_of self.new
+            ≡ inner.keyed echo place (state_of self.old).input (state_of self.old)) }
         ensures fill { self.new.fill ≡ self.old.fill }
     {
         match self.input.get(self.taken).copied() {
@@ -218,7 +219,7 @@ impl<'p> PlainRun<'p> {
         }
     }
 
-    /// A DOS call with the value of its argument.
+    // A DOS call with the value of its argument.
     fn dos(&mut self, alloc: Global, number: u8, place: Option<Loc>, n: u32) -> Result<(), Refused>
         ensures after { OnOk result (state_of self.new ≡ inner.dos_step number place n (state_of self.old)) }
         ensures fill { self.new.fill ≡ self.old.fill }

@@ -22,7 +22,7 @@ pub fn limit(width: u8) -> Option<u64>
     }
 }
 
-/// The least number of a width with the sign bit.
+// The least number of a width with the sign bit.
 fn half(width: u8) -> Option<u64>
     ensures { IfSome result (λ n. n ≡ 2 ^ (width - 1)) }
 {
@@ -82,7 +82,7 @@ pub fn unary_value(operator: UnOp, width: u8, a: u32) -> Option<u32>
 /// A count at which nothing is left of a number.
 const ALL_OUT: u32 = 32;
 
-/// The bits moved up, with 0 coming in.
+// The bits moved up, with 0 coming in.
 fn moved_up(width: u8, a: u32, count: u32) -> Option<u32>
     ensures { IfSome result (λ r. r ≡ a * 2 ^ count % 2 ^ width) }
 {
@@ -100,7 +100,7 @@ pub fn moved_down(a: u32, count: u32) -> u32
     if count >= ALL_OUT { 0 } else { a >> count }
 }
 
-/// The bits moved down, with copies of the sign coming in.
+// The bits moved down, with copies of the sign coming in.
 fn moved_down_signed(width: u8, a: u32, count: u32) -> Option<u32>
     ensures { IfSome result (λ r. r ≡ pattern_at width (halved_of (signed_at width a) count)) }
 {
@@ -108,7 +108,7 @@ fn moved_down_signed(width: u8, a: u32, count: u32) -> Option<u32>
     pattern(width, z >> count.min(ALL_OUT))
 }
 
-/// Whether a division of signed numbers faults.
+// Whether a division of signed numbers faults.
 fn faults_signed(width: u8, a: u32, b: u32) -> Option<bool>
     ensures { IfSome result (λ r. r ≡ faults_signed width a b) }
 {
@@ -117,7 +117,7 @@ fn faults_signed(width: u8, a: u32, b: u32) -> Option<bool>
     Some(b == 0 || (u64::from(a) == half && u64::from(b) == limit - 1))
 }
 
-/// The quotient of signed numbers, or none where it faults; none around it where the numbers have not the width.
+// The quotient of signed numbers, or none where it faults; none around it where the numbers have not the width.
 fn signed_quotient(width: u8, a: u32, b: u32) -> Option<Option<u32>>
     ensures { IfSome result (λ r. r ≡ divided_signed int_div width a b) }
 {
@@ -132,7 +132,7 @@ fn signed_quotient(width: u8, a: u32, b: u32) -> Option<Option<u32>>
     Some(Some(pattern(width, dividend / by)?))
 }
 
-/// The remainder of the same division.
+// The remainder of the same division.
 fn signed_remainder(width: u8, a: u32, b: u32) -> Option<Option<u32>>
     ensures { IfSome result (λ r. r ≡ divided_signed int_rem width a b) }
 {
