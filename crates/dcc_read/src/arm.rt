@@ -9,10 +9,11 @@ ghost use Rattle.dcc_read.specs.ArmViews.{arm_head_of};
 ghost use Rattle.dcc_reader.specs.PartialViews.{case_of};
 ghost use Rattle.dcc_reader.specs.ReaderViews.{reader_of};
 
+use crate::Got;
 use dcc_lex::{Mark, Suffix, Token};
 use dcc_reader::list::push_some;
 use dcc_reader::{CaseAt, Reader};
-use std::alloc::{AllocError, Global};
+use std::alloc::Global;
 
 /// What an arm begins with.
 #[derive(Drop)]
@@ -23,7 +24,7 @@ pub(crate) struct ArmHead {
     pub(crate) default: Option<usize>,
 }
 
-/// The number with the suffix, where a case may have it.
+// The number with the suffix, where a case may have it.
 fn case_if(number: u32, suffix: Suffix) -> Option<u16>
     ensures { result ≡ statements.case_if number (suffix_of suffix) }
 {
@@ -33,7 +34,7 @@ fn case_if(number: u32, suffix: Suffix) -> Option<u16>
     }
 }
 
-/// The number of a case that the token is.
+// The number of a case that the token is.
 fn case_number(token: &Token) -> Option<u16>
     ensures { result ≡ statements.case_number (Some (token_of token.now)) }
 {
@@ -44,7 +45,7 @@ fn case_number(token: &Token) -> Option<u16>
     }
 }
 
-/// The number of a case that stands here.
+// The number of a case that stands here.
 fn case_here(r: &Reader<'_>) -> Option<u16>
     ensures { result ≡ statements.case_number (reading.next_token (reader_of r.now)) }
 {
@@ -54,10 +55,11 @@ fn case_here(r: &Reader<'_>) -> Option<u16>
     }
 }
 
-/// Reads a `case`, the word of which stands here, with its number and the colon.
+// Reads a `case`, the word of which stands here, with its number and the colon.
 fn read_case(r: &mut Reader<'_>) -> Option<CaseAt>
     requires seen { is_some (reading.next_token (reader_of r.old)) ≡ true }
-    ensures { reading.got (option_to_list (option_map case_of result)) (reader_of r.new) ≡ statements.read_case (reader_of r.old) }
+    ensures { reading.got (option_to_list (option_map case_of result)) (reader_of r.new)
+        ≡ statements.read_case (reader_of r.old) }
 {
     r.skip();
     let at = r.at;
@@ -74,8 +76,8 @@ fn read_case(r: &mut Reader<'_>) -> Option<CaseAt>
     }
 }
 
-/// Reads one case after the other.
-fn read_cases(r: &mut Reader<'_>, alloc: Global, calls: usize) -> Result<Vec<CaseAt>, AllocError>
+// Reads one case after the other.
+fn read_cases(r: &mut Reader<'_>, alloc: Global, calls: usize) -> Got<Vec<CaseAt>>
     ensures { IfOk result (λ numbers.
         reading.got (map case_of numbers.items) (reader_of r.new) ≡ statements.read_cases calls (reader_of r.old)) }
 {
@@ -93,11 +95,7 @@ fn read_cases(r: &mut Reader<'_>, alloc: Global, calls: usize) -> Result<Vec<Cas
 }
 
 /// Reads what an arm begins with: `default`, or cases.
-pub(crate) fn read_arm_head(
-    r: &mut Reader<'_>,
-    alloc: Global,
-    calls: usize,
-) -> Result<ArmHead, AllocError>
+pub(crate) fn read_arm_head(r: &mut Reader<'_>, alloc: Global, calls: usize) -> Got<ArmHead>
     ensures { IfOk result (λ head.
         reading.got (arm_head_of head) (reader_of r.new) ≡ statements.read_arm_head calls (reader_of r.old)) }
 {

@@ -4,24 +4,22 @@ ghost use Rattle.std.specs.Prelude.{◌≡◌, ◌∷◌, [], IfOk, true, is_som
 ghost use Rattle.std.specs.Option.{option_map};
 ghost use Rattle.dcc_c.specs.Reading as reading;
 ghost use Rattle.dcc_c.specs.ReadingStatements as statements;
-ghost use Rattle.dcc_read.specs.Stars.{behind_star};
+ghost use Rattle.dcc_read.specs.Stars.{after_star};
 ghost use Rattle.dcc_reader.specs.PartialViews.{expr_of, stmt_of, word_of};
 ghost use Rattle.dcc_reader.specs.ReaderViews.{reader_of};
 
+use crate::Got;
 use crate::expression::{Inside, name_here, read_enclosed, read_unary, read_value};
 use dcc_c::CUn;
 use dcc_lex::Mark;
 use dcc_reader::{PartialCall, PartialExpr, PartialStmt, Reader, WordAt};
-use std::alloc::{AllocError, Global};
+use std::alloc::Global;
 
-/// Reads the arguments of a call behind its opening parenthesis. The closing one is left.
-fn read_arguments(
-    r: &mut Reader<'_>,
-    alloc: Global,
-    calls: usize,
-) -> Result<Vec<PartialExpr>, AllocError>
+// Reads the arguments of a call after its opening parenthesis. The closing one is left.
+fn read_arguments(r: &mut Reader<'_>, alloc: Global, calls: usize) -> Got<Vec<PartialExpr>>
     ensures { IfOk result (λ arguments.
-        reading.got (map expr_of arguments.items) (reader_of r.new) ≡ statements.read_arguments calls (reader_of r.old)) }
+        reading.got (map expr_of arguments.items) (reader_of r.new)
+        ≡ statements.read_arguments calls (reader_of r.old)) }
 {
     let mut arguments = Vec::new(alloc);
     if r.sees_mark(Mark::CloseParenthesis) {
@@ -40,14 +38,14 @@ fn read_arguments(
     Ok(arguments)
 }
 
-/// Reads a call behind its name, with a place for its result or none.
-fn read_call_behind(
+// Reads a call after its name, with a place for its result or none.
+fn read_call_after(
     r: &mut Reader<'_>,
     alloc: Global,
     calls: usize,
     place: Option<PartialExpr>,
     function: WordAt,
-) -> Result<PartialStmt, AllocError>
+) -> Got<PartialStmt>
     requires seen { is_some (reading.next_token (reader_of r.old)) ≡ true }
     ensures { IfOk result (λ stmt. reading.got (stmt_of stmt) (reader_of r.new)
         ≡ statements.call_of calls (option_map expr_of place) (word_of function) (reader_of r.old)) }
@@ -67,40 +65,37 @@ fn read_call_behind(
     Ok(PartialStmt::Call(place, call))
 }
 
-/// Reads a call with a place for its result or none.
+// Reads a call with a place for its result or none.
 fn read_call(
     r: &mut Reader<'_>,
     alloc: Global,
     calls: usize,
     place: Option<PartialExpr>,
-) -> Result<PartialStmt, AllocError>
+) -> Got<PartialStmt>
     requires begins { statements.begins_call (reader_of r.old) ≡ true }
     ensures { IfOk result (λ stmt. reading.got (stmt_of stmt) (reader_of r.new)
         ≡ statements.read_call calls (option_map expr_of place) (reader_of r.old)) }
 {
     match r.take_name(alloc)? {
-        Some(function) => read_call_behind(r, alloc, calls, place, function),
+        Some(function) => read_call_after(r, alloc, calls, place, function),
         None => Ok(PartialStmt::Empty),
     }
 }
 
-/// Reads a place that a value is assigned to: a name, or a star with an operand.
-fn read_place(r: &mut Reader<'_>, alloc: Global, calls: usize) -> Result<PartialExpr, AllocError>
-    ensures { IfOk result (λ e. reading.got (expr_of e) (reader_of r.new) ≡ statements.read_place calls (reader_of r.old)) }
+// Reads a place that a value is assigned to: a name, or a star with an operand.
+fn read_place(r: &mut Reader<'_>, alloc: Global, calls: usize) -> Got<PartialExpr>
+    ensures { IfOk result (λ e. reading.got (expr_of e) (reader_of r.new)
+        ≡ statements.read_place calls (reader_of r.old)) }
 {
     match r.name() {
         Some(word) => name_here(r, alloc, word),
-        None => read_behind_star(r, alloc, calls),
+        None => read_after_star(r, alloc, calls),
     }
 }
 
-/// Reads a star, which must stand here, and its operand.
-fn read_behind_star(
-    r: &mut Reader<'_>,
-    alloc: Global,
-    calls: usize,
-) -> Result<PartialExpr, AllocError>
-    ensures { IfOk result (λ e. reading.got (expr_of e) (reader_of r.new) ≡ behind_star calls (reader_of r.old)) }
+// Reads a star, which must stand here, and its operand.
+fn read_after_star(r: &mut Reader<'_>, alloc: Global, calls: usize) -> Got<PartialExpr>
+    ensures { IfOk result (λ e. reading.got (expr_of e) (reader_of r.new) ≡ after_star calls (reader_of r.old)) }
 {
     let at = r.at;
     let inside = Inside {
@@ -113,13 +108,13 @@ fn read_behind_star(
     Ok(PartialExpr::Unary(at, CUn::Deref, Box::new(alloc, operand)?))
 }
 
-/// Reads the value of an assignment behind its `=`.
+// Reads the value of an assignment after its `=`.
 fn read_assignment(
     r: &mut Reader<'_>,
     alloc: Global,
     calls: usize,
     place: PartialExpr,
-) -> Result<PartialStmt, AllocError>
+) -> Got<PartialStmt>
     ensures { IfOk result (λ stmt. reading.got (stmt_of stmt) (reader_of r.new)
         ≡ statements.assignment_of calls (expr_of place) (reader_of r.old)) }
 {
@@ -129,13 +124,13 @@ fn read_assignment(
     Ok(PartialStmt::Assign(place, Some(e), done))
 }
 
-/// Reads what takes a value at a place: an assignment, or a call with a result.
+// Reads what takes a value at a place: an assignment, or a call with a result.
 fn read_assigned(
     r: &mut Reader<'_>,
     alloc: Global,
     calls: usize,
     place: PartialExpr,
-) -> Result<PartialStmt, AllocError>
+) -> Got<PartialStmt>
     ensures { IfOk result (λ stmt. reading.got (stmt_of stmt) (reader_of r.new)
         ≡ statements.read_assigned calls (reading.got (expr_of place) (reader_of r.old))) }
 {
@@ -151,11 +146,7 @@ fn read_assigned(
 }
 
 /// Reads an assignment or a call.
-pub(crate) fn read_simple(
-    r: &mut Reader<'_>,
-    alloc: Global,
-    calls: usize,
-) -> Result<PartialStmt, AllocError>
+pub(crate) fn read_simple(r: &mut Reader<'_>, alloc: Global, calls: usize) -> Got<PartialStmt>
     ensures { IfOk result (λ stmt. reading.got (stmt_of stmt) (reader_of r.new)
         ≡ statements.read_simple calls (reader_of r.old)) }
 {

@@ -9,12 +9,12 @@ ghost use Rattle.dcc_read.specs.ExpressionViews.{inside_of, measure, strong_enou
 ghost use Rattle.dcc_reader.specs.PartialViews.{expr_of};
 ghost use Rattle.dcc_reader.specs.ReaderViews.{reader_of};
 
-use crate::operator::{binary_of, number_of, strength, unary_of};
+use crate::Got;
 use dcc_c::{CBin, CType, CUn};
 use dcc_lex::Mark;
-use dcc_reader::token::begins_type;
+use dcc_reader::operator::{binary_of, number_of, strength, unary_of};
 use dcc_reader::{ParseKind, PartialExpr, Reader};
-use std::alloc::{AllocError, Global};
+use std::alloc::Global;
 
 /// How deep an expression may be, and how many parentheses may stand around a part of it.
 const MOST: usize = 200;
@@ -41,7 +41,7 @@ pub struct Inside {
 }
 
 impl Inside {
-    /// What stands around an operand.
+    // What stands around an operand.
     fn in_operator(self) -> Inside
         requires fits { self.operators + 1 < 2 ^ 64 }
         ensures { inside_of result ≡ reading.in_operator (inside_of self) }
@@ -53,7 +53,7 @@ impl Inside {
         }
     }
 
-    /// What stands around the content of parentheses.
+    // What stands around the content of parentheses.
     fn in_parentheses(self) -> Inside
         requires fits { self.opened + 1 < 2 ^ 64 }
         ensures { inside_of result ≡ reading.in_parentheses (inside_of self) }
@@ -66,7 +66,7 @@ impl Inside {
     }
 }
 
-/// The depth of what stands above a part of this depth, up to 201.
+// The depth of what stands above a part of this depth, up to 201.
 fn deeper(depth: usize) -> usize
     requires measured { depth ≤ 201 }
     ensures { result ≡ min 201 (depth + 1) }
@@ -74,7 +74,7 @@ fn deeper(depth: usize) -> usize
     if depth <= MOST { depth + 1 } else { depth }
 }
 
-/// What was not read.
+// What was not read.
 fn missing() -> Measured
     ensures { expr_of result.expr ≡ partial.Missing }
 {
@@ -84,13 +84,8 @@ fn missing() -> Measured
     }
 }
 
-/// The unary operator on an operand.
-fn unary_at(
-    alloc: Global,
-    at: usize,
-    operator: CUn,
-    operand: Measured,
-) -> Result<Measured, AllocError>
+// The unary operator on an operand.
+fn unary_at(alloc: Global, at: usize, operator: CUn, operand: Measured) -> Got<Measured>
     ensures { IfOk result (λ e. expr_of e.expr ≡ partial.UnaryHere at operator (expr_of operand.expr)) }
 {
     let depth = deeper(operand.depth);
@@ -101,8 +96,8 @@ fn unary_at(
     })
 }
 
-/// The cast of an operand.
-fn cast_at(alloc: Global, at: usize, ty: CType, operand: Measured) -> Result<Measured, AllocError>
+// The cast of an operand.
+fn cast_at(alloc: Global, at: usize, ty: CType, operand: Measured) -> Got<Measured>
     ensures { IfOk result (λ e. expr_of e.expr ≡ partial.CastHere at ty (expr_of operand.expr)) }
 {
     let depth = deeper(operand.depth);
@@ -113,13 +108,8 @@ fn cast_at(alloc: Global, at: usize, ty: CType, operand: Measured) -> Result<Mea
     })
 }
 
-/// Two operands and their operator.
-fn binary_of_two(
-    alloc: Global,
-    operator: CBin,
-    left: Measured,
-    right: Measured,
-) -> Result<Measured, AllocError>
+// Two operands and their operator.
+fn binary_of_two(alloc: Global, operator: CBin, left: Measured, right: Measured) -> Got<Measured>
     ensures { IfOk result (λ e. expr_of e.expr ≡ partial.BinaryOf operator (expr_of left.expr) (expr_of right.expr)) }
 {
     let depth = deeper(left.depth.max(right.depth));
@@ -131,14 +121,10 @@ fn binary_of_two(
     })
 }
 
-/// A conditional.
-fn conditional_of(
-    alloc: Global,
-    test: Measured,
-    first: Measured,
-    second: Measured,
-) -> Result<Measured, AllocError>
-    ensures { IfOk result (λ e. expr_of e.expr ≡ partial.ConditionalOf (expr_of test.expr) (expr_of first.expr) (expr_of second.expr)) }
+// A conditional.
+fn conditional_of(alloc: Global, test: Measured, first: Measured, second: Measured) -> Got<Measured>
+    ensures { IfOk result (λ e. expr_of e.expr
+        ≡ partial.ConditionalOf (expr_of test.expr) (expr_of first.expr) (expr_of second.expr)) }
 {
     let depth = deeper(test.depth.max(first.depth.max(second.depth)));
     let test = Box::new(alloc, test.expr)?;
@@ -150,7 +136,7 @@ fn conditional_of(
     })
 }
 
-/// Stops where the expression that this is a part of gets too deep.
+// Stops where the expression that this is a part of gets too deep.
 fn stop_if_deep(r: &mut Reader<'_>, inside: Inside, part: &Measured)
     ensures { reader_of r.new ≡ reading.stop_if_deep (inside_of inside) (expr_of part.now.expr) (reader_of r.old) }
 {
@@ -159,7 +145,7 @@ fn stop_if_deep(r: &mut Reader<'_>, inside: Inside, part: &Measured)
     }
 }
 
-/// Whether an expression may begin with the next token.
+// Whether an expression may begin with the next token.
 fn begins_expr(r: &Reader<'_>) -> bool
     ensures { result ≡ reading.begins_expr (reading.next_token (reader_of r.now)) }
 {
@@ -170,7 +156,7 @@ fn begins_expr(r: &Reader<'_>) -> bool
         || r.name().is_some()
 }
 
-/// Stops at what is the first in too many parentheses.
+// Stops at what is the first in too many parentheses.
 fn stop_if_enclosed(r: &mut Reader<'_>, inside: Inside)
     ensures { reader_of r.new ≡ reading.stop_if_enclosed (inside_of inside) (reader_of r.old) }
 {
@@ -179,7 +165,7 @@ fn stop_if_enclosed(r: &mut Reader<'_>, inside: Inside)
     }
 }
 
-/// Stops at the next piece, where too many parentheses are open.
+// Stops at the next piece, where too many parentheses are open.
 fn stop_enclosed(r: &mut Reader<'_>)
     ensures { reader_of r.new ≡ stopped_deep (reader_of r.old) }
 {
@@ -190,26 +176,23 @@ fn stop_enclosed(r: &mut Reader<'_>)
     }
 }
 
-/// The next token, if it is a binary operator of this strength at least.
+// The next token, if it is a binary operator of this strength at least.
 fn operator_of(r: &Reader<'_>, weakest: u8) -> Option<CBin>
     ensures { result ≡ strong_enough weakest (reading.binary_of (reading.next_token (reader_of r.now))) }
 {
-    match binary_of(r.next()) {
-        Some(operator) => {
-            if weakest <= strength(operator) {
-                Some(operator)
-            } else {
-                None
-            }
-        }
-        None => None,
+    let operator = binary_of(r.next())?;
+    if weakest <= strength(operator) {
+        Some(operator)
+    } else {
+        None
     }
 }
 
 /// A name, and whether a parenthesis follows.
-pub fn name_here(r: &mut Reader<'_>, alloc: Global, word: &str) -> Result<PartialExpr, AllocError>
+pub fn name_here(r: &mut Reader<'_>, alloc: Global, word: &str) -> Got<PartialExpr>
     requires seen { is_some (reading.next_token (reader_of r.now)) ≡ true }
-    ensures { IfOk result (λ e. reading.got (expr_of e) (reader_of r.new) ≡ reading.name_here word.now (reader_of r.old)) }
+    ensures { IfOk result (λ e. reading.got (expr_of e) (reader_of r.new)
+        ≡ reading.name_here word.now (reader_of r.old)) }
 {
     let at = r.at;
     r.skip();
@@ -217,8 +200,8 @@ pub fn name_here(r: &mut Reader<'_>, alloc: Global, word: &str) -> Result<Partia
     Ok(PartialExpr::Name(at, word, r.sees_mark(Mark::OpenParenthesis)))
 }
 
-/// Reads a number or a name.
-fn read_leaf(r: &mut Reader<'_>, alloc: Global) -> Result<Measured, AllocError>
+// Reads a number or a name.
+fn read_leaf(r: &mut Reader<'_>, alloc: Global) -> Got<Measured>
     ensures { IfOk result (λ e. reading.got (expr_of e.expr) (reader_of r.new) ≡ reading.read_leaf (reader_of r.old)) }
 {
     let at = r.at;
@@ -229,59 +212,44 @@ fn read_leaf(r: &mut Reader<'_>, alloc: Global) -> Result<Measured, AllocError>
             depth: 1,
         });
     }
-    match r.name() {
-        Some(word) => {
-            let expr = name_here(r, alloc, word)?;
-            Ok(Measured { expr, depth: 1 })
-        }
-        None => {
-            r.fail();
-            Ok(missing())
-        }
-    }
+    let Some(word) = r.name() else {
+        r.fail();
+        return Ok(missing());
+    };
+    let expr = name_here(r, alloc, word)?;
+    Ok(Measured { expr, depth: 1 })
 }
 
-/// Reads a unary part.
+// Reads a unary part.
 #[cycle(expression)]
-fn measured_unary(
-    r: &mut Reader<'_>,
-    alloc: Global,
-    calls: usize,
-    inside: Inside,
-) -> Result<Measured, AllocError>
+fn measured_unary(r: &mut Reader<'_>, alloc: Global, calls: usize, inside: Inside) -> Got<Measured>
     requires operators { inside.operators + calls ≤ 2 ^ 64 }
     requires opened { inside.opened + calls ≤ 2 ^ 64 }
-    ensures { IfOk result (λ e. reading.got (expr_of e.expr) (reader_of r.new) ≡ reading.read_unary calls (inside_of inside) (reader_of r.old)) }
+    ensures { IfOk result (λ e. reading.got (expr_of e.expr) (reader_of r.new)
+        ≡ reading.read_unary calls (inside_of inside) (reader_of r.old)) }
 {
-    match calls.checked_sub(1) {
-        None => Ok(missing()),
-        Some(calls) => {
-            if inside.operators >= MOST {
-                r.stop_at(ParseKind::Depth, inside.start);
-                return Ok(missing());
-            }
-            let at = r.at;
-            match unary_of(r.next()) {
-                Some(operator) => {
-                    r.skip();
-                    let operand = measured_unary(r, alloc, calls, inside.in_operator())?;
-                    unary_at(alloc, at, operator, operand)
-                }
-                None => {
-                    if r.sees_mark(Mark::OpenParenthesis) {
-                        r.skip();
-                        read_parentheses(r, alloc, calls, inside, at)
-                    } else {
-                        read_leaf(r, alloc)
-                    }
-                }
-            }
-        }
+    let Some(calls) = calls.checked_sub(1) else {
+        return Ok(missing());
+    };
+    if inside.operators >= MOST {
+        r.stop_at(ParseKind::Depth, inside.start);
+        return Ok(missing());
     }
+    let at = r.at;
+    if let Some(operator) = unary_of(r.next()) {
+        r.skip();
+        let operand = measured_unary(r, alloc, calls, inside.in_operator())?;
+        return unary_at(alloc, at, operator, operand);
+    }
+    if r.sees_mark(Mark::OpenParenthesis) {
+        r.skip();
+        return read_parentheses(r, alloc, calls, inside, at);
+    }
+    read_leaf(r, alloc)
 }
 
-/// Reads what stands behind an opening parenthesis at a place: the rest of a cast, or an expression and the closing
-/// parenthesis.
+// Reads what stands after an opening parenthesis at a place: the rest of a cast, or an expression and the closing
+// parenthesis.
 #[cycle(expression)]
 fn read_parentheses(
     r: &mut Reader<'_>,
@@ -289,29 +257,27 @@ fn read_parentheses(
     calls: usize,
     inside: Inside,
     at: usize,
-) -> Result<Measured, AllocError>
+) -> Got<Measured>
     requires operators { inside.operators + calls < 2 ^ 64 }
     requires opened { inside.opened + calls < 2 ^ 64 }
-    ensures { IfOk result (λ e. reading.got (expr_of e.expr) (reader_of r.new) ≡ reading.read_parentheses calls (inside_of inside) at (reader_of r.old)) }
+    ensures { IfOk result (λ e. reading.got (expr_of e.expr) (reader_of r.new)
+        ≡ reading.read_parentheses calls (inside_of inside) at (reader_of r.old)) }
 {
-    match calls.checked_sub(1) {
-        None => Ok(missing()),
-        Some(calls) => {
-            let content = inside.in_parentheses();
-            stop_if_enclosed(r, content);
-            if r.sees_type() {
-                let ty = r.take_type();
-                read_cast(r, alloc, calls, inside, at, ty)
-            } else {
-                let whole = measured_expr(r, alloc, calls, content)?;
-                r.take_mark(Mark::CloseParenthesis);
-                Ok(whole)
-            }
-        }
+    let Some(calls) = calls.checked_sub(1) else {
+        return Ok(missing());
+    };
+    let content = inside.in_parentheses();
+    stop_if_enclosed(r, content);
+    if r.sees_type() {
+        let ty = r.take_type();
+        return read_cast(r, alloc, calls, inside, at, ty);
     }
+    let whole = measured_expr(r, alloc, calls, content)?;
+    r.take_mark(Mark::CloseParenthesis);
+    Ok(whole)
 }
 
-/// Reads the rest of a cast behind its type.
+// Reads the rest of a cast after its type.
 #[cycle(expression)]
 fn read_cast(
     r: &mut Reader<'_>,
@@ -320,25 +286,24 @@ fn read_cast(
     inside: Inside,
     at: usize,
     ty: Option<CType>,
-) -> Result<Measured, AllocError>
+) -> Got<Measured>
     requires operators { inside.operators + calls < 2 ^ 64 }
     requires opened { inside.opened + calls < 2 ^ 64 }
-    ensures { IfOk result (λ e. reading.got (expr_of e.expr) (reader_of r.new) ≡ reading.read_cast calls (inside_of inside) at (reading.got ty (reader_of r.old))) }
+    ensures { IfOk result (λ e. reading.got (expr_of e.expr) (reader_of r.new)
+        ≡ reading.read_cast calls (inside_of inside) at (reading.got ty (reader_of r.old))) }
 {
-    match calls.checked_sub(1) {
-        None => Ok(missing()),
-        Some(calls) => match ty {
-            Some(ty) => {
-                r.take_mark(Mark::CloseParenthesis);
-                let operand = measured_unary(r, alloc, calls, inside.in_operator())?;
-                cast_at(alloc, at, ty, operand)
-            }
-            None => Ok(missing()),
-        },
-    }
+    let Some(calls) = calls.checked_sub(1) else {
+        return Ok(missing());
+    };
+    let Some(ty) = ty else {
+        return Ok(missing());
+    };
+    r.take_mark(Mark::CloseParenthesis);
+    let operand = measured_unary(r, alloc, calls, inside.in_operator())?;
+    cast_at(alloc, at, ty, operand)
 }
 
-/// Reads operands that are joined by binary operators of this strength at least.
+// Reads operands that are joined by binary operators of this strength at least.
 #[cycle(expression)]
 fn read_binary(
     r: &mut Reader<'_>,
@@ -346,21 +311,20 @@ fn read_binary(
     calls: usize,
     inside: Inside,
     weakest: u8,
-) -> Result<Measured, AllocError>
+) -> Got<Measured>
     requires operators { inside.operators + calls ≤ 2 ^ 64 }
     requires opened { inside.opened + calls ≤ 2 ^ 64 }
-    ensures { IfOk result (λ e. reading.got (expr_of e.expr) (reader_of r.new) ≡ reading.read_binary calls (inside_of inside) weakest (reader_of r.old)) }
+    ensures { IfOk result (λ e. reading.got (expr_of e.expr) (reader_of r.new)
+        ≡ reading.read_binary calls (inside_of inside) weakest (reader_of r.old)) }
 {
-    match calls.checked_sub(1) {
-        None => Ok(missing()),
-        Some(calls) => {
-            let first = measured_unary(r, alloc, calls, inside)?;
-            read_more(r, alloc, calls, inside, weakest, first)
-        }
-    }
+    let Some(calls) = calls.checked_sub(1) else {
+        return Ok(missing());
+    };
+    let first = measured_unary(r, alloc, calls, inside)?;
+    read_more(r, alloc, calls, inside, weakest, first)
 }
 
-/// Reads the same behind the first operand.
+// Reads the same after the first operand.
 #[cycle(expression)]
 fn read_more(
     r: &mut Reader<'_>,
@@ -369,56 +333,49 @@ fn read_more(
     inside: Inside,
     weakest: u8,
     first: Measured,
-) -> Result<Measured, AllocError>
+) -> Got<Measured>
     requires operators { inside.operators + calls < 2 ^ 64 }
     requires opened { inside.opened + calls < 2 ^ 64 }
-    ensures { IfOk result (λ e. reading.got (expr_of e.expr) (reader_of r.new) ≡ reading.read_more calls (inside_of inside) weakest (reading.got (expr_of first.expr) (reader_of r.old))) }
+    ensures { IfOk result (λ e. reading.got (expr_of e.expr) (reader_of r.new)
+        ≡ reading.read_more calls (inside_of inside) weakest (reading.got (expr_of first.expr) (reader_of r.old))) }
 {
     let mut left = first;
     let mut calls = calls;
     while let Some(fewer) = calls.checked_sub(1) {
-        match operator_of(r, weakest) {
-            Some(operator) => {
-                r.skip();
-                let right = read_binary(
-                    r,
-                    alloc,
-                    fewer,
-                    inside.in_operator(),
-                    strength(operator) + 1,
-                )?;
-                left = binary_of_two(alloc, operator, left, right)?;
-                stop_if_deep(r, inside, &left);
-                calls = fewer;
-            }
-            None => return Ok(left),
-        }
+        let Some(operator) = operator_of(r, weakest) else {
+            return Ok(left);
+        };
+        r.skip();
+        let right = read_binary(
+            r,
+            alloc,
+            fewer,
+            inside.in_operator(),
+            strength(operator) + 1,
+        )?;
+        left = binary_of_two(alloc, operator, left, right)?;
+        stop_if_deep(r, inside, &left);
+        calls = fewer;
     }
     Ok(left)
 }
 
-/// Reads an expression.
+// Reads an expression.
 #[cycle(expression)]
-fn measured_expr(
-    r: &mut Reader<'_>,
-    alloc: Global,
-    calls: usize,
-    inside: Inside,
-) -> Result<Measured, AllocError>
+fn measured_expr(r: &mut Reader<'_>, alloc: Global, calls: usize, inside: Inside) -> Got<Measured>
     requires operators { inside.operators + calls ≤ 2 ^ 64 }
     requires opened { inside.opened + calls ≤ 2 ^ 64 }
-    ensures { IfOk result (λ e. reading.got (expr_of e.expr) (reader_of r.new) ≡ reading.read_expr calls (inside_of inside) (reader_of r.old)) }
+    ensures { IfOk result (λ e. reading.got (expr_of e.expr) (reader_of r.new)
+        ≡ reading.read_expr calls (inside_of inside) (reader_of r.old)) }
 {
-    match calls.checked_sub(1) {
-        None => Ok(missing()),
-        Some(calls) => {
-            let test = read_binary(r, alloc, calls, inside, 1)?;
-            read_rest(r, alloc, calls, inside, test)
-        }
-    }
+    let Some(calls) = calls.checked_sub(1) else {
+        return Ok(missing());
+    };
+    let test = read_binary(r, alloc, calls, inside, 1)?;
+    read_rest(r, alloc, calls, inside, test)
 }
 
-/// Reads the rest of a conditional behind its test, where there is one.
+// Reads the rest of a conditional after its test, where there is one.
 #[cycle(expression)]
 fn read_rest(
     r: &mut Reader<'_>,
@@ -426,26 +383,25 @@ fn read_rest(
     calls: usize,
     inside: Inside,
     test: Measured,
-) -> Result<Measured, AllocError>
+) -> Got<Measured>
     requires operators { inside.operators + calls < 2 ^ 64 }
     requires opened { inside.opened + calls < 2 ^ 64 }
-    ensures { IfOk result (λ e. reading.got (expr_of e.expr) (reader_of r.new) ≡ reading.read_rest calls (inside_of inside) (reading.got (expr_of test.expr) (reader_of r.old))) }
+    ensures { IfOk result (λ e. reading.got (expr_of e.expr) (reader_of r.new)
+        ≡ reading.read_rest calls (inside_of inside) (reading.got (expr_of test.expr) (reader_of r.old))) }
 {
-    match calls.checked_sub(1) {
-        None => Ok(test),
-        Some(calls) => {
-            if !r.sees_mark(Mark::Question) {
-                return Ok(test);
-            }
-            r.skip();
-            let first = measured_expr(r, alloc, calls, inside.in_operator())?;
-            r.take_mark(Mark::Colon);
-            let second = measured_expr(r, alloc, calls, inside.in_operator())?;
-            let whole = conditional_of(alloc, test, first, second)?;
-            stop_if_deep(r, inside, &whole);
-            Ok(whole)
-        }
+    let Some(calls) = calls.checked_sub(1) else {
+        return Ok(test);
+    };
+    if !r.sees_mark(Mark::Question) {
+        return Ok(test);
     }
+    r.skip();
+    let first = measured_expr(r, alloc, calls, inside.in_operator())?;
+    r.take_mark(Mark::Colon);
+    let second = measured_expr(r, alloc, calls, inside.in_operator())?;
+    let whole = conditional_of(alloc, test, first, second)?;
+    stop_if_deep(r, inside, &whole);
+    Ok(whole)
 }
 
 /// Reads a unary part, which must stand here.
@@ -454,10 +410,11 @@ pub fn read_unary(
     alloc: Global,
     calls: usize,
     inside: Inside,
-) -> Result<PartialExpr, AllocError>
+) -> Got<PartialExpr>
     requires operators { inside.operators + calls ≤ 2 ^ 64 }
     requires opened { inside.opened + calls ≤ 2 ^ 64 }
-    ensures { IfOk result (λ e. reading.got (expr_of e) (reader_of r.new) ≡ reading.read_unary calls (inside_of inside) (reader_of r.old)) }
+    ensures { IfOk result (λ e. reading.got (expr_of e) (reader_of r.new)
+        ≡ reading.read_unary calls (inside_of inside) (reader_of r.old)) }
 {
     Ok(measured_unary(r, alloc, calls, inside)?.expr)
 }
@@ -468,21 +425,19 @@ pub fn read_expr(
     alloc: Global,
     calls: usize,
     inside: Inside,
-) -> Result<PartialExpr, AllocError>
+) -> Got<PartialExpr>
     requires operators { inside.operators + calls ≤ 2 ^ 64 }
     requires opened { inside.opened + calls ≤ 2 ^ 64 }
-    ensures { IfOk result (λ e. reading.got (expr_of e) (reader_of r.new) ≡ reading.read_expr calls (inside_of inside) (reader_of r.old)) }
+    ensures { IfOk result (λ e. reading.got (expr_of e) (reader_of r.new)
+        ≡ reading.read_expr calls (inside_of inside) (reader_of r.old)) }
 {
     Ok(measured_expr(r, alloc, calls, inside)?.expr)
 }
 
 /// Reads a whole expression.
-pub fn read_value(
-    r: &mut Reader<'_>,
-    alloc: Global,
-    calls: usize,
-) -> Result<PartialExpr, AllocError>
-    ensures { IfOk result (λ e. reading.got (expr_of e) (reader_of r.new) ≡ statements.read_value calls (reader_of r.old)) }
+pub fn read_value(r: &mut Reader<'_>, alloc: Global, calls: usize) -> Got<PartialExpr>
+    ensures { IfOk result (λ e. reading.got (expr_of e) (reader_of r.new)
+        ≡ statements.read_value calls (reader_of r.old)) }
 {
     let inside = Inside {
         start: r.at,
@@ -493,12 +448,9 @@ pub fn read_value(
 }
 
 /// Reads a whole expression inside the parentheses of a statement.
-pub fn read_enclosed(
-    r: &mut Reader<'_>,
-    alloc: Global,
-    calls: usize,
-) -> Result<PartialExpr, AllocError>
-    ensures { IfOk result (λ e. reading.got (expr_of e) (reader_of r.new) ≡ statements.read_enclosed calls (reader_of r.old)) }
+pub fn read_enclosed(r: &mut Reader<'_>, alloc: Global, calls: usize) -> Got<PartialExpr>
+    ensures { IfOk result (λ e. reading.got (expr_of e) (reader_of r.new)
+        ≡ statements.read_enclosed calls (reader_of r.old)) }
 {
     let inside = Inside {
         start: r.at,
@@ -509,8 +461,9 @@ pub fn read_enclosed(
 }
 
 /// Reads an expression in parentheses.
-pub fn read_test(r: &mut Reader<'_>, alloc: Global, calls: usize) -> Result<PartialExpr, AllocError>
-    ensures { IfOk result (λ e. reading.got (expr_of e) (reader_of r.new) ≡ statements.read_test calls (reader_of r.old)) }
+pub fn read_test(r: &mut Reader<'_>, alloc: Global, calls: usize) -> Got<PartialExpr>
+    ensures { IfOk result (λ e. reading.got (expr_of e) (reader_of r.new)
+        ≡ statements.read_test calls (reader_of r.old)) }
 {
     r.take_mark(Mark::OpenParenthesis);
     let e = read_enclosed(r, alloc, calls)?;

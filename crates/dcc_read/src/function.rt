@@ -7,21 +7,21 @@ ghost use Rattle.dcc_reader.specs.BegunViews.{begun_of};
 ghost use Rattle.dcc_reader.specs.PartialViews.{function_of};
 ghost use Rattle.dcc_reader.specs.ReaderViews.{reader_of};
 
-use crate::around::Around;
+use crate::Got;
 use crate::statement::read_lines;
 use dcc_lex::Mark;
 use dcc_reader::declaration::read_locals;
 use dcc_reader::head::{Begun, read_begun, read_head};
-use dcc_reader::{PartialFunction, Reader};
-use std::alloc::{AllocError, Global};
+use dcc_reader::{Around, PartialFunction, Reader};
+use std::alloc::Global;
 
-/// Reads a function behind its head.
+// Reads a function after its head.
 fn read_body(
     r: &mut Reader<'_>,
     alloc: Global,
     calls: usize,
     head: PartialFunction,
-) -> Result<PartialFunction, AllocError>
+) -> Got<PartialFunction>
     ensures { IfOk result (λ f. reading.got (function_of f) (reader_of r.new)
         ≡ texts.read_body calls (reading.got (function_of head) (reader_of r.old))) }
 {
@@ -39,13 +39,13 @@ fn read_body(
     })
 }
 
-/// Reads a function behind its name.
+// Reads a function after its name.
 fn read_function(
     r: &mut Reader<'_>,
     alloc: Global,
     calls: usize,
     begun: Begun,
-) -> Result<PartialFunction, AllocError>
+) -> Got<PartialFunction>
     ensures { IfOk result (λ f. reading.got (function_of f) (reader_of r.new)
         ≡ texts.read_function calls (reading.got (begun_of begun) (reader_of r.old))) }
 {
@@ -53,20 +53,20 @@ fn read_function(
     read_body(r, alloc, calls, head)
 }
 
-/// Whether no function can begin here.
+// Whether no function can begin here.
 fn is_end(r: &Reader<'_>) -> bool
     ensures { result ≡ reading.is_stopped (reader_of r.now) || (length (reader_of r.now).left == 0) }
 {
     r.is_stopped() || r.at >= r.pieces.len()
 }
 
-/// Reads functions up to the end of the text, the first of them behind its name.
+/// Reads functions up to the end of the text, the first of them after its name.
 pub(crate) fn read_functions(
     r: &mut Reader<'_>,
     alloc: Global,
     calls: usize,
     begun: Begun,
-) -> Result<Vec<PartialFunction>, AllocError>
+) -> Got<Vec<PartialFunction>>
     ensures { IfOk result (λ functions. reading.got (map function_of functions.items) (reader_of r.new)
         ≡ texts.with_functions calls (reading.got (begun_of begun) (reader_of r.old))) }
 {

@@ -2,15 +2,15 @@
 #![tactic(auto)]
 
 mod arm;
-mod around;
 mod call;
 mod expression;
-#[cfg(test)]
-mod expression_tests;
 mod function;
-mod operator;
 mod short;
 mod statement;
 mod text;
 
+use std::alloc::AllocError;
 pub use text::{Reading, read};
+
+/// What is read of a text; an error where memory runs out.
+pub type Got<T> = Result<T, AllocError>;

@@ -11,6 +11,7 @@ ghost use Rattle.dcc_reader.specs.PartialViews.{number_of, variable_of, function
 ghost use Rattle.dcc_reader.specs.ReaderViews.{reader_of};
 ghost use Rattle.dcc_read.specs.TextViews.{declared_of, is_global, global_address, place_line};
 
+use crate::Got;
 use crate::function::read_functions;
 use dcc_c::Class;
 use dcc_lex::{Head, Mark, Piece};
@@ -21,16 +22,16 @@ use dcc_reader::reader::{enough_calls, reader_at};
 use dcc_reader::{NumberAt, PartialFunction, PartialText, PartialVariable, Reader};
 use std::alloc::{AllocError, Global};
 
-/// What was read of a text, and the reader behind it.
+/// What was read of a text, and the reader after it.
 #[derive(Drop)]
 pub struct Reading<'a> {
     /// What was read.
     pub text: PartialText,
-    /// The reader behind it.
+    /// The reader after it.
     pub behind: Reader<'a>,
 }
 
-/// Global variables, and the functions behind them.
+/// Global variables, and the functions after them.
 #[derive(Drop)]
 struct Declared {
     /// The variables.
@@ -39,14 +40,14 @@ struct Declared {
     functions: Vec<PartialFunction>,
 }
 
-/// Reads a global variable behind its name, at an address.
+// Reads a global variable after its name, at an address.
 fn read_global(
     r: &mut Reader<'_>,
     alloc: Global,
     calls: usize,
     address: u64,
     begun: Begun,
-) -> Result<PartialVariable, AllocError>
+) -> Got<PartialVariable>
     ensures { IfOk result (λ v. reading.got (variable_of v) (reader_of r.new)
         ≡ texts.read_global calls address (reading.got (begun_of begun) (reader_of r.old))) }
 {
@@ -65,7 +66,7 @@ fn read_global(
     })
 }
 
-/// How many elements a variable with the size has.
+// How many elements a variable with the size has.
 fn elements(size: &Option<NumberAt>) -> u64
     ensures exact { result ≡ placement.elements (option_map (λ n. n.value) size.now) }
     ensures few { result < 4294967296 }
@@ -76,7 +77,7 @@ fn elements(size: &Option<NumberAt>) -> u64
     }
 }
 
-/// How many bytes a variable takes.
+// How many bytes a variable takes.
 fn size_in_bytes(v: &PartialVariable) -> u64
     ensures exact { result ≡ texts.size_in_bytes (variable_of v.now) }
     ensures few { result ≤ 17179869180 }
@@ -87,7 +88,7 @@ fn size_in_bytes(v: &PartialVariable) -> u64
     }
 }
 
-/// The address that the number of a place line gives.
+// The address that the number of a place line gives.
 fn address_of(number: Option<NumberAt>) -> u64
     ensures exact { result ≡ texts.address_of (option_map number_of number) }
     ensures few { result < 4294967296 }
@@ -98,7 +99,7 @@ fn address_of(number: Option<NumberAt>) -> u64
     }
 }
 
-/// Reads a place line, the words of which stand here. The answer is its address.
+// Reads a place line, the words of which stand here. The answer is its address.
 fn read_place_line(r: &mut Reader<'_>) -> u64
     requires seen { is_some (reading.next_token (reader_of r.old)) ≡ true }
     ensures exact { reading.got result (reader_of r.new) ≡ place_line (reader_of r.old) }
@@ -109,14 +110,14 @@ fn read_place_line(r: &mut Reader<'_>) -> u64
     address_of(take_number_of_line(r, line))
 }
 
-/// Whether what has begun is a global variable, where one may stand.
+// Whether what has begun is a global variable, where one may stand.
 fn is_global(r: &Reader<'_>, begun: &Begun) -> bool
     ensures { result ≡ is_global (reading.got (begun_of begun.now) (reader_of r.now)) }
 {
     begun.has_result && !r.sees_mark(Mark::OpenParenthesis)
 }
 
-/// The address of a global variable that has begun; None for a function.
+// The address of a global variable that has begun; None for a function.
 fn global_address(r: &Reader<'_>, address: Option<u64>, begun: &Begun) -> Option<u64>
     ensures { result ≡ global_address address (reading.got (begun_of begun.now) (reader_of r.now)) }
 {
@@ -126,8 +127,8 @@ fn global_address(r: &Reader<'_>, address: Option<u64>, begun: &Begun) -> Option
     None
 }
 
-/// Reads place lines and global variables up to the first function, and the functions behind them.
-fn read_declared(r: &mut Reader<'_>, alloc: Global, calls: usize) -> Result<Declared, AllocError>
+// Reads place lines and global variables up to the first function, and the functions after them.
+fn read_declared(r: &mut Reader<'_>, alloc: Global, calls: usize) -> Got<Declared>
     requires few { calls ≤ 1073741824 }
     ensures { IfOk result (λ d. reading.got (declared_of d) (reader_of r.new)
         ≡ texts.read_declared calls None (reader_of r.old)) }
@@ -154,8 +155,8 @@ fn read_declared(r: &mut Reader<'_>, alloc: Global, calls: usize) -> Result<Decl
     Ok(Declared { globals, functions })
 }
 
-/// Reads a text behind its version line, where reading may nest so deep.
-fn read_text(r: &mut Reader<'_>, alloc: Global, calls: usize) -> Result<PartialText, AllocError>
+// Reads a text after its version line, where reading may nest so deep.
+fn read_text(r: &mut Reader<'_>, alloc: Global, calls: usize) -> Got<PartialText>
     requires few { calls ≤ 1073741824 }
     ensures { IfOk result (λ t. reading.got (text_of t) (reader_of r.new) ≡ texts.read_text calls (reader_of r.old)) }
 {
@@ -172,13 +173,14 @@ fn read_text(r: &mut Reader<'_>, alloc: Global, calls: usize) -> Result<PartialT
     })
 }
 
-/// Reads the pieces of a text behind its version line, as far as they are allowed.
+/// Reads the pieces of a text after its version line, as far as they are allowed.
 ///
 /// # Errors
 /// Where memory runs out.
 pub fn read<'a>(alloc: Global, pieces: &'a [Piece]) -> Result<Reading<'a>, AllocError>
     requires few { length pieces.now < 67108864 }
-    ensures { IfOk result (λ r. reading.got (text_of r.text) (reader_of r.behind) ≡ texts.reading_of (pieces_of pieces.now)) }
+    ensures { IfOk result (λ r. reading.got (text_of r.text) (reader_of r.behind)
+        ≡ texts.reading_of (pieces_of pieces.now)) }
 {
     let mut behind = reader_at(pieces);
     let text = read_text(&mut behind, alloc, enough_calls(pieces))?;

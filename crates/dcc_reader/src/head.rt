@@ -33,7 +33,8 @@ pub struct Begun {
 /// # Errors
 /// Where memory runs out.
 pub fn read_begun(r: &mut Reader<'_>, alloc: Global) -> Result<Begun, AllocError>
-    ensures { IfOk result (λ begun. reading.got (begun_of begun) (reader_of r.new) ≡ texts.read_begun (reader_of r.old)) }
+    ensures { IfOk result (λ begun. reading.got (begun_of begun) (reader_of r.new)
+        ≡ texts.read_begun (reader_of r.old)) }
 {
     let at = r.at;
     if r.sees_word("void") {
@@ -57,7 +58,7 @@ pub fn read_begun(r: &mut Reader<'_>, alloc: Global) -> Result<Begun, AllocError
     })
 }
 
-/// The place behind an opening parenthesis, where that was read.
+// The place after an opening parenthesis, where that was read.
 fn opened(r: &Reader<'_>) -> Option<usize>
     ensures { result ≡ opened_at (reader_of r.now) }
 {
@@ -67,7 +68,7 @@ fn opened(r: &Reader<'_>) -> Option<usize>
     Some(r.at)
 }
 
-/// Reads the head of a function behind its name.
+/// Reads the head of a function after its name.
 ///
 /// # Errors
 /// Where memory runs out.

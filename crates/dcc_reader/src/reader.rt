@@ -1,4 +1,4 @@
-//! A reader of pieces: it takes pieces as long as they are allowed, and sees none behind the first that is not.
+//! A reader of pieces: it takes pieces as long as they are allowed, and sees none after the first that is not.
 
 ghost use Rattle.std.specs.Prelude.{◌≡◌, ◌≤◌, ◌&&◌, IfOk, true, is_some, Some, None, map, drop, length};
 ghost use Rattle.std.specs.Option.{option_map};
@@ -10,9 +10,11 @@ ghost use Rattle.dcc_lex.specs.TokenViews.{mark_of, head_of, token_of, piece_of,
 ghost use Rattle.dcc_reader.specs.OffenceViews.{kind_of};
 ghost use Rattle.dcc_reader.specs.PartialViews.{number_of, word_of};
 ghost use Rattle.dcc_reader.specs.ReaderViews.{reader_of};
+ghost use Rattle.dcc_reader.specs.Words as words;
 
 use crate::offence::{Offence, ParseKind};
 use crate::partial::{NumberAt, WordAt};
+use crate::statement_word::StatementWord;
 use crate::token::{begins_type, is_the_head, is_the_mark, is_the_word, name_of, plain_of};
 use dcc_c::{Base, CType};
 use dcc_lex::{Head, Mark, Piece, Token};
@@ -49,14 +51,15 @@ impl<'a> Reader<'a> {
         self.token_at(self.at)
     }
 
-    /// The token of the piece at a place.
+    // The token of the piece at a place.
     fn token_at(&self, at: usize) -> Option<&'a Token>
-        ensures { option_map (λ t. token_of t.now) result ≡ reading.first_token (map piece_of (drop at self.now.pieces.now)) }
+        ensures { option_map (λ t. token_of t.now) result
+            ≡ reading.first_token (map piece_of (drop at self.now.pieces.now)) }
     {
         self.pieces.get(at)?.token.as_ref()
     }
 
-    /// The token behind the next piece, where there is a next token.
+    /// The token after the next piece, where there is a next token.
     pub fn second(&self) -> Option<&'a Token>
         requires seen { is_some (reading.next_token (reader_of self.now)) ≡ true }
         ensures { option_map (λ t. token_of t.now) result ≡ reading.second_token (reader_of self.now) }
@@ -102,7 +105,7 @@ impl<'a> Reader<'a> {
         name_of(self.next())
     }
 
-    /// Whether the next token is a name, and the one behind it the mark.
+    /// Whether the next token is a name, and the one after it the mark.
     pub fn sees_name_and(&self, mark: Mark) -> bool
         ensures { result ≡ is_some (reading.name_of (reading.next_token (reader_of self.now)))
             && reading.is_the_mark (mark_of mark) (reading.second_token (reader_of self.now)) }
@@ -117,7 +120,14 @@ impl<'a> Reader<'a> {
         begins_type(self.next())
     }
 
-    /// Goes behind the next piece.
+    /// The word of a statement that the next token is.
+    pub fn statement_word(&self) -> Option<StatementWord>
+        ensures { result ≡ words.statement_word (reading.next_token (reader_of self.now)) }
+    {
+        StatementWord::of(self.next())
+    }
+
+    /// Goes past the next piece.
     pub fn skip(&mut self)
         requires seen { is_some (reading.next_token (reader_of self.now)) ≡ true }
         ensures { reader_of self.new ≡ reading.skip (reader_of self.old) }
@@ -134,19 +144,13 @@ impl<'a> Reader<'a> {
         }
     }
 
-    /// The kind of the next piece, which is not allowed, or of the end.
+    // The kind of the next piece, which is not allowed, or of the end.
     fn stop_kind(&self) -> ParseKind
         ensures { kind_of result ≡ reading.stop_kind (reader_of self.now).left }
     {
         match self.pieces.get(self.at) {
-            Some(piece) => {
-                if piece.token.is_some() {
-                    ParseKind::Grammar
-                } else {
-                    ParseKind::Token
-                }
-            }
-            None => ParseKind::Grammar,
+            Some(piece) if piece.token.is_none() => ParseKind::Token,
+            _ => ParseKind::Grammar,
         }
     }
 
@@ -214,7 +218,8 @@ impl<'a> Reader<'a> {
 
     /// Takes a decimal number without suffix, which must stand here.
     pub fn take_plain(&mut self) -> Option<NumberAt>
-        ensures { reading.got (option_map number_of result) (reader_of self.new) ≡ reading.take_plain (reader_of self.old) }
+        ensures { reading.got (option_map number_of result) (reader_of self.new)
+            ≡ reading.take_plain (reader_of self.old) }
     {
         match plain_of(self.next()) {
             Some(value) => {
@@ -237,7 +242,7 @@ impl<'a> Reader<'a> {
         Some(self.with_star(base))
     }
 
-    /// A pointer to the base where a star stands here, else the base.
+    // A pointer to the base where a star stands here, else the base.
     fn with_star(&mut self, base: Base) -> CType
         ensures { reading.got (Some result) (reader_of self.new) ≡ reading.with_star base (reader_of self.old) }
     {
@@ -248,14 +253,14 @@ impl<'a> Reader<'a> {
         CType { base, pointer }
     }
 
-    /// Takes a number type, which must stand here.
+    // Takes a number type, which must stand here.
     fn take_base(&mut self) -> Option<Base>
         ensures { reading.got result (reader_of self.new) ≡ reading.take_base (reader_of self.old) }
     {
         if self.sees_word("int") {
-            self.base_behind(Base::Int)
+            self.base_after(Base::Int)
         } else if self.sees_word("long") {
-            self.base_behind(Base::Long)
+            self.base_after(Base::Long)
         } else if self.sees_word("signed") {
             self.skip();
             self.signed_base()
@@ -268,36 +273,36 @@ impl<'a> Reader<'a> {
         }
     }
 
-    /// The base behind `signed`.
+    // The base after `signed`.
     fn signed_base(&mut self) -> Option<Base>
         ensures { reading.got result (reader_of self.new) ≡ reading.signed_base (reader_of self.old) }
     {
         if self.sees_word("char") {
-            self.base_behind(Base::Schar)
+            self.base_after(Base::Schar)
         } else {
             self.fail();
             None
         }
     }
 
-    /// The base behind `unsigned`.
+    // The base after `unsigned`.
     fn unsigned_base(&mut self) -> Option<Base>
         ensures { reading.got result (reader_of self.new) ≡ reading.unsigned_base (reader_of self.old) }
     {
         if self.sees_word("char") {
-            self.base_behind(Base::Uchar)
+            self.base_after(Base::Uchar)
         } else if self.sees_word("int") {
-            self.base_behind(Base::Uint)
+            self.base_after(Base::Uint)
         } else if self.sees_word("long") {
-            self.base_behind(Base::Ulong)
+            self.base_after(Base::Ulong)
         } else {
             self.fail();
             None
         }
     }
 
-    /// The base, behind its last word.
-    fn base_behind(&mut self, base: Base) -> Option<Base>
+    // The base, after its last word.
+    fn base_after(&mut self, base: Base) -> Option<Base>
         requires seen { is_some (reading.next_token (reader_of self.now)) ≡ true }
         ensures { reading.got result (reader_of self.new) ≡ reading.base_behind base (reader_of self.old) }
     {

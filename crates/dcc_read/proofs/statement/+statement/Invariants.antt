@@ -1,6 +1,6 @@
 use Rattle.std.proofs.Common.{◌≡◌, ◌+◌, ◌*◌, ◌≤◌, false}
 use Rattle.dcc_c.specs.ReadingStatements as statements
-use Rattle.dcc_read.specs.AroundViews.{around_of}
+use Rattle.dcc_reader.specs.AroundViews.{around_of}
 use Rattle.dcc_read.specs.Lines.{before_lines}
 use Rattle.dcc_reader.specs.ReaderViews.{reader_of}
 use Rattle.dcc_read.proofs.LineLaws.{before_arms}
@@ -12,8 +12,14 @@ decreases-read_stmt l = l.calls * 4
 abbrev pub decreases-read_if : goal.decreases-read_if
 decreases-read_if l = l.calls * 4 + 3
 
-abbrev pub decreases-read_loop : goal.decreases-read_loop
-decreases-read_loop l = l.calls * 4 + 3
+abbrev pub decreases-read_while : goal.decreases-read_while
+decreases-read_while l = l.calls * 4 + 3
+
+abbrev pub decreases-read_do : goal.decreases-read_do
+decreases-read_do l = l.calls * 4 + 3
+
+abbrev pub decreases-read_for : goal.decreases-read_for
+decreases-read_for l = l.calls * 4 + 3
 
 abbrev pub decreases-read_switch : goal.decreases-read_switch
 decreases-read_switch l = l.calls * 4 + 3
