@@ -9,6 +9,7 @@ use Rattle.std.proofs.lemmas.Fmt.{decimal-digits_value, decimal_nonempty, decima
 use Rattle.dcc_c.specs.Token.{Token, Decimal, is_digit, hex_value, hex_from, same_bytes}
 use Rattle.dcc_c.specs.Pieces.{decimal_from, is_hex_digit, decimal_of, suffix_of, behind_while}
 use Rattle.std.proofs.lemmas.List.{at_drop_more}
+use Rattle.dcc_c.proofs.WrittenRows.{same_bytes-true}
 use Rattle.dcc_lex.proofs.Runs.{all_at}
 use Rattle.dcc_lex.specs.NumberViews.{is_short, decimal_value}
 
@@ -47,16 +48,6 @@ decimal_from-le n (b ∷ bytes) = let more = decimal_from-le (10 * n + (b - 48))
 same_bytes-self : (bytes : List ℕ) → same_bytes bytes bytes ≡ true
 same_bytes-self [] = refl
 same_bytes-self (b ∷ bytes) = and_from (b == b) (same_bytes bytes bytes) (eq-eqb b b refl) (same_bytes-self bytes)
-
-pub same_bytes-true : (xs ys : List ℕ) → same_bytes xs ys ≡ true → xs ≡ ys
-same_bytes-true [] [] same = refl
-same_bytes-true [] (y ∷ ys) same = absurd cc
-same_bytes-true (x ∷ xs) [] same = absurd cc
-same_bytes-true (x ∷ xs) (y ∷ ys) same =
-    let (first, others) = and_parts (x == y) (same_bytes xs ys) same in
-    let e = eqb-true x y first in
-    let es = same_bytes-true xs ys others in
-    cc
 
 short_parts : (digits : List ℕ) → is_short digits ≡ true → (0 < length digits) × (length digits ≤ 10) × (get_or digits 0 0 ≡ 48 → length digits ≡ 1)
 short_parts [] short = absurd cc

@@ -1,13 +1,14 @@
 -- Words are ASCII, and a run that begins with no digit is no number.
-use Rattle.std.proofs.Common.{◌≡◌, ℕ, zero, suc, ◌<◌, true, false, ◌&&◌, ◌||◌, ◌==◌, cond, List, [], ◌∷◌, length, get_or, Option, Some, None, refl, sym, subst, arith, ⊎_elim}
+use Rattle.std.proofs.Common.{◌≡◌, ℕ, zero, suc, ◌<◌, Bool, true, false, ◌&&◌, ◌||◌, ◌==◌, cond, List, [], ◌∷◌, length, get_or, Option, Some, None, refl, sym, subst, arith, ⊎_elim}
 use Rattle.std.specs.Prelude.{nat_le, not}
 use Rattle.std.specs.List.{list_all}
 use Rattle.std.specs.Str.{IsUtf8, IsAscii}
-use Rattle.std.proofs.lemmas.Bool.{and_parts, or_cases, leb-true, eqb-true, cond-false, cond_both}
+use Rattle.std.proofs.lemmas.Bool.{and_parts, or_cases, leb-true, eqb-true, cond-false, cond_both, or_from, false_from_ne_true}
 use Rattle.std.proofs.lemmas.Str.{IsUtf8-from_ascii}
-use Rattle.dcc_c.specs.Token.{Token, WordToken, is_digit, is_letter, is_between, is_word_byte, is_word}
+use Rattle.dcc_c.specs.Token.{Token, WordToken, is_digit, is_letter, is_between, is_word_byte, is_word, same_bytes}
 use Rattle.dcc_c.specs.Grammar.{is_among}
 use Rattle.dcc_c.specs.Pieces.{is_plain, token_of_word, number_of, unused_keywords}
+use Rattle.dcc_c.proofs.WrittenRows.{same_bytes-true}
 
 between_small : (low high b : ℕ) → is_between low high b ≡ true → high < 128 → b < 128
 between_small low high b is small =
@@ -47,3 +48,8 @@ not_plain (b ∷ bytes) other =
     let word = is_word (b ∷ bytes) && not (is_among unused_keywords (b ∷ bytes)) in
     let rest : Option Token = cond word (Some (WordToken (b ∷ bytes))) None in
     subst (λ token. is_plain token ≡ false) (sym (cond-false (is_digit b) (number_of (b ∷ bytes)) rest other)) (cond_both word (Some (WordToken (b ∷ bytes))) None (λ token. is_plain token ≡ false) (λ is. refl) (λ no. refl))
+
+-- a word is not among others where it is neither the first of them nor among the rest
+pub no_word : {word other : List ℕ} {rest : Bool} → (word ≡ other → ⊥) → rest ≡ false → (same_bytes word other || rest) ≡ false
+no_word {word} {other} {rest} differs none =
+    or_from (same_bytes word other) rest (false_from_ne_true (same_bytes word other) (λ same. differs (same_bytes-true word other same))) none

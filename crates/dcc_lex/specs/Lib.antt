@@ -1,3 +1,4 @@
+pub mod ByteViews
 pub mod CutViews
 pub mod HeadViews
 pub mod MarkViews

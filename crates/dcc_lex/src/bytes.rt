@@ -5,6 +5,7 @@ ghost use Rattle.std.specs.List.{prefix_len, take_while, list_all};
 ghost use Rattle.dcc_c.specs.Token as tokens;
 ghost use Rattle.dcc_c.specs.Lexing as lexing;
 ghost use Rattle.dcc_c.specs.Pieces as spec;
+ghost use Rattle.dcc_lex.specs.ByteViews.{has_kind};
 
 /// Whether this is a decimal digit.
 pub fn is_digit(byte: u8) -> bool
@@ -56,88 +57,52 @@ pub fn is_hex_digit(byte: u8) -> bool
     hex_value(byte) <= 15
 }
 
-/// How many decimal digits the bytes begin with.
-fn digit_count(bytes: &[u8]) -> usize
-    ensures { result ≡ prefix_len tokens.is_digit bytes.now }
-{
-    for (at, byte) in bytes.iter().enumerate() {
-        if !is_digit(*byte) {
-            return at;
+/// A kind of bytes that runs are made of.
+#[derive(Clone, Copy, PartialEq, Eq, Debug)]
+pub enum ByteKind {
+    /// Decimal digits.
+    Digit,
+    /// Hexadecimal digits.
+    HexDigit,
+    /// Letters, digits and `_`.
+    WordByte,
+    /// Spaces and tabs.
+    Blank,
+}
+
+impl ByteKind {
+    /// Whether the byte is of this kind.
+    fn has(self, byte: u8) -> bool
+        ensures { result ≡ has_kind self byte }
+    {
+        match self {
+            ByteKind::Digit => is_digit(byte),
+            ByteKind::HexDigit => is_hex_digit(byte),
+            ByteKind::WordByte => is_word_byte(byte),
+            ByteKind::Blank => is_blank(byte),
         }
     }
-    bytes.len()
-}
 
-/// How many hexadecimal digits the bytes begin with.
-fn hex_digit_count(bytes: &[u8]) -> usize
-    ensures { result ≡ prefix_len spec.is_hex_digit bytes.now }
-{
-    for (at, byte) in bytes.iter().enumerate() {
-        if !is_hex_digit(*byte) {
-            return at;
+    /// How many bytes of this kind the bytes begin with.
+    fn count(self, bytes: &[u8]) -> usize
+        ensures { result ≡ prefix_len (has_kind self) bytes.now }
+    {
+        for (at, byte) in bytes.iter().enumerate() {
+            if !self.has(*byte) {
+                return at;
+            }
         }
+        bytes.len()
     }
-    bytes.len()
-}
 
-/// How many letters, digits and `_` the bytes begin with.
-fn word_byte_count(bytes: &[u8]) -> usize
-    ensures { result ≡ prefix_len tokens.is_word_byte bytes.now }
-{
-    for (at, byte) in bytes.iter().enumerate() {
-        if !is_word_byte(*byte) {
-            return at;
-        }
+    /// The run of this kind that the bytes begin with, and the bytes after it.
+    pub fn split(self, bytes: &[u8]) -> (&[u8], &[u8])
+        ensures front { result.0.now ≡ take_while (has_kind self) bytes.now }
+        ensures back { result.1.now ≡ spec.behind_while (has_kind self) bytes.now }
+        ensures all { list_all (has_kind self) result.0.now ≡ true }
+    {
+        bytes.split_at(self.count(bytes))
     }
-    bytes.len()
-}
-
-/// How many spaces and tabs the bytes begin with.
-fn blank_count(bytes: &[u8]) -> usize
-    ensures { result ≡ prefix_len lexing.is_blank bytes.now }
-{
-    for (at, byte) in bytes.iter().enumerate() {
-        if !is_blank(*byte) {
-            return at;
-        }
-    }
-    bytes.len()
-}
-
-/// The decimal digits that the bytes begin with, and the bytes behind them.
-pub fn split_digits(bytes: &[u8]) -> (&[u8], &[u8])
-    ensures front { result.0.now ≡ take_while tokens.is_digit bytes.now }
-    ensures back { result.1.now ≡ spec.behind_while tokens.is_digit bytes.now }
-    ensures all { list_all tokens.is_digit result.0.now ≡ true }
-{
-    bytes.split_at(digit_count(bytes))
-}
-
-/// The hexadecimal digits that the bytes begin with, and the bytes behind them.
-pub fn split_hex_digits(bytes: &[u8]) -> (&[u8], &[u8])
-    ensures front { result.0.now ≡ take_while spec.is_hex_digit bytes.now }
-    ensures back { result.1.now ≡ spec.behind_while spec.is_hex_digit bytes.now }
-    ensures all { list_all spec.is_hex_digit result.0.now ≡ true }
-{
-    bytes.split_at(hex_digit_count(bytes))
-}
-
-/// The letters, digits and `_` that the bytes begin with, and the bytes behind them.
-pub fn split_word_bytes(bytes: &[u8]) -> (&[u8], &[u8])
-    ensures front { result.0.now ≡ take_while tokens.is_word_byte bytes.now }
-    ensures back { result.1.now ≡ spec.behind_while tokens.is_word_byte bytes.now }
-    ensures all { list_all tokens.is_word_byte result.0.now ≡ true }
-{
-    bytes.split_at(word_byte_count(bytes))
-}
-
-/// The spaces and tabs that the bytes begin with, and the bytes behind them.
-pub fn split_blanks(bytes: &[u8]) -> (&[u8], &[u8])
-    ensures front { result.0.now ≡ take_while lexing.is_blank bytes.now }
-    ensures back { result.1.now ≡ spec.behind_while lexing.is_blank bytes.now }
-    ensures all { list_all lexing.is_blank result.0.now ≡ true }
-{
-    bytes.split_at(blank_count(bytes))
 }
 
 /// Whether the line ends before these bytes.

@@ -6,7 +6,7 @@ ghost use Rattle.dcc_lex.specs.TokenViews as views;
 ghost use Rattle.dcc_lex.specs.HeadViews.{found_of};
 ghost use Rattle.dcc_lex.specs.CutViews as cuts;
 
-use crate::bytes::{is_blank, is_line_end, split_blanks, split_word_bytes};
+use crate::bytes::{ByteKind, is_blank, is_line_end};
 use crate::mark::first_mark;
 use crate::pragma::{FoundHead, head_of};
 use crate::token::{Head, Piece, Suffix, Token};
@@ -129,7 +129,7 @@ fn token_cut(alloc: Global, spot: Spot, line: u32, bytes: &[u8]) -> Result<Cut<'
     requires { 0 < length bytes.now }
     ensures { IfOk result (λ c. cuts.cut_of c ≡ cuts.token_cut (cuts.spot_of spot) line bytes.now) }
 {
-    let (run, rest) = split_word_bytes(bytes);
+    let (run, rest) = ByteKind::WordByte.split(bytes);
     if run.is_empty() {
         return Ok(mark_cut(spot, line, bytes));
     }
@@ -141,7 +141,7 @@ fn token_cut(alloc: Global, spot: Spot, line: u32, bytes: &[u8]) -> Result<Cut<'
 fn blank_cut(spot: Spot, line: u32, bytes: &[u8]) -> Cut<'_>
     ensures { cuts.cut_of result ≡ cuts.blank_run (cuts.spot_of spot) line bytes.now }
 {
-    let (_blanks, rest) = split_blanks(bytes);
+    let (_blanks, rest) = ByteKind::Blank.split(bytes);
     if !is_of_pragma(spot) {
         Cut {
             piece: None,
@@ -182,7 +182,7 @@ fn number_cut(spot: Spot, line: u32, bytes: &[u8]) -> Option<Cut<'_>>
     if *first != b' ' {
         return None;
     }
-    let (run, rest) = split_word_bytes(others);
+    let (run, rest) = ByteKind::WordByte.split(others);
     let n = plain_number(run)?;
     Some(Cut {
         piece: Some(Piece {

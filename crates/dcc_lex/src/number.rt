@@ -7,7 +7,7 @@ ghost use Rattle.dcc_c.specs.Pieces as spec;
 ghost use Rattle.dcc_lex.specs.TokenViews as views;
 ghost use Rattle.dcc_lex.specs.NumberViews.{is_short, decimal_value};
 
-use crate::bytes::{behind, hex_value, same_bytes, split_digits, split_hex_digits};
+use crate::bytes::{ByteKind, behind, hex_value, same_bytes};
 use crate::token::{Suffix, Token};
 
 /// The suffix that these bytes are.
@@ -71,7 +71,7 @@ fn decimal_value(digits: &[u8]) -> Option<u32>
 fn decimal_of(bytes: &[u8]) -> Option<Token>
     ensures { option_map views.token_of result ≡ spec.decimal_of bytes.now }
 {
-    let (digits, rest) = split_digits(bytes);
+    let (digits, rest) = ByteKind::Digit.split(bytes);
     let value = decimal_value(digits)?;
     let suffix = suffix_of(rest)?;
     Some(Token::Decimal(value, suffix))
@@ -94,7 +94,7 @@ fn hex_number(digits: &[u8]) -> u32
 fn hex_of(bytes: &[u8]) -> Option<Token>
     ensures { option_map views.token_of result ≡ spec.hex_of bytes.now }
 {
-    let (digits, rest) = split_hex_digits(bytes);
+    let (digits, rest) = ByteKind::HexDigit.split(bytes);
     if digits.is_empty() || digits.len() > 8 {
         return None;
     }

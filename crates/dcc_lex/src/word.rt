@@ -1,6 +1,6 @@
 //! Words, and the tokens that runs of letters, digits and `_` are.
 
-ghost use Rattle.std.specs.Prelude.{◌≡◌, true, false, IfOk, MatchOption, Some, option_map, string_bytes};
+ghost use Rattle.std.specs.Prelude.{◌≡◌, true, false, IfOk, MatchOption, Some, option_map, get_or};
 ghost use Rattle.std.specs.List.{list_all};
 ghost use Rattle.dcc_c.specs.Token as tokens;
 ghost use Rattle.dcc_c.specs.Pieces as spec;
@@ -12,6 +12,13 @@ use crate::number::number_of;
 use crate::token::{Suffix, Token};
 use std::alloc::{AllocError, Global};
 use std::str;
+
+/// Whether the first of the bytes is a digit.
+fn begins_number(run: &[u8]) -> bool
+    ensures { result ≡ tokens.is_digit (get_or run.now 0 0) }
+{
+    run.first().is_some_and(|first| is_digit(*first))
+}
 
 /// Whether each of the bytes is a letter, a digit or `_`.
 fn are_word_bytes(bytes: &[u8]) -> bool
@@ -36,50 +43,48 @@ pub fn is_word(bytes: &[u8]) -> bool
 }
 
 /// Whether this is a keyword of ISO C90 that the grammar does not have.
-fn is_unused_keyword(bytes: &[u8]) -> bool
-    ensures { result ≡ grammar.is_among spec.unused_keywords bytes.now }
+fn is_unused_keyword(word: &str) -> bool
+    ensures { result ≡ grammar.is_among spec.unused_keywords word.now }
 {
-    same_bytes(bytes, b"const")
-        || same_bytes(bytes, b"double")
-        || same_bytes(bytes, b"enum")
-        || same_bytes(bytes, b"extern")
-        || same_bytes(bytes, b"float")
-        || same_bytes(bytes, b"short")
-        || same_bytes(bytes, b"sizeof")
-        || same_bytes(bytes, b"static")
-        || same_bytes(bytes, b"struct")
-        || same_bytes(bytes, b"typedef")
-        || same_bytes(bytes, b"union")
-        || same_bytes(bytes, b"volatile")
+    match word {
+        "const" | "double" | "enum" | "extern" | "float" | "short" => true,
+        "sizeof" | "static" | "struct" | "typedef" | "union" | "volatile" => true,
+        _ => false,
+    }
 }
 
-/// A word of its own.
-fn owned_word(alloc: Global, bytes: &[u8]) -> Result<String, AllocError>
-    requires { tokens.is_word bytes.now ≡ true }
-    ensures { IfOk result (λ word. string_bytes word ≡ bytes.now) }
+/// The text of these bytes, where they are a word.
+fn word_in(bytes: &[u8]) -> Option<&str>
+    ensures { MatchOption result (tokens.is_word bytes.now ≡ false)
+        (λ word. (tokens.is_word bytes.now ≡ true) × (word.now ≡ bytes.now)) }
 {
+    if !is_word(bytes) {
+        return None;
+    }
     match str::from_utf8(bytes) {
-        Ok(word) => String::from_str(alloc, word),
+        Ok(word) => Some(word),
         Err(_) => unreachable!(),
     }
 }
 
 /// The token that a run of letters, digits and `_` is.
+///
+/// # Errors
+///
+/// An `AllocError` where memory runs out.
 pub fn token_of_word(alloc: Global, run: &[u8]) -> Result<Option<Token>, AllocError>
     ensures { IfOk result (λ token. option_map views.token_of token ≡ spec.token_of_word run.now) }
 {
-    match run.first() {
-        None => Ok(None),
-        Some(first) => {
-            if is_digit(*first) {
-                Ok(number_of(run))
-            } else if is_word(run) && !is_unused_keyword(run) {
-                Ok(Some(Token::Word(owned_word(alloc, run)?)))
-            } else {
-                Ok(None)
-            }
-        }
+    if begins_number(run) {
+        return Ok(number_of(run));
     }
+    let Some(word) = word_in(run) else {
+        return Ok(None);
+    };
+    if is_unused_keyword(word) {
+        return Ok(None);
+    }
+    Ok(Some(Token::Word(String::from_str(alloc, word)?)))
 }
 
 /// The decimal number without suffix that a run of letters, digits and `_` is.

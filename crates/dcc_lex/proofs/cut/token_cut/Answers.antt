@@ -9,18 +9,18 @@ use Rattle.dcc_lex.proofs.cut.token_cut.Goals as goal
 
 pub returns-then-is_empty : goal.returns-then-is_empty
 returns-then-is_empty c =
-    let run = c.split_word_bytes.result.0.now in
+    let run = c.split.result.0.now in
     let none : length run ≡ 0 = eqb-true (length run) 0 (sym c.is_empty.ensures ∙ c.if-is_empty.true) in
-    c.mark_cut.ensures ∙ sym (token_mark (spot_of c.args.spot) c.args.line c.args.bytes.now (ap length (sym c.split_word_bytes.ensures.front) ∙ none))
+    c.mark_cut.ensures ∙ sym (token_mark (spot_of c.args.spot) c.args.line c.args.bytes.now (ap length (sym c.split.ensures.front) ∙ none))
 
 pub returns : goal.returns
 returns c =
-    let run = c.split_word_bytes.result.0.now in
+    let run = c.split.result.0.now in
     let spot = spot_of c.args.spot in
     let line = c.args.line in
     let some : length run ≡ 0 → ⊥ = eqb-false (length run) 0 (sym c.is_empty.ensures ∙ c.if-is_empty.false) in
-    let read : 0 < length (take_while is_word_byte c.args.bytes.now) = omega (arith, ap length c.split_word_bytes.ensures.front) in
+    let read : 0 < length (take_while is_word_byte c.args.bytes.now) = omega (arith, ap length c.split.ensures.front) in
     c.token_piece.ensures
-    ∙ ap (λ t. cut (piece line (allowed_at spot t) ∷ []) in_line line c.split_word_bytes.result.1.now) (c.in_ok-token.ensures ∙ ap token_of_word c.split_word_bytes.ensures.front)
-    ∙ ap (λ r. cut (piece line (allowed_at spot (token_of_word (take_while is_word_byte c.args.bytes.now))) ∷ []) in_line line r) c.split_word_bytes.ensures.back
+    ∙ ap (λ t. cut (piece line (allowed_at spot t) ∷ []) in_line line c.split.result.1.now) (c.in_ok-token.ensures ∙ ap token_of_word c.split.ensures.front)
+    ∙ ap (λ r. cut (piece line (allowed_at spot (token_of_word (take_while is_word_byte c.args.bytes.now))) ∷ []) in_line line r) c.split.ensures.back
     ∙ sym (token_run spot line c.args.bytes.now read)

@@ -12,6 +12,6 @@ pub returns : goal.returns
 returns c =
     let bytes = c.args.bytes.now in
     let n = c.in_ok-value.value in
-    let value : decimal_value (take_while is_digit bytes) ≡ Some n = ap decimal_value (sym c.split_digits.ensures.front) ∙ sym c.in_ok-value.ensures in
-    let suffix : suffix_of (behind_while is_digit bytes) ≡ Some (views.suffix_of c.in_ok-suffix.suffix) = ap suffix_of (sym c.split_digits.ensures.back) ∙ sym c.in_ok-suffix.ensures in
+    let value : decimal_value (take_while is_digit bytes) ≡ Some n = ap decimal_value (sym c.split.ensures.front) ∙ sym c.in_ok-value.ensures in
+    let suffix : suffix_of (behind_while is_digit bytes) ≡ Some (views.suffix_of c.in_ok-suffix.suffix) = ap suffix_of (sym c.split.ensures.back) ∙ sym c.in_ok-suffix.ensures in
     sym (decimal_some bytes n value ∙ ap (option_map (λ suffix. Decimal n suffix)) suffix)

@@ -1,5 +1,0 @@
-use Rattle.dcc_lex.proofs.Words.{word_utf8}
-use Rattle.dcc_lex.proofs.word.owned_word.Goals as goal
-
-pub unreachable-requires : goal.unreachable-requires
-unreachable-requires c = c.in-Err.ensures.cases.0 (word_utf8 c.args.bytes.now c.requires)
