@@ -1,6 +1,6 @@
 //! The first bytes of a text: a piece or none, and where the text goes on.
 
-ghost use Rattle.std.specs.Prelude.{◌≡◌, ◌+◌, ◌<◌, ◌≤◌, length, true, false, [], ◌∷◌, IfOk, MatchOption, option_map};
+ghost use Rattle.std.specs.Prelude.{◌≡◌, ◌+◌, ◌<◌, ◌≤◌, length, true, false, [], ◌∷◌, IfOk, MatchOption, Some, option_map};
 ghost use Rattle.dcc_c.specs.Pieces as spec;
 ghost use Rattle.dcc_lex.specs.TokenViews as views;
 ghost use Rattle.dcc_lex.specs.HeadViews.{found_of};
@@ -39,14 +39,46 @@ pub struct Cut<'a> {
     pub rest: &'a [u8],
 }
 
-/// Whether no token may stand here but a number behind one space.
+impl<'a> Cut<'a> {
+    /// A token or bytes that are none, and where the text goes on in their line.
+    fn with_piece(token: Option<Token>, spot: Spot, line: u32, rest: &'a [u8]) -> Cut<'a>
+        ensures { cuts.cut_of result
+            ≡ spec.cut (spec.piece line (option_map views.token_of token) ∷ []) (cuts.spot_of spot) line rest.now }
+    {
+        let piece = Some(Piece { token, line });
+        Cut {
+            piece,
+            spot,
+            line,
+            rest,
+        }
+    }
+
+    /// A line feed or blanks, and where the text goes on.
+    fn without_piece(spot: Spot, line: u32, rest: &'a [u8]) -> Cut<'a>
+        ensures { cuts.cut_of result ≡ spec.cut [] (cuts.spot_of spot) line rest.now }
+    {
+        Cut {
+            piece: None,
+            spot,
+            line,
+            rest,
+        }
+    }
+}
+
+/// A token that the grammar allows nowhere but in the version line: what stands here may not.
+fn stray() -> Option<Token>
+    ensures { option_map views.token_of result ≡ Some spec.stray }
+{
+    Some(Token::Pragma(Head::Version))
+}
+
+/// Whether no token may stand here but a number after one space.
 fn is_of_pragma(spot: Spot) -> bool
     ensures { result ≡ spec.is_of_pragma (cuts.spot_of spot) }
 {
-    match spot {
-        Spot::LineStart | Spot::InLine => false,
-        Spot::InPragma | Spot::InBlanks => true,
-    }
+    matches!(spot, Spot::InPragma | Spot::InBlanks)
 }
 
 /// The token, which may not stand in the line of a pragma.
@@ -54,55 +86,29 @@ fn allowed_at(spot: Spot, token: Option<Token>) -> Option<Token>
     ensures { option_map views.token_of result
         ≡ spec.allowed_at (cuts.spot_of spot) (option_map views.token_of token) }
 {
-    if !is_of_pragma(spot) {
-        return token;
+    if token.is_some() && is_of_pragma(spot) {
+        return stray();
     }
-    match token {
-        Some(_) => Some(Token::Pragma(Head::Version)),
-        None => None,
-    }
+    token
 }
 
 /// The words of a pragma, which begins at the beginning of a line.
 fn head_cut<'a>(spot: Spot, line: u32, found: FoundHead<'a>) -> Cut<'a>
     ensures { cuts.cut_of result ≡ spec.cut_head (cuts.spot_of spot) line (found_of found.entry) }
 {
-    match spot {
-        Spot::LineStart => Cut {
-            piece: Some(Piece {
-                token: Some(Token::Pragma(found.head)),
-                line,
-            }),
-            spot: Spot::InPragma,
-            line,
-            rest: found.rest,
-        },
-        _ => Cut {
-            piece: Some(Piece {
-                token: Some(Token::Pragma(Head::Version)),
-                line,
-            }),
-            spot: Spot::InLine,
-            line,
-            rest: found.rest,
-        },
+    if spot == Spot::LineStart {
+        return Cut::with_piece(Some(Token::Pragma(found.head)), Spot::InPragma, line, found.rest);
     }
+    Cut::with_piece(stray(), Spot::InLine, line, found.rest)
 }
 
 /// A token that may stand at this spot, or bytes that are none.
 fn token_piece<'a>(spot: Spot, line: u32, token: Option<Token>, rest: &'a [u8]) -> Cut<'a>
     ensures { cuts.cut_of result
-        ≡ spec.cut (spec.piece line (spec.allowed_at (cuts.spot_of spot) (option_map views.token_of token)) ∷ []) spec.in_line line rest.now }
+        ≡ spec.cut (spec.piece line (spec.allowed_at (cuts.spot_of spot) (option_map views.token_of token)) ∷ [])
+            spec.in_line line rest.now }
 {
-    Cut {
-        piece: Some(Piece {
-            token: allowed_at(spot, token),
-            line,
-        }),
-        spot: Spot::InLine,
-        line,
-        rest,
-    }
+    Cut::with_piece(allowed_at(spot, token), Spot::InLine, line, rest)
 }
 
 /// A mark, the words of a pragma, or a byte that begins no token.
@@ -116,12 +122,7 @@ fn mark_cut(spot: Spot, line: u32, bytes: &[u8]) -> Cut<'_>
     if let Some(found) = head_of(bytes) {
         return head_cut(spot, line, found);
     }
-    Cut {
-        piece: Some(Piece { token: None, line }),
-        spot: Spot::InLine,
-        line,
-        rest: &bytes[1..],
-    }
+    Cut::with_piece(None, Spot::InLine, line, &bytes[1..])
 }
 
 /// A run of letters, digits and `_`, or another byte.
@@ -137,35 +138,17 @@ fn token_cut(alloc: Global, spot: Spot, line: u32, bytes: &[u8]) -> Result<Cut<'
     Ok(token_piece(spot, line, token, rest))
 }
 
-/// A run of spaces and tabs: in the line of a pragma something stands behind it, else it offends itself.
+/// A run of spaces and tabs: in the line of a pragma something stands after it, else it offends itself.
 fn blank_cut(spot: Spot, line: u32, bytes: &[u8]) -> Cut<'_>
     ensures { cuts.cut_of result ≡ cuts.blank_run (cuts.spot_of spot) line bytes.now }
 {
     let (_blanks, rest) = ByteKind::Blank.split(bytes);
     if !is_of_pragma(spot) {
-        Cut {
-            piece: None,
-            spot: Spot::InLine,
-            line,
-            rest,
-        }
+        Cut::without_piece(Spot::InLine, line, rest)
     } else if is_line_end(rest) {
-        Cut {
-            piece: Some(Piece {
-                token: Some(Token::Pragma(Head::Version)),
-                line,
-            }),
-            spot: Spot::InLine,
-            line,
-            rest,
-        }
+        Cut::with_piece(stray(), Spot::InLine, line, rest)
     } else {
-        Cut {
-            piece: None,
-            spot: Spot::InBlanks,
-            line,
-            rest,
-        }
+        Cut::without_piece(Spot::InBlanks, line, rest)
     }
 }
 
@@ -183,16 +166,8 @@ fn number_cut(spot: Spot, line: u32, bytes: &[u8]) -> Option<Cut<'_>>
         return None;
     }
     let (run, rest) = ByteKind::WordByte.split(others);
-    let n = plain_number(run)?;
-    Some(Cut {
-        piece: Some(Piece {
-            token: Some(Token::Decimal(n, Suffix::Plain)),
-            line,
-        }),
-        spot: Spot::InPragma,
-        line,
-        rest,
-    })
+    let token = Token::Decimal(plain_number(run)?, Suffix::Plain);
+    Some(Cut::with_piece(Some(token), Spot::InPragma, line, rest))
 }
 
 /// The first cut of bytes that are not none; a run of blanks is one.
@@ -209,12 +184,7 @@ pub fn next_cut(alloc: Global, spot: Spot, line: u32, bytes: &[u8]) -> Result<Cu
 {
     let first = bytes[0];
     if first == b'\n' {
-        return Ok(Cut {
-            piece: None,
-            spot: Spot::LineStart,
-            line: line + 1,
-            rest: &bytes[1..],
-        });
+        return Ok(Cut::without_piece(Spot::LineStart, line + 1, &bytes[1..]));
     }
     if let Some(cut) = number_cut(spot, line, bytes) {
         return Ok(cut);

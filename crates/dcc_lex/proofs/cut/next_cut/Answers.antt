@@ -1,13 +1,16 @@
-use Rattle.std.proofs.Common.{◌≡◌, ◌+◌, true, false, get_or, ap, drop, length-drop, refl, sym, take, ◌∙◌, arith}
+use Rattle.std.proofs.Common.{◌≡◌, ◌+◌, true, false, get_or, ap, drop, length-drop, refl, subst, sym, take, ◌∙◌, arith}
 use Rattle.std.proofs.Math.Seq.{take-length}
 use Rattle.dcc_c.specs.Lexing.{is_blank}
-use Rattle.dcc_lex.specs.CutViews.{spot_of, cut_of, has_number}
+use Rattle.dcc_lex.specs.CutViews.{spot_of, cut_of, has_number, Continues}
 use Rattle.dcc_lex.proofs.Cuts.{feed_goes, number_goes, blanks_go, token_goes, if_ok, if_none}
 use Rattle.dcc_lex.proofs.cut.next_cut.Goals as goal
 
 pub returns-then-first-eq10-clause-continues : goal.returns-then-first-eq10-clause-continues
 returns-then-first-eq10-clause-continues c =
-    feed_goes (spot_of c.args.spot) c.args.line (c.args.line + 1) c.args.bytes.now _ c.requires.some c.if-first-eq10.true refl (ap (λ n. take n (drop 1 c.args.bytes.now)) (sym (length-drop 1 c.args.bytes.now)) ∙ take-length (drop 1 c.args.bytes.now))
+    let rest = drop 1 c.args.bytes.now in
+    let all = ap (λ n. take n rest) (sym (length-drop 1 c.args.bytes.now)) ∙ take-length rest in
+    let goes = feed_goes (spot_of c.args.spot) c.args.line (c.args.line + 1) c.args.bytes.now _ c.requires.some c.if-first-eq10.true refl all in
+    subst (Continues (spot_of c.args.spot) c.args.line c.args.bytes.now) (sym c.without_piece.ensures) goes
 
 pub returns-in-Some-clause-continues : goal.returns-in-Some-clause-continues
 returns-in-Some-clause-continues c =
