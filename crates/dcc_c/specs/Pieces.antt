@@ -21,14 +21,14 @@ abbrev pub stray : Token
 stray = Pragma version_line
 
 -- the bytes after the first ones of a kind
-abbrev pub behind_while : (ℕ → Bool) → List ℕ → List ℕ
-behind_while is_kind bytes = drop (length (take_while is_kind bytes)) bytes
+abbrev pub after_while : (ℕ → Bool) → List ℕ → List ℕ
+after_while is_kind bytes = drop (length (take_while is_kind bytes)) bytes
 
 -- the bytes after some, where they begin with these
-abbrev pub behind : List ℕ → List ℕ → Option (List ℕ)
-behind [] bytes = Some bytes
-behind (w ∷ words) [] = None
-behind (w ∷ words) (b ∷ bytes) = if w == b then behind words bytes else None
+abbrev pub after : List ℕ → List ℕ → Option (List ℕ)
+after [] bytes = Some bytes
+after (w ∷ words) [] = None
+after (w ∷ words) (b ∷ bytes) = if w == b then after words bytes else None
 
 -- Words and numbers.
 
@@ -59,7 +59,7 @@ decimal_of bytes =
     let digits = take_while is_digit bytes in
     let n = decimal_from 0 digits in
     if same_bytes digits (decimal n) && nat_le n 4294967295
-    then option_map (λ suffix. Decimal n suffix) (suffix_of (behind_while is_digit bytes)) else None
+    then option_map (λ suffix. Decimal n suffix) (suffix_of (after_while is_digit bytes)) else None
 
 abbrev pub is_hex_digit : ℕ → Bool
 is_hex_digit b = nat_le (hex_value b) 15
@@ -69,10 +69,10 @@ abbrev pub hex_of : List ℕ → Option Token
 hex_of bytes =
     let digits = take_while is_hex_digit bytes in
     if nat_le 1 (length digits) && nat_le (length digits) 8
-    then option_map (λ suffix. Hex (hex_from 0 digits) suffix) (suffix_of (behind_while is_hex_digit bytes)) else None
+    then option_map (λ suffix. Hex (hex_from 0 digits) suffix) (suffix_of (after_while is_hex_digit bytes)) else None
 
 abbrev pub number_of : List ℕ → Option Token
-number_of bytes = elim (behind (codes "0x") bytes) [ Some digits ↦ hex_of digits | None ↦ decimal_of bytes ]
+number_of bytes = elim (after (codes "0x") bytes) [ Some digits ↦ hex_of digits | None ↦ decimal_of bytes ]
 
 -- the token that a run of letters, digits and `_` is
 abbrev pub token_of_word : List ℕ → Option Token
@@ -112,7 +112,7 @@ head_if head None otherwise = otherwise
 
 abbrev pub head_in : List Head → List ℕ → Option FoundHead
 head_in [] bytes = None
-head_in (head ∷ heads) bytes = head_if head (behind (pragma_words head) bytes) (head_in heads bytes)
+head_in (head ∷ heads) bytes = head_if head (after (pragma_words head) bytes) (head_in heads bytes)
 
 abbrev pub head_of : List ℕ → Option FoundHead
 head_of bytes = head_in (version_line ∷ stack_line ∷ place_line ∷ depth_line ∷ []) bytes
@@ -184,15 +184,15 @@ abbrev pub cut_token : Spot → ℕ → ℕ → List ℕ → Cut
 cut_token spot line b bytes =
     if is_word_byte b
     then cut (piece line (allowed_at spot (token_of_word (take_while is_word_byte (b ∷ bytes)))) ∷ []) in_line line
-    (behind_while is_word_byte (b ∷ bytes))
+    (after_while is_word_byte (b ∷ bytes))
     else cut_mark spot line b bytes
 
 -- a space or a tab: in the line of a pragma something stands after it, else it offends itself
 abbrev pub cut_blank : Spot → ℕ → List ℕ → Cut
 cut_blank spot line bytes =
     if not (is_of_pragma spot) then cut [] in_line line bytes
-    else if is_line_end (behind_while is_blank bytes)
-    then cut (piece line (Some stray) ∷ []) in_line line (behind_while is_blank bytes)
+    else if is_line_end (after_while is_blank bytes)
+    then cut (piece line (Some stray) ∷ []) in_line line (after_while is_blank bytes)
     else cut [] in_blanks line bytes
 
 -- a decimal number without suffix
@@ -213,7 +213,7 @@ first_cut spot line b bytes =
     if b == 10 then cut [] line_start (suc line) bytes
     else if has_number spot b bytes
     then cut (piece line (token_of_word (take_while is_word_byte bytes)) ∷ []) in_pragma line
-    (behind_while is_word_byte bytes)
+    (after_while is_word_byte bytes)
     else if is_blank b then cut_blank spot line bytes
     else cut_token spot line b bytes
 
@@ -226,8 +226,8 @@ pieces_from (suc more) spot line (b ∷ bytes) =
     first.pieces ++ pieces_from more first.spot first.line first.rest
 
 -- the bytes after the version line, which is the first line
-abbrev pub behind_version : List ℕ → Option (List ℕ)
-behind_version text = elim (behind (head_bytes version_line) text) [
+abbrev pub after_version : List ℕ → Option (List ℕ)
+after_version text = elim (after (head_bytes version_line) text) [
   | Some rest ↦ if is_line_end rest then Some rest else None
   | None ↦ None
 ]

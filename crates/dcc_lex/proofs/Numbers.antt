@@ -7,7 +7,7 @@ use Rattle.std.proofs.lemmas.Bool.{and_parts, and_from, and_right, or_left, or_r
 use Rattle.std.proofs.lemmas.Str.Parse.{IsDigitsTest, FoldsDigits, IsNumeralModel, numerals_by_fold, digits_value_short}
 use Rattle.std.proofs.lemmas.Fmt.{decimal-digits_value, decimal_nonempty, decimal_digit, first_decimal, length-decimal-le}
 use Rattle.dcc_c.specs.Token.{Token, Decimal, is_digit, hex_value, hex_from, same_bytes}
-use Rattle.dcc_c.specs.Pieces.{decimal_from, is_hex_digit, decimal_of, suffix_of, behind_while}
+use Rattle.dcc_c.specs.Pieces.{decimal_from, is_hex_digit, decimal_of, suffix_of, after_while}
 use Rattle.std.proofs.lemmas.List.{at_drop_more}
 use Rattle.dcc_c.proofs.WrittenRows.{same_bytes-true}
 use Rattle.dcc_lex.proofs.Runs.{all_at}
@@ -40,7 +40,7 @@ model = numerals_by_fold AreDigits digits_test decimal_from decimal_folds
 pub decimal_small : (digits : List ℕ) → list_all is_digit digits ≡ true → length digits ≤ 10 → decimal_from 0 digits < 10000000000
 decimal_small digits are few = digits_value_short model digits 10 are few
 
--- digits behind a value make it no less
+-- digits after a value make it no less
 pub decimal_from-le : (n : ℕ) (digits : List ℕ) → n ≤ decimal_from n digits
 decimal_from-le n [] = omega arith
 decimal_from-le n (b ∷ bytes) = let more = decimal_from-le (10 * n + (b - 48)) bytes in omega arith
@@ -71,7 +71,8 @@ decimal_short n (b ∷ bytes) small is =
     let first = first_decimal n (omega arith) (omega arith) in
     let other : b ≡ 48 → ⊥ = λ zero. omega (arith, ap (λ (ds : List ℕ). get_or ds 0 0) is) in
     let few' : length (b ∷ bytes) ≤ 10 = omega (arith, ap length is) in
-    or_right (length (b ∷ bytes) == 1) (nat_le (length (b ∷ bytes)) 10 && not (b == 48)) (and_from (nat_le (length (b ∷ bytes)) 10) (not (b == 48)) (le-leb (length (b ∷ bytes)) 10 few') (not_from_false (b == 48) (ne_eqb b 48 other))))
+    or_right (length (b ∷ bytes) == 1) (nat_le (length (b ∷ bytes)) 10 && not (b == 48))
+    (and_from (nat_le (length (b ∷ bytes)) 10) (not (b == 48)) (le-leb (length (b ∷ bytes)) 10 few') (not_from_false (b == 48) (ne_eqb b 48 other))))
     (cases_eq n 0)
 
 short_same : (digits : List ℕ) → AreDigits digits → is_short digits ≡ true → same_bytes digits (decimal (decimal_from 0 digits)) ≡ true
@@ -96,7 +97,8 @@ pub decimal_value_some : (digits : List ℕ) → list_all is_digit digits ≡ tr
 unfolding decimal_value
 decimal_value_some digits are short small =
     let n = decimal_from 0 digits in
-    cond-true (same_bytes digits (decimal n) && nat_le n 4294967295) (Some n) None (and_from (same_bytes digits (decimal n)) (nat_le n 4294967295) (short_same digits are short) (le-leb n 4294967295 small))
+    cond-true (same_bytes digits (decimal n) && nat_le n 4294967295) (Some n) None
+    (and_from (same_bytes digits (decimal n)) (nat_le n 4294967295) (short_same digits are short) (le-leb n 4294967295 small))
 
 -- the value of digits that are too great
 pub decimal_value_great : (digits : List ℕ) → 4294967295 < decimal_from 0 digits → decimal_value digits ≡ None
@@ -115,7 +117,7 @@ pub hex_from-le : (n : ℕ) (digits : List ℕ) → n ≤ hex_from n digits
 hex_from-le n [] = omega arith
 hex_from-le n (b ∷ bytes) = let more = hex_from-le (16 * n + hex_value b) bytes in omega arith
 
--- the greatest value of so many digits behind a value
+-- the greatest value of so many digits after a value
 abbrev greatest : ℕ → ℕ → ℕ
 greatest zero n = n
 greatest (suc k) n = greatest k (16 * n + 15)
@@ -147,10 +149,12 @@ hex_small digits are few = hex_fits digits 8 0 are few
 abbrev pub decimal_more : List ℕ → ℕ → ℕ → ℕ
 decimal_more digits at n = 10 * n + (get_or digits at 0 - 48)
 
-pub decimal_turn : (digits : List ℕ) (at n : ℕ) → decimal_from n (drop at digits) ≡ decimal_from 0 digits → at < length digits → decimal_from (decimal_more digits at n) (drop (at + 1) digits) ≡ decimal_from 0 digits
+pub decimal_turn : (digits : List ℕ) (at n : ℕ) → decimal_from n (drop at digits) ≡ decimal_from 0 digits → at < length digits →
+    decimal_from (decimal_more digits at n) (drop (at + 1) digits) ≡ decimal_from 0 digits
 decimal_turn digits at n so inside = sym (at_drop_more (decimal_from n) digits at 0 inside) ∙ so
 
-pub decimal_room : (digits : List ℕ) (at n : ℕ) → decimal_from n (drop at digits) ≡ decimal_from 0 digits → list_all is_digit digits ≡ true → length digits ≤ 10 → at < length digits → (decimal_more digits at n < 10000000000) × (48 ≤ get_or digits at 0)
+pub decimal_room : (digits : List ℕ) (at n : ℕ) → decimal_from n (drop at digits) ≡ decimal_from 0 digits → list_all is_digit digits ≡ true →
+    length digits ≤ 10 → at < length digits → (decimal_more digits at n < 10000000000) × (48 ≤ get_or digits at 0)
 decimal_room digits at n so are few inside =
     let small = decimal_small digits are few in
     let less = decimal_from-le (decimal_more digits at n) (drop (at + 1) digits) in
@@ -162,7 +166,8 @@ hex_more digits at n = 16 * n + hex_value (get_or digits at 0)
 pub hex_turn : (digits : List ℕ) (at n : ℕ) → hex_from n (drop at digits) ≡ hex_from 0 digits → at < length digits → hex_from (hex_more digits at n) (drop (at + 1) digits) ≡ hex_from 0 digits
 hex_turn digits at n so inside = sym (at_drop_more (hex_from n) digits at 0 inside) ∙ so
 
-pub hex_room : (digits : List ℕ) (at n : ℕ) → hex_from n (drop at digits) ≡ hex_from 0 digits → list_all is_hex_digit digits ≡ true → length digits ≤ 8 → at < length digits → hex_more digits at n ≤ 4294967295
+pub hex_room : (digits : List ℕ) (at n : ℕ) → hex_from n (drop at digits) ≡ hex_from 0 digits → list_all is_hex_digit digits ≡ true →
+    length digits ≤ 8 → at < length digits → hex_more digits at n ≤ 4294967295
 hex_room digits at n so are few inside =
     let small = hex_small digits are few in
     let less = hex_from-le (hex_more digits at n) (drop (at + 1) digits) in
@@ -183,11 +188,11 @@ pub decimal_none : (bytes : List ℕ) → decimal_value (take_while is_digit byt
 unfolding decimal_value
 decimal_none bytes is =
     let n = decimal_from 0 (take_while is_digit bytes) in
-    cond_none (same_bytes (take_while is_digit bytes) (decimal n) && nat_le n 4294967295) n (λ m. option_map (λ suffix. Decimal m suffix) (suffix_of (behind_while is_digit bytes))) is
+    cond_none (same_bytes (take_while is_digit bytes) (decimal n) && nat_le n 4294967295) n (λ m. option_map (λ suffix. Decimal m suffix) (suffix_of (after_while is_digit bytes))) is
 
 -- a number with a value is that value with its suffix
-pub decimal_some : (bytes : List ℕ) (n : ℕ) → decimal_value (take_while is_digit bytes) ≡ Some n → decimal_of bytes ≡ option_map (λ suffix. Decimal n suffix) (suffix_of (behind_while is_digit bytes))
+pub decimal_some : (bytes : List ℕ) (n : ℕ) → decimal_value (take_while is_digit bytes) ≡ Some n → decimal_of bytes ≡ option_map (λ suffix. Decimal n suffix) (suffix_of (after_while is_digit bytes))
 unfolding decimal_value
 decimal_some bytes n is =
     let m = decimal_from 0 (take_while is_digit bytes) in
-    cond_some (same_bytes (take_while is_digit bytes) (decimal m) && nat_le m 4294967295) m n (λ m. option_map (λ suffix. Decimal m suffix) (suffix_of (behind_while is_digit bytes))) is
+    cond_some (same_bytes (take_while is_digit bytes) (decimal m) && nat_le m 4294967295) m n (λ m. option_map (λ suffix. Decimal m suffix) (suffix_of (after_while is_digit bytes))) is

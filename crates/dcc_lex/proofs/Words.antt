@@ -47,7 +47,8 @@ not_plain [] other = refl
 not_plain (b ∷ bytes) other =
     let word = is_word (b ∷ bytes) && not (is_among unused_keywords (b ∷ bytes)) in
     let rest : Option Token = cond word (Some (WordToken (b ∷ bytes))) None in
-    subst (λ token. is_plain token ≡ false) (sym (cond-false (is_digit b) (number_of (b ∷ bytes)) rest other)) (cond_both word (Some (WordToken (b ∷ bytes))) None (λ token. is_plain token ≡ false) (λ is. refl) (λ no. refl))
+    subst (λ token. is_plain token ≡ false) (sym (cond-false (is_digit b) (number_of (b ∷ bytes)) rest other))
+    (cond_both word (Some (WordToken (b ∷ bytes))) None (λ token. is_plain token ≡ false) (λ is. refl) (λ no. refl))
 
 -- a word is not among others where it is neither the first of them nor among the rest
 pub no_word : {word other : List ℕ} {rest : Bool} → (word ≡ other → ⊥) → rest ≡ false → (same_bytes word other || rest) ≡ false

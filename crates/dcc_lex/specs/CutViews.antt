@@ -31,12 +31,12 @@ token_cut spot line (b ∷ bytes) = spec.cut_token spot line b bytes
 -- a run of blanks at once
 abbrev pub blank_run : spec.Spot → ℕ → List ℕ → spec.Cut
 blank_run spot line bytes =
-    let rest = spec.behind_while is_blank bytes in
+    let rest = spec.after_while is_blank bytes in
     if not (spec.is_of_pragma spot) then spec.cut [] spec.in_line line rest
     else if spec.is_line_end rest then spec.cut (spec.piece line (Some spec.stray) ∷ []) spec.in_line line rest
     else spec.cut [] spec.in_blanks line rest
 
--- the number of a pragma, behind one space, begins here
+-- the number of a pragma, after one space, begins here
 abbrev pub has_number : spec.Spot → List ℕ → Bool
 has_number spot [] = false
 has_number spot (b ∷ bytes) = spec.has_number spot b bytes
@@ -46,12 +46,12 @@ abbrev pub number_cut : ℕ → List ℕ → spec.Cut
 number_cut line [] = spec.cut [] spec.in_pragma line []
 number_cut line (b ∷ bytes) =
     spec.cut (spec.piece line (spec.token_of_word (take_while is_word_byte bytes)) ∷ []) spec.in_pragma line
-    (spec.behind_while is_word_byte bytes)
+    (spec.after_while is_word_byte bytes)
 
 -- all the pieces of bytes
 unfoldable pub remaining : spec.Spot → ℕ → List ℕ → List spec.Piece
 remaining spot line bytes = spec.pieces_from (length bytes) spot line bytes
 
--- the pieces of the bytes are those of the cut and those behind it
+-- the pieces of the bytes are those of the cut and those after it
 unfoldable pub Continues : spec.Spot → ℕ → List ℕ → spec.Cut → Type 0
 Continues spot line bytes c = remaining spot line bytes ≡ c.pieces ++ remaining c.spot c.line c.rest

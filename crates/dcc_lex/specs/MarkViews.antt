@@ -16,8 +16,10 @@ abbrev pub first_mark : List ℕ → List ℕ
 first_mark [] = []
 first_mark (b ∷ bytes) = spec.first_mark b bytes
 
--- the mark that bytes begin with, and what is behind it, if they begin with one
+-- the mark that bytes begin with, and what is after it, if they begin with one
 abbrev pub IsFirstMark : Option FoundMark → List ℕ → Type 0
 IsFirstMark found bytes =
     MatchOption found (is_mark (first_mark bytes) ≡ false)
-    (λ f. (is_mark (first_mark bytes) ≡ true) × (mark_of f.mark ≡ first_mark bytes) × (f.rest.now ≡ drop (length (first_mark bytes)) bytes))
+    (λ f.
+    (is_mark (first_mark bytes) ≡ true) × (mark_of f.mark ≡ first_mark bytes)
+    × (f.rest.now ≡ drop (length (first_mark bytes)) bytes))

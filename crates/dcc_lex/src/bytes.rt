@@ -71,7 +71,7 @@ pub enum ByteKind {
 }
 
 impl ByteKind {
-    /// Whether the byte is of this kind.
+    // Whether the byte is of this kind.
     fn has(self, byte: u8) -> bool
         ensures { result ≡ has_kind self byte }
     {
@@ -83,7 +83,7 @@ impl ByteKind {
         }
     }
 
-    /// How many bytes of this kind the bytes begin with.
+    // How many bytes of this kind the bytes begin with.
     fn count(self, bytes: &[u8]) -> usize
         ensures { result ≡ prefix_len (has_kind self) bytes.now }
     {
@@ -98,7 +98,7 @@ impl ByteKind {
     /// The run of this kind that the bytes begin with, and the bytes after it.
     pub fn split(self, bytes: &[u8]) -> (&[u8], &[u8])
         ensures front { result.0.now ≡ take_while (has_kind self) bytes.now }
-        ensures back { result.1.now ≡ spec.behind_while (has_kind self) bytes.now }
+        ensures back { result.1.now ≡ spec.after_while (has_kind self) bytes.now }
         ensures all { list_all (has_kind self) result.0.now ≡ true }
     {
         bytes.split_at(self.count(bytes))
@@ -132,9 +132,9 @@ pub fn same_bytes(left: &[u8], right: &[u8]) -> bool
     left == right
 }
 
-/// The bytes behind some, where they begin with these.
-pub fn behind<'a>(words: &[u8], bytes: &'a [u8]) -> Option<&'a [u8]>
-    ensures { option_map (λ rest. rest.now) result ≡ spec.behind words.now bytes.now }
+/// The bytes after some, where they begin with these.
+pub fn after<'a>(words: &[u8], bytes: &'a [u8]) -> Option<&'a [u8]>
+    ensures { option_map (λ rest. rest.now) result ≡ spec.after words.now bytes.now }
 {
     let mut rest = bytes;
     for word in words {

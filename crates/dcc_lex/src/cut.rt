@@ -20,9 +20,9 @@ pub enum Spot {
     LineStart,
     /// In a line of tokens.
     InLine,
-    /// Behind the words of a pragma or one of its numbers.
+    /// After the words of a pragma or one of its numbers.
     InPragma,
-    /// Behind blanks in such a line, where no token may stand.
+    /// After blanks in such a line, where no token may stand.
     InBlanks,
 }
 
@@ -40,7 +40,7 @@ pub struct Cut<'a> {
 }
 
 impl<'a> Cut<'a> {
-    /// A token or bytes that are none, and where the text goes on in their line.
+    // A token or bytes that are none, and where the text goes on in their line.
     fn with_piece(token: Option<Token>, spot: Spot, line: u32, rest: &'a [u8]) -> Cut<'a>
         ensures { cuts.cut_of result
             ≡ spec.cut (spec.piece line (option_map views.token_of token) ∷ []) (cuts.spot_of spot) line rest.now }
@@ -54,7 +54,7 @@ impl<'a> Cut<'a> {
         }
     }
 
-    /// A line feed or blanks, and where the text goes on.
+    // A line feed or blanks, and where the text goes on.
     fn without_piece(spot: Spot, line: u32, rest: &'a [u8]) -> Cut<'a>
         ensures { cuts.cut_of result ≡ spec.cut [] (cuts.spot_of spot) line rest.now }
     {
@@ -67,21 +67,21 @@ impl<'a> Cut<'a> {
     }
 }
 
-/// A token that the grammar allows nowhere but in the version line: what stands here may not.
+// A token that the grammar allows nowhere but in the version line: what stands here may not.
 fn stray() -> Option<Token>
     ensures { option_map views.token_of result ≡ Some spec.stray }
 {
     Some(Token::Pragma(Head::Version))
 }
 
-/// Whether no token may stand here but a number after one space.
+// Whether no token may stand here but a number after one space.
 fn is_of_pragma(spot: Spot) -> bool
     ensures { result ≡ spec.is_of_pragma (cuts.spot_of spot) }
 {
     matches!(spot, Spot::InPragma | Spot::InBlanks)
 }
 
-/// The token, which may not stand in the line of a pragma.
+// The token, which may not stand in the line of a pragma.
 fn allowed_at(spot: Spot, token: Option<Token>) -> Option<Token>
     ensures { option_map views.token_of result
         ≡ spec.allowed_at (cuts.spot_of spot) (option_map views.token_of token) }
@@ -92,26 +92,31 @@ fn allowed_at(spot: Spot, token: Option<Token>) -> Option<Token>
     token
 }
 
-/// The words of a pragma, which begins at the beginning of a line.
+// The words of a pragma, which begins at the beginning of a line.
 fn head_cut<'a>(spot: Spot, line: u32, found: FoundHead<'a>) -> Cut<'a>
     ensures { cuts.cut_of result ≡ spec.cut_head (cuts.spot_of spot) line (found_of found.entry) }
 {
     if spot == Spot::LineStart {
-        return Cut::with_piece(Some(Token::Pragma(found.head)), Spot::InPragma, line, found.rest);
+        return Cut::with_piece(
+            Some(Token::Pragma(found.head)),
+            Spot::InPragma,
+            line,
+            found.rest,
+        );
     }
     Cut::with_piece(stray(), Spot::InLine, line, found.rest)
 }
 
-/// A token that may stand at this spot, or bytes that are none.
+// A token that may stand at this spot, or bytes that are none.
 fn token_piece<'a>(spot: Spot, line: u32, token: Option<Token>, rest: &'a [u8]) -> Cut<'a>
     ensures { cuts.cut_of result
         ≡ spec.cut (spec.piece line (spec.allowed_at (cuts.spot_of spot) (option_map views.token_of token)) ∷ [])
-            spec.in_line line rest.now }
+        spec.in_line line rest.now }
 {
     Cut::with_piece(allowed_at(spot, token), Spot::InLine, line, rest)
 }
 
-/// A mark, the words of a pragma, or a byte that begins no token.
+// A mark, the words of a pragma, or a byte that begins no token.
 fn mark_cut(spot: Spot, line: u32, bytes: &[u8]) -> Cut<'_>
     requires { 0 < length bytes.now }
     ensures { cuts.cut_of result ≡ cuts.mark_cut (cuts.spot_of spot) line bytes.now }
@@ -125,7 +130,7 @@ fn mark_cut(spot: Spot, line: u32, bytes: &[u8]) -> Cut<'_>
     Cut::with_piece(None, Spot::InLine, line, &bytes[1..])
 }
 
-/// A run of letters, digits and `_`, or another byte.
+// A run of letters, digits and `_`, or another byte.
 fn token_cut(alloc: Global, spot: Spot, line: u32, bytes: &[u8]) -> Result<Cut<'_>, AllocError>
     requires { 0 < length bytes.now }
     ensures { IfOk result (λ c. cuts.cut_of c ≡ cuts.token_cut (cuts.spot_of spot) line bytes.now) }
@@ -138,7 +143,7 @@ fn token_cut(alloc: Global, spot: Spot, line: u32, bytes: &[u8]) -> Result<Cut<'
     Ok(token_piece(spot, line, token, rest))
 }
 
-/// A run of spaces and tabs: in the line of a pragma something stands after it, else it offends itself.
+// A run of spaces and tabs: in the line of a pragma something stands after it, else it offends itself.
 fn blank_cut(spot: Spot, line: u32, bytes: &[u8]) -> Cut<'_>
     ensures { cuts.cut_of result ≡ cuts.blank_run (cuts.spot_of spot) line bytes.now }
 {
@@ -152,7 +157,7 @@ fn blank_cut(spot: Spot, line: u32, bytes: &[u8]) -> Cut<'_>
     }
 }
 
-/// The number of a pragma, behind one space.
+// The number of a pragma, after one space.
 fn number_cut(spot: Spot, line: u32, bytes: &[u8]) -> Option<Cut<'_>>
     ensures { MatchOption result (cuts.has_number (cuts.spot_of spot) bytes.now ≡ false)
         (λ c. (cuts.has_number (cuts.spot_of spot) bytes.now ≡ true)

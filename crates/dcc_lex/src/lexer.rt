@@ -1,4 +1,4 @@
-//! From the bytes behind the version line to pieces.
+//! From the bytes after the version line to pieces.
 
 ghost use Rattle.std.specs.Prelude.{◌≡◌, ◌≤◌, ◌++◌, length, option_to_list, IfOk, OnOk};
 ghost use Rattle.dcc_c.specs.Pieces as spec;
@@ -9,7 +9,7 @@ use crate::cut::{Cut, Spot, next_cut};
 use crate::token::Piece;
 use std::alloc::{AllocError, Global};
 
-/// Puts a piece, if there is one, behind others.
+// Puts a piece, if there is one, after others.
 fn push_piece(pieces: &mut Vec<Piece>, piece: Option<Piece>) -> Result<(), AllocError>
     ensures { OnOk result (pieces.new.items ≡ pieces.old.items ++ option_to_list piece) }
 {
@@ -19,7 +19,7 @@ fn push_piece(pieces: &mut Vec<Piece>, piece: Option<Piece>) -> Result<(), Alloc
     Ok(())
 }
 
-/// The pieces of the bytes behind the version line, which are at most 67108864.
+/// The pieces of the bytes after the version line, which are at most 67108864.
 ///
 /// # Errors
 ///

@@ -11,7 +11,7 @@ pub mod token;
 mod word;
 
 pub use lexer::{line_feeds, pieces};
-pub use pragma::behind_version;
+pub use pragma::after_version;
 pub use token::{Head, Mark, Piece, Suffix, Token};
 pub use word::is_word;
 

@@ -5,7 +5,7 @@ ghost use Rattle.dcc_lex.specs.MarkViews.{IsMarkOf, IsFirstMark};
 
 use crate::token::Mark;
 
-/// A mark of one byte.
+// A mark of one byte.
 fn short_mark(byte: u8) -> Option<Mark>
     ensures { IsMarkOf result (byte ∷ []) }
 {
@@ -37,7 +37,7 @@ fn short_mark(byte: u8) -> Option<Mark>
     }
 }
 
-/// A mark of two bytes.
+// A mark of two bytes.
 fn long_mark(first: u8, second: u8) -> Option<Mark>
     ensures { IsMarkOf result (first ∷ second ∷ []) }
 {
@@ -54,12 +54,12 @@ fn long_mark(first: u8, second: u8) -> Option<Mark>
     }
 }
 
-/// A mark that bytes begin with, and the bytes behind it.
+/// A mark that bytes begin with, and the bytes after it.
 #[derive(Drop)]
 pub struct FoundMark<'a> {
     /// The mark.
     pub mark: Mark,
-    /// The bytes behind it.
+    /// The bytes after it.
     pub rest: &'a [u8],
 }
 
@@ -67,14 +67,14 @@ pub struct FoundMark<'a> {
 pub fn first_mark(bytes: &[u8]) -> Option<FoundMark<'_>>
     ensures { IsFirstMark result bytes.now }
 {
-    let (first, behind_first) = bytes.split_first()?;
-    if let Some((second, rest)) = behind_first.split_first() {
+    let (first, after_first) = bytes.split_first()?;
+    if let Some((second, rest)) = after_first.split_first() {
         if let Some(mark) = long_mark(*first, *second) {
             return Some(FoundMark { mark, rest });
         }
     }
     Some(FoundMark {
         mark: short_mark(*first)?,
-        rest: behind_first,
+        rest: after_first,
     })
 }

@@ -7,10 +7,10 @@ ghost use Rattle.dcc_c.specs.Pieces as spec;
 ghost use Rattle.dcc_lex.specs.TokenViews as views;
 ghost use Rattle.dcc_lex.specs.NumberViews.{is_short, decimal_value};
 
-use crate::bytes::{ByteKind, behind, hex_value, same_bytes};
+use crate::bytes::{ByteKind, after, hex_value, same_bytes};
 use crate::token::{Suffix, Token};
 
-/// The suffix that these bytes are.
+// The suffix that these bytes are.
 fn suffix_of(bytes: &[u8]) -> Option<Suffix>
     ensures { option_map views.suffix_of result ≡ spec.suffix_of bytes.now }
 {
@@ -27,7 +27,7 @@ fn suffix_of(bytes: &[u8]) -> Option<Suffix>
     }
 }
 
-/// Whether these digits are one to ten, without a needless zero.
+// Whether these digits are one to ten, without a needless zero.
 fn is_short(digits: &[u8]) -> bool
     ensures { result ≡ is_short digits.now }
 {
@@ -37,7 +37,7 @@ fn is_short(digits: &[u8]) -> bool
     }
 }
 
-/// The value of at most ten decimal digits.
+// The value of at most ten decimal digits.
 fn value_of(digits: &[u8]) -> u64
     requires digits { list_all tokens.is_digit digits.now ≡ true }
     requires few { length digits.now ≤ 10 }
@@ -50,7 +50,7 @@ fn value_of(digits: &[u8]) -> u64
     value
 }
 
-/// The value of decimal digits without a needless zero, if it is at most 4294967295.
+// The value of decimal digits without a needless zero, if it is at most 4294967295.
 fn decimal_value(digits: &[u8]) -> Option<u32>
     requires { list_all tokens.is_digit digits.now ≡ true }
     ensures { result ≡ decimal_value digits.now }
@@ -66,7 +66,7 @@ fn decimal_value(digits: &[u8]) -> Option<u32>
     }
 }
 
-/// The decimal number that these bytes are.
+// The decimal number that these bytes are.
 #[tactic(auto, using(crate::proofs::Numbers::decimal_none, crate::proofs::Numbers::decimal_some))]
 fn decimal_of(bytes: &[u8]) -> Option<Token>
     ensures { option_map views.token_of result ≡ spec.decimal_of bytes.now }
@@ -77,7 +77,7 @@ fn decimal_of(bytes: &[u8]) -> Option<Token>
     Some(Token::Decimal(value, suffix))
 }
 
-/// The value of at most eight hexadecimal digits.
+// The value of at most eight hexadecimal digits.
 fn hex_number(digits: &[u8]) -> u32
     requires digits { list_all spec.is_hex_digit digits.now ≡ true }
     requires few { length digits.now ≤ 8 }
@@ -90,7 +90,7 @@ fn hex_number(digits: &[u8]) -> u32
     value
 }
 
-/// The hexadecimal number that these bytes are behind `0x`.
+// The hexadecimal number that these bytes are after `0x`.
 fn hex_of(bytes: &[u8]) -> Option<Token>
     ensures { option_map views.token_of result ≡ spec.hex_of bytes.now }
 {
@@ -106,7 +106,7 @@ fn hex_of(bytes: &[u8]) -> Option<Token>
 pub fn number_of(run: &[u8]) -> Option<Token>
     ensures { option_map views.token_of result ≡ spec.number_of run.now }
 {
-    match behind(b"0x", run) {
+    match after(b"0x", run) {
         Some(digits) => hex_of(digits),
         None => decimal_of(run),
     }

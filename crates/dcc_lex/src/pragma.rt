@@ -5,19 +5,19 @@ ghost use Rattle.dcc_c.specs.Pieces as spec;
 ghost use Rattle.dcc_lex.specs.TokenViews as views;
 ghost use Rattle.dcc_lex.specs.HeadViews.{found_of};
 
-use crate::bytes::{behind, is_line_end, is_word_end};
+use crate::bytes::{after, is_line_end, is_word_end};
 use crate::token::Head;
 
-/// A pragma whose words bytes begin with, and the bytes behind them.
+/// A pragma whose words bytes begin with, and the bytes after them.
 #[derive(Drop)]
 pub struct FoundHead<'a> {
     /// What the pragma is about.
     pub head: Head,
-    /// The bytes behind its words.
+    /// The bytes after its words.
     pub rest: &'a [u8],
 }
 
-/// The words of a pragma, without the number of the version line.
+// The words of a pragma, without the number of the version line.
 fn pragma_words(head: Head) -> &'static [u8]
     ensures { result.now ≡ spec.pragma_words (views.head_of head) }
 {
@@ -29,12 +29,12 @@ fn pragma_words(head: Head) -> &'static [u8]
     }
 }
 
-/// This pragma, if the bytes begin with its words.
+// This pragma, if the bytes begin with its words.
 fn head_if(head: Head, bytes: &[u8]) -> Option<FoundHead<'_>>
     ensures { option_map found_of result
-        ≡ spec.head_if (views.head_of head) (spec.behind (spec.pragma_words (views.head_of head)) bytes.now) None }
+        ≡ spec.head_if (views.head_of head) (spec.after (spec.pragma_words (views.head_of head)) bytes.now) None }
 {
-    let rest = behind(pragma_words(head), bytes)?;
+    let rest = after(pragma_words(head), bytes)?;
     if is_word_end(rest) {
         Some(FoundHead { head, rest })
     } else {
@@ -58,10 +58,10 @@ pub fn head_of(bytes: &[u8]) -> Option<FoundHead<'_>>
     head_if(Head::Depth, bytes)
 }
 
-/// The bytes behind the version line, which is the first line; None where it is another.
-pub fn behind_version(bytes: &[u8]) -> Option<&[u8]>
-    ensures { option_map (λ rest. rest.now) result ≡ spec.behind_version bytes.now }
+/// The bytes after the version line, which is the first line; None where it is another.
+pub fn after_version(bytes: &[u8]) -> Option<&[u8]>
+    ensures { option_map (λ rest. rest.now) result ≡ spec.after_version bytes.now }
 {
-    let rest = behind(b"#pragma dcc text 1", bytes)?;
+    let rest = after(b"#pragma dcc text 1", bytes)?;
     if is_line_end(rest) { Some(rest) } else { None }
 }

@@ -13,14 +13,14 @@ use crate::token::{Suffix, Token};
 use std::alloc::{AllocError, Global};
 use std::str;
 
-/// Whether the first of the bytes is a digit.
+// Whether the first of the bytes is a digit.
 fn begins_number(run: &[u8]) -> bool
     ensures { result ≡ tokens.is_digit (get_or run.now 0 0) }
 {
     run.first().is_some_and(|first| is_digit(*first))
 }
 
-/// Whether each of the bytes is a letter, a digit or `_`.
+// Whether each of the bytes is a letter, a digit or `_`.
 fn are_word_bytes(bytes: &[u8]) -> bool
     ensures { result ≡ list_all tokens.is_word_byte bytes.now }
 {
@@ -42,7 +42,7 @@ pub fn is_word(bytes: &[u8]) -> bool
     }
 }
 
-/// Whether this is a keyword of ISO C90 that the grammar does not have.
+// Whether this is a keyword of ISO C90 that the grammar does not have.
 fn is_unused_keyword(word: &str) -> bool
     ensures { result ≡ grammar.is_among spec.unused_keywords word.now }
 {
@@ -53,7 +53,7 @@ fn is_unused_keyword(word: &str) -> bool
     }
 }
 
-/// The text of these bytes, where they are a word.
+// The text of these bytes, where they are a word.
 fn word_in(bytes: &[u8]) -> Option<&str>
     ensures { MatchOption result (tokens.is_word bytes.now ≡ false)
         (λ word. (tokens.is_word bytes.now ≡ true) × (word.now ≡ bytes.now)) }

@@ -5,7 +5,7 @@ use Rattle.std.specs.Prelude.{if◌then◌else◌, is_some, ◌==◌}
 use Rattle.dcc_c.specs.Kinds.{Offence, first_of}
 use Rattle.dcc_c.specs.Numbered.{rows}
 use Rattle.dcc_c.specs.Partial.{PartialText}
-use Rattle.dcc_c.specs.Pieces.{Piece, behind_version, line_at}
+use Rattle.dcc_c.specs.Pieces.{Piece, after_version, line_at}
 use Rattle.dcc_c.specs.Pieces as spec
 use Rattle.dcc_c.specs.Reading.{Reader, Got, got}
 use Rattle.dcc_c.specs.ReadingText.{reading_of}
@@ -79,7 +79,7 @@ tree-parsed pieces tree is =
     record { going = going; same = is.same; clean = ap (text_offences reading.value) (sym (all-read reading.behind going)) ∙ both.1 }
 
 -- the text stands for the tree of its pieces
-pub tree-stands : (text rest : List ℕ) (ps : List Read) (tree : Tree) → behind_version text ≡ Some rest → pieces_of ps ≡ spec.pieces_of rest →
+pub tree-stands : (text rest : List ℕ) (ps : List Read) (tree : Tree) → after_version text ≡ Some rest → pieces_of ps ≡ spec.pieces_of rest →
     IsTreeOf (pieces_of ps) tree → StandsFor text tree
 tree-stands text rest ps tree begins same is =
     parsed-stands text rest tree begins (subst (λ l. IsParsed l tree) same (tree-parsed (pieces_of ps) tree is))
@@ -99,7 +99,7 @@ clean-parsed pieces tree parsed =
     ∙ ap (text_offences reading.value) (all-read reading.behind parsed.going) ∙ parsed.clean
 
 -- pieces in which something offends stand for no tree
-pub offends-none : (text rest : List ℕ) (o : Offence) (tree : Tree) → behind_version text ≡ Some rest → first_of (offences_of (spec.pieces_of rest)) ≡ Some o →
+pub offends-none : (text rest : List ℕ) (o : Offence) (tree : Tree) → after_version text ≡ Some rest → first_of (offences_of (spec.pieces_of rest)) ≡ Some o →
     StandsFor text tree → ⊥
 offends-none text rest o tree begins first stands =
     let (other, begins_other, parsed) = stands-parsed text tree stands in
@@ -109,11 +109,11 @@ offends-none text rest o tree begins first stands =
 pub long-refused : (text : List ℕ) → 67108864 < length text → IsRefusal text 0 Length
 long-refused text long = record { refused = too_long long; no_tree = λ short tree stands. absurd (omega (arith, long, short)) }
 
-pub version-refused : (text : List ℕ) → length text ≤ 67108864 → behind_version text ≡ None → IsRefusal text 1 Version
+pub version-refused : (text : List ℕ) → length text ≤ 67108864 → after_version text ≡ None → IsRefusal text 1 Version
 version-refused text short begins =
     record { refused = no_version short begins; no_tree = λ _ tree stands. let (other, begins_other, parsed) = stands-parsed text tree stands in no-rest (sym begins ∙ begins_other) }
 
-pub offence-refused : (text rest : List ℕ) (ps : List Read) (o : Found) (line : ℕ) → length text ≤ 67108864 → behind_version text ≡ Some rest →
+pub offence-refused : (text rest : List ℕ) (ps : List Read) (o : Found) (line : ℕ) → length text ≤ 67108864 → after_version text ≡ Some rest →
     pieces_of ps ≡ spec.pieces_of rest → first_of (offences_of (pieces_of ps)) ≡ Some (offence_of o) →
     line ≡ line_at (pieces_of ps) (1 + rows text) o.at → IsRefusal text line o.kind
 offence-refused text rest ps o line short begins same first at =

@@ -3,7 +3,7 @@ use native.Mathlib.Omega.{arith}
 use Rattle.std.proofs.Common.{◌≡◌, ◌≤◌, ◌⊎◌, inl, inr, ℕ, suc, List, length, Option, Some, None, refl, sym, ap, ◌∙◌, subst}
 use Rattle.dcc_c.specs.Kinds.{Kind, of_length, of_version, Offence, first_of}
 use Rattle.dcc_c.specs.Numbered.{rows}
-use Rattle.dcc_c.specs.Pieces.{Piece, pieces_of, behind_version, line_at}
+use Rattle.dcc_c.specs.Pieces.{Piece, pieces_of, after_version, line_at}
 use Rattle.dcc_c.specs.ReadingText.{reading_of}
 use Rattle.dcc_c.specs.Refusals.{IsRefused, too_long, no_version, offends}
 use Rattle.dcc_c.specs.Stripped.{plain_text}
@@ -16,7 +16,7 @@ use Rattle.dcc_parse.specs.Laws.{HasTree, HasRefusal}
 use Rattle.dcc_parse.proofs.ParseRules.{tree-parsed, no-rest, rest-same, offends-none}
 
 -- nothing offends in the pieces after the version line
-clean-stands : (text rest : List ℕ) → behind_version text ≡ Some rest → first_of (offences_of (pieces_of rest)) ≡ None → HasTree text
+clean-stands : (text rest : List ℕ) → after_version text ≡ Some rest → first_of (offences_of (pieces_of rest)) ≡ None → HasTree text
 clean-stands text rest begins none =
     let pieces = pieces_of rest in
     let tree = plain_text (reading_of pieces).value in
@@ -24,19 +24,19 @@ clean-stands text rest begins none =
     record { tree = tree; stands = parsed-stands text rest tree begins parsed }
 
 -- there is a first offence in them, or none
-begun-judged : (text rest : List ℕ) (first : Option Offence) → length text ≤ 67108864 → behind_version text ≡ Some rest →
+begun-judged : (text rest : List ℕ) (first : Option Offence) → length text ≤ 67108864 → after_version text ≡ Some rest →
     first_of (offences_of (pieces_of rest)) ≡ first → HasTree text ⊎ HasRefusal text
 begun-judged text rest None short begins is = inl (clean-stands text rest begins is)
 begun-judged text rest (Some o) short begins is =
     inr (record { line = line_at (pieces_of rest) (suc (rows text)) o.at; kind = o.kind; refused = offends short begins is })
 
-any-judged : (text : List ℕ) (behind : Option (List ℕ)) → length text ≤ 67108864 → behind_version text ≡ behind → HasTree text ⊎ HasRefusal text
+any-judged : (text : List ℕ) (behind : Option (List ℕ)) → length text ≤ 67108864 → after_version text ≡ behind → HasTree text ⊎ HasRefusal text
 any-judged text None short is = inr (record { line = 1; kind = of_version; refused = no_version short is })
 any-judged text (Some rest) short is = begun-judged text rest (first_of (offences_of (pieces_of rest))) short is refl
 
 -- a text stands for a tree or is refused
 pub text-judged : (text : List ℕ) → length text ≤ 67108864 → HasTree text ⊎ HasRefusal text
-text-judged text short = any-judged text (behind_version text) short refl
+text-judged text short = any-judged text (after_version text) short refl
 
 -- what is refused stands for no tree, but for what is too long
 pub refused-no-tree : (text : List ℕ) (line : ℕ) (kind : Kind) (tree : Tree) → length text ≤ 67108864 → IsRefused text line kind → StandsFor text tree → ⊥
@@ -49,7 +49,7 @@ some-same : {A : Type 0} {a b : A} → Some a ≡ Some b → a ≡ b
 some-same is = cc
 
 -- the first offence of a text is one, and so is its line
-offence-once : (text : List ℕ) {rest other : List ℕ} {o p : Offence} → behind_version text ≡ Some rest → behind_version text ≡ Some other →
+offence-once : (text : List ℕ) {rest other : List ℕ} {o p : Offence} → after_version text ≡ Some rest → after_version text ≡ Some other →
     first_of (offences_of (pieces_of rest)) ≡ Some o → first_of (offences_of (pieces_of other)) ≡ Some p →
     (line_at (pieces_of rest) (suc (rows text)) o.at ≡ line_at (pieces_of other) (suc (rows text)) p.at) × (o.kind ≡ p.kind)
 offence-once text {rest} {other} {o} {p} begins begins_other first last =

@@ -16,7 +16,7 @@ use crate::fault::ParseFault;
 use crate::strip_text::strip;
 use dcc_c::Unit;
 use dcc_check::first_offence;
-use dcc_lex::{Piece, behind_version, line_feeds, pieces};
+use dcc_lex::{Piece, after_version, line_feeds, pieces};
 use dcc_read::read;
 use dcc_reader::{Offence, ParseKind, Reader};
 use std::alloc::{AllocError, Global};
@@ -69,7 +69,7 @@ fn parse_bytes(alloc: Global, bytes: &[u8]) -> Result<Unit, ParseFault>
             kind: ParseKind::Length,
         });
     }
-    let Some(rest) = behind_version(bytes) else {
+    let Some(rest) = after_version(bytes) else {
         return Err(ParseFault::At {
             line: 1,
             kind: ParseKind::Version,

@@ -79,7 +79,7 @@ lines-one n around labelled leaves r one begins =
 
 -- One line.
 
--- behind the test for a depth line
+-- after the test for a depth line
 pub line-depth : (calls : ℕ) (around : Around) (labelled : Bool) (r : Reader) → s.sees_head depth_words r ≡ true →
     s.read_line (suc calls) around labelled r ≡ depth_line calls around labelled r
 line-depth calls around labelled r e = if-true (s.sees_head depth_words r) _ _ e

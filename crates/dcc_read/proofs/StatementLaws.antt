@@ -31,7 +31,7 @@ pub stmt-if : (n : ℕ) (around : Around) (r : Reader) → 0 < n → sees_word (
 stmt-if n around r within e =
     ap (λ k. s.read_stmt k around r) (sym (counted n within)) ∙ if-true (sees_word (codes "if") r) _ _ e
 
--- behind the test for `if`
+-- after the test for `if`
 stmt-others : (n : ℕ) (around : Around) (r : Reader) → 0 < n → sees_word (codes "if") r ≡ false →
     s.read_stmt n around r
     ≡ (if sees_word (codes "while") r then while_stmt (n - 1) around (skip r)

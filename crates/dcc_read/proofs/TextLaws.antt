@@ -49,7 +49,7 @@ declared-place n address r place within e is =
     ∙ if-true (sees_head place_words r) _ _ e
     ∙ ap (λ (g : Got ℕ). read_declared (n - 1) (Some g.value) g.behind) (sym is)
 
--- what is declared behind the test for a place line
+-- what is declared after the test for a place line
 declared-others : (n : ℕ) (address : Option ℕ) (r : Reader) (begun : Got Begun) → 0 < n → sees_head place_words r ≡ false → begun ≡ read_begun r →
     read_declared n address r
     ≡ (elim address [

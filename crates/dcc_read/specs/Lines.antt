@@ -13,25 +13,25 @@ use Rattle.dcc_read.specs.declared.statement.LineRead.{LineRead}
 abbrev pub block_of : Block → statements.Block
 block_of b = record { lines = lines_of b.lines.items; leaves = b.leaves }
 
--- rows before the statements that are read behind them
+-- rows before the statements that are read after them
 abbrev pub before_lines : List Row → Got statements.Block → Got statements.Block
 before_lines [] others = others
 before_lines (r ∷ rows) others = statements.before_others (stmt_of r.stmt) r.at r.line (before_lines rows others)
 
--- what was read where a statement may begin, and the statements behind it
+-- what was read where a statement may begin, and the statements after it
 abbrev pub behind_line : LineRead → ℕ → Around → Reader → Got statements.Block
 behind_line l calls around r =
     before_lines (option_to_list l.row)
     (if l.is_last then got (statements.block_of no_rows l.leaves) r else statements.read_lines calls around l.labelled l.leaves r)
 
--- a depth line that stands here, and the statements behind it
+-- a depth line that stands here, and the statements after it
 abbrev pub depth_line : ℕ → Around → Bool → Reader → Got statements.Block
 depth_line calls around labelled r =
     if labelled then got (statements.block_of no_rows false) (fail r)
     else if statements.is_nested around then got (statements.block_of no_rows false) (stop_at of_depth r.at r)
     else statements.read_lines calls around false false (statements.read_depth r)
 
--- a label that stands here, and the statements behind it
+-- a label that stands here, and the statements after it
 abbrev pub label_line : ℕ → Around → Reader → Got statements.Block
 label_line calls around r =
     let name = take_name r in
@@ -59,7 +59,7 @@ begins_loop r = (sees_word (codes "while") r || sees_word (codes "do") r) || see
 abbrev pub take_forever : Reader → Reader
 take_forever r = take_mark (codes ")") (take_mark (codes ";") (take_mark (codes ";") (take_mark (codes "(") r)))
 
--- the loops, each behind its word
+-- the loops, each after its word
 abbrev pub while_stmt : ℕ → Around → Reader → Got PartialStmt
 while_stmt calls around r =
     let test = statements.read_test calls r in
@@ -88,7 +88,7 @@ switch_stmt calls around r =
     let test = statements.read_test calls (skip r) in
     statements.switch_of test (statements.read_arms calls (in_switch around) (take_mark (codes "{") test.behind))
 
--- an arm before others, and the reader behind it
+-- an arm before others, and the reader after it
 abbrev pub arm_read : ℕ → Around → PartialArms → Reader → Got PartialArms
 arm_read calls around others r =
     let head = statements.read_arm_head calls r in

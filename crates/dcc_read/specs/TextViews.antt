@@ -22,7 +22,7 @@ is_global begun = begun.value.has_result && not (sees_mark (codes "(") begun.beh
 abbrev pub global_address : Option ℕ → Got texts.Begun → Option ℕ
 global_address address begun = if is_global begun then address else None
 
--- global variables before what is declared behind them
+-- global variables before what is declared after them
 abbrev pub before_globals : List PartialVariable → Got texts.Declared → Got texts.Declared
 before_globals globals others =
     got (record { globals = globals ++ others.value.globals; functions = others.value.functions }) others.behind

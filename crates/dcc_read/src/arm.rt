@@ -23,7 +23,7 @@ pub(crate) struct ArmHead {
     pub(crate) default: Option<usize>,
 }
 
-/// The number with the suffix, where a case may have it.
+// The number with the suffix, where a case may have it.
 fn case_if(number: u32, suffix: Suffix) -> Option<u16>
     ensures { result ≡ statements.case_if number (suffix_of suffix) }
 {
@@ -33,7 +33,7 @@ fn case_if(number: u32, suffix: Suffix) -> Option<u16>
     }
 }
 
-/// The number of a case that the token is.
+// The number of a case that the token is.
 fn case_number(token: &Token) -> Option<u16>
     ensures { result ≡ statements.case_number (Some (token_of token.now)) }
 {
@@ -44,7 +44,7 @@ fn case_number(token: &Token) -> Option<u16>
     }
 }
 
-/// The number of a case that stands here.
+// The number of a case that stands here.
 fn case_here(r: &Reader<'_>) -> Option<u16>
     ensures { result ≡ statements.case_number (reading.next_token (reader_of r.now)) }
 {
@@ -54,7 +54,7 @@ fn case_here(r: &Reader<'_>) -> Option<u16>
     }
 }
 
-/// Reads a `case`, the word of which stands here, with its number and the colon.
+// Reads a `case`, the word of which stands here, with its number and the colon.
 fn read_case(r: &mut Reader<'_>) -> Option<CaseAt>
     requires seen { is_some (reading.next_token (reader_of r.old)) ≡ true }
     ensures { reading.got (option_to_list (option_map case_of result)) (reader_of r.new) ≡ statements.read_case (reader_of r.old) }
@@ -74,7 +74,7 @@ fn read_case(r: &mut Reader<'_>) -> Option<CaseAt>
     }
 }
 
-/// Reads one case after the other.
+// Reads one case after the other.
 fn read_cases(r: &mut Reader<'_>, alloc: Global, calls: usize) -> Result<Vec<CaseAt>, AllocError>
     ensures { IfOk result (λ numbers.
         reading.got (map case_of numbers.items) (reader_of r.new) ≡ statements.read_cases calls (reader_of r.old)) }

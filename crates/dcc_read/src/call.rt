@@ -14,7 +14,7 @@ use dcc_lex::Mark;
 use dcc_reader::{PartialCall, PartialExpr, PartialStmt, Reader, WordAt};
 use std::alloc::{AllocError, Global};
 
-/// Reads the arguments of a call behind its opening parenthesis. The closing one is left.
+// Reads the arguments of a call after its opening parenthesis. The closing one is left.
 fn read_arguments(
     r: &mut Reader<'_>,
     alloc: Global,
@@ -40,7 +40,7 @@ fn read_arguments(
     Ok(arguments)
 }
 
-/// Reads a call behind its name, with a place for its result or none.
+// Reads a call after its name, with a place for its result or none.
 fn read_call_behind(
     r: &mut Reader<'_>,
     alloc: Global,
@@ -67,7 +67,7 @@ fn read_call_behind(
     Ok(PartialStmt::Call(place, call))
 }
 
-/// Reads a call with a place for its result or none.
+// Reads a call with a place for its result or none.
 fn read_call(
     r: &mut Reader<'_>,
     alloc: Global,
@@ -84,7 +84,7 @@ fn read_call(
     }
 }
 
-/// Reads a place that a value is assigned to: a name, or a star with an operand.
+// Reads a place that a value is assigned to: a name, or a star with an operand.
 fn read_place(r: &mut Reader<'_>, alloc: Global, calls: usize) -> Result<PartialExpr, AllocError>
     ensures { IfOk result (λ e. reading.got (expr_of e) (reader_of r.new) ≡ statements.read_place calls (reader_of r.old)) }
 {
@@ -94,7 +94,7 @@ fn read_place(r: &mut Reader<'_>, alloc: Global, calls: usize) -> Result<Partial
     }
 }
 
-/// Reads a star, which must stand here, and its operand.
+// Reads a star, which must stand here, and its operand.
 fn read_behind_star(
     r: &mut Reader<'_>,
     alloc: Global,
@@ -113,7 +113,7 @@ fn read_behind_star(
     Ok(PartialExpr::Unary(at, CUn::Deref, Box::new(alloc, operand)?))
 }
 
-/// Reads the value of an assignment behind its `=`.
+// Reads the value of an assignment after its `=`.
 fn read_assignment(
     r: &mut Reader<'_>,
     alloc: Global,
@@ -129,7 +129,7 @@ fn read_assignment(
     Ok(PartialStmt::Assign(place, Some(e), done))
 }
 
-/// Reads what takes a value at a place: an assignment, or a call with a result.
+// Reads what takes a value at a place: an assignment, or a call with a result.
 fn read_assigned(
     r: &mut Reader<'_>,
     alloc: Global,

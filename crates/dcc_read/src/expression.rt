@@ -41,7 +41,7 @@ pub struct Inside {
 }
 
 impl Inside {
-    /// What stands around an operand.
+    // What stands around an operand.
     fn in_operator(self) -> Inside
         requires fits { self.operators + 1 < 2 ^ 64 }
         ensures { inside_of result ≡ reading.in_operator (inside_of self) }
@@ -53,7 +53,7 @@ impl Inside {
         }
     }
 
-    /// What stands around the content of parentheses.
+    // What stands around the content of parentheses.
     fn in_parentheses(self) -> Inside
         requires fits { self.opened + 1 < 2 ^ 64 }
         ensures { inside_of result ≡ reading.in_parentheses (inside_of self) }
@@ -66,7 +66,7 @@ impl Inside {
     }
 }
 
-/// The depth of what stands above a part of this depth, up to 201.
+// The depth of what stands above a part of this depth, up to 201.
 fn deeper(depth: usize) -> usize
     requires measured { depth ≤ 201 }
     ensures { result ≡ min 201 (depth + 1) }
@@ -74,7 +74,7 @@ fn deeper(depth: usize) -> usize
     if depth <= MOST { depth + 1 } else { depth }
 }
 
-/// What was not read.
+// What was not read.
 fn missing() -> Measured
     ensures { expr_of result.expr ≡ partial.Missing }
 {
@@ -84,7 +84,7 @@ fn missing() -> Measured
     }
 }
 
-/// The unary operator on an operand.
+// The unary operator on an operand.
 fn unary_at(
     alloc: Global,
     at: usize,
@@ -101,7 +101,7 @@ fn unary_at(
     })
 }
 
-/// The cast of an operand.
+// The cast of an operand.
 fn cast_at(alloc: Global, at: usize, ty: CType, operand: Measured) -> Result<Measured, AllocError>
     ensures { IfOk result (λ e. expr_of e.expr ≡ partial.CastHere at ty (expr_of operand.expr)) }
 {
@@ -113,7 +113,7 @@ fn cast_at(alloc: Global, at: usize, ty: CType, operand: Measured) -> Result<Mea
     })
 }
 
-/// Two operands and their operator.
+// Two operands and their operator.
 fn binary_of_two(
     alloc: Global,
     operator: CBin,
@@ -131,7 +131,7 @@ fn binary_of_two(
     })
 }
 
-/// A conditional.
+// A conditional.
 fn conditional_of(
     alloc: Global,
     test: Measured,
@@ -150,7 +150,7 @@ fn conditional_of(
     })
 }
 
-/// Stops where the expression that this is a part of gets too deep.
+// Stops where the expression that this is a part of gets too deep.
 fn stop_if_deep(r: &mut Reader<'_>, inside: Inside, part: &Measured)
     ensures { reader_of r.new ≡ reading.stop_if_deep (inside_of inside) (expr_of part.now.expr) (reader_of r.old) }
 {
@@ -159,7 +159,7 @@ fn stop_if_deep(r: &mut Reader<'_>, inside: Inside, part: &Measured)
     }
 }
 
-/// Whether an expression may begin with the next token.
+// Whether an expression may begin with the next token.
 fn begins_expr(r: &Reader<'_>) -> bool
     ensures { result ≡ reading.begins_expr (reading.next_token (reader_of r.now)) }
 {
@@ -170,7 +170,7 @@ fn begins_expr(r: &Reader<'_>) -> bool
         || r.name().is_some()
 }
 
-/// Stops at what is the first in too many parentheses.
+// Stops at what is the first in too many parentheses.
 fn stop_if_enclosed(r: &mut Reader<'_>, inside: Inside)
     ensures { reader_of r.new ≡ reading.stop_if_enclosed (inside_of inside) (reader_of r.old) }
 {
@@ -179,7 +179,7 @@ fn stop_if_enclosed(r: &mut Reader<'_>, inside: Inside)
     }
 }
 
-/// Stops at the next piece, where too many parentheses are open.
+// Stops at the next piece, where too many parentheses are open.
 fn stop_enclosed(r: &mut Reader<'_>)
     ensures { reader_of r.new ≡ stopped_deep (reader_of r.old) }
 {
@@ -190,7 +190,7 @@ fn stop_enclosed(r: &mut Reader<'_>)
     }
 }
 
-/// The next token, if it is a binary operator of this strength at least.
+// The next token, if it is a binary operator of this strength at least.
 fn operator_of(r: &Reader<'_>, weakest: u8) -> Option<CBin>
     ensures { result ≡ strong_enough weakest (reading.binary_of (reading.next_token (reader_of r.now))) }
 {
@@ -217,7 +217,7 @@ pub fn name_here(r: &mut Reader<'_>, alloc: Global, word: &str) -> Result<Partia
     Ok(PartialExpr::Name(at, word, r.sees_mark(Mark::OpenParenthesis)))
 }
 
-/// Reads a number or a name.
+// Reads a number or a name.
 fn read_leaf(r: &mut Reader<'_>, alloc: Global) -> Result<Measured, AllocError>
     ensures { IfOk result (λ e. reading.got (expr_of e.expr) (reader_of r.new) ≡ reading.read_leaf (reader_of r.old)) }
 {
@@ -241,7 +241,7 @@ fn read_leaf(r: &mut Reader<'_>, alloc: Global) -> Result<Measured, AllocError>
     }
 }
 
-/// Reads a unary part.
+// Reads a unary part.
 #[cycle(expression)]
 fn measured_unary(
     r: &mut Reader<'_>,
@@ -280,8 +280,8 @@ fn measured_unary(
     }
 }
 
-/// Reads what stands behind an opening parenthesis at a place: the rest of a cast, or an expression and the closing
-/// parenthesis.
+// Reads what stands after an opening parenthesis at a place: the rest of a cast, or an expression and the closing
+// parenthesis.
 #[cycle(expression)]
 fn read_parentheses(
     r: &mut Reader<'_>,
@@ -311,7 +311,7 @@ fn read_parentheses(
     }
 }
 
-/// Reads the rest of a cast behind its type.
+// Reads the rest of a cast after its type.
 #[cycle(expression)]
 fn read_cast(
     r: &mut Reader<'_>,
@@ -338,7 +338,7 @@ fn read_cast(
     }
 }
 
-/// Reads operands that are joined by binary operators of this strength at least.
+// Reads operands that are joined by binary operators of this strength at least.
 #[cycle(expression)]
 fn read_binary(
     r: &mut Reader<'_>,
@@ -360,7 +360,7 @@ fn read_binary(
     }
 }
 
-/// Reads the same behind the first operand.
+// Reads the same after the first operand.
 #[cycle(expression)]
 fn read_more(
     r: &mut Reader<'_>,
@@ -397,7 +397,7 @@ fn read_more(
     Ok(left)
 }
 
-/// Reads an expression.
+// Reads an expression.
 #[cycle(expression)]
 fn measured_expr(
     r: &mut Reader<'_>,
@@ -418,7 +418,7 @@ fn measured_expr(
     }
 }
 
-/// Reads the rest of a conditional behind its test, where there is one.
+// Reads the rest of a conditional after its test, where there is one.
 #[cycle(expression)]
 fn read_rest(
     r: &mut Reader<'_>,

@@ -34,7 +34,7 @@ fn reader(pieces: &[Piece]) -> Reader<'_> {
     }
 }
 
-/// `1` with so many minus signs behind each of which `1` stands.
+// `1` with so many minus signs after each of which `1` stands.
 fn sum(alloc: Global, operators: usize) -> Result<Vec<Piece>, AllocError> {
     let mut pieces = Vec::new(alloc);
     pieces.push(number(1))?;
@@ -45,7 +45,7 @@ fn sum(alloc: Global, operators: usize) -> Result<Vec<Piece>, AllocError> {
     Ok(pieces)
 }
 
-/// `1` in so many parentheses.
+// `1` in so many parentheses.
 fn enclosed(alloc: Global, parentheses: usize) -> Result<Vec<Piece>, AllocError> {
     let mut pieces = Vec::new(alloc);
     for _ in 0..parentheses {
@@ -58,7 +58,7 @@ fn enclosed(alloc: Global, parentheses: usize) -> Result<Vec<Piece>, AllocError>
     Ok(pieces)
 }
 
-/// Where reading a whole expression stops, and behind how many pieces it is then.
+// Where reading a whole expression stops, and after how many pieces it is then.
 fn stop_of(alloc: Global, pieces: &[Piece]) -> Result<(Option<Offence>, usize), AllocError> {
     let mut r = reader(pieces);
     let e = read_value(&mut r, alloc, CALLS)?;
@@ -66,7 +66,7 @@ fn stop_of(alloc: Global, pieces: &[Piece]) -> Result<(Option<Offence>, usize), 
     Ok((r.stop, r.at))
 }
 
-/// Whether the outermost operator is this one, with this one at its left or its right.
+// Whether the outermost operator is this one, with this one at its left or its right.
 fn is_joined(e: &PartialExpr, outer: CBin, left: Option<CBin>, right: Option<CBin>) -> bool {
     match e {
         PartialExpr::Binary(operator, a, b) => {

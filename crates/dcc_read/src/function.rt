@@ -15,7 +15,7 @@ use dcc_reader::head::{Begun, read_begun, read_head};
 use dcc_reader::{PartialFunction, Reader};
 use std::alloc::{AllocError, Global};
 
-/// Reads a function behind its head.
+// Reads a function after its head.
 fn read_body(
     r: &mut Reader<'_>,
     alloc: Global,
@@ -39,7 +39,7 @@ fn read_body(
     })
 }
 
-/// Reads a function behind its name.
+// Reads a function after its name.
 fn read_function(
     r: &mut Reader<'_>,
     alloc: Global,
@@ -53,14 +53,14 @@ fn read_function(
     read_body(r, alloc, calls, head)
 }
 
-/// Whether no function can begin here.
+// Whether no function can begin here.
 fn is_end(r: &Reader<'_>) -> bool
     ensures { result ≡ reading.is_stopped (reader_of r.now) || (length (reader_of r.now).left == 0) }
 {
     r.is_stopped() || r.at >= r.pieces.len()
 }
 
-/// Reads functions up to the end of the text, the first of them behind its name.
+/// Reads functions up to the end of the text, the first of them after its name.
 pub(crate) fn read_functions(
     r: &mut Reader<'_>,
     alloc: Global,

@@ -20,7 +20,7 @@ pub struct TypedNumber {
     pub base: Base,
 }
 
-/// The type of a decimal number.
+// The type of a decimal number.
 fn decimal_type(value: u32, suffix: Suffix) -> Base
     ensures { result ≡ tokens.decimal_type value (suffix_of suffix) }
 {
@@ -32,7 +32,7 @@ fn decimal_type(value: u32, suffix: Suffix) -> Base
     }
 }
 
-/// The type of a number in hexadecimal.
+// The type of a number in hexadecimal.
 fn hex_type(value: u32, suffix: Suffix) -> Base
     ensures { result ≡ tokens.hex_type value (suffix_of suffix) }
 {
@@ -61,7 +61,7 @@ pub fn number_of(token: Option<&Token>) -> Option<TypedNumber>
     }
 }
 
-/// The mark that the token is.
+// The mark that the token is.
 fn mark_in(token: Option<&Token>) -> Option<Mark>
     ensures unary { reading.unary_of (option_map (λ t. tokens.Mark (mark_of t)) result) ≡ reading.unary_of (option_map (λ t. token_of t.now) token.entry) }
     ensures binary { reading.binary_of (option_map (λ t. tokens.Mark (mark_of t)) result) ≡ reading.binary_of (option_map (λ t. token_of t.now) token.entry) }
@@ -72,7 +72,7 @@ fn mark_in(token: Option<&Token>) -> Option<Mark>
     }
 }
 
-/// The unary operator that a mark stands for.
+// The unary operator that a mark stands for.
 fn unary_with(mark: Mark) -> Option<CUn>
     ensures { result ≡ reading.unary_of (Some (tokens.Mark (mark_of mark))) }
 {
@@ -86,7 +86,7 @@ fn unary_with(mark: Mark) -> Option<CUn>
     }
 }
 
-/// The binary operator that a mark stands for.
+// The binary operator that a mark stands for.
 fn binary_with(mark: Mark) -> Option<CBin>
     ensures { result ≡ reading.binary_of (Some (tokens.Mark (mark_of mark))) }
 {

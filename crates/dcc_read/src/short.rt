@@ -12,7 +12,7 @@ use dcc_lex::Mark;
 use dcc_reader::{PartialStmt, Reader};
 use std::alloc::{AllocError, Global};
 
-/// Goes behind the next piece where it is allowed, or stops at it.
+// Goes past the next piece where it is allowed, or stops at it.
 fn skip_if(r: &mut Reader<'_>, is_allowed: bool)
     requires seen { is_some (reading.next_token (reader_of r.old)) ≡ true }
     ensures { reader_of r.new ≡ (if is_allowed then reading.skip (reader_of r.old) else reading.fail (reader_of r.old)) }

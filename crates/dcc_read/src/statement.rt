@@ -43,7 +43,7 @@ struct LineRead {
     leaves: bool,
 }
 
-/// What was read where nothing that begins here is allowed.
+// What was read where nothing that begins here is allowed.
 fn last_line() -> LineRead
     ensures { (calls : ℕ) (around : grammar.Around) (r : reading.Reader) →
         behind_line result calls around r ≡ reading.got (statements.block_of partial.no_rows false) r }
@@ -56,7 +56,7 @@ fn last_line() -> LineRead
     }
 }
 
-/// Whether a statement that holds blocks begins here.
+// Whether a statement that holds blocks begins here.
 fn begins_block_stmt(r: &Reader<'_>) -> bool
     ensures { result ≡ statements.is_block_word (reading.next_token (reader_of r.now)) }
 {
@@ -64,14 +64,14 @@ fn begins_block_stmt(r: &Reader<'_>) -> bool
         || r.sees_word("switch")
 }
 
-/// Whether a statement that holds blocks begins here, and more than 200 blocks stand around it.
+// Whether a statement that holds blocks begins here, and more than 200 blocks stand around it.
 fn begins_nested_block(r: &Reader<'_>, around: Around) -> bool
     ensures { result ≡ statements.is_nested (around_of around) && statements.is_block_word (reading.next_token (reader_of r.now)) }
 {
     around.is_nested() && begins_block_stmt(r)
 }
 
-/// Whether a statement begins here with a keyword.
+// Whether a statement begins here with a keyword.
 fn sees_statement_word(r: &Reader<'_>) -> bool
     ensures { result ≡ statements.is_statement_word (reading.next_token (reader_of r.now)) }
 {
@@ -81,7 +81,7 @@ fn sees_statement_word(r: &Reader<'_>) -> bool
             || r.sees_word("return"))
 }
 
-/// Whether a statement, a label or a depth line begins here.
+// Whether a statement, a label or a depth line begins here.
 fn begins_stmt(r: &Reader<'_>) -> bool
     ensures { result ≡ statements.begins_stmt (reading.next_token (reader_of r.now)) }
 {
@@ -89,14 +89,14 @@ fn begins_stmt(r: &Reader<'_>) -> bool
         || ((r.sees_mark(Mark::Star) || r.sees_mark(Mark::Semicolon)) || r.sees_head(Head::Depth))
 }
 
-/// Whether a loop begins here.
+// Whether a loop begins here.
 fn begins_loop(r: &Reader<'_>) -> bool
     ensures { result ≡ begins_loop (reader_of r.now) }
 {
     (r.sees_word("while") || r.sees_word("do")) || r.sees_word("for")
 }
 
-/// Takes `(;;)`, which must stand here.
+// Takes `(;;)`, which must stand here.
 fn take_forever(r: &mut Reader<'_>)
     ensures { reader_of r.new ≡ take_forever (reader_of r.old) }
 {
@@ -106,21 +106,21 @@ fn take_forever(r: &mut Reader<'_>)
     r.take_mark(Mark::CloseParenthesis);
 }
 
-/// Whether the statement is a `break`.
+// Whether the statement is a `break`.
 fn is_break(stmt: &PartialStmt) -> bool
     ensures { result ≡ statements.is_break (stmt_of stmt.now) }
 {
     matches!(stmt, PartialStmt::Break)
 }
 
-/// Whether the statement is a `break` that no label stands before.
+// Whether the statement is a `break` that no label stands before.
 fn is_leaving(stmt: &PartialStmt, labelled: bool) -> bool
     ensures { result ≡ statements.is_break (stmt_of stmt.now) && not labelled }
 {
     is_break(stmt) && !labelled
 }
 
-/// Stops at the next piece where it is not allowed.
+// Stops at the next piece where it is not allowed.
 fn fail_if(r: &mut Reader<'_>, is_offence: bool)
     ensures { reader_of r.new ≡ (if is_offence then reading.fail (reader_of r.old) else reader_of r.old) }
 {
@@ -129,8 +129,8 @@ fn fail_if(r: &mut Reader<'_>, is_offence: bool)
     }
 }
 
-/// The end of statements where reading may nest at most once more. The answer is whether the last statement is a `break`
-/// that no label stands before.
+// The end of statements where reading may nest at most once more. The answer is whether the last statement is a `break`
+// that no label stands before.
 fn end_lines(r: &mut Reader<'_>, calls: usize, labelled: bool, leaves: bool) -> bool
     requires { calls < 2 }
     ensures { (around : grammar.Around) → reading.got (statements.block_of partial.no_rows result) (reader_of r.new)
@@ -146,7 +146,7 @@ fn end_lines(r: &mut Reader<'_>, calls: usize, labelled: bool, leaves: bool) -> 
     leaves
 }
 
-/// The statements of an arm, the last of which must be a `break`, without that.
+// The statements of an arm, the last of which must be a `break`, without that.
 fn end_arm(r: &mut Reader<'_>, block: Block) -> Vec<Row>
     ensures { reading.got (lines_of result.items) (reader_of r.new)
         ≡ statements.end_arm (reading.got (block_of block) (reader_of r.old)) }
@@ -163,7 +163,7 @@ fn end_arm(r: &mut Reader<'_>, block: Block) -> Vec<Row>
     lines
 }
 
-/// Reads a depth line, the words of which stand here and which may not stand behind a label.
+// Reads a depth line, the words of which stand here and which may not stand after a label.
 fn read_depth_line(r: &mut Reader<'_>, around: Around, labelled: bool) -> LineRead
     requires seen { is_some (reading.next_token (reader_of r.old)) ≡ true }
     ensures { (calls : ℕ) → behind_line result calls (around_of around) (reader_of r.new)
@@ -186,7 +186,7 @@ fn read_depth_line(r: &mut Reader<'_>, around: Around, labelled: bool) -> LineRe
     }
 }
 
-/// Reads a label, which stands here.
+// Reads a label, which stands here.
 fn read_label(r: &mut Reader<'_>, alloc: Global, around: Around) -> Result<LineRead, AllocError>
     requires begins { statements.begins_label (reader_of r.old) ≡ true }
     ensures { IfOk result (λ line. (calls : ℕ) → behind_line line calls (around_of around) (reader_of r.new)
@@ -211,7 +211,7 @@ fn read_label(r: &mut Reader<'_>, alloc: Global, around: Around) -> Result<LineR
     }
 }
 
-/// Reads a statement that holds no others.
+// Reads a statement that holds no others.
 fn read_short(
     r: &mut Reader<'_>,
     alloc: Global,
@@ -241,7 +241,7 @@ fn read_short(
     read_simple(r, alloc, calls)
 }
 
-/// Reads a statement that is no label.
+// Reads a statement that is no label.
 #[cycle(statement)]
 fn read_stmt(
     r: &mut Reader<'_>,
@@ -268,7 +268,7 @@ fn read_stmt(
     read_short(r, alloc, fewer, around)
 }
 
-/// Reads an `if`, the word of which stands here.
+// Reads an `if`, the word of which stands here.
 #[cycle(statement)]
 fn read_if(
     r: &mut Reader<'_>,
@@ -297,7 +297,7 @@ fn read_if(
     Ok(PartialStmt::If(test, done, body, Vec::new(alloc)))
 }
 
-/// Reads a loop, the word of which stands here.
+// Reads a loop, the word of which stands here.
 #[cycle(statement)]
 fn read_loop(
     r: &mut Reader<'_>,
@@ -332,7 +332,7 @@ fn read_loop(
     Ok(PartialStmt::Forever(body))
 }
 
-/// Reads a `switch`, the word of which stands here.
+// Reads a `switch`, the word of which stands here.
 #[cycle(statement)]
 fn read_switch(
     r: &mut Reader<'_>,
@@ -353,7 +353,7 @@ fn read_switch(
     Ok(PartialStmt::Switch(test, done, arms))
 }
 
-/// Reads a block, which must stand here.
+// Reads a block, which must stand here.
 #[cycle(statement)]
 fn read_block(
     r: &mut Reader<'_>,
@@ -408,7 +408,7 @@ pub(crate) fn read_lines(
     Ok(Block { lines, leaves })
 }
 
-/// Reads a label, a depth line or a statement, one of which begins here.
+// Reads a label, a depth line or a statement, one of which begins here.
 #[cycle(statement)]
 fn read_line(
     r: &mut Reader<'_>,
@@ -445,7 +445,7 @@ fn read_line(
     })
 }
 
-/// Reads the arms of a `switch`, of which there must be one.
+// Reads the arms of a `switch`, of which there must be one.
 #[cycle(statement)]
 fn read_arms(
     r: &mut Reader<'_>,
@@ -477,7 +477,7 @@ fn read_arms(
     Ok(arms)
 }
 
-/// Reads an arm of a `switch`.
+// Reads an arm of a `switch`.
 #[cycle(statement)]
 fn read_arm(
     r: &mut Reader<'_>,

@@ -21,16 +21,16 @@ use dcc_reader::reader::{enough_calls, reader_at};
 use dcc_reader::{NumberAt, PartialFunction, PartialText, PartialVariable, Reader};
 use std::alloc::{AllocError, Global};
 
-/// What was read of a text, and the reader behind it.
+/// What was read of a text, and the reader after it.
 #[derive(Drop)]
 pub struct Reading<'a> {
     /// What was read.
     pub text: PartialText,
-    /// The reader behind it.
+    /// The reader after it.
     pub behind: Reader<'a>,
 }
 
-/// Global variables, and the functions behind them.
+/// Global variables, and the functions after them.
 #[derive(Drop)]
 struct Declared {
     /// The variables.
@@ -39,7 +39,7 @@ struct Declared {
     functions: Vec<PartialFunction>,
 }
 
-/// Reads a global variable behind its name, at an address.
+// Reads a global variable after its name, at an address.
 fn read_global(
     r: &mut Reader<'_>,
     alloc: Global,
@@ -65,7 +65,7 @@ fn read_global(
     })
 }
 
-/// How many elements a variable with the size has.
+// How many elements a variable with the size has.
 fn elements(size: &Option<NumberAt>) -> u64
     ensures exact { result ≡ placement.elements (option_map (λ n. n.value) size.now) }
     ensures few { result < 4294967296 }
@@ -76,7 +76,7 @@ fn elements(size: &Option<NumberAt>) -> u64
     }
 }
 
-/// How many bytes a variable takes.
+// How many bytes a variable takes.
 fn size_in_bytes(v: &PartialVariable) -> u64
     ensures exact { result ≡ texts.size_in_bytes (variable_of v.now) }
     ensures few { result ≤ 17179869180 }
@@ -87,7 +87,7 @@ fn size_in_bytes(v: &PartialVariable) -> u64
     }
 }
 
-/// The address that the number of a place line gives.
+// The address that the number of a place line gives.
 fn address_of(number: Option<NumberAt>) -> u64
     ensures exact { result ≡ texts.address_of (option_map number_of number) }
     ensures few { result < 4294967296 }
@@ -98,7 +98,7 @@ fn address_of(number: Option<NumberAt>) -> u64
     }
 }
 
-/// Reads a place line, the words of which stand here. The answer is its address.
+// Reads a place line, the words of which stand here. The answer is its address.
 fn read_place_line(r: &mut Reader<'_>) -> u64
     requires seen { is_some (reading.next_token (reader_of r.old)) ≡ true }
     ensures exact { reading.got result (reader_of r.new) ≡ place_line (reader_of r.old) }
@@ -109,14 +109,14 @@ fn read_place_line(r: &mut Reader<'_>) -> u64
     address_of(take_number_of_line(r, line))
 }
 
-/// Whether what has begun is a global variable, where one may stand.
+// Whether what has begun is a global variable, where one may stand.
 fn is_global(r: &Reader<'_>, begun: &Begun) -> bool
     ensures { result ≡ is_global (reading.got (begun_of begun.now) (reader_of r.now)) }
 {
     begun.has_result && !r.sees_mark(Mark::OpenParenthesis)
 }
 
-/// The address of a global variable that has begun; None for a function.
+// The address of a global variable that has begun; None for a function.
 fn global_address(r: &Reader<'_>, address: Option<u64>, begun: &Begun) -> Option<u64>
     ensures { result ≡ global_address address (reading.got (begun_of begun.now) (reader_of r.now)) }
 {
@@ -126,7 +126,7 @@ fn global_address(r: &Reader<'_>, address: Option<u64>, begun: &Begun) -> Option
     None
 }
 
-/// Reads place lines and global variables up to the first function, and the functions behind them.
+// Reads place lines and global variables up to the first function, and the functions after them.
 fn read_declared(r: &mut Reader<'_>, alloc: Global, calls: usize) -> Result<Declared, AllocError>
     requires few { calls ≤ 1073741824 }
     ensures { IfOk result (λ d. reading.got (declared_of d) (reader_of r.new)
@@ -154,7 +154,7 @@ fn read_declared(r: &mut Reader<'_>, alloc: Global, calls: usize) -> Result<Decl
     Ok(Declared { globals, functions })
 }
 
-/// Reads a text behind its version line, where reading may nest so deep.
+// Reads a text after its version line, where reading may nest so deep.
 fn read_text(r: &mut Reader<'_>, alloc: Global, calls: usize) -> Result<PartialText, AllocError>
     requires few { calls ≤ 1073741824 }
     ensures { IfOk result (λ t. reading.got (text_of t) (reader_of r.new) ≡ texts.read_text calls (reader_of r.old)) }
@@ -172,7 +172,7 @@ fn read_text(r: &mut Reader<'_>, alloc: Global, calls: usize) -> Result<PartialT
     })
 }
 
-/// Reads the pieces of a text behind its version line, as far as they are allowed.
+/// Reads the pieces of a text after its version line, as far as they are allowed.
 ///
 /// # Errors
 /// Where memory runs out.

@@ -20,7 +20,7 @@ map_behind : (ps : List Piece) → map piece_of (drop 1 ps) ≡ drop 1 (map piec
 map_behind [] = refl
 map_behind (p ∷ ps) = refl
 
--- the pieces behind the next one
+-- the pieces after the next one
 pub behind_one : (n : ℕ) (ps : List Piece) → map piece_of (drop (n + 1) ps) ≡ drop 1 (map piece_of (drop n ps))
 behind_one n ps = rw add-one (ap (map piece_of) (drop_more n ps) ∙ map_behind (drop n ps))
 
@@ -30,13 +30,13 @@ at_next : (left : List pieces.Piece) (n : ℕ) (stop : Option kinds.Offence) (de
     before ≡ behind
 at_next left n stop depth = rw add-one refl
 
--- the reader behind the next piece
+-- the reader after the next piece
 pub behind_next : (r s : Reader) → s.pieces ≡ r.pieces → s.at ≡ r.at + 1 → s.stop ≡ r.stop → s.depth ≡ r.depth →
     reader_of s ≡ reading.skip (reader_of r)
 behind_next r s pieces at stop depth =
     simp (pieces, at, stop, depth) (simp behind_one (at_next (drop 1 (map piece_of (drop r.at r.pieces.now))) r.at _ r.depth))
 
--- the token behind the next one
+-- the token after the next one
 pub second_of : (r : reading.Reader) → is_some (reading.next_token r) ≡ true →
     reading.second_token r ≡ reading.first_token (drop 1 r.left)
 second_of r seen = second_at r.left r.at r.stop r.depth seen

@@ -48,7 +48,7 @@ named : (r : Reader) (name : Option Word) → is_some name ≡ true → (name_ta
 named r (Some word) e = refl
 named r None e = absurd (false≢true e)
 
--- behind a name that a mark stands behind
+-- after a name that a mark stands after
 pub mark-behind : (bytes : List ℕ) (r behind : Reader) (name : Option WordAt) →
     (is_some (name_of (next_token r)) && is_the_mark bytes (second_token r)) ≡ true → got name behind ≡ take_name r → is_some (next_token behind) ≡ true
 mark-behind bytes r behind name e is =

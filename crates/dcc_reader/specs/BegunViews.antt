@@ -14,6 +14,6 @@ begun_of begun = record {
   name = option_map word_of begun.name;
 }
 
--- the place behind an opening parenthesis, where that was read
+-- the place after an opening parenthesis, where that was read
 abbrev pub opened_at : Reader → Option ℕ
 opened_at r = if is_stopped r then None else Some r.at

@@ -28,7 +28,7 @@ pub fn read_size(r: &mut Reader<'_>) -> Option<NumberAt>
     size
 }
 
-/// Reads initial values, each behind a comma, and appends them to those before.
+// Reads initial values, each after a comma, and appends them to those before.
 fn more_values(
     r: &mut Reader<'_>,
     calls: usize,
@@ -50,7 +50,7 @@ fn more_values(
     Ok(())
 }
 
-/// Reads initial values in braces, the opening one of which stands here.
+// Reads initial values in braces, the opening one of which stands here.
 fn read_list(r: &mut Reader<'_>, alloc: Global, calls: usize) -> Result<Vec<NumberAt>, AllocError>
     requires seen { is_some (reading.next_token (reader_of r.old)) ≡ true }
     ensures { IfOk result (λ values.
@@ -65,7 +65,7 @@ fn read_list(r: &mut Reader<'_>, alloc: Global, calls: usize) -> Result<Vec<Numb
     Ok(values)
 }
 
-/// Reads initial values: some in braces, or one.
+// Reads initial values: some in braces, or one.
 fn read_values(r: &mut Reader<'_>, alloc: Global, calls: usize) -> Result<Vec<NumberAt>, AllocError>
     ensures { IfOk result (λ values.
         reading.got (map number_of values.items) (reader_of r.new) ≡ statements.read_values calls (reader_of r.old)) }
@@ -98,7 +98,7 @@ pub fn read_init(
     Ok(Vec::new(alloc))
 }
 
-/// Reads the word `auto`, where it stands here, for the class of a local variable.
+// Reads the word `auto`, where it stands here, for the class of a local variable.
 fn read_auto(r: &mut Reader<'_>) -> Class
     ensures { reading.got result (reader_of r.new) ≡ read_auto (reader_of r.old) }
 {
@@ -109,7 +109,7 @@ fn read_auto(r: &mut Reader<'_>) -> Class
     Class::Plain
 }
 
-/// The class of a local variable: an array is `auto`.
+// The class of a local variable: an array is `auto`.
 fn class_with(size: &Option<NumberAt>, class: Class) -> Class
     ensures { result ≡ statements.class_with (option_map number_of size.now) class }
 {
@@ -119,7 +119,7 @@ fn class_with(size: &Option<NumberAt>, class: Class) -> Class
     }
 }
 
-/// Reads a local variable.
+// Reads a local variable.
 fn read_local(r: &mut Reader<'_>, alloc: Global) -> Result<PartialVariable, AllocError>
     ensures { IfOk result (λ v. reading.got (variable_of v) (reader_of r.new) ≡ statements.read_local (reader_of r.old)) }
 {
@@ -165,14 +165,14 @@ pub fn read_locals(
     Ok(locals)
 }
 
-/// Whether a local variable begins here.
+// Whether a local variable begins here.
 fn begins_local(r: &Reader<'_>) -> bool
     ensures { result ≡ begins_local (reader_of r.now) }
 {
     r.sees_word("auto") || r.sees_type()
 }
 
-/// Reads the word for the class of a parameter, where there is one.
+// Reads the word for the class of a parameter, where there is one.
 fn read_class(r: &mut Reader<'_>) -> Class
     ensures { reading.got result (reader_of r.new) ≡ statements.read_class (reader_of r.old) }
 {
@@ -187,7 +187,7 @@ fn read_class(r: &mut Reader<'_>) -> Class
     Class::Plain
 }
 
-/// Reads a parameter.
+// Reads a parameter.
 fn read_param(r: &mut Reader<'_>, alloc: Global) -> Result<PartialVariable, AllocError>
     ensures { IfOk result (λ v. reading.got (variable_of v) (reader_of r.new) ≡ statements.read_param (reader_of r.old)) }
 {

@@ -57,7 +57,7 @@ pub fn read_begun(r: &mut Reader<'_>, alloc: Global) -> Result<Begun, AllocError
     })
 }
 
-/// The place behind an opening parenthesis, where that was read.
+// The place after an opening parenthesis, where that was read.
 fn opened(r: &Reader<'_>) -> Option<usize>
     ensures { result ≡ opened_at (reader_of r.now) }
 {
@@ -67,7 +67,7 @@ fn opened(r: &Reader<'_>) -> Option<usize>
     Some(r.at)
 }
 
-/// Reads the head of a function behind its name.
+/// Reads the head of a function after its name.
 ///
 /// # Errors
 /// Where memory runs out.

@@ -62,7 +62,7 @@ pub struct PartialCall {
     pub depth: u32,
 }
 
-/// A statement. The truth value says that it was read to its end, or of one with a test that the parenthesis behind the
+/// A statement. The truth value says that it was read to its end, or of one with a test that the parenthesis after the
 /// test was.
 #[derive(Drop)]
 #[cycle(statement)]
@@ -149,7 +149,7 @@ pub struct PartialFunction {
     pub result: Option<CType>,
     /// Its name.
     pub name: Option<WordAt>,
-    /// The place behind the opening parenthesis of its head, where that was read.
+    /// The place after the opening parenthesis of its head, where that was read.
     pub opened: Option<usize>,
     /// Whether `void` stands at that place.
     pub without_params: bool,
@@ -165,7 +165,7 @@ pub struct PartialFunction {
     pub last: u32,
 }
 
-/// A text behind its version line.
+/// A text after its version line.
 #[derive(Drop)]
 pub struct PartialText {
     /// The first number of the stack line.

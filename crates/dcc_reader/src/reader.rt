@@ -1,4 +1,4 @@
-//! A reader of pieces: it takes pieces as long as they are allowed, and sees none behind the first that is not.
+//! A reader of pieces: it takes pieces as long as they are allowed, and sees none after the first that is not.
 
 ghost use Rattle.std.specs.Prelude.{◌≡◌, ◌≤◌, ◌&&◌, IfOk, true, is_some, Some, None, map, drop, length};
 ghost use Rattle.std.specs.Option.{option_map};
@@ -49,14 +49,14 @@ impl<'a> Reader<'a> {
         self.token_at(self.at)
     }
 
-    /// The token of the piece at a place.
+    // The token of the piece at a place.
     fn token_at(&self, at: usize) -> Option<&'a Token>
         ensures { option_map (λ t. token_of t.now) result ≡ reading.first_token (map piece_of (drop at self.now.pieces.now)) }
     {
         self.pieces.get(at)?.token.as_ref()
     }
 
-    /// The token behind the next piece, where there is a next token.
+    /// The token after the next piece, where there is a next token.
     pub fn second(&self) -> Option<&'a Token>
         requires seen { is_some (reading.next_token (reader_of self.now)) ≡ true }
         ensures { option_map (λ t. token_of t.now) result ≡ reading.second_token (reader_of self.now) }
@@ -102,7 +102,7 @@ impl<'a> Reader<'a> {
         name_of(self.next())
     }
 
-    /// Whether the next token is a name, and the one behind it the mark.
+    /// Whether the next token is a name, and the one after it the mark.
     pub fn sees_name_and(&self, mark: Mark) -> bool
         ensures { result ≡ is_some (reading.name_of (reading.next_token (reader_of self.now)))
             && reading.is_the_mark (mark_of mark) (reading.second_token (reader_of self.now)) }
@@ -117,7 +117,7 @@ impl<'a> Reader<'a> {
         begins_type(self.next())
     }
 
-    /// Goes behind the next piece.
+    /// Goes past the next piece.
     pub fn skip(&mut self)
         requires seen { is_some (reading.next_token (reader_of self.now)) ≡ true }
         ensures { reader_of self.new ≡ reading.skip (reader_of self.old) }
@@ -134,7 +134,7 @@ impl<'a> Reader<'a> {
         }
     }
 
-    /// The kind of the next piece, which is not allowed, or of the end.
+    // The kind of the next piece, which is not allowed, or of the end.
     fn stop_kind(&self) -> ParseKind
         ensures { kind_of result ≡ reading.stop_kind (reader_of self.now).left }
     {
@@ -237,7 +237,7 @@ impl<'a> Reader<'a> {
         Some(self.with_star(base))
     }
 
-    /// A pointer to the base where a star stands here, else the base.
+    // A pointer to the base where a star stands here, else the base.
     fn with_star(&mut self, base: Base) -> CType
         ensures { reading.got (Some result) (reader_of self.new) ≡ reading.with_star base (reader_of self.old) }
     {
@@ -248,7 +248,7 @@ impl<'a> Reader<'a> {
         CType { base, pointer }
     }
 
-    /// Takes a number type, which must stand here.
+    // Takes a number type, which must stand here.
     fn take_base(&mut self) -> Option<Base>
         ensures { reading.got result (reader_of self.new) ≡ reading.take_base (reader_of self.old) }
     {
@@ -268,7 +268,7 @@ impl<'a> Reader<'a> {
         }
     }
 
-    /// The base behind `signed`.
+    // The base after `signed`.
     fn signed_base(&mut self) -> Option<Base>
         ensures { reading.got result (reader_of self.new) ≡ reading.signed_base (reader_of self.old) }
     {
@@ -280,7 +280,7 @@ impl<'a> Reader<'a> {
         }
     }
 
-    /// The base behind `unsigned`.
+    // The base after `unsigned`.
     fn unsigned_base(&mut self) -> Option<Base>
         ensures { reading.got result (reader_of self.new) ≡ reading.unsigned_base (reader_of self.old) }
     {
@@ -296,7 +296,7 @@ impl<'a> Reader<'a> {
         }
     }
 
-    /// The base, behind its last word.
+    // The base, after its last word.
     fn base_behind(&mut self, base: Base) -> Option<Base>
         requires seen { is_some (reading.next_token (reader_of self.now)) ≡ true }
         ensures { reading.got result (reader_of self.new) ≡ reading.base_behind base (reader_of self.old) }

@@ -17,21 +17,21 @@ pub fn same_text(left: &str, right: &str) -> bool
     left == right
 }
 
-/// Whether two marks are the same.
+// Whether two marks are the same.
 fn same_mark(left: Mark, right: Mark) -> bool
     ensures { result ≡ tokens.same_bytes (mark_of left) (mark_of right) }
 {
     left == right
 }
 
-/// Whether the words of two pragmas are the same.
+// Whether the words of two pragmas are the same.
 fn same_head(left: Head, right: Head) -> bool
     ensures { result ≡ statements.is_the_head (head_of right) (Some (tokens.Pragma (head_of left))) }
 {
     left == right
 }
 
-/// Whether the word is a keyword of ISO C90.
+// Whether the word is a keyword of ISO C90.
 fn is_keyword(word: &str) -> bool
     ensures { result ≡ grammar.is_among grammar.keywords word.now }
 {
@@ -41,7 +41,7 @@ fn is_keyword(word: &str) -> bool
         || is_keyword_to_while(word)
 }
 
-/// Whether the word is one of the keywords from `auto` to `do`.
+// Whether the word is one of the keywords from `auto` to `do`.
 fn is_keyword_to_do(word: &str) -> bool
     ensures { result ≡ grammar.is_among (take 8 grammar.keywords) word.now }
 {
@@ -55,7 +55,7 @@ fn is_keyword_to_do(word: &str) -> bool
         || same_text(word, "do")
 }
 
-/// Whether the word is one of the keywords from `double` to `if`.
+// Whether the word is one of the keywords from `double` to `if`.
 fn is_keyword_to_if(word: &str) -> bool
     ensures { result ≡ grammar.is_among (take 8 (drop 8 grammar.keywords)) word.now }
 {
@@ -69,7 +69,7 @@ fn is_keyword_to_if(word: &str) -> bool
         || same_text(word, "if")
 }
 
-/// Whether the word is one of the keywords from `int` to `static`.
+// Whether the word is one of the keywords from `int` to `static`.
 fn is_keyword_to_static(word: &str) -> bool
     ensures { result ≡ grammar.is_among (take 8 (drop 16 grammar.keywords)) word.now }
 {
@@ -83,7 +83,7 @@ fn is_keyword_to_static(word: &str) -> bool
         || same_text(word, "static")
 }
 
-/// Whether the word is one of the keywords from `struct` to `while`.
+// Whether the word is one of the keywords from `struct` to `while`.
 fn is_keyword_to_while(word: &str) -> bool
     ensures { result ≡ grammar.is_among (drop 24 grammar.keywords) word.now }
 {
@@ -97,7 +97,7 @@ fn is_keyword_to_while(word: &str) -> bool
         || same_text(word, "while")
 }
 
-/// Whether the word is a name: it is no keyword.
+// Whether the word is a name: it is no keyword.
 fn is_name(word: &str) -> bool
     ensures { result ≡ grammar.is_name word.now }
 {
@@ -144,7 +144,7 @@ pub fn name_of(token: Option<&Token>) -> Option<&str>
     }
 }
 
-/// The word, if it is a name.
+// The word, if it is a name.
 fn name_if(word: &str) -> Option<&str>
     ensures { option_map (λ word. word.now) result ≡ reading.name_if word.now }
 {

@@ -7,9 +7,9 @@ use Rattle.std.proofs.lemmas.Bool.{and_parts, and_from, eqb-true, le-leb}
 use Rattle.std.proofs.lemmas.List.{append-nil}
 use Rattle.dcc_c.specs.Token.{Token, WordToken, Decimal, Hex, Mark, Pragma, plain_number, unsigned_suffix, long_suffix, unsigned_long_suffix, Head, version_line, stack_line, place_line, depth_line, head_bytes, is_mark, is_word_byte, Spells, ends_before}
 use Rattle.dcc_c.specs.Lexing.{Placed, placed, is_blank, are_pragma_numbers, Lexes, ends, blank, feed, token, pragma}
-use Rattle.dcc_c.specs.Pieces.{Piece, piece, behind_while, behind, stray, token_of_word, is_line_end, is_word_end, pragma_words, FoundHead, head_if, head_in, head_of, Spot, line_start, in_line, in_pragma, in_blanks, is_of_pragma, Cut, cut, allowed_at, first_mark, cut_head, cut_mark, cut_blank, is_plain, has_number, first_cut, pieces_from}
+use Rattle.dcc_c.specs.Pieces.{Piece, piece, after_while, after, stray, token_of_word, is_line_end, is_word_end, pragma_words, FoundHead, head_if, head_in, head_of, Spot, line_start, in_line, in_pragma, in_blanks, is_of_pragma, Cut, cut, allowed_at, first_mark, cut_head, cut_mark, cut_blank, is_plain, has_number, first_cut, pieces_from}
 use Rattle.dcc_c.proofs.reading.Passing.{if-cases, option-cases, pieces_with}
-use Rattle.dcc_lex.proofs.laws.Runs.{run_of, behind_shorter, drop_shorter, behind-is}
+use Rattle.dcc_lex.proofs.laws.Runs.{run_of, after_shorter, drop_shorter, after-is}
 use Rattle.dcc_lex.proofs.laws.Words.{word_ends_before, word_spelled}
 use Rattle.dcc_lex.proofs.laws.Marks.{first_mark_is, first_mark_shorter}
 use Rattle.dcc_lex.proofs.laws.Pieces.{is_no_version, no_version, first_of_tokens, no_stray, no_none, not_of_pragma, allowed_free}
@@ -25,16 +25,16 @@ pub record InPragma (line : ℕ) (bytes : List ℕ) (tokens : List Placed) : Typ
   pub tokens_are : tokens ≡ map (placed line) (map (λ n. Decimal n plain_number) numbers) ++ later
   pub lexed : Lexes false line rest later
 
--- What bytes at a spot are, if their pieces are these tokens. Behind a blank in the line of a pragma they are none.
+-- What bytes at a spot are, if their pieces are these tokens. After a blank in the line of a pragma they are none.
 abbrev pub IsAt : Spot → ℕ → List ℕ → List Placed → Type 0
 IsAt line_start line bytes tokens = Lexes true line bytes tokens
 IsAt in_line line bytes tokens = Lexes false line bytes tokens
 IsAt in_pragma line bytes tokens = InPragma line bytes tokens
 IsAt in_blanks line bytes tokens = ⊥
 
--- behind a blank in the line of a pragma something stands
+-- after a blank in the line of a pragma something stands
 abbrev pub has_more : Spot → List ℕ → Bool
-has_more in_blanks bytes = not (is_line_end (behind_while is_blank bytes))
+has_more in_blanks bytes = not (is_line_end (after_while is_blank bytes))
 has_more spot bytes = true
 
 free_at : (spot : Spot) {line : ℕ} {bytes : List ℕ} {tokens : List Placed} → is_of_pragma spot ≡ false → ((fresh : Bool) → Lexes fresh line bytes tokens) → IsAt spot line bytes tokens
@@ -43,7 +43,7 @@ free_at in_line free lexes = lexes false
 free_at in_pragma free lexes = absurd cc
 free_at in_blanks free lexes = absurd cc
 
--- The bytes behind the cut are not more than those behind the first byte. And where they are tokens at their spot, so
+-- The bytes after the cut are not more than those after the first byte. And where they are tokens at their spot, so
 -- are all bytes.
 record IsGoodCut (spot : Spot) (line b : ℕ) (bytes : List ℕ) (c : Cut) : Type 0 where
   shorter : length c.rest ≤ length bytes
@@ -95,18 +95,19 @@ number_before line n run rest later (spelled, small) others = record {
 
 module _ (line : ℕ) (bytes : List ℕ) where
   number_cut : (spot : Spot) (b : ℕ) → has_number spot b bytes ≡ true →
-      IsGoodCut spot line b bytes (cut (piece line (token_of_word (take_while is_word_byte bytes)) ∷ []) in_pragma line (behind_while is_word_byte bytes))
+      IsGoodCut spot line b bytes (cut (piece line (token_of_word (take_while is_word_byte bytes)) ∷ []) in_pragma line (after_while is_word_byte bytes))
   number_cut line_start b has = absurd cc
   number_cut in_line b has = absurd cc
   number_cut in_blanks b has = absurd cc
   number_cut in_pragma b has =
       let run = take_while is_word_byte bytes in
-      let rest = behind_while is_word_byte bytes in
+      let rest = after_while is_word_byte bytes in
       let (space, plain) = and_parts (b == 32) (is_plain (token_of_word run)) has in
       let (n, read) = plain_is (token_of_word run) plain in
       record {
         shorter = drop_shorter (length run) bytes;
-        joins = λ others tokens goes same good more. number_joins n b run rest others tokens (eqb-true b 32 space) read (run_of is_word_byte bytes).same goes (ap (λ o. piece line o ∷ others) (sym read) ∙ same) good;
+        joins = λ others tokens goes same good more. number_joins n b run rest others tokens (eqb-true b 32 space) read
+            (run_of is_word_byte bytes).same goes (ap (λ o. piece line o ∷ others) (sym read) ∙ same) good;
       }
     where
       number_joins : (n b : ℕ) (run rest : List ℕ) (others : List Piece) (tokens : List Placed) → b ≡ 32 → token_of_word run ≡ Some (Decimal n plain_number) → bytes ≡ run ++ rest →
@@ -116,7 +117,7 @@ module _ (line : ℕ) (bytes : List ℕ) where
           let first = first_of_tokens line (Some (Decimal n plain_number)) others tokens same good in
           let is : Decimal n plain_number ≡ first.token = token_same _ _ first.is in
           let spells = (word_spelled run (Decimal n plain_number) read).spells in
-          let here = number_before line n run rest first.later spells (goes first.later first.behind first.others_allowed refl) in
+          let here = number_before line n run rest first.later spells (goes first.later first.after first.others_allowed refl) in
           let tokens_are : placed line (Decimal n plain_number) ∷ first.later ≡ tokens = ap (λ t. placed line t ∷ first.later) is ∙ sym first.same in
           let bytes_are : 32 ∷ (run ++ rest) ≡ b ∷ bytes = ap (λ x. 32 ∷ x) (sym split) ∙ ap (λ x. x ∷ bytes) (sym space) in
           subst (λ x. InPragma line x tokens) bytes_are (subst (λ ts. InPragma line (32 ∷ (run ++ rest)) ts) tokens_are here)
@@ -128,7 +129,7 @@ module _ (line : ℕ) (bytes : List ℕ) where
 
 blank_cut : (spot : Spot) (line b : ℕ) (bytes : List ℕ) → is_blank b ≡ true → IsGoodCut spot line b bytes (cut_blank spot line bytes)
 blank_cut spot line b bytes is =
-    let rest = behind_while is_blank bytes in
+    let rest = after_while is_blank bytes in
     if-cases (IsGoodCut spot line b bytes) (not (is_of_pragma spot))
     (λ free. record { shorter = omega arith; joins = λ others tokens goes same good more. blank_at spot tokens free (goes tokens same good refl) })
     (λ _. if-cases (IsGoodCut spot line b bytes) (is_line_end rest)
@@ -157,25 +158,29 @@ module _ (spot : Spot) (line b : ℕ) (bytes : List ℕ) where
           let first = first_of_tokens line (allowed_at spot o) others tokens same good in
           let is : o ≡ Some first.token = sym (allowed_free spot o free) ∙ first.is in
           let (spelled, ended) = spells first.token is in
-          let later = goes first.later first.behind first.others_allowed refl in
+          let later = goes first.later first.after first.others_allowed refl in
           free_at spot free (λ fresh. subst (Lexes fresh line (b ∷ bytes)) (sym first.same) (token first.token spelling rest spelled ended split later))
 
-  word_cut : is_word_byte b ≡ true → IsGoodCut spot line b bytes (cut (piece line (allowed_at spot (token_of_word (take_while is_word_byte (b ∷ bytes)))) ∷ []) in_line line (behind_while is_word_byte (b ∷ bytes)))
+  word_cut : is_word_byte b ≡ true →
+      IsGoodCut spot line b bytes (cut (piece line (allowed_at spot (token_of_word (take_while is_word_byte (b ∷ bytes)))) ∷ []) in_line line
+      (after_while is_word_byte (b ∷ bytes)))
   word_cut is =
       let run = take_while is_word_byte (b ∷ bytes) in
-      let rest = behind_while is_word_byte (b ∷ bytes) in
+      let rest = after_while is_word_byte (b ∷ bytes) in
       let split = run_of is_word_byte (b ∷ bytes) in
-      token_cut (token_of_word run) run rest (λ read found. let word = word_spelled run read found in (word.spells, word_ends_before read rest word.kind ∙ split.ended)) split.same (behind_shorter is_word_byte b bytes is)
+      token_cut (token_of_word run) run rest
+      (λ read found. let word = word_spelled run read found in (word.spells, word_ends_before read rest word.kind ∙ split.ended)) split.same
+      (after_shorter is_word_byte b bytes is)
 
 -- The words of a pragma.
 
 module _ (bytes : List ℕ) (found : FoundHead) where
-  head_if_found : (head : Head) (o : Option (List ℕ)) (otherwise : Option FoundHead) → behind (pragma_words head) bytes ≡ o →
+  head_if_found : (head : Head) (o : Option (List ℕ)) (otherwise : Option FoundHead) → after (pragma_words head) bytes ≡ o →
       (otherwise ≡ Some found → bytes ≡ pragma_words found.head ++ found.rest) → head_if head o otherwise ≡ Some found → bytes ≡ pragma_words found.head ++ found.rest
   head_if_found head None otherwise begins later = later
   head_if_found head (Some rest) otherwise begins later =
       if-cases (λ o. o ≡ Some found → bytes ≡ pragma_words found.head ++ found.rest) (is_word_end rest)
-      (λ _ is. let same : record { head = head; rest = rest } ≡ found = found_same _ _ is in behind-is (pragma_words head) bytes rest begins ∙ ap (λ f. pragma_words f.head ++ f.rest) same)
+      (λ _ is. let same : record { head = head; rest = rest } ≡ found = found_same _ _ is in after-is (pragma_words head) bytes rest begins ∙ ap (λ f. pragma_words f.head ++ f.rest) same)
       (λ _. later)
     where
       found_same : (s t : FoundHead) → Some s ≡ Some t → s ≡ t
@@ -184,7 +189,7 @@ module _ (bytes : List ℕ) (found : FoundHead) where
   head_in_found : (heads : List Head) → head_in heads bytes ≡ Some found → bytes ≡ pragma_words found.head ++ found.rest
   head_in_found [] is = absurd cc
   head_in_found (head ∷ heads) is =
-      head_if_found head (behind (pragma_words head) bytes) (head_in heads bytes) refl (head_in_found heads) is
+      head_if_found head (after (pragma_words head) bytes) (head_in heads bytes) refl (head_in_found heads) is
 
 head_shorter : (head : Head) (b : ℕ) (bytes rest : List ℕ) → b ∷ bytes ≡ pragma_words head ++ rest → length rest ≤ length bytes
 head_shorter version_line b bytes rest same = omega (arith, ap length same)
@@ -192,7 +197,7 @@ head_shorter stack_line b bytes rest same = omega (arith, ap length same)
 head_shorter place_line b bytes rest same = omega (arith, ap length same)
 head_shorter depth_line b bytes rest same = omega (arith, ap length same)
 
--- a pragma behind the version line has only its words before its numbers
+-- a pragma after the version line has only its words before its numbers
 record IsNumbered (head : Head) : Type 0 where
   words : pragma_words head ≡ head_bytes head
   numbers : (ns : List ℕ) → list_all (λ n. nat_le n 4294967295) ns ≡ true → are_pragma_numbers head ns ≡ true
@@ -209,13 +214,13 @@ line_ends head (b ∷ rest) ended = ended
 
 pragma_lexes : (head : Head) {line : ℕ} {bytes rest : List ℕ} {tokens later : List Placed} → is_no_version (Pragma head) ≡ true → bytes ≡ pragma_words head ++ rest →
     InPragma line rest later → tokens ≡ placed line (Pragma head) ∷ later → Lexes true line bytes tokens
-pragma_lexes head {line} {bytes} {rest} good same behind_head tokens_are =
+pragma_lexes head {line} {bytes} {rest} good same after_head tokens_are =
     let form = numbered head good in
-    let numbers = behind_head.numbers in
+    let numbers = after_head.numbers in
     let spelled = flat_map (λ n. 32 ∷ decimal n) numbers in
-    pragma head numbers behind_head.rest (form.numbers numbers behind_head.small) (line_ends head behind_head.rest behind_head.ended)
-    (same ∙ ap (λ x. x ++ rest) form.words ∙ ap (λ x. head_bytes head ++ x) behind_head.same ∙ sym (append_assoc (head_bytes head) spelled behind_head.rest))
-    behind_head.lexed (tokens_are ∙ ap (λ ts. placed line (Pragma head) ∷ ts) behind_head.tokens_are)
+    pragma head numbers after_head.rest (form.numbers numbers after_head.small) (line_ends head after_head.rest after_head.ended)
+    (same ∙ ap (λ x. x ++ rest) form.words ∙ ap (λ x. head_bytes head ++ x) after_head.same ∙ sym (append_assoc (head_bytes head) spelled after_head.rest))
+    after_head.lexed (tokens_are ∙ ap (λ ts. placed line (Pragma head) ∷ ts) after_head.tokens_are)
 
 module _ (line b : ℕ) (bytes : List ℕ) (found : FoundHead) (same_bytes : b ∷ bytes ≡ pragma_words found.head ++ found.rest) where
   head_joins : (others : List Piece) (tokens : List Placed) →
@@ -224,7 +229,7 @@ module _ (line b : ℕ) (bytes : List ℕ) (found : FoundHead) (same_bytes : b �
   head_joins others tokens goes same good =
       let first = first_of_tokens line (Some (Pragma found.head)) others tokens same good in
       let is : Pragma found.head ≡ first.token = token_same _ _ first.is in
-      pragma_lexes found.head (ap is_no_version is ∙ first.allowed) same_bytes (goes first.later first.behind first.others_allowed refl)
+      pragma_lexes found.head (ap is_no_version is ∙ first.allowed) same_bytes (goes first.later first.after first.others_allowed refl)
       (first.same ∙ ap (λ t. placed line t ∷ first.later) (sym is))
     where
       token_same : (s t : Token) → Some s ≡ Some t → s ≡ t
@@ -291,4 +296,4 @@ cuts_lex (suc more) spot line (b ∷ bytes) tokens enough some same good =
     let first = first_cut spot line b bytes in
     let is = first_good spot line b bytes in
     let fits : length first.rest ≤ more = omega (arith, is.shorter, enough) in
-    is.joins (pieces_from more first.spot first.line first.rest) tokens (λ later behind allowed still. cuts_lex more first.spot first.line first.rest later fits still behind allowed) same good some
+    is.joins (pieces_from more first.spot first.line first.rest) tokens (λ later after allowed still. cuts_lex more first.spot first.line first.rest later fits still after allowed) same good some

@@ -17,7 +17,7 @@ pieces-enough (suc more) (suc other) spot line (b ∷ bytes) enough enough_too =
     let fits = cut_shorter spot line b bytes in
     ap (λ pieces. first.pieces ++ pieces) (pieces-enough more other first.spot first.line first.rest (omega (arith, fits, enough)) (omega (arith, fits, enough_too)))
 
--- the pieces of bytes are those of their first cut and those behind it
+-- the pieces of bytes are those of their first cut and those after it
 pub pieces-first : (spot : Spot) (line b : ℕ) (bytes : List ℕ) →
     let first = first_cut spot line b bytes in
     pieces_from (length (b ∷ bytes)) spot line (b ∷ bytes) ≡ first.pieces ++ pieces_from (length first.rest) first.spot first.line first.rest

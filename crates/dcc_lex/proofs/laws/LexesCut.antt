@@ -4,9 +4,9 @@ use Rattle.std.specs.List.{take_while, list_all}
 use Rattle.std.proofs.lemmas.Bool.{and_parts, or_cases, cond-true, cond-false, eqb-true, ne_eqb}
 use Rattle.dcc_c.specs.Token.{Token, WordToken, Decimal, Hex, Mark, Pragma, is_mark, is_word_byte, Spells, ends_before}
 use Rattle.dcc_c.specs.Lexing.{is_blank}
-use Rattle.dcc_c.specs.Pieces.{Piece, piece, behind_while, token_of_word, Spot, line_start, in_line, is_of_pragma, Cut, cut, allowed_at, first_mark, cut_mark, cut_token, has_number, first_cut, pieces_from}
+use Rattle.dcc_c.specs.Pieces.{Piece, piece, after_while, token_of_word, Spot, line_start, in_line, is_of_pragma, Cut, cut, allowed_at, first_mark, cut_mark, cut_token, has_number, first_cut, pieces_from}
 use Rattle.dcc_c.proofs.WrittenRows.{other_byte}
-use Rattle.dcc_lex.proofs.laws.Runs.{ends_run, no_more_of, run_is, behind_run, drop_first}
+use Rattle.dcc_lex.proofs.laws.Runs.{ends_run, no_more_of, run_is, after_run, drop_first}
 use Rattle.dcc_lex.proofs.laws.Words.{is_used, word_ends_before, IsFound}
 use Rattle.dcc_lex.proofs.laws.Numbers.{spelling_found}
 use Rattle.dcc_lex.proofs.laws.Marks.{mark_begins, mark_first}
@@ -16,7 +16,7 @@ abbrev pub spot_of : Bool → Spot
 spot_of true = line_start
 spot_of false = in_line
 
--- the pieces behind a first cut
+-- the pieces after a first cut
 abbrev pub with_cut : ℕ → Cut → List Piece
 with_cut more c = c.pieces ++ pieces_from more c.spot c.line c.rest
 
@@ -64,8 +64,8 @@ module _ (fresh : Bool) (line : ℕ) (b : ℕ) (others rest : List ℕ) (read : 
       allowed_first fresh _ ∙ ap token_of_word (run_is is_word_byte (b ∷ others) rest found.all ended) ∙ found.found
       in
       token_first fresh line b (others ++ rest) (other_byte 10 b refl here) (word_no_blank b here) ∙ cond-true _ _ _ here
-      ∙ ap (λ o. cut (piece line o ∷ []) in_line line (behind_while is_word_byte (b ∷ (others ++ rest)))) read_is
-      ∙ ap (λ r. cut (piece line (Some read) ∷ []) in_line line r) (behind_run is_word_byte (b ∷ others) rest found.all ended)
+      ∙ ap (λ o. cut (piece line o ∷ []) in_line line (after_while is_word_byte (b ∷ (others ++ rest)))) read_is
+      ∙ ap (λ r. cut (piece line (Some read) ∷ []) in_line line r) (after_run is_word_byte (b ∷ others) rest found.all ended)
 
 -- A mark.
 

@@ -34,7 +34,7 @@ mark_begins b [] is = mark_short (b ∷ []) is
 mark_begins b (c ∷ []) is = mark_short (b ∷ c ∷ []) is
 mark_begins b (c ∷ d ∷ others) is = absurd (both_ways (is_mark (b ∷ c ∷ d ∷ others)) (no_mark_of_three b c d others) is)
 
--- a mark behind which no byte makes it longer is the first one
+-- a mark after which no byte makes it longer is the first one
 pub mark_first : (b : ℕ) (others rest : List ℕ) → is_mark (b ∷ others) ≡ true → ends_before (Mark (b ∷ others)) rest ≡ true → first_mark b (others ++ rest) ≡ b ∷ others
 mark_first b [] [] is ended = refl
 mark_first b [] (c ∷ rest) is ended = cond-false _ _ _ (no_more_of (λ x. is_mark (b ∷ x ∷ [])) c ended)

@@ -7,10 +7,10 @@ use Rattle.std.proofs.lemmas.Bool.{and_parts, and_from, or_left, or_right, cond-
 use Rattle.std.proofs.lemmas.List.Folds.{list_all-append}
 use Rattle.std.proofs.lemmas.Fmt.{decimal_by_steps}
 use Rattle.dcc_c.specs.Token.{Token, WordToken, Decimal, Hex, Mark, Pragma, Suffix, plain_number, unsigned_suffix, long_suffix, unsigned_long_suffix, suffix_bytes, is_between, is_digit, is_letter, is_word_byte, hex_from, same_bytes, are_hex_digits, Spells}
-use Rattle.dcc_c.specs.Pieces.{behind_while, behind, suffix_of, decimal_from, decimal_of, is_hex_digit, hex_of}
+use Rattle.dcc_c.specs.Pieces.{after_while, after, suffix_of, decimal_from, decimal_of, is_hex_digit, hex_of}
 use Rattle.dcc_c.proofs.reading.Passing.{if-cases}
 use Rattle.dcc_c.proofs.WrittenRows.{begins_with_digit, decimal_begins}
-use Rattle.dcc_lex.proofs.laws.Runs.{ends_run, run_is, behind_run}
+use Rattle.dcc_lex.proofs.laws.Runs.{ends_run, run_is, after_run}
 use Rattle.dcc_lex.proofs.laws.Words.{is_of_word, is_used, same_bytes-refl, IsFound, word_found}
 
 suffix_found : (suffix : Suffix) → suffix_of (suffix_bytes suffix) ≡ Some suffix
@@ -66,7 +66,7 @@ suffix_no_digit long_suffix = refl
 suffix_no_digit unsigned_long_suffix = refl
 
 -- decimal digits do not go on with `x`
-no_x : (digits : List ℕ) (suffix : Suffix) → list_all is_digit digits ≡ true → behind (codes "x") (digits ++ suffix_bytes suffix) ≡ None
+no_x : (digits : List ℕ) (suffix : Suffix) → list_all is_digit digits ≡ true → after (codes "x") (digits ++ suffix_bytes suffix) ≡ None
 no_x [] plain_number all = refl
 no_x [] unsigned_suffix all = refl
 no_x [] long_suffix all = refl
@@ -76,12 +76,12 @@ no_x (d ∷ digits) suffix all =
     let small : d ≤ 57 = leb-true d 57 (and_parts (nat_le 48 d) (nat_le d 57) here).1 in
     cond-false _ _ _ (ne_eqb 120 d (λ same. omega (arith, same)))
 
-not_hex : (digits : List ℕ) (suffix : Suffix) → list_all is_digit digits ≡ true → begins_with_digit digits ≡ true → behind (codes "0x") (digits ++ suffix_bytes suffix) ≡ None
+not_hex : (digits : List ℕ) (suffix : Suffix) → list_all is_digit digits ≡ true → begins_with_digit digits ≡ true → after (codes "0x") (digits ++ suffix_bytes suffix) ≡ None
 not_hex [] suffix all begins = absurd cc
 not_hex (d ∷ digits) suffix all begins =
     if-cases (λ o. o ≡ None) (48 == d) (λ _. no_x digits suffix (and_parts (is_digit d) (list_all is_digit digits) all).1) (λ _. refl)
 
--- the number of these digits, with what stands behind them
+-- the number of these digits, with what stands after them
 abbrev decimal_with : List ℕ → ℕ → List ℕ → Option Token
 decimal_with digits n rest =
     if same_bytes digits (decimal n) && nat_le n 4294967295 then option_map (λ suffix. Decimal n suffix) (suffix_of rest) else None
@@ -91,8 +91,8 @@ decimal_read : (digits : List ℕ) (n : ℕ) (suffix : Suffix) → digits ≡ de
 decimal_read digits n suffix numeral small are =
     let rest = suffix_bytes suffix in
     let ended = suffix_no_digit suffix in
-    ap (λ x. decimal_with x (decimal_from 0 x) (behind_while is_digit (digits ++ rest))) (run_is is_digit digits rest are.all ended)
-    ∙ ap (λ x. decimal_with digits (decimal_from 0 digits) x) (behind_run is_digit digits rest are.all ended)
+    ap (λ x. decimal_with x (decimal_from 0 x) (after_while is_digit (digits ++ rest))) (run_is is_digit digits rest are.all ended)
+    ∙ ap (λ x. decimal_with digits (decimal_from 0 digits) x) (after_run is_digit digits rest are.all ended)
     ∙ ap (λ m. decimal_with digits m rest) are.value
     ∙ cond-true _ _ _ (and_from _ _ (subst (λ x. same_bytes digits x ≡ true) numeral (same_bytes-refl digits)) (le-leb n 4294967295 small))
     ∙ ap (option_map (λ other. Decimal n other)) (suffix_found suffix)
@@ -104,7 +104,9 @@ decimal_found (d ∷ digits) n suffix numeral small are begins =
     let run = d ∷ (digits ++ suffix_bytes suffix) in
     record {
       all = list_all-append is_word_byte (d ∷ digits) (suffix_bytes suffix) ∙ and_from _ _ (digits_word (d ∷ digits) are.all) (suffix_word suffix);
-      found = cond-true _ _ _ begins ∙ ap (λ o. elim o as (λ _. Option Token) [ Some others ↦ hex_of others | None ↦ decimal_of run ]) (not_hex (d ∷ digits) suffix are.all begins) ∙ decimal_read (d ∷ digits) n suffix numeral small are;
+      found = cond-true _ _ _ begins
+          ∙ ap (λ o. elim o as (λ _. Option Token) [ Some others ↦ hex_of others | None ↦ decimal_of run ])
+          (not_hex (d ∷ digits) suffix are.all begins) ∙ decimal_read (d ∷ digits) n suffix numeral small are;
     }
 
 -- Hexadecimal digits.
@@ -147,8 +149,8 @@ hex_read digits suffix good =
     let (all, sized) = and_parts (list_all is_hex_digit digits) (nat_le 1 (length digits) && nat_le (length digits) 8) good in
     let rest = suffix_bytes suffix in
     let ended = suffix_no_hex suffix in
-    ap (λ x. hex_with x (behind_while is_hex_digit (digits ++ rest))) (run_is is_hex_digit digits rest all ended)
-    ∙ ap (λ x. hex_with digits x) (behind_run is_hex_digit digits rest all ended)
+    ap (λ x. hex_with x (after_while is_hex_digit (digits ++ rest))) (run_is is_hex_digit digits rest all ended)
+    ∙ ap (λ x. hex_with digits x) (after_run is_hex_digit digits rest all ended)
     ∙ cond-true _ _ _ sized
     ∙ ap (option_map (λ other. Hex (hex_from 0 digits) other)) (suffix_found suffix)
 

@@ -17,12 +17,12 @@ abbrev pub no_version : List Placed → Bool
 no_version [] = true
 no_version (t ∷ tokens) = is_no_version t.token && no_version tokens
 
--- The pieces of these tokens begin with a piece: the first token and those behind it.
+-- The pieces of these tokens begin with a piece: the first token and those after it.
 pub record IsFirstToken (line : ℕ) (o : Option Token) (others : List Piece) (tokens : List Placed) : Type 0 where
   pub token : Token
   pub later : List Placed
   pub is : o ≡ Some token
-  pub behind : others ≡ pieces_with later
+  pub after : others ≡ pieces_with later
   pub same : tokens ≡ placed line token ∷ later
   pub allowed : is_no_version token ≡ true
   pub others_allowed : no_version later ≡ true
@@ -36,7 +36,7 @@ first_of_tokens line o others (t ∷ tokens) same good =
       token = t.token;
       later = tokens;
       is = ap first_token same;
-      behind = ap (λ ps. drop 1 ps) same;
+      after = ap (λ ps. drop 1 ps) same;
       same = ap (λ l. placed l t.token ∷ tokens) (sym (ap line_of same));
       allowed = first;
       others_allowed = later;

@@ -3,7 +3,7 @@ use Rattle.std.proofs.Common.{◌≡◌, ◌≤◌, ℕ, Bool, true, false, not,
 use Rattle.std.specs.List.{take_while, list_all}
 use Rattle.std.proofs.lemmas.Bool.{and_parts, and_from, cases_Bool, cond-true, cond-false, not_from_false, eq-eqb, eqb-true}
 use Rattle.std.proofs.lemmas.List.Sums.{take_while-cons}
-use Rattle.dcc_c.specs.Pieces.{behind_while, behind}
+use Rattle.dcc_c.specs.Pieces.{after_while, after}
 use Rattle.dcc_c.proofs.reading.Passing.{if-cases}
 
 -- no byte of the kind follows
@@ -30,7 +30,7 @@ pub record IsRun (p : ℕ → Bool) (bytes run rest : List ℕ) : Type 0 where
   pub ended : ends_run p rest ≡ true
   pub same : bytes ≡ run ++ rest
 
-pub run_of : (p : ℕ → Bool) (bytes : List ℕ) → IsRun p bytes (take_while p bytes) (behind_while p bytes)
+pub run_of : (p : ℕ → Bool) (bytes : List ℕ) → IsRun p bytes (take_while p bytes) (after_while p bytes)
 run_of p [] = record { all = refl; ended = refl; same = refl }
 run_of p (b ∷ bytes) = elim (cases_Bool (p b)) [
   | inl is ↦ let later = run_of p bytes in
@@ -52,28 +52,28 @@ pub drop_first : (first rest : List ℕ) → drop (length first) (first ++ rest)
 drop_first [] rest = refl
 drop_first (b ∷ first) rest = drop_first first rest
 
-pub behind_run : (p : ℕ → Bool) (run rest : List ℕ) → list_all p run ≡ true → ends_run p rest ≡ true → behind_while p (run ++ rest) ≡ rest
-behind_run p run rest all ended =
+pub after_run : (p : ℕ → Bool) (run rest : List ℕ) → list_all p run ≡ true → ends_run p rest ≡ true → after_while p (run ++ rest) ≡ rest
+after_run p run rest all ended =
     ap (λ x. drop (length x) (run ++ rest)) (run_is p run rest all ended) ∙ drop_first run rest
 
 pub drop_shorter : (n : ℕ) (bytes : List ℕ) → length (drop n bytes) ≤ length bytes
 drop_shorter n bytes = omega (arith, length-drop n bytes)
 
 -- a run that is begun takes a byte
-pub behind_shorter : (p : ℕ → Bool) (b : ℕ) (bytes : List ℕ) → p b ≡ true → length (behind_while p (b ∷ bytes)) ≤ length bytes
-behind_shorter p b bytes is =
+pub after_shorter : (p : ℕ → Bool) (b : ℕ) (bytes : List ℕ) → p b ≡ true → length (after_while p (b ∷ bytes)) ≤ length bytes
+after_shorter p b bytes is =
     subst (λ run. length (drop (length run) (b ∷ bytes)) ≤ length bytes) (sym (in_run p b bytes is)) (drop_shorter (length (take_while p bytes)) bytes)
 
 -- Bytes that begin with given ones.
 
-pub behind-is : (words bytes rest : List ℕ) → behind words bytes ≡ Some rest → bytes ≡ words ++ rest
-behind-is [] bytes rest = λ is. cc
-behind-is (w ∷ words) [] rest = λ is. absurd cc
-behind-is (w ∷ words) (b ∷ bytes) rest =
+pub after-is : (words bytes rest : List ℕ) → after words bytes ≡ Some rest → bytes ≡ words ++ rest
+after-is [] bytes rest = λ is. cc
+after-is (w ∷ words) [] rest = λ is. absurd cc
+after-is (w ∷ words) (b ∷ bytes) rest =
     if-cases (λ o. o ≡ Some rest → b ∷ bytes ≡ w ∷ (words ++ rest)) (w == b)
-    (λ same is. let head : w ≡ b = eqb-true w b same in let tail : bytes ≡ words ++ rest = behind-is words bytes rest is in cc)
+    (λ same is. let head : w ≡ b = eqb-true w b same in let tail : bytes ≡ words ++ rest = after-is words bytes rest is in cc)
     (λ _ is. absurd cc)
 
-pub behind-append : (words rest : List ℕ) → behind words (words ++ rest) ≡ Some rest
-behind-append [] rest = refl
-behind-append (w ∷ words) rest = cond-true _ _ _ (eq-eqb w w refl) ∙ behind-append words rest
+pub after-append : (words rest : List ℕ) → after words (words ++ rest) ≡ Some rest
+after-append [] rest = refl
+after-append (w ∷ words) rest = cond-true _ _ _ (eq-eqb w w refl) ∙ after-append words rest

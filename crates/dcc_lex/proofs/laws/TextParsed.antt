@@ -1,8 +1,8 @@
--- A text stands for a tree exactly where its pieces behind the version line are read to their end as the tree and
+-- A text stands for a tree exactly where its pieces after the version line are read to their end as the tree and
 -- nothing offends in them.
 use Rattle.std.proofs.Common.{◌≡◌, ◌≤◌, ℕ, true, List, Some, refl, sym, ◌∙◌, subst}
 use Rattle.dcc_c.specs.Lexing.{Placed, Lexes}
-use Rattle.dcc_c.specs.Pieces.{Piece, pieces_of, behind_version}
+use Rattle.dcc_c.specs.Pieces.{Piece, pieces_of, after_version}
 use Rattle.dcc_c.specs.Tree.{Tree}
 use Rattle.dcc_c.specs.Rules.{most_open}
 use Rattle.dcc_c.specs.Grammar.{IsUnit}
@@ -12,11 +12,11 @@ use Rattle.dcc_c.proofs.reading.Statements.{with_version}
 use Rattle.dcc_c.proofs.reading.UnitSound.{sound_text}
 use Rattle.dcc_c.proofs.reading.TextLaws.{pieces_are}
 use Rattle.dcc_c.proofs.reading.ParseLaws.{AreUnit, IsParsed, parsed-unit, unit-parsed}
-use Rattle.dcc_lex.proofs.laws.UsedDeclarations.{behind_first, unit_used}
+use Rattle.dcc_lex.proofs.laws.UsedDeclarations.{after_first, unit_used}
 use Rattle.dcc_lex.proofs.laws.Version.{cut-lexes, lexes-cut, used_no_version}
 
 -- a text whose pieces are parsed as a tree stands for it
-pub parsed-stands : (text rest : List ℕ) (tree : Tree) → behind_version text ≡ Some rest → IsParsed (pieces_of rest) tree → StandsFor text tree
+pub parsed-stands : (text rest : List ℕ) (tree : Tree) → after_version text ≡ Some rest → IsParsed (pieces_of rest) tree → StandsFor text tree
 parsed-stands text rest tree begins parsed =
     let pieces = pieces_of rest in
     let tokens = tokens_of pieces in
@@ -31,9 +31,9 @@ parsed-stands text rest tree begins parsed =
     }
 
 -- and the pieces of a text that stands for a tree are parsed as it
-pub stands-parsed : (text : List ℕ) (tree : Tree) → StandsFor text tree → (rest : List ℕ) × (behind_version text ≡ Some rest) × IsParsed (pieces_of rest) tree
+pub stands-parsed : (text : List ℕ) (tree : Tree) → StandsFor text tree → (rest : List ℕ) × (after_version text ≡ Some rest) × IsParsed (pieces_of rest) tree
 stands-parsed text tree stands =
-    let tokens = behind_first stands.tokens in
+    let tokens = after_first stands.tokens in
     let same : stands.tokens ≡ with_version tokens = begins_version stands.tokens stands.formed in
     let unit : AreUnit tokens tree = record {
       formed = subst (λ ts. IsUnit 200 ts tree) same stands.formed;
@@ -44,8 +44,8 @@ stands-parsed text tree stands =
     let found = lexes-cut text tokens (subst (Lexes true 1 text) same stands.lexed) (unit_used tokens unit.formed) in
     (found.rest, found.begins, subst (λ ps. IsParsed ps tree) (sym found.same) (unit-parsed tokens tree unit))
   where
-    begins_version : (tokens : List Placed) → IsUnit 200 tokens tree → tokens ≡ with_version (behind_first tokens)
-    begins_version tokens unit = subst (λ ts. ts ≡ with_version (behind_first ts)) (sym unit.head_is) refl
+    begins_version : (tokens : List Placed) → IsUnit 200 tokens tree → tokens ≡ with_version (after_first tokens)
+    begins_version tokens unit = subst (λ ts. ts ≡ with_version (after_first ts)) (sym unit.head_is) refl
 
 -- pieces are parsed as one tree at most
 pub parsed-one : {pieces : List Piece} {a b : Tree} → IsParsed pieces a → IsParsed pieces b → a ≡ b

@@ -7,9 +7,9 @@ use Rattle.std.proofs.lemmas.Bool.{and_parts, cond-true, eqb-true, leb-true}
 use Rattle.std.proofs.lemmas.List.{append-nil, length-append}
 use Rattle.dcc_c.specs.Token.{Token, Decimal, Pragma, plain_number, Head, version_line, stack_line, place_line, depth_line, head_bytes, is_word_byte, Spells, ends_before}
 use Rattle.dcc_c.specs.Lexing.{Placed, placed, pragma_bytes, are_pragma_numbers, Lexes, ends, blank, feed, token, pragma}
-use Rattle.dcc_c.specs.Pieces.{piece, behind_while, token_of_word, is_line_end, is_word_end, Spot, line_start, in_line, in_pragma, cut, is_plain, first_cut, pieces_from}
+use Rattle.dcc_c.specs.Pieces.{piece, after_while, token_of_word, is_line_end, is_word_end, Spot, line_start, in_line, in_pragma, cut, is_plain, first_cut, pieces_from}
 use Rattle.dcc_c.proofs.reading.Passing.{pieces_with}
-use Rattle.dcc_lex.proofs.laws.Runs.{ends_run, run_is, behind_run}
+use Rattle.dcc_lex.proofs.laws.Runs.{ends_run, run_is, after_run}
 use Rattle.dcc_lex.proofs.laws.Words.{is_used, IsFound}
 use Rattle.dcc_lex.proofs.laws.Numbers.{spelling_found}
 use Rattle.dcc_lex.proofs.laws.Used.{all_used}
@@ -36,8 +36,8 @@ number_first line n rest small ended =
     ap token_of_word (run_is is_word_byte (decimal n) rest found.all ended) ∙ found.found
     in
     cond-true _ _ _ (ap is_plain read)
-    ∙ ap (λ o. cut (piece line o ∷ []) in_pragma line (behind_while is_word_byte (decimal n ++ rest))) read
-    ∙ ap (λ r. cut (piece line (Some (Decimal n plain_number)) ∷ []) in_pragma line r) (behind_run is_word_byte (decimal n) rest found.all ended)
+    ∙ ap (λ o. cut (piece line o ∷ []) in_pragma line (after_while is_word_byte (decimal n ++ rest))) read
+    ∙ ap (λ r. cut (piece line (Some (Decimal n plain_number)) ∷ []) in_pragma line r) (after_run is_word_byte (decimal n) rest found.all ended)
 
 -- Numbers up to the end of the line.
 
@@ -50,7 +50,7 @@ module _ (line : ℕ) (rest : List ℕ) (later : List Placed) (ended : is_line_e
   numbers_free [] = end_is_free rest ended
   numbers_free (n ∷ numbers) = refl
 
-  -- the end of a line is the same behind a pragma and behind other tokens
+  -- the end of a line is the same after a pragma and after other tokens
   end_same : (more : ℕ) (bytes : List ℕ) → is_line_end bytes ≡ true → pieces_from more in_pragma line bytes ≡ pieces_from more in_line line bytes
   end_same zero bytes is = refl
   end_same (suc more) [] is = refl
@@ -98,9 +98,9 @@ pub line_ended : (head : Head) (rest : List ℕ) → ends_before (Pragma head) r
 line_ended head [] ended = refl
 line_ended head (b ∷ rest) ended = ended
 
-behind_numbers : (line : ℕ) (numbers : List ℕ) (later : List Placed) → all_used (number_tokens line numbers ++ later) ≡ true → all_used later ≡ true
-behind_numbers line [] later used = used
-behind_numbers line (n ∷ numbers) later used = behind_numbers line numbers later used
+after_numbers : (line : ℕ) (numbers : List ℕ) (later : List Placed) → all_used (number_tokens line numbers ++ later) ≡ true → all_used later ≡ true
+after_numbers line [] later used = used
+after_numbers line (n ∷ numbers) later used = after_numbers line numbers later used
 
 -- a whole pragma
 module _ (head : Head) (line : ℕ) (numbers rest : List ℕ) (later : List Placed) (used : is_used (Pragma head) ≡ true) (ended : is_line_end rest ≡ true)
@@ -112,9 +112,9 @@ module _ (head : Head) (line : ℕ) (numbers rest : List ℕ) (later : List Plac
   pragma_cut : list_all (λ n. nat_le n 4294967295) numbers ≡ true → (more : ℕ) → length (pragma_bytes head numbers ++ rest) ≤ more →
       pieces_from more line_start line (pragma_bytes head numbers ++ rest) ≡ pieces_with (placed line (Pragma head) ∷ (number_tokens line numbers ++ later))
   pragma_cut small more enough =
-      let behind = spelled numbers ++ rest in
+      let after = spelled numbers ++ rest in
       let joined = append_assoc (head_bytes head) (spelled numbers) rest in
-      let begun = words_cut head line behind more used (word_ended behind (numbers_free line rest later ended goes numbers)) (subst (λ x. length x ≤ more) joined enough) in
+      let begun = words_cut head line after more used (word_ended after (numbers_free line rest later ended goes numbers)) (subst (λ x. length x ≤ more) joined enough) in
       ap (λ x. pieces_from more line_start line x) joined ∙ begun.same
       ∙ ap (λ ps. piece line (Some (Pragma head)) ∷ ps) (numbers_cut line rest later ended goes numbers small begun.less begun.enough)
 
@@ -133,7 +133,7 @@ token_pieces fresh line (b ∷ others) rest read later spells ended used goes (s
     ap (with_cut more) (token_first_cut fresh line b others rest read spells ended used)
     ∙ ap (λ ps. piece line (Some read) ∷ ps) (goes more (omega (arith, enough, length-append others rest)))
 
--- bytes that are tokens that may stand behind the version line are cut into these
+-- bytes that are tokens that may stand after the version line are cut into these
 pub lexes_cut : {fresh : Bool} {line : ℕ} {bytes : List ℕ} {tokens : List Placed} → Lexes fresh line bytes tokens → all_used tokens ≡ true →
     (more : ℕ) → length bytes ≤ more → pieces_from more (spot_of fresh) line bytes ≡ pieces_with tokens
 lexes_cut (ends {fresh} {line}) used more enough = no_pieces more (spot_of fresh) line
@@ -148,7 +148,8 @@ lexes_cut (token {fresh} {line} {bytes} {tokens} read spelling rest spells ended
     ∙ token_pieces fresh line spelling rest read tokens spells ended here (λ m fits. lexes_cut later others m fits) more (subst (λ x. length x ≤ more) same enough)
 lexes_cut (pragma {line} {bytes} {tokens} {all} head numbers rest good ended same later all_is) used more enough =
     let (here, others) = and_parts (is_used (Pragma head)) (all_used (number_tokens line numbers ++ tokens)) (subst (λ ts. all_used ts ≡ true) all_is used) in
-    let behind = behind_numbers line numbers tokens others in
+    let after = after_numbers line numbers tokens others in
     ap (λ x. pieces_from more line_start line x) same
-    ∙ pragma_cut head line numbers rest tokens here (line_ended head rest ended) (λ m fits. lexes_cut later behind m fits) (numbers_of head numbers here good) more (subst (λ x. length x ≤ more) same enough)
+    ∙ pragma_cut head line numbers rest tokens here (line_ended head rest ended) (λ m fits. lexes_cut later after m fits)
+    (numbers_of head numbers here good) more (subst (λ x. length x ≤ more) same enough)
     ∙ ap pieces_with (sym all_is)

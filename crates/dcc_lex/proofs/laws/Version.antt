@@ -4,13 +4,13 @@ use Rattle.std.specs.Prelude.{if◌then◌else◌}
 use Rattle.std.proofs.lemmas.Bool.{and_parts, and_from, cond-true}
 use Rattle.dcc_c.specs.Token.{Token, WordToken, Decimal, Hex, Mark, Pragma, plain_number, Head, version_line, stack_line, place_line, depth_line, head_bytes, Spells}
 use Rattle.dcc_c.specs.Lexing.{Placed, placed, pragma_bytes, are_pragma_numbers, Lexes, ends, blank, feed, token, pragma}
-use Rattle.dcc_c.specs.Pieces.{behind, is_line_end, in_line, pieces_of, behind_version}
+use Rattle.dcc_c.specs.Pieces.{after, is_line_end, in_line, pieces_of, after_version}
 use Rattle.dcc_c.proofs.reading.Passing.{if-cases, option-cases, pieces_with}
 use Rattle.dcc_c.proofs.reading.Statements.{with_version}
-use Rattle.dcc_lex.proofs.laws.Runs.{behind-is}
+use Rattle.dcc_lex.proofs.laws.Runs.{after-is}
 use Rattle.dcc_lex.proofs.laws.Words.{is_used}
 use Rattle.dcc_lex.proofs.laws.Used.{all_used}
-use Rattle.dcc_lex.proofs.laws.UsedDeclarations.{behind_first}
+use Rattle.dcc_lex.proofs.laws.UsedDeclarations.{after_first}
 use Rattle.dcc_lex.proofs.laws.Pieces.{is_no_version, no_version}
 use Rattle.dcc_lex.proofs.laws.CutsLex.{line_ends, cuts_lex}
 use Rattle.dcc_lex.proofs.laws.TokensCut.{line_ended, lexes_cut}
@@ -22,21 +22,21 @@ pub record IsVersioned (text rest : List ℕ) : Type 0 where
   pub same : text ≡ head_bytes version_line ++ rest
   pub ended : is_line_end rest ≡ true
 
-pub versioned : (text rest : List ℕ) → behind_version text ≡ Some rest → IsVersioned text rest
+pub versioned : (text rest : List ℕ) → after_version text ≡ Some rest → IsVersioned text rest
 versioned text rest =
-    option-cases (behind (head_bytes version_line) text) (λ o. elim o [ Some others ↦ if is_line_end others then Some others else None | None ↦ None ] ≡ Some rest → IsVersioned text rest)
+    option-cases (after (head_bytes version_line) text) (λ o. elim o [ Some others ↦ if is_line_end others then Some others else None | None ↦ None ] ≡ Some rest → IsVersioned text rest)
     (λ others begins. if-cases (λ o. o ≡ Some rest → IsVersioned text rest) (is_line_end others)
-    (λ ended is. let same : others ≡ rest = cc in subst (IsVersioned text) same (record { same = behind-is (head_bytes version_line) text others begins; ended = ended }))
+    (λ ended is. let same : others ≡ rest = cc in subst (IsVersioned text) same (record { same = after-is (head_bytes version_line) text others begins; ended = ended }))
     (λ _ is. absurd cc))
     (λ _ is. absurd cc)
 
-pub version_behind : (text rest : List ℕ) → IsVersioned text rest → behind_version text ≡ Some rest
-version_behind text rest is = ap behind_version is.same ∙ cond-true _ _ _ is.ended
+pub version_after : (text rest : List ℕ) → IsVersioned text rest → after_version text ≡ Some rest
+version_after text rest is = ap after_version is.same ∙ cond-true _ _ _ is.ended
 
 -- From pieces to tokens.
 
--- a text whose pieces behind the version line are these tokens is the version line and these
-pub cut-lexes : (text rest : List ℕ) (tokens : List Placed) → behind_version text ≡ Some rest → pieces_of rest ≡ pieces_with tokens → no_version tokens ≡ true →
+-- a text whose pieces after the version line are these tokens is the version line and these
+pub cut-lexes : (text rest : List ℕ) (tokens : List Placed) → after_version text ≡ Some rest → pieces_of rest ≡ pieces_with tokens → no_version tokens ≡ true →
     Lexes true 1 text (with_version tokens)
 cut-lexes text rest tokens begins same good =
     let is = versioned text rest begins in
@@ -44,7 +44,7 @@ cut-lexes text rest tokens begins same good =
 
 -- From tokens to pieces.
 
--- the first of the tokens stands in this line or behind it
+-- the first of the tokens stands in this line or after it
 abbrev IsFrom : ℕ → List Placed → Type 0
 IsFrom line [] = Unit {0}
 IsFrom line (t ∷ tokens) = line ≤ t.line
@@ -121,7 +121,7 @@ version_first (pragma {line} {bytes} {tokens = later_tokens} {all} head numbers 
     let both = sym all_is ∙ is in
     let (head_is, none) = no_numbers head numbers (ap first_of both) good in
     let later_is : later_tokens ≡ tokens =
-    sym (ap (λ ns. map (placed line) (map (λ n. Decimal n plain_number) ns) ++ later_tokens) none) ∙ ap behind_first both
+    sym (ap (λ ns. map (placed line) (map (λ n. Decimal n plain_number) ns) ++ later_tokens) none) ∙ ap after_first both
     in
     record {
       rest = rest;
@@ -132,23 +132,23 @@ version_first (pragma {line} {bytes} {tokens = later_tokens} {all} head numbers 
       lexed = subst (Lexes false line rest) later_is later;
     }
 
--- The pieces behind the version line of a text are these tokens.
+-- The pieces after the version line of a text are these tokens.
 pub record IsCutTo (text : List ℕ) (tokens : List Placed) : Type 0 where
   pub rest : List ℕ
-  pub begins : behind_version text ≡ Some rest
+  pub begins : after_version text ≡ Some rest
   pub same : pieces_of rest ≡ pieces_with tokens
 
--- a text that is the version line and these tokens, which may stand behind it, is cut into them
+-- a text that is the version line and these tokens, which may stand after it, is cut into them
 pub lexes-cut : (text : List ℕ) (tokens : List Placed) → Lexes true 1 text (with_version tokens) → all_used tokens ≡ true → IsCutTo text tokens
 lexes-cut text tokens lexed used =
     let first = version_first lexed tokens refl in
     record {
       rest = first.rest;
-      begins = version_behind text first.rest first.is;
+      begins = version_after text first.rest first.is;
       same = lexes_cut first.lexed used (length first.rest) (omega arith);
     }
 
--- tokens that may stand behind the version line are no version lines
+-- tokens that may stand after the version line are no version lines
 used_no_version-token : (t : Token) → is_used t ≡ true → is_no_version t ≡ true
 used_no_version-token (WordToken word) used = refl
 used_no_version-token (Decimal n suffix) used = refl

@@ -6,10 +6,10 @@ use Rattle.std.specs.Fmt.{decimal}
 use Rattle.std.proofs.lemmas.Bool.{and_parts, and_from, or_left, or_cases, and_right, cond-true, cond-false, eq-eqb, eqb-true, leb-true, lt-leb}
 use Rattle.dcc_c.specs.Token.{Token, WordToken, Decimal, Hex, Mark, Pragma, Suffix, plain_number, unsigned_suffix, long_suffix, unsigned_long_suffix, suffix_bytes, is_between, is_digit, is_letter, is_word, is_word_byte, hex_from, same_bytes, Spells, ends_before, version_line}
 use Rattle.dcc_c.specs.Grammar.{is_among}
-use Rattle.dcc_c.specs.Pieces.{behind_while, behind, unused_keywords, suffix_of, decimal_from, decimal_of, is_hex_digit, hex_of, number_of, token_of_word}
+use Rattle.dcc_c.specs.Pieces.{after_while, after, unused_keywords, suffix_of, decimal_from, decimal_of, is_hex_digit, hex_of, number_of, token_of_word}
 use Rattle.dcc_c.proofs.NameLaws.{same_bytes-equal}
 use Rattle.dcc_c.proofs.reading.Passing.{if-cases, option-cases}
-use Rattle.dcc_lex.proofs.laws.Runs.{ends_run, run_of, behind-is}
+use Rattle.dcc_lex.proofs.laws.Runs.{ends_run, run_of, after-is}
 
 -- a word or a number
 abbrev pub is_of_word : Token → Bool
@@ -19,7 +19,7 @@ is_of_word (Hex n suffix) = true
 is_of_word (Mark mark) = false
 is_of_word (Pragma head) = false
 
--- the token may stand behind the version line
+-- the token may stand after the version line
 abbrev pub is_used : Token → Bool
 is_used (WordToken word) = not (is_among unused_keywords word)
 is_used (Pragma version_line) = false
@@ -90,7 +90,7 @@ module _ (run digits rest : List ℕ) (token : Token) (same : run ≡ digits ++ 
 decimal_spelled : (run : List ℕ) (token : Token) → decimal_of run ≡ Some token → IsWord run token
 decimal_spelled run token =
     let digits = take_while is_digit run in
-    let rest = behind_while is_digit run in
+    let rest = after_while is_digit run in
     let n = decimal_from 0 digits in
     if-cases (λ o. o ≡ Some token → IsWord run token) (same_bytes digits (decimal n) && nat_le n 4294967295)
     (λ good is. decimal_made run digits rest token (run_of is_digit run).same n good (mapped (λ suffix. Decimal n suffix) (suffix_of rest) token is))
@@ -99,15 +99,15 @@ decimal_spelled run token =
 hex_spelled : (bytes : List ℕ) (token : Token) → hex_of bytes ≡ Some token → IsWord (codes "0x" ++ bytes) token
 hex_spelled bytes token =
     let digits = take_while is_hex_digit bytes in
-    let rest = behind_while is_hex_digit bytes in
+    let rest = after_while is_hex_digit bytes in
     if-cases (λ o. o ≡ Some token → IsWord (codes "0x" ++ bytes) token) (nat_le 1 (length digits) && nat_le (length digits) 8)
     (λ sized is. hex_made bytes digits rest token (run_of is_hex_digit bytes).same (run_of is_hex_digit bytes).all sized (mapped (λ suffix. Hex (hex_from 0 digits) suffix) (suffix_of rest) token is))
     (λ _ is. absurd cc)
 
 number_spelled : (run : List ℕ) (token : Token) → number_of run ≡ Some token → IsWord run token
 number_spelled run token =
-    option-cases (behind (codes "0x") run) (λ o. elim o [ Some digits ↦ hex_of digits | None ↦ decimal_of run ] ≡ Some token → IsWord run token)
-    (λ digits begins is. subst (λ x. IsWord x token) (sym (behind-is (codes "0x") run digits begins)) (hex_spelled digits token is))
+    option-cases (after (codes "0x") run) (λ o. elim o [ Some digits ↦ hex_of digits | None ↦ decimal_of run ] ≡ Some token → IsWord run token)
+    (λ digits begins is. subst (λ x. IsWord x token) (sym (after-is (codes "0x") run digits begins)) (hex_spelled digits token is))
     (λ _ is. decimal_spelled run token is)
 
 -- the run is a token that it spells

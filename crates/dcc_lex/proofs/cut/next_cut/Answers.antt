@@ -45,4 +45,6 @@ pub returns-clause-line : goal.returns-clause-line
 returns-clause-line c =
     let other : is_blank (get_or c.args.bytes.now 0 0) ≡ false = sym c.is_blank.ensures ∙ c.if-is_blank.false in
     let none : has_number (spot_of c.args.spot) c.args.bytes.now ≡ false = if_none c.number_cut.result _ _ c.number_cut.ensures c.in_default.not-Some in
-    if_ok c.token_cut.result _ _ (λ cut same. let here : cut.line ≡ c.args.line = (token_goes (spot_of c.args.spot) c.args.line c.args.bytes.now c.requires.some c.if-first-eq10.false none other (cut_of cut) same).2 in omega arith) c.token_cut.ensures
+    if_ok c.token_cut.result _ _ (λ cut same. let here : cut.line ≡ c.args.line =
+    (token_goes (spot_of c.args.spot) c.args.line c.args.bytes.now c.requires.some c.if-first-eq10.false none other (cut_of cut) same).2 in omega
+    arith) c.token_cut.ensures

@@ -26,7 +26,7 @@ decreases-read_parentheses l = l.calls
 abbrev pub decreases-read_rest : goal.decreases-read_rest
 decreases-read_rest l = l.calls
 
--- what is still to be read behind what was read so far is the whole
+-- what is still to be read after what was read so far is the whole
 abbrev pub invariant-read_more-loop-fewer : goal.invariant-read_more-loop-fewer
 invariant-read_more-loop-fewer l = record {
   same : reading.read_more l.calls (inside_of l.inside) l.weakest (reading.got (expr_of l.left.expr) (reader_of l.r))
