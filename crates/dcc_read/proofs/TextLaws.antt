@@ -8,7 +8,7 @@ use Rattle.dcc_c.specs.Partial.{NumberAt, PartialVariable, PartialFunction}
 use Rattle.dcc_c.specs.Reading.{Reader, Got, got, is_stopped, take_mark}
 use Rattle.dcc_c.specs.ReadingStatements.{sees_head, read_size, read_init}
 use Rattle.dcc_c.specs.ReadingText.{Begun, read_begun, read_function, read_functions, with_functions, read_global, size_in_bytes, Declared, declared, before_declared, read_declared}
-use Rattle.dcc_reader.specs.Behind.{before_list}
+use Rattle.dcc_reader.specs.Parts.{before_list}
 use Rattle.dcc_read.specs.TextViews.{place_line, is_global, global_address, before_globals}
 use Rattle.dcc_reader.proofs.LoopLaws.{counted, if-true, if-false}
 

@@ -5,7 +5,7 @@ ghost use Rattle.dcc_c.specs.Grammar as grammar;
 ghost use Rattle.dcc_c.specs.Partial as partial;
 ghost use Rattle.dcc_c.specs.Reading as reading;
 ghost use Rattle.dcc_c.specs.ReadingStatements as statements;
-ghost use Rattle.dcc_read.specs.AroundViews.{around_of};
+ghost use Rattle.dcc_reader.specs.AroundViews.{around_of};
 ghost use Rattle.dcc_read.specs.Lines.{block_of, behind_line, begins_loop, take_forever, short_stmt, loop_stmt, switch_stmt, depth_line, label_line, arm_read};
 ghost use Rattle.dcc_reader.specs.PartialViews.{expr_of, stmt_of, lines_of, arm_before, arms_of};
 ghost use Rattle.dcc_reader.specs.ReaderViews.{reader_of};

@@ -1,9 +1,10 @@
 pub mod HeadLaws
+pub mod LeftLaws
 pub mod LoopLaws
 pub mod ReaderLaws
 pub mod RowLaws
 pub mod SeenLaws
-pub mod VariableLaws
-pub mod LeftLaws
 pub mod SetLaws
 pub mod UnreadLaws
+pub mod VariableLaws
+pub mod WordLaws

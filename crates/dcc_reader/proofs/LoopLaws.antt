@@ -5,7 +5,7 @@ use Rattle.std.proofs.lemmas.List.{map-append, append-nil}
 use Rattle.dcc_c.specs.Partial.{NumberAt, PartialExpr, PartialVariable}
 use Rattle.dcc_c.specs.Reading.{Reader, Got, got, skip, sees_mark, sees_word, take_plain}
 use Rattle.dcc_c.specs.ReadingStatements.{more_arguments, read_arguments, read_enclosed, read_case, read_cases, more_values, list_of, read_local, read_locals, read_param, more_params, read_params}
-use Rattle.dcc_reader.specs.Behind.{before_list, begins_local}
+use Rattle.dcc_reader.specs.Parts.{before_list, begins_local}
 
 -- one less, and one more again
 pub counted : (n : ℕ) → 0 < n → suc (n - 1) ≡ n

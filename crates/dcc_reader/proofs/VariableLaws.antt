@@ -6,7 +6,7 @@ use Rattle.dcc_c.specs.declared.syntax.Class.TheVariants.{Plain, Auto}
 use Rattle.dcc_c.specs.Partial.{NumberAt, WordAt, PartialVariable}
 use Rattle.dcc_c.specs.Reading.{Reader, Got, got, is_stopped, skip, sees_word, take_mark, take_name, take_type}
 use Rattle.dcc_c.specs.ReadingStatements as s
-use Rattle.dcc_reader.specs.Behind.{read_auto}
+use Rattle.dcc_reader.specs.Parts.{read_auto}
 
 -- a variable of a function
 abbrev pub with_init : List NumberAt → Option WordAt → Option CType → Class → Option NumberAt → Bool → PartialVariable

@@ -1,9 +1,12 @@
+pub mod AroundViews
 pub mod BegunViews
-pub mod Behind
+pub mod Heads
+pub mod KindWords
 pub mod OffenceViews
+pub mod OperatorViews
 pub mod PartialViews
+pub mod Parts
 pub mod ReaderViews
 pub mod Told
 pub mod WordViews
-pub mod Heads
-pub mod KindWords
+pub mod Words

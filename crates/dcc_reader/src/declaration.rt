@@ -4,7 +4,7 @@ ghost use Rattle.std.specs.Prelude.{◌≡◌, ◌++◌, IfOk, true, is_some, ma
 ghost use Rattle.std.specs.Option.{option_map};
 ghost use Rattle.dcc_c.specs.Reading as reading;
 ghost use Rattle.dcc_c.specs.ReadingStatements as statements;
-ghost use Rattle.dcc_reader.specs.Behind.{before_list, begins_local, read_auto, values_in_braces};
+ghost use Rattle.dcc_reader.specs.Parts.{before_list, begins_local, read_auto, values_in_braces};
 ghost use Rattle.dcc_reader.specs.PartialViews.{number_of, variable_of};
 ghost use Rattle.dcc_reader.specs.ReaderViews.{reader_of};
 
@@ -121,7 +121,8 @@ fn class_with(size: &Option<NumberAt>, class: Class) -> Class
 
 // Reads a local variable.
 fn read_local(r: &mut Reader<'_>, alloc: Global) -> Result<PartialVariable, AllocError>
-    ensures { IfOk result (λ v. reading.got (variable_of v) (reader_of r.new) ≡ statements.read_local (reader_of r.old)) }
+    ensures { IfOk result (λ v. reading.got (variable_of v) (reader_of r.new)
+        ≡ statements.read_local (reader_of r.old)) }
 {
     let class = read_auto(r);
     let ty = r.take_type();
@@ -189,7 +190,8 @@ fn read_class(r: &mut Reader<'_>) -> Class
 
 // Reads a parameter.
 fn read_param(r: &mut Reader<'_>, alloc: Global) -> Result<PartialVariable, AllocError>
-    ensures { IfOk result (λ v. reading.got (variable_of v) (reader_of r.new) ≡ statements.read_param (reader_of r.old)) }
+    ensures { IfOk result (λ v. reading.got (variable_of v) (reader_of r.new)
+        ≡ statements.read_param (reader_of r.old)) }
 {
     let class = read_class(r);
     let ty = r.take_type();

@@ -33,7 +33,8 @@ pub struct Begun {
 /// # Errors
 /// Where memory runs out.
 pub fn read_begun(r: &mut Reader<'_>, alloc: Global) -> Result<Begun, AllocError>
-    ensures { IfOk result (λ begun. reading.got (begun_of begun) (reader_of r.new) ≡ texts.read_begun (reader_of r.old)) }
+    ensures { IfOk result (λ begun. reading.got (begun_of begun) (reader_of r.new)
+        ≡ texts.read_begun (reader_of r.old)) }
 {
     let at = r.at;
     if r.sees_word("void") {

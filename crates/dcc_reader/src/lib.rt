@@ -2,20 +2,24 @@
 //! heads of functions.
 #![tactic(auto)]
 
+pub mod around;
 pub mod declaration;
 pub mod first;
 pub mod head;
 pub mod labels;
 pub mod list;
 pub mod offence;
+pub mod operator;
 pub mod partial;
 pub mod pragma;
 pub mod reader;
+pub mod statement_word;
 pub mod token;
 pub mod unread;
 pub mod words;
 
 pub use first::First;
+pub use around::Around;
 pub use head::head_at;
 pub use offence::{Offence, ParseKind};
 pub use partial::{
@@ -23,3 +27,4 @@ pub use partial::{
     PartialText, PartialVariable, Row, WordAt,
 };
 pub use reader::Reader;
+pub use statement_word::StatementWord;

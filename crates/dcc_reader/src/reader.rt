@@ -10,9 +10,11 @@ ghost use Rattle.dcc_lex.specs.TokenViews.{mark_of, head_of, token_of, piece_of,
 ghost use Rattle.dcc_reader.specs.OffenceViews.{kind_of};
 ghost use Rattle.dcc_reader.specs.PartialViews.{number_of, word_of};
 ghost use Rattle.dcc_reader.specs.ReaderViews.{reader_of};
+ghost use Rattle.dcc_reader.specs.Words as words;
 
 use crate::offence::{Offence, ParseKind};
 use crate::partial::{NumberAt, WordAt};
+use crate::statement_word::StatementWord;
 use crate::token::{begins_type, is_the_head, is_the_mark, is_the_word, name_of, plain_of};
 use dcc_c::{Base, CType};
 use dcc_lex::{Head, Mark, Piece, Token};
@@ -51,7 +53,8 @@ impl<'a> Reader<'a> {
 
     // The token of the piece at a place.
     fn token_at(&self, at: usize) -> Option<&'a Token>
-        ensures { option_map (λ t. token_of t.now) result ≡ reading.first_token (map piece_of (drop at self.now.pieces.now)) }
+        ensures { option_map (λ t. token_of t.now) result
+            ≡ reading.first_token (map piece_of (drop at self.now.pieces.now)) }
     {
         self.pieces.get(at)?.token.as_ref()
     }
@@ -117,6 +120,13 @@ impl<'a> Reader<'a> {
         begins_type(self.next())
     }
 
+    /// The word of a statement that the next token is.
+    pub fn statement_word(&self) -> Option<StatementWord>
+        ensures { result ≡ words.statement_word (reading.next_token (reader_of self.now)) }
+    {
+        StatementWord::of(self.next())
+    }
+
     /// Goes past the next piece.
     pub fn skip(&mut self)
         requires seen { is_some (reading.next_token (reader_of self.now)) ≡ true }
@@ -139,14 +149,8 @@ impl<'a> Reader<'a> {
         ensures { kind_of result ≡ reading.stop_kind (reader_of self.now).left }
     {
         match self.pieces.get(self.at) {
-            Some(piece) => {
-                if piece.token.is_some() {
-                    ParseKind::Grammar
-                } else {
-                    ParseKind::Token
-                }
-            }
-            None => ParseKind::Grammar,
+            Some(piece) if piece.token.is_none() => ParseKind::Token,
+            _ => ParseKind::Grammar,
         }
     }
 
@@ -214,7 +218,8 @@ impl<'a> Reader<'a> {
 
     /// Takes a decimal number without suffix, which must stand here.
     pub fn take_plain(&mut self) -> Option<NumberAt>
-        ensures { reading.got (option_map number_of result) (reader_of self.new) ≡ reading.take_plain (reader_of self.old) }
+        ensures { reading.got (option_map number_of result) (reader_of self.new)
+            ≡ reading.take_plain (reader_of self.old) }
     {
         match plain_of(self.next()) {
             Some(value) => {
@@ -253,9 +258,9 @@ impl<'a> Reader<'a> {
         ensures { reading.got result (reader_of self.new) ≡ reading.take_base (reader_of self.old) }
     {
         if self.sees_word("int") {
-            self.base_behind(Base::Int)
+            self.base_after(Base::Int)
         } else if self.sees_word("long") {
-            self.base_behind(Base::Long)
+            self.base_after(Base::Long)
         } else if self.sees_word("signed") {
             self.skip();
             self.signed_base()
@@ -273,7 +278,7 @@ impl<'a> Reader<'a> {
         ensures { reading.got result (reader_of self.new) ≡ reading.signed_base (reader_of self.old) }
     {
         if self.sees_word("char") {
-            self.base_behind(Base::Schar)
+            self.base_after(Base::Schar)
         } else {
             self.fail();
             None
@@ -285,11 +290,11 @@ impl<'a> Reader<'a> {
         ensures { reading.got result (reader_of self.new) ≡ reading.unsigned_base (reader_of self.old) }
     {
         if self.sees_word("char") {
-            self.base_behind(Base::Uchar)
+            self.base_after(Base::Uchar)
         } else if self.sees_word("int") {
-            self.base_behind(Base::Uint)
+            self.base_after(Base::Uint)
         } else if self.sees_word("long") {
-            self.base_behind(Base::Ulong)
+            self.base_after(Base::Ulong)
         } else {
             self.fail();
             None
@@ -297,7 +302,7 @@ impl<'a> Reader<'a> {
     }
 
     // The base, after its last word.
-    fn base_behind(&mut self, base: Base) -> Option<Base>
+    fn base_after(&mut self, base: Base) -> Option<Base>
         requires seen { is_some (reading.next_token (reader_of self.now)) ≡ true }
         ensures { reading.got result (reader_of self.new) ≡ reading.base_behind base (reader_of self.old) }
     {

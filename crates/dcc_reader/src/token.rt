@@ -1,12 +1,13 @@
 //! Tests of a token, and of the word that it may be.
 
-ghost use Rattle.std.specs.Prelude.{◌≡◌, Some, take, drop};
+ghost use Rattle.std.specs.Prelude.{◌≡◌, Some};
 ghost use Rattle.std.specs.Option.{option_map};
 ghost use Rattle.dcc_c.specs.Token as tokens;
 ghost use Rattle.dcc_c.specs.Grammar as grammar;
 ghost use Rattle.dcc_c.specs.Reading as reading;
 ghost use Rattle.dcc_c.specs.ReadingStatements as statements;
 ghost use Rattle.dcc_lex.specs.TokenViews.{mark_of, head_of, token_of};
+ghost use Rattle.dcc_reader.specs.Words as words;
 
 use dcc_lex::{Head, Mark, Suffix, Token, is_word};
 
@@ -35,66 +36,13 @@ fn same_head(left: Head, right: Head) -> bool
 fn is_keyword(word: &str) -> bool
     ensures { result ≡ grammar.is_among grammar.keywords word.now }
 {
-    is_keyword_to_do(word)
-        || is_keyword_to_if(word)
-        || is_keyword_to_static(word)
-        || is_keyword_to_while(word)
-}
-
-// Whether the word is one of the keywords from `auto` to `do`.
-fn is_keyword_to_do(word: &str) -> bool
-    ensures { result ≡ grammar.is_among (take 8 grammar.keywords) word.now }
-{
-    same_text(word, "auto")
-        || same_text(word, "break")
-        || same_text(word, "case")
-        || same_text(word, "char")
-        || same_text(word, "const")
-        || same_text(word, "continue")
-        || same_text(word, "default")
-        || same_text(word, "do")
-}
-
-// Whether the word is one of the keywords from `double` to `if`.
-fn is_keyword_to_if(word: &str) -> bool
-    ensures { result ≡ grammar.is_among (take 8 (drop 8 grammar.keywords)) word.now }
-{
-    same_text(word, "double")
-        || same_text(word, "else")
-        || same_text(word, "enum")
-        || same_text(word, "extern")
-        || same_text(word, "float")
-        || same_text(word, "for")
-        || same_text(word, "goto")
-        || same_text(word, "if")
-}
-
-// Whether the word is one of the keywords from `int` to `static`.
-fn is_keyword_to_static(word: &str) -> bool
-    ensures { result ≡ grammar.is_among (take 8 (drop 16 grammar.keywords)) word.now }
-{
-    same_text(word, "int")
-        || same_text(word, "long")
-        || same_text(word, "register")
-        || same_text(word, "return")
-        || same_text(word, "short")
-        || same_text(word, "signed")
-        || same_text(word, "sizeof")
-        || same_text(word, "static")
-}
-
-// Whether the word is one of the keywords from `struct` to `while`.
-fn is_keyword_to_while(word: &str) -> bool
-    ensures { result ≡ grammar.is_among (drop 24 grammar.keywords) word.now }
-{
-    same_text(word, "struct")
-        || same_text(word, "switch")
-        || same_text(word, "typedef")
-        || same_text(word, "union")
-        || same_text(word, "unsigned")
-        || same_text(word, "void")
-        || same_text(word, "volatile")
-        || same_text(word, "while")
+    match word {
+        "auto" | "break" | "case" | "char" | "const" | "continue" | "default" | "do" => true,
+        "double" | "else" | "enum" | "extern" | "float" | "for" | "goto" | "if" => true,
+        "int" | "long" | "register" | "return" | "short" | "signed" | "sizeof" | "static" => true,
+        "struct" | "switch" | "typedef" | "union" | "unsigned" | "void" | "volatile" | "while" => true,
+        _ => false,
+    }
 }
 
 // Whether the word is a name: it is no keyword.
@@ -114,13 +62,23 @@ pub fn is_the_mark(token: Option<&Token>, mark: Mark) -> bool
     }
 }
 
+/// The word that the token is: a name or a keyword.
+pub fn word_of(token: Option<&Token>) -> Option<&str>
+    ensures { option_map (λ word. word.now) result ≡ words.word_of (option_map (λ t. token_of t.now) token.entry) }
+{
+    match token {
+        Some(Token::Word(word)) => Some(word.as_str()),
+        _ => None,
+    }
+}
+
 /// Whether the token is the word.
 pub fn is_the_word(token: Option<&Token>, word: &str) -> bool
     ensures { result ≡ reading.is_the_word word.now (option_map (λ t. token_of t.now) token.entry) }
 {
-    match token {
-        Some(Token::Word(seen)) => same_text(seen.as_str(), word),
-        _ => false,
+    match word_of(token) {
+        Some(seen) => same_text(seen, word),
+        None => false,
     }
 }
 
@@ -138,10 +96,7 @@ pub fn is_the_head(token: Option<&Token>, head: Head) -> bool
 pub fn name_of(token: Option<&Token>) -> Option<&str>
     ensures { option_map (λ word. word.now) result ≡ reading.name_of (option_map (λ t. token_of t.now) token.entry) }
 {
-    match token {
-        Some(Token::Word(word)) => name_if(word.as_str()),
-        _ => None,
-    }
+    name_if(word_of(token)?)
 }
 
 // The word, if it is a name.
@@ -155,10 +110,10 @@ fn name_if(word: &str) -> Option<&str>
 pub fn begins_type(token: Option<&Token>) -> bool
     ensures { result ≡ reading.begins_type (option_map (λ t. token_of t.now) token.entry) }
 {
-    is_the_word(token, "signed")
-        || is_the_word(token, "unsigned")
-        || is_the_word(token, "int")
-        || is_the_word(token, "long")
+    let Some(word) = word_of(token) else {
+        return false;
+    };
+    matches!(word, "signed" | "unsigned" | "int" | "long")
 }
 
 /// The decimal number without suffix that the token is.

@@ -1,6 +1,6 @@
 use Rattle.std.proofs.Common.{◌≡◌, map}
 use Rattle.dcc_c.specs.ReadingStatements.{more_arguments, read_arguments}
-use Rattle.dcc_reader.specs.Behind.{before_list}
+use Rattle.dcc_reader.specs.Parts.{before_list}
 use Rattle.dcc_reader.specs.PartialViews.{expr_of}
 use Rattle.dcc_reader.specs.ReaderViews.{reader_of}
 use Rattle.dcc_read.proofs.call.read_arguments.Given as goal

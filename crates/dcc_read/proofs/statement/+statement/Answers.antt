@@ -7,7 +7,7 @@ use Rattle.dcc_c.specs.ReadingStatements as s
 use Rattle.dcc_reader.specs.declared.partial.PartialArm.{out-roll-PartialArm}
 use Rattle.dcc_read.specs.declared.statement.LineRead.{LineRead}
 use Rattle.dcc_read.specs.ArmViews.{arm_head_of}
-use Rattle.dcc_read.specs.AroundViews.{around_of}
+use Rattle.dcc_reader.specs.AroundViews.{around_of}
 use Rattle.dcc_read.specs.Lines.{block_of, before_lines, behind_line, label_line}
 use Rattle.dcc_reader.specs.PartialViews.{case_of, expr_of, stmt_of, lines_of, arms_of}
 use Rattle.dcc_reader.specs.ReaderViews.{reader_of}

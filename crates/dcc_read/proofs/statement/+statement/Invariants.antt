@@ -1,6 +1,6 @@
 use Rattle.std.proofs.Common.{◌≡◌, ◌+◌, ◌*◌, ◌≤◌, false}
 use Rattle.dcc_c.specs.ReadingStatements as statements
-use Rattle.dcc_read.specs.AroundViews.{around_of}
+use Rattle.dcc_reader.specs.AroundViews.{around_of}
 use Rattle.dcc_read.specs.Lines.{before_lines}
 use Rattle.dcc_reader.specs.ReaderViews.{reader_of}
 use Rattle.dcc_read.proofs.LineLaws.{before_arms}

@@ -1,6 +1,6 @@
 use Rattle.std.proofs.Common.{◌≡◌, map}
 use Rattle.dcc_c.specs.ReadingStatements as statements
-use Rattle.dcc_reader.specs.Behind.{before_list}
+use Rattle.dcc_reader.specs.Parts.{before_list}
 use Rattle.dcc_reader.specs.PartialViews.{number_of}
 use Rattle.dcc_reader.specs.ReaderViews.{reader_of}
 use Rattle.dcc_reader.proofs.declaration.more_values.Given as goal

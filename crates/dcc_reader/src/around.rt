@@ -4,25 +4,26 @@ ghost use Rattle.std.specs.Prelude.{◌≡◌, ◌<◌};
 ghost use Rattle.dcc_c.specs.Grammar as grammar;
 ghost use Rattle.dcc_c.specs.Reading as reading;
 ghost use Rattle.dcc_c.specs.ReadingStatements as statements;
-ghost use Rattle.dcc_read.specs.AroundViews.{around_of};
+ghost use Rattle.dcc_reader.specs.AroundViews.{around_of};
 ghost use Rattle.dcc_reader.specs.ReaderViews.{reader_of};
 
-use dcc_reader::{ParseKind, Reader};
+use crate::offence::ParseKind;
+use crate::reader::Reader;
 
 /// What stands around a statement.
 #[derive(Clone, Copy)]
-pub(crate) struct Around {
+pub struct Around {
     /// How many blocks, without the function's own braces.
-    pub(crate) blocks: usize,
+    pub blocks: usize,
     /// Whether one of them belongs to a loop or a `switch`, which a `break` leaves.
-    pub(crate) breaks: bool,
+    pub breaks: bool,
     /// Whether one of them belongs to a loop, which a `continue` goes on with.
-    pub(crate) continues: bool,
+    pub continues: bool,
 }
 
 impl Around {
     /// Nothing, but the function's own braces.
-    pub(crate) fn outermost() -> Around
+    pub fn outermost() -> Around
         ensures { around_of result ≡ grammar.outermost }
     {
         Around {
@@ -33,7 +34,7 @@ impl Around {
     }
 
     /// What stands around a statement in a block of an `if`.
-    pub(crate) fn in_block(self) -> Around
+    pub fn in_block(self) -> Around
         requires { self.blocks < usize.MAX }
         ensures { around_of result ≡ grammar.in_block (around_of self) }
     {
@@ -44,7 +45,7 @@ impl Around {
     }
 
     /// What stands around a statement in the body of a loop.
-    pub(crate) fn in_loop(self) -> Around
+    pub fn in_loop(self) -> Around
         requires { self.blocks < usize.MAX }
         ensures { around_of result ≡ grammar.in_loop (around_of self) }
     {
@@ -56,7 +57,7 @@ impl Around {
     }
 
     /// What stands around a statement in an arm of a `switch`.
-    pub(crate) fn in_switch(self) -> Around
+    pub fn in_switch(self) -> Around
         requires { self.blocks < usize.MAX }
         ensures { around_of result ≡ grammar.in_switch (around_of self) }
     {
@@ -68,14 +69,14 @@ impl Around {
     }
 
     /// Whether more than 200 blocks stand around a statement.
-    pub(crate) fn is_nested(self) -> bool
+    pub fn is_nested(self) -> bool
         ensures { result ≡ statements.is_nested (around_of self) }
     {
         self.blocks > 200
     }
 
     /// Stops at a statement that more than 200 blocks stand around, and that begins at a place.
-    pub(crate) fn stop_if_nested(self, r: &mut Reader<'_>, at: usize)
+    pub fn stop_if_nested(self, r: &mut Reader<'_>, at: usize)
         ensures { reader_of r.new ≡ statements.stop_if_nested (around_of self) at (reader_of r.old) }
     {
         if self.is_nested() {

@@ -6,7 +6,7 @@ ghost use Rattle.dcc_c.specs.Token as tokens;
 ghost use Rattle.dcc_c.specs.Grammar as grammar;
 ghost use Rattle.dcc_c.specs.Reading as reading;
 ghost use Rattle.dcc_lex.specs.TokenViews.{mark_of, suffix_of, token_of};
-ghost use Rattle.dcc_read.specs.ExpressionViews.{typed_of};
+ghost use Rattle.dcc_reader.specs.OperatorViews.{typed_of};
 
 use dcc_c::{Base, CBin, CUn};
 use dcc_lex::{Mark, Suffix, Token};
@@ -63,8 +63,10 @@ pub fn number_of(token: Option<&Token>) -> Option<TypedNumber>
 
 // The mark that the token is.
 fn mark_in(token: Option<&Token>) -> Option<Mark>
-    ensures unary { reading.unary_of (option_map (λ t. tokens.Mark (mark_of t)) result) ≡ reading.unary_of (option_map (λ t. token_of t.now) token.entry) }
-    ensures binary { reading.binary_of (option_map (λ t. tokens.Mark (mark_of t)) result) ≡ reading.binary_of (option_map (λ t. token_of t.now) token.entry) }
+    ensures unary { reading.unary_of (option_map (λ t. tokens.Mark (mark_of t)) result)
+        ≡ reading.unary_of (option_map (λ t. token_of t.now) token.entry) }
+    ensures binary { reading.binary_of (option_map (λ t. tokens.Mark (mark_of t)) result)
+        ≡ reading.binary_of (option_map (λ t. token_of t.now) token.entry) }
 {
     match token {
         Some(Token::Mark(mark)) => Some(*mark),
@@ -117,20 +119,14 @@ fn binary_with(mark: Mark) -> Option<CBin>
 pub fn unary_of(token: Option<&Token>) -> Option<CUn>
     ensures { result ≡ reading.unary_of (option_map (λ t. token_of t.now) token.entry) }
 {
-    match mark_in(token) {
-        Some(mark) => unary_with(mark),
-        None => None,
-    }
+    unary_with(mark_in(token)?)
 }
 
 /// The binary operator that the token is.
 pub fn binary_of(token: Option<&Token>) -> Option<CBin>
     ensures { result ≡ reading.binary_of (option_map (λ t. token_of t.now) token.entry) }
 {
-    match mark_in(token) {
-        Some(mark) => binary_with(mark),
-        None => None,
-    }
+    binary_with(mark_in(token)?)
 }
 
 /// The strength of a binary operator: operators of more of it are joined first.
