@@ -12,7 +12,7 @@ use Rattle.dcc_reader.specs.declared.partial.Row.{Row}
 use Rattle.dcc_reader.specs.declared.partial.PartialArm.{PartialArm}
 use Rattle.dcc_read.specs.declared.statement.LineRead.{LineRead}
 use Rattle.dcc_reader.specs.PartialViews.{stmt_of, lines_of, arm_before, arms_of}
-use Rattle.dcc_read.specs.Lines.{before_lines, behind_line, depth_line, label_line, arm_read}
+use Rattle.dcc_read.specs.Lines.{before_lines, after_line, depth_line, label_line, arm_read}
 use Rattle.dcc_reader.proofs.LoopLaws.{counted, if-true, if-false}
 
 -- two less, and two more again
@@ -36,14 +36,14 @@ lines-done rows leaves r whole target end had = sym (lines-end rows leaves r) �
 
 -- what was read where a statement may begin
 line-some : (n : ℕ) (around : Around) (labelled leaves : Bool) (r behind : Reader) (l : LineRead) → 1 < n → s.begins_stmt (next_token r) ≡ true →
-    behind_line l (n - 2) around behind ≡ s.read_line (suc (n - 2)) around labelled r →
-    s.read_lines n around labelled leaves r ≡ behind_line l (n - 2) around behind
+    after_line l (n - 2) around behind ≡ s.read_line (suc (n - 2)) around labelled r →
+    s.read_lines n around labelled leaves r ≡ after_line l (n - 2) around behind
 line-some n around labelled leaves r behind l within begins reads =
     ap (λ k. s.read_lines k around labelled leaves r) (sym (counted-two n within))
     ∙ if-true (s.begins_stmt (next_token r)) _ _ begins ∙ sym reads
 
 pub lines-step : (n : ℕ) (around : Around) (labelled leaves : Bool) (r behind : Reader) (l : LineRead) (rows now : List Row) (target : Got s.Block) → 1 < n →
-    s.begins_stmt (next_token r) ≡ true → behind_line l (n - 2) around behind ≡ s.read_line (suc (n - 2)) around labelled r →
+    s.begins_stmt (next_token r) ≡ true → after_line l (n - 2) around behind ≡ s.read_line (suc (n - 2)) around labelled r →
     now ≡ rows ++ option_to_list l.row → l.is_last ≡ false → before_lines rows (s.read_lines n around labelled leaves r) ≡ target →
     before_lines now (s.read_lines (n - 2) around l.labelled l.leaves behind) ≡ target
 lines-step n around labelled leaves r behind l rows now target within begins reads grown last had =
@@ -54,7 +54,7 @@ lines-step n around labelled leaves r behind l rows now target within begins rea
     ∙ had
 
 pub lines-last : (n : ℕ) (around : Around) (labelled leaves : Bool) (r behind : Reader) (l : LineRead) (rows now : List Row) (target : Got s.Block) → 1 < n →
-    s.begins_stmt (next_token r) ≡ true → behind_line l (n - 2) around behind ≡ s.read_line (suc (n - 2)) around labelled r →
+    s.begins_stmt (next_token r) ≡ true → after_line l (n - 2) around behind ≡ s.read_line (suc (n - 2)) around labelled r →
     now ≡ rows ++ option_to_list l.row → l.is_last ≡ true → before_lines rows (s.read_lines n around labelled leaves r) ≡ target →
     got (s.block_of (lines_of now) l.leaves) behind ≡ target
 lines-last n around labelled leaves r behind l rows now target within begins reads grown last had =

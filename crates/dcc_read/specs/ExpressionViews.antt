@@ -1,4 +1,4 @@
--- What the declared types that expressions are read with stand for, and what their functions keep beside the expression.
+-- What the type that expressions are read with stands for, and what their functions keep beside the expression.
 use Rattle.std.specs.Prelude.{ℕ, nat_le, min, ◌||◌, if◌then◌else◌, Option, Some, None}
 use Rattle.dcc_c.specs.declared.syntax.CBin.{CBin}
 use Rattle.dcc_c.specs.Grammar.{strength}
@@ -7,13 +7,9 @@ use Rattle.dcc_c.specs.Partial.{PartialExpr, depth_of}
 use Rattle.dcc_c.specs.Reading as reading
 use Rattle.dcc_c.specs.Reading.{Reader, next_token, begins_expr, begins_type, stop_at, fail}
 use Rattle.dcc_read.specs.declared.expression.Inside.{Inside}
-use Rattle.dcc_read.specs.declared.operator.TypedNumber.{TypedNumber}
 
 abbrev pub inside_of : Inside → reading.Inside
 inside_of i = record { start = i.start; operators = i.operators; opened = i.opened }
-
-abbrev pub typed_of : TypedNumber → reading.TypedNumber
-typed_of n = record { value = n.value; base = n.base }
 
 -- the depth of an expression, or 201 where it is deeper
 abbrev pub measure : PartialExpr → ℕ

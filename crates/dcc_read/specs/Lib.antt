@@ -1,5 +1,4 @@
 pub mod ArmViews
-pub mod AroundViews
 pub mod ExpressionViews
 pub mod Lines
 pub mod Stars

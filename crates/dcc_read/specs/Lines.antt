@@ -1,12 +1,14 @@
 -- What is read of statements, by what was read before.
-use Rattle.std.specs.Prelude.{ℕ, codes, option_to_list, Bool, true, false, ◌||◌, if◌then◌else◌, List, [], ◌∷◌, Some, None}
+use Rattle.std.specs.Prelude.{ℕ, codes, option_to_list, Bool, true, false, if◌then◌else◌, List, [], ◌∷◌, Option, Some, None}
 use Rattle.dcc_c.specs.Grammar.{Around, in_loop, in_switch}
 use Rattle.dcc_c.specs.Kinds.{of_depth}
 use Rattle.dcc_c.specs.Partial.{PartialStmt, ForeverOf, BreakOf, ContinueOf, EmptyOf, LabelOf, no_rows, PartialArms, cases}
-use Rattle.dcc_c.specs.Reading.{Reader, Got, got, line_of, skip, stop_at, fail, sees_mark, sees_word, take_mark, take_word, take_name}
+use Rattle.dcc_c.specs.Reading.{Reader, Got, got, line_of, skip, stop_at, fail, sees_mark, take_mark, take_word, take_name}
 use Rattle.dcc_c.specs.ReadingStatements as statements
 use Rattle.dcc_reader.specs.PartialViews.{stmt_of, lines_of}
 use Rattle.dcc_reader.specs.declared.partial.Row.{Row}
+use Rattle.dcc_reader.specs.declared.statement_word.StatementWord.{StatementWord}
+use Rattle.dcc_reader.specs.declared.statement_word.StatementWord.TheVariants.{If, While, Do, For, Switch, Break, Continue, Goto, Return}
 use Rattle.dcc_read.specs.declared.statement.Block.{Block}
 use Rattle.dcc_read.specs.declared.statement.LineRead.{LineRead}
 
@@ -19,10 +21,11 @@ before_lines [] others = others
 before_lines (r ∷ rows) others = statements.before_others (stmt_of r.stmt) r.at r.line (before_lines rows others)
 
 -- what was read where a statement may begin, and the statements after it
-abbrev pub behind_line : LineRead → ℕ → Around → Reader → Got statements.Block
-behind_line l calls around r =
+abbrev pub after_line : LineRead → ℕ → Around → Reader → Got statements.Block
+after_line l calls around r =
     before_lines (option_to_list l.row)
-    (if l.is_last then got (statements.block_of no_rows l.leaves) r else statements.read_lines calls around l.labelled l.leaves r)
+    (if l.is_last then got (statements.block_of no_rows l.leaves) r
+    else statements.read_lines calls around l.labelled l.leaves r)
 
 -- a depth line that stands here, and the statements after it
 abbrev pub depth_line : ℕ → Around → Bool → Reader → Got statements.Block
@@ -40,20 +43,6 @@ label_line calls around r =
           (statements.read_lines calls around true false (statements.stop_if_nested around r.at (skip name.behind)))
       | None ↦ got (statements.block_of no_rows false) name.behind
     ]
-
--- a statement that holds no others
-abbrev pub short_stmt : ℕ → Around → Reader → Got PartialStmt
-short_stmt calls around r =
-    if sees_word (codes "break") r then statements.read_leave around.breaks BreakOf r
-    else if sees_word (codes "continue") r then statements.read_leave around.continues ContinueOf r
-    else if sees_word (codes "goto") r then statements.read_goto r
-    else if sees_word (codes "return") r then statements.read_return calls r
-    else if sees_mark (codes ";") r then got EmptyOf (skip r)
-    else statements.read_simple calls r
-
--- a loop begins here
-abbrev pub begins_loop : Reader → Bool
-begins_loop r = (sees_word (codes "while") r || sees_word (codes "do") r) || sees_word (codes "for") r
 
 -- `(;;)`, which must stand here
 abbrev pub take_forever : Reader → Reader
@@ -75,18 +64,28 @@ forever_stmt calls around r =
     let body = statements.read_block calls (in_loop around) (take_forever r) in
     got (ForeverOf body.value) body.behind
 
--- a loop, the word of which stands here
-abbrev pub loop_stmt : ℕ → Around → Reader → Got PartialStmt
-loop_stmt calls around r =
-    if sees_word (codes "while") r then while_stmt calls around (skip r)
-    else if sees_word (codes "do") r then do_while_stmt calls around (skip r)
-    else forever_stmt calls around (skip r)
-
 -- a `switch`, the word of which stands here
 abbrev pub switch_stmt : ℕ → Around → Reader → Got PartialStmt
 switch_stmt calls around r =
     let test = statements.read_test calls (skip r) in
     statements.switch_of test (statements.read_arms calls (in_switch around) (take_mark (codes "{") test.behind))
+
+-- a statement without a word: `;`, an assignment or a call
+abbrev pub wordless_stmt : ℕ → Reader → Got PartialStmt
+wordless_stmt calls r = if sees_mark (codes ";") r then got EmptyOf (skip r) else statements.read_simple calls r
+
+-- a statement by the word that it begins with, which stands here
+abbrev pub stmt_with : Option StatementWord → ℕ → Around → Reader → Got PartialStmt
+stmt_with (Some If) calls around r = statements.read_if calls around (statements.read_test calls (skip r))
+stmt_with (Some While) calls around r = while_stmt calls around (skip r)
+stmt_with (Some Do) calls around r = do_while_stmt calls around (skip r)
+stmt_with (Some For) calls around r = forever_stmt calls around (skip r)
+stmt_with (Some Switch) calls around r = switch_stmt calls around r
+stmt_with (Some Break) calls around r = statements.read_leave around.breaks BreakOf r
+stmt_with (Some Continue) calls around r = statements.read_leave around.continues ContinueOf r
+stmt_with (Some Goto) calls around r = statements.read_goto r
+stmt_with (Some Return) calls around r = statements.read_return calls r
+stmt_with None calls around r = wordless_stmt calls r
 
 -- an arm before others, and the reader after it
 abbrev pub arm_read : ℕ → Around → PartialArms → Reader → Got PartialArms

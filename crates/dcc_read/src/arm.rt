@@ -57,7 +57,8 @@ fn case_here(r: &Reader<'_>) -> Option<u16>
 // Reads a `case`, the word of which stands here, with its number and the colon.
 fn read_case(r: &mut Reader<'_>) -> Option<CaseAt>
     requires seen { is_some (reading.next_token (reader_of r.old)) ≡ true }
-    ensures { reading.got (option_to_list (option_map case_of result)) (reader_of r.new) ≡ statements.read_case (reader_of r.old) }
+    ensures { reading.got (option_to_list (option_map case_of result)) (reader_of r.new)
+        ≡ statements.read_case (reader_of r.old) }
 {
     r.skip();
     let at = r.at;

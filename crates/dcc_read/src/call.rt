@@ -86,7 +86,8 @@ fn read_call(
 
 // Reads a place that a value is assigned to: a name, or a star with an operand.
 fn read_place(r: &mut Reader<'_>, alloc: Global, calls: usize) -> Result<PartialExpr, AllocError>
-    ensures { IfOk result (λ e. reading.got (expr_of e) (reader_of r.new) ≡ statements.read_place calls (reader_of r.old)) }
+    ensures { IfOk result (λ e. reading.got (expr_of e) (reader_of r.new)
+        ≡ statements.read_place calls (reader_of r.old)) }
 {
     match r.name() {
         Some(word) => name_here(r, alloc, word),

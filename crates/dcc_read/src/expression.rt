@@ -9,10 +9,9 @@ ghost use Rattle.dcc_read.specs.ExpressionViews.{inside_of, measure, strong_enou
 ghost use Rattle.dcc_reader.specs.PartialViews.{expr_of};
 ghost use Rattle.dcc_reader.specs.ReaderViews.{reader_of};
 
-use crate::operator::{binary_of, number_of, strength, unary_of};
 use dcc_c::{CBin, CType, CUn};
 use dcc_lex::Mark;
-use dcc_reader::token::begins_type;
+use dcc_reader::operator::{binary_of, number_of, strength, unary_of};
 use dcc_reader::{ParseKind, PartialExpr, Reader};
 use std::alloc::{AllocError, Global};
 
@@ -138,7 +137,8 @@ fn conditional_of(
     first: Measured,
     second: Measured,
 ) -> Result<Measured, AllocError>
-    ensures { IfOk result (λ e. expr_of e.expr ≡ partial.ConditionalOf (expr_of test.expr) (expr_of first.expr) (expr_of second.expr)) }
+    ensures { IfOk result (λ e. expr_of e.expr
+        ≡ partial.ConditionalOf (expr_of test.expr) (expr_of first.expr) (expr_of second.expr)) }
 {
     let depth = deeper(test.depth.max(first.depth.max(second.depth)));
     let test = Box::new(alloc, test.expr)?;
@@ -194,22 +194,19 @@ fn stop_enclosed(r: &mut Reader<'_>)
 fn operator_of(r: &Reader<'_>, weakest: u8) -> Option<CBin>
     ensures { result ≡ strong_enough weakest (reading.binary_of (reading.next_token (reader_of r.now))) }
 {
-    match binary_of(r.next()) {
-        Some(operator) => {
-            if weakest <= strength(operator) {
-                Some(operator)
-            } else {
-                None
-            }
-        }
-        None => None,
+    let operator = binary_of(r.next())?;
+    if weakest <= strength(operator) {
+        Some(operator)
+    } else {
+        None
     }
 }
 
 /// A name, and whether a parenthesis follows.
 pub fn name_here(r: &mut Reader<'_>, alloc: Global, word: &str) -> Result<PartialExpr, AllocError>
     requires seen { is_some (reading.next_token (reader_of r.now)) ≡ true }
-    ensures { IfOk result (λ e. reading.got (expr_of e) (reader_of r.new) ≡ reading.name_here word.now (reader_of r.old)) }
+    ensures { IfOk result (λ e. reading.got (expr_of e) (reader_of r.new)
+        ≡ reading.name_here word.now (reader_of r.old)) }
 {
     let at = r.at;
     r.skip();
@@ -229,16 +226,12 @@ fn read_leaf(r: &mut Reader<'_>, alloc: Global) -> Result<Measured, AllocError>
             depth: 1,
         });
     }
-    match r.name() {
-        Some(word) => {
-            let expr = name_here(r, alloc, word)?;
-            Ok(Measured { expr, depth: 1 })
-        }
-        None => {
-            r.fail();
-            Ok(missing())
-        }
-    }
+    let Some(word) = r.name() else {
+        r.fail();
+        return Ok(missing());
+    };
+    let expr = name_here(r, alloc, word)?;
+    Ok(Measured { expr, depth: 1 })
 }
 
 // Reads a unary part.
@@ -251,33 +244,27 @@ fn measured_unary(
 ) -> Result<Measured, AllocError>
     requires operators { inside.operators + calls ≤ 2 ^ 64 }
     requires opened { inside.opened + calls ≤ 2 ^ 64 }
-    ensures { IfOk result (λ e. reading.got (expr_of e.expr) (reader_of r.new) ≡ reading.read_unary calls (inside_of inside) (reader_of r.old)) }
+    ensures { IfOk result (λ e. reading.got (expr_of e.expr) (reader_of r.new)
+        ≡ reading.read_unary calls (inside_of inside) (reader_of r.old)) }
 {
-    match calls.checked_sub(1) {
-        None => Ok(missing()),
-        Some(calls) => {
-            if inside.operators >= MOST {
-                r.stop_at(ParseKind::Depth, inside.start);
-                return Ok(missing());
-            }
-            let at = r.at;
-            match unary_of(r.next()) {
-                Some(operator) => {
-                    r.skip();
-                    let operand = measured_unary(r, alloc, calls, inside.in_operator())?;
-                    unary_at(alloc, at, operator, operand)
-                }
-                None => {
-                    if r.sees_mark(Mark::OpenParenthesis) {
-                        r.skip();
-                        read_parentheses(r, alloc, calls, inside, at)
-                    } else {
-                        read_leaf(r, alloc)
-                    }
-                }
-            }
-        }
+    let Some(calls) = calls.checked_sub(1) else {
+        return Ok(missing());
+    };
+    if inside.operators >= MOST {
+        r.stop_at(ParseKind::Depth, inside.start);
+        return Ok(missing());
     }
+    let at = r.at;
+    if let Some(operator) = unary_of(r.next()) {
+        r.skip();
+        let operand = measured_unary(r, alloc, calls, inside.in_operator())?;
+        return unary_at(alloc, at, operator, operand);
+    }
+    if r.sees_mark(Mark::OpenParenthesis) {
+        r.skip();
+        return read_parentheses(r, alloc, calls, inside, at);
+    }
+    read_leaf(r, alloc)
 }
 
 // Reads what stands after an opening parenthesis at a place: the rest of a cast, or an expression and the closing
@@ -292,23 +279,21 @@ fn read_parentheses(
 ) -> Result<Measured, AllocError>
     requires operators { inside.operators + calls < 2 ^ 64 }
     requires opened { inside.opened + calls < 2 ^ 64 }
-    ensures { IfOk result (λ e. reading.got (expr_of e.expr) (reader_of r.new) ≡ reading.read_parentheses calls (inside_of inside) at (reader_of r.old)) }
+    ensures { IfOk result (λ e. reading.got (expr_of e.expr) (reader_of r.new)
+        ≡ reading.read_parentheses calls (inside_of inside) at (reader_of r.old)) }
 {
-    match calls.checked_sub(1) {
-        None => Ok(missing()),
-        Some(calls) => {
-            let content = inside.in_parentheses();
-            stop_if_enclosed(r, content);
-            if r.sees_type() {
-                let ty = r.take_type();
-                read_cast(r, alloc, calls, inside, at, ty)
-            } else {
-                let whole = measured_expr(r, alloc, calls, content)?;
-                r.take_mark(Mark::CloseParenthesis);
-                Ok(whole)
-            }
-        }
+    let Some(calls) = calls.checked_sub(1) else {
+        return Ok(missing());
+    };
+    let content = inside.in_parentheses();
+    stop_if_enclosed(r, content);
+    if r.sees_type() {
+        let ty = r.take_type();
+        return read_cast(r, alloc, calls, inside, at, ty);
     }
+    let whole = measured_expr(r, alloc, calls, content)?;
+    r.take_mark(Mark::CloseParenthesis);
+    Ok(whole)
 }
 
 // Reads the rest of a cast after its type.
@@ -323,19 +308,18 @@ fn read_cast(
 ) -> Result<Measured, AllocError>
     requires operators { inside.operators + calls < 2 ^ 64 }
     requires opened { inside.opened + calls < 2 ^ 64 }
-    ensures { IfOk result (λ e. reading.got (expr_of e.expr) (reader_of r.new) ≡ reading.read_cast calls (inside_of inside) at (reading.got ty (reader_of r.old))) }
+    ensures { IfOk result (λ e. reading.got (expr_of e.expr) (reader_of r.new)
+        ≡ reading.read_cast calls (inside_of inside) at (reading.got ty (reader_of r.old))) }
 {
-    match calls.checked_sub(1) {
-        None => Ok(missing()),
-        Some(calls) => match ty {
-            Some(ty) => {
-                r.take_mark(Mark::CloseParenthesis);
-                let operand = measured_unary(r, alloc, calls, inside.in_operator())?;
-                cast_at(alloc, at, ty, operand)
-            }
-            None => Ok(missing()),
-        },
-    }
+    let Some(calls) = calls.checked_sub(1) else {
+        return Ok(missing());
+    };
+    let Some(ty) = ty else {
+        return Ok(missing());
+    };
+    r.take_mark(Mark::CloseParenthesis);
+    let operand = measured_unary(r, alloc, calls, inside.in_operator())?;
+    cast_at(alloc, at, ty, operand)
 }
 
 // Reads operands that are joined by binary operators of this strength at least.
@@ -349,15 +333,14 @@ fn read_binary(
 ) -> Result<Measured, AllocError>
     requires operators { inside.operators + calls ≤ 2 ^ 64 }
     requires opened { inside.opened + calls ≤ 2 ^ 64 }
-    ensures { IfOk result (λ e. reading.got (expr_of e.expr) (reader_of r.new) ≡ reading.read_binary calls (inside_of inside) weakest (reader_of r.old)) }
+    ensures { IfOk result (λ e. reading.got (expr_of e.expr) (reader_of r.new)
+        ≡ reading.read_binary calls (inside_of inside) weakest (reader_of r.old)) }
 {
-    match calls.checked_sub(1) {
-        None => Ok(missing()),
-        Some(calls) => {
-            let first = measured_unary(r, alloc, calls, inside)?;
-            read_more(r, alloc, calls, inside, weakest, first)
-        }
-    }
+    let Some(calls) = calls.checked_sub(1) else {
+        return Ok(missing());
+    };
+    let first = measured_unary(r, alloc, calls, inside)?;
+    read_more(r, alloc, calls, inside, weakest, first)
 }
 
 // Reads the same after the first operand.
@@ -372,27 +355,26 @@ fn read_more(
 ) -> Result<Measured, AllocError>
     requires operators { inside.operators + calls < 2 ^ 64 }
     requires opened { inside.opened + calls < 2 ^ 64 }
-    ensures { IfOk result (λ e. reading.got (expr_of e.expr) (reader_of r.new) ≡ reading.read_more calls (inside_of inside) weakest (reading.got (expr_of first.expr) (reader_of r.old))) }
+    ensures { IfOk result (λ e. reading.got (expr_of e.expr) (reader_of r.new)
+        ≡ reading.read_more calls (inside_of inside) weakest (reading.got (expr_of first.expr) (reader_of r.old))) }
 {
     let mut left = first;
     let mut calls = calls;
     while let Some(fewer) = calls.checked_sub(1) {
-        match operator_of(r, weakest) {
-            Some(operator) => {
-                r.skip();
-                let right = read_binary(
-                    r,
-                    alloc,
-                    fewer,
-                    inside.in_operator(),
-                    strength(operator) + 1,
-                )?;
-                left = binary_of_two(alloc, operator, left, right)?;
-                stop_if_deep(r, inside, &left);
-                calls = fewer;
-            }
-            None => return Ok(left),
-        }
+        let Some(operator) = operator_of(r, weakest) else {
+            return Ok(left);
+        };
+        r.skip();
+        let right = read_binary(
+            r,
+            alloc,
+            fewer,
+            inside.in_operator(),
+            strength(operator) + 1,
+        )?;
+        left = binary_of_two(alloc, operator, left, right)?;
+        stop_if_deep(r, inside, &left);
+        calls = fewer;
     }
     Ok(left)
 }
@@ -407,15 +389,14 @@ fn measured_expr(
 ) -> Result<Measured, AllocError>
     requires operators { inside.operators + calls ≤ 2 ^ 64 }
     requires opened { inside.opened + calls ≤ 2 ^ 64 }
-    ensures { IfOk result (λ e. reading.got (expr_of e.expr) (reader_of r.new) ≡ reading.read_expr calls (inside_of inside) (reader_of r.old)) }
+    ensures { IfOk result (λ e. reading.got (expr_of e.expr) (reader_of r.new)
+        ≡ reading.read_expr calls (inside_of inside) (reader_of r.old)) }
 {
-    match calls.checked_sub(1) {
-        None => Ok(missing()),
-        Some(calls) => {
-            let test = read_binary(r, alloc, calls, inside, 1)?;
-            read_rest(r, alloc, calls, inside, test)
-        }
-    }
+    let Some(calls) = calls.checked_sub(1) else {
+        return Ok(missing());
+    };
+    let test = read_binary(r, alloc, calls, inside, 1)?;
+    read_rest(r, alloc, calls, inside, test)
 }
 
 // Reads the rest of a conditional after its test, where there is one.
@@ -429,23 +410,22 @@ fn read_rest(
 ) -> Result<Measured, AllocError>
     requires operators { inside.operators + calls < 2 ^ 64 }
     requires opened { inside.opened + calls < 2 ^ 64 }
-    ensures { IfOk result (λ e. reading.got (expr_of e.expr) (reader_of r.new) ≡ reading.read_rest calls (inside_of inside) (reading.got (expr_of test.expr) (reader_of r.old))) }
+    ensures { IfOk result (λ e. reading.got (expr_of e.expr) (reader_of r.new)
+        ≡ reading.read_rest calls (inside_of inside) (reading.got (expr_of test.expr) (reader_of r.old))) }
 {
-    match calls.checked_sub(1) {
-        None => Ok(test),
-        Some(calls) => {
-            if !r.sees_mark(Mark::Question) {
-                return Ok(test);
-            }
-            r.skip();
-            let first = measured_expr(r, alloc, calls, inside.in_operator())?;
-            r.take_mark(Mark::Colon);
-            let second = measured_expr(r, alloc, calls, inside.in_operator())?;
-            let whole = conditional_of(alloc, test, first, second)?;
-            stop_if_deep(r, inside, &whole);
-            Ok(whole)
-        }
+    let Some(calls) = calls.checked_sub(1) else {
+        return Ok(test);
+    };
+    if !r.sees_mark(Mark::Question) {
+        return Ok(test);
     }
+    r.skip();
+    let first = measured_expr(r, alloc, calls, inside.in_operator())?;
+    r.take_mark(Mark::Colon);
+    let second = measured_expr(r, alloc, calls, inside.in_operator())?;
+    let whole = conditional_of(alloc, test, first, second)?;
+    stop_if_deep(r, inside, &whole);
+    Ok(whole)
 }
 
 /// Reads a unary part, which must stand here.
@@ -457,7 +437,8 @@ pub fn read_unary(
 ) -> Result<PartialExpr, AllocError>
     requires operators { inside.operators + calls ≤ 2 ^ 64 }
     requires opened { inside.opened + calls ≤ 2 ^ 64 }
-    ensures { IfOk result (λ e. reading.got (expr_of e) (reader_of r.new) ≡ reading.read_unary calls (inside_of inside) (reader_of r.old)) }
+    ensures { IfOk result (λ e. reading.got (expr_of e) (reader_of r.new)
+        ≡ reading.read_unary calls (inside_of inside) (reader_of r.old)) }
 {
     Ok(measured_unary(r, alloc, calls, inside)?.expr)
 }
@@ -471,7 +452,8 @@ pub fn read_expr(
 ) -> Result<PartialExpr, AllocError>
     requires operators { inside.operators + calls ≤ 2 ^ 64 }
     requires opened { inside.opened + calls ≤ 2 ^ 64 }
-    ensures { IfOk result (λ e. reading.got (expr_of e) (reader_of r.new) ≡ reading.read_expr calls (inside_of inside) (reader_of r.old)) }
+    ensures { IfOk result (λ e. reading.got (expr_of e) (reader_of r.new)
+        ≡ reading.read_expr calls (inside_of inside) (reader_of r.old)) }
 {
     Ok(measured_expr(r, alloc, calls, inside)?.expr)
 }
@@ -482,7 +464,8 @@ pub fn read_value(
     alloc: Global,
     calls: usize,
 ) -> Result<PartialExpr, AllocError>
-    ensures { IfOk result (λ e. reading.got (expr_of e) (reader_of r.new) ≡ statements.read_value calls (reader_of r.old)) }
+    ensures { IfOk result (λ e. reading.got (expr_of e) (reader_of r.new)
+        ≡ statements.read_value calls (reader_of r.old)) }
 {
     let inside = Inside {
         start: r.at,
@@ -498,7 +481,8 @@ pub fn read_enclosed(
     alloc: Global,
     calls: usize,
 ) -> Result<PartialExpr, AllocError>
-    ensures { IfOk result (λ e. reading.got (expr_of e) (reader_of r.new) ≡ statements.read_enclosed calls (reader_of r.old)) }
+    ensures { IfOk result (λ e. reading.got (expr_of e) (reader_of r.new)
+        ≡ statements.read_enclosed calls (reader_of r.old)) }
 {
     let inside = Inside {
         start: r.at,
@@ -510,7 +494,8 @@ pub fn read_enclosed(
 
 /// Reads an expression in parentheses.
 pub fn read_test(r: &mut Reader<'_>, alloc: Global, calls: usize) -> Result<PartialExpr, AllocError>
-    ensures { IfOk result (λ e. reading.got (expr_of e) (reader_of r.new) ≡ statements.read_test calls (reader_of r.old)) }
+    ensures { IfOk result (λ e. reading.got (expr_of e) (reader_of r.new)
+        ≡ statements.read_test calls (reader_of r.old)) }
 {
     r.take_mark(Mark::OpenParenthesis);
     let e = read_enclosed(r, alloc, calls)?;

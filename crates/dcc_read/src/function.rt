@@ -7,12 +7,11 @@ ghost use Rattle.dcc_reader.specs.BegunViews.{begun_of};
 ghost use Rattle.dcc_reader.specs.PartialViews.{function_of};
 ghost use Rattle.dcc_reader.specs.ReaderViews.{reader_of};
 
-use crate::around::Around;
 use crate::statement::read_lines;
 use dcc_lex::Mark;
 use dcc_reader::declaration::read_locals;
 use dcc_reader::head::{Begun, read_begun, read_head};
-use dcc_reader::{PartialFunction, Reader};
+use dcc_reader::{Around, PartialFunction, Reader};
 use std::alloc::{AllocError, Global};
 
 // Reads a function after its head.

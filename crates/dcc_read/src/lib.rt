@@ -2,13 +2,9 @@
 #![tactic(auto)]
 
 mod arm;
-mod around;
 mod call;
 mod expression;
-#[cfg(test)]
-mod expression_tests;
 mod function;
-mod operator;
 mod short;
 mod statement;
 mod text;

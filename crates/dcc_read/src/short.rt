@@ -15,7 +15,8 @@ use std::alloc::{AllocError, Global};
 // Goes past the next piece where it is allowed, or stops at it.
 fn skip_if(r: &mut Reader<'_>, is_allowed: bool)
     requires seen { is_some (reading.next_token (reader_of r.old)) ≡ true }
-    ensures { reader_of r.new ≡ (if is_allowed then reading.skip (reader_of r.old) else reading.fail (reader_of r.old)) }
+    ensures { reader_of r.new
+        ≡ (if is_allowed then reading.skip (reader_of r.old) else reading.fail (reader_of r.old)) }
 {
     if is_allowed {
         r.skip();
@@ -38,7 +39,8 @@ pub(crate) fn read_leave(r: &mut Reader<'_>, is_inside: bool)
 /// Reads a `goto`, the word of which stands here.
 pub(crate) fn read_goto(r: &mut Reader<'_>, alloc: Global) -> Result<PartialStmt, AllocError>
     requires seen { is_some (reading.next_token (reader_of r.old)) ≡ true }
-    ensures { IfOk result (λ stmt. reading.got (stmt_of stmt) (reader_of r.new) ≡ statements.read_goto (reader_of r.old)) }
+    ensures { IfOk result (λ stmt. reading.got (stmt_of stmt) (reader_of r.new)
+        ≡ statements.read_goto (reader_of r.old)) }
 {
     r.skip();
     let name = r.take_name(alloc)?;

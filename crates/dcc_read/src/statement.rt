@@ -1,24 +1,23 @@
 //! Reading statements.
 
-ghost use Rattle.std.specs.Prelude.{◌≡◌, ◌&&◌, not, ◌+◌, ◌≤◌, ◌<◌, ℕ, if◌then◌else◌, suc, IfOk, true, false, is_some, map, Bool};
+ghost use Rattle.std.specs.Prelude.{◌≡◌, ◌&&◌, not, ◌+◌, ◌≤◌, ◌<◌, ℕ, if◌then◌else◌, suc, IfOk, true, false, is_some, map};
 ghost use Rattle.dcc_c.specs.Grammar as grammar;
 ghost use Rattle.dcc_c.specs.Partial as partial;
 ghost use Rattle.dcc_c.specs.Reading as reading;
 ghost use Rattle.dcc_c.specs.ReadingStatements as statements;
 ghost use Rattle.dcc_reader.specs.AroundViews.{around_of};
-ghost use Rattle.dcc_read.specs.Lines.{block_of, behind_line, begins_loop, take_forever, short_stmt, loop_stmt, switch_stmt, depth_line, label_line, arm_read};
+ghost use Rattle.dcc_read.specs.Lines.{block_of, after_line, take_forever, while_stmt, do_while_stmt, forever_stmt, wordless_stmt, switch_stmt, depth_line, label_line, arm_read};
 ghost use Rattle.dcc_reader.specs.PartialViews.{expr_of, stmt_of, lines_of, arm_before, arms_of};
 ghost use Rattle.dcc_reader.specs.ReaderViews.{reader_of};
 
 use crate::arm::{begins_arm, read_arm_head};
-use crate::around::Around;
 use crate::call::read_simple;
 use crate::expression::read_test;
 use crate::short::{read_goto, read_leave, read_return};
 use dcc_lex::{Head, Mark};
 use dcc_reader::list::push_some;
 use dcc_reader::pragma::read_depth;
-use dcc_reader::{ParseKind, PartialArm, PartialStmt, Reader, Row};
+use dcc_reader::{Around, ParseKind, PartialArm, PartialStmt, Reader, Row, StatementWord};
 use std::alloc::{AllocError, Global};
 
 /// Statements one after the other.
@@ -46,7 +45,7 @@ struct LineRead {
 // What was read where nothing that begins here is allowed.
 fn last_line() -> LineRead
     ensures { (calls : ℕ) (around : grammar.Around) (r : reading.Reader) →
-        behind_line result calls around r ≡ reading.got (statements.block_of partial.no_rows false) r }
+        after_line result calls around r ≡ reading.got (statements.block_of partial.no_rows false) r }
 {
     LineRead {
         row: None,
@@ -60,13 +59,16 @@ fn last_line() -> LineRead
 fn begins_block_stmt(r: &Reader<'_>) -> bool
     ensures { result ≡ statements.is_block_word (reading.next_token (reader_of r.now)) }
 {
-    ((r.sees_word("if") || r.sees_word("while")) || (r.sees_word("do") || r.sees_word("for")))
-        || r.sees_word("switch")
+    match r.statement_word() {
+        Some(word) => word.holds_blocks(),
+        None => false,
+    }
 }
 
 // Whether a statement that holds blocks begins here, and more than 200 blocks stand around it.
 fn begins_nested_block(r: &Reader<'_>, around: Around) -> bool
-    ensures { result ≡ statements.is_nested (around_of around) && statements.is_block_word (reading.next_token (reader_of r.now)) }
+    ensures { result
+        ≡ statements.is_nested (around_of around) && statements.is_block_word (reading.next_token (reader_of r.now)) }
 {
     around.is_nested() && begins_block_stmt(r)
 }
@@ -75,25 +77,17 @@ fn begins_nested_block(r: &Reader<'_>, around: Around) -> bool
 fn sees_statement_word(r: &Reader<'_>) -> bool
     ensures { result ≡ statements.is_statement_word (reading.next_token (reader_of r.now)) }
 {
-    ((r.sees_word("if") || r.sees_word("while")) || (r.sees_word("do") || r.sees_word("for")))
-        || (((r.sees_word("switch") || r.sees_word("break"))
-            || (r.sees_word("continue") || r.sees_word("goto")))
-            || r.sees_word("return"))
+    r.statement_word().is_some()
 }
 
 // Whether a statement, a label or a depth line begins here.
 fn begins_stmt(r: &Reader<'_>) -> bool
     ensures { result ≡ statements.begins_stmt (reading.next_token (reader_of r.now)) }
 {
-    (sees_statement_word(r) || r.name().is_some())
-        || ((r.sees_mark(Mark::Star) || r.sees_mark(Mark::Semicolon)) || r.sees_head(Head::Depth))
-}
-
-// Whether a loop begins here.
-fn begins_loop(r: &Reader<'_>) -> bool
-    ensures { result ≡ begins_loop (reader_of r.now) }
-{
-    (r.sees_word("while") || r.sees_word("do")) || r.sees_word("for")
+    if sees_statement_word(r) || r.name().is_some() {
+        return true;
+    }
+    r.sees_mark(Mark::Star) || r.sees_mark(Mark::Semicolon) || r.sees_head(Head::Depth)
 }
 
 // Takes `(;;)`, which must stand here.
@@ -166,7 +160,7 @@ fn end_arm(r: &mut Reader<'_>, block: Block) -> Vec<Row>
 // Reads a depth line, the words of which stand here and which may not stand after a label.
 fn read_depth_line(r: &mut Reader<'_>, around: Around, labelled: bool) -> LineRead
     requires seen { is_some (reading.next_token (reader_of r.old)) ≡ true }
-    ensures { (calls : ℕ) → behind_line result calls (around_of around) (reader_of r.new)
+    ensures { (calls : ℕ) → after_line result calls (around_of around) (reader_of r.new)
         ≡ depth_line calls (around_of around) labelled (reader_of r.old) }
 {
     if labelled {
@@ -189,7 +183,7 @@ fn read_depth_line(r: &mut Reader<'_>, around: Around, labelled: bool) -> LineRe
 // Reads a label, which stands here.
 fn read_label(r: &mut Reader<'_>, alloc: Global, around: Around) -> Result<LineRead, AllocError>
     requires begins { statements.begins_label (reader_of r.old) ≡ true }
-    ensures { IfOk result (λ line. (calls : ℕ) → behind_line line calls (around_of around) (reader_of r.new)
+    ensures { IfOk result (λ line. (calls : ℕ) → after_line line calls (around_of around) (reader_of r.new)
         ≡ label_line calls (around_of around) (reader_of r.old)) }
 {
     let at = r.at;
@@ -211,29 +205,11 @@ fn read_label(r: &mut Reader<'_>, alloc: Global, around: Around) -> Result<LineR
     }
 }
 
-// Reads a statement that holds no others.
-fn read_short(
-    r: &mut Reader<'_>,
-    alloc: Global,
-    calls: usize,
-    around: Around,
-) -> Result<PartialStmt, AllocError>
-    ensures { IfOk result (λ stmt. reading.got (stmt_of stmt) (reader_of r.new) ≡ short_stmt calls (around_of around) (reader_of r.old)) }
+// Reads a statement without a word: `;`, an assignment or a call.
+fn read_wordless(r: &mut Reader<'_>, alloc: Global, calls: usize) -> Result<PartialStmt, AllocError>
+    ensures { IfOk result (λ stmt. reading.got (stmt_of stmt) (reader_of r.new)
+        ≡ wordless_stmt calls (reader_of r.old)) }
 {
-    if r.sees_word("break") {
-        read_leave(r, around.breaks);
-        return Ok(PartialStmt::Break);
-    }
-    if r.sees_word("continue") {
-        read_leave(r, around.continues);
-        return Ok(PartialStmt::Continue);
-    }
-    if r.sees_word("goto") {
-        return read_goto(r, alloc);
-    }
-    if r.sees_word("return") {
-        return read_return(r, alloc, calls);
-    }
     if r.sees_mark(Mark::Semicolon) {
         r.skip();
         return Ok(PartialStmt::Empty);
@@ -250,22 +226,31 @@ fn read_stmt(
     around: Around,
 ) -> Result<PartialStmt, AllocError>
     requires room { around.blocks + calls ≤ usize.MAX }
-    ensures { IfOk result (λ stmt. reading.got (stmt_of stmt) (reader_of r.new) ≡ statements.read_stmt calls (around_of around) (reader_of r.old)) }
+    ensures { IfOk result (λ stmt. reading.got (stmt_of stmt) (reader_of r.new)
+        ≡ statements.read_stmt calls (around_of around) (reader_of r.old)) }
 {
     if calls == 0 {
         return Ok(PartialStmt::Empty);
     }
     let fewer = calls - 1;
-    if r.sees_word("if") {
-        return read_if(r, alloc, fewer, around);
+    match r.statement_word() {
+        Some(StatementWord::If) => read_if(r, alloc, fewer, around),
+        Some(StatementWord::While) => read_while(r, alloc, fewer, around),
+        Some(StatementWord::Do) => read_do_while(r, alloc, fewer, around),
+        Some(StatementWord::For) => read_forever(r, alloc, fewer, around),
+        Some(StatementWord::Switch) => read_switch(r, alloc, fewer, around),
+        Some(StatementWord::Break) => {
+            read_leave(r, around.breaks);
+            Ok(PartialStmt::Break)
+        }
+        Some(StatementWord::Continue) => {
+            read_leave(r, around.continues);
+            Ok(PartialStmt::Continue)
+        }
+        Some(StatementWord::Goto) => read_goto(r, alloc),
+        Some(StatementWord::Return) => read_return(r, alloc, fewer),
+        None => read_wordless(r, alloc, fewer),
     }
-    if begins_loop(r) {
-        return read_loop(r, alloc, fewer, around);
-    }
-    if r.sees_word("switch") {
-        return read_switch(r, alloc, fewer, around);
-    }
-    read_short(r, alloc, fewer, around)
 }
 
 // Reads an `if`, the word of which stands here.
@@ -297,9 +282,9 @@ fn read_if(
     Ok(PartialStmt::If(test, done, body, Vec::new(alloc)))
 }
 
-// Reads a loop, the word of which stands here.
+// Reads a `while` loop, the word of which stands here.
 #[cycle(statement)]
-fn read_loop(
+fn read_while(
     r: &mut Reader<'_>,
     alloc: Global,
     calls: usize,
@@ -307,28 +292,54 @@ fn read_loop(
 ) -> Result<PartialStmt, AllocError>
     requires seen { is_some (reading.next_token (reader_of r.old)) ≡ true }
     requires room { around.blocks + calls < usize.MAX }
-    ensures { IfOk result (λ stmt. reading.got (stmt_of stmt) (reader_of r.new) ≡ loop_stmt calls (around_of around) (reader_of r.old)) }
+    ensures { IfOk result (λ stmt. reading.got (stmt_of stmt) (reader_of r.new)
+        ≡ while_stmt calls (around_of around) (reading.skip (reader_of r.old))) }
 {
-    let inside = around.in_loop();
-    if r.sees_word("while") {
-        r.skip();
-        let test = read_test(r, alloc, calls)?;
-        let done = !r.is_stopped();
-        let body = read_block(r, alloc, calls, inside)?;
-        return Ok(PartialStmt::While(test, done, body));
-    }
-    if r.sees_word("do") {
-        r.skip();
-        let body = read_block(r, alloc, calls, inside)?;
-        r.take_word("while");
-        let test = read_test(r, alloc, calls)?;
-        let done = !r.is_stopped();
-        r.take_mark(Mark::Semicolon);
-        return Ok(PartialStmt::DoWhile(body, test, done));
-    }
+    r.skip();
+    let test = read_test(r, alloc, calls)?;
+    let done = !r.is_stopped();
+    let body = read_block(r, alloc, calls, around.in_loop())?;
+    Ok(PartialStmt::While(test, done, body))
+}
+
+// Reads a `do` loop, the word of which stands here.
+#[cycle(statement)]
+fn read_do_while(
+    r: &mut Reader<'_>,
+    alloc: Global,
+    calls: usize,
+    around: Around,
+) -> Result<PartialStmt, AllocError>
+    requires seen { is_some (reading.next_token (reader_of r.old)) ≡ true }
+    requires room { around.blocks + calls < usize.MAX }
+    ensures { IfOk result (λ stmt. reading.got (stmt_of stmt) (reader_of r.new)
+        ≡ do_while_stmt calls (around_of around) (reading.skip (reader_of r.old))) }
+{
+    r.skip();
+    let body = read_block(r, alloc, calls, around.in_loop())?;
+    r.take_word("while");
+    let test = read_test(r, alloc, calls)?;
+    let done = !r.is_stopped();
+    r.take_mark(Mark::Semicolon);
+    Ok(PartialStmt::DoWhile(body, test, done))
+}
+
+// Reads a loop without a test, the word of which stands here.
+#[cycle(statement)]
+fn read_forever(
+    r: &mut Reader<'_>,
+    alloc: Global,
+    calls: usize,
+    around: Around,
+) -> Result<PartialStmt, AllocError>
+    requires seen { is_some (reading.next_token (reader_of r.old)) ≡ true }
+    requires room { around.blocks + calls < usize.MAX }
+    ensures { IfOk result (λ stmt. reading.got (stmt_of stmt) (reader_of r.new)
+        ≡ forever_stmt calls (around_of around) (reading.skip (reader_of r.old))) }
+{
     r.skip();
     take_forever(r);
-    let body = read_block(r, alloc, calls, inside)?;
+    let body = read_block(r, alloc, calls, around.in_loop())?;
     Ok(PartialStmt::Forever(body))
 }
 
@@ -342,7 +353,8 @@ fn read_switch(
 ) -> Result<PartialStmt, AllocError>
     requires seen { is_some (reading.next_token (reader_of r.old)) ≡ true }
     requires room { around.blocks + calls < usize.MAX }
-    ensures { IfOk result (λ stmt. reading.got (stmt_of stmt) (reader_of r.new) ≡ switch_stmt calls (around_of around) (reader_of r.old)) }
+    ensures { IfOk result (λ stmt. reading.got (stmt_of stmt) (reader_of r.new)
+        ≡ switch_stmt calls (around_of around) (reader_of r.old)) }
 {
     r.skip();
     let test = read_test(r, alloc, calls)?;
@@ -418,7 +430,7 @@ fn read_line(
     labelled: bool,
 ) -> Result<LineRead, AllocError>
     requires room { around.blocks + calls ≤ usize.MAX }
-    ensures { IfOk result (λ line. behind_line line calls (around_of around) (reader_of r.new)
+    ensures { IfOk result (λ line. after_line line calls (around_of around) (reader_of r.new)
         ≡ statements.read_line (suc calls) (around_of around) labelled (reader_of r.old)) }
 {
     if r.sees_head(Head::Depth) {

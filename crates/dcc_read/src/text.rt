@@ -178,7 +178,8 @@ fn read_text(r: &mut Reader<'_>, alloc: Global, calls: usize) -> Result<PartialT
 /// Where memory runs out.
 pub fn read<'a>(alloc: Global, pieces: &'a [Piece]) -> Result<Reading<'a>, AllocError>
     requires few { length pieces.now < 67108864 }
-    ensures { IfOk result (λ r. reading.got (text_of r.text) (reader_of r.behind) ≡ texts.reading_of (pieces_of pieces.now)) }
+    ensures { IfOk result (λ r. reading.got (text_of r.text) (reader_of r.behind)
+        ≡ texts.reading_of (pieces_of pieces.now)) }
 {
     let mut behind = reader_at(pieces);
     let text = read_text(&mut behind, alloc, enough_calls(pieces))?;

@@ -1,20 +1,20 @@
 use Rattle.std.proofs.Common.{◌≡◌, ℕ, ◌-◌, false, not, codes, map, IfOk, sym, ap, ◌∙◌, subst, arith}
 use Rattle.dcc_c.specs.Partial as partial
 use Rattle.dcc_c.specs.Partial.{IfOf, no_rows, no_cases, cases}
-use Rattle.dcc_c.specs.Reading.{Got, got}
+use Rattle.dcc_c.specs.Reading.{Got, got, next_token}
 use Rattle.dcc_c.specs.Token.{depth_line}
 use Rattle.dcc_c.specs.ReadingStatements as s
 use Rattle.dcc_reader.specs.declared.partial.PartialArm.{out-roll-PartialArm}
 use Rattle.dcc_read.specs.declared.statement.LineRead.{LineRead}
 use Rattle.dcc_read.specs.ArmViews.{arm_head_of}
 use Rattle.dcc_reader.specs.AroundViews.{around_of}
-use Rattle.dcc_read.specs.Lines.{block_of, before_lines, behind_line, label_line}
+use Rattle.dcc_read.specs.Lines.{block_of, before_lines, after_line, label_line}
 use Rattle.dcc_reader.specs.PartialViews.{case_of, expr_of, stmt_of, lines_of, arms_of}
 use Rattle.dcc_reader.specs.ReaderViews.{reader_of}
 use Rattle.dcc_reader.proofs.RowLaws.{arm-parts, if-tree, while-tree, do_while-tree, forever-tree, switch-tree}
 use Rattle.dcc_reader.proofs.SeenLaws.{word-seen, head-seen}
 use Rattle.dcc_reader.proofs.HeadLaws.{ok-map}
-use Rattle.dcc_read.proofs.StatementLaws.{loop-seen}
+use Rattle.dcc_reader.proofs.WordLaws.{statement-seen}
 use Rattle.dcc_read.proofs.StatementLaws as laws
 use Rattle.dcc_read.proofs.LineLaws as lines
 use Rattle.dcc_read.proofs.statement.+statement.Goals as goal
@@ -114,7 +114,7 @@ read_line-read_label-requires t c = record { begins = sym c.sees_name_and.ensure
 pub read_line-returns-then-sees_name_and : goal.read_line-returns-then-sees_name_and
 read_line-returns-then-sees_name_and t c =
     ok-map c.read_label.result
-    (λ (l : LineRead). (calls : ℕ) → behind_line l calls (around_of c.args.around) (reader_of c.read_label.new.r) ≡ label_line calls (around_of c.args.around) (reader_of c.args.r.now)) _
+    (λ (l : LineRead). (calls : ℕ) → after_line l calls (around_of c.args.around) (reader_of c.read_label.new.r) ≡ label_line calls (around_of c.args.around) (reader_of c.args.r.now)) _
     (λ l h. h c.args.calls
     ∙ sym (lines.line-label c.args.calls (around_of c.args.around) c.args.labelled (reader_of c.args.r.now) (sym c.sees_head.ensures ∙ c.if-sees_head.false) (sym c.sees_name_and.ensures ∙ c.if-sees_name_and.true)))
     c.read_label.ensures
@@ -165,37 +165,38 @@ read_lines-returns t c =
 
 -- Loops.
 
-pub read_loop-skip-requires : goal.read_loop-skip-requires
-read_loop-skip-requires t c = record { seen = c.requires.seen }
+pub read_while-skip-requires : goal.read_while-skip-requires
+read_while-skip-requires t c = record { seen = c.requires.seen }
 
-pub read_loop-returns-then-sees_word : goal.read_loop-returns-then-sees_word
-read_loop-returns-then-sees_word t c =
+pub read_while-returns : goal.read_while-returns
+read_while-returns t c =
     ap (λ stmt. got stmt (reader_of c.read_block.new.r)) (while-tree c.in_ok-test.test (not c.is_stopped-done.result) c.in_ok-body.body)
-    ∙ laws.while-read c.args.calls (around_of c.args.around) (around_of c.in_loop-inside.result) (reader_of c.args.r.now) (reader_of c.skip.new.self) (reader_of c.read_test.new.r) (reader_of c.read_block.new.r)
-    (expr_of c.in_ok-test.test) c.is_stopped-done.result (lines_of c.in_ok-body.body.items) (sym c.sees_word.ensures ∙ c.if-sees_word.true) c.skip.ensures c.in_ok-test.ensures c.is_stopped-done.ensures
-    c.in_loop-inside.ensures c.in_ok-body.ensures
+    ∙ laws.while-read c.args.calls (around_of c.args.around) (around_of c.in_loop.result) (reader_of c.args.r.now)
+    (reader_of c.skip.new.self) (reader_of c.read_test.new.r) (reader_of c.read_block.new.r) (expr_of c.in_ok-test.test)
+    c.is_stopped-done.result (lines_of c.in_ok-body.body.items) c.skip.ensures c.in_ok-test.ensures c.is_stopped-done.ensures
+    c.in_loop.ensures c.in_ok-body.ensures
 
-pub read_loop-skip-requires-then-sees_word-2 : goal.read_loop-skip-requires-then-sees_word-2
-read_loop-skip-requires-then-sees_word-2 t c = record { seen = c.requires.seen }
+pub read_do_while-skip-requires : goal.read_do_while-skip-requires
+read_do_while-skip-requires t c = record { seen = c.requires.seen }
 
-pub read_loop-returns-then-sees_word-2 : goal.read_loop-returns-then-sees_word-2
-read_loop-returns-then-sees_word-2 t c =
-    ap (λ stmt. got stmt (reader_of c.take_mark.new.self)) (do_while-tree c.in_ok-test-2.test (not c.is_stopped-done-then-sees_word-2.result) c.in_ok-body-2.body)
-    ∙ laws.do-read c.args.calls (around_of c.args.around) (around_of c.in_loop-inside.result) (reader_of c.args.r.now) (reader_of c.skip-then-sees_word-2.new.self) (reader_of c.read_block-then-sees_word-2.new.r)
-    (reader_of c.take_word.new.self) (reader_of c.read_test-then-sees_word-2.new.r) (reader_of c.take_mark.new.self)
-    (expr_of c.in_ok-test-2.test) c.is_stopped-done-then-sees_word-2.result (lines_of c.in_ok-body-2.body.items) (sym c.sees_word.ensures ∙ c.if-sees_word.false) (sym c.sees_word-2.ensures ∙ c.if-sees_word-2.true)
-    c.skip-then-sees_word-2.ensures c.in_loop-inside.ensures c.in_ok-body-2.ensures c.take_word.ensures c.in_ok-test-2.ensures
-    c.is_stopped-done-then-sees_word-2.ensures c.take_mark.ensures
+pub read_do_while-returns : goal.read_do_while-returns
+read_do_while-returns t c =
+    ap (λ stmt. got stmt (reader_of c.take_mark.new.self)) (do_while-tree c.in_ok-test.test (not c.is_stopped-done.result) c.in_ok-body.body)
+    ∙ laws.do-read c.args.calls (around_of c.args.around) (around_of c.in_loop.result) (reader_of c.args.r.now)
+    (reader_of c.skip.new.self) (reader_of c.read_block.new.r) (reader_of c.take_word.new.self) (reader_of c.read_test.new.r)
+    (reader_of c.take_mark.new.self) (expr_of c.in_ok-test.test) c.is_stopped-done.result (lines_of c.in_ok-body.body.items)
+    c.skip.ensures c.in_loop.ensures c.in_ok-body.ensures c.take_word.ensures c.in_ok-test.ensures c.is_stopped-done.ensures
+    c.take_mark.ensures
 
-pub read_loop-skip-requires-2 : goal.read_loop-skip-requires-2
-read_loop-skip-requires-2 t c = record { seen = c.requires.seen }
+pub read_forever-skip-requires : goal.read_forever-skip-requires
+read_forever-skip-requires t c = record { seen = c.requires.seen }
 
-pub read_loop-returns : goal.read_loop-returns
-read_loop-returns t c =
-    ap (λ stmt. got stmt (reader_of c.read_block-2.new.r)) (forever-tree c.in_ok-body-3.body)
-    ∙ laws.forever-read c.args.calls (around_of c.args.around) (around_of c.in_loop-inside.result) (reader_of c.args.r.now) (reader_of c.skip-2.new.self) (reader_of c.take_forever.new.r) (reader_of c.read_block-2.new.r)
-    (lines_of c.in_ok-body-3.body.items) (sym c.sees_word.ensures ∙ c.if-sees_word.false) (sym c.sees_word-2.ensures ∙ c.if-sees_word-2.false)
-    c.skip-2.ensures c.take_forever.ensures c.in_loop-inside.ensures c.in_ok-body-3.ensures
+pub read_forever-returns : goal.read_forever-returns
+read_forever-returns t c =
+    ap (λ stmt. got stmt (reader_of c.read_block.new.r)) (forever-tree c.in_ok-body.body)
+    ∙ laws.forever-read c.args.calls (around_of c.args.around) (around_of c.in_loop.result) (reader_of c.args.r.now)
+    (reader_of c.skip.new.self) (reader_of c.take_forever.new.r) (reader_of c.read_block.new.r) (lines_of c.in_ok-body.body.items)
+    c.skip.ensures c.take_forever.ensures c.in_loop.ensures c.in_ok-body.ensures
 
 -- Statements in general.
 
@@ -203,39 +204,70 @@ pub read_stmt-returns-then-calls-eq0 : goal.read_stmt-returns-then-calls-eq0
 read_stmt-returns-then-calls-eq0 t c = laws.stmt-end c.args.calls (around_of c.args.around) (reader_of c.args.r.now) c.if-calls-eq0.true
 
 pub read_stmt-read_if-requires : goal.read_stmt-read_if-requires
-read_stmt-read_if-requires t c = (omega arith, (word-seen (codes "if") (reader_of c.args.r.now) (sym c.sees_word.ensures ∙ c.if-sees_word.true), omega arith))
+read_stmt-read_if-requires t c =
+    (omega arith, (statement-seen (next_token (reader_of c.args.r.now)) c.in-Some-If.ensures, omega arith))
 
-pub read_stmt-returns-then-sees_word : goal.read_stmt-returns-then-sees_word
-read_stmt-returns-then-sees_word t c =
-    subst (λ (g : Got partial.PartialStmt). IfOk c.read_if.result (λ stmt. got (stmt_of stmt) (reader_of c.read_if.new.r) ≡ g))
-    (sym (laws.stmt-if c.args.calls (around_of c.args.around) (reader_of c.args.r.now) (omega arith) (sym c.sees_word.ensures ∙ c.if-sees_word.true)))
-    c.read_if.ensures
+pub read_stmt-returns-in-Some-If : goal.read_stmt-returns-in-Some-If
+read_stmt-returns-in-Some-If t c =
+    laws.read-with c.read_if.result (reader_of c.read_if.new.r) c.args.calls (around_of c.args.around) (reader_of c.args.r.now) _
+    (omega arith) c.in-Some-If.ensures c.read_if.ensures
 
-pub read_stmt-read_loop-requires : goal.read_stmt-read_loop-requires
-read_stmt-read_loop-requires t c = (omega arith, (loop-seen (reader_of c.args.r.now) (sym c.begins_loop.ensures ∙ c.if-begins_loop.true), omega arith))
+pub read_stmt-read_while-requires : goal.read_stmt-read_while-requires
+read_stmt-read_while-requires t c =
+    (omega arith, (statement-seen (next_token (reader_of c.args.r.now)) c.in-Some-While.ensures, omega arith))
 
-pub read_stmt-returns-then-begins_loop : goal.read_stmt-returns-then-begins_loop
-read_stmt-returns-then-begins_loop t c =
-    subst (λ (g : Got partial.PartialStmt). IfOk c.read_loop.result (λ stmt. got (stmt_of stmt) (reader_of c.read_loop.new.r) ≡ g))
-    (sym (laws.stmt-loop c.args.calls (around_of c.args.around) (reader_of c.args.r.now) (omega arith) (sym c.sees_word.ensures ∙ c.if-sees_word.false) (sym c.begins_loop.ensures ∙ c.if-begins_loop.true)))
-    c.read_loop.ensures
+pub read_stmt-returns-in-Some-While : goal.read_stmt-returns-in-Some-While
+read_stmt-returns-in-Some-While t c =
+    laws.read-with c.read_while.result (reader_of c.read_while.new.r) c.args.calls (around_of c.args.around) (reader_of c.args.r.now) _
+    (omega arith) c.in-Some-While.ensures c.read_while.ensures
+
+pub read_stmt-read_do_while-requires : goal.read_stmt-read_do_while-requires
+read_stmt-read_do_while-requires t c =
+    (omega arith, (statement-seen (next_token (reader_of c.args.r.now)) c.in-Some-Do.ensures, omega arith))
+
+pub read_stmt-returns-in-Some-Do : goal.read_stmt-returns-in-Some-Do
+read_stmt-returns-in-Some-Do t c =
+    laws.read-with c.read_do_while.result (reader_of c.read_do_while.new.r) c.args.calls (around_of c.args.around) (reader_of c.args.r.now) _
+    (omega arith) c.in-Some-Do.ensures c.read_do_while.ensures
+
+pub read_stmt-read_forever-requires : goal.read_stmt-read_forever-requires
+read_stmt-read_forever-requires t c =
+    (omega arith, (statement-seen (next_token (reader_of c.args.r.now)) c.in-Some-For.ensures, omega arith))
+
+pub read_stmt-returns-in-Some-For : goal.read_stmt-returns-in-Some-For
+read_stmt-returns-in-Some-For t c =
+    laws.read-with c.read_forever.result (reader_of c.read_forever.new.r) c.args.calls (around_of c.args.around) (reader_of c.args.r.now) _
+    (omega arith) c.in-Some-For.ensures c.read_forever.ensures
 
 pub read_stmt-read_switch-requires : goal.read_stmt-read_switch-requires
-read_stmt-read_switch-requires t c = (omega arith, (word-seen (codes "switch") (reader_of c.args.r.now) (sym c.sees_word-2.ensures ∙ c.if-sees_word-2.true), omega arith))
+read_stmt-read_switch-requires t c =
+    (omega arith, (statement-seen (next_token (reader_of c.args.r.now)) c.in-Some-Switch.ensures, omega arith))
 
-pub read_stmt-returns-then-sees_word-2 : goal.read_stmt-returns-then-sees_word-2
-read_stmt-returns-then-sees_word-2 t c =
-    subst (λ (g : Got partial.PartialStmt). IfOk c.read_switch.result (λ stmt. got (stmt_of stmt) (reader_of c.read_switch.new.r) ≡ g))
-    (sym (laws.stmt-switch c.args.calls (around_of c.args.around) (reader_of c.args.r.now) (omega arith) (sym c.sees_word.ensures ∙ c.if-sees_word.false) (sym c.begins_loop.ensures ∙ c.if-begins_loop.false)
-    (sym c.sees_word-2.ensures ∙ c.if-sees_word-2.true)))
-    c.read_switch.ensures
+pub read_stmt-returns-in-Some-Switch : goal.read_stmt-returns-in-Some-Switch
+read_stmt-returns-in-Some-Switch t c =
+    laws.read-with c.read_switch.result (reader_of c.read_switch.new.r) c.args.calls (around_of c.args.around) (reader_of c.args.r.now) _
+    (omega arith) c.in-Some-Switch.ensures c.read_switch.ensures
 
-pub read_stmt-returns : goal.read_stmt-returns
-read_stmt-returns t c =
-    subst (λ (g : Got partial.PartialStmt). IfOk c.read_short.result (λ stmt. got (stmt_of stmt) (reader_of c.read_short.new.r) ≡ g))
-    (sym (laws.stmt-short c.args.calls (around_of c.args.around) (reader_of c.args.r.now) (omega arith) (sym c.sees_word.ensures ∙ c.if-sees_word.false) (sym c.begins_loop.ensures ∙ c.if-begins_loop.false)
-    (sym c.sees_word-2.ensures ∙ c.if-sees_word-2.false)))
-    c.read_short.ensures
+pub read_stmt-read_goto-requires : goal.read_stmt-read_goto-requires
+read_stmt-read_goto-requires t c = record { seen = statement-seen (next_token (reader_of c.args.r.now)) c.in-Some-Goto.ensures }
+
+pub read_stmt-returns-in-Some-Goto : goal.read_stmt-returns-in-Some-Goto
+read_stmt-returns-in-Some-Goto t c =
+    laws.read-with c.read_goto.result (reader_of c.read_goto.new.r) c.args.calls (around_of c.args.around) (reader_of c.args.r.now) _
+    (omega arith) c.in-Some-Goto.ensures c.read_goto.ensures
+
+pub read_stmt-read_return-requires : goal.read_stmt-read_return-requires
+read_stmt-read_return-requires t c = record { seen = statement-seen (next_token (reader_of c.args.r.now)) c.in-Some-Return.ensures }
+
+pub read_stmt-returns-in-Some-Return : goal.read_stmt-returns-in-Some-Return
+read_stmt-returns-in-Some-Return t c =
+    laws.read-with c.read_return.result (reader_of c.read_return.new.r) c.args.calls (around_of c.args.around) (reader_of c.args.r.now) _
+    (omega arith) c.in-Some-Return.ensures c.read_return.ensures
+
+pub read_stmt-returns-in-None : goal.read_stmt-returns-in-None
+read_stmt-returns-in-None t c =
+    laws.read-with c.read_wordless.result (reader_of c.read_wordless.new.r) c.args.calls (around_of c.args.around) (reader_of c.args.r.now) _
+    (omega arith) c.in-None.ensures c.read_wordless.ensures
 
 -- `switch`
 

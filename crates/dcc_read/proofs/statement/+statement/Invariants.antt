@@ -12,8 +12,14 @@ decreases-read_stmt l = l.calls * 4
 abbrev pub decreases-read_if : goal.decreases-read_if
 decreases-read_if l = l.calls * 4 + 3
 
-abbrev pub decreases-read_loop : goal.decreases-read_loop
-decreases-read_loop l = l.calls * 4 + 3
+abbrev pub decreases-read_while : goal.decreases-read_while
+decreases-read_while l = l.calls * 4 + 3
+
+abbrev pub decreases-read_do_while : goal.decreases-read_do_while
+decreases-read_do_while l = l.calls * 4 + 3
+
+abbrev pub decreases-read_forever : goal.decreases-read_forever
+decreases-read_forever l = l.calls * 4 + 3
 
 abbrev pub decreases-read_switch : goal.decreases-read_switch
 decreases-read_switch l = l.calls * 4 + 3
