@@ -193,3 +193,8 @@ pub made : {E : Type 0} (r : Result Measured E) (behind : Reader) (x : PartialEx
     got x behind ≡ y → IfOk r (λ e. got (expr_of e.expr) behind ≡ y)
 made r behind x y read is =
     IfOk-weaker r (λ e. expr_of e.expr ≡ x) (λ e. got (expr_of e.expr) behind ≡ y) (λ e was. ap (λ x. got x behind) was ∙ is) read
+
+-- an answer that is no value is none
+pub not-some : {A : Type 0} (answer : Option A) → ((x : A) → answer ≡ Some x → ⊥) → answer ≡ None
+not-some None never = refl
+not-some (Some x) never = absurd (never x refl)

@@ -1,10 +1,11 @@
-use Rattle.std.proofs.Common.{◌≡◌, ℕ, ◌-◌, false, not, codes, map, IfOk, sym, ap, ◌∙◌, subst, arith}
+use Rattle.std.proofs.Common.{◌≡◌, ℕ, ◌-◌, false, not, codes, map, Some, None, IfOk, sym, ap, ◌∙◌, arith}
 use Rattle.dcc_c.specs.Partial as partial
-use Rattle.dcc_c.specs.Partial.{IfOf, no_rows, no_cases, cases}
+use Rattle.dcc_c.specs.Partial.{IfOf, BreakOf, ContinueOf, no_rows, no_cases, cases}
 use Rattle.dcc_c.specs.Reading.{Got, got, next_token}
 use Rattle.dcc_c.specs.Token.{depth_line}
 use Rattle.dcc_c.specs.ReadingStatements as s
 use Rattle.dcc_reader.specs.declared.partial.PartialArm.{out-roll-PartialArm}
+use Rattle.dcc_reader.specs.declared.statement_word.StatementWord.TheVariants.{If, While, Do, For, Switch, Break, Continue, Goto, Return}
 use Rattle.dcc_read.specs.declared.statement.LineRead.{LineRead}
 use Rattle.dcc_read.specs.ArmViews.{arm_head_of}
 use Rattle.dcc_reader.specs.AroundViews.{around_of}
@@ -209,8 +210,8 @@ read_stmt-read_if-requires t c =
 
 pub read_stmt-returns-in-Some-If : goal.read_stmt-returns-in-Some-If
 read_stmt-returns-in-Some-If t c =
-    laws.read-with c.read_if.result (reader_of c.read_if.new.r) c.args.calls (around_of c.args.around) (reader_of c.args.r.now) _
-    (omega arith) c.in-Some-If.ensures c.read_if.ensures
+    laws.read-with c.read_if.result (reader_of c.read_if.new.r) c.args.calls (around_of c.args.around) (reader_of c.args.r.now) (Some If)
+    (omega arith) (ap Some (sym c.in-Some-If.field-0-is) ∙ c.in-Some-If.ensures) c.read_if.ensures
 
 pub read_stmt-read_while-requires : goal.read_stmt-read_while-requires
 read_stmt-read_while-requires t c =
@@ -218,8 +219,8 @@ read_stmt-read_while-requires t c =
 
 pub read_stmt-returns-in-Some-While : goal.read_stmt-returns-in-Some-While
 read_stmt-returns-in-Some-While t c =
-    laws.read-with c.read_while.result (reader_of c.read_while.new.r) c.args.calls (around_of c.args.around) (reader_of c.args.r.now) _
-    (omega arith) c.in-Some-While.ensures c.read_while.ensures
+    laws.read-with c.read_while.result (reader_of c.read_while.new.r) c.args.calls (around_of c.args.around) (reader_of c.args.r.now) (Some While)
+    (omega arith) (ap Some (sym c.in-Some-While.field-0-is) ∙ c.in-Some-While.ensures) c.read_while.ensures
 
 pub read_stmt-read_do_while-requires : goal.read_stmt-read_do_while-requires
 read_stmt-read_do_while-requires t c =
@@ -227,8 +228,8 @@ read_stmt-read_do_while-requires t c =
 
 pub read_stmt-returns-in-Some-Do : goal.read_stmt-returns-in-Some-Do
 read_stmt-returns-in-Some-Do t c =
-    laws.read-with c.read_do_while.result (reader_of c.read_do_while.new.r) c.args.calls (around_of c.args.around) (reader_of c.args.r.now) _
-    (omega arith) c.in-Some-Do.ensures c.read_do_while.ensures
+    laws.read-with c.read_do_while.result (reader_of c.read_do_while.new.r) c.args.calls (around_of c.args.around) (reader_of c.args.r.now) (Some Do)
+    (omega arith) (ap Some (sym c.in-Some-Do.field-0-is) ∙ c.in-Some-Do.ensures) c.read_do_while.ensures
 
 pub read_stmt-read_forever-requires : goal.read_stmt-read_forever-requires
 read_stmt-read_forever-requires t c =
@@ -236,8 +237,8 @@ read_stmt-read_forever-requires t c =
 
 pub read_stmt-returns-in-Some-For : goal.read_stmt-returns-in-Some-For
 read_stmt-returns-in-Some-For t c =
-    laws.read-with c.read_forever.result (reader_of c.read_forever.new.r) c.args.calls (around_of c.args.around) (reader_of c.args.r.now) _
-    (omega arith) c.in-Some-For.ensures c.read_forever.ensures
+    laws.read-with c.read_forever.result (reader_of c.read_forever.new.r) c.args.calls (around_of c.args.around) (reader_of c.args.r.now) (Some For)
+    (omega arith) (ap Some (sym c.in-Some-For.field-0-is) ∙ c.in-Some-For.ensures) c.read_forever.ensures
 
 pub read_stmt-read_switch-requires : goal.read_stmt-read_switch-requires
 read_stmt-read_switch-requires t c =
@@ -245,28 +246,40 @@ read_stmt-read_switch-requires t c =
 
 pub read_stmt-returns-in-Some-Switch : goal.read_stmt-returns-in-Some-Switch
 read_stmt-returns-in-Some-Switch t c =
-    laws.read-with c.read_switch.result (reader_of c.read_switch.new.r) c.args.calls (around_of c.args.around) (reader_of c.args.r.now) _
-    (omega arith) c.in-Some-Switch.ensures c.read_switch.ensures
+    laws.read-with c.read_switch.result (reader_of c.read_switch.new.r) c.args.calls (around_of c.args.around) (reader_of c.args.r.now) (Some Switch)
+    (omega arith) (ap Some (sym c.in-Some-Switch.field-0-is) ∙ c.in-Some-Switch.ensures) c.read_switch.ensures
+
+pub read_stmt-returns-in-Some-Break : goal.read_stmt-returns-in-Some-Break
+read_stmt-returns-in-Some-Break t c =
+    c.read_leave.ensures BreakOf
+    ∙ laws.stmt-with c.args.calls (around_of c.args.around) (reader_of c.args.r.now) (Some Break) (omega arith)
+    (ap Some (sym c.in-Some-Break.field-0-is) ∙ c.in-Some-Break.ensures)
+
+pub read_stmt-returns-in-Some-Continue : goal.read_stmt-returns-in-Some-Continue
+read_stmt-returns-in-Some-Continue t c =
+    c.read_leave-in-Some-Continue.ensures ContinueOf
+    ∙ laws.stmt-with c.args.calls (around_of c.args.around) (reader_of c.args.r.now) (Some Continue) (omega arith)
+    (ap Some (sym c.in-Some-Continue.field-0-is) ∙ c.in-Some-Continue.ensures)
 
 pub read_stmt-read_goto-requires : goal.read_stmt-read_goto-requires
 read_stmt-read_goto-requires t c = record { seen = statement-seen (next_token (reader_of c.args.r.now)) c.in-Some-Goto.ensures }
 
 pub read_stmt-returns-in-Some-Goto : goal.read_stmt-returns-in-Some-Goto
 read_stmt-returns-in-Some-Goto t c =
-    laws.read-with c.read_goto.result (reader_of c.read_goto.new.r) c.args.calls (around_of c.args.around) (reader_of c.args.r.now) _
-    (omega arith) c.in-Some-Goto.ensures c.read_goto.ensures
+    laws.read-with c.read_goto.result (reader_of c.read_goto.new.r) c.args.calls (around_of c.args.around) (reader_of c.args.r.now) (Some Goto)
+    (omega arith) (ap Some (sym c.in-Some-Goto.field-0-is) ∙ c.in-Some-Goto.ensures) c.read_goto.ensures
 
 pub read_stmt-read_return-requires : goal.read_stmt-read_return-requires
 read_stmt-read_return-requires t c = record { seen = statement-seen (next_token (reader_of c.args.r.now)) c.in-Some-Return.ensures }
 
 pub read_stmt-returns-in-Some-Return : goal.read_stmt-returns-in-Some-Return
 read_stmt-returns-in-Some-Return t c =
-    laws.read-with c.read_return.result (reader_of c.read_return.new.r) c.args.calls (around_of c.args.around) (reader_of c.args.r.now) _
-    (omega arith) c.in-Some-Return.ensures c.read_return.ensures
+    laws.read-with c.read_return.result (reader_of c.read_return.new.r) c.args.calls (around_of c.args.around) (reader_of c.args.r.now) (Some Return)
+    (omega arith) (ap Some (sym c.in-Some-Return.field-0-is) ∙ c.in-Some-Return.ensures) c.read_return.ensures
 
 pub read_stmt-returns-in-None : goal.read_stmt-returns-in-None
 read_stmt-returns-in-None t c =
-    laws.read-with c.read_wordless.result (reader_of c.read_wordless.new.r) c.args.calls (around_of c.args.around) (reader_of c.args.r.now) _
+    laws.read-with c.read_wordless.result (reader_of c.read_wordless.new.r) c.args.calls (around_of c.args.around) (reader_of c.args.r.now) None
     (omega arith) c.in-None.ensures c.read_wordless.ensures
 
 -- `switch`
