@@ -1,3 +1,6 @@
+pub use Rattle.dcc_c.specs.Numbered
+pub use Rattle.dcc_c.specs.Pieces
+pub use Rattle.dcc_c.specs.Token
 pub mod ByteViews
 pub mod CutViews
 pub mod HeadViews

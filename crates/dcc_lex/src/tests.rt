@@ -7,8 +7,8 @@ use std::test::Fail;
 // The bytes after a version line, and their pieces, each with its line.
 const TEXTS: [(&[u8], &str); 8] = [
     (
-        b"\n#pragma dcc stack 512 0\nint x[3] = 42U;\n",
-        "2:#Stack 2:512Plain 2:0Plain 3:int 3:x 3:OpenBracket 3:3Plain 3:CloseBracket 3:Equals 3:42Unsigned 3:Semicolon ",
+        b"\n#pragma dcc stack 512 0\nint x[3] = 2U;\n",
+        "2:#Stack 2:512Plain 2:0Plain 3:int 3:x 3:OpenBracket 3:3Plain 3:CloseBracket 3:Equals 3:2Unsigned 3:Semicolon ",
     ),
     (
         b"\tx<<=0x1FUL||y_2 != 7L\n#pragma dcc depth",

@@ -1,3 +1,8 @@
+pub use Rattle.dcc_c.specs.Reading
+pub use Rattle.dcc_c.specs.ReadingText
+pub use Rattle.dcc_lex.specs.TokenViews
+pub use Rattle.dcc_reader.specs.PartialViews
+pub use Rattle.dcc_reader.specs.ReaderViews
 pub mod ArmViews
 pub mod ExpressionViews
 pub mod Lines

@@ -6,6 +6,7 @@ use Rattle.dcc_c.specs.Reading.{Reader, Got, got, take_mark, in_operator, read_u
 use Rattle.dcc_c.specs.ReadingStatements.{whole}
 
 -- a star, which must stand here, and its operand
-abbrev pub behind_star : ℕ → Reader → Got PartialExpr
-behind_star calls r =
-    let a = read_unary calls (in_operator (whole 0 r)) (take_mark (codes "*") r) in got (UnaryHere r.at Deref a.value) a.behind
+abbrev pub after_star : ℕ → Reader → Got PartialExpr
+after_star calls r =
+    let a = read_unary calls (in_operator (whole 0 r)) (take_mark (codes "*") r) in
+    got (UnaryHere r.at Deref a.value) a.behind

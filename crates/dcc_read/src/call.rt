@@ -4,7 +4,7 @@ ghost use Rattle.std.specs.Prelude.{◌≡◌, ◌∷◌, [], IfOk, true, is_som
 ghost use Rattle.std.specs.Option.{option_map};
 ghost use Rattle.dcc_c.specs.Reading as reading;
 ghost use Rattle.dcc_c.specs.ReadingStatements as statements;
-ghost use Rattle.dcc_read.specs.Stars.{behind_star};
+ghost use Rattle.dcc_read.specs.Stars.{after_star};
 ghost use Rattle.dcc_reader.specs.PartialViews.{expr_of, stmt_of, word_of};
 ghost use Rattle.dcc_reader.specs.ReaderViews.{reader_of};
 
@@ -21,7 +21,8 @@ fn read_arguments(
     calls: usize,
 ) -> Result<Vec<PartialExpr>, AllocError>
     ensures { IfOk result (λ arguments.
-        reading.got (map expr_of arguments.items) (reader_of r.new) ≡ statements.read_arguments calls (reader_of r.old)) }
+        reading.got (map expr_of arguments.items) (reader_of r.new)
+        ≡ statements.read_arguments calls (reader_of r.old)) }
 {
     let mut arguments = Vec::new(alloc);
     if r.sees_mark(Mark::CloseParenthesis) {
@@ -41,7 +42,7 @@ fn read_arguments(
 }
 
 // Reads a call after its name, with a place for its result or none.
-fn read_call_behind(
+fn read_call_after(
     r: &mut Reader<'_>,
     alloc: Global,
     calls: usize,
@@ -79,7 +80,7 @@ fn read_call(
         ≡ statements.read_call calls (option_map expr_of place) (reader_of r.old)) }
 {
     match r.take_name(alloc)? {
-        Some(function) => read_call_behind(r, alloc, calls, place, function),
+        Some(function) => read_call_after(r, alloc, calls, place, function),
         None => Ok(PartialStmt::Empty),
     }
 }
@@ -91,17 +92,17 @@ fn read_place(r: &mut Reader<'_>, alloc: Global, calls: usize) -> Result<Partial
 {
     match r.name() {
         Some(word) => name_here(r, alloc, word),
-        None => read_behind_star(r, alloc, calls),
+        None => read_after_star(r, alloc, calls),
     }
 }
 
 // Reads a star, which must stand here, and its operand.
-fn read_behind_star(
+fn read_after_star(
     r: &mut Reader<'_>,
     alloc: Global,
     calls: usize,
 ) -> Result<PartialExpr, AllocError>
-    ensures { IfOk result (λ e. reading.got (expr_of e) (reader_of r.new) ≡ behind_star calls (reader_of r.old)) }
+    ensures { IfOk result (λ e. reading.got (expr_of e) (reader_of r.new) ≡ after_star calls (reader_of r.old)) }
 {
     let at = r.at;
     let inside = Inside {

@@ -38,7 +38,8 @@ head_filled begun inside params =
     let end = take_mark (codes ")") params.behind in
     got (head begun (opened_at inside) (sees_word (codes "void") inside) params.value (not (is_stopped end))) end
 
-pub head-read : (calls : ℕ) (begun : Got Begun) (inside filled end : Reader) (opened : Option ℕ) (without : Bool) (params locals : List PartialVariable) (body : PartialLines) (stopped : Bool) → locals ≡ [] → body ≡ no_rows →
+pub head-read : (calls : ℕ) (begun : Got Begun) (inside filled end : Reader) (opened : Option ℕ) (without : Bool)
+    (params locals : List PartialVariable) (body : PartialLines) (stopped : Bool) → locals ≡ [] → body ≡ no_rows →
     inside ≡ take_mark (codes "(") begun.behind → opened ≡ opened_at inside → without ≡ sees_word (codes "void") inside →
     got params filled ≡ read_params calls inside → end ≡ take_mark (codes ")") filled → stopped ≡ is_stopped end →
     got (with_body locals body begun.value opened without params (not stopped)) end ≡ read_head calls begun

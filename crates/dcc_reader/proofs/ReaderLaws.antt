@@ -16,13 +16,13 @@ drop_more zero ps = refl
 drop_more (suc n) [] = refl
 drop_more (suc n) (p ∷ ps) = drop_more n ps
 
-map_behind : (ps : List Piece) → map piece_of (drop 1 ps) ≡ drop 1 (map piece_of ps)
-map_behind [] = refl
-map_behind (p ∷ ps) = refl
+map_after : (ps : List Piece) → map piece_of (drop 1 ps) ≡ drop 1 (map piece_of ps)
+map_after [] = refl
+map_after (p ∷ ps) = refl
 
 -- the pieces after the next one
-pub behind_one : (n : ℕ) (ps : List Piece) → map piece_of (drop (n + 1) ps) ≡ drop 1 (map piece_of (drop n ps))
-behind_one n ps = rw add-one (ap (map piece_of) (drop_more n ps) ∙ map_behind (drop n ps))
+pub after_one : (n : ℕ) (ps : List Piece) → map piece_of (drop (n + 1) ps) ≡ drop 1 (map piece_of (drop n ps))
+after_one n ps = rw add-one (ap (map piece_of) (drop_more n ps) ∙ map_after (drop n ps))
 
 at_next : (left : List pieces.Piece) (n : ℕ) (stop : Option kinds.Offence) (depth : ℕ) →
     let before : reading.Reader = record { left = left; at = n + 1; stop = stop; depth = depth } in
@@ -31,10 +31,10 @@ at_next : (left : List pieces.Piece) (n : ℕ) (stop : Option kinds.Offence) (de
 at_next left n stop depth = rw add-one refl
 
 -- the reader after the next piece
-pub behind_next : (r s : Reader) → s.pieces ≡ r.pieces → s.at ≡ r.at + 1 → s.stop ≡ r.stop → s.depth ≡ r.depth →
+pub after_next : (r s : Reader) → s.pieces ≡ r.pieces → s.at ≡ r.at + 1 → s.stop ≡ r.stop → s.depth ≡ r.depth →
     reader_of s ≡ reading.skip (reader_of r)
-behind_next r s pieces at stop depth =
-    simp (pieces, at, stop, depth) (simp behind_one (at_next (drop 1 (map piece_of (drop r.at r.pieces.now))) r.at _ r.depth))
+after_next r s pieces at stop depth =
+    simp (pieces, at, stop, depth) (simp after_one (at_next (drop 1 (map piece_of (drop r.at r.pieces.now))) r.at _ r.depth))
 
 -- the token after the next one
 pub second_of : (r : reading.Reader) → is_some (reading.next_token r) ≡ true →
@@ -47,5 +47,5 @@ second_of r seen = second_at r.left r.at r.stop r.depth seen
     second_at left at None depth seen = refl
 
 -- what a type is read from
-abbrev pub type_behind : reading.Got (Option Base) → reading.Got (Option CType)
-type_behind base = elim base.value [ Some b ↦ reading.with_star b base.behind | None ↦ reading.got None base.behind ]
+abbrev pub type_after : reading.Got (Option Base) → reading.Got (Option CType)
+type_after base = elim base.value [ Some b ↦ reading.with_star b base.behind | None ↦ reading.got None base.behind ]

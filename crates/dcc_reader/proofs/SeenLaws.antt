@@ -49,9 +49,9 @@ named r (Some word) e = refl
 named r None e = absurd (false≢true e)
 
 -- after a name that a mark stands after
-pub mark-behind : (bytes : List ℕ) (r behind : Reader) (name : Option WordAt) →
+pub mark-after : (bytes : List ℕ) (r behind : Reader) (name : Option WordAt) →
     (is_some (name_of (next_token r)) && is_the_mark bytes (second_token r)) ≡ true → got name behind ≡ take_name r → is_some (next_token behind) ≡ true
-mark-behind bytes r behind name e is =
+mark-after bytes r behind name e is =
     let here = is_some (name_of (next_token r)) in
     let mark = is_the_mark bytes (second_token r) in
     let same : behind ≡ skip r = ap (λ (g : Got (Option WordAt)). g.behind) is ∙ named r (name_of (next_token r)) (both-first here mark e) in

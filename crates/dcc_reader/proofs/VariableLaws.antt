@@ -36,7 +36,8 @@ auto-split : (b : Bool) (r : Reader) → classed (if b then got Auto (skip r) el
 auto-split true r = refl
 auto-split false r = refl
 
-pub local-read : (r behind held called bounded end : Reader) (class final : Class) (type : Option CType) (name : Option WordAt) (size : Option NumberAt) (init : List NumberAt) (stopped : Bool) → init ≡ [] →
+pub local-read : (r behind held called bounded end : Reader) (class final : Class) (type : Option CType) (name : Option WordAt)
+    (size : Option NumberAt) (init : List NumberAt) (stopped : Bool) → init ≡ [] →
     got class behind ≡ read_auto r → got type held ≡ take_type behind → got name called ≡ take_name held → got size bounded ≡ s.read_size called →
     end ≡ take_mark (codes ";") bounded → stopped ≡ is_stopped end → final ≡ s.class_with size class →
     got (with_init init name type final size (not stopped)) end ≡ s.read_local r

@@ -1,3 +1,8 @@
+pub use Rattle.dcc_c.specs.Grammar
+pub use Rattle.dcc_c.specs.Reading
+pub use Rattle.dcc_c.specs.ReadingStatements
+pub use Rattle.dcc_c.specs.ReadingText
+pub use Rattle.dcc_lex.specs.TokenViews
 pub mod AroundViews
 pub mod BegunViews
 pub mod Heads

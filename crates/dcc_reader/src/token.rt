@@ -40,7 +40,8 @@ fn is_keyword(word: &str) -> bool
         "auto" | "break" | "case" | "char" | "const" | "continue" | "default" | "do" => true,
         "double" | "else" | "enum" | "extern" | "float" | "for" | "goto" | "if" => true,
         "int" | "long" | "register" | "return" | "short" | "signed" | "sizeof" | "static" => true,
-        "struct" | "switch" | "typedef" | "union" | "unsigned" | "void" | "volatile" | "while" => true,
+        "struct" | "switch" | "typedef" | "union" | "unsigned" | "void" | "volatile" | "while" =>
+            true,
         _ => false,
     }
 }

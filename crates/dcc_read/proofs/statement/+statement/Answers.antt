@@ -28,7 +28,8 @@ read_arm-returns t c others =
     (arm-parts _ others
     ∙ ap (λ a. cases (map case_of a.numbers.items) a.default (lines_of a.body.items) others) (out-roll-PartialArm _))
     ∙ lines.arm-read c.args.calls (around_of c.args.around) (reader_of c.args.r.now) (reader_of c.read_arm_head.new.r) (reader_of c.read_lines.new.r)
-    (reader_of c.end_arm-body.new.r) (arm_head_of c.in_ok-head.head) (block_of c.in_ok-block.block) (lines_of c.end_arm-body.result.items) others c.in_ok-head.ensures c.in_ok-block.ensures c.end_arm-body.ensures
+    (reader_of c.end_arm-body.new.r) (arm_head_of c.in_ok-head.head) (block_of c.in_ok-block.block) (lines_of c.end_arm-body.result.items) others
+    c.in_ok-head.ensures c.in_ok-block.ensures c.end_arm-body.ensures
 
 pub read_arms-returns-then-calls-eq0 : goal.read_arms-returns-then-calls-eq0
 read_arms-returns-then-calls-eq0 t c =
@@ -50,18 +51,22 @@ read_arms-loop-left-init t c = record {
 
 pub read_arms-returns-then-not-begins_arm-2 : goal.read_arms-returns-then-not-begins_arm-2
 read_arms-returns-then-not-begins_arm-2 t c =
-    lines.arms-done _ (reader_of c.loop-left.r) _ _ (lines.arms-none c.loop-left.left (around_of c.args.around) (reader_of c.loop-left.r) (sym c.begins_arm-in-loop-left.ensures ∙ c.if-not-begins_arm-2.true)) c.loop-left.invariant.read
+    lines.arms-done _ (reader_of c.loop-left.r) _ _
+    (lines.arms-none c.loop-left.left (around_of c.args.around) (reader_of c.loop-left.r)
+    (sym c.begins_arm-in-loop-left.ensures ∙ c.if-not-begins_arm-2.true)) c.loop-left.invariant.read
 
 pub read_arms-loop-left-preserved : goal.read_arms-loop-left-preserved
 read_arms-loop-left-preserved t c = record {
   within = omega arith;
   read =
-      lines.arms-step c.loop-left.left (around_of c.args.around) (reader_of c.loop-left.r) (reader_of c.read_arm.new.r) c.in_ok-arm.arm _ _ _ c.loop-left-test.true (sym c.begins_arm-in-loop-left.ensures ∙ c.if-not-begins_arm-2.false)
+      lines.arms-step c.loop-left.left (around_of c.args.around) (reader_of c.loop-left.r) (reader_of c.read_arm.new.r) c.in_ok-arm.arm _ _ _
+      c.loop-left-test.true (sym c.begins_arm-in-loop-left.ensures ∙ c.if-not-begins_arm-2.false)
       c.in_ok-arm.ensures c.in_ok-push.ensures.items c.loop-left.invariant.read;
 }
 
 pub read_arms-returns : goal.read_arms-returns
-read_arms-returns t c = lines.arms-done _ (reader_of c.loop-left.r) _ _ (lines.arms-end_calls c.loop-left.left (around_of c.args.around) (reader_of c.loop-left.r) (omega arith)) c.loop-left.invariant.read
+read_arms-returns t c = lines.arms-done _ (reader_of c.loop-left.r) _ _
+    (lines.arms-end_calls c.loop-left.left (around_of c.args.around) (reader_of c.loop-left.r) (omega arith)) c.loop-left.invariant.read
 
 -- Blocks.
 
@@ -88,7 +93,8 @@ read_if-returns-then-sees_word t c =
     ap (λ stmt. got stmt (reader_of c.read_block-then-sees_word.new.r)) (if-tree c.in_ok-test.test (not c.is_stopped-done.result) c.in_ok-body.body c.in_ok-otherwise.otherwise)
     ∙ laws.else-read c.args.calls (around_of c.args.around) (around_of c.in_block.result) (around_of c.in_block-then-sees_word.result) (reader_of c.args.r.now) (reader_of c.skip.new.self)
     (reader_of c.read_test.new.r) (reader_of c.read_block.new.r) (reader_of c.skip-then-sees_word.new.self) (reader_of c.read_block-then-sees_word.new.r)
-    (expr_of c.in_ok-test.test) c.is_stopped-done.result (lines_of c.in_ok-body.body.items) (lines_of c.in_ok-otherwise.otherwise.items) (omega arith) c.skip.ensures c.in_ok-test.ensures c.is_stopped-done.ensures c.in_block.ensures
+    (expr_of c.in_ok-test.test) c.is_stopped-done.result (lines_of c.in_ok-body.body.items) (lines_of c.in_ok-otherwise.otherwise.items)
+    (omega arith) c.skip.ensures c.in_ok-test.ensures c.is_stopped-done.ensures c.in_block.ensures
     c.in_ok-body.ensures (sym c.sees_word.ensures ∙ c.if-sees_word.true) c.skip-then-sees_word.ensures c.in_block-then-sees_word.ensures
     c.in_ok-otherwise.ensures
 
@@ -96,7 +102,8 @@ pub read_if-returns : goal.read_if-returns
 read_if-returns t c =
     ap (λ stmt. got stmt (reader_of c.read_block.new.r)) (if-tree c.in_ok-test.test (not c.is_stopped-done.result) c.in_ok-body.body c.new.result
     ∙ ap (λ l. IfOf (expr_of c.in_ok-test.test) (not c.is_stopped-done.result) (lines_of c.in_ok-body.body.items) (lines_of l)) c.new.ensures.items)
-    ∙ laws.if-read c.args.calls (around_of c.args.around) (around_of c.in_block.result) (reader_of c.args.r.now) (reader_of c.skip.new.self) (reader_of c.read_test.new.r) (reader_of c.read_block.new.r)
+    ∙ laws.if-read c.args.calls (around_of c.args.around) (around_of c.in_block.result) (reader_of c.args.r.now) (reader_of c.skip.new.self)
+    (reader_of c.read_test.new.r) (reader_of c.read_block.new.r)
     (expr_of c.in_ok-test.test) c.is_stopped-done.result (lines_of c.in_ok-body.body.items) (omega arith) c.skip.ensures c.in_ok-test.ensures c.is_stopped-done.ensures c.in_block.ensures
     c.in_ok-body.ensures (sym c.sees_word.ensures ∙ c.if-sees_word.false)
 
@@ -117,14 +124,16 @@ read_line-returns-then-sees_name_and t c =
     ok-map c.read_label.result
     (λ (l : LineRead). (calls : ℕ) → after_line l calls (around_of c.args.around) (reader_of c.read_label.new.r) ≡ label_line calls (around_of c.args.around) (reader_of c.args.r.now)) _
     (λ l h. h c.args.calls
-    ∙ sym (lines.line-label c.args.calls (around_of c.args.around) c.args.labelled (reader_of c.args.r.now) (sym c.sees_head.ensures ∙ c.if-sees_head.false) (sym c.sees_name_and.ensures ∙ c.if-sees_name_and.true)))
+    ∙ sym (lines.line-label c.args.calls (around_of c.args.around) c.args.labelled (reader_of c.args.r.now)
+    (sym c.sees_head.ensures ∙ c.if-sees_head.false) (sym c.sees_name_and.ensures ∙ c.if-sees_name_and.true)))
     c.read_label.ensures
 
 pub read_line-returns-then-begins_nested_block : goal.read_line-returns-then-begins_nested_block
 read_line-returns-then-begins_nested_block t c =
     c.last_line.ensures c.args.calls (around_of c.args.around) (reader_of c.stop_at.new.self)
     ∙ ap (got (s.block_of no_rows false)) c.stop_at.ensures
-    ∙ sym (lines.line-deep c.args.calls (around_of c.args.around) c.args.labelled (reader_of c.args.r.now) (sym c.sees_head.ensures ∙ c.if-sees_head.false) (sym c.sees_name_and.ensures ∙ c.if-sees_name_and.false)
+    ∙ sym (lines.line-deep c.args.calls (around_of c.args.around) c.args.labelled (reader_of c.args.r.now)
+    (sym c.sees_head.ensures ∙ c.if-sees_head.false) (sym c.sees_name_and.ensures ∙ c.if-sees_name_and.false)
     (sym c.begins_nested_block.ensures ∙ c.if-begins_nested_block.true))
 
 pub read_line-returns : goal.read_line-returns
@@ -143,7 +152,8 @@ read_lines-loop-left-init t c = record {
 pub read_lines-returns-then-not-begins_stmt : goal.read_lines-returns-then-not-begins_stmt
 read_lines-returns-then-not-begins_stmt t c =
     lines.lines-done _ _ (reader_of c.fail_if.new.r) _ _
-    (lines.lines-none c.loop-left.left (around_of c.args.around) c.loop-left.labelled c.loop-left.leaves (reader_of c.loop-left.r) (reader_of c.fail_if.new.r) (omega arith) (sym c.begins_stmt.ensures ∙ c.if-not-begins_stmt.true) c.fail_if.ensures) c.loop-left.invariant.read
+    (lines.lines-none c.loop-left.left (around_of c.args.around) c.loop-left.labelled c.loop-left.leaves (reader_of c.loop-left.r)
+    (reader_of c.fail_if.new.r) (omega arith) (sym c.begins_stmt.ensures ∙ c.if-not-begins_stmt.true) c.fail_if.ensures) c.loop-left.invariant.read
 
 pub read_lines-returns-then-line : goal.read_lines-returns-then-line
 read_lines-returns-then-line t c =
@@ -290,6 +300,8 @@ read_switch-skip-requires t c = record { seen = c.requires.seen }
 pub read_switch-returns : goal.read_switch-returns
 read_switch-returns t c =
     ap (λ stmt. got stmt (reader_of c.take_mark-2.new.self)) (switch-tree c.in_ok-test.test (not c.is_stopped-done.result) c.in_ok-arms.arms)
-    ∙ laws.switch-read c.args.calls (around_of c.args.around) (around_of c.in_switch.result) (reader_of c.args.r.now) (reader_of c.skip.new.self) (reader_of c.read_test.new.r) (reader_of c.take_mark.new.self)
-    (reader_of c.read_arms.new.r) (reader_of c.take_mark-2.new.self) (expr_of c.in_ok-test.test) c.is_stopped-done.result (arms_of c.in_ok-arms.arms.items) c.skip.ensures c.in_ok-test.ensures c.is_stopped-done.ensures c.take_mark.ensures
+    ∙ laws.switch-read c.args.calls (around_of c.args.around) (around_of c.in_switch.result) (reader_of c.args.r.now) (reader_of c.skip.new.self)
+    (reader_of c.read_test.new.r) (reader_of c.take_mark.new.self)
+    (reader_of c.read_arms.new.r) (reader_of c.take_mark-2.new.self) (expr_of c.in_ok-test.test) c.is_stopped-done.result
+    (arms_of c.in_ok-arms.arms.items) c.skip.ensures c.in_ok-test.ensures c.is_stopped-done.ensures c.take_mark.ensures
     c.in_switch.ensures c.in_ok-arms.ensures c.take_mark-2.ensures

@@ -27,7 +27,9 @@ loop-left-preserved-then-sees_head c = record {
   low = omega arith;
   read =
       sym (ap (λ d. before_globals (map variable_of c.loop-left.globals.items) d)
-      (declared-place c.loop-left.left c.loop-left.address (reader_of c.loop-left.r) (got c.read_place_line.result (reader_of c.read_place_line.new.r)) c.loop-left-test.true (sym c.sees_head.ensures ∙ c.if-sees_head.true) c.read_place_line.ensures.exact))
+      (declared-place c.loop-left.left c.loop-left.address (reader_of c.loop-left.r)
+      (got c.read_place_line.result (reader_of c.read_place_line.new.r)) c.loop-left-test.true (sym c.sees_head.ensures ∙ c.if-sees_head.true)
+      c.read_place_line.ensures.exact))
       ∙ c.loop-left.invariant.read;
 }
 
@@ -42,7 +44,8 @@ returns-in_default c =
 pub overflow_add-address : goal.overflow_add-address
 overflow_add-address c =
     let low : c.in-Some.here + 17179869180 * (c.loop-left.left + 1) ≤ 4294967295 + 17179869180 * c.args.calls =
-    address-kept (λ a. a + 17179869180 * (c.loop-left.left + 1) ≤ 4294967295 + 17179869180 * c.args.calls) c.loop-left.address (got (begun_of c.in_ok-begun.begun) (reader_of c.read_begun.new.r)) c.in-Some.here c.in-Some.ensures c.loop-left.invariant.low in
+    address-kept (λ a. a + 17179869180 * (c.loop-left.left + 1) ≤ 4294967295 + 17179869180 * c.args.calls) c.loop-left.address
+    (got (begun_of c.in_ok-begun.begun) (reader_of c.read_begun.new.r)) c.in-Some.here c.in-Some.ensures c.loop-left.invariant.low in
     let few = c.size_in_bytes.ensures.few in
     let most = c.requires.few in
     omega arith
@@ -50,13 +53,15 @@ overflow_add-address c =
 pub loop-left-preserved : goal.loop-left-preserved
 loop-left-preserved c =
     let low : c.in-Some.here + 17179869180 * (c.loop-left.left + 1) ≤ 4294967295 + 17179869180 * c.args.calls =
-    address-kept (λ a. a + 17179869180 * (c.loop-left.left + 1) ≤ 4294967295 + 17179869180 * c.args.calls) c.loop-left.address (got (begun_of c.in_ok-begun.begun) (reader_of c.read_begun.new.r)) c.in-Some.here c.in-Some.ensures c.loop-left.invariant.low in
+    address-kept (λ a. a + 17179869180 * (c.loop-left.left + 1) ≤ 4294967295 + 17179869180 * c.args.calls) c.loop-left.address
+    (got (begun_of c.in_ok-begun.begun) (reader_of c.read_begun.new.r)) c.in-Some.here c.in-Some.ensures c.loop-left.invariant.low in
     let few = c.size_in_bytes.ensures.few in
     record {
       within = omega arith;
       low = omega arith;
       read =
-          ap (λ n. before_globals (map variable_of c.push.new.self.items) (read_declared (c.loop-left.left - 1) (Some (c.in-Some.here + n)) (reader_of c.read_global.new.r))) c.size_in_bytes.ensures.exact
+          ap (λ n. before_globals (map variable_of c.push.new.self.items)
+          (read_declared (c.loop-left.left - 1) (Some (c.in-Some.here + n)) (reader_of c.read_global.new.r))) c.size_in_bytes.ensures.exact
           ∙ globals-step _ _ _ _ _ _ (map-pushed variable_of _ _ _ c.in_ok-push.ensures.items)
           (declared-global c.loop-left.left c.loop-left.address (reader_of c.loop-left.r) (got (begun_of c.in_ok-begun.begun) (reader_of c.read_begun.new.r))
           c.in-Some.here (got (variable_of c.in_ok-global.global) (reader_of c.read_global.new.r)) c.loop-left-test.true (sym c.sees_head.ensures ∙ c.if-sees_head.false) c.in_ok-begun.ensures

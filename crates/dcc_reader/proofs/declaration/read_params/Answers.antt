@@ -25,7 +25,8 @@ skip-requires-in-loop-left c = record { seen = mark-seen (codes ",") (reader_of 
 pub loop-left-preserved : goal.loop-left-preserved
 loop-left-preserved c =
     before-step _ _ _ _ _ _ (map-pushed variable_of _ _ _ c.in_ok-push-2.ensures.items)
-    (params-some c.loop-left.left (reader_of c.loop-left.r) (got (variable_of c.in_ok-param.param) (reader_of c.read_param-in-loop-left.new.r)) c.loop-left-test.true (sym c.sees_mark.ensures ∙ c.if-not-sees_mark.false)
+    (params-some c.loop-left.left (reader_of c.loop-left.r) (got (variable_of c.in_ok-param.param) (reader_of c.read_param-in-loop-left.new.r))
+    c.loop-left-test.true (sym c.sees_mark.ensures ∙ c.if-not-sees_mark.false)
     (c.in_ok-param.ensures ∙ ap read_param c.skip-in-loop-left.ensures))
     c.loop-left.invariant
 

@@ -1,6 +1,6 @@
 use Rattle.std.proofs.Common.{refl}
 use Rattle.dcc_reader.proofs.reader.Reader.skip.Goals as goal
-use Rattle.dcc_reader.proofs.ReaderLaws.{behind_next}
+use Rattle.dcc_reader.proofs.ReaderLaws.{after_next}
 
 pub returns : goal.returns
-returns c = behind_next c.args.self.now _ refl refl refl refl
+returns c = after_next c.args.self.now _ refl refl refl refl
