@@ -9,7 +9,7 @@ use Rattle.std.proofs.lemmas.Fmt.{decimal-digits_value, decimal_nonempty, decima
 use Rattle.dcc_c.specs.Token.{Token, Decimal, is_digit, hex_value, hex_from, same_bytes}
 use Rattle.dcc_c.specs.Pieces.{decimal_from, is_hex_digit, decimal_of, suffix_of, after_while}
 use Rattle.std.proofs.lemmas.List.{at_drop_more}
-use Rattle.dcc_c.proofs.WrittenRows.{same_bytes-true}
+use Rattle.dcc_c.proofs.NameLaws.{same_bytes-equal}
 use Rattle.dcc_lex.proofs.Runs.{all_at}
 use Rattle.dcc_lex.specs.NumberViews.{is_short, decimal_value}
 
@@ -89,7 +89,7 @@ decimal_value_none digits long =
     let n = decimal_from 0 digits in
     cond-false (same_bytes digits (decimal n) && nat_le n 4294967295) (Some n) None (false_from_ne_true (same_bytes digits (decimal n) && nat_le n 4294967295) (λ are.
     let (same, small) = and_parts (same_bytes digits (decimal n)) (nat_le n 4294967295) are in
-    let short = decimal_short n digits (leb-true n 4294967295 small) (same_bytes-true digits (decimal n) same) in
+    let short = decimal_short n digits (leb-true n 4294967295 small) (same_bytes-equal digits (decimal n) same) in
     cc))
 
 -- the value of digits that are not too great

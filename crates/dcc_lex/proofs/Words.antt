@@ -8,7 +8,7 @@ use Rattle.std.proofs.lemmas.Str.{IsUtf8-from_ascii}
 use Rattle.dcc_c.specs.Token.{Token, WordToken, is_digit, is_letter, is_between, is_word_byte, is_word, same_bytes}
 use Rattle.dcc_c.specs.Grammar.{is_among}
 use Rattle.dcc_c.specs.Pieces.{is_plain, token_of_word, number_of, unused_keywords}
-use Rattle.dcc_c.proofs.WrittenRows.{same_bytes-true}
+use Rattle.dcc_c.proofs.NameLaws.{same_bytes-equal}
 
 between_small : (low high b : ℕ) → is_between low high b ≡ true → high < 128 → b < 128
 between_small low high b is small =
@@ -53,4 +53,4 @@ not_plain (b ∷ bytes) other =
 -- a word is not among others where it is neither the first of them nor among the rest
 pub no_word : {word other : List ℕ} {rest : Bool} → (word ≡ other → ⊥) → rest ≡ false → (same_bytes word other || rest) ≡ false
 no_word {word} {other} {rest} differs none =
-    or_from (same_bytes word other) rest (false_from_ne_true (same_bytes word other) (λ same. differs (same_bytes-true word other same))) none
+    or_from (same_bytes word other) rest (false_from_ne_true (same_bytes word other) (λ same. differs (same_bytes-equal word other same))) none

@@ -9,10 +9,11 @@ ghost use Rattle.dcc_read.specs.ArmViews.{arm_head_of};
 ghost use Rattle.dcc_reader.specs.PartialViews.{case_of};
 ghost use Rattle.dcc_reader.specs.ReaderViews.{reader_of};
 
+use crate::Got;
 use dcc_lex::{Mark, Suffix, Token};
 use dcc_reader::list::push_some;
 use dcc_reader::{CaseAt, Reader};
-use std::alloc::{AllocError, Global};
+use std::alloc::Global;
 
 /// What an arm begins with.
 #[derive(Drop)]
@@ -76,7 +77,7 @@ fn read_case(r: &mut Reader<'_>) -> Option<CaseAt>
 }
 
 // Reads one case after the other.
-fn read_cases(r: &mut Reader<'_>, alloc: Global, calls: usize) -> Result<Vec<CaseAt>, AllocError>
+fn read_cases(r: &mut Reader<'_>, alloc: Global, calls: usize) -> Got<Vec<CaseAt>>
     ensures { IfOk result (λ numbers.
         reading.got (map case_of numbers.items) (reader_of r.new) ≡ statements.read_cases calls (reader_of r.old)) }
 {
@@ -94,11 +95,7 @@ fn read_cases(r: &mut Reader<'_>, alloc: Global, calls: usize) -> Result<Vec<Cas
 }
 
 /// Reads what an arm begins with: `default`, or cases.
-pub(crate) fn read_arm_head(
-    r: &mut Reader<'_>,
-    alloc: Global,
-    calls: usize,
-) -> Result<ArmHead, AllocError>
+pub(crate) fn read_arm_head(r: &mut Reader<'_>, alloc: Global, calls: usize) -> Got<ArmHead>
     ensures { IfOk result (λ head.
         reading.got (arm_head_of head) (reader_of r.new) ≡ statements.read_arm_head calls (reader_of r.old)) }
 {

@@ -8,18 +8,15 @@ ghost use Rattle.dcc_read.specs.Stars.{after_star};
 ghost use Rattle.dcc_reader.specs.PartialViews.{expr_of, stmt_of, word_of};
 ghost use Rattle.dcc_reader.specs.ReaderViews.{reader_of};
 
+use crate::Got;
 use crate::expression::{Inside, name_here, read_enclosed, read_unary, read_value};
 use dcc_c::CUn;
 use dcc_lex::Mark;
 use dcc_reader::{PartialCall, PartialExpr, PartialStmt, Reader, WordAt};
-use std::alloc::{AllocError, Global};
+use std::alloc::Global;
 
 // Reads the arguments of a call after its opening parenthesis. The closing one is left.
-fn read_arguments(
-    r: &mut Reader<'_>,
-    alloc: Global,
-    calls: usize,
-) -> Result<Vec<PartialExpr>, AllocError>
+fn read_arguments(r: &mut Reader<'_>, alloc: Global, calls: usize) -> Got<Vec<PartialExpr>>
     ensures { IfOk result (λ arguments.
         reading.got (map expr_of arguments.items) (reader_of r.new)
         ≡ statements.read_arguments calls (reader_of r.old)) }
@@ -48,7 +45,7 @@ fn read_call_after(
     calls: usize,
     place: Option<PartialExpr>,
     function: WordAt,
-) -> Result<PartialStmt, AllocError>
+) -> Got<PartialStmt>
     requires seen { is_some (reading.next_token (reader_of r.old)) ≡ true }
     ensures { IfOk result (λ stmt. reading.got (stmt_of stmt) (reader_of r.new)
         ≡ statements.call_of calls (option_map expr_of place) (word_of function) (reader_of r.old)) }
@@ -74,7 +71,7 @@ fn read_call(
     alloc: Global,
     calls: usize,
     place: Option<PartialExpr>,
-) -> Result<PartialStmt, AllocError>
+) -> Got<PartialStmt>
     requires begins { statements.begins_call (reader_of r.old) ≡ true }
     ensures { IfOk result (λ stmt. reading.got (stmt_of stmt) (reader_of r.new)
         ≡ statements.read_call calls (option_map expr_of place) (reader_of r.old)) }
@@ -86,7 +83,7 @@ fn read_call(
 }
 
 // Reads a place that a value is assigned to: a name, or a star with an operand.
-fn read_place(r: &mut Reader<'_>, alloc: Global, calls: usize) -> Result<PartialExpr, AllocError>
+fn read_place(r: &mut Reader<'_>, alloc: Global, calls: usize) -> Got<PartialExpr>
     ensures { IfOk result (λ e. reading.got (expr_of e) (reader_of r.new)
         ≡ statements.read_place calls (reader_of r.old)) }
 {
@@ -97,11 +94,7 @@ fn read_place(r: &mut Reader<'_>, alloc: Global, calls: usize) -> Result<Partial
 }
 
 // Reads a star, which must stand here, and its operand.
-fn read_after_star(
-    r: &mut Reader<'_>,
-    alloc: Global,
-    calls: usize,
-) -> Result<PartialExpr, AllocError>
+fn read_after_star(r: &mut Reader<'_>, alloc: Global, calls: usize) -> Got<PartialExpr>
     ensures { IfOk result (λ e. reading.got (expr_of e) (reader_of r.new) ≡ after_star calls (reader_of r.old)) }
 {
     let at = r.at;
@@ -121,7 +114,7 @@ fn read_assignment(
     alloc: Global,
     calls: usize,
     place: PartialExpr,
-) -> Result<PartialStmt, AllocError>
+) -> Got<PartialStmt>
     ensures { IfOk result (λ stmt. reading.got (stmt_of stmt) (reader_of r.new)
         ≡ statements.assignment_of calls (expr_of place) (reader_of r.old)) }
 {
@@ -137,7 +130,7 @@ fn read_assigned(
     alloc: Global,
     calls: usize,
     place: PartialExpr,
-) -> Result<PartialStmt, AllocError>
+) -> Got<PartialStmt>
     ensures { IfOk result (λ stmt. reading.got (stmt_of stmt) (reader_of r.new)
         ≡ statements.read_assigned calls (reading.got (expr_of place) (reader_of r.old))) }
 {
@@ -153,11 +146,7 @@ fn read_assigned(
 }
 
 /// Reads an assignment or a call.
-pub(crate) fn read_simple(
-    r: &mut Reader<'_>,
-    alloc: Global,
-    calls: usize,
-) -> Result<PartialStmt, AllocError>
+pub(crate) fn read_simple(r: &mut Reader<'_>, alloc: Global, calls: usize) -> Got<PartialStmt>
     ensures { IfOk result (λ stmt. reading.got (stmt_of stmt) (reader_of r.new)
         ≡ statements.read_simple calls (reader_of r.old)) }
 {

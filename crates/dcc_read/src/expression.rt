@@ -9,11 +9,12 @@ ghost use Rattle.dcc_read.specs.ExpressionViews.{inside_of, measure, strong_enou
 ghost use Rattle.dcc_reader.specs.PartialViews.{expr_of};
 ghost use Rattle.dcc_reader.specs.ReaderViews.{reader_of};
 
+use crate::Got;
 use dcc_c::{CBin, CType, CUn};
 use dcc_lex::Mark;
 use dcc_reader::operator::{binary_of, number_of, strength, unary_of};
 use dcc_reader::{ParseKind, PartialExpr, Reader};
-use std::alloc::{AllocError, Global};
+use std::alloc::Global;
 
 /// How deep an expression may be, and how many parentheses may stand around a part of it.
 const MOST: usize = 200;
@@ -84,12 +85,7 @@ fn missing() -> Measured
 }
 
 // The unary operator on an operand.
-fn unary_at(
-    alloc: Global,
-    at: usize,
-    operator: CUn,
-    operand: Measured,
-) -> Result<Measured, AllocError>
+fn unary_at(alloc: Global, at: usize, operator: CUn, operand: Measured) -> Got<Measured>
     ensures { IfOk result (λ e. expr_of e.expr ≡ partial.UnaryHere at operator (expr_of operand.expr)) }
 {
     let depth = deeper(operand.depth);
@@ -101,7 +97,7 @@ fn unary_at(
 }
 
 // The cast of an operand.
-fn cast_at(alloc: Global, at: usize, ty: CType, operand: Measured) -> Result<Measured, AllocError>
+fn cast_at(alloc: Global, at: usize, ty: CType, operand: Measured) -> Got<Measured>
     ensures { IfOk result (λ e. expr_of e.expr ≡ partial.CastHere at ty (expr_of operand.expr)) }
 {
     let depth = deeper(operand.depth);
@@ -113,12 +109,7 @@ fn cast_at(alloc: Global, at: usize, ty: CType, operand: Measured) -> Result<Mea
 }
 
 // Two operands and their operator.
-fn binary_of_two(
-    alloc: Global,
-    operator: CBin,
-    left: Measured,
-    right: Measured,
-) -> Result<Measured, AllocError>
+fn binary_of_two(alloc: Global, operator: CBin, left: Measured, right: Measured) -> Got<Measured>
     ensures { IfOk result (λ e. expr_of e.expr ≡ partial.BinaryOf operator (expr_of left.expr) (expr_of right.expr)) }
 {
     let depth = deeper(left.depth.max(right.depth));
@@ -131,12 +122,7 @@ fn binary_of_two(
 }
 
 // A conditional.
-fn conditional_of(
-    alloc: Global,
-    test: Measured,
-    first: Measured,
-    second: Measured,
-) -> Result<Measured, AllocError>
+fn conditional_of(alloc: Global, test: Measured, first: Measured, second: Measured) -> Got<Measured>
     ensures { IfOk result (λ e. expr_of e.expr
         ≡ partial.ConditionalOf (expr_of test.expr) (expr_of first.expr) (expr_of second.expr)) }
 {
@@ -203,7 +189,7 @@ fn operator_of(r: &Reader<'_>, weakest: u8) -> Option<CBin>
 }
 
 /// A name, and whether a parenthesis follows.
-pub fn name_here(r: &mut Reader<'_>, alloc: Global, word: &str) -> Result<PartialExpr, AllocError>
+pub fn name_here(r: &mut Reader<'_>, alloc: Global, word: &str) -> Got<PartialExpr>
     requires seen { is_some (reading.next_token (reader_of r.now)) ≡ true }
     ensures { IfOk result (λ e. reading.got (expr_of e) (reader_of r.new)
         ≡ reading.name_here word.now (reader_of r.old)) }
@@ -215,7 +201,7 @@ pub fn name_here(r: &mut Reader<'_>, alloc: Global, word: &str) -> Result<Partia
 }
 
 // Reads a number or a name.
-fn read_leaf(r: &mut Reader<'_>, alloc: Global) -> Result<Measured, AllocError>
+fn read_leaf(r: &mut Reader<'_>, alloc: Global) -> Got<Measured>
     ensures { IfOk result (λ e. reading.got (expr_of e.expr) (reader_of r.new) ≡ reading.read_leaf (reader_of r.old)) }
 {
     let at = r.at;
@@ -236,12 +222,7 @@ fn read_leaf(r: &mut Reader<'_>, alloc: Global) -> Result<Measured, AllocError>
 
 // Reads a unary part.
 #[cycle(expression)]
-fn measured_unary(
-    r: &mut Reader<'_>,
-    alloc: Global,
-    calls: usize,
-    inside: Inside,
-) -> Result<Measured, AllocError>
+fn measured_unary(r: &mut Reader<'_>, alloc: Global, calls: usize, inside: Inside) -> Got<Measured>
     requires operators { inside.operators + calls ≤ 2 ^ 64 }
     requires opened { inside.opened + calls ≤ 2 ^ 64 }
     ensures { IfOk result (λ e. reading.got (expr_of e.expr) (reader_of r.new)
@@ -276,7 +257,7 @@ fn read_parentheses(
     calls: usize,
     inside: Inside,
     at: usize,
-) -> Result<Measured, AllocError>
+) -> Got<Measured>
     requires operators { inside.operators + calls < 2 ^ 64 }
     requires opened { inside.opened + calls < 2 ^ 64 }
     ensures { IfOk result (λ e. reading.got (expr_of e.expr) (reader_of r.new)
@@ -305,7 +286,7 @@ fn read_cast(
     inside: Inside,
     at: usize,
     ty: Option<CType>,
-) -> Result<Measured, AllocError>
+) -> Got<Measured>
     requires operators { inside.operators + calls < 2 ^ 64 }
     requires opened { inside.opened + calls < 2 ^ 64 }
     ensures { IfOk result (λ e. reading.got (expr_of e.expr) (reader_of r.new)
@@ -330,7 +311,7 @@ fn read_binary(
     calls: usize,
     inside: Inside,
     weakest: u8,
-) -> Result<Measured, AllocError>
+) -> Got<Measured>
     requires operators { inside.operators + calls ≤ 2 ^ 64 }
     requires opened { inside.opened + calls ≤ 2 ^ 64 }
     ensures { IfOk result (λ e. reading.got (expr_of e.expr) (reader_of r.new)
@@ -352,7 +333,7 @@ fn read_more(
     inside: Inside,
     weakest: u8,
     first: Measured,
-) -> Result<Measured, AllocError>
+) -> Got<Measured>
     requires operators { inside.operators + calls < 2 ^ 64 }
     requires opened { inside.opened + calls < 2 ^ 64 }
     ensures { IfOk result (λ e. reading.got (expr_of e.expr) (reader_of r.new)
@@ -381,12 +362,7 @@ fn read_more(
 
 // Reads an expression.
 #[cycle(expression)]
-fn measured_expr(
-    r: &mut Reader<'_>,
-    alloc: Global,
-    calls: usize,
-    inside: Inside,
-) -> Result<Measured, AllocError>
+fn measured_expr(r: &mut Reader<'_>, alloc: Global, calls: usize, inside: Inside) -> Got<Measured>
     requires operators { inside.operators + calls ≤ 2 ^ 64 }
     requires opened { inside.opened + calls ≤ 2 ^ 64 }
     ensures { IfOk result (λ e. reading.got (expr_of e.expr) (reader_of r.new)
@@ -407,7 +383,7 @@ fn read_rest(
     calls: usize,
     inside: Inside,
     test: Measured,
-) -> Result<Measured, AllocError>
+) -> Got<Measured>
     requires operators { inside.operators + calls < 2 ^ 64 }
     requires opened { inside.opened + calls < 2 ^ 64 }
     ensures { IfOk result (λ e. reading.got (expr_of e.expr) (reader_of r.new)
@@ -434,7 +410,7 @@ pub fn read_unary(
     alloc: Global,
     calls: usize,
     inside: Inside,
-) -> Result<PartialExpr, AllocError>
+) -> Got<PartialExpr>
     requires operators { inside.operators + calls ≤ 2 ^ 64 }
     requires opened { inside.opened + calls ≤ 2 ^ 64 }
     ensures { IfOk result (λ e. reading.got (expr_of e) (reader_of r.new)
@@ -449,7 +425,7 @@ pub fn read_expr(
     alloc: Global,
     calls: usize,
     inside: Inside,
-) -> Result<PartialExpr, AllocError>
+) -> Got<PartialExpr>
     requires operators { inside.operators + calls ≤ 2 ^ 64 }
     requires opened { inside.opened + calls ≤ 2 ^ 64 }
     ensures { IfOk result (λ e. reading.got (expr_of e) (reader_of r.new)
@@ -459,11 +435,7 @@ pub fn read_expr(
 }
 
 /// Reads a whole expression.
-pub fn read_value(
-    r: &mut Reader<'_>,
-    alloc: Global,
-    calls: usize,
-) -> Result<PartialExpr, AllocError>
+pub fn read_value(r: &mut Reader<'_>, alloc: Global, calls: usize) -> Got<PartialExpr>
     ensures { IfOk result (λ e. reading.got (expr_of e) (reader_of r.new)
         ≡ statements.read_value calls (reader_of r.old)) }
 {
@@ -476,11 +448,7 @@ pub fn read_value(
 }
 
 /// Reads a whole expression inside the parentheses of a statement.
-pub fn read_enclosed(
-    r: &mut Reader<'_>,
-    alloc: Global,
-    calls: usize,
-) -> Result<PartialExpr, AllocError>
+pub fn read_enclosed(r: &mut Reader<'_>, alloc: Global, calls: usize) -> Got<PartialExpr>
     ensures { IfOk result (λ e. reading.got (expr_of e) (reader_of r.new)
         ≡ statements.read_enclosed calls (reader_of r.old)) }
 {
@@ -493,7 +461,7 @@ pub fn read_enclosed(
 }
 
 /// Reads an expression in parentheses.
-pub fn read_test(r: &mut Reader<'_>, alloc: Global, calls: usize) -> Result<PartialExpr, AllocError>
+pub fn read_test(r: &mut Reader<'_>, alloc: Global, calls: usize) -> Got<PartialExpr>
     ensures { IfOk result (λ e. reading.got (expr_of e) (reader_of r.new)
         ≡ statements.read_test calls (reader_of r.old)) }
 {

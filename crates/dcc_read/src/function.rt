@@ -7,12 +7,13 @@ ghost use Rattle.dcc_reader.specs.BegunViews.{begun_of};
 ghost use Rattle.dcc_reader.specs.PartialViews.{function_of};
 ghost use Rattle.dcc_reader.specs.ReaderViews.{reader_of};
 
+use crate::Got;
 use crate::statement::read_lines;
 use dcc_lex::Mark;
 use dcc_reader::declaration::read_locals;
 use dcc_reader::head::{Begun, read_begun, read_head};
 use dcc_reader::{Around, PartialFunction, Reader};
-use std::alloc::{AllocError, Global};
+use std::alloc::Global;
 
 // Reads a function after its head.
 fn read_body(
@@ -20,7 +21,7 @@ fn read_body(
     alloc: Global,
     calls: usize,
     head: PartialFunction,
-) -> Result<PartialFunction, AllocError>
+) -> Got<PartialFunction>
     ensures { IfOk result (λ f. reading.got (function_of f) (reader_of r.new)
         ≡ texts.read_body calls (reading.got (function_of head) (reader_of r.old))) }
 {
@@ -44,7 +45,7 @@ fn read_function(
     alloc: Global,
     calls: usize,
     begun: Begun,
-) -> Result<PartialFunction, AllocError>
+) -> Got<PartialFunction>
     ensures { IfOk result (λ f. reading.got (function_of f) (reader_of r.new)
         ≡ texts.read_function calls (reading.got (begun_of begun) (reader_of r.old))) }
 {
@@ -65,7 +66,7 @@ pub(crate) fn read_functions(
     alloc: Global,
     calls: usize,
     begun: Begun,
-) -> Result<Vec<PartialFunction>, AllocError>
+) -> Got<Vec<PartialFunction>>
     ensures { IfOk result (λ functions. reading.got (map function_of functions.items) (reader_of r.new)
         ≡ texts.with_functions calls (reading.got (begun_of begun) (reader_of r.old))) }
 {

@@ -9,4 +9,8 @@ mod short;
 mod statement;
 mod text;
 
+use std::alloc::AllocError;
 pub use text::{Reading, read};
+
+/// What is read of a text; an error where memory runs out.
+pub type Got<T> = Result<T, AllocError>;

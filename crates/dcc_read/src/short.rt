@@ -7,10 +7,11 @@ ghost use Rattle.dcc_c.specs.ReadingStatements as statements;
 ghost use Rattle.dcc_reader.specs.PartialViews.{stmt_of};
 ghost use Rattle.dcc_reader.specs.ReaderViews.{reader_of};
 
+use crate::Got;
 use crate::expression::read_value;
 use dcc_lex::Mark;
 use dcc_reader::{PartialStmt, Reader};
-use std::alloc::{AllocError, Global};
+use std::alloc::Global;
 
 // Goes past the next piece where it is allowed, or stops at it.
 fn skip_if(r: &mut Reader<'_>, is_allowed: bool)
@@ -37,7 +38,7 @@ pub(crate) fn read_leave(r: &mut Reader<'_>, is_inside: bool)
 }
 
 /// Reads a `goto`, the word of which stands here.
-pub(crate) fn read_goto(r: &mut Reader<'_>, alloc: Global) -> Result<PartialStmt, AllocError>
+pub(crate) fn read_goto(r: &mut Reader<'_>, alloc: Global) -> Got<PartialStmt>
     requires seen { is_some (reading.next_token (reader_of r.old)) ≡ true }
     ensures { IfOk result (λ stmt. reading.got (stmt_of stmt) (reader_of r.new)
         ≡ statements.read_goto (reader_of r.old)) }
@@ -49,11 +50,7 @@ pub(crate) fn read_goto(r: &mut Reader<'_>, alloc: Global) -> Result<PartialStmt
 }
 
 /// Reads a `return`, the word of which stands here.
-pub(crate) fn read_return(
-    r: &mut Reader<'_>,
-    alloc: Global,
-    calls: usize,
-) -> Result<PartialStmt, AllocError>
+pub(crate) fn read_return(r: &mut Reader<'_>, alloc: Global, calls: usize) -> Got<PartialStmt>
     requires seen { is_some (reading.next_token (reader_of r.old)) ≡ true }
     ensures { IfOk result (λ stmt.
         reading.got (stmt_of stmt) (reader_of r.new) ≡ statements.read_return calls (reader_of r.old)) }

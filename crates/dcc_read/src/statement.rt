@@ -10,6 +10,7 @@ ghost use Rattle.dcc_read.specs.Lines.{block_of, after_line, take_forever, while
 ghost use Rattle.dcc_reader.specs.PartialViews.{expr_of, stmt_of, lines_of, arm_before, arms_of};
 ghost use Rattle.dcc_reader.specs.ReaderViews.{reader_of};
 
+use crate::Got;
 use crate::arm::{begins_arm, read_arm_head};
 use crate::call::read_simple;
 use crate::expression::read_test;
@@ -18,7 +19,7 @@ use dcc_lex::{Head, Mark};
 use dcc_reader::list::push_some;
 use dcc_reader::pragma::read_depth;
 use dcc_reader::{Around, ParseKind, PartialArm, PartialStmt, Reader, Row, StatementWord};
-use std::alloc::{AllocError, Global};
+use std::alloc::Global;
 
 /// Statements one after the other.
 #[derive(Drop)]
@@ -181,7 +182,7 @@ fn read_depth_line(r: &mut Reader<'_>, around: Around, labelled: bool) -> LineRe
 }
 
 // Reads a label, which stands here.
-fn read_label(r: &mut Reader<'_>, alloc: Global, around: Around) -> Result<LineRead, AllocError>
+fn read_label(r: &mut Reader<'_>, alloc: Global, around: Around) -> Got<LineRead>
     requires begins { statements.begins_label (reader_of r.old) ≡ true }
     ensures { IfOk result (λ line. (calls : ℕ) → after_line line calls (around_of around) (reader_of r.new)
         ≡ label_line calls (around_of around) (reader_of r.old)) }
@@ -206,7 +207,7 @@ fn read_label(r: &mut Reader<'_>, alloc: Global, around: Around) -> Result<LineR
 }
 
 // Reads a statement without a word: `;`, an assignment or a call.
-fn read_wordless(r: &mut Reader<'_>, alloc: Global, calls: usize) -> Result<PartialStmt, AllocError>
+fn read_wordless(r: &mut Reader<'_>, alloc: Global, calls: usize) -> Got<PartialStmt>
     ensures { IfOk result (λ stmt. reading.got (stmt_of stmt) (reader_of r.new)
         ≡ wordless_stmt calls (reader_of r.old)) }
 {
@@ -219,12 +220,7 @@ fn read_wordless(r: &mut Reader<'_>, alloc: Global, calls: usize) -> Result<Part
 
 // Reads a statement that is no label.
 #[cycle(statement)]
-fn read_stmt(
-    r: &mut Reader<'_>,
-    alloc: Global,
-    calls: usize,
-    around: Around,
-) -> Result<PartialStmt, AllocError>
+fn read_stmt(r: &mut Reader<'_>, alloc: Global, calls: usize, around: Around) -> Got<PartialStmt>
     requires room { around.blocks + calls ≤ usize.MAX }
     ensures { IfOk result (λ stmt. reading.got (stmt_of stmt) (reader_of r.new)
         ≡ statements.read_stmt calls (around_of around) (reader_of r.old)) }
@@ -236,8 +232,8 @@ fn read_stmt(
     match r.statement_word() {
         Some(StatementWord::If) => read_if(r, alloc, fewer, around),
         Some(StatementWord::While) => read_while(r, alloc, fewer, around),
-        Some(StatementWord::Do) => read_do_while(r, alloc, fewer, around),
-        Some(StatementWord::For) => read_forever(r, alloc, fewer, around),
+        Some(StatementWord::Do) => read_do(r, alloc, fewer, around),
+        Some(StatementWord::For) => read_for(r, alloc, fewer, around),
         Some(StatementWord::Switch) => read_switch(r, alloc, fewer, around),
         Some(StatementWord::Break) => {
             read_leave(r, around.breaks);
@@ -255,12 +251,7 @@ fn read_stmt(
 
 // Reads an `if`, the word of which stands here.
 #[cycle(statement)]
-fn read_if(
-    r: &mut Reader<'_>,
-    alloc: Global,
-    calls: usize,
-    around: Around,
-) -> Result<PartialStmt, AllocError>
+fn read_if(r: &mut Reader<'_>, alloc: Global, calls: usize, around: Around) -> Got<PartialStmt>
     requires seen { is_some (reading.next_token (reader_of r.old)) ≡ true }
     requires room { around.blocks + calls < usize.MAX }
     ensures { IfOk result (λ stmt. reading.got (stmt_of stmt) (reader_of r.new)
@@ -284,12 +275,7 @@ fn read_if(
 
 // Reads a `while` loop, the word of which stands here.
 #[cycle(statement)]
-fn read_while(
-    r: &mut Reader<'_>,
-    alloc: Global,
-    calls: usize,
-    around: Around,
-) -> Result<PartialStmt, AllocError>
+fn read_while(r: &mut Reader<'_>, alloc: Global, calls: usize, around: Around) -> Got<PartialStmt>
     requires seen { is_some (reading.next_token (reader_of r.old)) ≡ true }
     requires room { around.blocks + calls < usize.MAX }
     ensures { IfOk result (λ stmt. reading.got (stmt_of stmt) (reader_of r.new)
@@ -304,12 +290,7 @@ fn read_while(
 
 // Reads a `do` loop, the word of which stands here.
 #[cycle(statement)]
-fn read_do_while(
-    r: &mut Reader<'_>,
-    alloc: Global,
-    calls: usize,
-    around: Around,
-) -> Result<PartialStmt, AllocError>
+fn read_do(r: &mut Reader<'_>, alloc: Global, calls: usize, around: Around) -> Got<PartialStmt>
     requires seen { is_some (reading.next_token (reader_of r.old)) ≡ true }
     requires room { around.blocks + calls < usize.MAX }
     ensures { IfOk result (λ stmt. reading.got (stmt_of stmt) (reader_of r.new)
@@ -326,12 +307,7 @@ fn read_do_while(
 
 // Reads a loop without a test, the word of which stands here.
 #[cycle(statement)]
-fn read_forever(
-    r: &mut Reader<'_>,
-    alloc: Global,
-    calls: usize,
-    around: Around,
-) -> Result<PartialStmt, AllocError>
+fn read_for(r: &mut Reader<'_>, alloc: Global, calls: usize, around: Around) -> Got<PartialStmt>
     requires seen { is_some (reading.next_token (reader_of r.old)) ≡ true }
     requires room { around.blocks + calls < usize.MAX }
     ensures { IfOk result (λ stmt. reading.got (stmt_of stmt) (reader_of r.new)
@@ -345,12 +321,7 @@ fn read_forever(
 
 // Reads a `switch`, the word of which stands here.
 #[cycle(statement)]
-fn read_switch(
-    r: &mut Reader<'_>,
-    alloc: Global,
-    calls: usize,
-    around: Around,
-) -> Result<PartialStmt, AllocError>
+fn read_switch(r: &mut Reader<'_>, alloc: Global, calls: usize, around: Around) -> Got<PartialStmt>
     requires seen { is_some (reading.next_token (reader_of r.old)) ≡ true }
     requires room { around.blocks + calls < usize.MAX }
     ensures { IfOk result (λ stmt. reading.got (stmt_of stmt) (reader_of r.new)
@@ -367,12 +338,7 @@ fn read_switch(
 
 // Reads a block, which must stand here.
 #[cycle(statement)]
-fn read_block(
-    r: &mut Reader<'_>,
-    alloc: Global,
-    calls: usize,
-    around: Around,
-) -> Result<Vec<Row>, AllocError>
+fn read_block(r: &mut Reader<'_>, alloc: Global, calls: usize, around: Around) -> Got<Vec<Row>>
     requires room { around.blocks + calls ≤ usize.MAX }
     ensures { IfOk result (λ lines. reading.got (lines_of lines.items) (reader_of r.new)
         ≡ statements.read_block calls (around_of around) (reader_of r.old)) }
@@ -393,7 +359,7 @@ pub(crate) fn read_lines(
     alloc: Global,
     calls: usize,
     around: Around,
-) -> Result<Block, AllocError>
+) -> Got<Block>
     requires room { around.blocks + calls ≤ usize.MAX }
     ensures { IfOk result (λ block. reading.got (block_of block) (reader_of r.new)
         ≡ statements.read_lines calls (around_of around) false false (reader_of r.old)) }
@@ -428,7 +394,7 @@ fn read_line(
     calls: usize,
     around: Around,
     labelled: bool,
-) -> Result<LineRead, AllocError>
+) -> Got<LineRead>
     requires room { around.blocks + calls ≤ usize.MAX }
     ensures { IfOk result (λ line. after_line line calls (around_of around) (reader_of r.new)
         ≡ statements.read_line (suc calls) (around_of around) labelled (reader_of r.old)) }
@@ -464,7 +430,7 @@ fn read_arms(
     alloc: Global,
     calls: usize,
     around: Around,
-) -> Result<Vec<PartialArm>, AllocError>
+) -> Got<Vec<PartialArm>>
     requires room { around.blocks + calls ≤ usize.MAX }
     ensures { IfOk result (λ arms. reading.got (arms_of arms.items) (reader_of r.new)
         ≡ statements.read_arms calls (around_of around) (reader_of r.old)) }
@@ -491,12 +457,7 @@ fn read_arms(
 
 // Reads an arm of a `switch`.
 #[cycle(statement)]
-fn read_arm(
-    r: &mut Reader<'_>,
-    alloc: Global,
-    calls: usize,
-    around: Around,
-) -> Result<PartialArm, AllocError>
+fn read_arm(r: &mut Reader<'_>, alloc: Global, calls: usize, around: Around) -> Got<PartialArm>
     requires room { around.blocks + calls ≤ usize.MAX }
     ensures { IfOk result (λ arm. (others : partial.PartialArms) → reading.got (arm_before arm others) (reader_of r.new)
         ≡ arm_read calls (around_of around) others (reader_of r.old)) }

@@ -11,6 +11,7 @@ ghost use Rattle.dcc_reader.specs.PartialViews.{number_of, variable_of, function
 ghost use Rattle.dcc_reader.specs.ReaderViews.{reader_of};
 ghost use Rattle.dcc_read.specs.TextViews.{declared_of, is_global, global_address, place_line};
 
+use crate::Got;
 use crate::function::read_functions;
 use dcc_c::Class;
 use dcc_lex::{Head, Mark, Piece};
@@ -46,7 +47,7 @@ fn read_global(
     calls: usize,
     address: u64,
     begun: Begun,
-) -> Result<PartialVariable, AllocError>
+) -> Got<PartialVariable>
     ensures { IfOk result (λ v. reading.got (variable_of v) (reader_of r.new)
         ≡ texts.read_global calls address (reading.got (begun_of begun) (reader_of r.old))) }
 {
@@ -127,7 +128,7 @@ fn global_address(r: &Reader<'_>, address: Option<u64>, begun: &Begun) -> Option
 }
 
 // Reads place lines and global variables up to the first function, and the functions after them.
-fn read_declared(r: &mut Reader<'_>, alloc: Global, calls: usize) -> Result<Declared, AllocError>
+fn read_declared(r: &mut Reader<'_>, alloc: Global, calls: usize) -> Got<Declared>
     requires few { calls ≤ 1073741824 }
     ensures { IfOk result (λ d. reading.got (declared_of d) (reader_of r.new)
         ≡ texts.read_declared calls None (reader_of r.old)) }
@@ -155,7 +156,7 @@ fn read_declared(r: &mut Reader<'_>, alloc: Global, calls: usize) -> Result<Decl
 }
 
 // Reads a text after its version line, where reading may nest so deep.
-fn read_text(r: &mut Reader<'_>, alloc: Global, calls: usize) -> Result<PartialText, AllocError>
+fn read_text(r: &mut Reader<'_>, alloc: Global, calls: usize) -> Got<PartialText>
     requires few { calls ≤ 1073741824 }
     ensures { IfOk result (λ t. reading.got (text_of t) (reader_of r.new) ≡ texts.read_text calls (reader_of r.old)) }
 {

@@ -4,7 +4,7 @@ use Rattle.std.proofs.lemmas.Bool.{false_from_ne_true}
 use Rattle.dcc_c.specs.Token.{Token, WordToken, Decimal, Hex, Mark, Pragma, same_bytes}
 use Rattle.dcc_c.specs.Tree.{Word}
 use Rattle.dcc_c.specs.Reading.{is_the_word, name_of, name_if}
-use Rattle.dcc_c.proofs.WrittenRows.{same_bytes-true}
+use Rattle.dcc_c.proofs.NameLaws.{same_bytes-equal}
 use Rattle.dcc_c.specs.ReadingStatements.{is_statement_word, is_block_word}
 use Rattle.dcc_reader.specs.declared.statement_word.StatementWord.{StatementWord}
 use Rattle.dcc_reader.specs.declared.statement_word.StatementWord.TheVariants.{If, While, Do, For, Switch, Break, Continue, Goto, Return}
@@ -33,7 +33,7 @@ none-seen bytes (Some (Pragma head)) is = refl
 
 pub other-seen : (token : Option Token) {word other : Word} → Some word ≡ word_of token → (word ≡ other → ⊥) → is_the_word other token ≡ false
 other-seen token {word} {other} is differs =
-    ap (is_the_word other) (word-token token is) ∙ false_from_ne_true (same_bytes word other) (λ same. differs (same_bytes-true word other same))
+    ap (is_the_word other) (word-token token is) ∙ false_from_ne_true (same_bytes word other) (λ same. differs (same_bytes-equal word other same))
 
 -- a choice that does not fall on its first part
 pub later : {A : Type 0} {b : Bool} (x : A) {y z : A} → b ≡ false → y ≡ z → (if b then x else y) ≡ z

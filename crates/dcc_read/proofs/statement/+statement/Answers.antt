@@ -187,11 +187,11 @@ read_while-returns t c =
     c.is_stopped-done.result (lines_of c.in_ok-body.body.items) c.skip.ensures c.in_ok-test.ensures c.is_stopped-done.ensures
     c.in_loop.ensures c.in_ok-body.ensures
 
-pub read_do_while-skip-requires : goal.read_do_while-skip-requires
-read_do_while-skip-requires t c = record { seen = c.requires.seen }
+pub read_do-skip-requires : goal.read_do-skip-requires
+read_do-skip-requires t c = record { seen = c.requires.seen }
 
-pub read_do_while-returns : goal.read_do_while-returns
-read_do_while-returns t c =
+pub read_do-returns : goal.read_do-returns
+read_do-returns t c =
     ap (λ stmt. got stmt (reader_of c.take_mark.new.self)) (do_while-tree c.in_ok-test.test (not c.is_stopped-done.result) c.in_ok-body.body)
     ∙ laws.do-read c.args.calls (around_of c.args.around) (around_of c.in_loop.result) (reader_of c.args.r.now)
     (reader_of c.skip.new.self) (reader_of c.read_block.new.r) (reader_of c.take_word.new.self) (reader_of c.read_test.new.r)
@@ -199,11 +199,11 @@ read_do_while-returns t c =
     c.skip.ensures c.in_loop.ensures c.in_ok-body.ensures c.take_word.ensures c.in_ok-test.ensures c.is_stopped-done.ensures
     c.take_mark.ensures
 
-pub read_forever-skip-requires : goal.read_forever-skip-requires
-read_forever-skip-requires t c = record { seen = c.requires.seen }
+pub read_for-skip-requires : goal.read_for-skip-requires
+read_for-skip-requires t c = record { seen = c.requires.seen }
 
-pub read_forever-returns : goal.read_forever-returns
-read_forever-returns t c =
+pub read_for-returns : goal.read_for-returns
+read_for-returns t c =
     ap (λ stmt. got stmt (reader_of c.read_block.new.r)) (forever-tree c.in_ok-body.body)
     ∙ laws.forever-read c.args.calls (around_of c.args.around) (around_of c.in_loop.result) (reader_of c.args.r.now)
     (reader_of c.skip.new.self) (reader_of c.take_forever.new.r) (reader_of c.read_block.new.r) (lines_of c.in_ok-body.body.items)
@@ -232,23 +232,23 @@ read_stmt-returns-in-Some-While t c =
     laws.read-with c.read_while.result (reader_of c.read_while.new.r) c.args.calls (around_of c.args.around) (reader_of c.args.r.now) (Some While)
     (omega arith) (ap Some (sym c.in-Some-While.field-0-is) ∙ c.in-Some-While.ensures) c.read_while.ensures
 
-pub read_stmt-read_do_while-requires : goal.read_stmt-read_do_while-requires
-read_stmt-read_do_while-requires t c =
+pub read_stmt-read_do-requires : goal.read_stmt-read_do-requires
+read_stmt-read_do-requires t c =
     (omega arith, (statement-seen (next_token (reader_of c.args.r.now)) c.in-Some-Do.ensures, omega arith))
 
 pub read_stmt-returns-in-Some-Do : goal.read_stmt-returns-in-Some-Do
 read_stmt-returns-in-Some-Do t c =
-    laws.read-with c.read_do_while.result (reader_of c.read_do_while.new.r) c.args.calls (around_of c.args.around) (reader_of c.args.r.now) (Some Do)
-    (omega arith) (ap Some (sym c.in-Some-Do.field-0-is) ∙ c.in-Some-Do.ensures) c.read_do_while.ensures
+    laws.read-with c.read_do.result (reader_of c.read_do.new.r) c.args.calls (around_of c.args.around) (reader_of c.args.r.now) (Some Do)
+    (omega arith) (ap Some (sym c.in-Some-Do.field-0-is) ∙ c.in-Some-Do.ensures) c.read_do.ensures
 
-pub read_stmt-read_forever-requires : goal.read_stmt-read_forever-requires
-read_stmt-read_forever-requires t c =
+pub read_stmt-read_for-requires : goal.read_stmt-read_for-requires
+read_stmt-read_for-requires t c =
     (omega arith, (statement-seen (next_token (reader_of c.args.r.now)) c.in-Some-For.ensures, omega arith))
 
 pub read_stmt-returns-in-Some-For : goal.read_stmt-returns-in-Some-For
 read_stmt-returns-in-Some-For t c =
-    laws.read-with c.read_forever.result (reader_of c.read_forever.new.r) c.args.calls (around_of c.args.around) (reader_of c.args.r.now) (Some For)
-    (omega arith) (ap Some (sym c.in-Some-For.field-0-is) ∙ c.in-Some-For.ensures) c.read_forever.ensures
+    laws.read-with c.read_for.result (reader_of c.read_for.new.r) c.args.calls (around_of c.args.around) (reader_of c.args.r.now) (Some For)
+    (omega arith) (ap Some (sym c.in-Some-For.field-0-is) ∙ c.in-Some-For.ensures) c.read_for.ensures
 
 pub read_stmt-read_switch-requires : goal.read_stmt-read_switch-requires
 read_stmt-read_switch-requires t c =

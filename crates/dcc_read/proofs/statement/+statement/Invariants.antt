@@ -15,11 +15,11 @@ decreases-read_if l = l.calls * 4 + 3
 abbrev pub decreases-read_while : goal.decreases-read_while
 decreases-read_while l = l.calls * 4 + 3
 
-abbrev pub decreases-read_do_while : goal.decreases-read_do_while
-decreases-read_do_while l = l.calls * 4 + 3
+abbrev pub decreases-read_do : goal.decreases-read_do
+decreases-read_do l = l.calls * 4 + 3
 
-abbrev pub decreases-read_forever : goal.decreases-read_forever
-decreases-read_forever l = l.calls * 4 + 3
+abbrev pub decreases-read_for : goal.decreases-read_for
+decreases-read_for l = l.calls * 4 + 3
 
 abbrev pub decreases-read_switch : goal.decreases-read_switch
 decreases-read_switch l = l.calls * 4 + 3
