@@ -18,8 +18,8 @@ pub mod token;
 pub mod unread;
 pub mod words;
 
-pub use first::First;
 pub use around::Around;
+pub use first::First;
 pub use head::head_at;
 pub use offence::{Offence, ParseKind};
 pub use partial::{
