@@ -18,6 +18,7 @@ pub mod token;
 pub mod unread;
 pub mod words;
 
+pub use around::Around;
 pub use first::First;
 pub use around::Around;
 pub use head::head_at;
