@@ -20,7 +20,6 @@ pub mod words;
 
 pub use around::Around;
 pub use first::First;
-pub use around::Around;
 pub use head::head_at;
 pub use offence::{Offence, ParseKind};
 pub use partial::{
