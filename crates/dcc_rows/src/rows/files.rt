@@ -15,6 +15,10 @@ pub(super) const PRINTS_A: [u8; 48] = [
     0xB8, 0x01, 0x00, 0x8E, 0xD8, 0xB2, 0x41, 0xB4, 0x02, 0xCD, 0x21, 0xB8, 0x03, 0x4C, 0xCD, 0x21,
 ];
 
+/// The code of a loop with two entries, which counts to 5: the key 0 enters after its first instruction.
+pub(super) const TWO_ENTRIES: &[u8] =
+    b"\xB4\x08\xCD\x21\x3C\x30\x74\x01\x43\x41\x83\xF9\x05\x75\xF9\x8A\xC3\xB4\x4C\xCD\x21";
+
 /// The paragraphs of 16 bytes that the code takes, with the two instructions that set DS before it.
 pub(super) fn paragraphs(rt: &impl Abort, code: &[u8]) -> u16
     ensures { result ≤ 4096 }

@@ -1,6 +1,6 @@
 //! The texts of lifted programs: where their blocks begin, and the lines of their statements.
 
-use super::files::program;
+use super::files::{TWO_ENTRIES, program};
 use dcc_c::{CStmt, Line, Unit};
 use dcc_io::MemSink;
 use dcc_mz::load;
@@ -10,17 +10,13 @@ use std::alloc::{AllocError, Global};
 use std::process::Abort;
 use std::test::Fail;
 
-/// A loop with two entries, by the key that is taken first.
-const TWO_ENTRIES: &[u8] =
-    b"\xB4\x08\xCD\x21\x3C\x30\x74\x01\x43\x41\x83\xF9\x05\x75\xF9\x8A\xC3\xB4\x4C\xCD\x21";
-
-/// The unit of the program of some code.
+// The unit of the program of some code.
 fn decompiled(rt: &impl Abort, alloc: Global, code: &[u8]) -> Result<Unit, Fail> {
     let image = load(alloc, &program(rt, alloc, code)?)?;
     Ok(decompile(alloc, &image)?)
 }
 
-/// The labels among some lines, each with its line.
+// The labels among some lines, each with its line.
 fn labels(alloc: Global, lines: &[Line]) -> Result<Vec<(u32, &str)>, AllocError> {
     let mut labels = Vec::new(alloc);
     for line in lines {

@@ -1,6 +1,8 @@
 //! Runs of executables by the command.
 
-use super::files::{Answer, Faults, NO_FAULTS, PRINTS_A, answered, answered_on, program};
+use super::files::{
+    Answer, Faults, NO_FAULTS, PRINTS_A, TWO_ENTRIES, answered, answered_on, program,
+};
 use std::alloc::{AllocError, Global};
 use std::process::Abort;
 use std::test::Fail;
@@ -30,26 +32,22 @@ const EXITS: Run = Run {
 };
 
 // Leaves with the factorial of AX, modulo 65536, by recursion.
-const FACTORIAL: &'static [u8] =
+const FACTORIAL: &[u8] =
     b"\x50\xE8\x05\x00\x59\xB4\x4C\xCD\x21\x55\x8B\xEC\x8B\x46\x04\x3D\x01\x00\x7E\x09\x48\x50\xE8\
         \xF0\xFF\x59\xF7\x66\x04\x5D\xC3";
 
 // Leaves with 1 where FFFF0000h is less than the long at the start of the data, and else with 0.
-const COMPARISON: &'static [u8] =
+const COMPARISON: &[u8] =
     b"\xBA\xFF\xFF\xB8\x00\x00\x3B\x16\x02\x00\x7C\x0D\x7F\x06\x3B\x06\x00\x00\x72\x05\xB8\x00\x4C\
         \xCD\x21\xB8\x01\x4C\xCD\x21";
 
 // A jump by BX through a table of four entries, which leave with 1 to 4; a number past it leaves with 9.
-const TABLE_JUMP: &'static [u8] =
+const TABLE_JUMP: &[u8] =
     b"\x83\xFB\x03\x77\x19\xD1\xE3\x2E\xFF\xA7\x2A\x00\xB0\x01\xEB\x0A\xB0\x02\xEB\x06\xB0\x03\xEB\
         \x02\xB0\x04\xB4\x4C\xCD\x21\xB0\x09\xEB\xF8\x14\x00\x18\x00\x1C\x00\x20\x00";
 
-// A loop with two entries, which counts to 5: the key 0 enters after its first instruction.
-const TWO_ENTRIES: &'static [u8] =
-    b"\xB4\x08\xCD\x21\x3C\x30\x74\x01\x43\x41\x83\xF9\x05\x75\xF9\x8A\xC3\xB4\x4C\xCD\x21";
-
 // Two keys with echo; leaves with the second.
-const TWO_KEYS: &'static [u8] = b"\xB4\x01\xCD\x21\xB4\x01\xCD\x21\xB4\x4C\xCD\x21";
+const TWO_KEYS: &[u8] = b"\xB4\x01\xCD\x21\xB4\x01\xCD\x21\xB4\x4C\xCD\x21";
 
 static RUNS: [Run; 25] = [
     // Prints a character.
