@@ -56,4 +56,3 @@ answers-nothing P out reply p = record { output = []; wrote = sym (append_told-n
 -- and the same where the stream is as before
 pub answers-unchanged : (P : Reply → List ℕ → Type 0) (out now : Option (List ℕ)) (reply : Reply) → now ≡ out → P reply [] → Answers P out now reply
 answers-unchanged P out now reply same p = subst (λ t. Answers P out t reply) (sym same) (answers-nothing P out reply p)
-

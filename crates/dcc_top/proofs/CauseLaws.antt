@@ -203,7 +203,7 @@ module _ (call : Call) where
       (end_status end ∷ exit.run_faults)
   ran-always a j file bytes end named n told_left ends =
       one-of (end_status end ∷ exit.run_faults) (inr (inr (inr (inl refl)))) (inr (inr (inr (inr (inl refl)))))
-          (λ reply output h. job-ended told before left n.files n.tells j file bytes end (named-file j file named n) told_left ends reply output (subst (λ x. Allowed x reply output) named h)) a
+      (λ reply output h. job-ended told before left n.files n.tells j file bytes end (named-file j file named n) told_left ends reply output (subst (λ x. Allowed x reply output) named h)) a
 
   -- The file has no image.
 
@@ -328,7 +328,7 @@ module _ (call : Call) where
   pub refused-always : Comes → (name file : List ℕ) → call.job ≡ Some (Decompile name) → Names call file → OfImages file IsRefusedImage → IsOneOf call.status (9 ∷ (10 ∷ (12 ∷ exit.faults)))
   refused-always a name file named n each =
       of-text name file (9 ∷ (10 ∷ (12 ∷ exit.faults))) (inr (inr (inr (inr (inl refl))))) (inr (inr (inr (inr (inr (inl refl)))))) named a
-          (always-refused told name n.files n.tells file (named-file (Decompile name) file named n) each)
+      (always-refused told name n.files n.tells file (named-file (Decompile name) file named n) each)
 
   pub text-always : Comes → (name file : List ℕ) → call.job ≡ Some (Decompile name) → Names call file → OfImages file IsAcceptedProgram → IsOneOf call.status (0 ∷ exit.faults)
   text-always a name file named n each =
@@ -386,7 +386,7 @@ module _ (call : Call) where
   pub text_fault-always : Comes → (name file : List ℕ) (steps fill : ℕ) → call.job ≡ Some (ExecuteText name steps fill) → Names call file → IsNoText file → IsOneOf call.status (11 ∷ exit.faults)
   text_fault-always a name file steps fill named n none =
       one-of (11 ∷ exit.faults) (inr (inr (inl refl))) (inr (inr (inr (inl refl))))
-          (λ reply output h. text-refused told before left n.files n.tells name steps fill file (named-file (ExecuteText name steps fill) file named n) none reply output (subst (λ j. Allowed j reply output) named h)) a
+      (λ reply output h. text-refused told before left n.files n.tells name steps fill file (named-file (ExecuteText name steps fill) file named n) none reply output (subst (λ j. Allowed j reply output) named h)) a
 
   -- What is written.
 

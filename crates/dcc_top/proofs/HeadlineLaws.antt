@@ -9,8 +9,8 @@ use Rattle.dcc_top.specs.Execution.{machine_of, text_of}
 use Rattle.dcc_top.specs.Headline.{HasText, RunsAgree}
 
 runs-agree : (image : Image) (tree : Tree) (start : Function) (tokens : ℕ) (input : List ℕ) (fill : ℕ)
-  → pipe.RunsAgree image tree start tokens input fill
-  → RunsAgree (machine_of image) (text_of tree start fill) tokens input
+    → pipe.RunsAgree image tree start tokens input fill
+    → RunsAgree (machine_of image) (text_of tree start fill) tokens input
 runs-agree image tree start tokens input fill a =
     let text = a.text_follows in
     let file = a.machine_follows in
@@ -21,10 +21,10 @@ runs-agree image tree start tokens input fill a =
     }
 
 pub has-text : (told : Files) (name : List ℕ) (before after : Option (List ℕ)) (file text : List ℕ)
-  → ShelfHas told name file
-  → after ≡ append_told before text
-  → Decompiles file text
-  → HasText told name before after
+    → ShelfHas told name file
+    → after ≡ append_told before text
+    → Decompiles file text
+    → HasText told name before after
 has-text told name before after file text has appended d =
     let t = d.is_text in
     record {

@@ -164,7 +164,7 @@ module _ (told : Files) (name : List ℕ) (files : List ℕ → Option (List ℕ
   file-ended file image steps bytes before left has is told_left reply output f =
       let r = held file (λ x. RunsFile x steps before left reply output) has f in
       subst (λ s. IsOneOf (status_of reply) (end_status (end_after machine_system steps s) ∷ (4 ∷ (5 ∷ (6 ∷ (7 ∷ [])))))) (same-start file r.image image bytes r.is_image is)
-          (run-ended (machine_of r.image) steps before left reply output bytes told_left r.finishes)
+      (run-ended (machine_of r.image) steps before left reply output bytes told_left r.finishes)
 
   -- a fault among the statuses of a run
   faulty-run : (first : ℕ) (status : ℕ) → (status ≡ 4) ⊎ (status ≡ 7) → IsOneOf status (first ∷ (4 ∷ (5 ∷ (6 ∷ (7 ∷ [])))))

@@ -28,15 +28,15 @@ asks-prefix job asked (inr same) = ([], prefix_nil (requests_of (Some job)), sam
 
 -- the file of the job was fetched, and what was done with it answers the job
 pub replies-fetched : {T : Type 0} (job : Job) (shelf : ShelfChange) (input : SourceChange) (output : SinkChange) (result : Result Reply Failed) (x : T)
-  → AsksOnce (name_of job) (greatest_of job) shelf (Ok x)
-  → IfOk result (Answers (Allows shelf.files input.left.before input.left.after (Some job)) output.taken.before output.taken.after)
-  → OnErr result (CutsShort (IsDue shelf.files input.left.before (Some job)) output.taken.before output.taken.after)
-  → IfOk result (λ reply. reply ≡ NoFile → Rises shelf.absences)
-  → IfOk result (λ reply. reply ≡ FileFault → Rises shelf.faults)
-  → IfOk result (λ reply. reply ≡ InputFault → Rises input.faults)
-  → output.faults.before ≤ output.faults.after
-  → OnErr result (Rises output.faults)
-  → Replies (Some job) shelf input output result
+    → AsksOnce (name_of job) (greatest_of job) shelf (Ok x)
+    → IfOk result (Answers (Allows shelf.files input.left.before input.left.after (Some job)) output.taken.before output.taken.after)
+    → OnErr result (CutsShort (IsDue shelf.files input.left.before (Some job)) output.taken.before output.taken.after)
+    → IfOk result (λ reply. reply ≡ NoFile → Rises shelf.absences)
+    → IfOk result (λ reply. reply ≡ FileFault → Rises shelf.faults)
+    → IfOk result (λ reply. reply ≡ InputFault → Rises input.faults)
+    → output.faults.before ≤ output.faults.after
+    → OnErr result (Rises output.faults)
+    → Replies (Some job) shelf input output result
 replies-fetched job shelf input output result x asks allowed broke absent failed read counts write = record {
   allowed = allowed;
   broke_off = broke;
@@ -51,10 +51,10 @@ replies-fetched job shelf input output result x asks allowed broke absent failed
 
 -- it was not fetched, and the answer says why
 pub replies-unfetched : {T : Type 0} (job : Job) (shelf : ShelfChange) (left : Option (List ℕ)) (read_faults : ℕ) (taken : Option (List ℕ)) (write_faults : ℕ) (reply : Reply)
-  → AsksOnce {T = T} (name_of job) (greatest_of job) shelf (Err reply)
-  → Allows shelf.files left left (Some job) reply []
-  → (reply ≡ InputFault → ⊥)
-  → Replies (Some job) shelf (unread left read_faults) (unwritten taken write_faults) (Ok reply)
+    → AsksOnce {T = T} (name_of job) (greatest_of job) shelf (Err reply)
+    → Allows shelf.files left left (Some job) reply []
+    → (reply ≡ InputFault → ⊥)
+    → Replies (Some job) shelf (unread left read_faults) (unwritten taken write_faults) (Ok reply)
 replies-unfetched {T = T} job shelf left read_faults taken write_faults reply asks allowed no_read = record {
   allowed = answers-nothing (Allows shelf.files left left (Some job)) taken reply allowed;
   broke_off = tt;
@@ -69,9 +69,9 @@ replies-unfetched {T = T} job shelf left read_faults taken write_faults reply as
 
 -- the answer of words that are no command, of which nothing is asked
 pub replies-usage : (job : Option Job) (shelf : ShelfChange) (left : Option (List ℕ)) (read_faults : ℕ) (taken : Option (List ℕ)) (write_faults : ℕ)
-  → job ≡ None
-  → shelf.asked.after ≡ shelf.asked.before
-  → Replies job shelf (unread left read_faults) (unwritten taken write_faults) (Ok Usage)
+    → job ≡ None
+    → shelf.asked.after ≡ shelf.asked.before
+    → Replies job shelf (unread left read_faults) (unwritten taken write_faults) (Ok Usage)
 replies-usage job shelf left read_faults taken write_faults none same =
     let nothing : shelf.asked.after ≡ shelf.asked.before ++ [] = same ∙ sym (append-nil shelf.asked.before) in
     subst (λ j. Replies j shelf (unread left read_faults) (unwritten taken write_faults) (Ok Usage)) (sym none) (record {

@@ -76,13 +76,13 @@ joined-two front word (Some parts) h =
 -- one more option
 fresh-steps : (front : Parts) (value : List ℕ) (back : List (List ℕ)) (other fill : Option (List ℕ)) →
     joined (record front { steps = None }) (if is_some other then None else Some (record { positional = back; steps = Some value; fill = fill })) ≡ built (front.positional ++ back)
-        (merged (Some value) other) (merged front.fill fill)
+    (merged (Some value) other) (merged front.fill fill)
 fresh-steps front value back None fill = refl
 fresh-steps front value back (Some other) fill = refl
 
 fresh-fill : (front : Parts) (value : List ℕ) (back : List (List ℕ)) (steps other : Option (List ℕ)) →
     joined (record front { fill = None }) (if is_some other then None else Some (record { positional = back; steps = steps; fill = Some value })) ≡ built (front.positional ++ back)
-        (merged front.steps steps) (merged (Some value) other)
+    (merged front.steps steps) (merged (Some value) other)
 fresh-fill front value back steps None = refl
 fresh-fill front value back steps (Some other) = sym (built-none (front.positional ++ back) (merged front.steps steps))
 

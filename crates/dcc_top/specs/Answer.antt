@@ -153,15 +153,15 @@ pub data HasNoFile (told : Files) (name : List ℕ) : Reply → Type 0 where
 pub data HasNoImage (told : Files) (name : List ℕ) : Reply → Type 0 where
   no_executable : {reply : Reply} → HasNoFile told name reply → HasNoImage told name reply
   misshapen : {fault : MzFault}
-    → OfFile told name (λ file. IsFormatRefusal file fault)
-    → HasNoImage told name (Format fault)
+      → OfFile told name (λ file. IsFormatRefusal file fault)
+      → HasNoImage told name (Format fault)
 
 -- The answer says why there is no unit of the file of this name: it could not be had, or it is refused as a text.
 pub data HasNoUnit (told : Files) (name : List ℕ) : Reply → Type 0 where
   no_text : {reply : Reply} → HasNoFile told name reply → HasNoUnit told name reply
   offends : {line : ℕ} {kind : ParseKind}
-    → OfFile told name (λ text. IsTextRefusal text line kind)
-    → HasNoUnit told name (TextFault line kind)
+      → OfFile told name (λ text. IsTextRefusal text line kind)
+      → HasNoUnit told name (TextFault line kind)
 
 -- The text of an executable.
 
@@ -199,15 +199,15 @@ pub record OfImages (file : List ℕ) (P : Image → Type 0) : Type 0 where
 pub data AllowsText (told : Files) (name : List ℕ) : Reply → List ℕ → Type 0 where
   decompiled : {text : List ℕ} → OfFile told name (λ file. Decompiles file text) → AllowsText told name Done text
   refused : (refusal : Refusal)
-    → OfFile told name (IsRefusedAs refusal)
-    → AllowsText told name (refusal_reply refusal) []
+      → OfFile told name (IsRefusedAs refusal)
+      → AllowsText told name (refusal_reply refusal) []
   no_image : {reply : Reply} → HasNoImage told name reply → AllowsText told name reply []
 
 -- Runs.
 
 -- the answer is one for a run of the file's image
 pub record RunsFile (file : List ℕ) (steps : ℕ) (before left : Option (List ℕ)) (reply : Reply)
-  (output : List ℕ) : Type 0 where
+    (output : List ℕ) : Type 0 where
   pub image : Image
   pub is_image : IsImageOf file image
   pub finishes : Finishes (machine_of image) steps before left reply output
@@ -243,7 +243,7 @@ UnitPutsOut tree steps fill before output =
 
 -- the answer is one for a run of the text
 pub record RunsText (text : List ℕ) (steps fill : ℕ) (before left : Option (List ℕ)) (reply : Reply)
-  (output : List ℕ) : Type 0 where
+    (output : List ℕ) : Type 0 where
   pub tree : Tree
   pub is_read : IsReadAs text tree
   pub runs : RunsUnit tree steps fill before left reply output
@@ -266,32 +266,32 @@ Runs (ExecuteText name steps fill) file before left reply output = RunsText file
 pub data Allows (told : Files) (before left : Option (List ℕ)) : Option Job → Reply → List ℕ → Type 0 where
   no_job : left ≡ before → Allows told before left None Usage []
   for_text : {name : List ℕ} {reply : Reply} {output : List ℕ}
-    → AllowsText told name reply output
-    → left ≡ before
-    → Allows told before left (Some (Decompile name)) reply output
+      → AllowsText told name reply output
+      → left ≡ before
+      → Allows told before left (Some (Decompile name)) reply output
   ran_file : {name : List ℕ} {steps : ℕ} {reply : Reply} {output : List ℕ}
-    → OfFile told name (λ file. RunsFile file steps before left reply output)
-    → Allows told before left (Some (Execute name steps)) reply output
+      → OfFile told name (λ file. RunsFile file steps before left reply output)
+      → Allows told before left (Some (Execute name steps)) reply output
   ran_no_file : {name : List ℕ} {steps : ℕ} {reply : Reply}
-    → HasNoImage told name reply
-    → left ≡ before
-    → Allows told before left (Some (Execute name steps)) reply []
+      → HasNoImage told name reply
+      → left ≡ before
+      → Allows told before left (Some (Execute name steps)) reply []
   ran_text : {name : List ℕ} {steps fill : ℕ} {reply : Reply} {output : List ℕ}
-    → OfFile told name (λ text. RunsText text steps fill before left reply output)
-    → Allows told before left (Some (ExecuteText name steps fill)) reply output
+      → OfFile told name (λ text. RunsText text steps fill before left reply output)
+      → Allows told before left (Some (ExecuteText name steps fill)) reply output
   ran_no_text : {name : List ℕ} {steps fill : ℕ} {reply : Reply}
-    → HasNoUnit told name reply
-    → left ≡ before
-    → Allows told before left (Some (ExecuteText name steps fill)) reply []
+      → HasNoUnit told name reply
+      → left ≡ before
+      → Allows told before left (Some (ExecuteText name steps fill)) reply []
 
 -- These bytes are due on the output, where the job comes to its end: the text of the file, or what a run puts out.
 pub data IsDue (told : Files) (before : Option (List ℕ)) : Option Job → List ℕ → Type 0 where
   due_text : {name due : List ℕ}
-    → OfFile told name (λ file. Decompiles file due)
-    → IsDue told before (Some (Decompile name)) due
+      → OfFile told name (λ file. Decompiles file due)
+      → IsDue told before (Some (Decompile name)) due
   due_output : {name due : List ℕ} {steps : ℕ}
-    → OfFile told name (λ file. FilePutsOut file steps before due)
-    → IsDue told before (Some (Execute name steps)) due
+      → OfFile told name (λ file. FilePutsOut file steps before due)
+      → IsDue told before (Some (Execute name steps)) due
   due_text_output : {name due : List ℕ} {steps fill : ℕ}
-    → OfFile told name (λ text. TextPutsOut text steps fill before due)
-    → IsDue told before (Some (ExecuteText name steps fill)) due
+      → OfFile told name (λ text. TextPutsOut text steps fill before due)
+      → IsDue told before (Some (ExecuteText name steps fill)) due

@@ -37,22 +37,22 @@ AsksAll job asked = asked.after ≡ asked.before ++ requests_of job
 -- shelf come where their counts rose.
 pub record AsksOnce {T : Type 0} (name : List ℕ) (most : ℕ) (shelf : ShelfChange) (result : Result T Reply) : Type 0
   where
-  pub asked : IsErrOf result Memory ⊎ (shelf.asked.after ≡ shelf.asked.before ++ (name, most) ∷ [])
-  pub asked_prefix : (shelf.asked.after ≡ shelf.asked.before ++ (name, most) ∷ [])
-    ⊎ (shelf.asked.after ≡ shelf.asked.before)
-  pub absent : IsErrOf result NoFile → Rises shelf.absences
-  pub failed : IsErrOf result FileFault → Rises shelf.faults
+    pub asked : IsErrOf result Memory ⊎ (shelf.asked.after ≡ shelf.asked.before ++ (name, most) ∷ [])
+    pub asked_prefix : (shelf.asked.after ≡ shelf.asked.before ++ (name, most) ∷ [])
+        ⊎ (shelf.asked.after ≡ shelf.asked.before)
+    pub absent : IsErrOf result NoFile → Rises shelf.absences
+    pub failed : IsErrOf result FileFault → Rises shelf.faults
 
 -- The answer to a job.
 
 -- What the answer to a job comes to, before its line is told. It is allowed for the job, after the output that it has
 -- written, or a write of what is due failed; and each fault comes where its count rose.
 pub record Replies (job : Option Job) (shelf : ShelfChange) (input : SourceChange) (output : SinkChange)
-  (result : Result Reply Failed) : Type 0 where
+    (result : Result Reply Failed) : Type 0 where
   pub allowed : IfOk result (Answers (Allows shelf.files input.left.before input.left.after job)
-    output.taken.before output.taken.after)
+      output.taken.before output.taken.after)
   pub broke_off : OnErr result (CutsShort (IsDue shelf.files input.left.before job)
-    output.taken.before output.taken.after)
+      output.taken.before output.taken.after)
   pub asked : MatchResult result (λ reply. (reply ≡ Memory) ⊎ AsksAll job shelf.asked) (λ _. AsksAll job shelf.asked)
   pub asked_prefix : AsksPrefix job shelf.asked
   pub absent : IfOk result (λ reply. reply ≡ NoFile → Rises shelf.absences)
@@ -88,19 +88,19 @@ pub record BreaksOff (call : Call) (due : List ℕ) : Type 0 where
 -- of it is there.
 pub data IsAnswered (call : Call) : Type 0 where
   answered : (reply : Reply)
-    → GivesReply call reply
-    → IsCaused call reply
-    → TellsReply reply call.status call.errors
-    → IsAnswered call
+      → GivesReply call reply
+      → IsCaused call reply
+      → TellsReply reply call.status call.errors
+      → IsAnswered call
   found_no_memory : (reply : Reply)
-    → GivesReply call reply
-    → reply ≢ Done
-    → TellsReply Memory call.status call.errors
-    → IsAnswered call
+      → GivesReply call reply
+      → reply ≢ Done
+      → TellsReply Memory call.status call.errors
+      → IsAnswered call
   broke_off : (due : List ℕ)
-    → IsDue call.shelf.files call.input.left.before call.job due
-    → BreaksOff call due
-    → IsAnswered call
+      → IsDue call.shelf.files call.input.left.before call.job due
+      → BreaksOff call due
+      → IsAnswered call
 
 -- Runs.
 
@@ -121,12 +121,12 @@ pub record HasRunFile (call : Call) : Type 0 where
 -- the run that the job asks for on the file and the input ends so, after the steps that are asked for
 pub data EndsSo (file input : List ℕ) : Job → End → Type 0 where
   file_ends : {name : List ℕ} {steps : ℕ} {image : Image}
-    → IsImageOf file image
-    → EndsSo file input (Execute name steps) (ending_after (machine_of image) steps input)
+      → IsImageOf file image
+      → EndsSo file input (Execute name steps) (ending_after (machine_of image) steps input)
   text_ends : {name : List ℕ} {steps fill : ℕ} {tree : Tree}
-    → (stands : StandsFor file tree)
-    → length file ≤ greatest_text
-    → EndsSo file input (ExecuteText name steps fill)
+      → (stands : StandsFor file tree)
+      → length file ≤ greatest_text
+      → EndsSo file input (ExecuteText name steps fill)
       (ending_after (text_of tree stands.allowed.start fill) steps input)
 
 -- Files that are not to be had.

@@ -37,4 +37,4 @@ pub record HasText (told : Files) (name : List ℕ) (before after : Option (List
   pub stands : StandsFor text tree
   pub written_is : text ≡ written_form tree
   pub runs : (input : List ℕ) (fill : ℕ) → All (λ b. b < 256) input → fill < 2 ^ 16
-    → RunsAgree (machine_of image) (text_of tree stands.allowed.start fill) (length stands.tokens) input
+      → RunsAgree (machine_of image) (text_of tree stands.allowed.start fill) (length stands.tokens) input

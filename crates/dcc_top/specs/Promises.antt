@@ -15,25 +15,25 @@ use Rattle.dcc_top.specs.Status as exit
 -- `c` writes a text that does what the executable does, and writes it wherever nothing in the program is refused.
 pub record KeepsText (call : Call) : Type 0 where
   pub text : (name : List ℕ)
-    → call.job ≡ Some (Decompile name)
-    → call.status ≡ exit.done
-    → HasText call.shelf.files name call.output.taken.before call.output.taken.after
+      → call.job ≡ Some (Decompile name)
+      → call.status ≡ exit.done
+      → HasText call.shelf.files name call.output.taken.before call.output.taken.after
   pub text_always : (name file : List ℕ)
-    → call.job ≡ Some (Decompile name)
-    → Names call file
-    → OfImages file IsAcceptedProgram
-    → IsOneOf call.status (exit.done ∷ exit.faults)
+      → call.job ≡ Some (Decompile name)
+      → Names call file
+      → OfImages file IsAcceptedProgram
+      → IsOneOf call.status (exit.done ∷ exit.faults)
 
 -- What `run` and `runc` put out and take, and how the run has ended, are those of the file.
 pub record KeepsRuns (call : Call) : Type 0 where
   pub exited : IsExecution call.job → call.status ≡ exit.done → HasRunFile call
   pub ran : IsOneOf call.status exit.stops → HasRunFile call
   pub ran_always : (job : Job) (file bytes : List ℕ) (end : End)
-    → call.job ≡ Some job
-    → Names call file
-    → call.input.left.before ≡ Some bytes
-    → EndsSo file bytes job end
-    → IsOneOf call.status (end_status end ∷ exit.run_faults)
+      → call.job ≡ Some job
+      → Names call file
+      → call.input.left.before ≡ Some bytes
+      → EndsSo file bytes job end
+      → IsOneOf call.status (end_status end ∷ exit.run_faults)
   pub read_failed : call.status ≡ exit.input_fault → Rises call.input.faults
 
 -- Words, files, programs and texts are refused for what is told of them, and wherever there is that to tell; then
@@ -42,31 +42,27 @@ pub record KeepsRefusals (call : Call) : Type 0 where
   -- the words are no command
   pub usage : call.status ≡ exit.usage → call.job ≡ None
   pub usage_always : call.job ≡ None → IsOneOf call.status (exit.usage ∷ (exit.write_fault ∷ (exit.no_memory ∷ [])))
-
   -- the file has no image
   pub format : call.status ≡ exit.format → HasFormatFault call
   pub format_always : (file : List ℕ) (fault : FormatFault)
-    → LoadsImage call.job
-    → Names call file
-    → IsFirstFault file fault
-    → IsOneOf call.status (exit.format ∷ exit.faults)
-
+      → LoadsImage call.job
+      → Names call file
+      → IsFirstFault file fault
+      → IsOneOf call.status (exit.format ∷ exit.faults)
   -- the program is refused: for a construct, for a count, or for an instruction that is not built yet
   pub refused : IsOneOf call.status exit.refusals → HasRefusal call
   pub refused_always : (name file : List ℕ)
-    → call.job ≡ Some (Decompile name)
-    → Names call file
-    → OfImages file IsRefusedImage
-    → IsOneOf call.status (exit.construct ∷ (exit.limit ∷ (exit.not_yet ∷ exit.faults)))
-
+      → call.job ≡ Some (Decompile name)
+      → Names call file
+      → OfImages file IsRefusedImage
+      → IsOneOf call.status (exit.construct ∷ (exit.limit ∷ (exit.not_yet ∷ exit.faults)))
   -- the text is refused: no tree stands for it, or it is too long
   pub text_fault : call.status ≡ exit.text_fault → HasTextFault call
   pub text_fault_always : (name file : List ℕ) (steps fill : ℕ)
-    → call.job ≡ Some (ExecuteText name steps fill)
-    → Names call file
-    → IsNoText file
-    → IsOneOf call.status (exit.text_fault ∷ exit.faults)
-
+      → call.job ≡ Some (ExecuteText name steps fill)
+      → Names call file
+      → IsNoText file
+      → IsOneOf call.status (exit.text_fault ∷ exit.faults)
   -- a refusal puts nothing out
   pub nothing : IsOneOf call.status exit.without_output → call.output.taken.after ≡ call.output.taken.before
 
@@ -76,11 +72,9 @@ pub record KeepsFaults (call : Call) : Type 0 where
   pub absent : call.status ≡ exit.no_file → IsAbsent call
   pub absent_always : IsMissing call → IsOneOf call.status (exit.no_file ∷ exit.faults)
   pub unreadable : call.status ≡ exit.file_fault → IsUnreadable call
-
   -- a write failed: a part of an answer is written
   pub write_failed : call.status ≡ exit.write_fault → Rises call.output.faults ⊎ Rises call.errors.faults
   pub cut_off : call.status ≡ exit.write_fault → IsCutOff call
-
   -- memory ran out: what a run had put out by then is written
   pub out_of_memory : call.status ≡ exit.no_memory → IsOutOfMemory call
 
@@ -91,7 +85,7 @@ pub record KeepsAnswer (call : Call) : Type 0 where
   pub asked_prefix : AsksPrefix call.job call.shelf.asked
   pub asked : call.status ≢ exit.write_fault → call.status ≢ exit.no_memory → AsksAll call.job call.shelf.asked
   pub asked_cut_off : call.status ≡ exit.write_fault
-    → AsksAll call.job call.shelf.asked ⊎ AppendsPart call.errors (line_of Memory)
+      → AsksAll call.job call.shelf.asked ⊎ AppendsPart call.errors (line_of Memory)
 
 -- what the program promises of a call
 pub record KeepsPromises (call : Call) : Type 0 where

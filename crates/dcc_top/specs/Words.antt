@@ -67,18 +67,18 @@ is_positional (c ∷ (d ∷ cs)) = not (c == 45)
 pub data HasParts : List (List ℕ) → Parts → Type 0 where
   no_word : HasParts [] (only_positional [])
   positional_word : {word : List ℕ} {words : List (List ℕ)} {parts : Parts}
-    → is_positional word ≡ true
-    → HasParts words parts
-    → HasParts (word ∷ words) (with_word word parts)
+      → is_positional word ≡ true
+      → HasParts words parts
+      → HasParts (word ∷ words) (with_word word parts)
   -- an option, at most once: `--steps N` as two words, or `--steps=N` as one (byte 61 is `=`)
   option_in_two : (name : OptionName) (value : List ℕ) (words : List (List ℕ)) (parts : Parts)
-    → value_in name parts ≡ None
-    → HasParts words parts
-    → HasParts (option_word name ∷ (value ∷ words)) (set_value name value parts)
+      → value_in name parts ≡ None
+      → HasParts words parts
+      → HasParts (option_word name ∷ (value ∷ words)) (set_value name value parts)
   option_in_one : (name : OptionName) (value : List ℕ) (words : List (List ℕ)) (parts : Parts)
-    → value_in name parts ≡ None
-    → HasParts words parts
-    → HasParts ((option_word name ++ (61 ∷ value)) ∷ words) (set_value name value parts)
+      → value_in name parts ≡ None
+      → HasParts words parts
+      → HasParts ((option_word name ++ (61 ∷ value)) ∷ words) (set_value name value parts)
   end_of_options : {words : List (List ℕ)} → HasParts (codes "--" ∷ words) (only_positional words)
 
 -- the word is one or more decimal digits, at most so many, and nothing else
@@ -104,17 +104,17 @@ fill_of (Some word) = number_of 5 65535 word
 -- the words ask for this job
 pub data AskFor : List (List ℕ) → Job → Type 0 where
   decompile : {words : List (List ℕ)} {file : List ℕ}
-    → HasParts words (only_positional (file ∷ []))
-    → AskFor (command_word C ∷ words) (Decompile file)
+      → HasParts words (only_positional (file ∷ []))
+      → AskFor (command_word C ∷ words) (Decompile file)
   execute : {words : List (List ℕ)} {file : List ℕ} {value : Option (List ℕ)} {steps : ℕ}
-    → HasParts words (record { positional = file ∷ []; steps = value; fill = None })
-    → steps_of value ≡ Some steps
-    → AskFor (command_word Run ∷ words) (Execute file steps)
+      → HasParts words (record { positional = file ∷ []; steps = value; fill = None })
+      → steps_of value ≡ Some steps
+      → AskFor (command_word Run ∷ words) (Execute file steps)
   execute_text : {words : List (List ℕ)} {file : List ℕ} {value other : Option (List ℕ)} {steps fill : ℕ}
-    → HasParts words (record { positional = file ∷ []; steps = value; fill = other })
-    → steps_of value ≡ Some steps
-    → fill_of other ≡ Some fill
-    → AskFor (command_word RunC ∷ words) (ExecuteText file steps fill)
+      → HasParts words (record { positional = file ∷ []; steps = value; fill = other })
+      → steps_of value ≡ Some steps
+      → fill_of other ≡ Some fill
+      → AskFor (command_word RunC ∷ words) (ExecuteText file steps fill)
 
 -- The same as functions: the one job that the words ask for, if any.
 
@@ -204,8 +204,8 @@ unfoldable pub job_of : List (List ℕ) → Option Job
 job_of [] = None
 job_of (word ∷ words) =
     option_and_then
-        (λ command. option_and_then (λ parts. job_for command parts.positional parts.steps parts.fill) (parts_of words))
-        (command_of word)
+    (λ command. option_and_then (λ parts. job_for command parts.positional parts.steps parts.fill) (parts_of words))
+    (command_of word)
 
 -- a job is that of the words exactly where they ask for it
 abbrev pub AskForOneJob : Type 0

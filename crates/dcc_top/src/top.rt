@@ -102,12 +102,12 @@ pub fn dcc<H: Shelf, I: Source, O: Sink, E: Sink>(
     err: &mut E,
 ) -> u8
     ensures promises { KeepsPromises (record {
-        job = job_in words.now.items;
-        shelf = shelf_change H.files H.asked H.absences H.faults shelf.old shelf.new;
-        input = source_change I.left I.faults input.old input.new;
-        output = sink_change O.taken O.faults out.old out.new;
-        errors = sink_change E.taken E.faults err.old err.new;
-        status = result;
+      job = job_in words.now.items;
+      shelf = shelf_change H.files H.asked H.absences H.faults shelf.old shelf.new;
+      input = source_change I.left I.faults input.old input.new;
+      output = sink_change O.taken O.faults out.old out.new;
+      errors = sink_change E.taken E.faults err.old err.new;
+      status = result;
     }) }
     ensures input { ¬ IsExecution (job_in words.now.items) → input.new ≡ input.old }
 {

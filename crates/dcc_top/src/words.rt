@@ -80,6 +80,7 @@ const STEPS: u64 = 1_000_000;
 
 // The most steps that an option gives, and the digits that may write them.
 const GREATEST_STEPS: u64 = 1_000_000_000;
+
 const STEPS_DIGITS: usize = 10;
 
 // The fill of a text's run where no option gives it.
@@ -87,6 +88,7 @@ const FILL: u16 = 0;
 
 // The greatest fill that an option gives, and the digits that may write it.
 const GREATEST_FILL: u64 = 65_535;
+
 const FILL_DIGITS: usize = 5;
 
 // The command of this name.
@@ -204,7 +206,7 @@ impl<'a> Found<'a> {
     fn with_word(self, word: &'a str) -> Option<Found<'a>>
         ensures { MatchOption result (IsSome self.entry.file)
             (λ found. (self.entry.file ≡ None)
-                × (parts_read found ≡ record (parts_read self.entry) { positional = word.now ∷ [] })) }
+            × (parts_read found ≡ record (parts_read self.entry) { positional = word.now ∷ [] })) }
     {
         match self.file {
             Some(_) => None,
@@ -219,7 +221,7 @@ impl<'a> Found<'a> {
     fn with_value(self, option: OptionName, value: &'a str) -> Option<Found<'a>>
         ensures { MatchOption result (IsSome (value_in option (parts_read self.entry)))
             (λ found. (value_in option (parts_read self.entry) ≡ None)
-                × (parts_read found ≡ set_value option value.now (parts_read self.entry))) }
+            × (parts_read found ≡ set_value option value.now (parts_read self.entry))) }
     {
         match option {
             OptionName::Steps => match self.steps {
@@ -243,7 +245,7 @@ impl<'a> Found<'a> {
     fn with_all(self, words: &'a [String]) -> Option<Found<'a>>
         ensures { MatchOption result (2 ≤ length ((parts_read self.entry).positional ++ map string_bytes words.now))
             (λ found. parts_read found ≡ record (parts_read self.entry) {
-                positional = (parts_read self.entry).positional ++ map string_bytes words.now
+              positional = (parts_read self.entry).positional ++ map string_bytes words.now;
             }) }
     {
         match words {

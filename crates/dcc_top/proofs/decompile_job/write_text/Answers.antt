@@ -11,7 +11,7 @@ use Rattle.dcc_top.proofs.decompile_job.write_text.Goals as goal
 pub returns-in-Err-clause-answers : goal.returns-in-Err-clause-answers
 returns-in-Err-clause-answers g c =
     answers-nothing (AllowsImage c.args.image.now) _ c.from.result
-        (subst (λ reply. AllowsImage c.args.image.now reply _) (sym c.from.ensures) (image_refused c.in-Err.refusal (is-refused c.args.image.now c.in-Err.refusal c.in-Err.ensures.refused)))
+    (subst (λ reply. AllowsImage c.args.image.now reply _) (sym c.from.ensures) (image_refused c.in-Err.refusal (is-refused c.args.image.now c.in-Err.refusal c.in-Err.ensures.refused)))
 
 pub returns-in-Ok-print-clause-answers : goal.returns-in-Ok-print-clause-answers
 returns-in-Ok-print-clause-answers g c = record {

@@ -42,14 +42,14 @@ pub loop-word-preserved-in-Names : goal.loop-word-preserved-in-Names
 loop-word-preserved-in-Names c =
     let inv = rw (c.in-Some.ensures.cases.0, c.in_ok-value-in-Names.ensures.cases.0) at c.loop-word.invariant in
     step-named (parts_read c.loop-word.found) (parts_read c.in_ok-found-in-Names.found) _ c.in-Names.option (string_bytes c.in-Some.word.now) (string_bytes c.in_ok-value-in-Names.value.now)
-        (map string_bytes c.in_ok-value-in-Names.rest.now) inv
+    (map string_bytes c.in_ok-value-in-Names.rest.now) inv
     (c.in-Names.ensures ∙ ap kind_of c.as_str-word.ensures.value) c.in_ok-found-in-Names.ensures.0 (rw c.as_str.ensures.value at c.in_ok-found-in-Names.ensures.1)
 
 pub loop-word-preserved : goal.loop-word-preserved
 loop-word-preserved c =
     let inv = rw c.in-Some.ensures.cases.0 at c.loop-word.invariant in
     step-given (parts_read c.loop-word.found) (parts_read c.in_ok-found-in-Gives.found) _ c.in-Gives.option (string_bytes c.in-Some.word.now) c.in-Gives.value.now
-        (map string_bytes c.in-Some.rest.now) inv
+    (map string_bytes c.in-Some.rest.now) inv
     (c.in-Gives.ensures ∙ ap kind_of c.as_str-word.ensures.value) c.in_ok-found-in-Gives.ensures.0 c.in_ok-found-in-Gives.ensures.1
 
 pub returns-in-Unknown : goal.returns-in-Unknown
@@ -65,7 +65,7 @@ pub returns-in_err-found-in-Names : goal.returns-in_err-found-in-Names
 returns-in_err-found-in-Names c =
     let inv = rw (c.in-Some.ensures.cases.0, c.in_ok-value-in-Names.ensures.cases.0) at c.loop-word.invariant in
     let two = stop-named (parts_read c.loop-word.found) _ c.in-Names.option (string_bytes c.in-Some.word.now) (string_bytes c.in_ok-value-in-Names.value.now)
-        (map string_bytes c.in_ok-value-in-Names.rest.now) inv
+    (map string_bytes c.in_ok-value-in-Names.rest.now) inv
     (c.in-Names.ensures ∙ ap kind_of c.as_str-word.ensures.value) c.in_err-found-in-Names.ensures in
     rw c.from_residual-in_err-found-in-Names.ensures two
 
