@@ -7,8 +7,8 @@ PROGRAM = ROOT / "crates" / "dcc" / "out" / "dcc"
 
 
 def build():
-    """Builds the program where that isn't done; the script at the root does it."""
-    subprocess.run([str(ROOT / "dcc"), "help"], stderr=subprocess.DEVNULL, check=False)
+    """Proves and builds the program where that isn't done; the script at the root does it."""
+    subprocess.run([str(ROOT / "dcc"), "--prove"], check=True)
 
 
 def called(words, keys=b""):
