@@ -9,7 +9,7 @@ use Rattle.dcc_c.specs.Lexing.{Placed, placed}
 use Rattle.dcc_c.specs.Tree.{Word, Expr, Name, Unary, Stmt, Assign, Call, If, While, DoWhile, Forever, Switch, Break, Continue, Goto, Label, Empty, Return, Lines, no_lines, line, Arms, no_arms, arm}
 use Rattle.dcc_c.specs.Parts.{stmts_in, inner_stmts, arm_stmts}
 use Rattle.dcc_c.specs.Grammar.{word, mark, is_name, none, one, Around, in_block, in_loop, in_switch, plain_decimal, AreCases, last_case, more_cases, has_arm, IsStmt, assign, call_alone, call_into, if_alone, if_else, while, do_while, for_ever, switch, break, continue, goto, empty, return_nothing, return_value, IsBlock, block, AreLines, no_more, depth_pragma, label, statement, AreArms, no_arm, case_arm, default_arm}
-use Rattle.dcc_c.specs.Written.{depth_behind, next_depth, written_depth, written_stmt, written_lines, written_arms, written_default}
+use Rattle.dcc_c.specs.Written.{depth_after, next_depth, written_depth, written_stmt, written_lines, written_arms, written_default}
 use Rattle.dcc_c.specs.Numbered.{rows, numbered_stmt, numbered_lines, numbered_arms, numbered_default}
 use Rattle.dcc_c.proofs.Writable.{is_writable_expr, is_writable_place, is_label, are_cases, is_small, is_writable_stmt, are_writable_lines, are_writable_arms, is_writable_default}
 use Rattle.dcc_c.proofs.WrittenTokens.{expr_tokens, cases_tokens, stmt_tokens, lines_tokens, arms_tokens, default_tokens}
@@ -18,10 +18,10 @@ use Rattle.dcc_c.proofs.FormedExprs.{expr_formed, place_formed, call_formed}
 -- Depth.
 
 -- the depth after statements and others is that after the others
-depth_behind-append : (first second : List Stmt) (depth : ℕ) → depth_behind depth (first ++ second) ≡ depth_behind (depth_behind depth first) second
-depth_behind-append [] second depth = refl
-depth_behind-append (Call place function arguments own ∷ first) second depth = depth_behind-append first second own
-depth_behind-append (stmt ∷ first) second depth = depth_behind-append first second depth
+depth_after-append : (first second : List Stmt) (depth : ℕ) → depth_after depth (first ++ second) ≡ depth_after (depth_after depth first) second
+depth_after-append [] second depth = refl
+depth_after-append (Call place function arguments own ∷ first) second depth = depth_after-append first second own
+depth_after-append (stmt ∷ first) second depth = depth_after-append first second depth
 
 -- the next depth changes no more, where it is in force
 next_depth-twice : (lines : Lines) (depth : ℕ) → next_depth (next_depth depth lines) lines ≡ next_depth depth lines
@@ -30,10 +30,10 @@ next_depth-twice (line stmt at lines) depth = refl
 next_depth-twice no_lines depth = refl
 
 -- where the next depth is in force before statements, the depth after them is the same
-behind-next_depth : (lines : Lines) (depth : ℕ) → depth_behind (next_depth depth lines) (stmts_in lines) ≡ depth_behind depth (stmts_in lines)
-behind-next_depth (line (Label name) at lines) depth = behind-next_depth lines depth
-behind-next_depth (line stmt at lines) depth = refl
-behind-next_depth no_lines depth = refl
+following-next_depth : (lines : Lines) (depth : ℕ) → depth_after (next_depth depth lines) (stmts_in lines) ≡ depth_after depth (stmts_in lines)
+following-next_depth (line (Label name) at lines) depth = following-next_depth lines depth
+following-next_depth (line stmt at lines) depth = refl
+following-next_depth no_lines depth = refl
 
 -- the depth of a call, or for another statement the depth in force
 abbrev own_depth : ℕ → Stmt → ℕ
@@ -62,25 +62,25 @@ with_pragma {labelled = false} at depth own false test small joins formed = dept
 abbrev FormedStmt : Stmt → Type 0
 FormedStmt stmt =
     (around : Around) (depth at : ℕ) (rest : List Placed) → is_writable_stmt around stmt ≡ true → is_label stmt ≡ false → IsOwn depth stmt →
-    IsStmt 200 around depth (stmt_tokens depth at stmt rest) (numbered_stmt depth at stmt) (depth_behind depth (stmt ∷ inner_stmts stmt)) rest
+    IsStmt 200 around depth (stmt_tokens depth at stmt rest) (numbered_stmt depth at stmt) (depth_after depth (stmt ∷ inner_stmts stmt)) rest
 
 abbrev FormedLines : Lines → Type 0
 FormedLines lines =
     (around : Around) (labelled : Bool) (depth at : ℕ) (rest : List Placed) → are_writable_lines around labelled lines ≡ true →
     (labelled ≡ true → next_depth depth lines ≡ depth) →
-    AreLines 200 around labelled depth (lines_tokens depth at lines rest) (numbered_lines depth at lines) (depth_behind depth (stmts_in lines)) rest
+    AreLines 200 around labelled depth (lines_tokens depth at lines rest) (numbered_lines depth at lines) (depth_after depth (stmts_in lines)) rest
 
 -- arms before the default arm
 abbrev FormedArms : Arms → Type 0
 FormedArms arms =
     (around : Around) (depth at after : ℕ) (others rest : List Placed) (last : Arms) → are_writable_arms around arms ≡ true →
-    AreArms 200 around (depth_behind depth (arm_stmts arms)) others no_arms last after rest →
+    AreArms 200 around (depth_after depth (arm_stmts arms)) others no_arms last after rest →
     AreArms 200 around depth (arms_tokens depth at arms others) (numbered_arms depth at arms) last after rest
 
 abbrev FormedDefault : Arms → Type 0
 FormedDefault arms =
     (around : Around) (depth first second : ℕ) (rest : List Placed) → is_writable_default around arms ≡ true →
-    AreArms 200 around depth (default_tokens depth first second arms rest) no_arms (numbered_default depth second arms) (depth_behind depth (arm_stmts arms)) rest
+    AreArms 200 around depth (default_tokens depth first second arms rest) no_arms (numbered_default depth second arms) (depth_after depth (arm_stmts arms)) rest
 
 -- Lines.
 
@@ -107,46 +107,46 @@ stmt_starts _ around good depth at rest = (_, _, refl)
 first_statement : {around : Around} {labelled : Bool} {depth between after at : ℕ} {tokens others rest : List Placed} {stmt : Stmt} {lines : Lines} →
     Starts at tokens → around.blocks ≤ 200 → IsStmt 200 around depth tokens stmt between others → AreLines 200 around false between others lines after rest →
     AreLines 200 around labelled depth tokens (line stmt at lines) after rest
-first_statement {around} {labelled} {depth} {between} {after} {at} {tokens} {others} {rest} {stmt} {lines} (token, behind, starts) small first later =
+first_statement {around} {labelled} {depth} {between} {after} {at} {tokens} {others} {rest} {stmt} {lines} (token, following, starts) small first later =
     let P : List Placed → Type 0 = λ ts. IsStmt 200 around depth ts stmt between others in
     let Q : List Placed → Type 0 = λ ts. AreLines 200 around labelled depth ts (line stmt at lines) after rest in
     subst Q (sym starts) (statement small (subst P starts first) later)
 
 -- the depth after a statement, those inside it, and others
-behind_line : (depth own : ℕ) (stmt : Stmt) (was : ℕ) (lines : Lines) → own ≡ next_depth depth (line stmt was lines) →
-    depth_behind (depth_behind own (stmt ∷ inner_stmts stmt)) (stmts_in lines) ≡ depth_behind depth (stmts_in (line stmt was lines))
-behind_line depth own stmt was lines is =
-    sym (depth_behind-append (stmt ∷ inner_stmts stmt) (stmts_in lines) own)
-    ∙ ap (λ d. depth_behind d (stmts_in (line stmt was lines))) is
-    ∙ behind-next_depth (line stmt was lines) depth
+following_line : (depth own : ℕ) (stmt : Stmt) (was : ℕ) (lines : Lines) → own ≡ next_depth depth (line stmt was lines) →
+    depth_after (depth_after own (stmt ∷ inner_stmts stmt)) (stmts_in lines) ≡ depth_after depth (stmts_in (line stmt was lines))
+following_line depth own stmt was lines is =
+    sym (depth_after-append (stmt ∷ inner_stmts stmt) (stmts_in lines) own)
+    ∙ ap (λ d. depth_after d (stmts_in (line stmt was lines))) is
+    ∙ following-next_depth (line stmt was lines) depth
 
 plain_line : (stmt : Stmt) (was : ℕ) (lines : Lines) → is_label stmt ≡ false → FormedStmt stmt → FormedLines lines → FormedLines (line stmt was lines)
 plain_line stmt was lines other first later around labelled depth at rest good joins =
     let own = next_depth depth (line stmt was lines) in
     let here = at + rows (written_depth depth own) in
-    let behind = here + rows (written_stmt 1 own stmt) in
-    let between = depth_behind own (stmt ∷ inner_stmts stmt) in
+    let following = here + rows (written_stmt 1 own stmt) in
+    let between = depth_after own (stmt ∷ inner_stmts stmt) in
     let (small, parts) = and_parts (nat_le around.blocks 200) (is_writable_stmt around stmt && are_writable_lines around (is_label stmt) lines) good in
     let (here_good, later_good) = and_parts (is_writable_stmt around stmt) (are_writable_lines around (is_label stmt) lines) parts in
-    let tokens : List Placed = lines_tokens between behind lines rest in
-    let later_formed : AreLines 200 around false between tokens (numbered_lines between behind lines) (depth_behind between (stmts_in lines)) rest =
-    later around false between behind rest (subst (λ b. are_writable_lines around b lines ≡ true) other later_good) (λ f. absurd cc) in
+    let tokens : List Placed = lines_tokens between following lines rest in
+    let later_formed : AreLines 200 around false between tokens (numbered_lines between following lines) (depth_after between (stmts_in lines)) rest =
+    later around false between following rest (subst (λ b. are_writable_lines around b lines ≡ true) other later_good) (λ f. absurd cc) in
     let stmt_is = first around own here tokens here_good other (is_own depth stmt was lines other) in
     let formed = first_statement {labelled = labelled} (stmt_starts stmt around here_good own here tokens) (leb-true _ _ small) stmt_is later_formed in
-    let Q : ℕ → Type 0 = λ after. AreLines 200 around labelled own (stmt_tokens own here stmt tokens) (line (numbered_stmt own here stmt) here (numbered_lines between behind lines)) after rest in
-    with_pragma at depth own (depth == own) refl (leb-true _ _ small) joins (subst Q (behind_line depth own stmt was lines refl) formed)
+    let Q : ℕ → Type 0 = λ after. AreLines 200 around labelled own (stmt_tokens own here stmt tokens) (line (numbered_stmt own here stmt) here (numbered_lines between following lines)) after rest in
+    with_pragma at depth own (depth == own) refl (leb-true _ _ small) joins (subst Q (following_line depth own stmt was lines refl) formed)
 
 label_line : (name : Word) (was : ℕ) (lines : Lines) → FormedLines lines → FormedLines (line (Label name) was lines)
 label_line name was lines later around labelled depth at rest good joins =
     let own = next_depth depth lines in
     let here = at + rows (written_depth depth own) in
-    let behind = here + rows (written_stmt 1 own (Label name)) in
+    let following = here + rows (written_stmt 1 own (Label name)) in
     let (small, parts) = and_parts (nat_le around.blocks 200) (is_name name && are_writable_lines around true lines) good in
     let (is, later_good) = and_parts (is_name name) (are_writable_lines around true lines) parts in
-    let later_formed = later around true own behind rest later_good (λ labels. next_depth-twice lines depth) in
-    let tokens : List Placed = word here name ∷ mark here (codes ":") ∷ lines_tokens own behind lines rest in
-    let Q : ℕ → Type 0 = λ after. AreLines 200 around labelled own tokens (line (Label name) here (numbered_lines own behind lines)) after rest in
-    with_pragma at depth own (depth == own) refl (leb-true _ _ small) joins (subst Q (behind-next_depth lines depth) (label name is (leb-true _ _ small) later_formed))
+    let later_formed = later around true own following rest later_good (λ labels. next_depth-twice lines depth) in
+    let tokens : List Placed = word here name ∷ mark here (codes ":") ∷ lines_tokens own following lines rest in
+    let Q : ℕ → Type 0 = λ after. AreLines 200 around labelled own tokens (line (Label name) here (numbered_lines own following lines)) after rest in
+    with_pragma at depth own (depth == own) refl (leb-true _ _ small) joins (subst Q (following-next_depth lines depth) (label name is (leb-true _ _ small) later_formed))
 
 line_formed : (stmt : Stmt) (was : ℕ) (lines : Lines) → FormedStmt stmt → FormedLines lines → FormedLines (line stmt was lines)
 line_formed (Label name) was lines first later = label_line name was lines later
@@ -176,7 +176,7 @@ call_read (Some place) function arguments own around depth at rest good other sa
 
 -- statements in braces are a block
 block_formed : (lines : Lines) → FormedLines lines → (around : Around) (depth at opening closing : ℕ) (rest : List Placed) → are_writable_lines around false lines ≡ true →
-    IsBlock 200 around depth (mark opening (codes "{") ∷ lines_tokens depth at lines (mark closing (codes "}") ∷ rest)) (numbered_lines depth at lines) (depth_behind depth (stmts_in lines)) rest
+    IsBlock 200 around depth (mark opening (codes "{") ∷ lines_tokens depth at lines (mark closing (codes "}") ∷ rest)) (numbered_lines depth at lines) (depth_after depth (stmts_in lines)) rest
 block_formed lines formed around depth at opening closing rest good =
     block (formed around false depth at (mark closing (codes "}") ∷ rest) good (λ f. absurd cc))
 
@@ -185,10 +185,10 @@ if_formed e body no_lines first second around depth at rest good other own =
     let (tested, parts) = and_parts (is_writable_expr e) (are_writable_lines (in_block around) false body && true) good in
     let here = block_formed body first (in_block around) depth (at + 1) at (at + 1 + rows (written_lines 1 depth body)) rest (and_parts (are_writable_lines (in_block around) false body) true parts).0 in
     let P : ℕ → Type 0 = λ after. IsStmt 200 around depth (stmt_tokens depth at (If e body no_lines) rest) (numbered_stmt depth at (If e body no_lines)) after rest in
-    subst P (ap (depth_behind depth) (sym (append-nil (stmts_in body)))) (if_alone (expr_formed e tested at _) here)
+    subst P (ap (depth_after depth) (sym (append-nil (stmts_in body)))) (if_alone (expr_formed e tested at _) here)
 if_formed e body (line stmt was lines) first second around depth at rest good other own =
     let otherwise : Lines = line stmt was lines in
-    let between = depth_behind depth (stmts_in body) in
+    let between = depth_after depth (stmts_in body) in
     let middle = at + 1 + rows (written_lines 1 depth body) in
     let beyond = at + 2 + rows (written_lines 1 depth body) in
     let last = beyond + rows (written_lines 1 between otherwise) in
@@ -197,7 +197,7 @@ if_formed e body (line stmt was lines) first second around depth at rest good ot
     let else_block = block_formed otherwise second (in_block around) between beyond middle last rest otherwise_good in
     let here = block_formed body first (in_block around) depth (at + 1) at middle _ body_good in
     let P : ℕ → Type 0 = λ after. IsStmt 200 around depth (stmt_tokens depth at (If e body otherwise) rest) (numbered_stmt depth at (If e body otherwise)) after rest in
-    subst P (sym (depth_behind-append (stmts_in body) (stmts_in otherwise) depth)) (if_else (expr_formed e tested at _) here else_block)
+    subst P (sym (depth_after-append (stmts_in body) (stmts_in otherwise) depth)) (if_else (expr_formed e tested at _) here else_block)
 
 while_formed : (e : Expr) (body : Lines) → FormedLines body → FormedStmt (While e body)
 while_formed e body first around depth at rest good other own =
@@ -237,10 +237,10 @@ arm_formed cases body arms first later around depth at after others rest last go
     let (few, own) = and_parts (nat_le around.blocks 200) (are_cases cases && (are_writable_lines around false body && are_writable_arms around arms)) good in
     let (cases_good, parts) = and_parts (are_cases cases) (are_writable_lines around false body && are_writable_arms around arms) own in
     let (body_good, arms_good) = and_parts (are_writable_lines around false body) (are_writable_arms around arms) parts in
-    let between = depth_behind depth (stmts_in body) in
+    let between = depth_after depth (stmts_in body) in
     let P : ℕ → Type 0 = λ d. AreArms 200 around d others no_arms last after rest in
-    let behind = later around between (at + length cases + rows (written_lines 1 depth body) + 1) after others rest last arms_good (subst P (depth_behind-append (stmts_in body) (arm_stmts arms) depth) formed) in
-    case_arm (some_cases cases cases_good at _) (leb-true _ _ few) (first around false depth (at + length cases) _ body_good (λ f. absurd cc)) behind
+    let following = later around between (at + length cases + rows (written_lines 1 depth body) + 1) after others rest last arms_good (subst P (depth_after-append (stmts_in body) (arm_stmts arms) depth) formed) in
+    case_arm (some_cases cases cases_good at _) (leb-true _ _ few) (first around false depth (at + length cases) _ body_good (λ f. absurd cc)) following
 
 no_default_formed : FormedDefault no_arms
 no_default_formed around depth first second rest good = no_arm
@@ -250,7 +250,7 @@ default_formed [] body no_arms inner around depth first second rest good =
     let (few, own) = and_parts (nat_le around.blocks 200) (are_writable_lines around false body && true) good in
     let body_good = (and_parts (are_writable_lines around false body) true own).0 in
     let P : ℕ → Type 0 = λ after. AreArms 200 around depth (default_tokens depth first second (arm [] body no_arms) rest) no_arms (numbered_default depth second (arm [] body no_arms)) after rest in
-    subst P (ap (depth_behind depth) (sym (append-nil (stmts_in body)))) (default_arm (leb-true _ _ few) (inner around false depth second _ body_good (λ f. absurd cc)) no_arm)
+    subst P (ap (depth_after depth) (sym (append-nil (stmts_in body)))) (default_arm (leb-true _ _ few) (inner around false depth second _ body_good (λ f. absurd cc)) no_arm)
 default_formed [] body (arm cases more arms) inner around depth first second rest good =
     absurd (true≢false (sym (and_parts (are_writable_lines around false body) false (and_parts (nat_le around.blocks 200) (are_writable_lines around false body && false) good).1).1))
 default_formed (n ∷ cases) body arms inner around depth first second rest good = absurd (true≢false (sym (and_parts (nat_le around.blocks 200) false good).1))
@@ -269,20 +269,20 @@ switch_formed e arms last first second around depth at rest good other own =
     let (tested, parts) = and_parts (is_writable_expr e) ((has_arm arms || has_arm last) && (are_writable_arms (in_switch around) arms && is_writable_default (in_switch around) last)) good in
     let (some, both) = and_parts (has_arm arms || has_arm last) (are_writable_arms (in_switch around) arms && is_writable_default (in_switch around) last) parts in
     let (arms_good, last_good) = and_parts (are_writable_arms (in_switch around) arms) (is_writable_default (in_switch around) last) both in
-    let behind = depth_behind depth (inner_stmts (Switch e arms no_arms)) in
+    let following = depth_after depth (inner_stmts (Switch e arms no_arms)) in
     let before_default = at + 1 + rows (written_arms 1 depth arms) in
     let in_default = at + 2 + rows (written_arms 1 depth arms) in
-    let end = before_default + rows (written_default 1 behind last) in
+    let end = before_default + rows (written_default 1 following last) in
     let closing : List Placed = mark end (codes "}") ∷ rest in
-    let after = depth_behind behind (arm_stmts last) in
-    let here : behind ≡ depth_behind depth (arm_stmts arms) = ap (depth_behind depth) (append-nil (arm_stmts arms)) in
-    let default_is = second (in_switch around) behind before_default in_default closing last_good in
-    let P : ℕ → Type 0 = λ d. AreArms 200 (in_switch around) d (default_tokens behind before_default in_default last closing) no_arms (numbered_default behind in_default last) after closing in
-    let arms_are = first (in_switch around) depth (at + 1) after (default_tokens behind before_default in_default last closing) closing (numbered_default behind in_default last) arms_good (subst P here default_is) in
-    let either : (has_arm (numbered_arms depth (at + 1) arms) || has_arm (numbered_default behind in_default last)) ≡ true =
-    rw (has_arm_numbered depth (at + 1) arms, has_default_numbered behind in_default last) some in
+    let after = depth_after following (arm_stmts last) in
+    let here : following ≡ depth_after depth (arm_stmts arms) = ap (depth_after depth) (append-nil (arm_stmts arms)) in
+    let default_is = second (in_switch around) following before_default in_default closing last_good in
+    let P : ℕ → Type 0 = λ d. AreArms 200 (in_switch around) d (default_tokens following before_default in_default last closing) no_arms (numbered_default following in_default last) after closing in
+    let arms_are = first (in_switch around) depth (at + 1) after (default_tokens following before_default in_default last closing) closing (numbered_default following in_default last) arms_good (subst P here default_is) in
+    let either : (has_arm (numbered_arms depth (at + 1) arms) || has_arm (numbered_default following in_default last)) ≡ true =
+    rw (has_arm_numbered depth (at + 1) arms, has_default_numbered following in_default last) some in
     let Q : ℕ → Type 0 = λ d. IsStmt 200 around depth (stmt_tokens depth at (Switch e arms last) rest) (numbered_stmt depth at (Switch e arms last)) d rest in
-    subst Q (ap (λ d. depth_behind d (arm_stmts last)) here ∙ sym (depth_behind-append (arm_stmts arms) (arm_stmts last) depth)) (switch (expr_formed e tested at _) arms_are either)
+    subst Q (ap (λ d. depth_after d (arm_stmts last)) here ∙ sym (depth_after-append (arm_stmts arms) (arm_stmts last) depth)) (switch (expr_formed e tested at _) arms_are either)
 
 mutual
   -- the tokens of a statement are read as the numbered statement

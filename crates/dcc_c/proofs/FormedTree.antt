@@ -9,11 +9,11 @@ use Rattle.dcc_c.specs.declared.syntax.Class.TheVariants.{Plain, Auto, Register}
 use Rattle.dcc_c.specs.Token.{Decimal, Pragma, plain_number, place_line}
 use Rattle.dcc_c.specs.Lexing.{Placed, placed}
 use Rattle.dcc_c.specs.Tree.{Word, Global, Variable, Function, Tree}
-use Rattle.dcc_c.specs.Placement.{elements, behind_global}
+use Rattle.dcc_c.specs.Placement.{elements, after_global}
 use Rattle.dcc_c.specs.Parts.{stmts_in}
 use Rattle.dcc_c.specs.Grammar.{word, mark, is_name, type_tokens, outermost, HasSize, no_size, size, AreNumbers, last_number, more_numbers, AreInitial, no_value, one_value, values, IsGlobal, AreGlobals, no_global, placed_at, one_global, HasClass, no_class, auto_class, register_class, IsParam, AreSomeParams, last_param, more_params, AreParams, no_param, some_params, IsLocalClass, plain_local, auto_local, IsLocal, AreLocals, no_local, one_local, HasResult, no_result, result, IsFunction, AreFunctions, last_function, more_functions, IsUnit}
 use Rattle.dcc_c.specs.Rules.{has_element, allows_global}
-use Rattle.dcc_c.specs.Written.{depth_behind, written_lines, written_place, written_globals}
+use Rattle.dcc_c.specs.Written.{depth_after, written_lines, written_place, written_globals}
 use Rattle.dcc_c.specs.Numbered.{rows, numbered_function, numbered_functions, numbered}
 use Rattle.dcc_c.proofs.Writable.{is_small, is_small_if, is_writable_global, is_writable_param, is_local_class, is_writable_local, is_writable_function, are_writable_lines, IsWritable}
 use Rattle.dcc_c.proofs.WrittenTokens.{variable_tokens, size_tokens, class_tokens, local_tokens, locals_tokens, param_tokens, some_params_tokens, params_tokens, head_tokens, function_tokens, functions_tokens, numbers_tokens, initial_tokens, global_tokens, place_tokens, globals_tokens, tree_tokens}
@@ -47,31 +47,31 @@ global_formed : (at : ℕ) (g : Global) → is_name g.name ≡ true → allows_g
 global_formed at g is allowed rest = record {
   name_at = at;
   end_at = at;
-  behind_name = size_tokens at g.len (initial_tokens at g.len g.init (mark at (codes ";") ∷ rest));
-  behind_size = initial_tokens at g.len g.init (mark at (codes ";") ∷ rest);
+  after_name = size_tokens at g.len (initial_tokens at g.len g.init (mark at (codes ";") ∷ rest));
+  after_size = initial_tokens at g.len g.init (mark at (codes ";") ∷ rest);
   type_is = begins_formed at (type_tokens g.type) _;
   name_is = is;
   len_is = size_formed at g.len _;
-  init_is = initial_formed at g.len g.init (and_parts (nat_le (behind_global g) 65536) (nat_le (length g.init) (elements g.len)) (and_parts (has_element g.len) (nat_le (behind_global g) 65536 && nat_le (length g.init) (elements g.len)) allowed).1).1 _;
+  init_is = initial_formed at g.len g.init (and_parts (nat_le (after_global g) 65536) (nat_le (length g.init) (elements g.len)) (and_parts (has_element g.len) (nat_le (after_global g) 65536 && nat_le (length g.init) (elements g.len)) allowed).1).1 _;
 }
 
 -- the global variable stands where the line before it says, or where the one before it ends
-at_place : (at : ℕ) {address : ℕ} {tokens rest : List Placed} {globals : List Global} (behind : Option ℕ) → AreGlobals (Some address) tokens globals rest → AreGlobals behind (place_tokens at behind address tokens) globals rest
+at_place : (at : ℕ) {address : ℕ} {tokens rest : List Placed} {globals : List Global} (following : Option ℕ) → AreGlobals (Some address) tokens globals rest → AreGlobals following (place_tokens at following address tokens) globals rest
 at_place at None formed = placed_at formed
-at_place at {address} {tokens} {rest} {globals} (Some behind) formed = by_test (behind == address) refl
+at_place at {address} {tokens} {rest} {globals} (Some following) formed = by_test (following == address) refl
   where
-    by_test : (same : Bool) → (behind == address) ≡ same → AreGlobals (Some behind) (if same then tokens else placed at (Pragma place_line) ∷ placed at (Decimal address plain_number) ∷ tokens) globals rest
-    by_test true is = subst (λ b. AreGlobals (Some b) tokens globals rest) (sym (eqb-true behind address is)) formed
+    by_test : (same : Bool) → (following == address) ≡ same → AreGlobals (Some following) (if same then tokens else placed at (Pragma place_line) ∷ placed at (Decimal address plain_number) ∷ tokens) globals rest
+    by_test true is = subst (λ b. AreGlobals (Some b) tokens globals rest) (sym (eqb-true following address is)) formed
     by_test false is = placed_at formed
 
-globals_formed : (globals : List Global) → list_all is_writable_global globals ≡ true → list_all allows_global globals ≡ true → (behind : Option ℕ) (at : ℕ) (rest : List Placed) → AreGlobals behind (globals_tokens behind at globals rest) globals rest
-globals_formed [] good allowed behind at rest = no_global
-globals_formed (g ∷ globals) good allowed behind at rest =
+globals_formed : (globals : List Global) → list_all is_writable_global globals ≡ true → list_all allows_global globals ≡ true → (following : Option ℕ) (at : ℕ) (rest : List Placed) → AreGlobals following (globals_tokens following at globals rest) globals rest
+globals_formed [] good allowed following at rest = no_global
+globals_formed (g ∷ globals) good allowed following at rest =
     let (first, others) = and_parts (is_writable_global g) (list_all is_writable_global globals) good in
     let (fits, others_fit) = and_parts (allows_global g) (list_all allows_global globals) allowed in
-    let here = at + rows (written_place behind g.at) in
+    let here = at + rows (written_place following g.at) in
     let is = (and_parts (is_name g.name) (is_small g.at && (is_small_if g.len && list_all is_small g.init)) first).0 in
-    at_place at behind (one_global (global_formed here g is fits _) (globals_formed globals others others_fit (Some (behind_global g)) (here + 1) rest))
+    at_place at following (one_global (global_formed here g is fits _) (globals_formed globals others others_fit (Some (after_global g)) (here + 1) rest))
 
 -- Functions.
 
@@ -111,7 +111,7 @@ local_formed at v good rest = record {
   end_at = at;
   spelled = v.class;
   typed = variable_tokens at v.type v.name (size_tokens at v.len (mark at (codes ";") ∷ rest));
-  behind_name = size_tokens at v.len (mark at (codes ";") ∷ rest);
+  after_name = size_tokens at v.len (mark at (codes ";") ∷ rest);
   class_is = class_formed at v.class _;
   type_is = begins_formed at (type_tokens v.type) _;
   name_is = (and_parts (is_name v.name) (is_small_if v.len && is_local_class v.class v.len) good).0;
@@ -141,7 +141,7 @@ function_formed at f good rest =
       open_at = at;
       close_at = at;
       brace_at = at + 1;
-      depth = depth_behind 2 (stmts_in f.body);
+      depth = depth_after 2 (stmts_in f.body);
       params = _;
       locals = _;
       body = _;

@@ -2,9 +2,9 @@
 use Rattle.std.proofs.Common.{◌≡◌, ℕ, ◌+◌, List, [], ◌∷◌, length, None, refl, ap, ap₂, sym, ◌∙◌, append-nil}
 use Rattle.dcc_c.specs.Tree.{Expr, Stmt, If, While, DoWhile, Forever, Switch, Lines, no_lines, line, Arms, no_arms, arm, Function, Tree}
 use Rattle.dcc_c.specs.Parts.{stmts_in, inner_stmts, arm_stmts}
-use Rattle.dcc_c.specs.Written.{depth_behind, next_depth, written_depth, written_stmt, written_lines, written_arms, written_globals}
+use Rattle.dcc_c.specs.Written.{depth_after, next_depth, written_depth, written_stmt, written_lines, written_arms, written_globals}
 use Rattle.dcc_c.specs.Numbered.{rows, numbered_stmt, numbered_lines, numbered_arms, numbered_default, numbered_function, numbered_functions, numbered}
-use Rattle.dcc_c.proofs.NumberedForm.{behind_lines, behind_arms, behind_stmt, next_same, stmt_written, lines_written, arms_written}
+use Rattle.dcc_c.proofs.NumberedForm.{after_lines, after_arms, after_stmt, next_same, stmt_written, lines_written, arms_written}
 
 -- What is shown of each part.
 
@@ -25,26 +25,26 @@ line_twice stmt was lines first later depth at was_depth was_at =
     let before = next_depth was_depth (line stmt was lines) in
     let there = was_at + rows (written_depth was_depth before) in
     let changed = numbered_stmt before there stmt in
-    let others = numbered_lines (depth_behind before (stmt ∷ inner_stmts stmt)) (there + rows (written_stmt 1 before stmt)) lines in
+    let others = numbered_lines (depth_after before (stmt ∷ inner_stmts stmt)) (there + rows (written_stmt 1 before stmt)) lines in
     let own = next_depth depth (line stmt was lines) in
     let here = at + rows (written_depth depth own) in
-    ap (λ n. line (numbered_stmt n (at + rows (written_depth depth n)) changed) (at + rows (written_depth depth n)) (numbered_lines (depth_behind n (changed ∷ inner_stmts changed)) (at + rows (written_depth depth n) + rows (written_stmt 1 n changed)) others)) (next_same (line stmt was lines) was_depth was_at depth)
-    ∙ ap₂ (λ d w. line (numbered_stmt own here changed) here (numbered_lines d (here + rows w) others)) (behind_stmt stmt before there own) (stmt_written stmt before there 1 own)
+    ap (λ n. line (numbered_stmt n (at + rows (written_depth depth n)) changed) (at + rows (written_depth depth n)) (numbered_lines (depth_after n (changed ∷ inner_stmts changed)) (at + rows (written_depth depth n) + rows (written_stmt 1 n changed)) others)) (next_same (line stmt was lines) was_depth was_at depth)
+    ∙ ap₂ (λ d w. line (numbered_stmt own here changed) here (numbered_lines d (here + rows w) others)) (after_stmt stmt before there own) (stmt_written stmt before there 1 own)
     ∙ ap₂ (λ s l. line s here l) (first _ _ _ _) (later _ _ _ _)
 
 if_twice : (e : Expr) (body otherwise : Lines) → SameLines body → SameLines otherwise → SameStmt (If e body otherwise)
 if_twice e body otherwise first second depth at was_depth was_at =
     let changed = numbered_lines was_depth (was_at + 1) body in
-    let others = numbered_lines (depth_behind was_depth (stmts_in body)) (was_at + 2 + rows (written_lines 1 was_depth body)) otherwise in
-    ap₂ (λ d w. If e (numbered_lines depth (at + 1) changed) (numbered_lines d (at + 2 + rows w) others)) (behind_lines body was_depth (was_at + 1) depth) (lines_written body was_depth (was_at + 1) 1 depth)
+    let others = numbered_lines (depth_after was_depth (stmts_in body)) (was_at + 2 + rows (written_lines 1 was_depth body)) otherwise in
+    ap₂ (λ d w. If e (numbered_lines depth (at + 1) changed) (numbered_lines d (at + 2 + rows w) others)) (after_lines body was_depth (was_at + 1) depth) (lines_written body was_depth (was_at + 1) 1 depth)
     ∙ ap₂ (λ b o. If e b o) (first _ _ _ _) (second _ _ _ _)
 
 switch_twice : (e : Expr) (arms last : Arms) → SameArms arms → SameDefault last → SameStmt (Switch e arms last)
 switch_twice e arms last first second depth at was_depth was_at =
     let changed = numbered_arms was_depth (was_at + 1) arms in
-    let other = numbered_default (depth_behind was_depth (inner_stmts (Switch e arms no_arms))) (was_at + 2 + rows (written_arms 1 was_depth arms)) last in
-    let deep : depth_behind depth (inner_stmts (Switch e changed no_arms)) ≡ depth_behind depth (inner_stmts (Switch e arms no_arms)) =
-    ap (depth_behind depth) (append-nil (arm_stmts changed)) ∙ behind_arms arms was_depth (was_at + 1) depth ∙ ap (depth_behind depth) (sym (append-nil (arm_stmts arms)))
+    let other = numbered_default (depth_after was_depth (inner_stmts (Switch e arms no_arms))) (was_at + 2 + rows (written_arms 1 was_depth arms)) last in
+    let deep : depth_after depth (inner_stmts (Switch e changed no_arms)) ≡ depth_after depth (inner_stmts (Switch e arms no_arms)) =
+    ap (depth_after depth) (append-nil (arm_stmts changed)) ∙ after_arms arms was_depth (was_at + 1) depth ∙ ap (depth_after depth) (sym (append-nil (arm_stmts arms)))
     in
     ap₂ (λ d w. Switch e (numbered_arms depth (at + 1) changed) (numbered_default d (at + 2 + rows w) other)) deep (arms_written arms was_depth (was_at + 1) 1 depth)
     ∙ ap₂ (λ a l. Switch e a l) (first _ _ _ _) (second _ _ _ _)
@@ -54,8 +54,8 @@ arm_twice cases body arms first later depth at was_depth was_at =
     let there = was_at + length cases in
     let here = at + length cases in
     let changed = numbered_lines was_depth there body in
-    let others = numbered_arms (depth_behind was_depth (stmts_in body)) (there + rows (written_lines 1 was_depth body) + 1) arms in
-    ap₂ (λ d w. arm cases (numbered_lines depth here changed) (numbered_arms d (here + rows w + 1) others)) (behind_lines body was_depth there depth) (lines_written body was_depth there 1 depth)
+    let others = numbered_arms (depth_after was_depth (stmts_in body)) (there + rows (written_lines 1 was_depth body) + 1) arms in
+    ap₂ (λ d w. arm cases (numbered_lines depth here changed) (numbered_arms d (here + rows w + 1) others)) (after_lines body was_depth there depth) (lines_written body was_depth there 1 depth)
     ∙ ap₂ (λ b a. arm cases b a) (first _ _ _ _) (later _ _ _ _)
 
 mutual

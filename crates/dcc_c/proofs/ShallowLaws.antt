@@ -135,8 +135,8 @@ arguments_open [] shallow at k small others h = h
 arguments_open (e ∷ []) shallow at k small others h = shallow_open e (and_parts (is_shallow e) true shallow).0 at k small others h
 arguments_open (e ∷ f ∷ es) shallow at k small others h =
     let (first, later) = and_parts (is_shallow e) (list_all is_shallow (f ∷ es)) shallow in
-    let behind = arguments_open (f ∷ es) later at k small others h in
-    shallow_open e first at k small _ (flat_open (Mark (codes ",")) refl k at (omega arith) _ behind)
+    let following = arguments_open (f ∷ es) later at k small others h in
+    shallow_open e first at k small _ (flat_open (Mark (codes ",")) refl k at (omega arith) _ following)
 
 -- before others within the limit the tokens are, where no parenthesis is open
 abbrev pub Keeps : (List Placed → List Placed) → Type 0

@@ -10,10 +10,10 @@ use Rattle.dcc_c.specs.declared.syntax.Class.TheVariants.{Plain, Auto, Register}
 use Rattle.dcc_c.specs.Token.{WordToken, Decimal, Mark, Pragma, plain_number, version_line, stack_line, depth_line, place_line}
 use Rattle.dcc_c.specs.Lexing.{placed}
 use Rattle.dcc_c.specs.Tree.{Word, Expr, Stmt, Assign, Call, If, While, DoWhile, Forever, Switch, Break, Continue, Goto, Label, Empty, Return, Lines, no_lines, line, Arms, no_arms, arm, Global, Variable, Function, Tree}
-use Rattle.dcc_c.specs.Placement.{behind_global}
+use Rattle.dcc_c.specs.Placement.{after_global}
 use Rattle.dcc_c.specs.Parts.{stmts_in, inner_stmts, arm_stmts}
 use Rattle.dcc_c.specs.Grammar.{word, mark}
-use Rattle.dcc_c.specs.Written.{depth_behind, next_depth, written_lines, written_place, written_globals}
+use Rattle.dcc_c.specs.Written.{depth_after, next_depth, written_lines, written_place, written_globals}
 use Rattle.dcc_c.specs.Numbered.{rows, numbered_function}
 use Rattle.dcc_c.specs.Rules.{shallow_stmt, most_open, AreAllowed, no_more, one_more}
 use Rattle.dcc_c.proofs.Writable.{IsWritable}
@@ -113,8 +113,8 @@ if_keeps e body (line stmt was lines) first second depth at shallow others h =
     let otherwise : Lines = line stmt was lines in
     let (tested, inside) = only_shallow e (If e body otherwise) (stmts_in body ++ stmts_in otherwise) refl shallow in
     let (in_body, in_else) = both_shallow (stmts_in body) (stmts_in otherwise) inside in
-    let behind = second (depth_behind depth (stmts_in body)) (at + 2 + rows (written_lines 1 depth body)) in_else _ (closing_keeps _ others h) in
-    test_keeps (codes "if") e tested at _ (first depth (at + 1) in_body _ (closing_keeps _ _ (word_keeps _ _ _ (opening_keeps _ _ behind))))
+    let following = second (depth_after depth (stmts_in body)) (at + 2 + rows (written_lines 1 depth body)) in_else _ (closing_keeps _ others h) in
+    test_keeps (codes "if") e tested at _ (first depth (at + 1) in_body _ (closing_keeps _ _ (word_keeps _ _ _ (opening_keeps _ _ following))))
 
 while_keeps : (e : Expr) (body : Lines) → ShallowLines body → ShallowStmt (While e body)
 while_keeps e body first depth at shallow others h =
@@ -124,8 +124,8 @@ while_keeps e body first depth at shallow others h =
 do_keeps : (body : Lines) (e : Expr) → ShallowLines body → ShallowStmt (DoWhile body e)
 do_keeps body e first depth at shallow others h =
     let (tested, inside) = only_shallow e (DoWhile body e) (stmts_in body) refl shallow in
-    let behind = tested_keeps e tested (at + 1 + rows (written_lines 1 depth body)) _ (semicolon_keeps _ others h) in
-    word_keeps at _ _ (opening_keeps at _ (first depth (at + 1) inside _ (closing_keeps _ _ (word_keeps _ _ _ behind))))
+    let following = tested_keeps e tested (at + 1 + rows (written_lines 1 depth body)) _ (semicolon_keeps _ others h) in
+    word_keeps at _ _ (opening_keeps at _ (first depth (at + 1) inside _ (closing_keeps _ _ (word_keeps _ _ _ following))))
 
 ever_keeps : (body : Lines) → ShallowLines body → ShallowStmt (Forever body)
 ever_keeps body first depth at shallow others h =
@@ -149,8 +149,8 @@ depth_keeps at depth own others h = by_test (depth == own)
 
 line_keeps : (stmt : Stmt) (was : ℕ) (lines : Lines) → ShallowStmt stmt → ShallowLines lines → ShallowLines (line stmt was lines)
 line_keeps stmt was lines first later depth at shallow others h =
-    let (here, behind) = both_shallow (stmt ∷ inner_stmts stmt) (stmts_in lines) shallow in
-    depth_keeps at depth (next_depth depth (line stmt was lines)) _ (first _ _ here _ (later _ _ behind others h))
+    let (here, following) = both_shallow (stmt ∷ inner_stmts stmt) (stmts_in lines) shallow in
+    depth_keeps at depth (next_depth depth (line stmt was lines)) _ (first _ _ here _ (later _ _ following others h))
 
 cases_keep : (cases : List ℕ) (at : ℕ) → Keeps (cases_tokens at cases)
 cases_keep [] at others h = h
@@ -262,19 +262,19 @@ global_keeps : (at : ℕ) (g : Global) → Keeps (global_tokens at g)
 global_keeps at g others h =
     variable_keeps at g.type g.name _ (size_keeps at g.len _ (initial_keeps at g.len g.init _ (semicolon_keeps at others h)))
 
-place_keeps : (at : ℕ) (behind : Option ℕ) (address : ℕ) → Keeps (place_tokens at behind address)
+place_keeps : (at : ℕ) (following : Option ℕ) (address : ℕ) → Keeps (place_tokens at following address)
 place_keeps at None address others h = place_pragma_keeps at address others h
-place_keeps at (Some behind) address others h = by_test (behind == address)
+place_keeps at (Some following) address others h = by_test (following == address)
   where
     by_test : (same : Bool) → Within 0 (if same then others else placed at (Pragma place_line) ∷ placed at (Decimal address plain_number) ∷ others)
     by_test true = h
     by_test false = place_pragma_keeps at address others h
 
-globals_keep : (globals : List Global) (behind : Option ℕ) (at : ℕ) → Keeps (globals_tokens behind at globals)
-globals_keep [] behind at others h = h
-globals_keep (g ∷ globals) behind at others h =
-    let here = at + rows (written_place behind g.at) in
-    place_keeps at behind g.at _ (global_keeps here g _ (globals_keep globals (Some (behind_global g)) (here + 1) others h))
+globals_keep : (globals : List Global) (following : Option ℕ) (at : ℕ) → Keeps (globals_tokens following at globals)
+globals_keep [] following at others h = h
+globals_keep (g ∷ globals) following at others h =
+    let here = at + rows (written_place following g.at) in
+    place_keeps at following g.at _ (global_keeps here g _ (globals_keep globals (Some (after_global g)) (here + 1) others h))
 
 -- at most 200 parentheses are open in the tokens of a writable tree
 pub tokens_shallow : (tree : Tree) → IsWritable tree → most_open 0 (tree_tokens tree) ≤ 200

@@ -85,7 +85,7 @@ takes_names (Cast type a) = takes_names a
 -- an expression whose tokens have small numbers is writable, and so are the tokens after it
 pub record IsWell (e : Expr) (rest : List Placed) : Type 0 where
   pub writable : takes_names e ≡ true → is_writable_expr e ≡ true
-  pub behind : AreSmall rest
+  pub following : AreSmall rest
 
 pub begins_small : {all rest : List Placed} {tokens : List Token} → Begins all tokens rest → AreSmall all → AreSmall rest
 begins_small none small = small
@@ -96,56 +96,56 @@ both_writable a b c d first second good =
     let (here, there) = and_parts a b good in and_from c d (first here) (second there)
 
 pub expr_well : {strength : ℕ} {tokens rest : List Placed} {e : Expr} → IsExpr strength tokens e rest → AreSmall tokens → IsWell e rest
-expr_well (number is) small = let good = number_writable is (head_small small) in record { writable = λ takes. good; behind = tail_small small }
-expr_well (name bytes is) small = record { writable = λ takes. is; behind = tail_small small }
+expr_well (number is) small = let good = number_writable is (head_small small) in record { writable = λ takes. good; following = tail_small small }
+expr_well (name bytes is) small = record { writable = λ takes. is; following = tail_small small }
 expr_well (parentheses inner) small =
-    let well = expr_well inner (tail_small small) in record { writable = well.writable; behind = tail_small well.behind }
+    let well = expr_well inner (tail_small small) in record { writable = well.writable; following = tail_small well.following }
 expr_well (unary {e} operator inner) small =
     let well = expr_well inner (tail_small small) in
-    record { writable = both_writable (may_take operator e) (takes_names e) (may_take operator e) (is_writable_expr e) (λ is. is) well.writable; behind = well.behind }
+    record { writable = both_writable (may_take operator e) (takes_names e) (may_take operator e) (is_writable_expr e) (λ is. is) well.writable; following = well.following }
 expr_well (cast type begins inner) small =
-    let well = expr_well inner (tail_small (begins_small begins (tail_small small))) in record { writable = well.writable; behind = well.behind }
+    let well = expr_well inner (tail_small (begins_small begins (tail_small small))) in record { writable = well.writable; following = well.following }
 expr_well (binary {a} {b} operator left right) small =
     let first = expr_well left small in
-    let second = expr_well right (tail_small first.behind) in
-    record { writable = both_writable (takes_names a) (takes_names b) (is_writable_expr a) (is_writable_expr b) first.writable second.writable; behind = second.behind }
+    let second = expr_well right (tail_small first.following) in
+    record { writable = both_writable (takes_names a) (takes_names b) (is_writable_expr a) (is_writable_expr b) first.writable second.writable; following = second.following }
 expr_well (conditional {a} {b} {c} test left right) small =
     let first = expr_well test small in
-    let second = expr_well left (tail_small first.behind) in
-    let third = expr_well right (tail_small second.behind) in
+    let second = expr_well left (tail_small first.following) in
+    let third = expr_well right (tail_small second.following) in
     let others = both_writable (takes_names b) (takes_names c) (is_writable_expr b) (is_writable_expr c) second.writable third.writable in
-    record { writable = both_writable (takes_names a) (takes_names b && takes_names c) (is_writable_expr a) (is_writable_expr b && is_writable_expr c) first.writable others; behind = third.behind }
-expr_well (stronger inner) small = let well = expr_well inner small in record { writable = well.writable; behind = well.behind }
+    record { writable = both_writable (takes_names a) (takes_names b && takes_names c) (is_writable_expr a) (is_writable_expr b && is_writable_expr c) first.writable others; following = third.following }
+expr_well (stronger inner) small = let well = expr_well inner small in record { writable = well.writable; following = well.following }
 
 pub is_place-place : {tokens rest : List Placed} {place : Expr} → IsPlace tokens place rest → is_place place ≡ true
 is_place-place (name_place bytes is) = refl
 is_place-place (deref_place inner) = refl
 
 pub place_well : {tokens rest : List Placed} {place : Expr} → IsPlace tokens place rest → AreSmall tokens → IsWell place rest
-place_well (name_place bytes is) small = record { writable = λ takes. is; behind = tail_small small }
-place_well (deref_place inner) small = let well = expr_well inner (tail_small small) in record { writable = well.writable; behind = well.behind }
+place_well (name_place bytes is) small = record { writable = λ takes. is; following = tail_small small }
+place_well (deref_place inner) small = let well = expr_well inner (tail_small small) in record { writable = well.writable; following = well.following }
 
 -- arguments whose tokens have small numbers are writable
 pub record AreWell (es : List Expr) (rest : List Placed) : Type 0 where
   pub writable : list_all takes_names es ≡ true → list_all is_writable_expr es ≡ true
-  pub behind : AreSmall rest
+  pub following : AreSmall rest
 
 arguments_well : {tokens rest : List Placed} {es : List Expr} → AreArguments tokens es rest → AreSmall tokens → AreWell es rest
-arguments_well no_argument small = record { writable = λ takes. refl; behind = small }
+arguments_well no_argument small = record { writable = λ takes. refl; following = small }
 arguments_well (last_argument {e} is) small =
     let well = expr_well is small in
-    record { writable = both_writable (takes_names e) true (is_writable_expr e) true well.writable (λ t. t); behind = well.behind }
+    record { writable = both_writable (takes_names e) true (is_writable_expr e) true well.writable (λ t. t); following = well.following }
 arguments_well (more_arguments {e} {f} {es} is others) small =
     let well = expr_well is small in
-    let more = arguments_well others (tail_small well.behind) in
-    record { writable = both_writable (takes_names e) (list_all takes_names (f ∷ es)) (is_writable_expr e) (list_all is_writable_expr (f ∷ es)) well.writable more.writable; behind = more.behind }
+    let more = arguments_well others (tail_small well.following) in
+    record { writable = both_writable (takes_names e) (list_all takes_names (f ∷ es)) (is_writable_expr e) (list_all is_writable_expr (f ∷ es)) well.writable more.writable; following = more.following }
 
 pub is_name-call : {tokens rest : List Placed} {function : Word} {arguments : List Expr} → IsCall tokens function arguments rest → is_name function ≡ true
 is_name-call (call function is arguments) = is
 
 pub call_well : {tokens rest : List Placed} {function : Word} {arguments : List Expr} → IsCall tokens function arguments rest → AreSmall tokens → AreWell arguments rest
 call_well (call function is arguments) small =
-    let well = arguments_well arguments (tail_small (tail_small small)) in record { writable = well.writable; behind = tail_small well.behind }
+    let well = arguments_well arguments (tail_small (tail_small small)) in record { writable = well.writable; following = tail_small well.following }
 
 -- Types.
 

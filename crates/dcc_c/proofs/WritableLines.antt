@@ -33,7 +33,7 @@ both_sound first second sound = and_parts _ _ (sym (list_all-append is_sound fir
 pub record IsKept (sound good : Type 0) (after : ℕ) (rest : List Placed) : Type 0 where
   pub writable : sound → good
   pub depth : is_small after ≡ true
-  pub behind : AreSmall rest
+  pub following : AreSmall rest
 
 no_label : {limit : ℕ} {around : Around} {depth after : ℕ} {tokens rest : List Placed} {stmt : Stmt} → IsStmt limit around depth tokens stmt after rest → is_label stmt ≡ false
 no_label (assign place e) = refl
@@ -62,7 +62,7 @@ case_small (unsigned_hex small) = le-leb _ 65535 small
 record AreKept (cases : List ℕ) (rest : List Placed) : Type 0 where
   some : are_cases cases ≡ true
   each : list_all (λ n. nat_le n 65535) cases ≡ true
-  behind : AreSmall rest
+  following : AreSmall rest
 
 some_from : (n : ℕ) (cases : List ℕ) → list_all (λ n. nat_le n 65535) (n ∷ cases) ≡ true → are_cases (n ∷ cases) ≡ true
 some_from n cases each = each
@@ -70,11 +70,11 @@ some_from n cases each = each
 cases_kept : {tokens rest : List Placed} {cases : List ℕ} → AreCases tokens cases rest → AreSmall tokens → AreKept cases rest
 cases_kept (last_case {n} is) small =
     let each = and_from (nat_le n 65535) true (case_small is) refl in
-    record { some = each; each = each; behind = tail_small (tail_small (tail_small small)) }
+    record { some = each; each = each; following = tail_small (tail_small (tail_small small)) }
 cases_kept (more_cases {n} {cases} is others) small =
     let kept = cases_kept others (tail_small (tail_small (tail_small small))) in
     let each = and_from (nat_le n 65535) (list_all (λ n. nat_le n 65535) cases) (case_small is) kept.each in
-    record { some = each; each = each; behind = kept.behind }
+    record { some = each; each = each; following = kept.following }
 
 -- What is shown of each derivation.
 
@@ -138,63 +138,63 @@ mutual
   stmt_kept : {around : Around} {depth after : ℕ} {tokens rest : List Placed} {stmt : Stmt} → IsStmt 200 around depth tokens stmt after rest → AreSmall tokens → is_small depth ≡ true → KeptStmt around stmt after rest
   stmt_kept (assign {around} {place} {e} to from) small deep =
       let first = place_well to small in
-      let second = expr_well from (tail_small first.behind) in
-      record { writable = assign_good around place e _ _ (is_place-place to) first second; depth = deep; behind = tail_small second.behind }
+      let second = expr_well from (tail_small first.following) in
+      record { writable = assign_good around place e _ _ (is_place-place to) first second; depth = deep; following = tail_small second.following }
   stmt_kept (call_alone {around} {depth} {function} {arguments} is) small deep =
       let well = call_well is small in
-      record { writable = call_good around function arguments depth _ (is_name-call is) deep well; depth = deep; behind = tail_small well.behind }
+      record { writable = call_good around function arguments depth _ (is_name-call is) deep well; depth = deep; following = tail_small well.following }
   stmt_kept (call_into {around} {depth} {place} {function} {arguments} to is) small deep =
       let first = place_well to small in
-      let well = call_well is (tail_small first.behind) in
-      record { writable = call_into_good around place function arguments depth _ _ (is_place-place to) first (is_name-call is) deep well; depth = deep; behind = tail_small well.behind }
+      let well = call_well is (tail_small first.following) in
+      record { writable = call_into_good around place function arguments depth _ _ (is_place-place to) first (is_name-call is) deep well; depth = deep; following = tail_small well.following }
   stmt_kept (if_alone {around} {e} {body} test inner) small deep =
       let well = expr_well test (tail_small (tail_small small)) in
-      let kept = block_kept inner (tail_small well.behind) deep in
+      let kept = block_kept inner (tail_small well.following) deep in
       record {
         writable = λ sound.
             let (takes, more, inside) = one_sound e true (stmts_in body ++ []) sound in
             and_from _ _ (well.writable takes) (and_from _ true (kept.writable (both_sound (stmts_in body) [] inside).0) refl);
         depth = kept.depth;
-        behind = kept.behind;
+        following = kept.following;
       }
   stmt_kept (if_else {around} {e} {body} {otherwise} test inner other) small deep =
       let well = expr_well test (tail_small (tail_small small)) in
-      let kept = block_kept inner (tail_small well.behind) deep in
-      let later = block_kept other (tail_small kept.behind) kept.depth in
+      let kept = block_kept inner (tail_small well.following) deep in
+      let later = block_kept other (tail_small kept.following) kept.depth in
       record {
         writable = λ sound.
             let (takes, more, inside) = one_sound e true (stmts_in body ++ stmts_in otherwise) sound in
             let (first, second) = both_sound (stmts_in body) (stmts_in otherwise) inside in
             and_from _ _ (well.writable takes) (and_from _ _ (kept.writable first) (later.writable second));
         depth = later.depth;
-        behind = later.behind;
+        following = later.following;
       }
   stmt_kept (while {around} {e} {body} test inner) small deep =
       let well = expr_well test (tail_small (tail_small small)) in
-      let kept = block_kept inner (tail_small well.behind) deep in
+      let kept = block_kept inner (tail_small well.following) deep in
       record {
         writable = λ sound.
             let (takes, more, inside) = one_sound e true (stmts_in body) sound in
             and_from _ _ (well.writable takes) (kept.writable inside);
         depth = kept.depth;
-        behind = kept.behind;
+        following = kept.following;
       }
   stmt_kept (do_while {around} {body} {e} inner test) small deep =
       let kept = block_kept inner (tail_small small) deep in
-      let well = expr_well test (tail_small (tail_small kept.behind)) in
+      let well = expr_well test (tail_small (tail_small kept.following)) in
       record {
         writable = λ sound.
             let (takes, more, inside) = one_sound e true (stmts_in body) sound in
             and_from _ _ (well.writable takes) (kept.writable inside);
         depth = kept.depth;
-        behind = tail_small (tail_small well.behind);
+        following = tail_small (tail_small well.following);
       }
   stmt_kept (for_ever {around} {body} begins inner) small deep =
       let kept = block_kept inner (begins_small begins small) deep in
-      record { writable = kept.writable; depth = kept.depth; behind = kept.behind }
+      record { writable = kept.writable; depth = kept.depth; following = kept.following }
   stmt_kept (switch {around} {e} {arms} {last} test inner some) small deep =
       let well = expr_well test (tail_small (tail_small small)) in
-      let kept = arms_kept inner (tail_small (tail_small well.behind)) deep in
+      let kept = arms_kept inner (tail_small (tail_small well.following)) deep in
       record {
         writable = λ sound.
             let (takes, single, inside) = one_sound e (at_most_one last) (arm_stmts arms ++ arm_stmts last) sound in
@@ -202,24 +202,24 @@ mutual
             let good = kept.writable (record { in_arms = first; in_last = second; one = single }) in
             and_from _ _ (well.writable takes) (and_from _ _ some (and_from _ _ good.arms_are good.last_is));
         depth = kept.depth;
-        behind = tail_small kept.behind;
+        following = tail_small kept.following;
       }
-  stmt_kept (break inside) small deep = record { writable = λ sound. inside; depth = deep; behind = tail_small (tail_small small) }
-  stmt_kept (continue inside) small deep = record { writable = λ sound. inside; depth = deep; behind = tail_small (tail_small small) }
-  stmt_kept (goto name is) small deep = record { writable = λ sound. is; depth = deep; behind = tail_small (tail_small (tail_small small)) }
-  stmt_kept empty small deep = record { writable = λ sound. refl; depth = deep; behind = tail_small small }
-  stmt_kept return_nothing small deep = record { writable = λ sound. refl; depth = deep; behind = tail_small (tail_small small) }
+  stmt_kept (break inside) small deep = record { writable = λ sound. inside; depth = deep; following = tail_small (tail_small small) }
+  stmt_kept (continue inside) small deep = record { writable = λ sound. inside; depth = deep; following = tail_small (tail_small small) }
+  stmt_kept (goto name is) small deep = record { writable = λ sound. is; depth = deep; following = tail_small (tail_small (tail_small small)) }
+  stmt_kept empty small deep = record { writable = λ sound. refl; depth = deep; following = tail_small small }
+  stmt_kept return_nothing small deep = record { writable = λ sound. refl; depth = deep; following = tail_small (tail_small small) }
   stmt_kept (return_value {e} is) small deep =
       let well = expr_well is (tail_small small) in
-      record { writable = λ sound. well.writable (one_sound e true [] sound).0; depth = deep; behind = tail_small well.behind }
+      record { writable = λ sound. well.writable (one_sound e true [] sound).0; depth = deep; following = tail_small well.following }
 
   block_kept : {around : Around} {depth after : ℕ} {tokens rest : List Placed} {lines : Lines} → IsBlock 200 around depth tokens lines after rest → AreSmall tokens → is_small depth ≡ true → KeptLines around false lines after rest
   block_kept (block inner) small deep =
       let kept = lines_kept inner (tail_small small) deep in
-      record { writable = kept.writable; depth = kept.depth; behind = tail_small kept.behind }
+      record { writable = kept.writable; depth = kept.depth; following = tail_small kept.following }
 
   pub lines_kept : {around : Around} {labelled : Bool} {depth after : ℕ} {tokens rest : List Placed} {lines : Lines} → AreLines 200 around labelled depth tokens lines after rest → AreSmall tokens → is_small depth ≡ true → KeptLines around labelled lines after rest
-  lines_kept no_more small deep = record { writable = λ sound. refl; depth = deep; behind = small }
+  lines_kept no_more small deep = record { writable = λ sound. refl; depth = deep; following = small }
   lines_kept (depth_pragma blocks inner) small deep =
       lines_kept inner (tail_small (tail_small small)) (head_small (tail_small small))
   lines_kept (label {around} {lines} name is blocks inner) small deep =
@@ -227,36 +227,36 @@ mutual
       record {
         writable = λ sound. and_from _ _ (le-leb _ 200 blocks) (and_from _ _ is (kept.writable sound));
         depth = kept.depth;
-        behind = kept.behind;
+        following = kept.following;
       }
   lines_kept (statement {around} {stmt} {lines} blocks first inner) small deep =
       let here = stmt_kept first small deep in
-      let later = lines_kept inner here.behind here.depth in
+      let later = lines_kept inner here.following here.depth in
       record {
         writable = λ sound.
             let (in_first, in_later) = both_sound (stmt ∷ inner_stmts stmt) (stmts_in lines) sound in
             and_from _ _ (le-leb _ 200 blocks) (and_from _ _ (here.writable in_first) (ap (λ b. are_writable_lines around b lines) (no_label first) ∙ later.writable in_later));
         depth = later.depth;
-        behind = later.behind;
+        following = later.following;
       }
 
   arms_kept : {around : Around} {depth after : ℕ} {tokens rest : List Placed} {arms last : Arms} → AreArms 200 around depth tokens arms last after rest → AreSmall tokens → is_small depth ≡ true → KeptArms around arms last after rest
-  arms_kept no_arm small deep = record { writable = λ sound. record { arms_are = refl; last_is = refl }; depth = deep; behind = small }
+  arms_kept no_arm small deep = record { writable = λ sound. record { arms_are = refl; last_is = refl }; depth = deep; following = small }
   arms_kept (case_arm {around} {cases} {body} {arms} {last} numbers few inner others) small deep =
       let first = cases_kept numbers small in
-      let kept = lines_kept inner first.behind deep in
-      let later = arms_kept others (tail_small (tail_small kept.behind)) kept.depth in
+      let kept = lines_kept inner first.following deep in
+      let later = arms_kept others (tail_small (tail_small kept.following)) kept.depth in
       record {
         writable = λ sound.
             let (in_body, in_arms) = both_sound (stmts_in body) (arm_stmts arms) sound.in_arms in
             let good = later.writable (record { in_arms = in_arms; in_last = sound.in_last; one = sound.one }) in
             record { arms_are = and_from _ _ (le-leb _ 200 few) (and_from _ _ first.some (and_from _ _ (kept.writable in_body) good.arms_are)); last_is = good.last_is };
         depth = later.depth;
-        behind = later.behind;
+        following = later.following;
       }
   arms_kept (default_arm {around} {body} {arms} {last} few inner others) small deep =
       let kept = lines_kept inner (tail_small (tail_small small)) deep in
-      let later = arms_kept others (tail_small (tail_small kept.behind)) kept.depth in
+      let later = arms_kept others (tail_small (tail_small kept.following)) kept.depth in
       record {
         writable = λ sound.
             let (in_body, in_last) = both_sound (stmts_in body) (arm_stmts last) sound.in_last in
@@ -264,5 +264,5 @@ mutual
             let good = later.writable (record { in_arms = sound.in_arms; in_last = in_last; one = one_if_none last single }) in
             record { arms_are = good.arms_are; last_is = and_from _ _ (le-leb _ 200 few) (and_from _ _ (kept.writable in_body) (not_from_false (has_arm last) single)) };
         depth = later.depth;
-        behind = later.behind;
+        following = later.following;
       }

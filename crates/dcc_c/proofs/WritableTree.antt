@@ -7,7 +7,7 @@ use Rattle.dcc_c.specs.declared.syntax.CType.{CType}
 use Rattle.dcc_c.specs.declared.syntax.Class.{Class}
 use Rattle.dcc_c.specs.Lexing.{Placed}
 use Rattle.dcc_c.specs.Tree.{Expr, Stmt, Assign, Call, If, While, DoWhile, Switch, Return, Global, Variable, Function, Tree}
-use Rattle.dcc_c.specs.Placement.{elements, bytes_of, behind_global}
+use Rattle.dcc_c.specs.Placement.{elements, bytes_of, after_global}
 use Rattle.dcc_c.specs.Parts.{stmts_in, expr_if}
 use Rattle.dcc_c.specs.Grammar.{HasSize, no_size, size, AreNumbers, last_number, more_numbers, AreInitial, no_value, one_value, values, IsGlobal, AreGlobals, no_global, placed_at, one_global, HasClass, no_class, auto_class, register_class, IsParam, AreSomeParams, last_param, more_params, AreParams, no_param, some_params, IsLocalClass, plain_local, array_local, auto_local, IsLocal, AreLocals, no_local, one_local, HasResult, no_result, result, IsFunction, AreFunctions, last_function, more_functions}
 use Rattle.dcc_c.specs.Types.{promoted_type}
@@ -99,21 +99,21 @@ size_small size small = (head_small (tail_small small), tail_small (tail_small (
 numbers_small : {tokens rest : List Placed} {ns : List ℕ} → AreNumbers tokens ns rest → AreSmall tokens → Holds (list_all is_small ns) rest
 numbers_small (last_number {n}) small = (and_from (is_small n) true (head_small small) refl, tail_small small)
 numbers_small (more_numbers {n} {ns} others) small =
-    let (each, behind) = numbers_small others (tail_small (tail_small small)) in
-    (and_from (is_small n) (list_all is_small ns) (head_small small) each, behind)
+    let (each, following) = numbers_small others (tail_small (tail_small small)) in
+    (and_from (is_small n) (list_all is_small ns) (head_small small) each, following)
 
 initial_small : {tokens rest : List Placed} {init : List ℕ} → AreInitial tokens init rest → AreSmall tokens → Holds (list_all is_small init) rest
 initial_small no_value small = (refl, small)
 initial_small (one_value {n}) small =
     (and_from (is_small n) true (head_small (tail_small small)) refl, tail_small (tail_small small))
 initial_small (values numbers) small =
-    let (each, behind) = numbers_small numbers (tail_small (tail_small small)) in (each, tail_small behind)
+    let (each, following) = numbers_small numbers (tail_small (tail_small small)) in (each, tail_small following)
 
 -- a global variable that ends within memory has a small address
 address_small : (g : Global) → allows_global g ≡ true → is_small g.at ≡ true
 address_small g allowed =
-    let (some, others) = and_parts (has_element g.len) (nat_le (behind_global g) 65536 && nat_le (length g.init) (elements g.len)) allowed in
-    let ends = leb-true (behind_global g) 65536 (and_parts (nat_le (behind_global g) 65536) (nat_le (length g.init) (elements g.len)) others).0 in
+    let (some, others) = and_parts (has_element g.len) (nat_le (after_global g) 65536 && nat_le (length g.init) (elements g.len)) allowed in
+    let ends = leb-true (after_global g) 65536 (and_parts (nat_le (after_global g) 65536) (nat_le (length g.init) (elements g.len)) others).0 in
     le-leb g.at 4294967295 (below g.at (bytes_of g.type g.len) ends)
   where
     below : (at bytes : ℕ) → at + bytes ≤ 65536 → at ≤ 4294967295
@@ -121,17 +121,17 @@ address_small g allowed =
 
 global_writable : {tokens rest : List Placed} {g : Global} → IsGlobal tokens g rest → AreSmall tokens → allows_global g ≡ true → Holds (is_writable_global g) rest
 global_writable {g} is small allowed =
-    let (len, behind_len) = size_small is.len_is (tail_small (begins_small is.type_is small)) in
-    let (init, behind) = initial_small is.init_is behind_len in
-    (and_from _ _ is.name_is (and_from _ _ (address_small g allowed) (and_from _ _ len init)), tail_small behind)
+    let (len, after_len) = size_small is.len_is (tail_small (begins_small is.type_is small)) in
+    let (init, following) = initial_small is.init_is after_len in
+    (and_from _ _ is.name_is (and_from _ _ (address_small g allowed) (and_from _ _ len init)), tail_small following)
 
 globals_writable : {place : Option ℕ} {tokens rest : List Placed} {globals : List Global} → AreGlobals place tokens globals rest → AreSmall tokens → list_all allows_global globals ≡ true → Holds (list_all is_writable_global globals) rest
 globals_writable no_global small allowed = (refl, small)
 globals_writable (placed_at others) small allowed = globals_writable others (tail_small (tail_small small)) allowed
 globals_writable (one_global {g} {globals} is others) small allowed =
     let (first, later) = and_parts (allows_global g) (list_all allows_global globals) allowed in
-    let (here, behind) = global_writable is small first in
-    let (there, rest) = globals_writable others behind later in
+    let (here, following) = global_writable is small first in
+    let (there, rest) = globals_writable others following later in
     (and_from _ _ here there, rest)
 
 class_small : {tokens rest : List Placed} {class : Class} → HasClass tokens class rest → AreSmall tokens → AreSmall rest
@@ -147,10 +147,10 @@ param_writable {v} is small =
     (and_from _ _ is.name_is (no_len-not v.len is.no_len), tail_small (begins_small is.type_is (class_small is.class_is small)))
 
 some_writable : {tokens rest : List Placed} {params : List Variable} → AreSomeParams tokens params rest → AreSmall tokens → Holds (list_all is_writable_param params) rest
-some_writable (last_param {v} is) small = let (first, behind) = param_writable is small in (and_from (is_writable_param v) true first refl, behind)
+some_writable (last_param {v} is) small = let (first, following) = param_writable is small in (and_from (is_writable_param v) true first refl, following)
 some_writable (more_params {v} {params} is others) small =
-    let (first, behind) = param_writable is small in
-    let (later, rest) = some_writable others (tail_small behind) in
+    let (first, following) = param_writable is small in
+    let (later, rest) = some_writable others (tail_small following) in
     (and_from (is_writable_param v) (list_all is_writable_param params) first later, rest)
 
 params_writable : {tokens rest : List Placed} {params : List Variable} → AreParams tokens params rest → AreSmall tokens → Holds (list_all is_writable_param params) rest
@@ -164,14 +164,14 @@ class_writable auto_local = refl
 
 local_writable : {tokens rest : List Placed} {v : Variable} → IsLocal tokens v rest → AreSmall tokens → Holds (is_writable_local v) rest
 local_writable {v} is small =
-    let (len, behind) = size_small is.len_is (tail_small (begins_small is.type_is (class_small is.class_is small))) in
-    (and_from _ _ is.name_is (and_from _ _ len (class_writable is.stored_is)), tail_small behind)
+    let (len, following) = size_small is.len_is (tail_small (begins_small is.type_is (class_small is.class_is small))) in
+    (and_from _ _ is.name_is (and_from _ _ len (class_writable is.stored_is)), tail_small following)
 
 locals_writable : {tokens rest : List Placed} {locals : List Variable} → AreLocals tokens locals rest → AreSmall tokens → Holds (list_all is_writable_local locals) rest
 locals_writable no_local small = (refl, small)
 locals_writable (one_local {v} {locals} is others) small =
-    let (first, behind) = local_writable is small in
-    let (later, rest) = locals_writable others behind in
+    let (first, following) = local_writable is small in
+    let (later, rest) = locals_writable others following in
     (and_from (is_writable_local v) (list_all is_writable_local locals) first later, rest)
 
 result_small : {tokens rest : List Placed} {type : Option CType} → HasResult tokens type rest → AreSmall tokens → AreSmall rest
@@ -180,17 +180,17 @@ result_small (result type begins) small = begins_small begins small
 
 function_writable : {tree : Tree} {tokens rest : List Placed} {f : Function} → IsFunction 200 tokens f rest → AreSmall tokens → IsAllowedFunction tree f → Holds (is_writable_function f) rest
 function_writable {tree} {f} is small allowed =
-    let (params, behind_params) = params_writable is.params_are (tail_small (tail_small (result_small is.result_is small))) in
-    let (locals, behind_locals) = locals_writable is.locals_are (tail_small (tail_small behind_params)) in
-    let kept = lines_kept is.body_is behind_locals refl in
+    let (params, after_params) = params_writable is.params_are (tail_small (tail_small (result_small is.result_is small))) in
+    let (locals, after_locals) = locals_writable is.locals_are (tail_small (tail_small after_params)) in
+    let kept = lines_kept is.body_is after_locals refl in
     let body = kept.writable (all_sound tree f (stmts_in f.body) allowed.types) in
-    (and_from _ _ is.name_is (and_from _ _ params (and_from _ _ locals body)), tail_small kept.behind)
+    (and_from _ _ is.name_is (and_from _ _ params (and_from _ _ locals body)), tail_small kept.following)
 
 functions_writable : {tree : Tree} {tokens : List Placed} {functions : List Function} → AreFunctions 200 tokens functions → AreSmall tokens → AreAllowed tree functions → list_all is_writable_function functions ≡ true
 functions_writable (last_function {f} is) small (one_more first others) = and_from (is_writable_function f) true (function_writable is small first).0 refl
 functions_writable (more_functions {f} {functions} is later) small (one_more first others) =
-    let (here, behind) = function_writable is small first in
-    and_from (is_writable_function f) (list_all is_writable_function functions) here (functions_writable later behind others)
+    let (here, following) = function_writable is small first in
+    and_from (is_writable_function f) (list_all is_writable_function functions) here (functions_writable later following others)
 
 -- a tree that a text stands for is writable
 pub stands_writable : (text : List ℕ) (tree : Tree) → StandsFor text tree → IsWritable tree
@@ -198,10 +198,10 @@ stands_writable text tree stands =
     let unit = stands.formed in
     let small : AreSmall stands.tokens = lexed_small stands.lexed in
     let in_globals : AreSmall unit.globals = tail_small (tail_small (tail_small (tail_small (subst AreSmall unit.head_is small)))) in
-    let (globals, behind) = globals_writable unit.globals_are in_globals stands.allowed.globals in
+    let (globals, following) = globals_writable unit.globals_are in_globals stands.allowed.globals in
     record {
       version = unit.version_is;
       globals = globals;
-      functions = functions_writable unit.functions_are behind stands.allowed.functions;
+      functions = functions_writable unit.functions_are following stands.allowed.functions;
       allowed = stands.allowed;
     }

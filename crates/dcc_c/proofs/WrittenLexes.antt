@@ -12,7 +12,7 @@ use Rattle.dcc_c.specs.Token.{Decimal, plain_number, place_line}
 use Rattle.dcc_c.specs.Lexing.{Placed, placed, Lexes, ends}
 use Rattle.dcc_c.specs.Tree.{Word, Global, Variable, Function, Tree}
 use Rattle.dcc_c.specs.Grammar.{is_name, outermost}
-use Rattle.dcc_c.specs.Placement.{behind_global}
+use Rattle.dcc_c.specs.Placement.{after_global}
 use Rattle.dcc_c.specs.Written.{written_size, written_class, written_local, written_param, written_params, written_head_params, written_head, written_function, written_functions, written_numbers, written_initial, written_global, written_place, written_globals, written_form}
 use Rattle.dcc_c.specs.Numbered.{rows, numbered_function}
 use Rattle.dcc_c.proofs.LexingLaws.{header_lexes}
@@ -21,7 +21,7 @@ use Rattle.dcc_c.proofs.Writable.{is_small, is_small_if, is_writable_global, is_
 use Rattle.dcc_c.proofs.WrittenTokens.{size_tokens, class_tokens, local_tokens, locals_tokens, param_tokens, some_params_tokens, params_tokens, head_tokens, function_tokens, functions_tokens, numbers_tokens, initial_tokens, global_tokens, place_tokens, globals_tokens, tree_tokens}
 use Rattle.dcc_c.proofs.WrittenReads.{Ending, Inside, Behind, Reads, nothing, space_then, reads_then, line_feed, no_line, lines_then, counted_as}
 use Rattle.dcc_c.proofs.WrittenExprs.{word_then, mark_then, lone_then, opening_then, closing_then, number_then, word_reads, variable_reads}
-use Rattle.dcc_c.proofs.WrittenParts.{at_start, indented_then, behind_rows, by_rows, semicolon_line, closing_line, pragma_reads, pragma_unless}
+use Rattle.dcc_c.proofs.WrittenParts.{at_start, indented_then, after_rows, by_rows, semicolon_line, closing_line, pragma_reads, pragma_unless}
 use Rattle.dcc_c.proofs.WrittenStmts.{lines_read}
 
 -- Numbers.
@@ -72,19 +72,19 @@ global_reads g good =
     let (sized, valued) = and_parts (is_small_if g.len) (list_all is_small g.init) rest in
     reads_then (variable_reads g.type g.name named) (λ rest fits. size_free g.len _ rest (initial_free g.len g.init rest)) (reads_then (size_reads g.len sized) (λ rest fits. initial_free g.len g.init rest) (reads_then (initial_reads g.len g.init valued) (λ rest fits. refl) semicolon_line))
 
-place_reads : {at : ℕ} (behind : Option ℕ) (address : ℕ) → is_small address ≡ true →
-    Reads true at (Behind (at + rows (written_place behind address))) (written_place behind address) (place_tokens at behind address)
+place_reads : {at : ℕ} (following : Option ℕ) (address : ℕ) → is_small address ≡ true →
+    Reads true at (Behind (at + rows (written_place following address))) (written_place following address) (place_tokens at following address)
 place_reads None address small = by_rows (pragma_reads place_line address (and_from _ _ small refl) small)
-place_reads (Some behind) address small = pragma_unless (behind == address) place_line address (λ differ. (and_from _ _ small refl, small))
+place_reads (Some following) address small = pragma_unless (following == address) place_line address (λ differ. (and_from _ _ small refl, small))
 
-globals_read : (behind : Option ℕ) (at : ℕ) (globals : List Global) → list_all is_writable_global globals ≡ true →
-    Reads true at (Behind (at + rows (written_globals behind globals))) (written_globals behind globals) (globals_tokens behind at globals)
-globals_read behind at [] good = behind_rows 0 refl no_line
-globals_read behind at (g ∷ globals) good =
+globals_read : (following : Option ℕ) (at : ℕ) (globals : List Global) → list_all is_writable_global globals ≡ true →
+    Reads true at (Behind (at + rows (written_globals following globals))) (written_globals following globals) (globals_tokens following at globals)
+globals_read following at [] good = after_rows 0 refl no_line
+globals_read following at (g ∷ globals) good =
     let (first, others) = and_parts (is_writable_global g) (list_all is_writable_global globals) good in
     let (named, rest) = and_parts (is_name g.name) _ first in
     let (small, more) = and_parts (is_small g.at) _ rest in
-    by_rows (lines_then (place_reads behind g.at small) (lines_then (global_reads g first) (globals_read (Some (behind_global g)) _ globals others)))
+    by_rows (lines_then (place_reads following g.at small) (lines_then (global_reads g first) (globals_read (Some (after_global g)) _ globals others)))
 
 -- Functions.
 
@@ -103,7 +103,7 @@ local_reads v good =
 
 locals_read : (at : ℕ) (locals : List Variable) → list_all is_writable_local locals ≡ true →
     Reads true at (Behind (at + length locals)) (flat_map written_local locals) (locals_tokens at locals)
-locals_read at [] good = behind_rows 0 refl no_line
+locals_read at [] good = after_rows 0 refl no_line
 locals_read at (v ∷ locals) good =
     let (first, others) = and_parts (is_writable_local v) (list_all is_writable_local locals) good in
     counted_as (at + suc (length locals)) (omega arith) (lines_then (local_reads v first) (locals_read (at + 1) locals others))
@@ -160,5 +160,5 @@ written_lexes tree is =
     let low : tree.lo ≤ 65535 = is.allowed.lo in
     let high : tree.hi ≤ 65535 = is.allowed.hi in
     let numbers = and_from _ _ (le-leb tree.lo 4294967295 (omega arith)) (and_from _ _ (le-leb tree.hi 4294967295 (omega arith)) refl) in
-    let behind = functions_read (3 + rows (written_globals None tree.globals)) tree.functions is.functions in
-    header_lexes tree.lo tree.hi numbers ((globals_read None 3 tree.globals is.globals).lexed (written_functions tree.functions) _ tt behind)
+    let following = functions_read (3 + rows (written_globals None tree.globals)) tree.functions is.functions in
+    header_lexes tree.lo tree.hi numbers ((globals_read None 3 tree.globals is.globals).lexed (written_functions tree.functions) _ tt following)

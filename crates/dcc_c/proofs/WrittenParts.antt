@@ -37,14 +37,14 @@ pub indented_then : {fresh : Bool} {at : ℕ} {ending : Ending} {b : List ℕ} {
 indented_then braces r = spaces_then (4 * min braces 16) r
 
 -- the line after a part by the lines that it has
-pub behind_rows : {fresh : Bool} {at behind : ℕ} {bytes : List ℕ} {tokens : List Placed → List Placed} (n : ℕ) →
-    rows bytes ≡ n → Reads fresh at (Behind behind) bytes tokens → Reads fresh at (Behind (at + n)) bytes tokens
-behind_rows {fresh} {at} {behind} {bytes} {tokens} n has r =
+pub after_rows : {fresh : Bool} {at following : ℕ} {bytes : List ℕ} {tokens : List Placed → List Placed} (n : ℕ) →
+    rows bytes ≡ n → Reads fresh at (Behind following) bytes tokens → Reads fresh at (Behind (at + n)) bytes tokens
+after_rows {fresh} {at} {following} {bytes} {tokens} n has r =
     subst (λ l. Reads fresh at (Behind l) bytes tokens) (r.counted ∙ ap (λ m. at + m) has) r
 
-pub by_rows : {fresh : Bool} {at behind : ℕ} {bytes : List ℕ} {tokens : List Placed → List Placed} →
-    Reads fresh at (Behind behind) bytes tokens → Reads fresh at (Behind (at + rows bytes)) bytes tokens
-by_rows {bytes} r = behind_rows (rows bytes) refl r
+pub by_rows : {fresh : Bool} {at following : ℕ} {bytes : List ℕ} {tokens : List Placed → List Placed} →
+    Reads fresh at (Behind following) bytes tokens → Reads fresh at (Behind (at + rows bytes)) bytes tokens
+by_rows {bytes} r = after_rows (rows bytes) refl r
 
 -- The end of a line.
 
@@ -104,7 +104,7 @@ pragma_reads {at} head n are small = record {
 pub pragma_unless : {at : ℕ} (omitted : Bool) (head : Head) (n : ℕ) → (omitted ≡ false → (are_pragma_numbers head (n ∷ []) ≡ true) × (is_small n ≡ true)) →
     let bytes : Word = if omitted then [] else head_bytes head ++ 32 ∷ (decimal n ++ codes "\n") in
     Reads true at (Behind (at + rows bytes)) bytes (λ others. if omitted then others else placed at (Pragma head) ∷ placed at (Decimal n plain_number) ∷ others)
-pragma_unless true head n known = behind_rows 0 refl no_line
+pragma_unless true head n known = after_rows 0 refl no_line
 pragma_unless false head n known = by_rows (pragma_reads head n (known refl).0 (known refl).1)
 
 -- the pragma that changes the depth of calls
@@ -119,7 +119,7 @@ depth_reads depth next known = pragma_unless (depth == next) depth_line next (λ
 -- cases
 pub cases_read : (braces at : ℕ) (cases : List ℕ) → list_all is_small cases ≡ true →
     Reads true at (Behind (at + length cases)) (written_cases braces cases) (cases_tokens at cases)
-cases_read braces at [] good = behind_rows 0 refl no_line
+cases_read braces at [] good = after_rows 0 refl no_line
 cases_read braces at (n ∷ cases) good =
     let (small, others) = and_parts (is_small n) (list_all is_small cases) good in
     counted_as (at + suc (length cases)) (omega arith) (lines_then (indented_then braces (word_then (codes "case") refl (λ rest fits. refl) (space_then (number_then n small (λ rest fits. refl) colon_line)))) (cases_read braces (at + 1) cases others))

@@ -25,7 +25,7 @@ Goes (Behind n) at rest others = Lexes true n rest others
 -- a part of this line that ends so has so many line feeds
 abbrev pub Counts : Ending → ℕ → ℕ → Type 0
 Counts Inside at n = n ≡ 0
-Counts (Behind behind) at n = behind ≡ at + n
+Counts (Behind following) at n = following ≡ at + n
 
 -- The bytes, which begin in this line and end so, are read as the tokens, whatever may follow.
 pub record Reads (fresh : Bool) (at : ℕ) (ending : Ending) (bytes : List ℕ) (tokens : List Placed → List Placed) : Type 0 where
@@ -44,9 +44,9 @@ at_beginning (feed then) = feed then
 at_beginning (token read spelled rest is apart joined then) = token read spelled rest is apart joined then
 
 -- the count does not change where bytes without a line feed stand before
-count_behind : (ending : Ending) (at : ℕ) (a b : List ℕ) → rows a ≡ 0 → Counts ending at (rows b) →
+count_after : (ending : Ending) (at : ℕ) (a b : List ℕ) → rows a ≡ 0 → Counts ending at (rows b) →
     Counts ending at (rows (a ++ b))
-count_behind ending at a b flat counts =
+count_after ending at a b flat counts =
     subst (λ n. Counts ending at n) (sym (rows-append a b ∙ rw flat (omega arith))) counts
 
 -- nothing
@@ -67,7 +67,7 @@ pub token_then : {fresh : Bool} {at : ℕ} {ending : Ending} {b : List ℕ} {g :
     Reads false at ending b g → Reads fresh at ending (spelling read ++ b) (λ others. placed at read ∷ g others)
 token_then {at} {ending} {b} read good apart r = record {
   lexed = λ rest others fits goes. token read (spelling read) (b ++ rest) (spelled read good) (apart rest fits) (append_assoc (spelling read) b rest) (r.lexed rest others fits goes);
-  counted = count_behind ending at (spelling read) b (spelling_flat read good) r.counted;
+  counted = count_after ending at (spelling read) b (spelling_flat read good) r.counted;
 }
 
 -- a part inside a line before another
@@ -76,7 +76,7 @@ pub reads_then : {fresh : Bool} {at : ℕ} {ending : Ending} {a b : List ℕ} {f
     Reads false at ending b g → Reads fresh at ending (a ++ b) (λ others. f (g others))
 reads_then {fresh} {at} {ending} {a} {b} {f} {g} first free r = record {
   lexed = λ rest others fits goes. subst (λ bytes. Lexes fresh at bytes (f (g others))) (sym (append_assoc a b rest)) (first.lexed (b ++ rest) (g others) (free rest fits) (r.lexed rest others fits goes));
-  counted = count_behind ending at a b first.counted r.counted;
+  counted = count_after ending at a b first.counted r.counted;
 }
 
 -- the end of a line
@@ -91,18 +91,18 @@ pub no_line : {at : ℕ} → Reads true at (Behind at) [] (λ others. others)
 no_line {at} = record { lexed = λ rest others fits goes. goes; counted = omega arith }
 
 -- lines before others
-pub lines_then : {fresh : Bool} {at behind last : ℕ} {a b : List ℕ} {f g : List Placed → List Placed} →
-    Reads fresh at (Behind behind) a f → Reads true behind (Behind last) b g →
+pub lines_then : {fresh : Bool} {at following last : ℕ} {a b : List ℕ} {f g : List Placed → List Placed} →
+    Reads fresh at (Behind following) a f → Reads true following (Behind last) b g →
     Reads fresh at (Behind last) (a ++ b) (λ others. f (g others))
-lines_then {fresh} {at} {behind} {last} {a} {b} {f} {g} first r = record {
+lines_then {fresh} {at} {following} {last} {a} {b} {f} {g} first r = record {
   lexed = λ rest others fits goes. subst (λ bytes. Lexes fresh at bytes (f (g others))) (sym (append_assoc a b rest)) (first.lexed (b ++ rest) (g others) tt (r.lexed rest others fits goes));
   counted =
-      let one : behind ≡ at + rows a = first.counted in
-      let two : last ≡ behind + rows b = r.counted in
+      let one : following ≡ at + rows a = first.counted in
+      let two : last ≡ following + rows b = r.counted in
       rw rows-append (omega arith);
 }
 
 -- the line after a part, by another count
-pub counted_as : {fresh : Bool} {at behind : ℕ} {bytes : List ℕ} {tokens : List Placed → List Placed} (other : ℕ) →
-    behind ≡ other → Reads fresh at (Behind behind) bytes tokens → Reads fresh at (Behind other) bytes tokens
+pub counted_as : {fresh : Bool} {at following : ℕ} {bytes : List ℕ} {tokens : List Placed → List Placed} (other : ℕ) →
+    following ≡ other → Reads fresh at (Behind following) bytes tokens → Reads fresh at (Behind other) bytes tokens
 counted_as {fresh} {at} {bytes} {tokens} other same r = subst (λ n. Reads fresh at (Behind n) bytes tokens) same r

@@ -7,7 +7,7 @@ use Rattle.dcc_c.specs.Tree.{Word, Expr, Stmt, Assign, Call, If, While, DoWhile,
 use Rattle.dcc_c.specs.Parts.{stmts_in, inner_stmts}
 use Rattle.dcc_c.specs.Lexing.{Placed}
 use Rattle.dcc_c.specs.Grammar.{word, mark, is_name, Around, in_block, in_loop, in_switch, has_arm}
-use Rattle.dcc_c.specs.Written.{depth_behind, next_depth, written_expr, written_stmt, written_lines, written_arms, written_default}
+use Rattle.dcc_c.specs.Written.{depth_after, next_depth, written_expr, written_stmt, written_lines, written_arms, written_default}
 use Rattle.dcc_c.specs.Numbered.{rows}
 use Rattle.dcc_c.proofs.WrittenLaws.{is_word-name}
 use Rattle.dcc_c.proofs.Writable.{is_small, is_place, is_writable_expr, is_writable_place, is_place_if, is_label, are_cases, has_no_case, is_writable_stmt, are_writable_lines, are_writable_arms, is_writable_default}
@@ -15,7 +15,7 @@ use Rattle.dcc_c.proofs.WrittenTokens.{expr_tokens, stmt_tokens, lines_tokens, a
 use Rattle.dcc_c.proofs.WrittenReads.{Behind, Reads, space_then, reads_then, no_line, lines_then, counted_as}
 use Rattle.dcc_c.proofs.WrittenExprs.{word_then, mark_then, opening_then, closing_then, expr_reads}
 use Rattle.dcc_c.proofs.WrittenRows.{stmt_rows, lines_rows, arms_rows, default_rows}
-use Rattle.dcc_c.proofs.WrittenParts.{indented_then, behind_rows, semicolon_line, colon_line, brace_line, closing_line, word_line, call_reads, return_reads, test_reads, depth_reads, cases_read}
+use Rattle.dcc_c.proofs.WrittenParts.{indented_then, after_rows, semicolon_line, colon_line, brace_line, closing_line, word_line, call_reads, return_reads, test_reads, depth_reads, cases_read}
 
 -- the next call has the depth in force, or one that a text can hold
 abbrev IsKnown : ℕ → ℕ → Type 0
@@ -54,9 +54,9 @@ place_is : (place : Expr) → is_writable_place place ≡ true → is_writable_e
 place_is place good = (and_parts (is_place place) (is_writable_expr place) good).1
 
 -- a place and what it takes
-assign_then : {at behind : ℕ} {b : List ℕ} {g : List Placed → List Placed} (place : Expr) → is_writable_place place ≡ true →
-    Reads false at (Behind behind) b g →
-    Reads false at (Behind behind) (written_expr place ++ (codes " = " ++ b)) (λ others. expr_tokens at place (mark at (codes "=") ∷ g others))
+assign_then : {at following : ℕ} {b : List ℕ} {g : List Placed → List Placed} (place : Expr) → is_writable_place place ≡ true →
+    Reads false at (Behind following) b g →
+    Reads false at (Behind following) (written_expr place ++ (codes " = " ++ b)) (λ others. expr_tokens at place (mark at (codes "=") ∷ g others))
 assign_then {at} place good r =
     reads_then (expr_reads place (place_is place good) at false) (λ rest fits. refl) (space_then (mark_then (codes "=") refl (λ rest fits. refl) (space_then r)))
 
@@ -65,7 +65,7 @@ whole : {at : ℕ} {bytes : Word} {tokens : List Placed → List Placed} (braces
     bytes ≡ written_stmt braces depth stmt → Reads true at (Behind (at + 1)) bytes tokens →
     Reads true at (Behind (at + rows (written_stmt 1 depth stmt))) (written_stmt braces depth stmt) tokens
 whole {at} {bytes} {tokens} braces depth stmt is r =
-    behind_rows _ (stmt_rows braces 1 depth stmt).same (subst (λ b. Reads true at (Behind (at + 1)) b tokens) is r)
+    after_rows _ (stmt_rows braces 1 depth stmt).same (subst (λ b. Reads true at (Behind (at + 1)) b tokens) is r)
 
 -- The lines of statements with blocks.
 
@@ -131,35 +131,35 @@ mutual
       let (test, blocks) = and_parts (is_writable_expr e) _ good in
       let (inner, none) = and_parts (are_writable_lines (in_block around) false body) _ blocks in
       let block = lines_read body (in_block around) false inner (1 + braces) depth (at + 1) in
-      behind_rows _ (stmt_rows braces 1 depth (If e body no_lines)).same (lines_then (indented_then braces (test_reads (codes "if") e refl test)) (lines_then block (indented_then braces closing_line)))
+      after_rows _ (stmt_rows braces 1 depth (If e body no_lines)).same (lines_then (indented_then braces (test_reads (codes "if") e refl test)) (lines_then block (indented_then braces closing_line)))
   stmt_reads (If e body (line stmt was lines)) around good braces depth at =
       let (test, blocks) = and_parts (is_writable_expr e) _ good in
       let (inner, others) = and_parts (are_writable_lines (in_block around) false body) (are_writable_lines (in_block around) false (line stmt was lines)) blocks in
       let block = lines_read body (in_block around) false inner (1 + braces) depth (at + 1) in
       let second = at + 2 + rows (written_lines 1 depth body) in
-      let between = depth_behind depth (stmts_in body) in
+      let between = depth_after depth (stmts_in body) in
       let other_block = lines_read (line stmt was lines) (in_block around) false others (1 + braces) between second in
       let else_row = counted_as second (omega arith) (indented_then braces else_line) in
-      behind_rows _ (stmt_rows braces 1 depth (If e body (line stmt was lines))).same (lines_then (indented_then braces (test_reads (codes "if") e refl test)) (lines_then block (lines_then (lines_then else_row other_block) (indented_then braces closing_line))))
+      after_rows _ (stmt_rows braces 1 depth (If e body (line stmt was lines))).same (lines_then (indented_then braces (test_reads (codes "if") e refl test)) (lines_then block (lines_then (lines_then else_row other_block) (indented_then braces closing_line))))
   stmt_reads (While e body) around good braces depth at =
       let (test, inner) = and_parts (is_writable_expr e) (are_writable_lines (in_loop around) false body) good in
       let block = lines_read body (in_loop around) false inner (1 + braces) depth (at + 1) in
-      behind_rows _ (stmt_rows braces 1 depth (While e body)).same (lines_then (indented_then braces (test_reads (codes "while") e refl test)) (lines_then block (indented_then braces closing_line)))
+      after_rows _ (stmt_rows braces 1 depth (While e body)).same (lines_then (indented_then braces (test_reads (codes "while") e refl test)) (lines_then block (indented_then braces closing_line)))
   stmt_reads (DoWhile body e) around good braces depth at =
       let (test, inner) = and_parts (is_writable_expr e) (are_writable_lines (in_loop around) false body) good in
       let block = lines_read body (in_loop around) false inner (1 + braces) depth (at + 1) in
-      behind_rows _ (stmt_rows braces 1 depth (DoWhile body e)).same (lines_then (indented_then braces do_line) (lines_then block (indented_then braces (again_reads e test))))
+      after_rows _ (stmt_rows braces 1 depth (DoWhile body e)).same (lines_then (indented_then braces do_line) (lines_then block (indented_then braces (again_reads e test))))
   stmt_reads (Forever body) around good braces depth at =
       let block = lines_read body (in_loop around) false good (1 + braces) depth (at + 1) in
-      behind_rows _ (stmt_rows braces 1 depth (Forever body)).same (lines_then (indented_then braces for_line) (lines_then block (indented_then braces closing_line)))
+      after_rows _ (stmt_rows braces 1 depth (Forever body)).same (lines_then (indented_then braces for_line) (lines_then block (indented_then braces closing_line)))
   stmt_reads (Switch e arms last) around good braces depth at =
       let (test, others) = and_parts (is_writable_expr e) _ good in
       let (some, rest) = and_parts (has_arm arms || has_arm last) _ others in
       let (first, second) = and_parts (are_writable_arms (in_switch around) arms) (is_writable_default (in_switch around) last) rest in
-      let behind = depth_behind depth (inner_stmts (Switch e arms no_arms)) in
+      let following = depth_after depth (inner_stmts (Switch e arms no_arms)) in
       let cases = arms_read arms (in_switch around) first (1 + braces) depth (at + 1) in
-      let default = default_reads last (in_switch around) second (1 + braces) behind _ (at + 2 + rows (written_arms 1 depth arms)) (omega arith) in
-      behind_rows _ (stmt_rows braces 1 depth (Switch e arms last)).same (lines_then (indented_then braces (test_reads (codes "switch") e refl test)) (lines_then cases (lines_then default (indented_then braces closing_line))))
+      let default = default_reads last (in_switch around) second (1 + braces) following _ (at + 2 + rows (written_arms 1 depth arms)) (omega arith) in
+      after_rows _ (stmt_rows braces 1 depth (Switch e arms last)).same (lines_then (indented_then braces (test_reads (codes "switch") e refl test)) (lines_then cases (lines_then default (indented_then braces closing_line))))
   stmt_reads Break around good braces depth at =
       whole braces depth Break refl (indented_then braces (word_line (codes "break") refl))
   stmt_reads Continue around good braces depth at =
@@ -174,30 +174,30 @@ mutual
       whole braces depth (Return value) refl (indented_then braces (return_reads value good))
 
   pub lines_read : (lines : Lines) (around : Around) (labelled : Bool) → LinesRead around labelled lines
-  lines_read no_lines around labelled good braces depth at = behind_rows 0 refl no_line
+  lines_read no_lines around labelled good braces depth at = after_rows 0 refl no_line
   lines_read (line stmt was lines) around labelled good braces depth at =
       let (here, others) = and_parts (nat_le around.blocks 200) (is_writable_stmt around stmt && are_writable_lines around (is_label stmt) lines) good in
       let (first, second) = and_parts (is_writable_stmt around stmt) (are_writable_lines around (is_label stmt) lines) others in
       let own = next_depth depth (line stmt was lines) in
-      let after = depth_behind own (stmt ∷ inner_stmts stmt) in
-      behind_rows _ (lines_rows braces 1 depth (line stmt was lines)).same (lines_then (depth_reads depth own (next_small around labelled depth (line stmt was lines) good)) (lines_then (stmt_reads stmt around first braces own _) (lines_read lines around (is_label stmt) second braces after _)))
+      let after = depth_after own (stmt ∷ inner_stmts stmt) in
+      after_rows _ (lines_rows braces 1 depth (line stmt was lines)).same (lines_then (depth_reads depth own (next_small around labelled depth (line stmt was lines) good)) (lines_then (stmt_reads stmt around first braces own _) (lines_read lines around (is_label stmt) second braces after _)))
 
   pub arms_read : (arms : Arms) (around : Around) → ArmsRead around arms
-  arms_read no_arms around good braces depth at = behind_rows 0 refl no_line
+  arms_read no_arms around good braces depth at = after_rows 0 refl no_line
   arms_read (arm cases body arms) around good braces depth at =
       let (few, own) = and_parts (nat_le around.blocks 200) _ good in
       let (numbers, others) = and_parts (are_cases cases) _ own in
       let (inner, rest) = and_parts (are_writable_lines around false body) (are_writable_arms around arms) others in
       let block = lines_read body around false inner braces depth (at + length cases) in
-      let later = arms_read arms around rest braces (depth_behind depth (stmts_in body)) _ in
-      behind_rows _ (arms_rows braces 1 depth (arm cases body arms)).same (lines_then (cases_read braces at cases (small_cases cases numbers)) (lines_then block (lines_then (indented_then braces (word_line (codes "break") refl)) later)))
+      let later = arms_read arms around rest braces (depth_after depth (stmts_in body)) _ in
+      after_rows _ (arms_rows braces 1 depth (arm cases body arms)).same (lines_then (cases_read braces at cases (small_cases cases numbers)) (lines_then block (lines_then (indented_then braces (word_line (codes "break") refl)) later)))
 
   pub default_reads : (last : Arms) (around : Around) → DefaultReads around last
-  default_reads no_arms around good braces depth at second next = behind_rows 0 refl no_line
+  default_reads no_arms around good braces depth at second next = after_rows 0 refl no_line
   default_reads (arm cases body arms) around good braces depth at second next =
       let (few, own) = and_parts (nat_le around.blocks 200) _ good in
       let (numbers, others) = and_parts (has_no_case cases) _ own in
       let (inner, rest) = and_parts (are_writable_lines around false body) _ others in
       let head = counted_as second next (indented_then braces default_line) in
       let block = lines_read body around false inner braces depth second in
-      behind_rows _ (default_rows braces 1 depth (arm cases body arms)).same (lines_then head (lines_then block (indented_then braces (word_line (codes "break") refl))))
+      after_rows _ (default_rows braces 1 depth (arm cases body arms)).same (lines_then head (lines_then block (indented_then braces (word_line (codes "break") refl))))

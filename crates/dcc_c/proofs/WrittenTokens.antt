@@ -10,9 +10,9 @@ use Rattle.dcc_c.specs.Token.{Decimal, Pragma, plain_number, version_line, stack
 use Rattle.dcc_c.specs.Lexing.{Placed, placed}
 use Rattle.dcc_c.specs.Tree.{Word, Expr, Number, Name, Unary, Binary, Conditional, Cast, Stmt, Assign, Call, If, While, DoWhile, Forever, Switch, Break, Continue, Goto, Label, Empty, Return, Lines, no_lines, line, Arms, no_arms, arm, Global, Variable, Function, Tree}
 use Rattle.dcc_c.specs.Parts.{stmts_in, inner_stmts}
-use Rattle.dcc_c.specs.Placement.{behind_global}
+use Rattle.dcc_c.specs.Placement.{after_global}
 use Rattle.dcc_c.specs.Grammar.{word, mark, type_tokens, unary_mark, binary_mark}
-use Rattle.dcc_c.specs.Written.{suffix_for, is_compound, depth_behind, next_depth, written_depth, written_stmt, written_lines, written_arms, written_default, written_place, written_globals}
+use Rattle.dcc_c.specs.Written.{suffix_for, is_compound, depth_after, next_depth, written_depth, written_stmt, written_lines, written_arms, written_default, written_place, written_globals}
 use Rattle.dcc_c.specs.Numbered.{rows, numbered_function}
 
 -- Expressions.
@@ -96,7 +96,7 @@ abbrev mutual
   stmt_tokens depth at (Call (Some place) function arguments own) rest =
       expr_tokens at place (mark at (codes "=") ∷ call_tokens at function arguments rest)
   stmt_tokens depth at (If e body otherwise) rest =
-      let between = depth_behind depth (stmts_in body) in
+      let between = depth_after depth (stmts_in body) in
       let middle = at + 1 + rows (written_lines 1 depth body) in
       let second = at + 2 + rows (written_lines 1 depth body) in
       let last = second + rows (written_lines 1 between otherwise) in
@@ -115,12 +115,12 @@ abbrev mutual
       word at (codes "for") ∷ mark at (codes "(") ∷ mark at (codes ";") ∷ mark at (codes ";") ∷ mark at (codes ")")
       ∷ mark at (codes "{") ∷ lines_tokens depth (at + 1) body (mark last (codes "}") ∷ rest)
   stmt_tokens depth at (Switch e arms last) rest =
-      let behind = depth_behind depth (inner_stmts (Switch e arms no_arms)) in
+      let following = depth_after depth (inner_stmts (Switch e arms no_arms)) in
       let first = at + 1 + rows (written_arms 1 depth arms) in
       let second = at + 2 + rows (written_arms 1 depth arms) in
-      let end = first + rows (written_default 1 behind last) in
+      let end = first + rows (written_default 1 following last) in
       test_tokens at (codes "switch") e (arms_tokens depth (at + 1) arms
-      (default_tokens behind first second last (mark end (codes "}") ∷ rest)))
+      (default_tokens following first second last (mark end (codes "}") ∷ rest)))
   stmt_tokens depth at Break rest = word at (codes "break") ∷ mark at (codes ";") ∷ rest
   stmt_tokens depth at Continue rest = word at (codes "continue") ∷ mark at (codes ";") ∷ rest
   stmt_tokens depth at (Goto name) rest = word at (codes "goto") ∷ word at name ∷ mark at (codes ";") ∷ rest
@@ -134,9 +134,9 @@ abbrev mutual
   lines_tokens depth at (line stmt was lines) rest =
       let own = next_depth depth (line stmt was lines) in
       let here = at + rows (written_depth depth own) in
-      let behind = here + rows (written_stmt 1 own stmt) in
+      let following = here + rows (written_stmt 1 own stmt) in
       depth_tokens at depth own (stmt_tokens own here stmt
-      (lines_tokens (depth_behind own (stmt ∷ inner_stmts stmt)) behind lines rest))
+      (lines_tokens (depth_after own (stmt ∷ inner_stmts stmt)) following lines rest))
 
   -- arms, the first case of which stands in this line
   pub arms_tokens : ℕ → ℕ → Arms → List Placed → List Placed
@@ -144,10 +144,10 @@ abbrev mutual
   arms_tokens depth at (arm cases body arms) rest =
       let first = at + length cases in
       let leaves = first + rows (written_lines 1 depth body) in
-      let behind = first + rows (written_lines 1 depth body) + 1 in
+      let following = first + rows (written_lines 1 depth body) + 1 in
       cases_tokens at cases (lines_tokens depth first body
       (word leaves (codes "break") ∷ mark leaves (codes ";")
-      ∷ arms_tokens (depth_behind depth (stmts_in body)) behind arms rest))
+      ∷ arms_tokens (depth_after depth (stmts_in body)) following arms rest))
 
   -- the default arm: its word stands in the first line, and its body begins in the second
   pub default_tokens : ℕ → ℕ → ℕ → Arms → List Placed → List Placed
@@ -235,17 +235,17 @@ global_tokens at g rest =
 abbrev pub place_tokens : ℕ → Option ℕ → ℕ → List Placed → List Placed
 place_tokens at None address rest =
     placed at (Pragma place_line) ∷ placed at (Decimal address plain_number) ∷ rest
-place_tokens at (Some behind) address rest =
-    if behind == address then rest
+place_tokens at (Some following) address rest =
+    if following == address then rest
     else placed at (Pragma place_line) ∷ placed at (Decimal address plain_number) ∷ rest
 
 -- global variables, the one before them ending here
 abbrev pub globals_tokens : Option ℕ → ℕ → List Global → List Placed → List Placed
-globals_tokens behind at [] rest = rest
-globals_tokens behind at (g ∷ globals) rest =
-    let here = at + rows (written_place behind g.at) in
-    place_tokens at behind g.at (global_tokens here g
-    (globals_tokens (Some (behind_global g)) (here + 1) globals rest))
+globals_tokens following at [] rest = rest
+globals_tokens following at (g ∷ globals) rest =
+    let here = at + rows (written_place following g.at) in
+    place_tokens at following g.at (global_tokens here g
+    (globals_tokens (Some (after_global g)) (here + 1) globals rest))
 
 -- the tokens of a text in its written form
 abbrev pub tree_tokens : Tree → List Placed

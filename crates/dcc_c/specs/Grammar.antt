@@ -14,7 +14,7 @@ use Rattle.dcc_c.specs.declared.syntax.Class.TheVariants.{Plain, Auto, Register}
 use Rattle.dcc_c.specs.Token.{Token, WordToken, Decimal, Hex, Mark, Pragma, Suffix, plain_number, unsigned_suffix, version_line, stack_line, place_line, depth_line, decimal_type, hex_type, is_word, same_bytes}
 use Rattle.dcc_c.specs.Lexing.{Placed, placed}
 use Rattle.dcc_c.specs.Tree.{Word, Expr, Number, Name, Unary, Binary, Conditional, Cast, Stmt, Assign, Call, If, While, DoWhile, Forever, Switch, Break, Continue, Goto, Label, Empty, Return, Lines, no_lines, line, Arms, no_arms, arm, Global, Variable, Function, Tree}
-use Rattle.dcc_c.specs.Placement.{behind_global}
+use Rattle.dcc_c.specs.Placement.{after_global}
 
 -- a word and a mark in a line
 abbrev pub word : ℕ → Word → Placed
@@ -370,12 +370,12 @@ pub data AreInitial : List Placed → List ℕ → List Placed → Type 0 where
 pub record IsGlobal (tokens : List Placed) (g : Global) (rest : List Placed) : Type 0 where
   pub name_at : ℕ
   pub end_at : ℕ
-  pub behind_name : List Placed
-  pub behind_size : List Placed
-  pub type_is : Begins tokens (type_tokens g.type) (word name_at g.name ∷ behind_name)
+  pub after_name : List Placed
+  pub after_size : List Placed
+  pub type_is : Begins tokens (type_tokens g.type) (word name_at g.name ∷ after_name)
   pub name_is : is_name g.name ≡ true
-  pub len_is : HasSize behind_name g.len behind_size
-  pub init_is : AreInitial behind_size g.init (mark end_at (codes ";") ∷ rest)
+  pub len_is : HasSize after_name g.len after_size
+  pub init_is : AreInitial after_size g.init (mark end_at (codes ";") ∷ rest)
 
 -- The tokens begin with global variables. Each stands at the address of the line before it, or where the one before it
 -- ends; before the first such line none stands.
@@ -386,7 +386,7 @@ pub data AreGlobals : Option ℕ → List Placed → List Global → List Placed
       AreGlobals place (placed at (Pragma place_line) ∷ placed at (Decimal n plain_number) ∷ tokens)
       globals rest
   one_global : {tokens others rest : List Placed} {g : Global} {globals : List Global} →
-      IsGlobal tokens g others → AreGlobals (Some (behind_global g)) others globals rest →
+      IsGlobal tokens g others → AreGlobals (Some (after_global g)) others globals rest →
       AreGlobals (Some g.at) tokens (g ∷ globals) rest
 
 -- the tokens begin with the word for a class, or with none
@@ -431,11 +431,11 @@ pub record IsLocal (tokens : List Placed) (v : Variable) (rest : List Placed) : 
   pub end_at : ℕ
   pub spelled : Class
   pub typed : List Placed
-  pub behind_name : List Placed
+  pub after_name : List Placed
   pub class_is : HasClass tokens spelled typed
-  pub type_is : Begins typed (type_tokens v.type) (word name_at v.name ∷ behind_name)
+  pub type_is : Begins typed (type_tokens v.type) (word name_at v.name ∷ after_name)
   pub name_is : is_name v.name ≡ true
-  pub len_is : HasSize behind_name v.len (mark end_at (codes ";") ∷ rest)
+  pub len_is : HasSize after_name v.len (mark end_at (codes ";") ∷ rest)
   pub stored_is : IsLocalClass spelled v.len v.class
 
 -- the tokens begin with declarations of local variables

@@ -44,13 +44,13 @@ earlier None o = Some o
 earlier (Some first) o = if is_before o first then Some o else Some first
 
 -- the first of some offences and one before
-abbrev pub first_behind : Option Offence → List Offence → Option Offence
-first_behind first [] = first
-first_behind first (o ∷ offences) = first_behind (earlier first o) offences
+abbrev pub first_after : Option Offence → List Offence → Option Offence
+first_after first [] = first
+first_after first (o ∷ offences) = first_after (earlier first o) offences
 
 -- the first of some offences
 abbrev pub first_of : List Offence → Option Offence
-first_of offences = first_behind None offences
+first_of offences = first_after None offences
 
 -- the offence, where the test holds
 abbrev pub only_if : Bool → Offence → List Offence

@@ -2,7 +2,7 @@
 use Rattle.std.specs.Prelude.{ℕ, suc, ◌+◌, ◌==◌, if◌then◌else◌, List, [], ◌∷◌, length, None}
 use Rattle.dcc_c.specs.Tree.{Word, Stmt, If, While, DoWhile, Forever, Switch, Lines, no_lines, line, Arms, no_arms, arm, Function, Tree}
 use Rattle.dcc_c.specs.Parts.{stmts_in, inner_stmts}
-use Rattle.dcc_c.specs.Written.{depth_behind, next_depth, written_depth, written_stmt, written_lines, written_arms, written_globals}
+use Rattle.dcc_c.specs.Written.{depth_after, next_depth, written_depth, written_stmt, written_lines, written_arms, written_globals}
 
 -- how many lines the bytes are
 abbrev pub rows : Word → ℕ
@@ -16,23 +16,23 @@ abbrev mutual
   numbered_lines depth at (line stmt was lines) =
       let own = next_depth depth (line stmt was lines) in
       let here = at + rows (written_depth depth own) in
-      let behind = here + rows (written_stmt 1 own stmt) in
+      let following = here + rows (written_stmt 1 own stmt) in
       line (numbered_stmt own here stmt) here
-      (numbered_lines (depth_behind own (stmt ∷ inner_stmts stmt)) behind lines)
+      (numbered_lines (depth_after own (stmt ∷ inner_stmts stmt)) following lines)
 
   -- the statements inside a statement in this line
   pub numbered_stmt : ℕ → ℕ → Stmt → Stmt
   numbered_stmt depth at (If e body otherwise) =
       let second = at + 2 + rows (written_lines 1 depth body) in
       If e (numbered_lines depth (at + 1) body)
-      (numbered_lines (depth_behind depth (stmts_in body)) second otherwise)
+      (numbered_lines (depth_after depth (stmts_in body)) second otherwise)
   numbered_stmt depth at (While e body) = While e (numbered_lines depth (at + 1) body)
   numbered_stmt depth at (DoWhile body e) = DoWhile (numbered_lines depth (at + 1) body) e
   numbered_stmt depth at (Forever body) = Forever (numbered_lines depth (at + 1) body)
   numbered_stmt depth at (Switch e arms last) =
-      let behind = depth_behind depth (inner_stmts (Switch e arms no_arms)) in
+      let following = depth_after depth (inner_stmts (Switch e arms no_arms)) in
       let second = at + 2 + rows (written_arms 1 depth arms) in
-      Switch e (numbered_arms depth (at + 1) arms) (numbered_default behind second last)
+      Switch e (numbered_arms depth (at + 1) arms) (numbered_default following second last)
   numbered_stmt depth at stmt = stmt
 
   -- arms, the first case of which stands in this line
@@ -40,9 +40,9 @@ abbrev mutual
   numbered_arms depth at no_arms = no_arms
   numbered_arms depth at (arm cases body arms) =
       let first = at + length cases in
-      let behind = first + rows (written_lines 1 depth body) + 1 in
+      let following = first + rows (written_lines 1 depth body) + 1 in
       arm cases (numbered_lines depth first body)
-      (numbered_arms (depth_behind depth (stmts_in body)) behind arms)
+      (numbered_arms (depth_after depth (stmts_in body)) following arms)
 
   -- the default arm, whose body begins in this line
   pub numbered_default : ℕ → ℕ → Arms → Arms

@@ -21,8 +21,8 @@ abbrev pub bytes_of : CType → Option ℕ → ℕ
 bytes_of type len = size_of type * elements len
 
 -- the address above a global variable, where the next one stands
-abbrev pub behind_global : Global → ℕ
-behind_global g = g.at + bytes_of g.type g.len
+abbrev pub after_global : Global → ℕ
+after_global g = g.at + bytes_of g.type g.len
 
 -- the base of the first call, that of `start`: two bytes above the stack
 abbrev pub first_base : ℕ → ℕ

@@ -29,10 +29,10 @@ pub record Reader : Type 0 where
 -- what was read, and the reader after it
 pub record Got (A : Type 0) : Type 0 where
   pub value : A
-  pub behind : Reader
+  pub following : Reader
 
 abbrev pub got : {A : Type 0} → A → Reader → Got A
-got value r = record { value = value; behind = r }
+got value r = record { value = value; following = r }
 
 abbrev pub is_stopped : Reader → Bool
 is_stopped r = is_some r.stop
@@ -130,24 +130,24 @@ begins_type token =
     || (is_the_word (codes "int") token || is_the_word (codes "long") token)
 
 -- the base, after its last word
-abbrev pub base_behind : Base → Reader → Got (Option Base)
-base_behind base r = got (Some base) (skip r)
+abbrev pub base_following : Base → Reader → Got (Option Base)
+base_following base r = got (Some base) (skip r)
 
 -- the word after `unsigned`
 abbrev pub unsigned_base : Reader → Got (Option Base)
 unsigned_base r =
-    if sees_word (codes "char") r then base_behind Uchar r
-    else if sees_word (codes "int") r then base_behind Uint r
-    else if sees_word (codes "long") r then base_behind Ulong r
+    if sees_word (codes "char") r then base_following Uchar r
+    else if sees_word (codes "int") r then base_following Uint r
+    else if sees_word (codes "long") r then base_following Ulong r
     else got None (fail r)
 
 abbrev pub signed_base : Reader → Got (Option Base)
-signed_base r = if sees_word (codes "char") r then base_behind Schar r else got None (fail r)
+signed_base r = if sees_word (codes "char") r then base_following Schar r else got None (fail r)
 
 abbrev pub take_base : Reader → Got (Option Base)
 take_base r =
-    if sees_word (codes "int") r then base_behind Int r
-    else if sees_word (codes "long") r then base_behind Long r
+    if sees_word (codes "int") r then base_following Int r
+    else if sees_word (codes "long") r then base_following Long r
     else if sees_word (codes "signed") r then signed_base (skip r)
     else if sees_word (codes "unsigned") r then unsigned_base (skip r)
     else got None (fail r)
@@ -162,7 +162,7 @@ with_star base r =
 abbrev pub take_type : Reader → Got (Option CType)
 take_type r =
     let base = take_base r in
-    elim base.value [ Some b ↦ with_star b base.behind | None ↦ got None base.behind ]
+    elim base.value [ Some b ↦ with_star b base.following | None ↦ got None base.following ]
 
 -- Operators.
 
@@ -249,24 +249,24 @@ read_leaf r = elim (number_of (next_token r)) [
 
 -- the expression in parentheses, with the closing one after it
 abbrev pub closed : Got PartialExpr → Got PartialExpr
-closed inner = got inner.value (take_mark (codes ")") inner.behind)
+closed inner = got inner.value (take_mark (codes ")") inner.following)
 
 -- the cast of an operand, and the unary operator on one, at their places
 abbrev pub cast_of : ℕ → CType → Got PartialExpr → Got PartialExpr
-cast_of at type a = got (CastHere at type a.value) a.behind
+cast_of at type a = got (CastHere at type a.value) a.following
 
 abbrev pub unary_at : ℕ → CUn → Got PartialExpr → Got PartialExpr
-unary_at at operator a = got (UnaryHere at operator a.value) a.behind
+unary_at at operator a = got (UnaryHere at operator a.value) a.following
 
 -- two operands and their operator
 abbrev pub joined : Inside → CBin → PartialExpr → Got PartialExpr → Got PartialExpr
 joined inside operator a b =
-    let whole = BinaryOf operator a b.value in got whole (stop_if_deep inside whole b.behind)
+    let whole = BinaryOf operator a b.value in got whole (stop_if_deep inside whole b.following)
 
 -- a conditional
 abbrev pub chosen : Inside → PartialExpr → PartialExpr → Got PartialExpr → Got PartialExpr
 chosen inside test first second =
-    let whole = ConditionalOf test first second.value in got whole (stop_if_deep inside whole second.behind)
+    let whole = ConditionalOf test first second.value in got whole (stop_if_deep inside whole second.following)
 
 abbrev mutual
   -- a unary part, which must stand here
@@ -289,10 +289,10 @@ abbrev mutual
 
   -- the rest of a cast after its type
   pub read_cast : ℕ → Inside → ℕ → Got (Option CType) → Got PartialExpr
-  read_cast zero inside at type = got Missing type.behind
+  read_cast zero inside at type = got Missing type.following
   read_cast (suc calls) inside at type = elim type.value [
-    | Some of ↦ cast_of at of (read_unary calls (in_operator inside) (take_mark (codes ")") type.behind))
-    | None ↦ got Missing type.behind
+    | Some of ↦ cast_of at of (read_unary calls (in_operator inside) (take_mark (codes ")") type.following))
+    | None ↦ got Missing type.following
   ]
 
   -- operands that are joined by binary operators of at least this strength
@@ -303,11 +303,11 @@ abbrev mutual
   -- the same after the first operand
   pub read_more : ℕ → Inside → ℕ → Got PartialExpr → Got PartialExpr
   read_more zero inside weakest left = left
-  read_more (suc calls) inside weakest left = elim (binary_of (next_token left.behind)) [
+  read_more (suc calls) inside weakest left = elim (binary_of (next_token left.following)) [
     | Some operator ↦ if nat_le weakest (strength operator)
         then read_more calls inside weakest
         (joined inside operator left.value
-        (read_binary calls (in_operator inside) (suc (strength operator)) (skip left.behind)))
+        (read_binary calls (in_operator inside) (suc (strength operator)) (skip left.following)))
         else left
     | None ↦ left
   ]
@@ -321,8 +321,8 @@ abbrev mutual
   pub read_rest : ℕ → Inside → Got PartialExpr → Got PartialExpr
   read_rest zero inside test = test
   read_rest (suc calls) inside test =
-      if sees_mark (codes "?") test.behind then (
-      let first = read_expr calls (in_operator inside) (skip test.behind) in
-      let second = read_expr calls (in_operator inside) (take_mark (codes ":") first.behind) in
+      if sees_mark (codes "?") test.following then (
+      let first = read_expr calls (in_operator inside) (skip test.following) in
+      let second = read_expr calls (in_operator inside) (take_mark (codes ":") first.following) in
       chosen inside test.value first.value second
       ) else test

@@ -25,7 +25,7 @@ read_enclosed calls r = read_expr calls (whole 1 r) r
 -- an expression in parentheses
 abbrev pub read_test : ℕ → Reader → Got PartialExpr
 read_test calls r =
-    let e = read_enclosed calls (take_mark (codes "(") r) in got e.value (take_mark (codes ")") e.behind)
+    let e = read_enclosed calls (take_mark (codes "(") r) in got e.value (take_mark (codes ")") e.following)
 
 -- Pragmas.
 
@@ -53,7 +53,7 @@ set_depth (Some n) r = record r { depth = n.value }
 set_depth None r = r
 
 abbrev pub read_depth : Reader → Reader
-read_depth r = let n = take_number_of_line (line_of r.left) (skip r) in set_depth n.value n.behind
+read_depth r = let n = take_number_of_line (line_of r.left) (skip r) in set_depth n.value n.following
 
 -- Calls and assignments.
 
@@ -67,8 +67,8 @@ more_arguments zero r = got [] r
 more_arguments (suc calls) r =
     if sees_mark (codes ",") r then (
     let first = read_enclosed calls (skip r) in
-    let others = more_arguments calls first.behind in
-    got (first.value ∷ others.value) others.behind
+    let others = more_arguments calls first.following in
+    got (first.value ∷ others.value) others.following
     ) else got [] r
 
 abbrev pub read_arguments : ℕ → Reader → Got (List PartialExpr)
@@ -76,15 +76,15 @@ read_arguments calls r =
     if sees_mark (codes ")") r then got [] r
     else (
     let first = read_enclosed calls r in
-    let others = more_arguments calls first.behind in
-    got (first.value ∷ others.value) others.behind
+    let others = more_arguments calls first.following in
+    got (first.value ∷ others.value) others.following
     )
 
 -- the call, after its name
 abbrev pub call_of : ℕ → Option PartialExpr → WordAt → Reader → Got PartialStmt
 call_of calls place function r =
     let arguments = read_arguments calls (skip r) in
-    let end = take_mark (codes ")") arguments.behind in
+    let end = take_mark (codes ")") arguments.following in
     got (CallOf place (record {
       function = function;
       arguments = arguments.value;
@@ -97,7 +97,7 @@ call_of calls place function r =
 abbrev pub read_call : ℕ → Option PartialExpr → Reader → Got PartialStmt
 read_call calls place r =
     let name = take_name r in
-    elim name.value [ Some function ↦ call_of calls place function name.behind | None ↦ got EmptyOf name.behind ]
+    elim name.value [ Some function ↦ call_of calls place function name.following | None ↦ got EmptyOf name.following ]
 
 -- a place: a name, or a star with an operand
 abbrev pub read_place : ℕ → Reader → Got PartialExpr
@@ -105,22 +105,22 @@ read_place calls r = elim (name_of (next_token r)) [
   | Some word ↦ name_here word r
   | None ↦
       let a = read_unary calls (in_operator (whole 0 r)) (take_mark (codes "*") r) in
-      got (UnaryHere r.at Deref a.value) a.behind
+      got (UnaryHere r.at Deref a.value) a.following
 ]
 
 -- the value of an assignment, after its `=`
 abbrev pub assignment_of : ℕ → PartialExpr → Reader → Got PartialStmt
 assignment_of calls place r =
     let e = read_value calls r in
-    let end = take_mark (codes ";") e.behind in
+    let end = take_mark (codes ";") e.following in
     got (AssignOf place (Some e.value) (not (is_stopped end))) end
 
 -- what takes a value at a place
 abbrev pub read_assigned : ℕ → Got PartialExpr → Got PartialStmt
 read_assigned calls place =
-    if not (sees_mark (codes "=") place.behind) then got (AssignOf place.value None false) (fail place.behind)
-    else if begins_call (skip place.behind) then read_call calls (Some place.value) (skip place.behind)
-    else assignment_of calls place.value (skip place.behind)
+    if not (sees_mark (codes "=") place.following) then got (AssignOf place.value None false) (fail place.following)
+    else if begins_call (skip place.following) then read_call calls (Some place.value) (skip place.following)
+    else assignment_of calls place.value (skip place.following)
 
 -- an assignment or a call
 abbrev pub read_simple : ℕ → Reader → Got PartialStmt
@@ -133,14 +133,14 @@ abbrev pub read_leave : Bool → PartialStmt → Reader → Got PartialStmt
 read_leave inside stmt r = got stmt (take_mark (codes ";") (if inside then skip r else fail r))
 
 abbrev pub read_goto : Reader → Got PartialStmt
-read_goto r = let name = take_name (skip r) in got (GotoOf name.value) (take_mark (codes ";") name.behind)
+read_goto r = let name = take_name (skip r) in got (GotoOf name.value) (take_mark (codes ";") name.following)
 
 abbrev pub read_return : ℕ → Reader → Got PartialStmt
 read_return calls r =
     if sees_mark (codes ";") (skip r) then got (ReturnOf None true) (skip (skip r))
     else (
     let e = read_value calls (skip r) in
-    let end = take_mark (codes ";") e.behind in
+    let end = take_mark (codes ";") e.following in
     got (ReturnOf (Some e.value) (not (is_stopped end))) end
     )
 
@@ -173,8 +173,8 @@ read_cases zero r = got [] r
 read_cases (suc calls) r =
     if sees_word (codes "case") r then (
     let first = read_case r in
-    let others = read_cases calls first.behind in
-    got (first.value ++ others.value) others.behind
+    let others = read_cases calls first.following in
+    got (first.value ++ others.value) others.following
     ) else got [] r
 
 -- what an arm begins with: cases, or the place of `default`
@@ -186,7 +186,7 @@ abbrev pub read_arm_head : ℕ → Reader → Got ArmHead
 read_arm_head calls r =
     if sees_word (codes "default") r
     then got (record { numbers = []; default = Some r.at }) (take_mark (codes ":") (skip r))
-    else (let found = read_cases calls r in got (record { numbers = found.value; default = None }) found.behind)
+    else (let found = read_cases calls r in got (record { numbers = found.value; default = None }) found.following)
 
 abbrev pub begins_arm : Reader → Bool
 begins_arm r = sees_word (codes "case") r || sees_word (codes "default") r
@@ -240,7 +240,7 @@ is_break stmt = false
 -- the statement before the others
 abbrev pub before_others : PartialStmt → ℕ → ℕ → Got Block → Got Block
 before_others stmt at line others =
-    got (block_of (row stmt at line others.value.lines) others.value.leaves) others.behind
+    got (block_of (row stmt at line others.value.lines) others.value.leaves) others.following
 
 -- all statements but the last
 abbrev pub without_last : PartialLines → PartialLines
@@ -252,28 +252,28 @@ without_last (row stmt at line (row next place number rest)) =
 -- the body of an arm, whose last statement must be a `break`
 abbrev pub end_arm : Got Block → Got PartialLines
 end_arm body =
-    if is_stopped body.behind then got body.value.lines body.behind
-    else if body.value.leaves then got (without_last body.value.lines) body.behind
-    else got body.value.lines (fail body.behind)
+    if is_stopped body.following then got body.value.lines body.following
+    else if body.value.leaves then got (without_last body.value.lines) body.following
+    else got body.value.lines (fail body.following)
 
 -- the closing brace
 abbrev pub end_block : Got Block → Got PartialLines
-end_block body = got body.value.lines (take_mark (codes "}") body.behind)
+end_block body = got body.value.lines (take_mark (codes "}") body.following)
 
 -- a test with its parenthesis, and a body
 abbrev pub while_of : Got PartialExpr → Got PartialLines → Got PartialStmt
-while_of test body = got (WhileOf test.value (not (is_stopped test.behind)) body.value) body.behind
+while_of test body = got (WhileOf test.value (not (is_stopped test.following)) body.value) body.following
 
 abbrev pub if_of : Got PartialExpr → PartialLines → Got PartialLines → Got PartialStmt
-if_of test body otherwise = got (IfOf test.value (not (is_stopped test.behind)) body otherwise.value) otherwise.behind
+if_of test body otherwise = got (IfOf test.value (not (is_stopped test.following)) body otherwise.value) otherwise.following
 
 abbrev pub do_while_of : Got PartialLines → Got PartialExpr → Got PartialStmt
 do_while_of body test =
-    got (DoWhileOf body.value test.value (not (is_stopped test.behind))) (take_mark (codes ";") test.behind)
+    got (DoWhileOf body.value test.value (not (is_stopped test.following))) (take_mark (codes ";") test.following)
 
 abbrev pub switch_of : Got PartialExpr → Got PartialArms → Got PartialStmt
 switch_of test arms =
-    got (SwitchOf test.value (not (is_stopped test.behind)) arms.value) (take_mark (codes "}") arms.behind)
+    got (SwitchOf test.value (not (is_stopped test.following)) arms.value) (take_mark (codes "}") arms.following)
 
 abbrev mutual
   -- a statement that is no label, which begins here
@@ -283,20 +283,20 @@ abbrev mutual
       if sees_word (codes "if") r then read_if calls around (read_test calls (skip r))
       else if sees_word (codes "while") r then (
       let test = read_test calls (skip r) in
-      while_of test (read_block calls (in_loop around) test.behind)
+      while_of test (read_block calls (in_loop around) test.following)
       )
       else if sees_word (codes "do") r then (
       let body = read_block calls (in_loop around) (skip r) in
-      do_while_of body (read_test calls (take_word (codes "while") body.behind))
+      do_while_of body (read_test calls (take_word (codes "while") body.following))
       )
       else if sees_word (codes "for") r then (
       let body = read_block calls (in_loop around)
       (take_mark (codes ")") (take_mark (codes ";") (take_mark (codes ";") (take_mark (codes "(") (skip r))))) in
-      got (ForeverOf body.value) body.behind
+      got (ForeverOf body.value) body.following
       )
       else if sees_word (codes "switch") r then (
       let test = read_test calls (skip r) in
-      switch_of test (read_arms calls (in_switch around) (take_mark (codes "{") test.behind))
+      switch_of test (read_arms calls (in_switch around) (take_mark (codes "{") test.following))
       )
       else if sees_word (codes "break") r then read_leave around.breaks BreakOf r
       else if sees_word (codes "continue") r then read_leave around.continues ContinueOf r
@@ -307,12 +307,12 @@ abbrev mutual
 
   -- the blocks of an `if` after its test
   pub read_if : ℕ → Around → Got PartialExpr → Got PartialStmt
-  read_if zero around test = got EmptyOf test.behind
+  read_if zero around test = got EmptyOf test.following
   read_if (suc calls) around test =
-      let body = read_block calls (in_block around) test.behind in
-      if sees_word (codes "else") body.behind
-      then if_of test body.value (read_block calls (in_block around) (skip body.behind))
-      else if_of test body.value (got no_rows body.behind)
+      let body = read_block calls (in_block around) test.following in
+      if sees_word (codes "else") body.following
+      then if_of test body.value (read_block calls (in_block around) (skip body.following))
+      else if_of test body.value (got no_rows body.following)
 
   -- a block, which must stand here
   pub read_block : ℕ → Around → Reader → Got PartialLines
@@ -341,15 +341,15 @@ abbrev mutual
       let name = take_name r in
       elim name.value [
         | Some word ↦ before_others (LabelOf word) r.at (line_of r.left)
-            (read_lines calls around true false (stop_if_nested around r.at (skip name.behind)))
-        | None ↦ got (block_of no_rows false) name.behind
+            (read_lines calls around true false (stop_if_nested around r.at (skip name.following)))
+        | None ↦ got (block_of no_rows false) name.following
       ])
       else if is_nested around && is_block_word (next_token r) then
       got (block_of no_rows false) (stop_at of_depth r.at r)
       else (
       let stmt = read_stmt calls around r in
       before_others stmt.value r.at (line_of r.left)
-      (read_lines calls around false (is_break stmt.value && not labelled) (stop_if_nested around r.at stmt.behind))
+      (read_lines calls around false (is_break stmt.value && not labelled) (stop_if_nested around r.at stmt.following))
       )
 
   -- the arms of a `switch`, of which there must be one
@@ -363,9 +363,9 @@ abbrev mutual
   read_more_arms (suc calls) around r =
       if begins_arm r then (
       let head = read_arm_head calls r in
-      let body = end_arm (read_lines calls around false false head.behind) in
-      let others = read_more_arms calls around body.behind in
-      got (cases head.value.numbers head.value.default body.value others.value) others.behind
+      let body = end_arm (read_lines calls around false false head.following) in
+      let others = read_more_arms calls around body.following in
+      got (cases head.value.numbers head.value.default body.value others.value) others.following
       ) else got no_cases r
 
 -- Declarations.
@@ -374,7 +374,7 @@ abbrev mutual
 abbrev pub read_size : Reader → Got (Option NumberAt)
 read_size r =
     if sees_mark (codes "[") r
-    then (let n = take_plain (skip r) in got n.value (take_mark (codes "]") n.behind)) else got None r
+    then (let n = take_plain (skip r) in got n.value (take_mark (codes "]") n.following)) else got None r
 
 -- the numbers that were read
 abbrev pub list_of : Option NumberAt → List NumberAt
@@ -387,8 +387,8 @@ more_values zero r = got [] r
 more_values (suc calls) r =
     if sees_mark (codes ",") r then (
     let first = take_plain (skip r) in
-    let others = more_values calls first.behind in
-    got (list_of first.value ++ others.value) others.behind
+    let others = more_values calls first.following in
+    got (list_of first.value ++ others.value) others.following
     ) else got [] r
 
 -- initial values in braces, or one without
@@ -396,9 +396,9 @@ abbrev pub read_values : ℕ → Reader → Got (List NumberAt)
 read_values calls r =
     if sees_mark (codes "{") r then (
     let first = take_plain (skip r) in
-    let others = more_values calls first.behind in
-    got (list_of first.value ++ others.value) (take_mark (codes "}") others.behind)
-    ) else (let n = take_plain r in got (list_of n.value) n.behind)
+    let others = more_values calls first.following in
+    got (list_of first.value ++ others.value) (take_mark (codes "}") others.following)
+    ) else (let n = take_plain r in got (list_of n.value) n.following)
 
 abbrev pub read_init : ℕ → Reader → Got (List NumberAt)
 read_init calls r = if sees_mark (codes "=") r then read_values calls (skip r) else got [] r
@@ -413,9 +413,9 @@ abbrev pub read_local : Reader → Got PartialVariable
 read_local r =
     let class : Class = if sees_word (codes "auto") r then Auto else Plain in
     let type = take_type (if sees_word (codes "auto") r then skip r else r) in
-    let name = take_name type.behind in
-    let size = read_size name.behind in
-    let end = take_mark (codes ";") size.behind in
+    let name = take_name type.following in
+    let size = read_size name.following in
+    let end = take_mark (codes ";") size.following in
     got (record {
       name = name.value;
       type = type.value;
@@ -432,8 +432,8 @@ read_locals zero r = got [] r
 read_locals (suc calls) r =
     if sees_word (codes "auto") r || begins_type (next_token r) then (
     let first = read_local r in
-    let others = read_locals calls first.behind in
-    got (first.value ∷ others.value) others.behind
+    let others = read_locals calls first.following in
+    got (first.value ∷ others.value) others.following
     ) else got [] r
 
 -- the word for the class of a parameter, or none
@@ -447,8 +447,8 @@ read_class r =
 abbrev pub read_param : Reader → Got PartialVariable
 read_param r =
     let class = read_class r in
-    let type = take_type class.behind in
-    let name = take_name type.behind in
+    let type = take_type class.following in
+    let name = take_name type.following in
     got (record {
       name = name.value;
       type = type.value;
@@ -456,8 +456,8 @@ read_param r =
       size = None;
       init = [];
       address = 0;
-      done = not (is_stopped name.behind);
-    }) name.behind
+      done = not (is_stopped name.following);
+    }) name.following
 
 -- parameters after the first one, with commas between them
 abbrev pub more_params : ℕ → Reader → Got (List PartialVariable)
@@ -465,8 +465,8 @@ more_params zero r = got [] r
 more_params (suc calls) r =
     if sees_mark (codes ",") r then (
     let first = read_param (skip r) in
-    let others = more_params calls first.behind in
-    got (first.value ∷ others.value) others.behind
+    let others = more_params calls first.following in
+    got (first.value ∷ others.value) others.following
     ) else got [] r
 
 -- a function's parameters; `void` stands for none
@@ -475,6 +475,6 @@ read_params calls r =
     if sees_word (codes "void") r then got [] (skip r)
     else (
     let first = read_param r in
-    let others = more_params calls first.behind in
-    got (first.value ∷ others.value) others.behind
+    let others = more_params calls first.following in
+    got (first.value ∷ others.value) others.following
     )

@@ -21,18 +21,18 @@ pub record Begun : Type 0 where
 
 abbrev pub begun_by : ℕ → Bool → Option CType → Got (Option WordAt) → Got Begun
 begun_by at has_result result name =
-    got (record { at = at; has_result = has_result; result = result; name = name.value }) name.behind
+    got (record { at = at; has_result = has_result; result = result; name = name.value }) name.following
 
 -- a type or `void`, and a name
 abbrev pub read_begun : Reader → Got Begun
 read_begun r =
     if sees_word (codes "void") r then begun_by r.at false None (take_name (skip r))
-    else (let type = take_type r in begun_by r.at (begins_type (next_token r)) type.value (take_name type.behind))
+    else (let type = take_type r in begun_by r.at (begins_type (next_token r)) type.value (take_name type.following))
 
 -- the head of a function with these parameters, where the first of them begins at this reader
 abbrev pub head_with : Got Begun → Reader → Got (List PartialVariable) → Got PartialFunction
 head_with begun inside params =
-    let end = take_mark (codes ")") params.behind in
+    let end = take_mark (codes ")") params.following in
     got (record {
       at = begun.value.at;
       has_result = begun.value.has_result;
@@ -50,7 +50,7 @@ head_with begun inside params =
 -- the head of a function after its name: the parameters in parentheses
 abbrev pub read_head : ℕ → Got Begun → Got PartialFunction
 read_head calls begun =
-    let inside = take_mark (codes "(") begun.behind in
+    let inside = take_mark (codes "(") begun.following in
     head_with begun inside (read_params calls inside)
 
 -- Calls have depth 2 at the beginning of a function.
@@ -60,10 +60,10 @@ with_first_depth r = record r { depth = 2 }
 -- a function after its head
 abbrev pub read_body : ℕ → Got PartialFunction → Got PartialFunction
 read_body calls head =
-    let locals = read_locals calls (take_mark (codes "{") (with_first_depth head.behind)) in
-    let body = read_lines calls outermost false false locals.behind in
-    got (record head.value { locals = locals.value; body = body.value.lines; last = line_of body.behind.left })
-    (take_mark (codes "}") body.behind)
+    let locals = read_locals calls (take_mark (codes "{") (with_first_depth head.following)) in
+    let body = read_lines calls outermost false false locals.following in
+    got (record head.value { locals = locals.value; body = body.value.lines; last = line_of body.following.left })
+    (take_mark (codes "}") body.following)
 
 abbrev pub read_function : ℕ → Got Begun → Got PartialFunction
 read_function calls begun = read_body calls (read_head calls begun)
@@ -75,25 +75,25 @@ read_functions (suc calls) r =
     if is_stopped r || (length r.left == 0) then got [] r
     else (
     let first = read_function calls (read_begun r) in
-    let others = read_functions calls first.behind in
-    got (first.value ∷ others.value) others.behind
+    let others = read_functions calls first.following in
+    got (first.value ∷ others.value) others.following
     )
 
 -- the functions, the first of which has begun
 abbrev pub with_functions : ℕ → Got Begun → Got (List PartialFunction)
 with_functions calls begun =
     let first = read_function calls begun in
-    let others = read_functions calls first.behind in
-    got (first.value ∷ others.value) others.behind
+    let others = read_functions calls first.following in
+    got (first.value ∷ others.value) others.following
 
 -- Global variables.
 
 -- the rest of a global variable after its name, at an address
 abbrev pub read_global : ℕ → ℕ → Got Begun → Got PartialVariable
 read_global calls address begun =
-    let size = read_size begun.behind in
-    let init = read_init calls size.behind in
-    let end = take_mark (codes ";") init.behind in
+    let size = read_size begun.following in
+    let init = read_init calls size.following in
+    let end = take_mark (codes ";") init.following in
     got (record {
       name = begun.value.name;
       type = begun.value.result;
@@ -119,11 +119,11 @@ pub record Declared : Type 0 where
   pub functions : List PartialFunction
 
 abbrev pub declared : List PartialVariable → Got (List PartialFunction) → Got Declared
-declared globals functions = got (record { globals = globals; functions = functions.value }) functions.behind
+declared globals functions = got (record { globals = globals; functions = functions.value }) functions.following
 
 abbrev pub before_declared : PartialVariable → Got Declared → Got Declared
 before_declared v others =
-    got (record { globals = v ∷ others.value.globals; functions = others.value.functions }) others.behind
+    got (record { globals = v ∷ others.value.globals; functions = others.value.functions }) others.following
 
 -- Place lines, and variables after each, up to a function. The next variable after a place line has an address.
 abbrev pub read_declared : ℕ → Option ℕ → Reader → Got Declared
@@ -131,15 +131,15 @@ read_declared zero address r = declared [] (got [] r)
 read_declared (suc calls) address r =
     if sees_head place_line r then (
     let n = take_number_of_line (line_of r.left) (skip r) in
-    read_declared calls (Some (address_of n.value)) n.behind
+    read_declared calls (Some (address_of n.value)) n.following
     )
     else (
     let begun = read_begun r in
     elim address [
-      | Some here ↦ if begun.value.has_result && not (sees_mark (codes "(") begun.behind)
+      | Some here ↦ if begun.value.has_result && not (sees_mark (codes "(") begun.following)
           then (
           let v = read_global calls here begun in
-          before_declared v.value (read_declared calls (Some (here + size_in_bytes v.value)) v.behind)
+          before_declared v.value (read_declared calls (Some (here + size_in_bytes v.value)) v.following)
           )
           else declared [] (with_functions calls begun)
       | None ↦ declared [] (with_functions calls begun)
@@ -149,10 +149,10 @@ read_declared (suc calls) address r =
 abbrev pub read_text : ℕ → Reader → Got PartialText
 read_text calls r =
     let lo = take_number_of_line (line_of r.left) (take_head stack_line r) in
-    let hi = take_number_of_line (line_of r.left) lo.behind in
-    let others = read_declared calls None hi.behind in
+    let hi = take_number_of_line (line_of r.left) lo.following in
+    let others = read_declared calls None hi.following in
     got (record { lo = lo.value; hi = hi.value; globals = others.value.globals; functions = others.value.functions })
-    others.behind
+    others.following
 
 -- a reader at the first of some pieces
 abbrev pub reader_of : List Piece → Reader

@@ -10,7 +10,7 @@ use Rattle.dcc_c.specs.Types.{promoted_type, same_type}
 use Rattle.dcc_c.specs.Tree.{Word, Expr, Number, Name, Unary, Binary, Conditional, Cast, Stmt, Assign, Call, If, While, DoWhile, Switch, Goto, Return, Lines, Arms, no_arms, arm, Global, Variable, Function, Tree}
 use Rattle.dcc_c.specs.Parts.{stmts_in, exprs_of, labels_in}
 use Rattle.dcc_c.specs.Typing.{Declared, type_of, place_type}
-use Rattle.dcc_c.specs.Placement.{elements, behind_global, is_auto, is_register}
+use Rattle.dcc_c.specs.Placement.{elements, after_global, is_auto, is_register}
 use Rattle.dcc_c.specs.Dos.{dos_names, dos_of, dos_signature, Signature}
 use Rattle.dcc_c.specs.Run.{function_in, param_types}
 use Rattle.dcc_c.specs.Grammar.{is_among}
@@ -180,10 +180,10 @@ has_element (Some len) = nat_lt 0 len
 -- a global variable ends within memory, and has no more initial values than elements
 abbrev pub allows_global : Global → Bool
 allows_global g =
-    has_element g.len && (nat_le (behind_global g) 65536 && nat_le (length g.init) (elements g.len))
+    has_element g.len && (nat_le (after_global g) 65536 && nat_le (length g.init) (elements g.len))
 
 abbrev pub are_apart : Global → Global → Bool
-are_apart a b = nat_le (behind_global a) b.at || nat_le (behind_global b) a.at
+are_apart a b = nat_le (after_global a) b.at || nat_le (after_global b) a.at
 
 -- no two global variables have a byte in common
 abbrev pub all_apart : List Global → Bool
@@ -192,7 +192,7 @@ all_apart (g ∷ globals) = list_all (are_apart g) globals && all_apart globals
 
 -- the global variable has no byte of the stack
 abbrev pub is_off_stack : ℕ → ℕ → Global → Bool
-is_off_stack lo hi g = nat_le hi lo || (nat_le (behind_global g) lo || nat_le hi g.at)
+is_off_stack lo hi g = nat_le hi lo || (nat_le (after_global g) lo || nat_le hi g.at)
 
 -- The names, types, places and expressions of a function are allowed.
 pub record IsAllowedFunction (tree : Tree) (f : Function) : Type 0 where

@@ -186,4 +186,4 @@ unread r = if is_stopped r then r.left else []
 abbrev pub offences_of : List Piece → List Offence
 offences_of pieces =
     let reading = reading_of pieces in
-    stop_offences reading.behind.stop ++ text_offences reading.value (unread reading.behind)
+    stop_offences reading.following.stop ++ text_offences reading.value (unread reading.following)

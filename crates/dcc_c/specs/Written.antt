@@ -12,7 +12,7 @@ use Rattle.dcc_c.specs.declared.syntax.Class.TheVariants.{Plain, Auto, Register}
 use Rattle.dcc_c.specs.Token.{Suffix, plain_number, unsigned_suffix, long_suffix, unsigned_long_suffix, suffix_bytes, decimal_type}
 use Rattle.dcc_c.specs.Types.{same_base}
 use Rattle.dcc_c.specs.Grammar.{unary_mark, binary_mark}
-use Rattle.dcc_c.specs.Placement.{behind_global}
+use Rattle.dcc_c.specs.Placement.{after_global}
 use Rattle.dcc_c.specs.Parts.{stmts_in, inner_stmts}
 use Rattle.dcc_c.specs.Tree.{Word, Expr, Number, Name, Unary, Binary, Conditional, Cast, Stmt, Assign, Call, If, While, DoWhile, Forever, Switch, Break, Continue, Goto, Label, Empty, Return, Lines, no_lines, line, Arms, no_arms, arm, Global, Variable, Function, Tree}
 
@@ -98,10 +98,10 @@ indented braces bytes = indentation braces ++ bytes
 -- The depth of calls.
 
 -- the depth in force after these statements
-abbrev pub depth_behind : ℕ → List Stmt → ℕ
-depth_behind depth [] = depth
-depth_behind depth (Call place function arguments own ∷ stmts) = depth_behind own stmts
-depth_behind depth (stmt ∷ stmts) = depth_behind depth stmts
+abbrev pub depth_after : ℕ → List Stmt → ℕ
+depth_after depth [] = depth
+depth_after depth (Call place function arguments own ∷ stmts) = depth_after own stmts
+depth_after depth (stmt ∷ stmts) = depth_after depth stmts
 
 -- the depth of the call that comes next, where one does: statements begin with it, or with its labels
 abbrev pub next_depth : ℕ → Lines → ℕ
@@ -148,7 +148,7 @@ abbrev mutual
   written_stmt braces depth (If e body otherwise) =
       indented braces (written_test (codes "if") e)
       ++ (written_lines (1 + braces) depth body
-      ++ (written_else braces otherwise (written_lines (1 + braces) (depth_behind depth (stmts_in body)) otherwise)
+      ++ (written_else braces otherwise (written_lines (1 + braces) (depth_after depth (stmts_in body)) otherwise)
       ++ indented braces (codes "}\n")))
   written_stmt braces depth (While e body) =
       indented braces (written_test (codes "while") e)
@@ -162,7 +162,7 @@ abbrev mutual
   written_stmt braces depth (Switch e arms last) =
       indented braces (written_test (codes "switch") e)
       ++ (written_arms (1 + braces) depth arms
-      ++ (written_default (1 + braces) (depth_behind depth (inner_stmts (Switch e arms no_arms))) last
+      ++ (written_default (1 + braces) (depth_after depth (inner_stmts (Switch e arms no_arms))) last
       ++ indented braces (codes "}\n")))
   written_stmt braces depth Break = indented braces (codes "break;\n")
   written_stmt braces depth Continue = indented braces (codes "continue;\n")
@@ -178,7 +178,7 @@ abbrev mutual
   written_lines braces depth (line stmt at lines) =
       let own = next_depth depth (line stmt at lines) in
       written_depth depth own
-      ++ (written_stmt braces own stmt ++ written_lines braces (depth_behind own (stmt ∷ inner_stmts stmt)) lines)
+      ++ (written_stmt braces own stmt ++ written_lines braces (depth_after own (stmt ∷ inner_stmts stmt)) lines)
 
   -- the arms of a `switch`, each with the `break` that ends it
   pub written_arms : ℕ → ℕ → Arms → Word
@@ -186,7 +186,7 @@ abbrev mutual
   written_arms braces depth (arm cases body arms) =
       written_cases braces cases
       ++ (written_lines braces depth body
-      ++ (indented braces (codes "break;\n") ++ written_arms braces (depth_behind depth (stmts_in body)) arms))
+      ++ (indented braces (codes "break;\n") ++ written_arms braces (depth_after depth (stmts_in body)) arms))
 
   -- the default arm, which comes last
   pub written_default : ℕ → ℕ → Arms → Word
@@ -257,13 +257,13 @@ written_global g =
 -- the line with the address of a global variable, where the one before does not end there
 abbrev pub written_place : Option ℕ → ℕ → Word
 written_place None at = codes "#pragma dcc at " ++ (decimal at ++ codes "\n")
-written_place (Some behind) at = if behind == at then [] else codes "#pragma dcc at " ++ (decimal at ++ codes "\n")
+written_place (Some following) at = if following == at then [] else codes "#pragma dcc at " ++ (decimal at ++ codes "\n")
 
 -- global variables, the one before them ending here
 abbrev pub written_globals : Option ℕ → List Global → Word
-written_globals behind [] = []
-written_globals behind (g ∷ globals) =
-    written_place behind g.at ++ (written_global g ++ written_globals (Some (behind_global g)) globals)
+written_globals following [] = []
+written_globals following (g ∷ globals) =
+    written_place following g.at ++ (written_global g ++ written_globals (Some (after_global g)) globals)
 
 -- the written form of a text
 abbrev pub written_form : Tree → Word

@@ -8,7 +8,7 @@ use Rattle.std.specs.Cmp.Lexicographic.{slice_cmp}
 use Rattle.std.specs.Ordering.{nat_cmp}
 use Rattle.std.proofs.lemmas.List.{at_drop_more}
 use denote.Ref.{Bor}
-use Rattle.dcc_c.specs.Kinds.{Offence, of_name, offence, only_if, first_behind}
+use Rattle.dcc_c.specs.Kinds.{Offence, of_name, offence, only_if, first_after}
 use Rattle.dcc_c.specs.Token.{same_bytes}
 use Rattle.dcc_c.specs.Tree.{Word}
 use Rattle.dcc_c.specs.Grammar.{is_among}
@@ -65,10 +65,10 @@ module _ (names : List (Bor WordAt)) (i : ℕ) (x : Bor WordAt) (within : i < le
         ∙ ap (λ b. same_bytes word (string_bytes x.now.word) || b) (all word)
 
   pub told-step : (known : List Word) (old new : Option Offence) (b : Bool) → b ≡ is_among known (string_bytes x.now.word) →
-      new ≡ first_behind old (only_if b (offence of_name x.now.at)) →
-      first_behind new (repeated (string_bytes x.now.word ∷ known) (lent_names (drop (i + 1) names))) ≡ first_behind old (repeated known (lent_names (drop i names)))
+      new ≡ first_after old (only_if b (offence of_name x.now.at)) →
+      first_after new (repeated (string_bytes x.now.word ∷ known) (lent_names (drop (i + 1) names))) ≡ first_after old (repeated known (lent_names (drop i names)))
   told-step known old new b b_is new_is =
       let rest = repeated (string_bytes x.now.word ∷ known) (lent_names (drop (i + 1) names)) in
-      ap (λ f. first_behind f rest) (new_is ∙ ap (λ t. first_behind old (only_if t (offence of_name x.now.at))) b_is)
+      ap (λ f. first_after f rest) (new_is ∙ ap (λ t. first_after old (only_if t (offence of_name x.now.at))) b_is)
       ∙ sym (first-append old (only_if (is_among known (string_bytes x.now.word)) (offence of_name x.now.at)) rest)
-      ∙ sym (next-names (λ l. first_behind old (repeated known (lent_names l))))
+      ∙ sym (next-names (λ l. first_after old (repeated known (lent_names l))))

@@ -3,7 +3,7 @@ use Rattle.std.proofs.Common.{◌≡◌, ℕ, ◌+◌, ◌<◌, ◌≤◌, Bool,
 use Rattle.std.specs.Prelude.{◌&&◌, ◌||◌, not, nat_le, nat_lt, if◌then◌else◌}
 use Rattle.std.specs.List.{list_all, list_any}
 use Rattle.std.proofs.lemmas.List.{at_drop_more, drop-map, take_more, map-append}
-use Rattle.dcc_c.specs.Kinds.{Offence, of_place, offence, first_behind}
+use Rattle.dcc_c.specs.Kinds.{Offence, of_place, offence, first_after}
 use Rattle.dcc_c.proofs.refusals.FirstRules.{first-append}
 use Rattle.dcc_reader.specs.declared.partial.PartialVariable as declared
 use Rattle.dcc_reader.specs.declared.partial.NumberAt as declared-number
@@ -170,16 +170,16 @@ module _ (xs : List declared.PartialVariable) (i : ℕ) (x : declared.PartialVar
       ∙ ap (λ y. globals_places lo hi es (map variable_of (y ∷ drop (i + 1) xs))) (sym here)
 
   pub places-step : (lo hi : ℕ) (old new : Option Offence) →
-      new ≡ first_behind old (size_offences (variable_of x).size ++ (surplus (variable_of x) ++ misplaced_here lo hi (earlier_of (map variable_of (take i xs))) (variable_of x))) →
-      first_behind new (globals_places lo hi (earlier_of (map variable_of (take (i + 1) xs))) (map variable_of (drop (i + 1) xs)))
-      ≡ first_behind old (globals_places lo hi (earlier_of (map variable_of (take i xs))) (map variable_of (drop i xs)))
+      new ≡ first_after old (size_offences (variable_of x).size ++ (surplus (variable_of x) ++ misplaced_here lo hi (earlier_of (map variable_of (take i xs))) (variable_of x))) →
+      first_after new (globals_places lo hi (earlier_of (map variable_of (take (i + 1) xs))) (map variable_of (drop (i + 1) xs)))
+      ≡ first_after old (globals_places lo hi (earlier_of (map variable_of (take i xs))) (map variable_of (drop i xs)))
   places-step lo hi old new new_is =
       let es = earlier_of (map variable_of (take i xs)) in
       let Z = size_offences (variable_of x).size in
       let S = surplus (variable_of x) in
       let M = misplaced_here lo hi es (variable_of x) in
       let G = globals_places lo hi (earlier_with (variable_of x) es) (map variable_of (drop (i + 1) xs)) in
-      ap (λ l. first_behind new (globals_places lo hi l (map variable_of (drop (i + 1) xs)))) earlier-step
-      ∙ ap (λ f. first_behind f G) new_is
+      ap (λ l. first_after new (globals_places lo hi l (map variable_of (drop (i + 1) xs)))) earlier-step
+      ∙ ap (λ f. first_after f G) new_is
       ∙ sym (first-append old (Z ++ (S ++ M)) G)
-      ∙ ap (first_behind old) (append_assoc Z (S ++ M) G ∙ ap (λ l. Z ++ l) (append_assoc S M G) ∙ sym (places-next lo hi es))
+      ∙ ap (first_after old) (append_assoc Z (S ++ M) G ∙ ap (λ l. Z ++ l) (append_assoc S M G) ∙ sym (places-next lo hi es))

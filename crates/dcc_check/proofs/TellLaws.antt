@@ -3,7 +3,7 @@ use Rattle.std.proofs.Common.{◌≡◌, ℕ, Bool, true, false, String, Global,
 use Rattle.std.specs.Prelude.{◌&&◌, not, if◌then◌else◌, option_map, option_and_then, is_some, is_none}
 use Rattle.dcc_c.specs.declared.syntax.CUn.{CUn}
 use Rattle.dcc_c.specs.declared.syntax.CUn.TheVariants.{Minus, Complement, Not, Deref, AddressOf}
-use Rattle.dcc_c.specs.Kinds.{of_type, Offence, offence, only_if, first_behind}
+use Rattle.dcc_c.specs.Kinds.{of_type, Offence, offence, only_if, first_after}
 use Rattle.dcc_c.specs.Partial.{PartialExpr, UnaryHere, place_of}
 use Rattle.dcc_c.specs.Typing.{Declared, unary_type, type_of_address}
 use Rattle.dcc_c.specs.Offences.{Scene, told_type, operand_of_address, expr_offences, unary_offences, address_offences, place_offences}
@@ -13,9 +13,9 @@ use Rattle.dcc_check.specs.Operands.{operand, target}
 use Rattle.dcc_c.proofs.refusals.FirstRules.{first-append}
 
 -- some offences are told, and then others
-pub then-told : (old middle new : Option Offence) (xs ys : List Offence) → middle ≡ first_behind old xs → new ≡ first_behind middle ys → new ≡ first_behind old (xs ++ ys)
+pub then-told : (old middle new : Option Offence) (xs ys : List Offence) → middle ≡ first_after old xs → new ≡ first_after middle ys → new ≡ first_after old (xs ++ ys)
 then-told old middle new xs ys first second =
-    second ∙ ap (λ o. first_behind o ys) first ∙ sym (first-append old xs ys)
+    second ∙ ap (λ o. first_after o ys) first ∙ sym (first-append old xs ys)
 
 pub no-image : {A B : Type 0} (f : A → B) (o : Option A) → None ≡ option_map f o → o ≡ None
 no-image f None e = refl
@@ -59,21 +59,21 @@ place-other scene (Conditional' _ a _ b _ c) other = (refl, refl)
 place-other scene (Cast' at type _ a) other = (refl, refl)
 
 -- some offences are told, and others where a test holds
-pub then-if : (old middle new : Option Offence) (xs ys zs : List Offence) (test : Bool) → test ≡ true → middle ≡ first_behind old xs → new ≡ first_behind middle ys →
-    new ≡ first_behind old (xs ++ (if test then ys else zs))
+pub then-if : (old middle new : Option Offence) (xs ys zs : List Offence) (test : Bool) → test ≡ true → middle ≡ first_after old xs → new ≡ first_after middle ys →
+    new ≡ first_after old (xs ++ (if test then ys else zs))
 then-if old middle new xs ys zs test holds first second =
-    then-told old middle new xs ys first second ∙ ap (λ t. first_behind old (xs ++ (if t then ys else zs))) (sym holds)
+    then-told old middle new xs ys first second ∙ ap (λ t. first_after old (xs ++ (if t then ys else zs))) (sym holds)
 
-pub then-if_not : (old middle new : Option Offence) (xs ys zs : List Offence) (test : Bool) → test ≡ false → middle ≡ first_behind old xs → new ≡ first_behind middle zs →
-    new ≡ first_behind old (xs ++ (if test then ys else zs))
+pub then-if_not : (old middle new : Option Offence) (xs ys zs : List Offence) (test : Bool) → test ≡ false → middle ≡ first_after old xs → new ≡ first_after middle zs →
+    new ≡ first_after old (xs ++ (if test then ys else zs))
 then-if_not old middle new xs ys zs test fails first second =
-    then-told old middle new xs zs first second ∙ ap (λ t. first_behind old (xs ++ (if t then ys else zs))) (sym fails)
+    then-told old middle new xs zs first second ∙ ap (λ t. first_after old (xs ++ (if t then ys else zs))) (sym fails)
 
 -- some of the offences that are left are told
-pub step-told : (old new end : Option Offence) (xs rest whole : List Offence) → new ≡ first_behind old xs → whole ≡ xs ++ rest → first_behind old whole ≡ end →
-    first_behind new rest ≡ end
+pub step-told : (old new end : Option Offence) (xs rest whole : List Offence) → new ≡ first_after old xs → whole ≡ xs ++ rest → first_after old whole ≡ end →
+    first_after new rest ≡ end
 step-told old new end xs rest whole told parts later =
-    ap (λ o. first_behind o rest) told ∙ sym (first-append old xs rest) ∙ ap (first_behind old) (sym parts) ∙ later
+    ap (λ o. first_after o rest) told ∙ sym (first-append old xs rest) ∙ ap (first_after old) (sym parts) ∙ later
 
 pub not-alone : (a b : Bool) → b ≡ true → (a && not b) ≡ false
 not-alone true b holds = ap not holds

@@ -134,7 +134,7 @@ pub tested : (program : Program) (procedure : Procedure) (line : ℕ) (action : 
 tested program procedure line action m tree points s now e first second r call is given =
     let acts : IsTest tree s.frame.function (points m.call.procedure) call.own line e first second =
     subst (λ (a : Action). Acts tree s.frame.function (points m.call.procedure) procedure.labels.items call.own line a) is call.acts in
-    evaluated_to program m tree points s now (goes_on (acts.behind s) s) line e acts.expr (λ v. if is_zero v then second else first) (λ v. if is_zero v then acts.if_no else acts.if_yes) r
+    evaluated_to program m tree points s now (goes_on (acts.following s) s) line e acts.expr (λ v. if is_zero v then second else first) (λ v. if is_zero v then acts.if_no else acts.if_yes) r
     call.program_is.globals call.state acts.stands refl refl
     (λ v. choice_goes tree (points m.call.procedure) (is_zero v) first second acts.if_yes acts.if_no acts.goes_yes acts.goes_no)
     (call.is ∙ acts.does s) given
@@ -147,26 +147,26 @@ pub switched : (program : Program) (procedure : Procedure) (line : ℕ) (action 
 switched program procedure line action m tree points s now e cases otherwise r call is given =
     let acts : IsSwitch tree s.frame.function (points m.call.procedure) call.own line e cases.items otherwise =
     subst (λ (a : Action). Acts tree s.frame.function (points m.call.procedure) procedure.labels.items call.own line a) is call.acts in
-    evaluated_to program m tree points s now (goes_on acts.behind s) line e acts.expr (λ v. case_point cases.items (converted (plain Uint) v).bits otherwise) (λ v. acts.to (converted (plain Uint) v).bits) r
+    evaluated_to program m tree points s now (goes_on acts.following s) line e acts.expr (λ v. case_point cases.items (converted (plain Uint) v).bits otherwise) (λ v. acts.to (converted (plain Uint) v).bits) r
     call.program_is.globals call.state acts.stands refl refl
     (λ v. acts.goes (converted (plain Uint) v).bits)
     (call.is ∙ acts.does s) given
 
-jumped : (tree : Tree) (points : ℕ → List Continuation) (m : Moment) (s now : State) (line : ℕ) (behind : Continuation) (o : Option ℕ) (k : Option Continuation)
+jumped : (tree : Tree) (points : ℕ → List Continuation) (m : Moment) (s now : State) (line : ℕ) (following : Continuation) (o : Option ℕ) (k : Option Continuation)
     (r : Result ℕ NoValue) → MayGo tree (points m.call.procedure) o k → IsRunning tree points m s → outcome_of itself r ≡ given o →
-    now ≡ jump_step k line (goes_on behind s) → Moves tree points line r m s now
-jumped tree points m s now line behind (Some p) (Some k) (Ok at) may state is same =
+    now ≡ jump_step k line (goes_on following s) → Moves tree points line r m s now
+jumped tree points m s now line following (Some p) (Some k) (Ok at) may state is same =
     let here : at ≡ p = cc in
     subst (λ (u : State). IsStood tree points (moved m at) s u) (sym same)
     (stood_at tree points m s (goes_on k s) at (running_on tree points m s k state)
     (subst (λ q. Goes tree (points m.call.procedure) q k) (sym here) may) (record { input = refl; out = refl }))
-jumped tree points m s now line behind (Some p) (Some k) (Err Faults) may state is same = cc
-jumped tree points m s now line behind (Some p) (Some k) (Err Meaningless) may state is same = cc
-jumped tree points m s now line behind (Some p) None r may state is same = absurd may
-jumped tree points m s now line behind None (Some k) r may state is same = absurd may
-jumped tree points m s now line behind None None (Ok at) may state is same = cc
-jumped tree points m s now line behind None None (Err Faults) may state is same = cc
-jumped tree points m s now line behind None None (Err Meaningless) may state is same =
+jumped tree points m s now line following (Some p) (Some k) (Err Faults) may state is same = cc
+jumped tree points m s now line following (Some p) (Some k) (Err Meaningless) may state is same = cc
+jumped tree points m s now line following (Some p) None r may state is same = absurd may
+jumped tree points m s now line following None (Some k) r may state is same = absurd may
+jumped tree points m s now line following None None (Ok at) may state is same = cc
+jumped tree points m s now line following None None (Err Faults) may state is same = cc
+jumped tree points m s now line following None None (Err Meaningless) may state is same =
     subst (λ (u : State). IsEnded s u (stuck line)) (sym same) (record { is = refl; quiet = record { input = refl; out = refl } })
 
 pub went : (program : Program) (procedure : Procedure) (line : ℕ) (action : Action) (m : Moment) (tree : Tree)
@@ -176,7 +176,7 @@ pub went : (program : Program) (procedure : Procedure) (line : ℕ) (action : Ac
 went program procedure line action m tree points s now number r call is found =
     let acts : IsGoto tree procedure.labels.items call.own line number =
     subst (λ (a : Action). Acts tree s.frame.function (points m.call.procedure) procedure.labels.items call.own line a) is call.acts in
-    jumped tree points m s now line acts.behind (point_named procedure.labels.items acts.word) (after_goto s.frame.function acts.word) r
+    jumped tree points m s now line acts.following (point_named procedure.labels.items acts.word) (after_goto s.frame.function acts.word) r
     (call.procedure_is.labels acts.word) call.state
     (found ∙ ap given (label_point-named procedure.labels.items acts.word number acts.label))
     (call.is ∙ acts.does s)
@@ -192,7 +192,7 @@ pub returned : (program : Program) (procedure : Procedure) (line : ℕ) (action 
 returned program procedure line action m mid tree points s now e call is made =
     let acts : IsReturn tree s.frame.function call.own line e =
     subst (λ (a : Action). Acts tree s.frame.function (points m.call.procedure) procedure.labels.items call.own line a) is call.acts in
-    let t : State = goes_on acts.behind s in
-    let led = made t acts.expr call.program_is.globals (running_on tree points m s acts.behind call.state) call.procedure_is acts.stands in
+    let t : State = goes_on acts.following s in
+    let led = made t acts.expr call.program_is.globals (running_on tree points m s acts.following call.state) call.procedure_is acts.stands in
     subst (λ (u : State). IsStood tree points mid s u) (sym (call.is ∙ acts.does s))
     (record { stood = record { end = led.going.state.end; going = λ runs. led.going }; quiet = record { input = led.quiet.input; out = led.quiet.out } })

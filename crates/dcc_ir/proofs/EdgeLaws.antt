@@ -29,8 +29,8 @@ module _ (p q : Flow) (one : HaveOneEdge p q) where
       let same = one m n c (reached_back p (λ x. q.has x ≡ false) a ms m ra e.2) (reached_back p (λ x. q.has x ≡ false) b ns n rb f.2) hc e.0 f.0 in
       both_back a b ra rb ha hb ms ns m e.1 e.2 (subst (λ x. IsBack p.goes (λ y. q.has y ≡ false) b ns x) (sym same) f.2)
 
-  pub behind_one_from_edges : (a b c : ℕ) → Reached p a → Reached p b → q.has a ≡ true → q.has b ≡ true → q.has c ≡ false → Leads p q a c → Leads p q b c → a ≡ b
-  behind_one_from_edges a b c ra rb ha hb hc la lb =
+  pub after_one_from_edges : (a b c : ℕ) → Reached p a → Reached p b → q.has a ≡ true → q.has b ≡ true → q.has c ≡ false → Leads p q a c → Leads p q b c → a ≡ b
+  after_one_from_edges a b c ra rb ha hb hc la lb =
       let x = turned p.goes (λ y. q.has y ≡ false) la.0 a a c (λ y e. ([], e)) la.1 in
       let y = turned p.goes (λ z. q.has z ≡ false) lb.0 b b c (λ z e. ([], e)) lb.1 in
       both_back a b ra rb ha hb x.0 y.0 c hc x.1 y.1

@@ -88,7 +88,7 @@ contraction_refl flow law = record {
   first = λ h. h;
   cycles = λ a ms r path. let edge = path_first flow.goes Any a ms a path in ap (λ b. b || list_any flow.has ms) (law.tail a edge.0 edge.1);
   edges = λ a b r h. ((λ e. ([], e)), (λ leads. none_between flow law a leads.0 b leads.1));
-  behind_one = λ a b c ra rb ha hb hc la lb. absurd (clash (law.head a c (none_between flow law a la.0 c la.1)) hc);
+  following_one = λ a b c ra rb ha hb hc la lb. absurd (clash (law.head a c (none_between flow law a la.0 c la.1)) hc);
 }
 
 -- One contraction after another is a contraction.
@@ -132,20 +132,20 @@ module _ (p q r : Flow) (p_flow : IsFlow p) (q_flow : IsFlow q) (r_flow : IsFlow
             (contracted p q p_flow q_flow first (λ y. r.has y ≡ false) leads.0 a a b (λ y f. ([], f)) there (second.blocks b h) leads.1)),
       )
 
-  behind : (a b c : ℕ) → Reached p a → Reached p b → r.has a ≡ true → r.has b ≡ true → r.has c ≡ false → Leads p r a c → Leads p r b c → a ≡ b
-  behind a b c ra rb ha hb hc la lb =
+  following : (a b c : ℕ) → Reached p a → Reached p b → r.has a ≡ true → r.has b ≡ true → r.has c ≡ false → Leads p r a c → Leads p r b c → a ≡ b
+  following a b c ra rb ha hb hc la lb =
       let qa = second.blocks a ha in
       let qb = second.blocks b hb in
       let ta = reached_still p q p_flow q_flow first a ra qa in
       let tb = reached_still p q p_flow q_flow first b rb qb in
       elim (decided (q.has c)) [
-        | inl h ↦ second.behind_one a b c ta tb ha hb hc
+        | inl h ↦ second.following_one a b c ta tb ha hb hc
             (contracted p q p_flow q_flow first (λ y. r.has y ≡ false) la.0 a a c (λ y f. ([], f)) ta h la.1)
             (contracted p q p_flow q_flow first (λ y. r.has y ≡ false) lb.0 b b c (λ y f. ([], f)) tb h lb.1)
         | inr n ↦
             let x = last_kept p q p_flow q_flow first (λ y. r.has y ≡ false) la.0 a a c (λ y f. ([], f)) qa ta la.1 in
             let y = last_kept p q p_flow q_flow first (λ z. r.has z ≡ false) lb.0 b b c (λ z f. ([], f)) qb tb lb.1 in
-            let same : x.at ≡ y.at = first.behind_one x.at y.at c (reached_before p q p_flow q_flow first x.at x.reached) (reached_before p q p_flow q_flow first y.at y.reached) x.has y.has n x.leads y.leads in
+            let same : x.at ≡ y.at = first.following_one x.at y.at c (reached_before p q p_flow q_flow first x.at x.reached) (reached_before p q p_flow q_flow first y.at y.reached) x.has y.has n x.leads y.leads in
             elim x.from [
               | inl e ↦ elim y.from [
                 | inl f ↦ sym e ∙ same ∙ f
@@ -153,7 +153,7 @@ module _ (p q r : Flow) (p_flow : IsFlow p) (q_flow : IsFlow q) (r_flow : IsFlow
               ]
               | inr v ↦ elim y.from [
                 | inl f ↦ absurd (clash (subst (λ z. r.has z ≡ true) (sym f ∙ sym same) hb) v.2)
-                | inr w ↦ second.behind_one a b x.at ta tb ha hb v.2 (v.0, v.1)
+                | inr w ↦ second.following_one a b x.at ta tb ha hb v.2 (v.0, v.1)
                     (subst (λ z. Leads q r b z) (sym same) (w.0, w.1))
               ]
             ]
@@ -168,5 +168,5 @@ module _ (p q r : Flow) (p_flow : IsFlow p) (q_flow : IsFlow q) (r_flow : IsFlow
         subst (λ x. r.has x ≡ true) first.start (second.first kept);
     cycles = cycles_hold;
     edges = edges_both;
-    behind_one = behind;
+    following_one = following;
   }

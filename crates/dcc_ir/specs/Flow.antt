@@ -81,7 +81,7 @@ pub record IsContraction (p q : Flow) : Type 0 where
   pub cycles : (a : ℕ) (between : List ℕ) → Reached p a → IsPath p.goes Any a between a
       → list_any q.has (a ∷ between) ≡ true
   pub edges : (a b : ℕ) → Reached q a → q.has b ≡ true → (q.goes a b ≡ true) ↔ Leads p q a b
-  pub behind_one : (a b c : ℕ) → Reached p a → Reached p b → q.has a ≡ true → q.has b ≡ true → q.has c ≡ false
+  pub following_one : (a b c : ℕ) → Reached p a → Reached p b → q.has a ≡ true → q.has b ≡ true → q.has c ≡ false
       → Leads p q a c → Leads p q b c → a ≡ b
 
 -- each reached block that the second graph has not has one edge in

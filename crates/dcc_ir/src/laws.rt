@@ -18,7 +18,7 @@ pub fn keeps_composes()
 {}
 
 /// Where each block that a pass drops has one edge in, it lies behind one block alone that the pass leaves.
-pub fn one_edge_lies_behind_one()
+pub fn one_edge_lies_after_one()
     ensures { OneEdgeLiesBehindOne }
 {}
 

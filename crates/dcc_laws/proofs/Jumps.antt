@@ -54,8 +54,8 @@ mutual
   arms_jumps : {limit depth after : ℕ} {around : Around} {tokens rest : List Placed} {arms last : Arms} → AreArms limit around depth tokens arms last after rest → around.breaks ≡ true → JumpsInArms around.continues arms × JumpsInArms around.continues last
   arms_jumps no_arm breaks = (tt, tt)
   arms_jumps (case_arm {around} {depth} {between} {after} {leaves} {end} {all} {tokens} {others} {rest} {cases} {body} {arms} {last} ns room inner more) breaks =
-      let behind = arms_jumps more breaks in
-      ((subst (λ b. Jumps b around.continues body) breaks (lines_jumps inner), behind.0), behind.1)
+      let following = arms_jumps more breaks in
+      ((subst (λ b. Jumps b around.continues body) breaks (lines_jumps inner), following.0), following.1)
   arms_jumps (default_arm {around} {depth} {between} {after} {at} {colon} {leaves} {end} {tokens} {others} {rest} {body} {arms} {last} room inner more) breaks =
-      let behind = arms_jumps more breaks in
-      (behind.0, (subst (λ b. Jumps b around.continues body) breaks (lines_jumps inner), behind.1))
+      let following = arms_jumps more breaks in
+      (following.0, (subst (λ b. Jumps b around.continues body) breaks (lines_jumps inner), following.1))

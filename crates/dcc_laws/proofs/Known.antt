@@ -76,10 +76,10 @@ found-one (f ∷ functions) word g is =
 
 -- There is one function `start`.
 
-differ-behind : (front words : List Word) → all_differ (front ++ words) ≡ true → all_differ words ≡ true
-differ-behind [] words differ = differ
-differ-behind (word ∷ front) words differ =
-    differ-behind front words (and_parts (not (is_among (front ++ words) word)) (all_differ (front ++ words)) differ).1
+differ-following : (front words : List Word) → all_differ (front ++ words) ≡ true → all_differ words ≡ true
+differ-following [] words differ = differ
+differ-following (word ∷ front) words differ =
+    differ-following front words (and_parts (not (is_among (front ++ words) word)) (all_differ (front ++ words)) differ).1
 
 named-among : {f : Function} {functions : List Function} (word : Word) → f.name ≡ word → IsOneOf f functions → list_any (same_bytes word) (map (λ g. g.name) functions) ≡ true
 named-among {f} word is (is_first {functions}) =
@@ -117,7 +117,7 @@ all-known {limit} {tokens} {tree} {f} unit rules one = record {
   formed = one-formed unit.functions_are one;
   starts = λ start.
       let same : f.name ≡ rules.start.name = same_bytes-equal f.name (codes "start") start ∙ sym rules.name in
-      let differ : all_differ (map (λ g. g.name) tree.functions ++ dos_names) ≡ true = differ-behind (map (λ g. g.name) tree.globals) _ rules.names in
+      let differ : all_differ (map (λ g. g.name) tree.functions ++ dos_names) ≡ true = differ-following (map (λ g. g.name) tree.globals) _ rules.names in
       let first : f ≡ rules.start =
       same-first same (subst (λ fs. all_differ (map (λ g. g.name) fs ++ dos_names) ≡ true) rules.first differ) (subst (IsOneOf f) rules.first one)
       in

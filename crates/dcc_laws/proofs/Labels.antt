@@ -32,9 +32,9 @@ label-here true rest = refl
 label-here false rest = refl
 
 -- the statement itself and those inside it
-stmt-some : (found behind : Option Continuation) (word : Word) (stmt : Stmt) (others : List Stmt) → is_some found ≡ has_label word (stmt ∷ inner_stmts stmt) → is_some behind ≡ has_label word others →
-    is_some (first_of found behind) ≡ has_label word (stmt ∷ (inner_stmts stmt ++ others))
-stmt-some found behind word stmt others first second = both-some found behind word (stmt ∷ inner_stmts stmt) others first second
+stmt-some : (found following : Option Continuation) (word : Word) (stmt : Stmt) (others : List Stmt) → is_some found ≡ has_label word (stmt ∷ inner_stmts stmt) → is_some following ≡ has_label word others →
+    is_some (first_of found following) ≡ has_label word (stmt ∷ (inner_stmts stmt ++ others))
+stmt-some found following word stmt others first second = both-some found following word (stmt ∷ inner_stmts stmt) others first second
 
 mutual
   unfolding has_label

@@ -45,8 +45,8 @@ IfRest tree f None = Unit {0}
 IfRest tree f (Some rest) = IsRest tree f rest
 
 -- the statement after the first one
-pub behind-rest : (tree : Tree) (f : Function) (stmt : Stmt) (at : ℕ) (lines : Lines) (rest : Continuation) → IsRest tree f (runs (line stmt at lines) rest) → IsRest tree f (runs lines rest)
-behind-rest tree f stmt at lines rest is = (λ s a stands. is.0 s a (later stands), is.1.1, is.2)
+pub following-rest : (tree : Tree) (f : Function) (stmt : Stmt) (at : ℕ) (lines : Lines) (rest : Continuation) → IsRest tree f (runs (line stmt at lines) rest) → IsRest tree f (runs lines rest)
+following-rest tree f stmt at lines rest is = (λ s a stands. is.0 s a (later stands), is.1.1, is.2)
 
 -- Jumps out of a loop, and to its next turn.
 
@@ -83,25 +83,25 @@ module _ (tree : Tree) (f : Function) (known : IsKnown tree f) where
   pub while-rest : (e : Expr) (body : Lines) (at : ℕ) (lines : Lines) (rest : Continuation) → IsRest tree f (runs (line (While e body) at lines) rest) → IsRest tree f (runs body (tests e body at (runs lines rest)))
   while-rest e body at lines rest is =
       let own : AreOf f body = λ s a stands. is.0 s a (inside (in_while stands)) in
-      (own, is.1.0, (while-test e body at (is.0 (While e body) at here), own, is.1.0, behind-rest tree f (While e body) at lines rest is))
+      (own, is.1.0, (while-test e body at (is.0 (While e body) at here), own, is.1.0, following-rest tree f (While e body) at lines rest is))
 
   pub do-rest : (e : Expr) (body : Lines) (at : ℕ) (lines : Lines) (rest : Continuation) → IsRest tree f (runs (line (DoWhile body e) at lines) rest) → IsRest tree f (runs body (tests e body at (runs lines rest)))
   do-rest e body at lines rest is =
       let own : AreOf f body = λ s a stands. is.0 s a (inside (in_do stands)) in
-      (own, is.1.0, (do-test e body at (is.0 (DoWhile body e) at here), own, is.1.0, behind-rest tree f (DoWhile body e) at lines rest is))
+      (own, is.1.0, (do-test e body at (is.0 (DoWhile body e) at here), own, is.1.0, following-rest tree f (DoWhile body e) at lines rest is))
 
   pub for-rest : (body : Lines) (at : ℕ) (lines : Lines) (rest : Continuation) → IsRest tree f (runs (line (Forever body) at lines) rest) → IsRest tree f (runs body (turns body (runs lines rest)))
   for-rest body at lines rest is =
       let own : AreOf f body = λ s a stands. is.0 s a (inside (in_for stands)) in
-      (own, is.1.0, (own, is.1.0, behind-rest tree f (Forever body) at lines rest is))
+      (own, is.1.0, (own, is.1.0, following-rest tree f (Forever body) at lines rest is))
 
   pub then-rest : (e : Expr) (body otherwise : Lines) (at : ℕ) (lines : Lines) (rest : Continuation) → IsRest tree f (runs (line (If e body otherwise) at lines) rest) → IsRest tree f (runs body (runs lines rest))
   then-rest e body otherwise at lines rest is =
-      (λ s a stands. is.0 s a (inside (in_then stands)), is.1.0.0, behind-rest tree f (If e body otherwise) at lines rest is)
+      (λ s a stands. is.0 s a (inside (in_then stands)), is.1.0.0, following-rest tree f (If e body otherwise) at lines rest is)
 
   pub else-rest : (e : Expr) (body otherwise : Lines) (at : ℕ) (lines : Lines) (rest : Continuation) → IsRest tree f (runs (line (If e body otherwise) at lines) rest) → IsRest tree f (runs otherwise (runs lines rest))
   else-rest e body otherwise at lines rest is =
-      (λ s a stands. is.0 s a (inside (in_else stands)), is.1.0.1, behind-rest tree f (If e body otherwise) at lines rest is)
+      (λ s a stands. is.0 s a (inside (in_else stands)), is.1.0.1, following-rest tree f (If e body otherwise) at lines rest is)
 
   first-rest : (a b : Option Continuation) → IfRest tree f a → IfRest tree f b → IfRest tree f (first_of a b)
   first-rest (Some rest) b first second = first
@@ -115,7 +115,7 @@ module _ (tree : Tree) (f : Function) (known : IsKnown tree f) where
     pub lines-rest : (lines : Lines) (word : Word) (rest : Continuation) → IsRest tree f (runs lines rest) → IfRest tree f (from_label word lines rest)
     lines-rest no_lines word rest is = tt
     lines-rest (line stmt at lines) word rest is =
-        first-rest (from_label_inside word stmt at lines rest) (from_label word lines rest) (stmt-rest stmt word at lines rest is) (lines-rest lines word rest (behind-rest tree f stmt at lines rest is))
+        first-rest (from_label_inside word stmt at lines rest) (from_label word lines rest) (stmt-rest stmt word at lines rest is) (lines-rest lines word rest (following-rest tree f stmt at lines rest is))
 
     stmt-rest : (stmt : Stmt) (word : Word) (at : ℕ) (lines : Lines) (rest : Continuation) → IsRest tree f (runs (line stmt at lines) rest) → IfRest tree f (from_label_inside word stmt at lines rest)
     stmt-rest (Label other) word at lines rest is = here-rest (same_bytes word other) (runs (line (Label other) at lines) rest) is
@@ -128,10 +128,10 @@ module _ (tree : Tree) (f : Function) (known : IsKnown tree f) where
     stmt-rest (Forever body) word at lines rest is =
         lines-rest body word (turns body (runs lines rest)) (for-rest body at lines rest is)
     stmt-rest (Switch e arms last) word at lines rest is =
-        let behind = behind-rest tree f (Switch e arms last) at lines rest is in
+        let following = following-rest tree f (Switch e arms last) at lines rest is in
         first-rest (from_label_in_arms word arms (ends_switch (runs lines rest))) (from_label_in_arms word last (ends_switch (runs lines rest)))
-        (arms-rest arms word (runs lines rest) (λ s a stands. is.0 s a (inside (in_arm stands))) is.1.0.0 behind)
-        (arms-rest last word (runs lines rest) (λ s a stands. is.0 s a (inside (in_default stands))) is.1.0.1 behind)
+        (arms-rest arms word (runs lines rest) (λ s a stands. is.0 s a (inside (in_arm stands))) is.1.0.0 following)
+        (arms-rest last word (runs lines rest) (λ s a stands. is.0 s a (inside (in_default stands))) is.1.0.1 following)
     stmt-rest _ word at lines rest is = tt
 
     arms-rest : (arms : Arms) (word : Word) (rest : Continuation) → AreArmsOf f arms → JumpsInArms (can_continue rest) arms → IsRest tree f rest → IfRest tree f (from_label_in_arms word arms (ends_switch rest))

@@ -10,10 +10,10 @@ use Rattle.dcc_c.specs.Placement.{first_base}
 use Rattle.dcc_c.specs.Value.{Value, value_of}
 use Rattle.dcc_c.specs.Text.{StandsFor}
 use Rattle.dcc_c.specs.Run.{Continuation, ends_function, runs, tests, turns, ends_switch, State, with_end, goes_on, back_step, is_start, scope_of, test_step, step_at, step, first_state}
-use Rattle.dcc_laws.specs.Stuck.{StandsIn, here, IsOneOf, is_first, IsStuckAt, start_returns, start_ends, function_ends, ComesToReturn, return_next, behind_block, behind_switch, ComesToBrace, brace_next, past_block, past_switch, IsStuckOnlyAtEnds}
+use Rattle.dcc_laws.specs.Stuck.{StandsIn, here, IsOneOf, is_first, IsStuckAt, start_returns, start_ends, function_ends, ComesToReturn, return_next, after_block, after_switch, ComesToBrace, brace_next, past_block, past_switch, IsStuckOnlyAtEnds}
 use Rattle.dcc_c.proofs.NameLaws.{same_bytes-refl}
 use Rattle.dcc_laws.proofs.Known.{IsKnown, all-known}
-use Rattle.dcc_laws.proofs.Rests.{IsRest, behind-rest}
+use Rattle.dcc_laws.proofs.Rests.{IsRest, following-rest}
 use Rattle.dcc_laws.proofs.Frames.{SameLength, IsFrame, frame-begins}
 use Rattle.dcc_laws.proofs.Values.{Any, number-gives}
 use Rattle.dcc_laws.proofs.Sound.{AreCalls, IsSound, IsStep, still, exits, divides, stuck, on-step, goes-step, close-step}
@@ -21,12 +21,12 @@ use Rattle.dcc_laws.proofs.Steps.{tested-step, made-step}
 
 -- the end of a block is no step of its own
 past-lines : (f : Function) (rest : Continuation) (at : ℕ) → IsStuckAt f rest at → IsStuckAt f (runs no_lines rest) at
-past-lines f rest at (start_returns start comes stands) = start_returns start (behind_block comes) stands
+past-lines f rest at (start_returns start comes stands) = start_returns start (after_block comes) stands
 past-lines f rest at (start_ends start comes is) = start_ends start (past_block comes) is
 past-lines f rest at (function_ends result comes is) = function_ends result (past_block comes) is
 
 past-arms : (f : Function) (rest : Continuation) (at : ℕ) → IsStuckAt f rest at → IsStuckAt f (ends_switch rest) at
-past-arms f rest at (start_returns start comes stands) = start_returns start (behind_switch comes) stands
+past-arms f rest at (start_returns start comes stands) = start_returns start (after_switch comes) stands
 past-arms f rest at (start_ends start comes is) = start_ends start (past_switch comes) is
 past-arms f rest at (function_ends result comes is) = function_ends result (past_switch comes) is
 
@@ -39,7 +39,7 @@ module _ (tree : Tree) (known : (g : Function) → IsOneOf g tree.functions → 
       at-step rest ways s runs_on frame calls is.2 (λ at stuck_there. way at (past-lines s.frame.function rest at stuck_there))
   at-step (runs (line stmt at lines) rest) ways s runs_on frame calls is way =
       let now : IsSound tree (goes_on (runs lines rest) s) =
-      record { frame = frame; rest = behind-rest tree s.frame.function stmt at lines rest is; calls = calls }
+      record { frame = frame; rest = following-rest tree s.frame.function stmt at lines rest is; calls = calls }
       in
       made-step tree known ways at lines (goes_on (runs lines rest) s) runs_on now stmt (is.0, is.1.0)
       (λ start same. way at (start_returns start (subst (λ t. ComesToReturn (runs (line t at lines) rest) at) (sym same) return_next) (subst (λ t. StandsIn s.frame.function.body t at) same (is.0 stmt at here))))
@@ -77,9 +77,9 @@ module _ (tree : Tree) (known : (g : Function) → IsOneOf g tree.functions → 
   same-line a b is = cc
 
   -- what the first of some steps says of where the run got stuck
-  stuck-behind : (n at : ℕ) (s : State) → s.end ≡ Running → IsSound tree s → (after (step tree) n (step tree s)).end ≡ Stuck at →
+  stuck-following : (n at : ℕ) (s : State) → s.end ≡ Running → IsSound tree s → (after (step tree) n (step tree s)).end ≡ Stuck at →
       ((step tree s).end ≡ Running → IsSound tree (step tree s) → GotStuckFrom (step tree s) n at) → IsStep tree (IsStuckAt s.frame.function s.rest) (step tree s) → GotStuckFrom s (suc n) at
-  stuck-behind n at s runs_on is ends further (still more sound) =
+  stuck-following n at s runs_on is ends further (still more sound) =
       let later = further more sound in
       record {
         before = suc later.before;
@@ -88,11 +88,11 @@ module _ (tree : Tree) (known : (g : Function) → IsOneOf g tree.functions → 
         function = later.function;
         way = later.way;
       }
-  stuck-behind n at s runs_on is ends further (exits code is_exit) =
+  stuck-following n at s runs_on is ends further (exits code is_exit) =
       let no : Exit code ≡ Stuck at = sym (over-stays n (step tree s) (Exit code) is_exit refl) ∙ ends in absurd cc
-  stuck-behind n at s runs_on is ends further (divides is_fault) =
+  stuck-following n at s runs_on is ends further (divides is_fault) =
       let no : Divide ≡ Stuck at = sym (over-stays n (step tree s) Divide is_fault refl) ∙ ends in absurd cc
-  stuck-behind n at s runs_on is ends further (stuck there is_stuck way) =
+  stuck-following n at s runs_on is ends further (stuck there is_stuck way) =
       let same : there ≡ at = same-line there at (sym (over-stays n (step tree s) (Stuck there) is_stuck refl) ∙ ends) in
       record {
         before = zero;
@@ -105,29 +105,29 @@ module _ (tree : Tree) (known : (g : Function) → IsOneOf g tree.functions → 
   got-stuck : (n at : ℕ) (s : State) → s.end ≡ Running → IsSound tree s → (after (step tree) n s).end ≡ Stuck at → GotStuckFrom s n at
   got-stuck zero at s runs_on is ends = let no : Running ≡ Stuck at = sym runs_on ∙ ends in absurd cc
   got-stuck (suc n) at s runs_on is ends =
-      stuck-behind n at s runs_on is ends (λ more sound. got-stuck n at (step tree s) more sound ends) (sound-step s runs_on is)
+      stuck-following n at s runs_on is ends (λ more sound. got-stuck n at (step tree s) more sound ends) (sound-step s runs_on is)
 
-  inside-behind : (n at : ℕ) (s : State) → (after (step tree) n (step tree s)).end ≡ Outside at → ((step tree s).end ≡ Running → IsSound tree (step tree s) → ⊥) → IsStep tree (IsStuckAt s.frame.function s.rest) (step tree s) → ⊥
-  inside-behind n at s ends further (still more sound) = further more sound
-  inside-behind n at s ends further (exits code is_exit) =
+  inside-following : (n at : ℕ) (s : State) → (after (step tree) n (step tree s)).end ≡ Outside at → ((step tree s).end ≡ Running → IsSound tree (step tree s) → ⊥) → IsStep tree (IsStuckAt s.frame.function s.rest) (step tree s) → ⊥
+  inside-following n at s ends further (still more sound) = further more sound
+  inside-following n at s ends further (exits code is_exit) =
       let no : Exit code ≡ Outside at = sym (over-stays n (step tree s) (Exit code) is_exit refl) ∙ ends in absurd cc
-  inside-behind n at s ends further (divides is_fault) =
+  inside-following n at s ends further (divides is_fault) =
       let no : Divide ≡ Outside at = sym (over-stays n (step tree s) Divide is_fault refl) ∙ ends in absurd cc
-  inside-behind n at s ends further (stuck there is_stuck way) =
+  inside-following n at s ends further (stuck there is_stuck way) =
       let no : Stuck there ≡ Outside at = sym (over-stays n (step tree s) (Stuck there) is_stuck refl) ∙ ends in absurd cc
 
   stays-inside : (n at : ℕ) (s : State) → s.end ≡ Running → IsSound tree s → (after (step tree) n s).end ≡ Outside at → ⊥
   stays-inside zero at s runs_on is ends = let no : Running ≡ Outside at = sym runs_on ∙ ends in absurd cc
   stays-inside (suc n) at s runs_on is ends =
-      inside-behind n at s ends (λ more sound. stays-inside n at (step tree s) more sound ends) (sound-step s runs_on is)
+      inside-following n at s ends (λ more sound. stays-inside n at (step tree s) more sound ends) (sound-step s runs_on is)
 
 -- A run at one of the places is stuck.
 
 module _ (tree : Tree) where
   return-stuck : {rest : Continuation} {at : ℕ} → ComesToReturn rest at → (s : State) → is_start s.frame.function ≡ true → (step_at tree rest s).end ≡ Stuck at
   return-stuck (return_next {at} {lines} {rest}) s start = ap (λ b. (if b then with_end (Stuck at) (goes_on (runs lines rest) s) else back_step s.waiting None at (goes_on (runs lines rest) s)).end) start
-  return-stuck (behind_block comes) s start = return-stuck comes s start
-  return-stuck (behind_switch comes) s start = return-stuck comes s start
+  return-stuck (after_block comes) s start = return-stuck comes s start
+  return-stuck (after_switch comes) s start = return-stuck comes s start
 
   brace-stuck : {rest : Continuation} {at : ℕ} → ComesToBrace rest at → (s : State) → (is_start s.frame.function || is_some s.frame.function.result) ≡ true → (step_at tree rest s).end ≡ Stuck at
   brace-stuck (brace_next {at}) s ends = ap (λ b. (if b then with_end (Stuck at) s else back_step s.waiting None at s).end) ends

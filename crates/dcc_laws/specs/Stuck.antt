@@ -49,9 +49,9 @@ pub data IsOneOf (f : Function) : List Function → Type 0 where
 pub data ComesToReturn : Continuation → ℕ → Type 0 where
   return_next : {at : ℕ} {lines : Lines} {rest : Continuation} →
       ComesToReturn (runs (line (Return None) at lines) rest) at
-  behind_block : {at : ℕ} {rest : Continuation} →
+  after_block : {at : ℕ} {rest : Continuation} →
       ComesToReturn rest at → ComesToReturn (runs no_lines rest) at
-  behind_switch : {at : ℕ} {rest : Continuation} →
+  after_switch : {at : ℕ} {rest : Continuation} →
       ComesToReturn rest at → ComesToReturn (ends_switch rest) at
 
 -- the closing brace of the function, in this line

@@ -11,7 +11,7 @@ use Rattle.dcc_ir.specs.Tree.{Goto, Block, Graph, Program}
 use Rattle.dcc_ir.specs.Flow.{Flow, first_address, flow_of, flow_at, IsPath, Any, Reached, Leads, IsContraction, HaveOneEdge}
 use Rattle.dcc_ir.proofs.PathLaws.{decided, clash, or_left, or_right, path_of_none, path_last, reached_has}
 use Rattle.dcc_ir.proofs.GraphLaws.{flow_of-flow}
-use Rattle.dcc_ir.proofs.EdgeLaws.{behind_one_from_edges}
+use Rattle.dcc_ir.proofs.EdgeLaws.{after_one_from_edges}
 use Rattle.dcc_lift.specs.Blocks.{Nodes, node_in, successors_in, joins, IsChain, leaders, block_place, last_of, AreBlocksAt}
 use Rattle.dcc_lift.specs.Sound.{AreSound}
 use Rattle.dcc_lift.specs.Translation.{prelude_block, IsTranslation}
@@ -221,7 +221,7 @@ module _ (nodes : Nodes) (entry prelude : ℕ) (sound : AreSound nodes entry pre
     first = λ h. first_has;
     cycles = cycles_hold;
     edges = λ a b reached hb. (edge_leads a b, leads_edge a b (reached_has Q (flow_of-flow graph) a reached) hb);
-    behind_one = behind_one_from_edges P Q one_edge;
+    following_one = after_one_from_edges P Q one_edge;
   }
 
 -- The translation.

@@ -59,15 +59,15 @@ pub data IsDone (image : Image) (layout : Layout) (graph : Graph) (graphs : List
 module _ (image : Image) (layout : Layout) (graph : Graph) (nodes : Nodes) (placed : IsPlaced image) (widths : graph.bits ≡ temporary_bits)
     (graphs : List Graph) (fill : ℕ) (s : Machine) (t : Inner) (at : ℕ) (before : List ℕ) (node : Node) (both : BothStand image layout graph s t at before)
     (is : IsInstruction image layout nodes at node) (int : node.instr.op ≡ Int21) where
-  behind : Machine
-  behind = record s { ip = next_of s.ip node.instr }
+  following : Machine
+  following = record s { ip = next_of s.ip node.instr }
 
   small : t.running.values (Half Ax Low) < 256
   small = both.fits.values (Half Ax Low)
 
   -- the machine makes the call that the number tells
-  stepped : (n : ℕ) → node.number ≡ Some n → step s ≡ dos_step n s.ip behind
-  unfolding behind
+  stepped : (n : ℕ) → node.number ≡ Some n → step s ≡ dos_step n s.ip following
+  unfolding following
   stepped n number =
       let known : known_ah image layout before ≡ Some n = is.told int before both.trail ∙ number in
       let ah : word_in s Ax / 256 ≡ n = word_high s t.running.values Ax refl small both.mirrors ∙ both.ah n known in
@@ -148,7 +148,7 @@ module _ (image : Image) (layout : Layout) (graph : Graph) (nodes : Nodes) (plac
 
   -- 02h
   put-done : node.number ≡ Some 0x02 → IsPassed image layout graph graphs fill node s t at before
-  unfolding behind
+  unfolding following
   put-done number =
       let v : Inner = inner_dos_step 0x02 None (value_in t (Get (Half Dx Low))) t in
       let low : word_in s Dx % 256 ≡ t.running.values (Half Dx Low) = word_low s t.running.values Dx refl (both.fits.values (Half Dx Low)) both.mirrors in
@@ -171,7 +171,7 @@ module _ (image : Image) (layout : Layout) (graph : Graph) (nodes : Nodes) (plac
 
   -- 4Ch
   leave-done : node.number ≡ Some 0x4C → IsLeft graphs fill node s t
-  unfolding behind
+  unfolding following
   leave-done number =
       let code : ℕ = t.running.values (Half Ax Low) in
       let low : word_in s Ax % 256 ≡ code = word_low s t.running.values Ax refl small both.mirrors in
@@ -187,8 +187,8 @@ module _ (image : Image) (layout : Layout) (graph : Graph) (nodes : Nodes) (plac
       }
 
   -- 01h and 08h, with what is left of the input
-  key-left : (echo : Bool) (input : List ℕ) → s.input ≡ input → step s ≡ with_key echo input behind → Left (step s) (keyed echo (Some (Half Ax Low)) input t)
-  unfolding behind
+  key-left : (echo : Bool) (input : List ℕ) → s.input ≡ input → step s ≡ with_key echo input following → Left (step s) (keyed echo (Some (Half Ax Low)) input t)
+  unfolding following
   key-left echo [] e st = record {
     memory = ap (λ u. u.memory) st;
     segs = ap (λ u. u.segs) st;
@@ -198,7 +198,7 @@ module _ (image : Image) (layout : Layout) (graph : Graph) (nodes : Nodes) (plac
     block_is = refl;
     going = both.going;
     mirrors = subst (λ u. Mirrors u (with_value t.running.values (Half Ax Low) 0x1A)) (sym st)
-        (taken-mirrors behind t.running.values 0x1A small (mirrors_state s behind t.running.values refl refl both.mirrors));
+        (taken-mirrors following t.running.values 0x1A small (mirrors_state s following t.running.values refl refl both.mirrors));
     fits = fits_taking (scene_of t) (Half Ax Low) 0x1A (lit< tt) both.fits;
     input = both.input ∙ sym (ap (λ u. u.input) st);
     out = both.out ∙ sym (ap (λ u. u.out) st);
@@ -217,8 +217,8 @@ module _ (image : Image) (layout : Layout) (graph : Graph) (nodes : Nodes) (plac
         block_is = refl;
         going = both.going;
         mirrors = subst (λ u. Mirrors u (with_value t.running.values (Half Ax Low) byte)) (sym st)
-            (mirrors_state (with_operand behind (Byte Ax Low) byte) (with_key echo (byte ∷ rest) behind) (with_value t.running.values (Half Ax Low) byte) refl refl
-            (taken-mirrors behind t.running.values byte small (mirrors_state s behind t.running.values refl refl both.mirrors)));
+            (mirrors_state (with_operand following (Byte Ax Low) byte) (with_key echo (byte ∷ rest) following) (with_value t.running.values (Half Ax Low) byte) refl refl
+            (taken-mirrors following t.running.values byte small (mirrors_state s following t.running.values refl refl both.mirrors)));
         fits = fits_taking (scene_of t) (Half Ax Low) byte (All-head (λ b. b < 256) byte rest bytes) both.fits;
         input = sym (ap (λ u. u.input) st);
         out = ap (λ l. l ++ echoed) both.out ∙ sym (ap (λ u. u.out) st);
@@ -233,10 +233,10 @@ module _ (image : Image) (layout : Layout) (graph : Graph) (nodes : Nodes) (plac
   key-done : (echo : Bool) (n : ℕ) → node.number ≡ Some n → op_successors Int21 (next_of s.ip node.instr) (Some n) [] ≡ next_of s.ip node.instr ∷ []
       → ((rest : List Stmt) → block_step graphs fill (dos_stmts (Some n) ++ rest) t ≡ (let v = keyed echo (Some (Half Ax Low)) t.input t in if is_over v.end then v else block_step graphs fill rest v))
       → ((u : Machine) → dos_step n s.ip u ≡ with_key echo u.input u) → IsPassed image layout graph graphs fill node s t at before
-  unfolding behind
+  unfolding following
   key-done echo n number onward runs key_is =
       let v : Inner = keyed echo (Some (Half Ax Low)) t.input t in
-      let st : step s ≡ with_key echo t.input behind = stepped n number ∙ key_is behind ∙ ap (λ l. with_key echo l behind) (sym both.input) in
+      let st : step s ≡ with_key echo t.input following = stepped n number ∙ key_is following ∙ ap (λ l. with_key echo l following) (sym both.input) in
       done n number v onward
       (λ rest. runs rest ∙ ap (λ e. if is_over e then v else block_step graphs fill rest v) (key-going echo t.input))
       (key-left echo t.input (sym both.input) st)

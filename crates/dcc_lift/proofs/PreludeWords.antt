@@ -7,7 +7,7 @@ use Rattle.dcc_num.specs.declared.Half.TheVariants.{Low, High}
 use Rattle.dcc_num.specs.declared.Width.TheVariants.{Word as word_width}
 use Rattle.dcc_num.specs.declared.Flags.{Flags}
 use Rattle.dcc_num.specs.Numbers.{limit_of}
-use Rattle.dcc_num.specs.Shift.{left_shift_of}
+use Rattle.dcc_num.specs.Shift.{shl_of}
 use Rattle.dcc_prog.specs.declared.image.Image.{Image}
 use Rattle.dcc_prog.specs.declared.procedure.Layout.{Layout}
 use Rattle.dcc_prog.specs.declared.instr.Alu.TheVariants.{Add, Sub}
@@ -71,8 +71,8 @@ either-below : (b : Bool) (same moved : ℕ × Flags) → same.0 < 65536 → mov
 either-below true same moved p q = p
 either-below false same moved p q = q
 
-shifted-below : (a count : ℕ) (flags : Flags) → a < 65536 → (left_shift_of word_width a count flags).0 < 65536
-unfolding left_shift_of
+shifted-below : (a count : ℕ) (flags : Flags) → a < 65536 → (shl_of word_width a count flags).0 < 65536
+unfolding shl_of
 shifted-below a count flags small = either-below (count == 0) (a, flags) _ small (omega arith)
 
 -- an operation of a prelude leaves words
@@ -151,8 +151,8 @@ start-words image loaded =
     }
 
 module _ (image : Image) (layout : Layout) (loaded : IsLoaded image) (has : HasLayout image layout) where
-  behind-words : HasWords (executed (start_state image []) has.prelude)
-  behind-words = run-words (code_of image) image.ip has.prelude (start_state image []) (whole-bytes image (loaded-bytes image loaded)) has.is_prelude.run (start-words image loaded)
+  following-words : HasWords (executed (start_state image []) has.prelude)
+  following-words = run-words (code_of image) image.ip has.prelude (start_state image []) (whole-bytes image (loaded-bytes image loaded)) has.is_prelude.run (start-words image loaded)
 
   -- the layout's registers are those after the prelude's instructions
   pub layout-registers : layout.regs ≡ (executed (start_state image []) has.prelude).regs
@@ -160,10 +160,10 @@ module _ (image : Image) (layout : Layout) (loaded : IsLoaded image) (has : HasL
 
   -- they are eight words
   pub layout-eight : length layout.regs ≡ 8
-  layout-eight = ap length layout-registers ∙ behind-words.eight
+  layout-eight = ap length layout-registers ∙ following-words.eight
 
   pub layout-words : (i : ℕ) → slice_index layout.regs i < 65536
-  layout-words = subst AreWords (sym layout-registers) behind-words.words
+  layout-words = subst AreWords (sym layout-registers) following-words.words
 
   pub layout-fits : All (λ word. word < 65536) layout.regs
   layout-fits i d inside = subst (λ word. word < 65536) (get_or_default layout.regs i 0 d inside) (layout-words i)

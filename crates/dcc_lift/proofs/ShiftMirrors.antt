@@ -11,7 +11,7 @@ use Rattle.dcc_num.specs.declared.Flags.{Flags}
 use Rattle.dcc_num.specs.declared.FlagName.{FlagName}
 use Rattle.dcc_num.specs.declared.FlagName.TheVariants.{Cf, Zf, Sf, Of}
 use Rattle.dcc_num.specs.Numbers.{bits_of, limit_of, half_of, has_sign, is_set, differ, residue_of, signed_of, halved_of, wrapped_of, result_flags}
-use Rattle.dcc_num.specs.Shift.{left_shift_of, right_shift_of, signed_shift_of, left_rotation_of, right_rotation_of, left_turn_of, right_turn_of, turned_of, top_bits_differ, rotate_flags as turned_flags}
+use Rattle.dcc_num.specs.Shift.{shl_of, shr_of, sar_of, left_rotation_of, right_rotation_of, left_turn_of, right_turn_of, turned_of, top_bits_differ, rotate_flags as turned_flags}
 use Rattle.dcc_num.proofs.Shifts.{turned_below}
 use Rattle.dcc_num.proofs.Differences.{wrapped_below}
 use Rattle.dcc_prog.specs.declared.instr.Shift.{Shift}
@@ -199,8 +199,8 @@ nearly_left : (w : Width) (seen : Scene) (a n : ℕ) → Holds w seen a n → 0 
 nearly_left w seen a n h some small = rw (h.left, h.right, one_less w n some (count_small w n small)) refl
 
 shl_works : (w : Width) (by_cl : Bool) (s : State) (scene : Scene) (a n : ℕ) → Takes w by_cl s scene a n
-    → Works w s (executed (shift_working Shl w by_cl) scene) (left_shift_of w a n s.flags)
-unfolding left_shift_of result_flags
+    → Works w s (executed (shift_working Shl w by_cl) scene) (shl_of w a n s.flags)
+unfolding shl_of result_flags
 shl_works w by_cl s scene a n t =
     let r : ℕ = a * 2 ^ n % limit_of w in
     let out : Bool = is_set (a * 2 ^ n) (bits_of w) in
@@ -217,16 +217,16 @@ shl_works w by_cl s scene a n t =
     λ seen z some. one_bit w by_cl seen (Binary XorOp 1 (sign w (nearly_shifted ShlOp w)) (sign w (result w))) n (differ out (has_sign w r)) z.holds.right t.one
     (differing seen (sign w (nearly_shifted ShlOp w)) (sign w (result w)) out (has_sign w r) (top seen z some) (sign_bit w seen (result w) r z.result small)) in
     let kept = shift_flags_kept w by_cl (if_one w by_cl (Binary XorOp 1 (sign w (nearly_shifted ShlOp w)) (sign w (result w)))) (sign w (nearly_shifted ShlOp w)) s after a n r o out
-    (left_shift_of w a n s.flags).1 (shows_result w s scene (value_of scene (shifted ShlOp w)) t.shown) y small t.one over top (flags_chosen (n == 0) (a, s.flags) (r, g)) in
-    let value : (left_shift_of w a n s.flags).0 ≡ r = value_chosen n (a, s.flags) (r, g) (λ e. rw e (sym (unmoved w a t.operand))) (n == 0) refl in
+    (shl_of w a n s.flags).1 (shows_result w s scene (value_of scene (shifted ShlOp w)) t.shown) y small t.one over top (flags_chosen (n == 0) (a, s.flags) (r, g)) in
+    let value : (shl_of w a n s.flags).0 ≡ r = value_chosen n (a, s.flags) (r, g) (λ e. rw e (sym (unmoved w a t.operand))) (n == 0) refl in
     record { shown = kept.0; result = kept.1.result ∙ sym value; small = rw value small }
 
 nearly_right : (w : Width) (seen : Scene) (a n : ℕ) → Holds w seen a n → 0 < n → n < 256 → value_of seen (nearly_shifted ShrOp w) ≡ a / 2 ^ (n - 1)
 nearly_right w seen a n h some small = rw (h.left, h.right, one_less w n some (count_small w n small)) refl
 
 shr_works : (w : Width) (by_cl : Bool) (s : State) (scene : Scene) (a n : ℕ) → Takes w by_cl s scene a n
-    → Works w s (executed (shift_working Shr w by_cl) scene) (right_shift_of w a n s.flags)
-unfolding right_shift_of result_flags
+    → Works w s (executed (shift_working Shr w by_cl) scene) (shr_of w a n s.flags)
+unfolding shr_of result_flags
 shr_works w by_cl s scene a n t =
     let r : ℕ = a / 2 ^ n in
     let out : Bool = is_set a (n - 1) in
@@ -242,8 +242,8 @@ shr_works w by_cl s scene a n t =
     let over : (seen : Scene) → Yields w seen a n r → 0 < n → value_of seen (if_one w by_cl (sign w (left w))) ≡ from_bool o =
     λ seen z some. one_bit w by_cl seen (sign w (left w)) n (has_sign w a) z.holds.right t.one (sign_bit w seen (left w) a z.holds.left t.operand) in
     let kept = shift_flags_kept w by_cl (if_one w by_cl (sign w (left w))) (lowest (nearly_shifted ShrOp w)) s after a n r o out
-    (right_shift_of w a n s.flags).1 (shows_result w s scene (value_of scene (shifted ShrOp w)) t.shown) y small t.one over last (flags_chosen (n == 0) (a, s.flags) (r, g)) in
-    let value : (right_shift_of w a n s.flags).0 ≡ r = value_chosen n (a, s.flags) (r, g) (λ e. rw e (omega arith)) (n == 0) refl in
+    (shr_of w a n s.flags).1 (shows_result w s scene (value_of scene (shifted ShrOp w)) t.shown) y small t.one over last (flags_chosen (n == 0) (a, s.flags) (r, g)) in
+    let value : (shr_of w a n s.flags).0 ≡ r = value_chosen n (a, s.flags) (r, g) (λ e. rw e (omega arith)) (n == 0) refl in
     record { shown = kept.0; result = kept.1.result ∙ sym value; small = rw value small }
 
 signed_moved : (w : Width) (seen : Scene) (a n : ℕ) → Holds w seen a n → value_of seen (shifted SarOp w) ≡ wrapped_of w (halved_of (signed_of w a) n)
@@ -253,8 +253,8 @@ nearly_signed : (w : Width) (seen : Scene) (a n : ℕ) → Holds w seen a n → 
 nearly_signed w seen a n h some small = rw (h.left, h.right, one_less w n some (count_small w n small), signed_is w a) refl
 
 sar_works : (w : Width) (by_cl : Bool) (s : State) (scene : Scene) (a n : ℕ) → Takes w by_cl s scene a n
-    → Works w s (executed (shift_working Sar w by_cl) scene) (signed_shift_of w a n s.flags)
-unfolding signed_shift_of result_flags
+    → Works w s (executed (shift_working Sar w by_cl) scene) (sar_of w a n s.flags)
+unfolding sar_of result_flags
 sar_works w by_cl s scene a n t =
     let r : ℕ = wrapped_of w (halved_of (signed_of w a) n) in
     let out : Bool = nat_eq (residue_of 2 (halved_of (signed_of w a) (n - 1))) 1 in
@@ -266,8 +266,8 @@ sar_works w by_cl s scene a n t =
     λ seen z some. lowest_bit seen (nearly_shifted SarOp w) (wrapped_of w (halved_of (signed_of w a) (n - 1))) (nearly_signed w seen a n z.holds some t.count)
     ∙ ap from_bool (lowest_of_signed w (halved_of (signed_of w a) (n - 1))) in
     let kept = shift_flags_kept w by_cl (bit 0) (lowest (nearly_shifted SarOp w)) s after a n r false out
-    (signed_shift_of w a n s.flags).1 (shows_result w s scene (value_of scene (shifted SarOp w)) t.shown) y small t.one (λ seen z some. refl) last (flags_chosen (n == 0) (a, s.flags) (r, g)) in
-    let value : (signed_shift_of w a n s.flags).0 ≡ r = value_chosen n (a, s.flags) (r, g) (λ e. rw e (wrapped_signed w a t.operand)) (n == 0) refl in
+    (sar_of w a n s.flags).1 (shows_result w s scene (value_of scene (shifted SarOp w)) t.shown) y small t.one (λ seen z some. refl) last (flags_chosen (n == 0) (a, s.flags) (r, g)) in
+    let value : (sar_of w a n s.flags).0 ≡ r = value_chosen n (a, s.flags) (r, g) (λ e. rw e (wrapped_signed w a t.operand)) (n == 0) refl in
     record { shown = kept.0; result = kept.1.result ∙ sym value; small = rw value small }
 
 rol_works : (w : Width) (by_cl : Bool) (s : State) (scene : Scene) (a n : ℕ) → Takes w by_cl s scene a n

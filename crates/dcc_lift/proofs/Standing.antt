@@ -172,8 +172,8 @@ module _ (laws : AreLifted) (image : Image) (layout : Layout) (graph : Graph) (n
     (s : Machine) (t : Inner) (at : ℕ) (before : List ℕ) (node : Node) (both : BothStand image layout graph s t at before)
     (is : IsInstruction image layout nodes at node) where
   -- the state after the instruction, from which its operation works
-  behind : Machine
-  behind = record s { ip = next_of s.ip node.instr }
+  following : Machine
+  following = record s { ip = next_of s.ip node.instr }
 
   bits-are : (scene_of t).bits ≡ temporary_bits
   bits-are = ap (λ g. g.bits) both.graph_is ∙ widths
@@ -184,10 +184,10 @@ module _ (laws : AreLifted) (image : Image) (layout : Layout) (graph : Graph) (n
   -- an instruction that is no INT 21h
   module _ (other : node.instr.op ≢ Int21) where
     moved : Machine
-    moved = op_step node.instr.op s.ip behind
+    moved = op_step node.instr.op s.ip following
 
-    mirrored : Mirrors behind t.running.values
-    unfolding behind
+    mirrored : Mirrors following t.running.values
+    unfolding following
     mirrored = record {
       eight = both.mirrors.eight;
       words = both.mirrors.words;
@@ -205,12 +205,12 @@ module _ (laws : AreLifted) (image : Image) (layout : Layout) (graph : Graph) (n
 
     passed-mirrors : Mirrors moved next-state.running.values
     unfolding moved next-state
-    passed-mirrors = laws.mirrors node.instr.op node.number s.ip behind (scene_of t) is.liftable is.operation other bits-are both.fits mirrored
+    passed-mirrors = laws.mirrors node.instr.op node.number s.ip following (scene_of t) is.liftable is.operation other bits-are both.fits mirrored
 
     goes-to : (to : ℕ) → step s ≡ moved → (step s).ip ≡ to → Contains node.succ.items to → BothStand image layout graph (step s) next-state to (at ∷ before)
-    unfolding moved next-state behind
+    unfolding moved next-state following
     goes-to to stepped ip contained =
-        let rest = laws.keeps node.instr.op s.ip behind is.liftable other in
+        let rest = laws.keeps node.instr.op s.ip following is.liftable other in
         record {
           holds = record {
             memory = ap (λ u. u.memory) stepped ∙ rest.memory ∙ both.holds.memory;
@@ -237,7 +237,7 @@ module _ (laws : AreLifted) (image : Image) (layout : Layout) (graph : Graph) (n
 
     -- the instruction is passed
     pub passed : (graphs : List Graph) (fill : ℕ) → IsPassed image layout graph graphs fill node s t at before
-    unfolding moved next-state behind
+    unfolding moved next-state following
     passed graphs fill =
         let stepped = step-is image layout graph s t at before node.instr placed both is.stands in
         let ah = known_ah image layout before in
@@ -245,8 +245,8 @@ module _ (laws : AreLifted) (image : Image) (layout : Layout) (graph : Graph) (n
         let ip = ap (λ u. u.ip) stepped in
         elim (op_test node.instr.op) as (λ o. op_test node.instr.op ≡ o → IsPassed image layout graph graphs fill node s t at before) [
           | None ↦ λ none.
-              let one = succ ∙ laws.single node.instr.op s.ip behind ah is.liftable other none in
-              let to : ℕ = (op_step node.instr.op s.ip behind).ip in
+              let one = succ ∙ laws.single node.instr.op s.ip following ah is.liftable other none in
+              let to : ℕ = (op_step node.instr.op s.ip following).ip in
               let contained : Contains node.succ.items to = subst (λ l. Contains l to) (sym one) (first-of-one to) in
               record {
                 to = to;
@@ -259,18 +259,18 @@ module _ (laws : AreLifted) (image : Image) (layout : Layout) (graph : Graph) (n
                 runs = passed-runs graphs fill;
               }
           | Some test ↦ λ some.
-              let x = laws.tested node.instr.op node.number s.ip behind ah (scene_of t) test is.liftable is.operation other bits-are both.fits mirrored some in
+              let x = laws.tested node.instr.op node.number s.ip following ah (scene_of t) test is.liftable is.operation other bits-are both.fits mirrored some in
               let same : executed (op_stmts node.instr.op node.number) (scene_of t) ≡ scene_of next-state = executed_values (op_stmts node.instr.op node.number) (scene_of t) in
-              let to : ℕ = (op_step node.instr.op s.ip behind).ip in
-              let goes : to ≡ (if value_in next-state test == 1 then x.0 else behind.ip) = x.2 ∙ ap (λ scene. if value_of scene test == 1 then x.0 else behind.ip) same in
+              let to : ℕ = (op_step node.instr.op s.ip following).ip in
+              let goes : to ≡ (if value_in next-state test == 1 then x.0 else following.ip) = x.2 ∙ ap (λ scene. if value_of scene test == 1 then x.0 else following.ip) same in
               let two = succ ∙ x.1 in
-              let contained : Contains node.succ.items to = subst (λ l. Contains l to) (sym two) (chosen-of-two (value_in next-state test == 1) x.0 behind.ip to goes) in
+              let contained : Contains node.succ.items to = subst (λ l. Contains l to) (sym two) (chosen-of-two (value_in next-state test == 1) x.0 following.ip to goes) in
               record {
                 to = to;
                 next = next-state;
                 goes = contained;
                 single = λ none. absurd (no-some (sym none ∙ some));
-                tested = λ other_test e. (x.0, behind.ip, two, goes ∙ ap (λ test'. if value_in next-state test' == 1 then x.0 else behind.ip) (some-same (sym some ∙ e)));
+                tested = λ other_test e. (x.0, following.ip, two, goes ∙ ap (λ test'. if value_in next-state test' == 1 then x.0 else following.ip) (some-same (sym some ∙ e)));
                 stand = goes-to to stepped ip contained;
                 block = refl;
                 runs = passed-runs graphs fill;

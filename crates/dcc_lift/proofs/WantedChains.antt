@@ -166,12 +166,12 @@ module _ (image : Image) (layout : Layout) (nodes : Nodes) (prelude : ℕ) (soun
   module _ (at : ℕ) (node : Node) (found : node_in nodes at ≡ Some node) (block : Block) (rest : List ℕ) (chain : IsChain nodes layout.start_ip at rest)
       (exit : block.exit ≡ exit_at nodes layout.start_ip (last_of at rest)) where
     -- what the instruction's test reads is wanted after its statements
-    tested_behind : (rest : List ℕ) → IsChain nodes layout.start_ip at rest → block.exit ≡ exit_at nodes layout.start_ip (last_of at rest) → (x : Loc) → reads_test (op_test node.instr.op) x ≡ true
+    tested_after : (rest : List ℕ) → IsChain nodes layout.start_ip at rest → block.exit ≡ exit_at nodes layout.start_ip (last_of at rest) → (x : Loc) → reads_test (op_test node.instr.op) x ≡ true
         → IsWantedIn graph block (flat_map (stmts_at nodes) rest) x
-    tested_behind [] chain exit x r =
+    tested_after [] chain exit x r =
         tested (read_tested nodes layout.start_ip node block.exit x
         (subst (λ y. IsExitOf nodes layout.start_ip node y) (sym exit) (exit_forms nodes layout.start_ip prelude sound at node found)) r)
-    tested_behind (next ∷ rest) chain exit x r =
+    tested_after (next ∷ rest) chain exit x r =
         let on = onward_tells nodes layout.start_ip prelude sound at next chain.0 in
         absurd (clash r (no_test nodes layout.start_ip node (exit_at nodes layout.start_ip at) next x
         (exit_forms nodes layout.start_ip prelude sound at node found) (subst (λ o. successors_in o ≡ next ∷ []) found on.succ)))
@@ -193,7 +193,7 @@ module _ (image : Image) (layout : Layout) (nodes : Nodes) (prelude : ℕ) (soun
           (sym (ap (λ op. uses op node.number location) same ∙ ap (λ m. uses Int21 m location) number.1) ∙ u))
       | inr other ↦
           led graph block (op_stmts node.instr.op node.number) (flat_map (stmts_at nodes) rest) is_visible (reads_test (op_test node.instr.op)) (place_of location)
-          (sets node.instr.op node.number (instructions at node found).liftable other) (tested_behind rest chain exit)
+          (sets node.instr.op node.number (instructions at node found).liftable other) (tested_after rest chain exit)
           (uses_agree node.instr.op node.number location (instructions at node found).liftable other ∙ u)
     ])
 
@@ -250,22 +250,22 @@ module _ (image : Image) (layout : Layout) (nodes : Nodes) (prelude : ℕ) (soun
   procedure_wanted at location (used {op = op} {number = number} h u) node found block rest chain exit =
       used_here at node found block rest chain exit location (sym (own_uses at node op number location found h) ∙ u)
   procedure_wanted at location (made_of {next = next} {to = to} {op = op} {number = number} h on m d) node found block rest chain exit =
-      let behind = wanted_on at next to (edge_goes at node found next on) (procedure_wanted next to d) block rest chain exit in
+      let following = wanted_on at next to (edge_goes at node found next on) (procedure_wanted next to d) block rest chain exit in
       let makes_here : makes node.instr.op to location ≡ true = sym (own_makes at node op number to location found h) ∙ m in
       elim (is_dos node.instr.op) [
         | inl same ↦ absurd (true≢false (sym (subst (λ o. makes o to location ≡ true) same makes_here)))
         | inr other ↦ made_here at node found block rest chain exit location to other
-            (or_here (makes node.instr.op to location) (is_same location to && not (surely_writes node.instr.op node.number location)) makes_here) behind
+            (or_here (makes node.instr.op to location) (is_same location to && not (surely_writes node.instr.op node.number location)) makes_here) following
       ]
   procedure_wanted at location (left {next = next} {op = op} {number = number} h on w d) node found block rest chain exit =
-      let behind = wanted_on at next location (edge_goes at node found next on) (procedure_wanted next location d) block rest chain exit in
+      let following = wanted_on at next location (edge_goes at node found next on) (procedure_wanted next location d) block rest chain exit in
       let stays : surely_writes node.instr.op node.number location ≡ false = sym (own_writes at node op number location found h) ∙ w in
       elim (is_dos node.instr.op) [
-        | inl same ↦ kept_here at node found block rest chain exit location same stays behind
+        | inl same ↦ kept_here at node found block rest chain exit location same stays following
         | inr other ↦ made_here at node found block rest chain exit location location other
             (or_there (makes node.instr.op location location) (is_same location location && not (surely_writes node.instr.op node.number location))
             (and_both (is_same location location) (not (surely_writes node.instr.op node.number location))
-            (sym (place_same location location) ∙ location_itself (place_of location)) (ap not stays))) behind
+            (sym (place_same location location) ∙ location_itself (place_of location)) (ap not stays))) following
       ]
 
   -- both ways, at a block that begins at a leader

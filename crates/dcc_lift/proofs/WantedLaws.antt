@@ -18,7 +18,7 @@ use Rattle.dcc_lift.specs.Demand.{place_of}
 use Rattle.dcc_lift.proofs.ListTests.{and_left, and_right, or_cases, not_true}
 use Rattle.dcc_lift.proofs.Standing.{is_lifted_number, IsInstruction}
 use Rattle.dcc_lift.proofs.MirrorLaws.{location_same}
-use Rattle.dcc_lift.proofs.WantedStatements.{before, alone, before_weaker, known_behind, known_stays, known_read, wanted_known, WantedWith, leads}
+use Rattle.dcc_lift.proofs.WantedStatements.{before, alone, before_weaker, known_after, known_stays, known_read, wanted_known, WantedWith, leads}
 use Rattle.dcc_lift.proofs.WantedMakes.{is_same, comes_from}
 use Rattle.dcc_lift.proofs.WantedOperations.{agrees, is_visible, sets, reads_test, test_known, tests_known, uses_agree}
 use Rattle.dcc_lift.proofs.WantedDos.{location_of, placed, place_visible, same_place, DosWants, taken, kept, dos_wants}
@@ -69,7 +69,7 @@ module _ (image : Image) (layout : Layout) (nodes : Nodes) (at : ℕ) (node : No
     number_is = λ e. record { before = reached.before; trail = reached.trail; stands = (node.instr, is.stands, e); ah_is = is.told e reached.before reached.trail };
   }
 
-  module _ (End : Loc → Type 0) (ys : List Stmt) (behind : (to : Loc) → WantedWith End ys to → IsWantedBehind image layout at node.instr.op to) where
+  module _ (End : Loc → Type 0) (ys : List Stmt) (following : (to : Loc) → WantedWith End ys to → IsWantedBehind image layout at node.instr.op to) where
     -- an operation that is no INT 21h, where its test reads what is wanted
     ahead_tested : node.instr.op ≢ Int21 → (l to : Loc) → before (op_stmts node.instr.op node.number) (alone to) l ≡ true → reads_test (op_test node.instr.op) to ≡ true → IsWantedAt image layout at l
     ahead_tested other l to b t =
@@ -80,7 +80,7 @@ module _ (image : Image) (layout : Layout) (nodes : Nodes) (at : ℕ) (node : No
         (λ x e. subst (λ y. reads_test (op_test op) y ≡ true) (sym (location_same x to e)) t) b in
         let v : is_visible l ≡ true =
         wanted_known stmts is_visible (reads_test (op_test op)) l (sets op node.number is.liftable other)
-        (λ x e. test_reads_known (op_test op) (known_behind stmts is_visible) x (tests_known op node.number) e) w in
+        (λ x e. test_reads_known (op_test op) (known_after stmts is_visible) x (tests_known op node.number) e) w in
         let e : place_of (location_of l) ≡ l = placed l v in
         record {
           location = location_of l;
@@ -119,11 +119,11 @@ module _ (image : Image) (layout : Layout) (nodes : Nodes) (at : ℕ) (node : No
     ahead_other : node.instr.op ≢ Int21 → (l : Loc) → WantedWith End (op_stmts node.instr.op node.number ++ ys) l → IsWantedAt image layout at l
     ahead_other other l d =
         let on = leads End (op_stmts node.instr.op node.number) ys is_visible l (sets node.instr.op node.number is.liftable other) d in
-        by_behind on.0 on.1 (behind on.0 on.2)
+        by_after on.0 on.1 (following on.0 on.2)
       where
-        by_behind : (to : Loc) → before (op_stmts node.instr.op node.number) (alone to) l ≡ true → IsWantedBehind image layout at node.instr.op to → IsWantedAt image layout at l
-        by_behind to b (by_test t) = ahead_tested other l to b t
-        by_behind to b (by_next next edge there) = ahead_next other l to b next edge there
+        by_after : (to : Loc) → before (op_stmts node.instr.op node.number) (alone to) l ≡ true → IsWantedBehind image layout at node.instr.op to → IsWantedAt image layout at l
+        by_after to b (by_test t) = ahead_tested other l to b t
+        by_after to b (by_next next edge there) = ahead_next other l to b next edge there
 
     -- INT 21h
     ahead_dos : node.instr.op ≡ Int21 → (l : Loc) → WantedWith End (op_stmts node.instr.op node.number ++ ys) l → IsWantedAt image layout at l
@@ -138,9 +138,9 @@ module _ (image : Image) (layout : Layout) (nodes : Nodes) (at : ℕ) (node : No
         writes_here : (location : Location) → surely_writes node.instr.op node.number location ≡ surely_writes Int21 (Some n.0) location
         writes_here location = ap (λ op. surely_writes op node.number location) same ∙ ap (λ m. surely_writes Int21 m location) n.1
 
-        by_behind : ((location : Location) → place_of location ≡ l → surely_writes Int21 (Some n.0) location ≡ false) → IsWantedBehind image layout at node.instr.op l → IsWantedAt image layout at l
-        by_behind f (by_test t) = absurd (true≢false (sym (subst (λ op. reads_test (op_test op) l ≡ true) same t)))
-        by_behind f (by_next next edge there) = record {
+        by_after : ((location : Location) → place_of location ≡ l → surely_writes Int21 (Some n.0) location ≡ false) → IsWantedBehind image layout at node.instr.op l → IsWantedAt image layout at l
+        by_after f (by_test t) = absurd (true≢false (sym (subst (λ op. reads_test (op_test op) l ≡ true) same t)))
+        by_after f (by_next next edge there) = record {
           location = there.location;
           is = there.is;
           wanted = left has_operation edge (writes_here there.location ∙ f there.location there.is) there.wanted;
@@ -148,7 +148,7 @@ module _ (image : Image) (layout : Layout) (nodes : Nodes) (at : ℕ) (node : No
 
         by_wants : DosWants n.0 l (WantedWith End ys l) → IsWantedAt image layout at l
         by_wants (taken location e u) = record { location = location; is = e; wanted = used has_operation (uses_here location ∙ u) }
-        by_wants (kept f d) = by_behind f (behind l d)
+        by_wants (kept f d) = by_after f (following l d)
 
     -- what is wanted before the statements of an instruction is wanted before it
     pub ahead : (l : Loc) → WantedWith End (op_stmts node.instr.op node.number ++ ys) l → IsWantedAt image layout at l

@@ -267,8 +267,8 @@ alu_made _ _ a u h = simp h
 
 module _ (operation : Alu) (a : Operand) (to : Location) (g : is_register a ≡ true) where
   -- after the taking
-  abbrev alu_behind : Loc → Bool
-  alu_behind = before (alu_working operation (operand_width a) ++ alu_storing operation a) (alone (place_of to))
+  abbrev alu_after : Loc → Bool
+  alu_after = before (alu_working operation (operand_width a) ++ alu_storing operation a) (alone (place_of to))
 
   alu_result_made : (made_flags (is_logic operation) (before (alu_storing operation a) (alone (place_of to)))
       || before (alu_storing operation a) (alone (place_of to)) (result_place (operand_width a)))
@@ -277,26 +277,26 @@ module _ (operation : Alu) (a : Operand) (to : Location) (g : is_register a ≡ 
       ap (λ b. made_flags (is_logic operation) (before (alu_storing operation a) (alone (place_of to))) || b) (alu_stored_result operation a to g)
       ∙ alu_made to operation a (before (alu_storing operation a) (alone (place_of to))) (alu_stored_flag operation a to)
 
-  alu_behind_left : alu_behind (left_place (operand_width a)) ≡ alu_makes operation a to
-  alu_behind_left =
+  alu_after_left : alu_after (left_place (operand_width a)) ≡ alu_makes operation a to
+  alu_after_left =
       before_both (alu_working operation (operand_width a)) (alu_storing operation a) (alone (place_of to)) (left_place (operand_width a))
       ∙ alu_left operation (operand_width a) (before (alu_storing operation a) (alone (place_of to))) (alu_stored_left operation a to g) (alu_stored_right operation a to g)
       ∙ alu_result_made
 
-  alu_behind_right : alu_behind (right_place (operand_width a)) ≡ alu_makes operation a to
-  alu_behind_right =
+  alu_after_right : alu_after (right_place (operand_width a)) ≡ alu_makes operation a to
+  alu_after_right =
       before_both (alu_working operation (operand_width a)) (alu_storing operation a) (alone (place_of to)) (right_place (operand_width a))
       ∙ alu_right operation (operand_width a) (before (alu_storing operation a) (alone (place_of to))) (alu_stored_left operation a to g) (alu_stored_right operation a to g)
       ∙ alu_result_made
 
-  alu_behind_half : (s : Reg) (k : HalfName) → alu_behind (Half s k) ≡ (is_same (half_of s k) to && not (writes_operand operation && is_half_of s k a))
-  alu_behind_half s k =
+  alu_after_half : (s : Reg) (k : HalfName) → alu_after (Half s k) ≡ (is_same (half_of s k) to && not (writes_operand operation && is_half_of s k a))
+  alu_after_half s k =
       before_both (alu_working operation (operand_width a)) (alu_storing operation a) (alone (place_of to)) (Half s k)
       ∙ alu_half (operand_width a) operation (before (alu_storing operation a) (alone (place_of to))) s k
       ∙ alu_stored_half operation a s k to g
 
-  alu_behind_flag : (f : FlagName) → alu_behind (Flag f) ≡ (takes_carry operation && (is_flag Cf (flag_of f) && alu_makes operation a to))
-  alu_behind_flag f =
+  alu_after_flag : (f : FlagName) → alu_after (Flag f) ≡ (takes_carry operation && (is_flag Cf (flag_of f) && alu_makes operation a to))
+  alu_after_flag f =
       before_both (alu_working operation (operand_width a)) (alu_storing operation a) (alone (place_of to)) (Flag f)
       ∙ alu_flag operation (operand_width a) (before (alu_storing operation a) (alone (place_of to))) f
       ∙ ap (λ b. takes_carry operation && (is_flag Cf (flag_of f) && b)) alu_result_made
@@ -322,9 +322,9 @@ alu_agrees operation a b number (half_of s k) to g h =
       operand_reads a (half_of s k) (register_source a g),
       operand_reads b
           (half_of s k) h,
-      alu_behind_left operation a to g,
-      alu_behind_right operation a to g,
-      alu_behind_half operation a to g s k,
+      alu_after_left operation a to g,
+      alu_after_right operation a to g,
+      alu_after_half operation a to g s k,
     )
     (half_joined (is_read (half_of s k) a) (is_read (half_of s k) b) (takes_carry operation) (alu_makes operation a to)
     (is_same (half_of s k) to && not (writes_operand operation && is_half_of s k a)))
@@ -332,5 +332,5 @@ alu_agrees operation a b number (flag_of f) to g h =
     before_both (taking (operand_width a) (operand_expr a) (operand_expr b)) (alu_working operation (operand_width a) ++ alu_storing operation a) (alone (place_of to)) (Flag f)
     ∙ taken (operand_width a) (operand_expr a) (operand_expr b)
     (before (alu_working operation (operand_width a) ++ alu_storing operation a) (alone (place_of to))) (flag_of f) (operand_reads_left (operand_width a) b)
-    ∙ rw (operand_reads a (flag_of f) (register_source a g), operand_reads b (flag_of f) h, alu_behind_left operation a to g, alu_behind_right operation a to g, alu_behind_flag operation a to g f)
+    ∙ rw (operand_reads a (flag_of f) (register_source a g), operand_reads b (flag_of f) h, alu_after_left operation a to g, alu_after_right operation a to g, alu_after_flag operation a to g f)
     (flag_joined (is_read (flag_of f) a) (is_read (flag_of f) b) (takes_carry operation) (is_flag Cf (flag_of f)) (alu_makes operation a to) (is_same (flag_of f) to))

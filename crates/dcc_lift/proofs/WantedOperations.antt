@@ -35,7 +35,7 @@ use Rattle.dcc_lift.specs.Statements.{alu_stmts, unary_stmts, shift_stmts, mov_s
 use Rattle.dcc_lift.specs.Liftable.{is_register, is_source, is_lifted_unary, is_liftable}
 use Rattle.dcc_lift.specs.Demand.{place_of}
 use Rattle.dcc_lift.proofs.ListTests.{and_left, and_right, or_none}
-use Rattle.dcc_lift.proofs.WantedStatements.{reads, before, alone, before_none, known_behind, sets_first}
+use Rattle.dcc_lift.proofs.WantedStatements.{reads, before, alone, before_none, known_after, sets_first}
 use Rattle.dcc_lift.proofs.WantedMakes.{is_same, comes_from, operand_reads, alu_agrees}
 use Rattle.dcc_lift.proofs.WantedUnary.{unary_agrees}
 use Rattle.dcc_lift.proofs.WantedShifts.{shift_agrees}
@@ -164,7 +164,7 @@ condition_known : (tested : Cond) → list_all is_visible (reads_of (condition t
 condition_known O = refl
 condition_known _ = refl
 
-pub tests_known : (op : Op) (number : Option ℕ) → test_known (op_test op) (known_behind (op_stmts op number) is_visible) ≡ true
+pub tests_known : (op : Op) (number : Option ℕ) → test_known (op_test op) (known_after (op_stmts op number) is_visible) ≡ true
 tests_known (Branch tested target) number = condition_known tested
 tests_known (Loop target) number = refl
 tests_known (LoopE target) number = refl

@@ -137,8 +137,8 @@ flag_joined : (x m r c b t z k : Bool) → ((x && (m && r)) || ((c && (b && m)) 
 flag_joined x m r c b t z k = grind arith
 
 module _ (operation : Shift) (a : Operand) (by_cl : Bool) (to : Location) (g : is_register a ≡ true) where
-  abbrev shift_behind : Loc → Bool
-  shift_behind = before (shift_working operation (operand_width a) by_cl ++ storing a) (alone (place_of to))
+  abbrev shift_after : Loc → Bool
+  shift_after = before (shift_working operation (operand_width a) by_cl ++ storing a) (alone (place_of to))
 
   abbrev shift_stored : Loc → Bool
   shift_stored = before (storing a) (alone (place_of to))
@@ -146,31 +146,31 @@ module _ (operation : Shift) (a : Operand) (by_cl : Bool) (to : Location) (g : i
   shift_flags_are : (f : FlagName) → shift_stored (Flag f) ≡ is_same (flag_of f) to
   shift_flags_are f = stored_flag a f (alone (place_of to)) ∙ place_same (flag_of f) to
 
-  shift_behind_left : shift_behind (left_place (operand_width a)) ≡ (shift_writes operation a to && shift_reads operation to)
-  shift_behind_left =
+  shift_after_left : shift_after (left_place (operand_width a)) ≡ (shift_writes operation a to && shift_reads operation to)
+  shift_after_left =
       before_both (shift_working operation (operand_width a) by_cl) (storing a) (alone (place_of to)) (left_place (operand_width a))
       ∙ shift_left operation (operand_width a) by_cl shift_stored (stored_left a (alone (place_of to)) g ∙ no_left to (operand_width a))
       (stored_right a (alone (place_of to)) g ∙ no_right to (operand_width a))
       ∙ ap (λ b. read_flags operation shift_stored || b) (stored_result a to g)
       ∙ read_made to operation a shift_stored shift_flags_are
 
-  shift_behind_right : (by_cl && shift_behind (right_place (operand_width a))) ≡ (is_by_cl operation by_cl && shift_writes operation a to)
-  shift_behind_right =
+  shift_after_right : (by_cl && shift_after (right_place (operand_width a))) ≡ (is_by_cl operation by_cl && shift_writes operation a to)
+  shift_after_right =
       ap (λ b. by_cl && b) (before_both (shift_working operation (operand_width a) by_cl) (storing a) (alone (place_of to)) (right_place (operand_width a)))
       ∙ shift_right operation (operand_width a) by_cl shift_stored (stored_left a (alone (place_of to)) g ∙ no_left to (operand_width a))
       (stored_right a (alone (place_of to)) g ∙ no_right to (operand_width a))
       ∙ ap (λ b. is_by_cl operation by_cl && (written_flags operation shift_stored || b)) (stored_result a to g)
       ∙ ap (λ b. is_by_cl operation by_cl && b) (written_made to operation a shift_stored shift_flags_are)
 
-  shift_behind_half : (s : Reg) (k : HalfName) → shift_behind (Half s k) ≡ (is_same (half_of s k) to && not (is_half_of s k a))
-  shift_behind_half s k =
+  shift_after_half : (s : Reg) (k : HalfName) → shift_after (Half s k) ≡ (is_same (half_of s k) to && not (is_half_of s k a))
+  shift_after_half s k =
       before_both (shift_working operation (operand_width a) by_cl) (storing a) (alone (place_of to)) (Half s k)
       ∙ shift_half (operand_width a) by_cl operation shift_stored s k
       ∙ stored_half a s k to g
 
-  shift_behind_flag : (f : FlagName) → shift_behind (Flag f)
+  shift_after_flag : (f : FlagName) → shift_after (Flag f)
       ≡ ((is_flag Cf (flag_of f) && (shift_writes operation a to && brings_carry operation to)) || (is_same (flag_of f) to && not (shift_writes_flag operation f && not (is_by_cl operation by_cl))))
-  shift_behind_flag f =
+  shift_after_flag f =
       before_both (shift_working operation (operand_width a) by_cl) (storing a) (alone (place_of to)) (Flag f)
       ∙ shift_flag (operand_width a) by_cl f operation shift_stored
       ∙ ap (λ b. (is_flag Cf (flag_of f) && (is_turn operation && (shift_stored (Flag Of) || b)))
@@ -182,27 +182,27 @@ module _ (operation : Shift) (a : Operand) (by_cl : Bool) (to : Location) (g : i
 
   -- the operands
   shift_taken : (l : Location) → before (shift_stmts operation (operand_width a) a by_cl) (alone (place_of to)) (place_of l)
-      ≡ ((is_read l a && (shift_writes operation a to && shift_reads operation to)) || ((is_cl l && (is_by_cl operation by_cl && shift_writes operation a to)) || shift_behind (place_of l)))
+      ≡ ((is_read l a && (shift_writes operation a to && shift_reads operation to)) || ((is_cl l && (is_by_cl operation by_cl && shift_writes operation a to)) || shift_after (place_of l)))
   shift_taken l =
       let w = operand_width a in
       before_both (taking w (operand_expr a) (count w by_cl)) (shift_working operation w by_cl ++ storing a) (alone (place_of to)) (place_of l)
-      ∙ taken w (operand_expr a) (count w by_cl) shift_behind l (count_reads_left w by_cl)
-      ∙ ap (λ b. (b && shift_behind (left_place w)) || ((reads (place_of l) (count w by_cl) && shift_behind (right_place w)) || shift_behind (place_of l))) (operand_reads a l (register_source a g))
-      ∙ ap (λ b. (is_read l a && b) || ((reads (place_of l) (count w by_cl) && shift_behind (right_place w)) || shift_behind (place_of l))) shift_behind_left
-      ∙ ap (λ b. (is_read l a && (shift_writes operation a to && shift_reads operation to)) || (b || shift_behind (place_of l)))
-      (ap (λ b. b && shift_behind (right_place w)) (count_reads w by_cl l) ∙ counted_joined by_cl (is_cl l) (shift_behind (right_place w)) ∙ ap (λ b. is_cl l && b) shift_behind_right)
+      ∙ taken w (operand_expr a) (count w by_cl) shift_after l (count_reads_left w by_cl)
+      ∙ ap (λ b. (b && shift_after (left_place w)) || ((reads (place_of l) (count w by_cl) && shift_after (right_place w)) || shift_after (place_of l))) (operand_reads a l (register_source a g))
+      ∙ ap (λ b. (is_read l a && b) || ((reads (place_of l) (count w by_cl) && shift_after (right_place w)) || shift_after (place_of l))) shift_after_left
+      ∙ ap (λ b. (is_read l a && (shift_writes operation a to && shift_reads operation to)) || (b || shift_after (place_of l)))
+      (ap (λ b. b && shift_after (right_place w)) (count_reads w by_cl l) ∙ counted_joined by_cl (is_cl l) (shift_after (right_place w)) ∙ ap (λ b. is_cl l && b) shift_after_right)
 
 pub shift_agrees : (operation : Shift) (a : Operand) (by_cl : Bool) (number : Option ℕ) (l to : Location) → is_register a ≡ true
     → before (shift_stmts operation (operand_width a) a by_cl) (alone (place_of to)) (place_of l) ≡ comes_from (ShiftOp operation a by_cl) number l to
 shift_agrees operation a by_cl number (half_of s k) to g =
     shift_taken operation a by_cl to g (half_of s k)
     ∙ ap (λ b. (is_read (half_of s k) a && (shift_writes operation a to && shift_reads operation to))
-    || ((is_cl (half_of s k) && (is_by_cl operation by_cl && shift_writes operation a to)) || b)) (shift_behind_half operation a by_cl to g s k)
+    || ((is_cl (half_of s k) && (is_by_cl operation by_cl && shift_writes operation a to)) || b)) (shift_after_half operation a by_cl to g s k)
     ∙ half_joined (is_read (half_of s k) a) (shift_writes operation a to) (shift_reads operation to) (is_cl (half_of s k)) (is_by_cl operation by_cl)
     (brings_carry operation to) (is_same (half_of s k) to && not (is_half_of s k a))
 shift_agrees operation a by_cl number (flag_of f) to g =
     shift_taken operation a by_cl to g (flag_of f)
     ∙ ap (λ b. (is_read (flag_of f) a && (shift_writes operation a to && shift_reads operation to))
-    || ((is_cl (flag_of f) && (is_by_cl operation by_cl && shift_writes operation a to)) || b)) (shift_behind_flag operation a by_cl to g f)
+    || ((is_cl (flag_of f) && (is_by_cl operation by_cl && shift_writes operation a to)) || b)) (shift_after_flag operation a by_cl to g f)
     ∙ flag_joined (is_read (flag_of f) a) (shift_writes operation a to) (shift_reads operation to) (is_cl (flag_of f)) (is_by_cl operation by_cl) (brings_carry operation to) (is_flag Cf (flag_of f))
     (is_same (flag_of f) to && not (shift_writes_flag operation f && not (is_by_cl operation by_cl)))

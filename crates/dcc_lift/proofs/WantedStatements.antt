@@ -103,10 +103,10 @@ before_none (Dos n place argument ∷ xs) l = before_none xs l
 -- Statements that read no temporary before they set it.
 
 -- the locations that are known after statements, where these are known before them
-abbrev pub known_behind : List Stmt → (Loc → Bool) → Loc → Bool
-known_behind [] known = known
-known_behind (Set to e ∷ rest) known = known_behind rest (λ l. known l || same_location l to)
-known_behind (stmt ∷ rest) known = known_behind rest known
+abbrev pub known_after : List Stmt → (Loc → Bool) → Loc → Bool
+known_after [] known = known
+known_after (Set to e ∷ rest) known = known_after rest (λ l. known l || same_location l to)
+known_after (stmt ∷ rest) known = known_after rest known
 
 -- the statements set locations, and read only what is known
 abbrev pub sets_first : List Stmt → (Loc → Bool) → Bool
@@ -114,7 +114,7 @@ sets_first [] known = true
 sets_first (Set to e ∷ rest) known = list_all known (reads_of e) && sets_first rest (λ l. known l || same_location l to)
 sets_first (stmt ∷ rest) known = false
 
-pub sets_both : (xs ys : List Stmt) (known : Loc → Bool) → sets_first xs known ≡ true → sets_first ys (known_behind xs known) ≡ true → sets_first (xs ++ ys) known ≡ true
+pub sets_both : (xs ys : List Stmt) (known : Loc → Bool) → sets_first xs known ≡ true → sets_first ys (known_after xs known) ≡ true → sets_first (xs ++ ys) known ≡ true
 sets_both [] ys known s t = t
 sets_both (Set to e ∷ xs) ys known s t =
     and_both (list_all known (reads_of e)) (sets_first (xs ++ ys) (λ l. known l || same_location l to))
@@ -126,7 +126,7 @@ sets_both (Div to e ∷ xs) ys known s t = absurd (true≢false (sym s))
 sets_both (Call results entry arguments depth ∷ xs) ys known s t = absurd (true≢false (sym s))
 sets_both (Dos n place argument ∷ xs) ys known s t = absurd (true≢false (sym s))
 
-pub known_stays : (xs : List Stmt) (known : Loc → Bool) (l : Loc) → known l ≡ true → known_behind xs known l ≡ true
+pub known_stays : (xs : List Stmt) (known : Loc → Bool) (l : Loc) → known l ≡ true → known_after xs known l ≡ true
 known_stays [] known l e = e
 known_stays (Set to e ∷ xs) known l t = known_stays xs (λ x. known x || same_location x to) l (or_here (known l) (same_location l to) t)
 known_stays (Fetch to width address ∷ xs) known l t = known_stays xs known l t
@@ -143,23 +143,23 @@ known_read known l (x ∷ xs) a e = elim (or_cases (same_location l x) (list_any
 ]
 
 -- what is wanted before such statements is known
-pub wanted_known : (xs : List Stmt) (known w : Loc → Bool) (l : Loc) → sets_first xs known ≡ true → ((x : Loc) → w x ≡ true → known_behind xs known x ≡ true) → before xs w l ≡ true → known l ≡ true
-wanted_known [] known w l s behind e = behind l e
-wanted_known (Set to e ∷ xs) known w l s behind t = elim (or_cases (reads l e && before xs w to) (not (same_location l to) && before xs w l) t) [
+pub wanted_known : (xs : List Stmt) (known w : Loc → Bool) (l : Loc) → sets_first xs known ≡ true → ((x : Loc) → w x ≡ true → known_after xs known x ≡ true) → before xs w l ≡ true → known l ≡ true
+wanted_known [] known w l s following e = following l e
+wanted_known (Set to e ∷ xs) known w l s following t = elim (or_cases (reads l e && before xs w to) (not (same_location l to) && before xs w l) t) [
   | inl a ↦ known_read known l (reads_of e) (and_left (list_all known (reads_of e)) (sets_first xs (λ x. known x || same_location x to)) s) (and_left (reads l e) (before xs w to) a)
   | inr b ↦ elim (or_cases (known l) (same_location l to)
       (wanted_known xs (λ x. known x || same_location x to) w l
-      (and_right (list_all known (reads_of e)) (sets_first xs (λ x. known x || same_location x to)) s) behind
+      (and_right (list_all known (reads_of e)) (sets_first xs (λ x. known x || same_location x to)) s) following
       (and_right (not (same_location l to)) (before xs w l) b))) [
         | inl t ↦ t
         | inr t ↦ absurd (clash t (not_true (same_location l to) (and_left (not (same_location l to)) (before xs w l) b)))
       ]
 ]
-wanted_known (Fetch to width address ∷ xs) known w l s behind t = absurd (true≢false (sym s))
-wanted_known (Store width address e ∷ xs) known w l s behind t = absurd (true≢false (sym s))
-wanted_known (Div to e ∷ xs) known w l s behind t = absurd (true≢false (sym s))
-wanted_known (Call results entry arguments depth ∷ xs) known w l s behind t = absurd (true≢false (sym s))
-wanted_known (Dos n place argument ∷ xs) known w l s behind t = absurd (true≢false (sym s))
+wanted_known (Fetch to width address ∷ xs) known w l s following t = absurd (true≢false (sym s))
+wanted_known (Store width address e ∷ xs) known w l s following t = absurd (true≢false (sym s))
+wanted_known (Div to e ∷ xs) known w l s following t = absurd (true≢false (sym s))
+wanted_known (Call results entry arguments depth ∷ xs) known w l s following t = absurd (true≢false (sym s))
+wanted_known (Dos n place argument ∷ xs) known w l s following t = absurd (true≢false (sym s))
 
 -- In a graph.
 
@@ -222,17 +222,17 @@ leads End (Dos n place argument ∷ xs) ys known l s d = absurd (true≢false (s
 -- and what leads to a wanted location is wanted
 pub led : (graph : Graph) (block : Block) (xs ys : List Stmt) (known w : Loc → Bool) (l : Loc) → sets_first xs known ≡ true → ((x : Loc) → w x ≡ true → IsWantedIn graph block ys x)
     → before xs w l ≡ true → IsWantedIn graph block (xs ++ ys) l
-led graph block [] ys known w l s behind t = behind l t
-led graph block (Set x e ∷ xs) ys known w l s behind t =
+led graph block [] ys known w l s following t = following l t
+led graph block (Set x e ∷ xs) ys known w l s following t =
     let rest = and_right (list_all known (reads_of e)) (sets_first xs (λ l. known l || same_location l x)) s in
     elim (or_cases (reads l e && before xs w x) (not (same_location l x) && before xs w l) t) [
       | inl a ↦ made_of (contained_location (x ∷ []) x (or_here (same_location x x) false (location_itself x))) (contained_location (reads_of e) l (and_left (reads l e) (before xs w x) a))
-          (led graph block xs ys (λ l. known l || same_location l x) w x rest behind (and_right (reads l e) (before xs w x) a))
+          (led graph block xs ys (λ l. known l || same_location l x) w x rest following (and_right (reads l e) (before xs w x) a))
       | inr b ↦ left (λ c. clash (subst (λ y. same_location l y ≡ true) (one_location x l c) (location_itself l)) (not_true (same_location l x) (and_left (not (same_location l x)) (before xs w l) b)))
-          (led graph block xs ys (λ l. known l || same_location l x) w l rest behind (and_right (not (same_location l x)) (before xs w l) b))
+          (led graph block xs ys (λ l. known l || same_location l x) w l rest following (and_right (not (same_location l x)) (before xs w l) b))
     ]
-led graph block (Fetch to width address ∷ xs) ys known w l s behind t = absurd (true≢false (sym s))
-led graph block (Store width address e ∷ xs) ys known w l s behind t = absurd (true≢false (sym s))
-led graph block (Div to e ∷ xs) ys known w l s behind t = absurd (true≢false (sym s))
-led graph block (Call results entry arguments depth ∷ xs) ys known w l s behind t = absurd (true≢false (sym s))
-led graph block (Dos n place argument ∷ xs) ys known w l s behind t = absurd (true≢false (sym s))
+led graph block (Fetch to width address ∷ xs) ys known w l s following t = absurd (true≢false (sym s))
+led graph block (Store width address e ∷ xs) ys known w l s following t = absurd (true≢false (sym s))
+led graph block (Div to e ∷ xs) ys known w l s following t = absurd (true≢false (sym s))
+led graph block (Call results entry arguments depth ∷ xs) ys known w l s following t = absurd (true≢false (sym s))
+led graph block (Dos n place argument ∷ xs) ys known w l s following t = absurd (true≢false (sym s))

@@ -10,7 +10,7 @@ use Rattle.dcc_num.specs.declared.Width.{Width}
 use Rattle.dcc_num.specs.declared.Width.TheVariants.{Byte, Word}
 use Rattle.dcc_num.specs.declared.Flags.{Flags}
 use Rattle.dcc_num.specs.Numbers.{bits_of, limit_of, half_of, has_sign, is_set, differ, result_flags, signed_of, halved_of, wrapped_of, residue_of}
-use Rattle.dcc_num.specs.Shift.{left_shift_of, right_shift_of, signed_shift_of, left_rotation_of, right_rotation_of, left_turn_of, right_turn_of, turned_of, top_bits_differ, unless_zero}
+use Rattle.dcc_num.specs.Shift.{shl_of, shr_of, sar_of, left_rotation_of, right_rotation_of, left_turn_of, right_turn_of, turned_of, top_bits_differ, unless_zero}
 use Rattle.dcc_num.specs.Laws.{TellsSign, TellsResult, ShiftsTellResults, RotationsKeepFlags, TurnsKeepFlags, LeftShiftsCarry, RightShiftsCarry}
 use Rattle.dcc_num.proofs.Differences.{tells_result, below, wrapped_below}
 use Rattle.dcc_num.proofs.Shifts.{nothing_left, turned_below}
@@ -53,8 +53,8 @@ never false = refl
 
 -- ---- shifts
 
-pub left_tells : ShiftsTellResults left_shift_of
-unfolding left_shift_of result_flags
+pub left_tells : ShiftsTellResults shl_of
+unfolding shl_of result_flags
 left_tells w a count was small =
     let r = a * 2 ^ count % limit_of w in
     let out = is_set (a * 2 ^ count) (bits_of w) in (
@@ -67,8 +67,8 @@ left_tells w a count was small =
     top Byte a small = grind (arith, nat_tests)
     top Word a small = grind (arith, nat_tests)
 
-pub right_tells : ShiftsTellResults right_shift_of
-unfolding right_shift_of result_flags
+pub right_tells : ShiftsTellResults shr_of
+unfolding shr_of result_flags
 right_tells w a count was small =
     let r = a / 2 ^ count in
     let out = is_set a (count - 1) in (
@@ -84,8 +84,8 @@ right_tells w a count was small =
     fits : (a n : ℕ) → a < limit_of w → a / 2 ^ n < limit_of w
     fits a n small = let h : a / 2 ^ n ≤ a = div-le_self a (2 ^ n) in omega arith
 
-pub signed_tells : ShiftsTellResults signed_shift_of
-unfolding signed_shift_of result_flags
+pub signed_tells : ShiftsTellResults sar_of
+unfolding sar_of result_flags
 signed_tells w a count was small =
     let r = wrapped_of w (halved_of (signed_of w a) count) in
     let out = nat_eq (residue_of 2 (halved_of (signed_of w a) (count - 1))) 1 in (
@@ -117,7 +117,7 @@ moved_within a b n within =
     rw p (mul-div-mul_right a (2 ^ (b - n)) (pow_pos n))
 
 pub left_carries : LeftShiftsCarry
-unfolding left_shift_of result_flags
+unfolding shl_of result_flags
 left_carries w a count was small some =
     rw (moved_is count (a, was) _ some) (elim (cases_lt (bits_of w) count) [
       | inl past ↦
@@ -131,7 +131,7 @@ left_carries w a count was small some =
     ])
 
 pub right_carries : RightShiftsCarry
-unfolding right_shift_of result_flags
+unfolding shr_of result_flags
 right_carries w a count was small some = rw (moved_is count (a, was) _ some) refl
 
 -- ---- rotations

@@ -8,7 +8,7 @@ use Rattle.dcc_num.specs.declared.Width.{Width}
 use Rattle.dcc_num.specs.declared.Width.TheVariants.{Byte, Word}
 use Rattle.dcc_num.specs.declared.Flags.{Flags}
 use Rattle.dcc_num.specs.Numbers.{bits_of, limit_of, half_of, has_sign, is_set, result_flags, signed_of, halved_of, wrapped_of, residue_of}
-use Rattle.dcc_num.specs.Shift.{left_shift_of, right_shift_of, signed_shift_of, left_rotation_of, right_rotation_of, turned_of}
+use Rattle.dcc_num.specs.Shift.{shl_of, shr_of, sar_of, left_rotation_of, right_rotation_of, turned_of}
 use Rattle.dcc_num.specs.Laws.{after_steps, left_step, right_step, signed_step, left_rotation_step, right_rotation_step, value_and_carry, IsRepeated}
 use Rattle.dcc_num.proofs.Shifts.{turned_below}
 
@@ -29,14 +29,14 @@ two p q = cc
 
 -- ---- SHL
 
-left_has : (w : Width) (a : ℕ) (was : Flags) → a < limit_of w → (n : ℕ) → (left_shift_of w a n was).0 ≡ a * 2 ^ n % limit_of w
-unfolding left_shift_of
+left_has : (w : Width) (a : ℕ) (was : Flags) → a < limit_of w → (n : ℕ) → (shl_of w a n was).0 ≡ a * 2 ^ n % limit_of w
+unfolding shl_of
 left_has w a was small zero = sym (mod-eq_of_lt small) ∙ ap (λ (k : ℕ). k % limit_of w) (omega arith)
 left_has w a was small (suc n) = rw (not_zero n)
 
 left_gives : (w : Width) (a : ℕ) (was : Flags) (n : ℕ)
-    → value_and_carry (left_shift_of w a (suc n) was) ≡ (a * 2 ^ suc n % limit_of w, is_set (a * 2 ^ suc n) (bits_of w))
-unfolding left_shift_of result_flags
+    → value_and_carry (shl_of w a (suc n) was) ≡ (a * 2 ^ suc n % limit_of w, is_set (a * 2 ^ suc n) (bits_of w))
+unfolding shl_of result_flags
 left_gives w a was n = rw (not_zero n)
 
 left_once : (w : Width) (x y : ℕ) (c : Bool) → y ≡ x * 2 → left_step w (x % limit_of w, c) ≡ (y % limit_of w, is_set y (bits_of w))
@@ -46,30 +46,30 @@ left_once Word x y c e = two (omega arith) (grind (arith, nat_tests))
 doubled : (a n : ℕ) → a * 2 ^ suc n ≡ a * 2 ^ n * 2
 doubled a n = ap (λ (k : ℕ). a * k) (pow-suc 2 n) ∙ omega arith
 
-pub left_repeated : IsRepeated left_step left_shift_of
-unfolding left_shift_of
+pub left_repeated : IsRepeated left_step shl_of
+unfolding shl_of
 left_repeated w a count was small =
-    repeats (left_step w) (λ n. value_and_carry (left_shift_of w a n was)) (λ n. a * 2 ^ n % limit_of w) (λ n. is_set (a * 2 ^ suc n) (bits_of w))
+    repeats (left_step w) (λ n. value_and_carry (shl_of w a n was)) (λ n. a * 2 ^ n % limit_of w) (λ n. is_set (a * 2 ^ suc n) (bits_of w))
     (left_has w a was small) (left_gives w a was) (λ n c. left_once w (a * 2 ^ n) (a * 2 ^ suc n) c (doubled a n)) count
 
 -- ---- SHR
 
-right_has : (w : Width) (a : ℕ) (was : Flags) (n : ℕ) → (right_shift_of w a n was).0 ≡ a / 2 ^ n
-unfolding right_shift_of
+right_has : (w : Width) (a : ℕ) (was : Flags) (n : ℕ) → (shr_of w a n was).0 ≡ a / 2 ^ n
+unfolding shr_of
 right_has w a was zero = omega arith
 right_has w a was (suc n) = rw (not_zero n)
 
-right_gives : (w : Width) (a : ℕ) (was : Flags) (n : ℕ) → value_and_carry (right_shift_of w a (suc n) was) ≡ (a / 2 ^ suc n, is_set a n)
-unfolding right_shift_of result_flags
+right_gives : (w : Width) (a : ℕ) (was : Flags) (n : ℕ) → value_and_carry (shr_of w a (suc n) was) ≡ (a / 2 ^ suc n, is_set a n)
+unfolding shr_of result_flags
 right_gives w a was n = let e : suc n - 1 ≡ n = omega arith in rw (not_zero n, e)
 
 right_once : (w : Width) (a n : ℕ) (c : Bool) → right_step w (a / 2 ^ n, c) ≡ (a / 2 ^ suc n, is_set a n)
 right_once w a n c = two (shr-shr a n 1 ∙ ap (λ (k : ℕ). a / 2 ^ k) (omega arith)) (ap (λ (k : ℕ). nat_eq (k % 2) 1) (omega arith))
 
-pub right_repeated : IsRepeated right_step right_shift_of
-unfolding right_shift_of
+pub right_repeated : IsRepeated right_step shr_of
+unfolding shr_of
 right_repeated w a count was small =
-    repeats (right_step w) (λ n. value_and_carry (right_shift_of w a n was)) (λ n. a / 2 ^ n) (λ n. is_set a n)
+    repeats (right_step w) (λ n. value_and_carry (shr_of w a n was)) (λ n. a / 2 ^ n) (λ n. is_set a n)
     (right_has w a was) (right_gives w a was) (right_once w a) count
 
 -- ---- SAR
@@ -102,14 +102,14 @@ wrapped_signed w a small = elim (signed_cases w a small) [
     down Byte a small high = omega arith
     down Word a small high = omega arith
 
-signed_has : (w : Width) (a : ℕ) (was : Flags) → a < limit_of w → (n : ℕ) → (signed_shift_of w a n was).0 ≡ wrapped_of w (halved_of (signed_of w a) n)
-unfolding signed_shift_of
+signed_has : (w : Width) (a : ℕ) (was : Flags) → a < limit_of w → (n : ℕ) → (sar_of w a n was).0 ≡ wrapped_of w (halved_of (signed_of w a) n)
+unfolding sar_of
 signed_has w a was small zero = wrapped_signed w a small
 signed_has w a was small (suc n) = rw (not_zero n)
 
 signed_gives : (w : Width) (a : ℕ) (was : Flags) (n : ℕ)
-    → value_and_carry (signed_shift_of w a (suc n) was) ≡ (wrapped_of w (halved_of (signed_of w a) (suc n)), nat_eq (residue_of 2 (halved_of (signed_of w a) n)) 1)
-unfolding signed_shift_of result_flags
+    → value_and_carry (sar_of w a (suc n) was) ≡ (wrapped_of w (halved_of (signed_of w a) (suc n)), nat_eq (residue_of 2 (halved_of (signed_of w a) n)) 1)
+unfolding sar_of result_flags
 signed_gives w a was n = let e : suc n - 1 ≡ n = omega arith in rw (not_zero n, e)
 
 -- the step on the bits of y and of -(y + 1), where they are signed numbers of the width
@@ -139,10 +139,10 @@ signed_next w a small n c = elim (signed_cases w a small) [
     rest Byte a high = omega arith
     rest Word a high = omega arith
 
-pub signed_repeated : IsRepeated signed_step signed_shift_of
-unfolding signed_shift_of
+pub signed_repeated : IsRepeated signed_step sar_of
+unfolding sar_of
 signed_repeated w a count was small =
-    repeats (signed_step w) (λ n. value_and_carry (signed_shift_of w a n was)) (λ n. wrapped_of w (halved_of (signed_of w a) n))
+    repeats (signed_step w) (λ n. value_and_carry (sar_of w a n was)) (λ n. wrapped_of w (halved_of (signed_of w a) n))
     (λ n. nat_eq (residue_of 2 (halved_of (signed_of w a) n)) 1)
     (signed_has w a was small) (signed_gives w a was) (signed_next w a small) count
 

@@ -7,7 +7,7 @@ use Rattle.dcc_num.specs.declared.Width.TheVariants.{Byte, Word}
 use Rattle.dcc_num.specs.declared.Flags.{Flags}
 use Rattle.dcc_num.specs.Numbers.{bits_of, limit_of, half_of, has_sign, is_set, differ, signed_of, sign_extension_of, fits_signed, no_flags}
 use Rattle.dcc_num.specs.Sum.{sum_of, difference_of, negation_of, increment_of, decrement_of}
-use Rattle.dcc_num.specs.Shift.{left_shift_of, right_shift_of, left_turn_of, right_turn_of}
+use Rattle.dcc_num.specs.Shift.{shl_of, shr_of, left_turn_of, right_turn_of}
 use Rattle.dcc_num.specs.Product.{product_of, signed_product_of}
 use Rattle.dcc_num.specs.Quotient.{joined_of, signed_joined_of, division_of, signed_division_of}
 
@@ -219,13 +219,13 @@ TurnsKeepFlags turned = (w : Width) (a : ℕ) (was : Flags) → a < limit_of w
 -- the last bit that SHL moves out is that bit of the operand, counted from the top; none is left past the width
 abbrev pub LeftShiftsCarry : Type 0
 LeftShiftsCarry = (w : Width) (a count : ℕ) (was : Flags) → a < limit_of w → 0 < count
-    → (left_shift_of w a count was).1.cf
+    → (shl_of w a count was).1.cf
     ≡ (if nat_le count (bits_of w) then is_set a (bits_of w - count) else false)
 
 -- that of SHR is counted from the bottom
 abbrev pub RightShiftsCarry : Type 0
 RightShiftsCarry = (w : Width) (a count : ℕ) (was : Flags) → a < limit_of w → 0 < count
-    → (right_shift_of w a count was).1.cf ≡ is_set a (count - 1)
+    → (shr_of w a count was).1.cf ≡ is_set a (count - 1)
 
 -- ---- sign extension, products and quotients
 

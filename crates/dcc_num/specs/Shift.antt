@@ -12,22 +12,22 @@ unless_zero count same moved = if count == 0 then same else moved
 
 -- a * 2 ^ count, as far as the width has room. CF: the last bit shifted out, which then stands just above the operand.
 -- OF for a count of 1: the sign has changed
-unfoldable pub left_shift_of : Width → ℕ → ℕ → Flags → ℕ × Flags
-left_shift_of w a count was =
+unfoldable pub shl_of : Width → ℕ → ℕ → Flags → ℕ × Flags
+shl_of w a count was =
     let r = a * 2 ^ count % limit_of w in
     let out = is_set (a * 2 ^ count) (bits_of w) in
     unless_zero count (a, was) (r, result_flags w r out (count == 1 && differ out (has_sign w r)))
 
 -- a / 2 ^ count, rounded down. CF: the last bit shifted out. OF for a count of 1: the operand's sign
-unfoldable pub right_shift_of : Width → ℕ → ℕ → Flags → ℕ × Flags
-right_shift_of w a count was =
+unfoldable pub shr_of : Width → ℕ → ℕ → Flags → ℕ × Flags
+shr_of w a count was =
     let r = a / 2 ^ count in
     unless_zero count (a, was) (r, result_flags w r (is_set a (count - 1)) (count == 1 && has_sign w a))
 
 -- the signed number divided by 2 ^ count, rounded down, so that copies of the sign come in at the top. CF: the last bit
 -- shifted out. OF is clear
-unfoldable pub signed_shift_of : Width → ℕ → ℕ → Flags → ℕ × Flags
-signed_shift_of w a count was =
+unfoldable pub sar_of : Width → ℕ → ℕ → Flags → ℕ × Flags
+sar_of w a count was =
     let z = signed_of w a in
     let r = wrapped_of w (halved_of z count) in
     let out = residue_of 2 (halved_of z (count - 1)) == 1 in

@@ -2,22 +2,22 @@
 
 ghost use Rattle.dcc_num.specs.Numbers.{differ};
 ghost use Rattle.dcc_num.specs.Logic.{conjunction_of, disjunction_of, exclusive_of};
-ghost use Rattle.dcc_num.specs.Shift.{left_shift_of, right_shift_of, signed_shift_of, left_rotation_of, right_rotation_of, left_turn_of, right_turn_of};
+ghost use Rattle.dcc_num.specs.Shift.{shl_of, shr_of, sar_of, left_rotation_of, right_rotation_of, left_turn_of, right_turn_of};
 ghost use Rattle.dcc_num.specs.Laws.{IsRepeated, left_step, right_step, signed_step, left_rotation_step, right_rotation_step, ComesRound, Undoes, left_turn_step, right_turn_step, SumsAreExact, DifferencesAreExact, SumsCarryOn, DifferencesCarryOn, DifferencesCompare, NegationsAreExact, IncrementsAreExact, DecrementsAreExact, IsBitByBit, both, either, LeftShiftsCarry, RightShiftsCarry, ShiftsTellResults, RotationsKeepFlags, TurnsKeepFlags, SignExtensionsAreExact, ProductsAreExact, SignedProductsAreExact, DivisionsAreExact, SignedDivisionsAreExact};
 
 /// SHL by a count is a shift by one place, made count times.
 pub fn shl_is_repeated()
-    ensures { IsRepeated left_step left_shift_of }
+    ensures { IsRepeated left_step shl_of }
 {}
 
 /// SHR by a count is a shift by one place, made count times.
 pub fn shr_is_repeated()
-    ensures { IsRepeated right_step right_shift_of }
+    ensures { IsRepeated right_step shr_of }
 {}
 
 /// SAR by a count is a shift by one place, made count times.
 pub fn sar_is_repeated()
-    ensures { IsRepeated signed_step signed_shift_of }
+    ensures { IsRepeated signed_step sar_of }
 {}
 
 /// ROL by a count is a turn by one place, made count times.
@@ -117,17 +117,17 @@ pub fn shr_carries_from_the_bottom()
 
 /// SHL tells its result by ZF and SF, and by 1 place a change of the sign by OF.
 pub fn shl_tells_its_result()
-    ensures { ShiftsTellResults left_shift_of }
+    ensures { ShiftsTellResults shl_of }
 {}
 
 /// SHR tells its result by ZF and SF, and by 1 place a change of the sign by OF.
 pub fn shr_tells_its_result()
-    ensures { ShiftsTellResults right_shift_of }
+    ensures { ShiftsTellResults shr_of }
 {}
 
 /// SAR tells its result by ZF and SF, and never changes the sign.
 pub fn sar_tells_its_result()
-    ensures { ShiftsTellResults signed_shift_of }
+    ensures { ShiftsTellResults sar_of }
 {}
 
 /// ROL leaves ZF and SF, and by 1 place tells a change of the sign by OF.

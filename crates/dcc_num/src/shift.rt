@@ -2,7 +2,7 @@
 
 ghost use Rattle.std.specs.Prelude.{◌==◌, ◌≡◌, ◌<◌, ◌≤◌, ◌*◌, ◌/◌, ◌%◌, ◌^◌, ◌-◌};
 ghost use Rattle.dcc_num.specs.Numbers.{limit_of, bits_of, is_set, signed_of, wrapped_of, residue_of, halved_of};
-ghost use Rattle.dcc_num.specs.Shift.{left_shift_of, right_shift_of, signed_shift_of, left_rotation_of, right_rotation_of, left_turn_of, right_turn_of, turned_of, top_bits_differ};
+ghost use Rattle.dcc_num.specs.Shift.{shl_of, shr_of, sar_of, left_rotation_of, right_rotation_of, left_turn_of, right_turn_of, turned_of, top_bits_differ};
 
 use crate::operand::{flags_of, half, is_negative, limit, signed, wrapped};
 use crate::{Flags, Width};
@@ -22,10 +22,10 @@ fn moved_up(w: Width, a: u16, count: u8) -> (u16, bool)
 }
 
 /// SHL: the bits moved up, with 0 coming in.
-#[tactic(auto, unfolding(crate::specs::Shift::left_shift_of))]
+#[tactic(auto, unfolding(crate::specs::Shift::shl_of))]
 pub fn shl(w: Width, a: u16, count: u8, was: Flags) -> (u16, Flags)
     requires { a < limit_of w }
-    ensures shift { result ≡ left_shift_of w a count was }
+    ensures shift { result ≡ shl_of w a count was }
     ensures width { result.0 < limit_of w }
 {
     if count == 0 {
@@ -48,10 +48,10 @@ fn moved_down(a: u16, count: u8) -> (u16, bool)
 }
 
 /// SHR: the bits moved down, with 0 coming in.
-#[tactic(auto, unfolding(crate::specs::Shift::right_shift_of))]
+#[tactic(auto, unfolding(crate::specs::Shift::shr_of))]
 pub fn shr(w: Width, a: u16, count: u8, was: Flags) -> (u16, Flags)
     requires { a < limit_of w }
-    ensures shift { result ≡ right_shift_of w a count was }
+    ensures shift { result ≡ shr_of w a count was }
     ensures width { result.0 < limit_of w }
 {
     if count == 0 {
@@ -74,10 +74,10 @@ fn moved_down_signed(w: Width, a: u16, count: u8) -> (u16, bool)
 }
 
 /// SAR: the bits moved down, with copies of the sign coming in.
-#[tactic(auto, unfolding(crate::specs::Shift::signed_shift_of))]
+#[tactic(auto, unfolding(crate::specs::Shift::sar_of))]
 pub fn sar(w: Width, a: u16, count: u8, was: Flags) -> (u16, Flags)
     requires { a < limit_of w }
-    ensures shift { result ≡ signed_shift_of w a count was }
+    ensures shift { result ≡ sar_of w a count was }
     ensures width { result.0 < limit_of w }
 {
     if count == 0 {

@@ -41,11 +41,11 @@ unread-short : (r : Reader) → length (unread r) ≤ length r.left
 unread-short r = if-cases (λ (l : List Piece). length l ≤ length r.left) (is_some r.stop) (λ _. omega arith) (λ _. omega arith)
 
 -- no more pieces are left than there were
-pub few-unread : (ps rest : List Read) (text : PartialText) (behind : Reader) → got text behind ≡ reading_of (pieces_of ps) →
-    pieces_of rest ≡ unread behind → length rest ≤ length ps
-few-unread ps rest text behind same is =
-    let left : length behind.left ≡ length (reading_of (pieces_of ps)).behind.left = ap (λ (g : Got PartialText). length g.behind.left) same in
-    omega (arith, length-pieces ps, length-pieces rest, unread-short behind, ap (λ (l : List Piece). length l) is, left, left-short (pieces_of ps))
+pub few-unread : (ps rest : List Read) (text : PartialText) (following : Reader) → got text following ≡ reading_of (pieces_of ps) →
+    pieces_of rest ≡ unread following → length rest ≤ length ps
+few-unread ps rest text following same is =
+    let left : length following.left ≡ length (reading_of (pieces_of ps)).following.left = ap (λ (g : Got PartialText). length g.following.left) same in
+    omega (arith, length-pieces ps, length-pieces rest, unread-short following, ap (λ (l : List Piece). length l) is, left, left-short (pieces_of ps))
 
 -- Trees.
 
@@ -57,26 +57,26 @@ all-read : (r : Reader) → r.stop ≡ None → unread r ≡ []
 all-read r going = ap (λ s. if is_some s then r.left else []) going
 
 -- nothing offends in what was read
-pub read-tree : (pieces : List Piece) (text : PartialText) (behind : Reader) (tree : Tree) → got text behind ≡ reading_of pieces →
-    first_of (stop_offences behind.stop ++ text_offences text (unread behind)) ≡ None →
+pub read-tree : (pieces : List Piece) (text : PartialText) (following : Reader) (tree : Tree) → got text following ≡ reading_of pieces →
+    first_of (stop_offences following.stop ++ text_offences text (unread following)) ≡ None →
     (is_complete_text text ≡ true → text_offences text [] ≡ [] → tree ≡ plain_text text) → IsTreeOf pieces tree
-read-tree pieces text behind tree same first stripped =
-    let none = first-none (stop_offences behind.stop ++ text_offences text (unread behind)) first in
-    let both = none-both (stop_offences behind.stop) (text_offences text (unread behind)) none in
-    let going = no-stop behind.stop both.0 in
+read-tree pieces text following tree same first stripped =
+    let none = first-none (stop_offences following.stop ++ text_offences text (unread following)) first in
+    let both = none-both (stop_offences following.stop) (text_offences text (unread following)) none in
+    let going = no-stop following.stop both.0 in
     let value : text ≡ (reading_of pieces).value = ap (λ (g : Got PartialText). g.value) same in
-    let whole = (complete_reading pieces (sym (ap (λ (g : Got PartialText). g.behind.stop) same) ∙ going)).0 in
+    let whole = (complete_reading pieces (sym (ap (λ (g : Got PartialText). g.following.stop) same) ∙ going)).0 in
     record {
-      clean = ap (λ (g : Got PartialText). stop_offences g.behind.stop ++ text_offences g.value (unread g.behind)) (sym same) ∙ none;
-      same = ap plain_text (sym value) ∙ sym (stripped (ap is_complete_text value ∙ whole) (ap (text_offences text) (sym (all-read behind going)) ∙ both.1));
+      clean = ap (λ (g : Got PartialText). stop_offences g.following.stop ++ text_offences g.value (unread g.following)) (sym same) ∙ none;
+      same = ap plain_text (sym value) ∙ sym (stripped (ap is_complete_text value ∙ whole) (ap (text_offences text) (sym (all-read following going)) ∙ both.1));
     }
 
 pub tree-parsed : (pieces : List Piece) (tree : Tree) → IsTreeOf pieces tree → IsParsed pieces tree
 tree-parsed pieces tree is =
     let reading = reading_of pieces in
-    let both = none-both (stop_offences reading.behind.stop) (text_offences reading.value (unread reading.behind)) is.clean in
-    let going = no-stop reading.behind.stop both.0 in
-    record { going = going; same = is.same; clean = ap (text_offences reading.value) (sym (all-read reading.behind going)) ∙ both.1 }
+    let both = none-both (stop_offences reading.following.stop) (text_offences reading.value (unread reading.following)) is.clean in
+    let going = no-stop reading.following.stop both.0 in
+    record { going = going; same = is.same; clean = ap (text_offences reading.value) (sym (all-read reading.following going)) ∙ both.1 }
 
 -- the text stands for the tree of its pieces
 pub tree-stands : (text rest : List ℕ) (ps : List Read) (tree : Tree) → after_version text ≡ Some rest → pieces_of ps ≡ spec.pieces_of rest →
@@ -95,8 +95,8 @@ no-rest is = absurd cc
 clean-parsed : (pieces : List Piece) (tree : Tree) → IsParsed pieces tree → offences_of pieces ≡ []
 clean-parsed pieces tree parsed =
     let reading = reading_of pieces in
-    ap (λ s. stop_offences s ++ text_offences reading.value (unread reading.behind)) parsed.going
-    ∙ ap (text_offences reading.value) (all-read reading.behind parsed.going) ∙ parsed.clean
+    ap (λ s. stop_offences s ++ text_offences reading.value (unread reading.following)) parsed.going
+    ∙ ap (text_offences reading.value) (all-read reading.following parsed.going) ∙ parsed.clean
 
 -- pieces in which something offends stand for no tree
 pub offends-none : (text rest : List ℕ) (o : Offence) (tree : Tree) → after_version text ≡ Some rest → first_of (offences_of (spec.pieces_of rest)) ≡ Some o →

@@ -30,7 +30,7 @@ begun-judged text rest None short begins is = inl (clean-stands text rest begins
 begun-judged text rest (Some o) short begins is =
     inr (record { line = line_at (pieces_of rest) (suc (rows text)) o.at; kind = o.kind; refused = offends short begins is })
 
-any-judged : (text : List ℕ) (behind : Option (List ℕ)) → length text ≤ 67108864 → after_version text ≡ behind → HasTree text ⊎ HasRefusal text
+any-judged : (text : List ℕ) (following : Option (List ℕ)) → length text ≤ 67108864 → after_version text ≡ following → HasTree text ⊎ HasRefusal text
 any-judged text None short is = inr (record { line = 1; kind = of_version; refused = no_version short is })
 any-judged text (Some rest) short is = begun-judged text rest (first_of (offences_of (pieces_of rest))) short is refl
 

@@ -209,22 +209,22 @@ module _ (scene : Scene) (blocks : ℕ) (arms : List PartialArm) (i : ℕ) (a : 
 -- Statements with blocks.
 module _ (scene : Scene) (blocks : ℕ) where
   -- statements of a reference
-  pub lines-behind : {now items : List Row} {lines : Lines} → now ≡ items →
+  pub lines-following : {now items : List Row} {lines : Lines} → now ≡ items →
       (lines_offences scene blocks (partial.lines_of now) ≡ [] → lines ≡ plain_lines (partial.lines_of now)) →
       lines_offences scene blocks (partial.lines_of items) ≡ [] → lines ≡ plain_lines (partial.lines_of items)
-  lines-behind same stripped none =
+  lines-following same stripped none =
       stripped (ap (λ l. lines_offences scene blocks (partial.lines_of l)) same ∙ none) ∙ ap (λ l. plain_lines (partial.lines_of l)) same
 
-  pub arms-behind : {now items : List PartialArm} {arms : Arms} → now ≡ items →
+  pub arms-following : {now items : List PartialArm} {arms : Arms} → now ≡ items →
       (arms_inner scene blocks (partial.arms_of now) ≡ [] → arms ≡ case_arms (partial.arms_of now)) →
       arms_inner scene blocks (partial.arms_of items) ≡ [] → arms ≡ case_arms (partial.arms_of items)
-  arms-behind same stripped none =
+  arms-following same stripped none =
       stripped (ap (λ l. arms_inner scene blocks (partial.arms_of l)) same ∙ none) ∙ ap (λ l. case_arms (partial.arms_of l)) same
 
-  pub default-behind : {now items : List PartialArm} {arms : Arms} → now ≡ items →
+  pub default-following : {now items : List PartialArm} {arms : Arms} → now ≡ items →
       (arms_inner scene blocks (partial.arms_of now) ≡ [] → default_offences false (partial.arms_of now) ≡ [] → arms ≡ default_arms (partial.arms_of now)) →
       arms_inner scene blocks (partial.arms_of items) ≡ [] → default_offences false (partial.arms_of items) ≡ [] → arms ≡ default_arms (partial.arms_of items)
-  default-behind same stripped none single =
+  default-following same stripped none single =
       stripped (ap (λ l. arms_inner scene blocks (partial.arms_of l)) same ∙ none) (ap (λ l. default_offences false (partial.arms_of l)) same ∙ single)
       ∙ ap (λ l. default_arms (partial.arms_of l)) same
 

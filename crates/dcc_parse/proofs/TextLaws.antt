@@ -9,7 +9,7 @@ use Rattle.dcc_c.specs.declared.syntax.Func.{Func}
 use Rattle.dcc_c.specs.Tree.{Global, Function, Tree}
 use Rattle.dcc_c.specs.Views.{function_of}
 use Rattle.dcc_c.specs.Rules.{has_element, allows_global}
-use Rattle.dcc_c.specs.Placement.{behind_global}
+use Rattle.dcc_c.specs.Placement.{after_global}
 use Rattle.dcc_c.specs.Dos.{dos_names}
 use Rattle.dcc_c.specs.Partial as trees
 use Rattle.dcc_c.specs.Offences.{Scene, repeated, label_list, lines_offences, body_offences}
@@ -79,8 +79,8 @@ in_memory [] allowed = refl
 in_memory (v ∷ vs) allowed =
     let parts = and-both (allows_global (plain_global v)) (list_all allows_global (map plain_global vs)) allowed in
     let element = and-both (has_element (option_map (λ n. n.value) v.size)) _ parts.0 in
-    let limits = and-both (nat_le (behind_global (plain_global v)) 65536) _ element.1 in
-    let own : nat_le v.address 65536 ≡ true = le-leb v.address 65536 (omega (arith, leb-true (behind_global (plain_global v)) 65536 limits.0)) in
+    let limits = and-both (nat_le (after_global (plain_global v)) 65536) _ element.1 in
+    let own : nat_le v.address 65536 ≡ true = le-leb v.address 65536 (omega (arith, leb-true (after_global (plain_global v)) 65536 limits.0)) in
     ap (λ b. b && list_all is_in_memory vs) own ∙ in_memory vs parts.1
 
 -- a text's tree, by its parts

@@ -40,8 +40,8 @@ fn parse_pieces(alloc: Global, pieces: &[Piece]) -> Result<Result<Unit, Offence>
         first_of (offences.offences_of (pieces_of pieces.now)) ≡ Some (offence_of offence))) }
 {
     let reading = read(alloc, pieces)?;
-    let rest = unread(&reading.behind);
-    match first_offence(alloc, &reading.text, reading.behind.stop, rest)? {
+    let rest = unread(&reading.following);
+    match first_offence(alloc, &reading.text, reading.following.stop, rest)? {
         Some(offence) => Ok(Err(offence)),
         None => Ok(Ok(strip(alloc, &reading.text)?)),
     }

@@ -425,10 +425,10 @@ module _ (image : List ℕ) (lo hi entry local pushed : ℕ) (params : List Para
   -- Blocks.
 
   -- what is after a label
-  label-behind : (block : inner.Block) (others : List Stmt) (lines : Lines) → AreLined (text_block blocks block ++ others) lines
+  label-following : (block : inner.Block) (others : List Stmt) (lines : Lines) → AreLined (text_block blocks block ++ others) lines
       → (at : ℕ) × (after' : Lines) × (lines ≡ line (Label (label_name block.at)) at after') × AreLined (map text_stmt block.stmts ++ text_exit blocks block.exit ∷ others) after'
-  label-behind block others no_lines lined = elim lined [ ]
-  label-behind block others (line counted at lines) (one_more unchanged lined) =
+  label-following block others no_lines lined = elim lined [ ]
+  label-following block others (line counted at lines) (one_more unchanged lined) =
       (at, lines, refl, subst (λ stmts. AreLined stmts lines) (append_assoc (map text_stmt block.stmts) (text_exit blocks block.exit ∷ []) others) lined)
 
   unstuck-later : (s : run.State) → IsUnstuck s → IsUnstuck (run.step program fill s)
@@ -438,7 +438,7 @@ module _ (image : List ℕ) (lo hi entry local pushed : ℕ) (params : List Para
   at-leaps s t x =
       let (stmts_formed, end_formed) = and_parts (list_all (is_stmt temporary_bits) x.block.stmts) (is_exit temporary_bits (length blocks) x.block.exit) x.good_block.formed in
       let (stmts_lifted, end_lifted) = and_parts (list_all is_lifted_stmt x.block.stmts) (is_lifted_exit x.block.exit) x.good_block.lifted in
-      let label = label-behind x.block x.others x.lines x.lined in
+      let label = label-following x.block x.others x.lines x.lined in
       let start = inner_state x.block x.values x.base x.memory x.input x.out in
       let next : IsUnstuck (run.step program fill start) = subst (λ u. IsUnstuck (run.step program fill u)) x.inner_is (unstuck-later s x.unstuck) in
       let come = stmts-come x.block.stmts x.block stmts_formed stmts_lifted end_formed end_lifted x.others label.1 label.3 x.values x.base x.memory x.cells x.input x.out x.held x.bytes next in

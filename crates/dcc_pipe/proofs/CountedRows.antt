@@ -6,7 +6,7 @@ use Rattle.std.specs.List.{list_all}
 use Rattle.std.proofs.lemmas.Bool.{and_parts, eqb-true, eq-eqb, ne_eqb}
 use Rattle.dcc_c.specs.Tree.{Word, Expr, Stmt, Assign, Call, If, While, DoWhile, Forever, Switch, Break, Continue, Goto, Label, Empty, Return, Lines, no_lines, line, Arms, no_arms, arm}
 use Rattle.dcc_c.specs.Parts.{stmts_in, inner_stmts, exprs_of}
-use Rattle.dcc_c.specs.Written.{indented, depth_behind, next_depth, written_depth, written_expr, written_arguments, written_test, written_else, written_call, written_cases, written_stmt, written_lines, written_arms, written_default}
+use Rattle.dcc_c.specs.Written.{indented, depth_after, next_depth, written_depth, written_expr, written_arguments, written_test, written_else, written_call, written_cases, written_stmt, written_lines, written_arms, written_default}
 use Rattle.dcc_c.specs.Numbered.{rows}
 use Rattle.dcc_c.proofs.WrittenRows.{rows-append, decimal_flat, indentation_flat, lines_rows, arms_rows, default_rows}
 use Rattle.dcc_pipe.specs.Unbroken.{is_unbroken, words_of, is_unbroken_stmt}
@@ -66,9 +66,9 @@ four-parts a b c d = rows-append a (b ++ (c ++ d)) ∙ ap (λ n. rows a + n) (th
 
 pub if-count : (depth : ℕ) (e : Expr) (body otherwise : Lines) → rows (written_expr e) ≡ 0 →
     rows (written_stmt 1 depth (If e body otherwise))
-    ≡ rows (written_lines 1 depth body) + 2 + rows (written_else 1 otherwise (written_lines 1 (depth_behind depth (stmts_in body)) otherwise))
+    ≡ rows (written_lines 1 depth body) + 2 + rows (written_else 1 otherwise (written_lines 1 (depth_after depth (stmts_in body)) otherwise))
 if-count depth e body otherwise flat =
-    let middle = depth_behind depth (stmts_in body) in
+    let middle = depth_after depth (stmts_in body) in
     let head = indented 1 (written_test (codes "if") e) in
     let inner = written_lines (1 + 1) depth body in
     let second = written_else 1 otherwise (written_lines (1 + 1) middle otherwise) in
@@ -113,9 +113,9 @@ forever-count depth body =
 
 pub switch-count : (depth : ℕ) (e : Expr) (arms last : Arms) → rows (written_expr e) ≡ 0 →
     rows (written_stmt 1 depth (Switch e arms last))
-    ≡ rows (written_arms 1 depth arms) + 2 + rows (written_default 1 (depth_behind depth (inner_stmts (Switch e arms no_arms))) last)
+    ≡ rows (written_arms 1 depth arms) + 2 + rows (written_default 1 (depth_after depth (inner_stmts (Switch e arms no_arms))) last)
 switch-count depth e arms last flat =
-    let middle = depth_behind depth (inner_stmts (Switch e arms no_arms)) in
+    let middle = depth_after depth (inner_stmts (Switch e arms no_arms)) in
     let head = indented 1 (written_test (codes "switch") e) in
     let inner = written_arms (1 + 1) depth arms in
     let second = written_default (1 + 1) middle last in
@@ -137,22 +137,22 @@ default-count depth cases body =
 
 pub arm-count : (depth : ℕ) (cases : List ℕ) (body : Lines) (arms : Arms) →
     rows (written_arms 1 depth (arm cases body arms))
-    ≡ rows (written_cases 1 cases) + rows (written_lines 1 depth body) + 1 + rows (written_arms 1 (depth_behind depth (stmts_in body)) arms)
+    ≡ rows (written_cases 1 cases) + rows (written_lines 1 depth body) + 1 + rows (written_arms 1 (depth_after depth (stmts_in body)) arms)
 arm-count depth cases body arms =
     let head = written_cases 1 cases in
     let inner = written_lines 1 depth body in
     let end = indented 1 (codes "break;\n") in
-    let others = written_arms 1 (depth_behind depth (stmts_in body)) arms in
+    let others = written_arms 1 (depth_after depth (stmts_in body)) arms in
     let d : rows end ≡ 1 = line-row (codes "break;\n") in
     four-parts head inner end others ∙ omega (arith, d)
 
 pub lines-count : (depth : ℕ) (stmt : Stmt) (at : ℕ) (lines : Lines) →
     let own = next_depth depth (line stmt at lines) in
     rows (written_lines 1 depth (line stmt at lines))
-    ≡ rows (written_depth depth own) + (rows (written_stmt 1 own stmt) + rows (written_lines 1 (depth_behind own (stmt ∷ inner_stmts stmt)) lines))
+    ≡ rows (written_depth depth own) + (rows (written_stmt 1 own stmt) + rows (written_lines 1 (depth_after own (stmt ∷ inner_stmts stmt)) lines))
 lines-count depth stmt at lines =
     let own = next_depth depth (line stmt at lines) in
-    three-parts (written_depth depth own) (written_stmt 1 own stmt) (written_lines 1 (depth_behind own (stmt ∷ inner_stmts stmt)) lines)
+    three-parts (written_depth depth own) (written_stmt 1 own stmt) (written_lines 1 (depth_after own (stmt ∷ inner_stmts stmt)) lines)
 
 -- Statements without blocks.
 

@@ -12,12 +12,12 @@ use Rattle.dcc_c.specs.declared.syntax.Line.{Line}
 use Rattle.dcc_c.specs.declared.syntax.Arm.{Arm, out-Arm, roll-Arm, out-roll-Arm}
 use Rattle.dcc_c.specs.Tree.{Expr, Stmt, If, While, DoWhile, Forever, Switch, Lines, no_lines, line, Arms, no_arms, arm}
 use Rattle.dcc_c.specs.Parts.{stmts_in, inner_stmts, arm_stmts, exprs_of}
-use Rattle.dcc_c.specs.Written.{depth_behind, next_depth, written_depth, written_expr, written_else, written_cases, written_stmt, written_lines, written_arms, written_default}
+use Rattle.dcc_c.specs.Written.{depth_after, next_depth, written_depth, written_expr, written_else, written_cases, written_stmt, written_lines, written_arms, written_default}
 use Rattle.dcc_c.specs.Numbered.{rows, numbered_stmt, numbered_lines, numbered_arms, numbered_default}
 use Rattle.dcc_c.specs.Views.{expr_of, stmt_of, lines_of, arm_before, arms_of, arms_if}
 use Rattle.dcc_pipe.specs.Unbroken.{is_unbroken_stmt, are_unbroken}
 use Rattle.dcc_print.proofs.BlockLaws.{depth-step}
-use Rattle.dcc_print.proofs.DepthLaws.{depth_behind-append}
+use Rattle.dcc_print.proofs.DepthLaws.{depth_after-append}
 use Rattle.dcc_c.proofs.RowLaws.{arm-parts, if-tree, while-tree, do_while-tree, forever-tree, switch-tree}
 use Rattle.dcc_pipe.proofs.CountedRows.{else-count, if-count, switch-count, arm-count, lines-count, has_block, test-flat, own-count}
 
@@ -54,93 +54,93 @@ rolled-parts r arms = arm-parts (roll-Arm r) arms ∙ ap (λ parts. arm parts.ca
 
 -- A statement with blocks, from the blocks inside it.
 
-pub if-numbered : (depth at : ℕ) (stmt : Stmt) (e : Expr) (body otherwise : Lines) (first middle behind second : ℕ) (new_body new_otherwise : Lines) → stmt ≡ If e body otherwise
+pub if-numbered : (depth at : ℕ) (stmt : Stmt) (e : Expr) (body otherwise : Lines) (first middle following second : ℕ) (new_body new_otherwise : Lines) → stmt ≡ If e body otherwise
     → first ≡ at + 1 → new_body ≡ numbered_lines depth first body
-    → behind ≡ first + rows (written_lines 1 depth body) → middle ≡ depth_behind depth (stmts_in body)
-    → second ≡ behind + 1 → new_otherwise ≡ numbered_lines middle second otherwise
+    → following ≡ first + rows (written_lines 1 depth body) → middle ≡ depth_after depth (stmts_in body)
+    → second ≡ following + 1 → new_otherwise ≡ numbered_lines middle second otherwise
     → If e new_body new_otherwise ≡ numbered_stmt depth at stmt
-if-numbered depth at stmt e body otherwise first middle behind second new_body new_otherwise is first_is body_is behind_is middle_is second_is otherwise_is =
-    let there : second ≡ at + 2 + rows (written_lines 1 depth body) = omega (arith, first_is, behind_is, second_is) in
+if-numbered depth at stmt e body otherwise first middle following second new_body new_otherwise is first_is body_is following_is middle_is second_is otherwise_is =
+    let there : second ≡ at + 2 + rows (written_lines 1 depth body) = omega (arith, first_is, following_is, second_is) in
     ap₂ (If e) (body_is ∙ ap (λ n. numbered_lines depth n body) first_is) (otherwise_is ∙ ap₂ (λ m n. numbered_lines m n otherwise) middle_is there)
     ∙ ap (numbered_stmt depth at) (sym is)
 
-pub if-line : (depth at : ℕ) (stmt : Stmt) (e : Expr) (body otherwise : Lines) (first middle behind second last : ℕ) → stmt ≡ If e body otherwise → rows (written_expr e) ≡ 0
-    → first ≡ at + 1 → behind ≡ first + rows (written_lines 1 depth body) → middle ≡ depth_behind depth (stmts_in body)
-    → second ≡ behind + 1 → last ≡ second + rows (written_else 1 otherwise (written_lines 1 middle otherwise))
+pub if-line : (depth at : ℕ) (stmt : Stmt) (e : Expr) (body otherwise : Lines) (first middle following second last : ℕ) → stmt ≡ If e body otherwise → rows (written_expr e) ≡ 0
+    → first ≡ at + 1 → following ≡ first + rows (written_lines 1 depth body) → middle ≡ depth_after depth (stmts_in body)
+    → second ≡ following + 1 → last ≡ second + rows (written_else 1 otherwise (written_lines 1 middle otherwise))
     → last ≡ at + rows (written_stmt 1 depth stmt)
-if-line depth at stmt e body otherwise first middle behind second last is flat first_is behind_is middle_is second_is last_is =
-    let there : last ≡ second + rows (written_else 1 otherwise (written_lines 1 (depth_behind depth (stmts_in body)) otherwise)) =
+if-line depth at stmt e body otherwise first middle following second last is flat first_is following_is middle_is second_is last_is =
+    let there : last ≡ second + rows (written_else 1 otherwise (written_lines 1 (depth_after depth (stmts_in body)) otherwise)) =
     last_is ∙ ap (λ m. second + rows (written_else 1 otherwise (written_lines 1 m otherwise))) middle_is in
-    let all : rows (written_stmt 1 depth stmt) ≡ rows (written_lines 1 depth body) + 2 + rows (written_else 1 otherwise (written_lines 1 (depth_behind depth (stmts_in body)) otherwise)) =
+    let all : rows (written_stmt 1 depth stmt) ≡ rows (written_lines 1 depth body) + 2 + rows (written_else 1 otherwise (written_lines 1 (depth_after depth (stmts_in body)) otherwise)) =
     ap (λ s. rows (written_stmt 1 depth s)) is ∙ if-count depth e body otherwise flat in
-    omega (arith, first_is, behind_is, second_is, there, all)
+    omega (arith, first_is, following_is, second_is, there, all)
 
 pub if-depth : (depth : ℕ) (stmt : Stmt) (e : Expr) (body otherwise : Lines) (middle last : ℕ) → stmt ≡ If e body otherwise
-    → middle ≡ depth_behind depth (stmts_in body) → last ≡ depth_behind middle (stmts_in otherwise)
-    → last ≡ depth_behind depth (stmt ∷ inner_stmts stmt)
+    → middle ≡ depth_after depth (stmts_in body) → last ≡ depth_after middle (stmts_in otherwise)
+    → last ≡ depth_after depth (stmt ∷ inner_stmts stmt)
 if-depth depth stmt e body otherwise middle last is middle_is last_is =
-    last_is ∙ ap (λ m. depth_behind m (stmts_in otherwise)) middle_is
-    ∙ sym (depth_behind-append depth (stmts_in body) (stmts_in otherwise))
-    ∙ ap (λ s. depth_behind depth (s ∷ inner_stmts s)) (sym is)
+    last_is ∙ ap (λ m. depth_after m (stmts_in otherwise)) middle_is
+    ∙ sym (depth_after-append depth (stmts_in body) (stmts_in otherwise))
+    ∙ ap (λ s. depth_after depth (s ∷ inner_stmts s)) (sym is)
 
-pub switch-numbered : (depth at : ℕ) (stmt : Stmt) (e : Expr) (arms last : Arms) (first middle behind second : ℕ) (counted_arms counted_last : Arms) → stmt ≡ Switch e arms last
+pub switch-numbered : (depth at : ℕ) (stmt : Stmt) (e : Expr) (arms last : Arms) (first middle following second : ℕ) (counted_arms counted_last : Arms) → stmt ≡ Switch e arms last
     → first ≡ at + 1 → counted_arms ≡ numbered_arms depth first arms
-    → behind ≡ first + rows (written_arms 1 depth arms) → middle ≡ depth_behind depth (arm_stmts arms)
-    → second ≡ behind + 1 → counted_last ≡ numbered_default middle second last
+    → following ≡ first + rows (written_arms 1 depth arms) → middle ≡ depth_after depth (arm_stmts arms)
+    → second ≡ following + 1 → counted_last ≡ numbered_default middle second last
     → Switch e counted_arms counted_last ≡ numbered_stmt depth at stmt
-switch-numbered depth at stmt e arms last first middle behind second counted_arms counted_last is first_is arms_is behind_is middle_is second_is last_is =
-    let there : second ≡ at + 2 + rows (written_arms 1 depth arms) = omega (arith, first_is, behind_is, second_is) in
+switch-numbered depth at stmt e arms last first middle following second counted_arms counted_last is first_is arms_is following_is middle_is second_is last_is =
+    let there : second ≡ at + 2 + rows (written_arms 1 depth arms) = omega (arith, first_is, following_is, second_is) in
     ap₂ (Switch e) (arms_is ∙ ap (λ n. numbered_arms depth n arms) first_is)
-    (last_is ∙ ap₂ (λ m n. numbered_default m n last) (middle_is ∙ ap (depth_behind depth) (sym (append-nil (arm_stmts arms)))) there)
+    (last_is ∙ ap₂ (λ m n. numbered_default m n last) (middle_is ∙ ap (depth_after depth) (sym (append-nil (arm_stmts arms)))) there)
     ∙ ap (numbered_stmt depth at) (sym is)
 
-pub switch-line : (depth at : ℕ) (stmt : Stmt) (e : Expr) (arms last : Arms) (first middle behind second end : ℕ) → stmt ≡ Switch e arms last → rows (written_expr e) ≡ 0
-    → first ≡ at + 1 → behind ≡ first + rows (written_arms 1 depth arms) → middle ≡ depth_behind depth (arm_stmts arms)
-    → second ≡ behind + 1 → end ≡ second + rows (written_default 1 middle last)
+pub switch-line : (depth at : ℕ) (stmt : Stmt) (e : Expr) (arms last : Arms) (first middle following second end : ℕ) → stmt ≡ Switch e arms last → rows (written_expr e) ≡ 0
+    → first ≡ at + 1 → following ≡ first + rows (written_arms 1 depth arms) → middle ≡ depth_after depth (arm_stmts arms)
+    → second ≡ following + 1 → end ≡ second + rows (written_default 1 middle last)
     → end ≡ at + rows (written_stmt 1 depth stmt)
-switch-line depth at stmt e arms last first middle behind second end is flat first_is behind_is middle_is second_is end_is =
-    let there : end ≡ second + rows (written_default 1 (depth_behind depth (inner_stmts (Switch e arms no_arms))) last) =
-    end_is ∙ ap (λ m. second + rows (written_default 1 m last)) (middle_is ∙ ap (depth_behind depth) (sym (append-nil (arm_stmts arms)))) in
-    let all : rows (written_stmt 1 depth stmt) ≡ rows (written_arms 1 depth arms) + 2 + rows (written_default 1 (depth_behind depth (inner_stmts (Switch e arms no_arms))) last) =
+switch-line depth at stmt e arms last first middle following second end is flat first_is following_is middle_is second_is end_is =
+    let there : end ≡ second + rows (written_default 1 (depth_after depth (inner_stmts (Switch e arms no_arms))) last) =
+    end_is ∙ ap (λ m. second + rows (written_default 1 m last)) (middle_is ∙ ap (depth_after depth) (sym (append-nil (arm_stmts arms)))) in
+    let all : rows (written_stmt 1 depth stmt) ≡ rows (written_arms 1 depth arms) + 2 + rows (written_default 1 (depth_after depth (inner_stmts (Switch e arms no_arms))) last) =
     ap (λ s. rows (written_stmt 1 depth s)) is ∙ switch-count depth e arms last flat in
-    omega (arith, first_is, behind_is, second_is, there, all)
+    omega (arith, first_is, following_is, second_is, there, all)
 
 pub switch-depth : (depth : ℕ) (stmt : Stmt) (e : Expr) (arms last : Arms) (middle end : ℕ) → stmt ≡ Switch e arms last
-    → middle ≡ depth_behind depth (arm_stmts arms) → end ≡ depth_behind middle (arm_stmts last)
-    → end ≡ depth_behind depth (stmt ∷ inner_stmts stmt)
+    → middle ≡ depth_after depth (arm_stmts arms) → end ≡ depth_after middle (arm_stmts last)
+    → end ≡ depth_after depth (stmt ∷ inner_stmts stmt)
 switch-depth depth stmt e arms last middle end is middle_is end_is =
-    end_is ∙ ap (λ m. depth_behind m (arm_stmts last)) middle_is
-    ∙ sym (depth_behind-append depth (arm_stmts arms) (arm_stmts last))
-    ∙ ap (λ s. depth_behind depth (s ∷ inner_stmts s)) (sym is)
+    end_is ∙ ap (λ m. depth_after m (arm_stmts last)) middle_is
+    ∙ sym (depth_after-append depth (arm_stmts arms) (arm_stmts last))
+    ∙ ap (λ s. depth_after depth (s ∷ inner_stmts s)) (sym is)
 
 -- One more of the lines that are left, and what of the count is left after it.
 
-pub line-numbered : (depth at own here behind last : ℕ) (stmt new : Stmt) (was : ℕ) (rest left : Lines) → left ≡ line stmt was rest → own ≡ next_depth depth left
+pub line-numbered : (depth at own here following last : ℕ) (stmt new : Stmt) (was : ℕ) (rest left : Lines) → left ≡ line stmt was rest → own ≡ next_depth depth left
     → here ≡ at + rows (written_depth depth own) → new ≡ numbered_stmt own here stmt
-    → last ≡ here + rows (written_stmt 1 own stmt) → behind ≡ depth_behind own (stmt ∷ inner_stmts stmt)
-    → line new here (numbered_lines behind last rest) ≡ numbered_lines depth at left
-line-numbered depth at own here behind last stmt new was rest left is own_is here_is new_is last_is behind_is =
-    rw (new_is, last_is, behind_is, here_is, own_is, is) refl
+    → last ≡ here + rows (written_stmt 1 own stmt) → following ≡ depth_after own (stmt ∷ inner_stmts stmt)
+    → line new here (numbered_lines following last rest) ≡ numbered_lines depth at left
+line-numbered depth at own here following last stmt new was rest left is own_is here_is new_is last_is following_is =
+    rw (new_is, last_is, following_is, here_is, own_is, is) refl
 
-pub line-line : (depth at own here behind last : ℕ) (stmt : Stmt) (was : ℕ) (rest left : Lines) → left ≡ line stmt was rest → own ≡ next_depth depth left
+pub line-line : (depth at own here following last : ℕ) (stmt : Stmt) (was : ℕ) (rest left : Lines) → left ≡ line stmt was rest → own ≡ next_depth depth left
     → here ≡ at + rows (written_depth depth own)
-    → last ≡ here + rows (written_stmt 1 own stmt) → behind ≡ depth_behind own (stmt ∷ inner_stmts stmt)
-    → last + rows (written_lines 1 behind rest) ≡ at + rows (written_lines 1 depth left)
-line-line depth at own here behind last stmt was rest left is own_is here_is last_is behind_is =
+    → last ≡ here + rows (written_stmt 1 own stmt) → following ≡ depth_after own (stmt ∷ inner_stmts stmt)
+    → last + rows (written_lines 1 following rest) ≡ at + rows (written_lines 1 depth left)
+line-line depth at own here following last stmt was rest left is own_is here_is last_is following_is =
     let n = next_depth depth (line stmt was rest) in
     let same : own ≡ n = own_is ∙ ap (next_depth depth) is in
-    let all : rows (written_lines 1 depth left) ≡ rows (written_depth depth n) + (rows (written_stmt 1 n stmt) + rows (written_lines 1 (depth_behind n (stmt ∷ inner_stmts stmt)) rest)) =
+    let all : rows (written_lines 1 depth left) ≡ rows (written_depth depth n) + (rows (written_stmt 1 n stmt) + rows (written_lines 1 (depth_after n (stmt ∷ inner_stmts stmt)) rest)) =
     ap (λ l. rows (written_lines 1 depth l)) is ∙ lines-count depth stmt was rest in
     let one : last ≡ at + rows (written_depth depth n) + rows (written_stmt 1 n stmt) =
     last_is ∙ ap (λ h. h + rows (written_stmt 1 own stmt)) here_is ∙ ap (λ m. at + rows (written_depth depth m) + rows (written_stmt 1 m stmt)) same in
-    let other : rows (written_lines 1 behind rest) ≡ rows (written_lines 1 (depth_behind n (stmt ∷ inner_stmts stmt)) rest) =
-    ap (λ m. rows (written_lines 1 m rest)) (behind_is ∙ ap (λ m. depth_behind m (stmt ∷ inner_stmts stmt)) same) in
+    let other : rows (written_lines 1 following rest) ≡ rows (written_lines 1 (depth_after n (stmt ∷ inner_stmts stmt)) rest) =
+    ap (λ m. rows (written_lines 1 m rest)) (following_is ∙ ap (λ m. depth_after m (stmt ∷ inner_stmts stmt)) same) in
     omega (arith, all, one, other)
 
-pub line-depth : (depth own behind was : ℕ) (stmt : Stmt) (rest left : Lines) → left ≡ line stmt was rest → own ≡ next_depth depth left → behind ≡ depth_behind own (stmt ∷ inner_stmts stmt)
-    → depth_behind behind (stmts_in rest) ≡ depth_behind depth (stmts_in left)
-line-depth depth own behind was stmt rest left is own_is behind_is =
-    depth-step depth own behind was (depth_behind depth (stmts_in left)) stmt rest left is refl own_is behind_is
+pub line-depth : (depth own following was : ℕ) (stmt : Stmt) (rest left : Lines) → left ≡ line stmt was rest → own ≡ next_depth depth left → following ≡ depth_after own (stmt ∷ inner_stmts stmt)
+    → depth_after following (stmts_in rest) ≡ depth_after depth (stmts_in left)
+line-depth depth own following was stmt rest left is own_is following_is =
+    depth-step depth own following was (depth_after depth (stmts_in left)) stmt rest left is refl own_is following_is
 
 pub line-unbroken : (stmt : Stmt) (was : ℕ) (rest left : Lines) → left ≡ line stmt was rest → are_unbroken (stmts_in left) ≡ true
     → (are_unbroken (stmt ∷ inner_stmts stmt) ≡ true) × (are_unbroken (stmts_in rest) ≡ true)
@@ -182,26 +182,26 @@ whole_arms (a ∷ given) = ap (arm_before a) (whole_arms given)
 
 -- An arm before others, from its body.
 
-pub arm-numbered : (depth at first behind last end : ℕ) (cases : List ℕ) (body new : Lines) (rest : Arms)
+pub arm-numbered : (depth at first following last end : ℕ) (cases : List ℕ) (body new : Lines) (rest : Arms)
     → first ≡ at + length cases → new ≡ numbered_lines depth first body
-    → last ≡ first + rows (written_lines 1 depth body) → behind ≡ depth_behind depth (stmts_in body) → end ≡ last + 1
-    → arm cases new (numbered_arms behind end rest) ≡ numbered_arms depth at (arm cases body rest)
-arm-numbered depth at first behind last end cases body new rest first_is new_is last_is behind_is end_is =
-    rw (new_is, end_is, last_is, behind_is, first_is) refl
+    → last ≡ first + rows (written_lines 1 depth body) → following ≡ depth_after depth (stmts_in body) → end ≡ last + 1
+    → arm cases new (numbered_arms following end rest) ≡ numbered_arms depth at (arm cases body rest)
+arm-numbered depth at first following last end cases body new rest first_is new_is last_is following_is end_is =
+    rw (new_is, end_is, last_is, following_is, first_is) refl
 
-pub arm-line : (depth at first behind last end : ℕ) (cases : List ℕ) (body : Lines) (rest : Arms)
+pub arm-line : (depth at first following last end : ℕ) (cases : List ℕ) (body : Lines) (rest : Arms)
     → first ≡ at + rows (written_cases 1 cases)
-    → last ≡ first + rows (written_lines 1 depth body) → behind ≡ depth_behind depth (stmts_in body) → end ≡ last + 1
-    → end + rows (written_arms 1 behind rest) ≡ at + rows (written_arms 1 depth (arm cases body rest))
-arm-line depth at first behind last end cases body rest first_is last_is behind_is end_is =
+    → last ≡ first + rows (written_lines 1 depth body) → following ≡ depth_after depth (stmts_in body) → end ≡ last + 1
+    → end + rows (written_arms 1 following rest) ≡ at + rows (written_arms 1 depth (arm cases body rest))
+arm-line depth at first following last end cases body rest first_is last_is following_is end_is =
     let all = arm-count depth cases body rest in
-    let other : rows (written_arms 1 behind rest) ≡ rows (written_arms 1 (depth_behind depth (stmts_in body)) rest) = ap (λ m. rows (written_arms 1 m rest)) behind_is in
+    let other : rows (written_arms 1 following rest) ≡ rows (written_arms 1 (depth_after depth (stmts_in body)) rest) = ap (λ m. rows (written_arms 1 m rest)) following_is in
     omega (arith, all, other, first_is, last_is, end_is)
 
-pub arm-depth : (depth behind : ℕ) (cases : List ℕ) (body : Lines) (rest : Arms) → behind ≡ depth_behind depth (stmts_in body)
-    → depth_behind behind (arm_stmts rest) ≡ depth_behind depth (arm_stmts (arm cases body rest))
-arm-depth depth behind cases body rest behind_is =
-    ap (λ m. depth_behind m (arm_stmts rest)) behind_is ∙ sym (depth_behind-append depth (stmts_in body) (arm_stmts rest))
+pub arm-depth : (depth following : ℕ) (cases : List ℕ) (body : Lines) (rest : Arms) → following ≡ depth_after depth (stmts_in body)
+    → depth_after following (arm_stmts rest) ≡ depth_after depth (arm_stmts (arm cases body rest))
+arm-depth depth following cases body rest following_is =
+    ap (λ m. depth_after m (arm_stmts rest)) following_is ∙ sym (depth_after-append depth (stmts_in body) (arm_stmts rest))
 
 -- The parts of a statement without line feeds.
 

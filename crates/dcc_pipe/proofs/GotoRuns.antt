@@ -35,7 +35,7 @@ use Rattle.dcc_pipe.proofs.Places.{IsPlace, bound, bindings_of}
 use Rattle.dcc_pipe.proofs.ExprMeanings.{AreHeld}
 use Rattle.dcc_pipe.proofs.TextSteps.{text, text_state, flag-step}
 use Rattle.dcc_pipe.proofs.HeldLaws.{bytes-of}
-use Rattle.dcc_pipe.proofs.Lined.{IsCounted, unchanged, AreLined, one_more, IsFlat, flat, AreFlat, none_flat, more_flat, flat-append, blocks-flat, Passes, passed, passes, behind, Lands, AreBelow, land}
+use Rattle.dcc_pipe.proofs.Lined.{IsCounted, unchanged, AreLined, one_more, IsFlat, flat, AreFlat, none_flat, more_flat, flat-append, blocks-flat, Passes, passed, passes, following, Lands, AreBelow, land}
 use Rattle.dcc_pipe.proofs.BlockRuns.{IsGood, IsAt, at-leaps, at-alike}
 
 -- The variables at the start.
@@ -299,7 +299,7 @@ module _ (image : List ℕ) (lo hi entry local pushed : ℕ) (params : List Para
 
   goto-jumps : (place : ℕ) (block : inner.Block) → slice_get blocks place ≡ Some block → Lands blocks block start.body (ends_function start.last)
   goto-jumps place block there =
-      let past = behind (flat_map (text_block blocks) blocks) start.body (ends_function start.last) (flags-pass (label_name block.at)) whole-lined in
+      let past = following (flat_map (text_block blocks) blocks) start.body (ends_function start.last) (flags-pass (label_name block.at)) whole-lined in
       let to = land blocks blocks place block past.after (ends_function start.last) there is.differ is.below past.lined in
       record { to = to.to; others = to.others; lined = to.lined; found = past.same ∙ to.found }
 

@@ -60,9 +60,9 @@ module _ {S T : Type 0} (first : System S) (second : System T) (related : S → 
       ]
 
   -- what is shown after a leap
-  behind : (s : S) (t : T) → GoOn first second related s t → second.out t ≡ first.out s
-  behind s t (still_related r) = (alike s t r).out
-  behind s t (both_over o) = o.out
+  following : (s : S) (t : T) → GoOn first second related s t → second.out t ≡ first.out s
+  following s t (still_related r) = (alike s t r).out
+  following s t (both_over o) = o.out
 
   -- the first run reaches, in as many steps at most, where the second one stands after k
   reaches : (fuel k : ℕ) (s : S) (t : T) → k ≤ fuel → related s t → (m : ℕ) × (m ≤ k) × Reaches second t k first s m
@@ -89,7 +89,7 @@ module _ {S T : Type 0} (first : System S) (second : System T) (related : S → 
               1,
               omega arith,
               record {
-                out = subst (λ l. IsPrefix (out_after second (suc k) t) l) (behind (first.step s) next leap.goes_on) (out_grows second other_law (suc k) (suc leap.further) t within);
+                out = subst (λ l. IsPrefix (out_after second (suc k) t) l) (following (first.step s) next leap.goes_on) (out_grows second other_law (suc k) (suc leap.further) t within);
                 end = λ over. absurd (true≢false (sym over ∙ runs));
                 same = λ over. absurd (true≢false (sym over ∙ runs));
               },

@@ -85,11 +85,11 @@ pub record Behind (word : Word) (ys : List Stmt) (lines : Lines) (rest : Continu
   pub lined : AreLined ys after
   pub same : from_label word lines rest ≡ from_label word after rest
 
-pub behind : {word : Word} {xs : List Stmt} (ys : List Stmt) (lines : Lines) (rest : Continuation) → Passes word xs → AreLined (xs ++ ys) lines → Behind word ys lines rest
-behind ys lines rest passed lined = record { after = lines; lined = lined; same = refl }
-behind ys no_lines rest (passes is others) lined = elim lined [ ]
-behind {word} ys (line counted at lines) rest (passes is others) (one_more kept lined) =
-    let b = behind ys lines rest others lined in record {
+pub following : {word : Word} {xs : List Stmt} (ys : List Stmt) (lines : Lines) (rest : Continuation) → Passes word xs → AreLined (xs ++ ys) lines → Behind word ys lines rest
+following ys lines rest passed lined = record { after = lines; lined = lined; same = refl }
+following ys no_lines rest (passes is others) lined = elim lined [ ]
+following {word} ys (line counted at lines) rest (passes is others) (one_more kept lined) =
+    let b = following ys lines rest others lined in record {
       after = b.after;
       lined = b.lined;
       same = ap (λ o. first_of o (from_label word lines rest)) (is counted kept at lines rest) ∙ b.same;
@@ -165,6 +165,6 @@ land all (b ∷ blocks) (suc place) block lines rest is differ below lined =
     let (front, others) = and_parts (not (list_any (λ m. b.at == m) (map (λ b. b.at) blocks))) (all_differ (map (λ b. b.at) blocks)) differ in
     let apart : block.at ≡ b.at → ⊥ = λ same. true≢false (sym (stands-among b.at place block blocks is (sym same)) ∙ not-true (list_any (λ m. b.at == m) (map (λ b. b.at) blocks)) front) in
     let passing = block-passes (label_name block.at) all b (labels-differ block.at b.at (below (suc place) block is) (below 0 b refl) apart) in
-    let past = behind (flat_map (text_block all) blocks) lines rest passing lined in
+    let past = following (flat_map (text_block all) blocks) lines rest passing lined in
     let there = land all blocks place block past.after rest is others (λ k. below (suc k)) past.lined in
     record { to = there.to; others = there.others; lined = there.lined; found = past.same ∙ there.found }

@@ -5,7 +5,7 @@ ghost use Rattle.std.specs.List.{list_all};
 ghost use Rattle.dcc_c.specs.Tree.{Arms, no_arms};
 ghost use Rattle.dcc_c.specs.Parts.{stmts_in, inner_stmts, arm_stmts};
 ghost use Rattle.dcc_c.specs.Written as written;
-ghost use Rattle.dcc_c.specs.Written.{depth_behind, written_depth, written_cases, written_stmt, written_lines, written_arms, written_default};
+ghost use Rattle.dcc_c.specs.Written.{depth_after, written_depth, written_cases, written_stmt, written_lines, written_arms, written_default};
 ghost use Rattle.dcc_c.specs.Numbered.{rows, numbered_stmt, numbered_lines, numbered_arms, numbered_default, numbered_function, numbered_functions, numbered};
 ghost use Rattle.dcc_c.specs.Views.{stmt_of, lines_of, arms_of, arm_before, function_of, tree_of, arms_if};
 ghost use Rattle.dcc_pipe.specs.Unbroken.{are_unbroken, is_unbroken_tree};
@@ -49,7 +49,7 @@ fn further(line: u32, count: usize) -> Result<u32, AllocError>
 }
 
 // The line after the pragma that changes the depth in force, where it is another.
-fn behind_pragma(depth: u32, next: u32, line: u32) -> Result<u32, AllocError>
+fn after_pragma(depth: u32, next: u32, line: u32) -> Result<u32, AllocError>
     ensures { IfOk result (λ n. n ≡ line + rows (written_depth depth next)) }
 {
     if depth == next {
@@ -76,7 +76,7 @@ fn cases_rows(cases: &[u16]) -> usize
 }
 
 // The place after an `if` whose last block ends here: after the brace that ends the else part, where it has one.
-fn behind_if(end: Place, has_else: bool) -> Result<Place, AllocError>
+fn after_if(end: Place, has_else: bool) -> Result<Place, AllocError>
     ensures line { IfOk result (λ place. place.line ≡ end.line + (if has_else then 1 else 0)) }
     ensures depth { IfOk result (λ place. place.depth ≡ end.depth) }
 {
@@ -84,8 +84,8 @@ fn behind_if(end: Place, has_else: bool) -> Result<Place, AllocError>
 }
 
 // The depth in force after a statement without others inside it.
-fn depth_behind_simple(depth: u32, stmt: &CStmt) -> u32
-    ensures { result ≡ depth_behind depth (stmt_of stmt.now ∷ []) }
+fn depth_after_simple(depth: u32, stmt: &CStmt) -> u32
+    ensures { result ≡ depth_after depth (stmt_of stmt.now ∷ []) }
 {
     match stmt {
         CStmt::Call(_, _, _, own) => *own,
@@ -100,37 +100,37 @@ fn number_stmt(depth: u32, line: u32, stmt: CStmt) -> Result<(CStmt, Place), All
         IfOk result (λ r. stmt_of r.0 ≡ numbered_stmt depth line (stmt_of stmt)) }
     ensures line { are_unbroken (stmt_of stmt ∷ inner_stmts (stmt_of stmt)) ≡ true →
         IfOk result (λ r. r.1.line ≡ line + rows (written_stmt 1 depth (stmt_of stmt))) }
-    ensures depth { IfOk result (λ r. r.1.depth ≡ depth_behind depth (stmt_of stmt ∷ inner_stmts (stmt_of stmt))) }
+    ensures depth { IfOk result (λ r. r.1.depth ≡ depth_after depth (stmt_of stmt ∷ inner_stmts (stmt_of stmt))) }
 {
     match stmt {
         CStmt::If(test, mut body, mut otherwise) => {
             let middle = number_lines(depth, further(line, 1)?, &mut body)?;
             let has_else = !otherwise.is_empty();
             let end = number_lines(middle.depth, further(middle.line, 1)?, &mut otherwise)?;
-            let behind = behind_if(end, has_else)?;
-            Ok((CStmt::If(test, body, otherwise), behind))
+            let following = after_if(end, has_else)?;
+            Ok((CStmt::If(test, body, otherwise), following))
         }
         CStmt::While(test, mut body) => {
-            let behind = number_lines(depth, further(line, 1)?, &mut body)?.below()?;
-            Ok((CStmt::While(test, body), behind))
+            let following = number_lines(depth, further(line, 1)?, &mut body)?.below()?;
+            Ok((CStmt::While(test, body), following))
         }
         CStmt::DoWhile(mut body, test) => {
-            let behind = number_lines(depth, further(line, 1)?, &mut body)?.below()?;
-            Ok((CStmt::DoWhile(body, test), behind))
+            let following = number_lines(depth, further(line, 1)?, &mut body)?.below()?;
+            Ok((CStmt::DoWhile(body, test), following))
         }
         CStmt::Forever(mut body) => {
-            let behind = number_lines(depth, further(line, 1)?, &mut body)?.below()?;
-            Ok((CStmt::Forever(body), behind))
+            let following = number_lines(depth, further(line, 1)?, &mut body)?.below()?;
+            Ok((CStmt::Forever(body), following))
         }
         CStmt::Switch(value, mut arms, mut last) => {
             let middle = number_arms(depth, further(line, 1)?, &mut arms)?;
-            let behind = number_default(middle.depth, further(middle.line, 1)?, &mut last)?;
-            Ok((CStmt::Switch(value, arms, last), behind))
+            let following = number_default(middle.depth, further(middle.line, 1)?, &mut last)?;
+            Ok((CStmt::Switch(value, arms, last), following))
         }
         simple => {
-            let depth = depth_behind_simple(depth, &simple);
-            let behind = Place { line, depth }.below()?;
-            Ok((simple, behind))
+            let depth = depth_after_simple(depth, &simple);
+            let following = Place { line, depth }.below()?;
+            Ok((simple, following))
         }
     }
 }
@@ -142,8 +142,8 @@ fn number_default(depth: u32, line: u32, last: &mut Option<Arm>) -> Result<Place
     ensures numbered { are_unbroken (arm_stmts (arms_if last.old)) ≡ true →
         OnOk result (arms_if last.new ≡ numbered_default depth line (arms_if last.old)) }
     ensures line { are_unbroken (arm_stmts (arms_if last.old)) ≡ true →
-        IfOk result (λ behind. behind.line ≡ line + rows (written_default 1 depth (arms_if last.old))) }
-    ensures depth { IfOk result (λ behind. behind.depth ≡ depth_behind depth (arm_stmts (arms_if last.old))) }
+        IfOk result (λ following. following.line ≡ line + rows (written_default 1 depth (arms_if last.old))) }
+    ensures depth { IfOk result (λ following. following.depth ≡ depth_after depth (arm_stmts (arms_if last.old))) }
 {
     match last {
         None => Ok(Place { line, depth }),
@@ -157,8 +157,8 @@ fn number_arms(depth: u32, line: u32, arms: &mut [Arm]) -> Result<Place, AllocEr
     ensures numbered { are_unbroken (arm_stmts (arms_of arms.old)) ≡ true →
         OnOk result (arms_of arms.new ≡ numbered_arms depth line (arms_of arms.old)) }
     ensures line { are_unbroken (arm_stmts (arms_of arms.old)) ≡ true →
-        IfOk result (λ behind. behind.line ≡ line + rows (written_arms 1 depth (arms_of arms.old))) }
-    ensures depth { IfOk result (λ behind. behind.depth ≡ depth_behind depth (arm_stmts (arms_of arms.old))) }
+        IfOk result (λ following. following.line ≡ line + rows (written_arms 1 depth (arms_of arms.old))) }
+    ensures depth { IfOk result (λ following. following.depth ≡ depth_after depth (arm_stmts (arms_of arms.old))) }
 {
     let mut place = Place { line, depth };
     for i in 0..arms.len() {
@@ -172,13 +172,13 @@ fn number_arms(depth: u32, line: u32, arms: &mut [Arm]) -> Result<Place, AllocEr
 #[cycle(number)]
 fn number_arm(depth: u32, line: u32, arm: &mut Arm) -> Result<Place, AllocError>
     ensures numbered { (rest : Arms) → are_unbroken (arm_stmts (arm_before arm.old no_arms)) ≡ true →
-        IfOk result (λ behind. arm_before arm.new (numbered_arms behind.depth behind.line rest)
+        IfOk result (λ following. arm_before arm.new (numbered_arms following.depth following.line rest)
         ≡ numbered_arms depth line (arm_before arm.old rest)) }
     ensures line { (rest : Arms) → are_unbroken (arm_stmts (arm_before arm.old no_arms)) ≡ true →
-        IfOk result (λ behind. behind.line + rows (written_arms 1 behind.depth rest)
+        IfOk result (λ following. following.line + rows (written_arms 1 following.depth rest)
         ≡ line + rows (written_arms 1 depth (arm_before arm.old rest))) }
-    ensures depth { (rest : Arms) → IfOk result (λ behind. depth_behind behind.depth (arm_stmts rest)
-        ≡ depth_behind depth (arm_stmts (arm_before arm.old rest))) }
+    ensures depth { (rest : Arms) → IfOk result (λ following. depth_after following.depth (arm_stmts rest)
+        ≡ depth_after depth (arm_stmts (arm_before arm.old rest))) }
 {
     let first = further(line, cases_rows(&arm.cases))?;
     number_lines(depth, first, &mut arm.body)?.below()
@@ -191,13 +191,13 @@ fn number_lines(depth: u32, line: u32, lines: &mut [Line]) -> Result<Place, Allo
     ensures numbered { are_unbroken (stmts_in (lines_of lines.old)) ≡ true →
         OnOk result (lines_of lines.new ≡ numbered_lines depth line (lines_of lines.old)) }
     ensures line { are_unbroken (stmts_in (lines_of lines.old)) ≡ true →
-        IfOk result (λ behind. behind.line ≡ line + rows (written_lines 1 depth (lines_of lines.old))) }
-    ensures depth { IfOk result (λ behind. behind.depth ≡ depth_behind depth (stmts_in (lines_of lines.old))) }
+        IfOk result (λ following. following.line ≡ line + rows (written_lines 1 depth (lines_of lines.old))) }
+    ensures depth { IfOk result (λ following. following.depth ≡ depth_after depth (stmts_in (lines_of lines.old))) }
 {
     let mut place = Place { line, depth };
     for i in 0..lines.len() {
         let own = own_depth(place.depth, lines, i);
-        let here = behind_pragma(place.depth, own, place.line)?;
+        let here = after_pragma(place.depth, own, place.line)?;
         place = number_line(own, here, &mut lines[i])?;
     }
     Ok(place)
@@ -210,23 +210,23 @@ fn number_line(depth: u32, here: u32, line: &mut Line) -> Result<Place, AllocErr
     ensures numbered { are_unbroken (stmt_of line.old.stmt ∷ inner_stmts (stmt_of line.old.stmt)) ≡ true →
         OnOk result (stmt_of line.new.stmt ≡ numbered_stmt depth here (stmt_of line.old.stmt)) }
     ensures line { are_unbroken (stmt_of line.old.stmt ∷ inner_stmts (stmt_of line.old.stmt)) ≡ true →
-        IfOk result (λ behind. behind.line ≡ here + rows (written_stmt 1 depth (stmt_of line.old.stmt))) }
-    ensures depth { IfOk result (λ behind.
-        behind.depth ≡ depth_behind depth (stmt_of line.old.stmt ∷ inner_stmts (stmt_of line.old.stmt))) }
+        IfOk result (λ following. following.line ≡ here + rows (written_stmt 1 depth (stmt_of line.old.stmt))) }
+    ensures depth { IfOk result (λ following.
+        following.depth ≡ depth_after depth (stmt_of line.old.stmt ∷ inner_stmts (stmt_of line.old.stmt))) }
 {
     // The statement is taken out, since it is made anew from its parts.
     let stmt = mem::replace(&mut line.stmt, CStmt::Empty);
-    let (stmt, behind) = number_stmt(depth, here, stmt)?;
+    let (stmt, following) = number_stmt(depth, here, stmt)?;
     line.stmt = stmt;
     line.line = here;
-    Ok(behind)
+    Ok(following)
 }
 
 // Counts the lines of a function whose head stands in this line. The answer is the line after it.
 fn number_function(line: u32, f: &mut Func) -> Result<u32, AllocError>
     ensures numbered { are_unbroken (stmts_in (lines_of f.old.body.items)) ≡ true →
         OnOk result (function_of f.new ≡ numbered_function line (function_of f.old)) }
-    ensures line { IfOk result (λ behind. behind ≡ f.new.last + 1) }
+    ensures line { IfOk result (λ following. following ≡ f.new.last + 1) }
 {
     let first = further(further(line, 2)?, f.locals.len())?;
     f.last = number_lines(FIRST_DEPTH, first, &mut f.body)?.line;

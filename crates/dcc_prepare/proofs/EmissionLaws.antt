@@ -224,22 +224,22 @@ closed tree f is_open points rows labels slot k line action are here acts = reco
 
 -- Jumps.
 
-pub jump_passes : (tree : Tree) (points : List Continuation) (own behind : Continuation) (target : Option Continuation)
+pub jump_passes : (tree : Tree) (points : List Continuation) (own following : Continuation) (target : Option Continuation)
     (line at : ℕ) → MayGo tree points (Some at) target →
-    ((s : State) → step_at tree own s ≡ jump_step target line (goes_on behind s)) →
+    ((s : State) → step_at tree own s ≡ jump_step target line (goes_on following s)) →
     IsPass tree (points ++ own ∷ []) own at
-jump_passes tree points own behind None line at goes does = absurd goes
-jump_passes tree points own behind (Some rest) line at goes does = record {
+jump_passes tree points own following None line at goes does = absurd goes
+jump_passes tree points own following (Some rest) line at goes does = record {
   to = rest;
   goes = goes_stay tree points (points ++ own ∷ []) at rest (stay_push points own) goes;
   does = does;
 }
 
-pub jump_sticks : (tree : Tree) (points : List Continuation) (own behind : Continuation) (target : Option Continuation)
+pub jump_sticks : (tree : Tree) (points : List Continuation) (own following : Continuation) (target : Option Continuation)
     (line : ℕ) → MayGo tree points None target →
-    ((s : State) → step_at tree own s ≡ jump_step target line (goes_on behind s)) → IsStuck tree own line
-jump_sticks tree points own behind (Some rest) line goes does = absurd goes
-jump_sticks tree points own behind None line goes does = record { behind = behind; does = does }
+    ((s : State) → step_at tree own s ≡ jump_step target line (goes_on following s)) → IsStuck tree own line
+jump_sticks tree points own following (Some rest) line goes does = absurd goes
+jump_sticks tree points own following None line goes does = record { following = following; does = does }
 
 -- Labels that are found.
 

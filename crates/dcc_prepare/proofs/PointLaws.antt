@@ -97,7 +97,7 @@ acts_stay tree f before now labels more rest line (Test e first second) stay kee
   expr = acts.expr;
   if_yes = acts.if_yes;
   if_no = acts.if_no;
-  behind = acts.behind;
+  following = acts.following;
   stands = acts.stands;
   goes_yes = goes_stay tree before now first acts.if_yes stay acts.goes_yes;
   goes_no = goes_stay tree before now second acts.if_no stay acts.goes_no;
@@ -106,14 +106,14 @@ acts_stay tree f before now labels more rest line (Test e first second) stay kee
 acts_stay tree f before now labels more rest line (Switch e cases otherwise) stay keep acts = record {
   expr = acts.expr;
   to = acts.to;
-  behind = acts.behind;
+  following = acts.following;
   stands = acts.stands;
   goes = λ n. goes_stay tree before now _ (acts.to n) stay (acts.goes n);
   does = acts.does;
 }
 acts_stay tree f before now labels more rest line (Goto number) stay keep acts = record {
   word = acts.word;
-  behind = acts.behind;
+  following = acts.following;
   label = keep acts.word number acts.label;
   does = acts.does;
 }

@@ -57,19 +57,19 @@ lines_step tree f is_open points start mid now lines i n l at next rest more wit
 
 -- The points after a statement.
 
-pub leads_stay : (tree : Tree) (before now : List Continuation) (behind : Behind) (rest : Continuation) →
-    Stay before now → Leads tree before behind rest → Leads tree now behind rest
-leads_stay tree before now behind rest stay leads = record {
-  next = goes_stay tree before now behind.next rest stay leads.next;
-  on_break = may_stay tree before now behind.on_break (after_break rest) stay leads.on_break;
-  on_continue = may_stay tree before now behind.on_continue (after_continue rest) stay leads.on_continue;
+pub leads_stay : (tree : Tree) (before now : List Continuation) (following : Behind) (rest : Continuation) →
+    Stay before now → Leads tree before following rest → Leads tree now following rest
+leads_stay tree before now following rest stay leads = record {
+  next = goes_stay tree before now following.next rest stay leads.next;
+  on_break = may_stay tree before now following.on_break (after_break rest) stay leads.on_break;
+  on_continue = may_stay tree before now following.on_continue (after_continue rest) stay leads.on_continue;
 }
 
 -- after another point, where the jumps lead to the same points
-pub leads_behind : (tree : Tree) (points : List Continuation) (behind now : Behind) (lines : Lines) (rest : Continuation) →
-    now.on_break ≡ behind.on_break → now.on_continue ≡ behind.on_continue → Leads tree points behind rest →
+pub leads_after : (tree : Tree) (points : List Continuation) (following now : Behind) (lines : Lines) (rest : Continuation) →
+    now.on_break ≡ following.on_break → now.on_continue ≡ following.on_continue → Leads tree points following rest →
     Goes tree points now.next (runs lines rest) → Leads tree points now (runs lines rest)
-leads_behind tree points behind now lines rest same_break same_continue leads goes = record {
+leads_after tree points following now lines rest same_break same_continue leads goes = record {
   next = goes;
   on_break = subst (λ to. MayGo tree points to (after_break rest)) (sym same_break) leads.on_break;
   on_continue = subst (λ to. MayGo tree points to (after_continue rest)) (sym same_continue) leads.on_continue;
@@ -86,7 +86,7 @@ loop_test tree f points e body at rest value first second stands goes other = re
   expr = e;
   if_yes = runs body (tests e body at rest);
   if_no = rest;
-  behind = λ s. s.rest;
+  following = λ s. s.rest;
   stands = stands;
   goes_yes = goes;
   goes_no = other;
@@ -143,7 +143,7 @@ if_test tree f points e body otherwise lines at rest value first second stands g
   expr = e;
   if_yes = runs body (runs lines rest);
   if_no = runs otherwise (runs lines rest);
-  behind = λ s. runs lines rest;
+  following = λ s. runs lines rest;
   stands = stands;
   goes_yes = goes;
   goes_no = other;
@@ -160,7 +160,7 @@ while_test tree f points e body lines at rest value first second stands goes oth
   expr = e;
   if_yes = runs body (tests e body at (runs lines rest));
   if_no = runs lines rest;
-  behind = λ s. runs lines rest;
+  following = λ s. runs lines rest;
   stands = stands;
   goes_yes = goes;
   goes_no = other;
@@ -175,7 +175,7 @@ pub switch_test : (tree : Tree) (f : Function) (points : List Continuation) (e :
 switch_test tree f points e arms last lines at rest value cases otherwise stands goes = record {
   expr = e;
   to = λ n. runs (arm_for n arms (default_body last)) (ends_switch (runs lines rest));
-  behind = runs lines rest;
+  following = runs lines rest;
   stands = stands;
   goes = goes;
   does = λ s. refl;

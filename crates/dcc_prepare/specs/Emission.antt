@@ -50,10 +50,10 @@ pub record EmitsArms (tree : Tree) (f : Function) (is_open : ℕ → Bool) (poin
       Goes tree later (case_point cases n at) (runs (arm_for n arms otherwise) rest)
 
 -- the points after a statement lead where the continuation does
-pub record Leads (tree : Tree) (points : List Continuation) (behind : Behind) (rest : Continuation) : Type 0 where
-  pub next : Goes tree points behind.next rest
-  pub on_break : MayGo tree points behind.on_break (after_break rest)
-  pub on_continue : MayGo tree points behind.on_continue (after_continue rest)
+pub record Leads (tree : Tree) (points : List Continuation) (following : Behind) (rest : Continuation) : Type 0 where
+  pub next : Goes tree points following.next rest
+  pub on_break : MayGo tree points following.on_break (after_break rest)
+  pub on_continue : MayGo tree points following.on_continue (after_continue rest)
 
 -- the names that statements are read with are those of the text and the function
 pub record IsContext (context : Context) (tree : Tree) (f : Function) : Type 0 where

@@ -144,43 +144,43 @@ pub record IsTest (tree : Tree) (f : Function) (points : List Continuation) (res
   pub expr : Expr
   pub if_yes : Continuation
   pub if_no : Continuation
-  pub behind : State → Continuation
+  pub following : State → Continuation
   pub stands : Stands (names_in tree f) expr e
   pub goes_yes : Goes tree points first if_yes
   pub goes_no : Goes tree points second if_no
   pub does : (s : State) → step_at tree rest s
-      ≡ on (value_of (scope_of tree s) expr) line (goes_on (behind s) s)
+      ≡ on (value_of (scope_of tree s) expr) line (goes_on (following s) s)
       (λ v. goes_on (if is_zero v then if_no else if_yes) s)
 
 pub record IsSwitch (tree : Tree) (f : Function) (points : List Continuation) (rest : Continuation) (line : ℕ)
     (e : Resolved) (cases : List Case) (otherwise : ℕ) : Type 0 where
   pub expr : Expr
   pub to : ℕ → Continuation
-  pub behind : Continuation
+  pub following : Continuation
   pub stands : Stands (names_in tree f) expr e
   pub goes : (n : ℕ) → Goes tree points (case_point cases n otherwise) (to n)
   pub does : (s : State) → step_at tree rest s
-      ≡ on (value_of (scope_of tree s) expr) line (goes_on behind s)
+      ≡ on (value_of (scope_of tree s) expr) line (goes_on following s)
       (λ v. goes_on (to (converted (plain Uint) v).bits) s)
 
 pub record IsGoto (tree : Tree) (labels : List Label) (rest : Continuation) (line number : ℕ) : Type 0 where
   pub word : Word
-  pub behind : Continuation
+  pub following : Continuation
   pub label : label_named labels word ≡ Some number
-  pub does : (s : State) → step_at tree rest s ≡ jump_step (after_goto s.frame.function word) line (goes_on behind s)
+  pub does : (s : State) → step_at tree rest s ≡ jump_step (after_goto s.frame.function word) line (goes_on following s)
 
 pub record IsReturn (tree : Tree) (f : Function) (rest : Continuation) (line : ℕ) (e : Option Resolved) : Type 0 where
   pub expr : Option Expr
-  pub behind : Continuation
+  pub following : Continuation
   pub stands : StandsIf (names_in tree f) expr e
-  pub does : (s : State) → step_at tree rest s ≡ stmt_step tree (Return expr) line (goes_on behind s)
+  pub does : (s : State) → step_at tree rest s ≡ stmt_step tree (Return expr) line (goes_on following s)
 
 pub record IsClose (tree : Tree) (rest : Continuation) (line : ℕ) : Type 0 where
   pub does : (s : State) → step_at tree rest s ≡ close_step line s
 
 pub record IsStuck (tree : Tree) (rest : Continuation) (line : ℕ) : Type 0 where
-  pub behind : Continuation
-  pub does : (s : State) → step_at tree rest s ≡ with_end (stuck line) (goes_on behind s)
+  pub following : Continuation
+  pub does : (s : State) → step_at tree rest s ≡ with_end (stuck line) (goes_on following s)
 
 -- the action is the next step of the continuation, in this line
 abbrev pub Acts : Tree → Function → List Continuation → List Label → Continuation → ℕ → Action → Type 0

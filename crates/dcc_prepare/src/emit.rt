@@ -44,25 +44,25 @@ impl Behind {
 pub fn emit_lines(
     context: &Context<'_>,
     lines: &[Line],
-    behind: Behind,
+    following: Behind,
     code: &mut Code,
 ) -> Result<usize, AllocError>
     ensures { (tree : Tree) (f : Function) (is_open : ℕ → Bool) (points : List Continuation)
         (rest : Continuation) →
         IsContext context.now tree f →
         AreRows tree f is_open points code.old.rows.items code.old.labels.items →
-        Leads tree points behind rest →
+        Leads tree points following rest →
         IfOk result (λ at. Emits tree f is_open points code.old code.new
         (λ word. from_label word (lines_of lines.now) rest) at (runs (lines_of lines.now) rest)) }
 {
-    let mut behind = behind;
+    let mut following = following;
     let mut i = lines.len();
     while i > 0 {
         i -= 1;
         let line = &lines[i];
-        behind.next = emit_stmt(context, &line.stmt, line.line, behind, code)?;
+        following.next = emit_stmt(context, &line.stmt, line.line, following, code)?;
     }
-    Ok(behind.next)
+    Ok(following.next)
 }
 
 // Makes the points of a statement. The answer is the point where it begins.
@@ -71,42 +71,42 @@ fn emit_stmt(
     context: &Context<'_>,
     stmt: &CStmt,
     line: u32,
-    behind: Behind,
+    following: Behind,
     code: &mut Code,
 ) -> Result<usize, AllocError>
     ensures { (tree : Tree) (f : Function) (is_open : ℕ → Bool) (points : List Continuation)
         (lines : Lines) (rest : Continuation) →
         IsContext context.now tree f →
         AreRows tree f is_open points code.old.rows.items code.old.labels.items →
-        Leads tree points behind (runs lines rest) →
+        Leads tree points following (runs lines rest) →
         IfOk result (λ at. Emits tree f is_open points code.old code.new
         (λ word. from_label_inside word (stmt_of stmt.now) line lines rest)
         at (runs (before_lines (stmt_of stmt.now) line lines) rest)) }
 {
     match stmt {
-        CStmt::Assign(place, e) => emit_assign(context, place, e, line, behind.next, code),
+        CStmt::Assign(place, e) => emit_assign(context, place, e, line, following.next, code),
         CStmt::Call(place, function, arguments, depth) => {
             let name = function.as_str();
-            let row = call_row(context, place, name, arguments, *depth, behind.next)?;
+            let row = call_row(context, place, name, arguments, *depth, following.next)?;
             code.push(line, Action::Call(row))
         }
         CStmt::If(e, body, otherwise) => {
-            let no = emit_lines(context, otherwise, behind, code)?;
-            emit_if(context, body, e, no, line, behind, code)
+            let no = emit_lines(context, otherwise, following, code)?;
+            emit_if(context, body, e, no, line, following, code)
         }
-        CStmt::While(e, body) => emit_while(context, body, e, line, behind.next, code),
-        CStmt::DoWhile(body, e) => emit_do_while(context, body, e, line, behind.next, code),
-        CStmt::Forever(body) => emit_forever(context, body, line, behind.next, code),
+        CStmt::While(e, body) => emit_while(context, body, e, line, following.next, code),
+        CStmt::DoWhile(body, e) => emit_do_while(context, body, e, line, following.next, code),
+        CStmt::Forever(body) => emit_forever(context, body, line, following.next, code),
         CStmt::Switch(e, arms, last) => {
-            let inside = behind.inside_switch();
+            let inside = following.inside_switch();
             let otherwise = emit_default(context, last, inside, code)?;
             emit_switch(context, arms, e, otherwise, line, inside, code)
         }
-        CStmt::Break => emit_jump(line, behind.on_break, code),
-        CStmt::Continue => emit_jump(line, behind.on_continue, code),
+        CStmt::Break => emit_jump(line, following.on_break, code),
+        CStmt::Continue => emit_jump(line, following.on_continue, code),
         CStmt::Goto(name) => emit_goto(context.alloc, name.as_str(), line, code),
-        CStmt::Label(name) => emit_label(context.alloc, name.as_str(), line, behind.next, code),
-        CStmt::Empty => code.push(line, Action::Pass(behind.next)),
+        CStmt::Label(name) => emit_label(context.alloc, name.as_str(), line, following.next, code),
+        CStmt::Empty => code.push(line, Action::Pass(following.next)),
         CStmt::Return(e) => emit_return(context, e, line, code),
     }
 }
@@ -169,20 +169,20 @@ fn emit_if(
     e: &CExpr,
     no: usize,
     line: u32,
-    behind: Behind,
+    following: Behind,
     code: &mut Code,
 ) -> Result<usize, AllocError>
     ensures { (tree : Tree) (f : Function) (is_open : ℕ → Bool) (points : List Continuation)
         (otherwise lines : Lines) (rest : Continuation) →
         IsContext context.now tree f →
         AreRows tree f is_open points code.old.rows.items code.old.labels.items →
-        Leads tree points behind (runs lines rest) →
+        Leads tree points following (runs lines rest) →
         Goes tree points no (runs otherwise (runs lines rest)) →
         IfOk result (λ at. Emits tree f is_open points code.old code.new
         (λ word. from_label word (lines_of body.now) (runs lines rest)) at
         (runs (before_lines (If (expr_of e.now) (lines_of body.now) otherwise) line lines) rest)) }
 {
-    let yes = emit_lines(context, body, behind, code)?;
+    let yes = emit_lines(context, body, following, code)?;
     let value = resolve(context.alloc, context.names, e)?;
     code.push(line, Action::Test(value, yes, no))
 }
@@ -314,9 +314,9 @@ fn emit_return(
 // Makes the point of a jump to a point, where there is one.
 fn emit_jump(line: u32, to: Option<usize>, code: &mut Code) -> Result<usize, AllocError>
     ensures { (tree : Tree) (f : Function) (is_open : ℕ → Bool) (points : List Continuation)
-        (own behind : Continuation) (target : Option Continuation) →
+        (own following : Continuation) (target : Option Continuation) →
         AreRows tree f is_open points code.old.rows.items code.old.labels.items → MayGo tree points to target →
-        ((s : State) → step_at tree own s ≡ jump_step target line (goes_on behind s)) →
+        ((s : State) → step_at tree own s ≡ jump_step target line (goes_on following s)) →
         IfOk result (λ at. Emits tree f is_open points code.old code.new (λ word. None) at own) }
 {
     match to {
@@ -346,12 +346,12 @@ fn emit_repeated(
         at (runs (lines_of body.now) (tests (expr_of e.now) (lines_of body.now) line rest))) }
 {
     let test = code.push(line, Action::Stuck)?;
-    let behind = Behind {
+    let following = Behind {
         next: test,
         on_break: Some(next),
         on_continue: Some(test),
     };
-    let yes = emit_lines(context, body, behind, code)?;
+    let yes = emit_lines(context, body, following, code)?;
     let value = resolve(context.alloc, context.names, e)?;
     code.set(test, line, Action::Test(value, yes, next));
     Ok(yes)
@@ -376,12 +376,12 @@ fn emit_forever(
         at (turns (lines_of body.now) rest)) }
 {
     let turn = code.push(line, Action::Stuck)?;
-    let behind = Behind {
+    let following = Behind {
         next: turn,
         on_break: Some(next),
         on_continue: Some(turn),
     };
-    let first = emit_lines(context, body, behind, code)?;
+    let first = emit_lines(context, body, following, code)?;
     code.set(turn, line, Action::Pass(first));
     Ok(turn)
 }
@@ -391,14 +391,14 @@ fn emit_forever(
 fn emit_arms(
     context: &Context<'_>,
     arms: &[Arm],
-    behind: Behind,
+    following: Behind,
     code: &mut Code,
 ) -> Result<Vec<Case>, AllocError>
     ensures { (tree : Tree) (f : Function) (is_open : ℕ → Bool) (points : List Continuation)
         (rest : Continuation) →
         IsContext context.now tree f →
         AreRows tree f is_open points code.old.rows.items code.old.labels.items →
-        Leads tree points behind rest →
+        Leads tree points following rest →
         IfOk result (λ cases. EmitsArms tree f is_open points code.old code.new
         (λ word. from_label_in_arms word (arms_of arms.now) rest) cases.items (arms_of arms.now) rest) }
 {
@@ -407,7 +407,7 @@ fn emit_arms(
     while i > 0 {
         i -= 1;
         let arm = &arms[i];
-        let point = emit_lines(context, &arm.body, behind, code)?;
+        let point = emit_lines(context, &arm.body, following, code)?;
         let values = arm.cases.to_vec(context.alloc)?;
         cases.push(Case { values, point })?;
     }
@@ -419,21 +419,21 @@ fn emit_arms(
 fn emit_default(
     context: &Context<'_>,
     last: &Option<Arm>,
-    behind: Behind,
+    following: Behind,
     code: &mut Code,
 ) -> Result<usize, AllocError>
     ensures { (tree : Tree) (f : Function) (is_open : ℕ → Bool) (points : List Continuation)
         (rest : Continuation) →
         IsContext context.now tree f →
         AreRows tree f is_open points code.old.rows.items code.old.labels.items →
-        Leads tree points behind rest →
+        Leads tree points following rest →
         IfOk result (λ at. Emits tree f is_open points code.old code.new
         (λ word. from_label_in_arms word (arms_if last.now) rest)
         at (runs (default_body (arms_if last.now)) rest)) }
 {
     match last {
-        Some(arm) => emit_lines(context, &arm.body, behind, code),
-        None => Ok(behind.next),
+        Some(arm) => emit_lines(context, &arm.body, following, code),
+        None => Ok(following.next),
     }
 }
 

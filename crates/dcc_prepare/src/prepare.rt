@@ -82,12 +82,12 @@ fn body(context: &Context<'_>, function: &Func, code: &mut Code) -> Result<usize
         IfOk result (IsBody tree (function_of function.now) code.new) }
 {
     let close = code.push(function.last, Action::Close)?;
-    let behind = Behind {
+    let following = Behind {
         next: close,
         on_break: None,
         on_continue: None,
     };
-    emit_lines(context, &function.body, behind, code)
+    emit_lines(context, &function.body, following, code)
 }
 
 // Adds the names of variables to the list.

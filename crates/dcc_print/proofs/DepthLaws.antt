@@ -2,13 +2,13 @@
 use Rattle.std.proofs.Common.{◌≡◌, ℕ, List, [], ◌∷◌, ◌++◌, refl}
 use Rattle.dcc_c.specs.Tree.{Stmt, Call, Label, Lines, no_lines, line}
 use Rattle.dcc_c.specs.Parts.{stmts_in}
-use Rattle.dcc_c.specs.Written.{depth_behind, next_depth}
+use Rattle.dcc_c.specs.Written.{depth_after, next_depth}
 
 -- after some statements, and then more
-pub depth_behind-append : (depth : ℕ) (first second : List Stmt) → depth_behind depth (first ++ second) ≡ depth_behind (depth_behind depth first) second
-depth_behind-append depth [] second = refl
-depth_behind-append depth (Call place function arguments own ∷ stmts) second = depth_behind-append own stmts second
-depth_behind-append depth (stmt ∷ stmts) second = depth_behind-append depth stmts second
+pub depth_after-append : (depth : ℕ) (first second : List Stmt) → depth_after depth (first ++ second) ≡ depth_after (depth_after depth first) second
+depth_after-append depth [] second = refl
+depth_after-append depth (Call place function arguments own ∷ stmts) second = depth_after-append own stmts second
+depth_after-append depth (stmt ∷ stmts) second = depth_after-append depth stmts second
 
 -- the depth of the call that comes next stays so once it is in force
 pub next_depth-again : (depth : ℕ) (lines : Lines) → next_depth (next_depth depth lines) lines ≡ next_depth depth lines
@@ -18,8 +18,8 @@ next_depth-again depth (line (Call place function arguments own) at lines) = ref
 next_depth-again depth (line stmt at lines) = refl
 
 -- where the depth of the call that comes next is in force already, it is the same after the statements
-pub depth_behind-next : (depth : ℕ) (lines : Lines) → depth_behind (next_depth depth lines) (stmts_in lines) ≡ depth_behind depth (stmts_in lines)
-depth_behind-next depth no_lines = refl
-depth_behind-next depth (line (Label word) at lines) = depth_behind-next depth lines
-depth_behind-next depth (line (Call place function arguments own) at lines) = refl
-depth_behind-next depth (line stmt at lines) = refl
+pub depth_after-next : (depth : ℕ) (lines : Lines) → depth_after (next_depth depth lines) (stmts_in lines) ≡ depth_after depth (stmts_in lines)
+depth_after-next depth no_lines = refl
+depth_after-next depth (line (Label word) at lines) = depth_after-next depth lines
+depth_after-next depth (line (Call place function arguments own) at lines) = refl
+depth_after-next depth (line stmt at lines) = refl

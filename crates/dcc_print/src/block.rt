@@ -3,7 +3,7 @@
 ghost use Rattle.std.specs.Prelude.{◌≡◌, ◌+◌, ◌++◌, ◌∷◌, OnOk, IfOk, min, codes, string_bytes};
 ghost use Rattle.dcc_c.specs.Tree.{DoWhile};
 ghost use Rattle.dcc_c.specs.Parts.{stmts_in, inner_stmts, arm_stmts};
-ghost use Rattle.dcc_c.specs.Written.{indentation, depth_behind, written_stmt, written_else, written_lines, written_arms, written_default};
+ghost use Rattle.dcc_c.specs.Written.{indentation, depth_after, written_stmt, written_else, written_lines, written_arms, written_default};
 ghost use Rattle.dcc_c.specs.Views.{expr_of, stmt_of, lines_of, arms_of, arms_if};
 
 use crate::expression::push_expr;
@@ -33,7 +33,7 @@ pub(crate) fn push_stmt(
     ensures text { OnOk result
         (string_bytes text.new ≡ string_bytes text.old ++ written_stmt braces depth (stmt_of stmt.now)) }
     ensures depth { IfOk result
-        (λ in_force. in_force ≡ depth_behind depth (stmt_of stmt.now ∷ inner_stmts (stmt_of stmt.now))) }
+        (λ in_force. in_force ≡ depth_after depth (stmt_of stmt.now ∷ inner_stmts (stmt_of stmt.now))) }
 {
     match stmt {
         CStmt::Assign(place, e) => push_assign(text, braces, place, e)?,
@@ -81,7 +81,7 @@ fn push_block(
 ) -> Result<u32, AllocError>
     ensures text { OnOk result (string_bytes text.new ≡ string_bytes text.old
         ++ (written_lines (1 + braces) depth (lines_of body.now) ++ (indentation braces ++ codes "}\n"))) }
-    ensures depth { IfOk result (λ in_force. in_force ≡ depth_behind depth (stmts_in (lines_of body.now))) }
+    ensures depth { IfOk result (λ in_force. in_force ≡ depth_after depth (stmts_in (lines_of body.now))) }
 {
     let in_force = push_inner(text, braces, depth, body)?;
     push_line(text, braces, "}\n")?;
@@ -100,7 +100,7 @@ fn push_else(
     ensures text { OnOk result (string_bytes text.new ≡ string_bytes text.old
         ++ (written_else braces (lines_of otherwise.now) (written_lines (1 + braces) depth (lines_of otherwise.now))
         ++ (indentation braces ++ codes "}\n"))) }
-    ensures depth { IfOk result (λ in_force. in_force ≡ depth_behind depth (stmts_in (lines_of otherwise.now))) }
+    ensures depth { IfOk result (λ in_force. in_force ≡ depth_after depth (stmts_in (lines_of otherwise.now))) }
 {
     if otherwise.is_empty() {
         push_line(text, braces, "}\n")?;
@@ -121,7 +121,7 @@ fn push_do_while(
 ) -> Result<u32, AllocError>
     ensures text { OnOk result (string_bytes text.new ≡ string_bytes text.old
         ++ written_stmt braces depth (DoWhile (lines_of body.now) (expr_of e.now))) }
-    ensures depth { IfOk result (λ in_force. in_force ≡ depth_behind depth (stmts_in (lines_of body.now))) }
+    ensures depth { IfOk result (λ in_force. in_force ≡ depth_after depth (stmts_in (lines_of body.now))) }
 {
     push_line(text, braces, "do {\n")?;
     let in_force = push_inner(text, braces, depth, body)?;
@@ -142,7 +142,7 @@ pub(crate) fn push_arms(
 ) -> Result<u32, AllocError>
     ensures text { OnOk result
         (string_bytes text.new ≡ string_bytes text.old ++ written_arms braces depth (arms_of arms.now)) }
-    ensures depth { IfOk result (λ in_force. in_force ≡ depth_behind depth (arm_stmts (arms_of arms.now))) }
+    ensures depth { IfOk result (λ in_force. in_force ≡ depth_after depth (arm_stmts (arms_of arms.now))) }
 {
     let mut in_force = depth;
     for arm in arms {
@@ -164,7 +164,7 @@ fn push_default(
 ) -> Result<u32, AllocError>
     ensures text { OnOk result (string_bytes text.new ≡ string_bytes text.old
         ++ (written_default (1 + braces) depth (arms_if last.now) ++ (indentation braces ++ codes "}\n"))) }
-    ensures depth { IfOk result (λ in_force. in_force ≡ depth_behind depth (arm_stmts (arms_if last.now))) }
+    ensures depth { IfOk result (λ in_force. in_force ≡ depth_after depth (arm_stmts (arms_if last.now))) }
 {
     match last {
         None => {
@@ -193,7 +193,7 @@ fn push_inner(
 ) -> Result<u32, AllocError>
     ensures text { OnOk result
         (string_bytes text.new ≡ string_bytes text.old ++ written_lines (1 + braces) depth (lines_of lines.now)) }
-    ensures depth { IfOk result (λ in_force. in_force ≡ depth_behind depth (stmts_in (lines_of lines.now))) }
+    ensures depth { IfOk result (λ in_force. in_force ≡ depth_after depth (stmts_in (lines_of lines.now))) }
 {
     push_lines(text, inside(braces), depth, lines)
 }
@@ -209,7 +209,7 @@ pub(crate) fn push_lines(
 ) -> Result<u32, AllocError>
     ensures text { OnOk result
         (string_bytes text.new ≡ string_bytes text.old ++ written_lines braces depth (lines_of lines.now)) }
-    ensures depth { IfOk result (λ in_force. in_force ≡ depth_behind depth (stmts_in (lines_of lines.now))) }
+    ensures depth { IfOk result (λ in_force. in_force ≡ depth_after depth (stmts_in (lines_of lines.now))) }
 {
     let mut in_force = depth;
     let mut is_after_label = false;

@@ -1,7 +1,7 @@
 //! Declarations in their written form.
 
 ghost use Rattle.std.specs.Prelude.{◌≡◌, ◌++◌, ◌≤◌, OnOk, map, option_map, string_bytes};
-ghost use Rattle.dcc_c.specs.Placement.{behind_global};
+ghost use Rattle.dcc_c.specs.Placement.{after_global};
 ghost use Rattle.dcc_c.specs.Written.{written_variable, written_size, written_class, written_local, written_param, written_head_params, written_head, written_numbers, written_initial, written_global, written_place, written_globals};
 ghost use Rattle.dcc_c.specs.Views.{global_of, variable_of};
 
@@ -137,7 +137,7 @@ fn push_global(text: &mut String, global: &Global_) -> Result<(), AllocError>
 
 // The address after a global variable.
 fn address_after(global: &Global_) -> u64
-    ensures { result ≡ behind_global (global_of global.now) }
+    ensures { result ≡ after_global (global_of global.now) }
 {
     let size = u64::from(global.ty.size());
     let bytes = match global.len {

@@ -11,7 +11,7 @@ use Rattle.dcc_num.specs.declared.Flags.{Flags}
 use Rattle.dcc_num.specs.Numbers.{limit_of, differ, sign_extension_of, no_flags}
 use Rattle.dcc_num.specs.Sum.{sum_of, difference_of, negation_of, increment_of, decrement_of}
 use Rattle.dcc_num.specs.Logic.{conjunction_of, disjunction_of, exclusive_of}
-use Rattle.dcc_num.specs.Shift.{left_shift_of, right_shift_of, signed_shift_of, left_rotation_of, right_rotation_of, left_turn_of, right_turn_of}
+use Rattle.dcc_num.specs.Shift.{shl_of, shr_of, sar_of, left_rotation_of, right_rotation_of, left_turn_of, right_turn_of}
 use Rattle.dcc_num.specs.Product.{product_of, signed_product_of, extension_of}
 use Rattle.dcc_num.specs.Quotient.{division_of, signed_division_of}
 use Rattle.dcc_prog.specs.declared.instr.Alu.{Alu}
@@ -116,9 +116,9 @@ shift_result Rol w a count was = left_rotation_of w a count was
 shift_result Ror w a count was = right_rotation_of w a count was
 shift_result Rcl w a count was = left_turn_of w a was
 shift_result Rcr w a count was = right_turn_of w a was
-shift_result Shl w a count was = left_shift_of w a count was
-shift_result Shr w a count was = right_shift_of w a count was
-shift_result Sar w a count was = signed_shift_of w a count was
+shift_result Shl w a count was = shl_of w a count was
+shift_result Shr w a count was = shr_of w a count was
+shift_result Sar w a count was = sar_of w a count was
 
 abbrev pub shift_step : Shift → Operand → Bool → State → State
 shift_step shift x by_cl s =

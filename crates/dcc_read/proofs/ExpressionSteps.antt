@@ -27,7 +27,7 @@ unary-none calls inside r few = rw (no_calls calls few) refl
 pub parentheses-none : (calls : ℕ) (inside : Inside) (at : ℕ) (r : Reader) → calls < 1 → got Missing r ≡ read_parentheses calls inside at r
 parentheses-none calls inside at r few = rw (no_calls calls few) refl
 
-pub cast-none : (calls : ℕ) (inside : Inside) (at : ℕ) (type : Got (Option CType)) → calls < 1 → got Missing type.behind ≡ read_cast calls inside at type
+pub cast-none : (calls : ℕ) (inside : Inside) (at : ℕ) (type : Got (Option CType)) → calls < 1 → got Missing type.following ≡ read_cast calls inside at type
 cast-none calls inside at type few = rw (no_calls calls few) refl
 
 pub binary-none : (calls : ℕ) (inside : Inside) (weakest : ℕ) (r : Reader) → calls < 1 → got Missing r ≡ read_binary calls inside weakest r
@@ -113,36 +113,36 @@ binary-first calls fewer inside weakest r a is got_is = rw (is, add-one) (ap (re
 abbrev more_of : ℕ → Inside → ℕ → Got PartialExpr → Option CBin → Got PartialExpr
 more_of calls inside weakest left operator = elim operator [
   | Some operator ↦ read_more calls inside weakest
-      (joined inside operator left.value (read_binary calls (in_operator inside) (suc (strength operator)) (skip left.behind)))
+      (joined inside operator left.value (read_binary calls (in_operator inside) (suc (strength operator)) (skip left.following)))
   | None ↦ left
 ]
 
 more_strong : (calls : ℕ) (inside : Inside) (weakest : ℕ) (left : Got PartialExpr) (operator : CBin) (b : Bool) →
-    nat_le weakest (strength operator) ≡ b → binary_of (next_token left.behind) ≡ Some operator →
+    nat_le weakest (strength operator) ≡ b → binary_of (next_token left.following) ≡ Some operator →
     read_more (suc calls) inside weakest left ≡ more_of calls inside weakest left (strong_enough weakest (Some operator))
 more_strong calls inside weakest left operator true is sees =
-    choice-some (binary_of (next_token left.behind)) operator _ left sees
+    choice-some (binary_of (next_token left.following)) operator _ left sees
     ∙ if-true (nat_le weakest (strength operator)) _ _ is
     ∙ sym (ap (more_of calls inside weakest left) (if-true (nat_le weakest (strength operator)) (Some operator) None is))
 more_strong calls inside weakest left operator false is sees =
-    choice-some (binary_of (next_token left.behind)) operator _ left sees
+    choice-some (binary_of (next_token left.following)) operator _ left sees
     ∙ if-false (nat_le weakest (strength operator)) _ _ is
     ∙ sym (ap (more_of calls inside weakest left) (if-false (nat_le weakest (strength operator)) (Some operator) None is))
 
 more_by : (calls : ℕ) (inside : Inside) (weakest : ℕ) (left : Got PartialExpr) (o : Option CBin) →
-    binary_of (next_token left.behind) ≡ o →
+    binary_of (next_token left.following) ≡ o →
     read_more (suc calls) inside weakest left ≡ more_of calls inside weakest left (strong_enough weakest o)
 more_by calls inside weakest left (Some operator) sees =
     more_strong calls inside weakest left operator (nat_le weakest (strength operator)) refl sees
-more_by calls inside weakest left None sees = choice-none (binary_of (next_token left.behind)) _ left sees
+more_by calls inside weakest left None sees = choice-none (binary_of (next_token left.following)) _ left sees
 
 more_is : (calls : ℕ) (inside : Inside) (weakest : ℕ) (left : Got PartialExpr) →
-    read_more (suc calls) inside weakest left ≡ more_of calls inside weakest left (strong_enough weakest (binary_of (next_token left.behind)))
-more_is calls inside weakest left = more_by calls inside weakest left (binary_of (next_token left.behind)) refl
+    read_more (suc calls) inside weakest left ≡ more_of calls inside weakest left (strong_enough weakest (binary_of (next_token left.following)))
+more_is calls inside weakest left = more_by calls inside weakest left (binary_of (next_token left.following)) refl
 
 pub more-joins : (calls fewer : ℕ) (inside : Inside) (weakest : ℕ) (left : Got PartialExpr) (operator : CBin) (b : Got PartialExpr) →
-    calls ≡ fewer + 1 → Some operator ≡ strong_enough weakest (binary_of (next_token left.behind)) →
-    b ≡ read_binary fewer (in_operator inside) (strength operator + 1) (skip left.behind) →
+    calls ≡ fewer + 1 → Some operator ≡ strong_enough weakest (binary_of (next_token left.following)) →
+    b ≡ read_binary fewer (in_operator inside) (strength operator + 1) (skip left.following) →
     read_more fewer inside weakest (joined inside operator left.value b) ≡ read_more calls inside weakest left
 more-joins calls fewer inside weakest left operator b is sees got_is =
     rw (is, add-one)
@@ -151,7 +151,7 @@ more-joins calls fewer inside weakest left operator b is sees got_is =
     ∙ sym (more_is fewer inside weakest left))
 
 pub more-ends : (calls fewer : ℕ) (inside : Inside) (weakest : ℕ) (left : Got PartialExpr) →
-    calls ≡ fewer + 1 → None ≡ strong_enough weakest (binary_of (next_token left.behind)) →
+    calls ≡ fewer + 1 → None ≡ strong_enough weakest (binary_of (next_token left.following)) →
     left ≡ read_more calls inside weakest left
 more-ends calls fewer inside weakest left is sees =
     rw (is, add-one) (ap (more_of fewer inside weakest left) sees ∙ sym (more_is fewer inside weakest left))
@@ -163,20 +163,20 @@ pub expr-test : (calls fewer : ℕ) (inside : Inside) (r : Reader) (a : Got Part
 expr-test calls fewer inside r a is got_is = rw (is, add-one) (ap (read_rest fewer inside) got_is)
 
 pub rest-ends : (calls fewer : ℕ) (inside : Inside) (test : Got PartialExpr) → calls ≡ fewer + 1 →
-    sees_mark (codes "?") test.behind ≡ false → test ≡ read_rest calls inside test
+    sees_mark (codes "?") test.following ≡ false → test ≡ read_rest calls inside test
 rest-ends calls fewer inside test is sees =
-    rw (is, add-one) (sym (if-false (sees_mark (codes "?") test.behind) _ _ sees))
+    rw (is, add-one) (sym (if-false (sees_mark (codes "?") test.following) _ _ sees))
 
 pub rest-chooses : (calls fewer : ℕ) (inside : Inside) (test first second : Got PartialExpr) → calls ≡ fewer + 1 →
-    sees_mark (codes "?") test.behind ≡ true →
-    first ≡ read_expr fewer (in_operator inside) (skip test.behind) →
-    second ≡ read_expr fewer (in_operator inside) (take_mark (codes ":") first.behind) →
+    sees_mark (codes "?") test.following ≡ true →
+    first ≡ read_expr fewer (in_operator inside) (skip test.following) →
+    second ≡ read_expr fewer (in_operator inside) (take_mark (codes ":") first.following) →
     chosen inside test.value first.value second ≡ read_rest calls inside test
 rest-chooses calls fewer inside test first second is sees first_is second_is =
     rw (is, add-one)
     (ap (chosen inside test.value first.value) second_is
-    ∙ ap (λ f. chosen inside test.value f.value (read_expr fewer (in_operator inside) (take_mark (codes ":") f.behind))) first_is
-    ∙ sym (if-true (sees_mark (codes "?") test.behind) _ _ sees))
+    ∙ ap (λ f. chosen inside test.value f.value (read_expr fewer (in_operator inside) (take_mark (codes ":") f.following))) first_is
+    ∙ sym (if-true (sees_mark (codes "?") test.following) _ _ sees))
 
 -- two equations under a function
 pub both : {A B C : Type 0} (f : A → B → C) {a b : A} {x y : B} → a ≡ b → x ≡ y → f a x ≡ f b y
@@ -184,15 +184,15 @@ both f {a} {b} {x} {y} first second = ap (λ a. f a x) first ∙ ap (f b) second
 
 -- What was read, where it was read, by another name for it.
 
-pub along : {E : Type 0} (r : Result Measured E) (behind : Reader) (x y : Got PartialExpr) → IfOk r (λ e. got (expr_of e.expr) behind ≡ x) →
-    x ≡ y → IfOk r (λ e. got (expr_of e.expr) behind ≡ y)
-along r behind x y read is =
-    IfOk-weaker r (λ e. got (expr_of e.expr) behind ≡ x) (λ e. got (expr_of e.expr) behind ≡ y) (λ e was. was ∙ is) read
+pub along : {E : Type 0} (r : Result Measured E) (following : Reader) (x y : Got PartialExpr) → IfOk r (λ e. got (expr_of e.expr) following ≡ x) →
+    x ≡ y → IfOk r (λ e. got (expr_of e.expr) following ≡ y)
+along r following x y read is =
+    IfOk-weaker r (λ e. got (expr_of e.expr) following ≡ x) (λ e. got (expr_of e.expr) following ≡ y) (λ e was. was ∙ is) read
 
-pub made : {E : Type 0} (r : Result Measured E) (behind : Reader) (x : PartialExpr) (y : Got PartialExpr) → IfOk r (λ e. expr_of e.expr ≡ x) →
-    got x behind ≡ y → IfOk r (λ e. got (expr_of e.expr) behind ≡ y)
-made r behind x y read is =
-    IfOk-weaker r (λ e. expr_of e.expr ≡ x) (λ e. got (expr_of e.expr) behind ≡ y) (λ e was. ap (λ x. got x behind) was ∙ is) read
+pub made : {E : Type 0} (r : Result Measured E) (following : Reader) (x : PartialExpr) (y : Got PartialExpr) → IfOk r (λ e. expr_of e.expr ≡ x) →
+    got x following ≡ y → IfOk r (λ e. got (expr_of e.expr) following ≡ y)
+made r following x y read is =
+    IfOk-weaker r (λ e. expr_of e.expr ≡ x) (λ e. got (expr_of e.expr) following ≡ y) (λ e was. ap (λ x. got x following) was ∙ is) read
 
 -- an answer that is no value is none
 pub not-some : {A : Type 0} (answer : Option A) → ((x : A) → answer ≡ Some x → ⊥) → answer ≡ None

@@ -35,34 +35,34 @@ pub lines-done : (rows : List Row) (leaves : Bool) (r : Reader) (whole target : 
 lines-done rows leaves r whole target end had = sym (lines-end rows leaves r) ∙ ap (before_lines rows) end ∙ had
 
 -- what was read where a statement may begin
-line-some : (n : ℕ) (around : Around) (labelled leaves : Bool) (r behind : Reader) (l : LineRead) → 1 < n → s.begins_stmt (next_token r) ≡ true →
-    after_line l (n - 2) around behind ≡ s.read_line (suc (n - 2)) around labelled r →
-    s.read_lines n around labelled leaves r ≡ after_line l (n - 2) around behind
-line-some n around labelled leaves r behind l within begins reads =
+line-some : (n : ℕ) (around : Around) (labelled leaves : Bool) (r following : Reader) (l : LineRead) → 1 < n → s.begins_stmt (next_token r) ≡ true →
+    after_line l (n - 2) around following ≡ s.read_line (suc (n - 2)) around labelled r →
+    s.read_lines n around labelled leaves r ≡ after_line l (n - 2) around following
+line-some n around labelled leaves r following l within begins reads =
     ap (λ k. s.read_lines k around labelled leaves r) (sym (counted-two n within))
     ∙ if-true (s.begins_stmt (next_token r)) _ _ begins ∙ sym reads
 
-pub lines-step : (n : ℕ) (around : Around) (labelled leaves : Bool) (r behind : Reader) (l : LineRead) (rows now : List Row) (target : Got s.Block) → 1 < n →
-    s.begins_stmt (next_token r) ≡ true → after_line l (n - 2) around behind ≡ s.read_line (suc (n - 2)) around labelled r →
+pub lines-step : (n : ℕ) (around : Around) (labelled leaves : Bool) (r following : Reader) (l : LineRead) (rows now : List Row) (target : Got s.Block) → 1 < n →
+    s.begins_stmt (next_token r) ≡ true → after_line l (n - 2) around following ≡ s.read_line (suc (n - 2)) around labelled r →
     now ≡ rows ++ option_to_list l.row → l.is_last ≡ false → before_lines rows (s.read_lines n around labelled leaves r) ≡ target →
-    before_lines now (s.read_lines (n - 2) around l.labelled l.leaves behind) ≡ target
-lines-step n around labelled leaves r behind l rows now target within begins reads grown last had =
-    ap (λ rs. before_lines rs (s.read_lines (n - 2) around l.labelled l.leaves behind)) grown
+    before_lines now (s.read_lines (n - 2) around l.labelled l.leaves following) ≡ target
+lines-step n around labelled leaves r following l rows now target within begins reads grown last had =
+    ap (λ rs. before_lines rs (s.read_lines (n - 2) around l.labelled l.leaves following)) grown
     ∙ lines-append rows (option_to_list l.row) _
-    ∙ ap (λ others. before_lines rows (before_lines (option_to_list l.row) others)) (sym (if-false l.is_last (got (s.block_of no_rows l.leaves) behind) _ last))
-    ∙ ap (before_lines rows) (sym (line-some n around labelled leaves r behind l within begins reads))
+    ∙ ap (λ others. before_lines rows (before_lines (option_to_list l.row) others)) (sym (if-false l.is_last (got (s.block_of no_rows l.leaves) following) _ last))
+    ∙ ap (before_lines rows) (sym (line-some n around labelled leaves r following l within begins reads))
     ∙ had
 
-pub lines-last : (n : ℕ) (around : Around) (labelled leaves : Bool) (r behind : Reader) (l : LineRead) (rows now : List Row) (target : Got s.Block) → 1 < n →
-    s.begins_stmt (next_token r) ≡ true → after_line l (n - 2) around behind ≡ s.read_line (suc (n - 2)) around labelled r →
+pub lines-last : (n : ℕ) (around : Around) (labelled leaves : Bool) (r following : Reader) (l : LineRead) (rows now : List Row) (target : Got s.Block) → 1 < n →
+    s.begins_stmt (next_token r) ≡ true → after_line l (n - 2) around following ≡ s.read_line (suc (n - 2)) around labelled r →
     now ≡ rows ++ option_to_list l.row → l.is_last ≡ true → before_lines rows (s.read_lines n around labelled leaves r) ≡ target →
-    got (s.block_of (lines_of now) l.leaves) behind ≡ target
-lines-last n around labelled leaves r behind l rows now target within begins reads grown last had =
-    sym (lines-end now l.leaves behind)
-    ∙ ap (λ rs. before_lines rs (got (s.block_of no_rows l.leaves) behind)) grown
+    got (s.block_of (lines_of now) l.leaves) following ≡ target
+lines-last n around labelled leaves r following l rows now target within begins reads grown last had =
+    sym (lines-end now l.leaves following)
+    ∙ ap (λ rs. before_lines rs (got (s.block_of no_rows l.leaves) following)) grown
     ∙ lines-append rows (option_to_list l.row) _
-    ∙ ap (λ others. before_lines rows (before_lines (option_to_list l.row) others)) (sym (if-true l.is_last _ (s.read_lines (n - 2) around l.labelled l.leaves behind) last))
-    ∙ ap (before_lines rows) (sym (line-some n around labelled leaves r behind l within begins reads))
+    ∙ ap (λ others. before_lines rows (before_lines (option_to_list l.row) others)) (sym (if-true l.is_last _ (s.read_lines (n - 2) around l.labelled l.leaves following) last))
+    ∙ ap (before_lines rows) (sym (line-some n around labelled leaves r following l within begins reads))
     ∙ had
 
 pub lines-none : (n : ℕ) (around : Around) (labelled leaves : Bool) (r failed : Reader) → 0 < n → s.begins_stmt (next_token r) ≡ false →
@@ -95,15 +95,15 @@ line-deep calls around labelled r other neither e =
     if-false (s.sees_head depth_words r) _ _ other ∙ if-false (s.begins_label r) _ _ neither
     ∙ if-true (s.is_nested around && s.is_block_word (next_token r)) _ _ e
 
-pub line-stmt : (calls number : ℕ) (around : Around) (labelled : Bool) (r behind end : Reader) (stmt : PartialStmt) (leaves : Bool) → s.sees_head depth_words r ≡ false →
+pub line-stmt : (calls number : ℕ) (around : Around) (labelled : Bool) (r following end : Reader) (stmt : PartialStmt) (leaves : Bool) → s.sees_head depth_words r ≡ false →
     s.begins_label r ≡ false → (s.is_nested around && s.is_block_word (next_token r)) ≡ false → number ≡ line_of r.left →
-    got stmt behind ≡ s.read_stmt calls around r → end ≡ s.stop_if_nested around r.at behind → leaves ≡ (s.is_break stmt && not labelled) →
+    got stmt following ≡ s.read_stmt calls around r → end ≡ s.stop_if_nested around r.at following → leaves ≡ (s.is_break stmt && not labelled) →
     s.before_others stmt r.at number (s.read_lines calls around false leaves end) ≡ s.read_line (suc calls) around labelled r
-line-stmt calls number around labelled r behind end stmt leaves other neither flat numbers reads ends is =
+line-stmt calls number around labelled r following end stmt leaves other neither flat numbers reads ends is =
     ap (λ n. s.before_others stmt r.at n (s.read_lines calls around false leaves end)) numbers
     ∙ ap (λ l. s.before_others stmt r.at (line_of r.left) (s.read_lines calls around false l end)) is
     ∙ ap (λ e. s.before_others stmt r.at (line_of r.left) (s.read_lines calls around false (s.is_break stmt && not labelled) e)) ends
-    ∙ ap (λ (g : Got PartialStmt). s.before_others g.value r.at (line_of r.left) (s.read_lines calls around false (s.is_break g.value && not labelled) (s.stop_if_nested around r.at g.behind))) reads
+    ∙ ap (λ (g : Got PartialStmt). s.before_others g.value r.at (line_of r.left) (s.read_lines calls around false (s.is_break g.value && not labelled) (s.stop_if_nested around r.at g.following))) reads
     ∙ sym (if-false (s.sees_head depth_words r) _ _ other ∙ if-false (s.begins_label r) _ _ neither
     ∙ if-false (s.is_nested around && s.is_block_word (next_token r)) _ _ flat)
 
@@ -111,15 +111,15 @@ line-stmt calls number around labelled r behind end stmt leaves other neither fl
 
 abbrev pub before_arms : List PartialArm → Got PartialArms → Got PartialArms
 before_arms [] others = others
-before_arms (a ∷ arms) others = let rest = before_arms arms others in got (arm_before a rest.value) rest.behind
+before_arms (a ∷ arms) others = let rest = before_arms arms others in got (arm_before a rest.value) rest.following
 
 pub arms-append : (arms more : List PartialArm) (others : Got PartialArms) → before_arms (arms ++ more) others ≡ before_arms arms (before_arms more others)
 arms-append [] more others = refl
-arms-append (a ∷ arms) more others = ap (λ (g : Got PartialArms). got (arm_before a g.value) g.behind) (arms-append arms more others)
+arms-append (a ∷ arms) more others = ap (λ (g : Got PartialArms). got (arm_before a g.value) g.following) (arms-append arms more others)
 
 pub arms-end : (arms : List PartialArm) (r : Reader) → before_arms arms (got no_cases r) ≡ got (arms_of arms) r
 arms-end [] r = refl
-arms-end (a ∷ arms) r = ap (λ (g : Got PartialArms). got (arm_before a g.value) g.behind) (arms-end arms r)
+arms-end (a ∷ arms) r = ap (λ (g : Got PartialArms). got (arm_before a g.value) g.following) (arms-end arms r)
 
 -- the end of a loop over arms
 pub arms-done : (arms : List PartialArm) (r : Reader) (whole target : Got PartialArms) → whole ≡ got no_cases r →
@@ -130,20 +130,20 @@ pub arms-none : (n : ℕ) (around : Around) (r : Reader) → s.begins_arm r ≡ 
 arms-none zero around r e = refl
 arms-none (suc n) around r e = if-false (s.begins_arm r) _ _ e
 
-pub arms-step : (n : ℕ) (around : Around) (r behind : Reader) (a : PartialArm) (arms now : List PartialArm) (target : Got PartialArms) → 0 < n → s.begins_arm r ≡ true →
-    ((others : PartialArms) → got (arm_before a others) behind ≡ arm_read (n - 1) around others r) →
+pub arms-step : (n : ℕ) (around : Around) (r following : Reader) (a : PartialArm) (arms now : List PartialArm) (target : Got PartialArms) → 0 < n → s.begins_arm r ≡ true →
+    ((others : PartialArms) → got (arm_before a others) following ≡ arm_read (n - 1) around others r) →
     now ≡ arms ++ a ∷ [] → before_arms arms (s.read_more_arms n around r) ≡ target →
-    before_arms now (s.read_more_arms (n - 1) around behind) ≡ target
-arms-step n around r behind a arms now target within begins reads grown had =
+    before_arms now (s.read_more_arms (n - 1) around following) ≡ target
+arms-step n around r following a arms now target within begins reads grown had =
     let f = s.read_more_arms (n - 1) around in
     let head = s.read_arm_head (n - 1) r in
-    let body = s.end_arm (s.read_lines (n - 1) around false false head.behind) in
-    let same = reads (f behind).value in
-    ap (λ l. before_arms l (f behind)) grown
-    ∙ arms-append arms (a ∷ []) (f behind)
+    let body = s.end_arm (s.read_lines (n - 1) around false false head.following) in
+    let same = reads (f following).value in
+    ap (λ l. before_arms l (f following)) grown
+    ∙ arms-append arms (a ∷ []) (f following)
     ∙ ap (before_arms arms) (
-    ap (λ (g : Got PartialArms). got g.value (f behind).behind) same
-    ∙ ap (λ (g : Got PartialArms). got (cases head.value.numbers head.value.default body.value (f g.behind).value) (f g.behind).behind) same
+    ap (λ (g : Got PartialArms). got g.value (f following).following) same
+    ∙ ap (λ (g : Got PartialArms). got (cases head.value.numbers head.value.default body.value (f g.following).value) (f g.following).following) same
     ∙ sym (if-true (s.begins_arm r) _ (got no_cases r) begins)
     ∙ ap (λ k. s.read_more_arms k around r) (counted n within))
     ∙ had
@@ -162,10 +162,10 @@ pub arm-read : (calls : ℕ) (around : Around) (r headed lined end : Reader) (he
     got head headed ≡ s.read_arm_head calls r → got block lined ≡ s.read_lines calls around false false headed → got body end ≡ s.end_arm (got block lined) →
     got (cases head.numbers head.default body others) end ≡ arm_read calls around others r
 arm-read calls around r headed lined end head block body others heads lines ends =
-    ap (λ (g : Got PartialLines). got (cases head.numbers head.default g.value others) g.behind) (ends ∙ ap s.end_arm lines)
+    ap (λ (g : Got PartialLines). got (cases head.numbers head.default g.value others) g.following) (ends ∙ ap s.end_arm lines)
     ∙ ap (λ (g : Got s.ArmHead).
-    let body = s.end_arm (s.read_lines calls around false false g.behind) in
-    got (cases g.value.numbers g.value.default body.value others) body.behind) heads
+    let body = s.end_arm (s.read_lines calls around false false g.following) in
+    got (cases g.value.numbers g.value.default body.value others) body.following) heads
 
 -- all statements but the last
 pub last-dropped : (rows : List Row) (x : Row) → s.without_last (lines_of (rows ++ x ∷ [])) ≡ lines_of rows

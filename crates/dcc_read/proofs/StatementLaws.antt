@@ -69,7 +69,7 @@ pub while-read : (calls : ℕ) (around inside : Around) (r skipped tested end : 
 while-read calls around inside r skipped tested end test stopped body skips tests stops is blocks =
     ap (λ b. got (WhileOf test (not b) body) end) stops
     ∙ ap (s.while_of (got test tested)) (blocks ∙ ap (λ i. s.read_block calls i tested) is)
-    ∙ ap (λ (g : Got PartialExpr). s.while_of g (s.read_block calls (in_loop around) g.behind)) (tests ∙ ap (s.read_test calls) skips)
+    ∙ ap (λ (g : Got PartialExpr). s.while_of g (s.read_block calls (in_loop around) g.following)) (tests ∙ ap (s.read_test calls) skips)
 
 pub do-read : (calls : ℕ) (around inside : Around) (r skipped blocked worded tested end : Reader) (test : PartialExpr) (stopped : Bool) (body : PartialLines) →
     skipped ≡ skip r → inside ≡ in_loop around → got body blocked ≡ s.read_block calls inside skipped →
@@ -79,14 +79,14 @@ do-read calls around inside r skipped blocked worded tested end test stopped bod
     ap (λ b. got (DoWhileOf body test (not b)) end) stops
     ∙ ap (λ e. got (DoWhileOf body test (not (is_stopped tested))) e) ends
     ∙ ap (s.do_while_of (got body blocked)) (tests ∙ ap (s.read_test calls) words)
-    ∙ ap (λ (g : Got PartialLines). s.do_while_of g (s.read_test calls (take_word (codes "while") g.behind)))
+    ∙ ap (λ (g : Got PartialLines). s.do_while_of g (s.read_test calls (take_word (codes "while") g.following)))
     (blocks ∙ ap (λ i. s.read_block calls i skipped) is ∙ ap (s.read_block calls (in_loop around)) skips)
 
 pub forever-read : (calls : ℕ) (around inside : Around) (r skipped marked end : Reader) (body : PartialLines) →
     skipped ≡ skip r → marked ≡ take_forever skipped → inside ≡ in_loop around → got body end ≡ s.read_block calls inside marked →
     got (ForeverOf body) end ≡ forever_stmt calls around (skip r)
 forever-read calls around inside r skipped marked end body skips marks is blocks =
-    ap (λ (g : Got PartialLines). got (ForeverOf g.value) g.behind)
+    ap (λ (g : Got PartialLines). got (ForeverOf g.value) g.following)
     (blocks ∙ ap (λ i. s.read_block calls i marked) is ∙ ap (s.read_block calls (in_loop around)) (marks ∙ ap take_forever skips))
 
 -- `switch`
@@ -99,11 +99,11 @@ switch-read calls around inside r started tested marked filled end test stopped 
     ap (λ b. got (SwitchOf test (not b) arms) end) stops
     ∙ ap (λ e. got (SwitchOf test (not (is_stopped tested)) arms) e) ends
     ∙ ap (s.switch_of (got test tested)) (fills ∙ ap (λ i. s.read_arms calls i marked) is ∙ ap (s.read_arms calls (in_switch around)) marks)
-    ∙ ap (λ (g : Got PartialExpr). s.switch_of g (s.read_arms calls (in_switch around) (take_mark (codes "{") g.behind))) (tests ∙ ap (s.read_test calls) skips)
+    ∙ ap (λ (g : Got PartialExpr). s.switch_of g (s.read_arms calls (in_switch around) (take_mark (codes "{") g.following))) (tests ∙ ap (s.read_test calls) skips)
 
 -- `if`
 
-pub if-end : (calls : ℕ) (around : Around) (test : Got PartialExpr) → calls ≡ 0 → s.read_if calls around test ≡ got EmptyOf test.behind
+pub if-end : (calls : ℕ) (around : Around) (test : Got PartialExpr) → calls ≡ 0 → s.read_if calls around test ≡ got EmptyOf test.following
 if-end calls around test none = ap (λ n. s.read_if n around test) none
 
 -- the block after the test, and from there on what the test and the block give
@@ -115,9 +115,9 @@ blocks-read : (calls : ℕ) (around inside : Around) (r started tested blocked :
     else s.if_of (got test tested) body (got no_rows blocked))
     ≡ s.read_if calls around (s.read_test calls (skip r))
 blocks-read calls around inside r started tested blocked test body within skips tests is blocks =
-    ap (λ (g : Got PartialLines). if sees_word (codes "else") g.behind
-    then s.if_of (got test tested) g.value (s.read_block (calls - 1) (in_block around) (skip g.behind))
-    else s.if_of (got test tested) g.value (got no_rows g.behind)) (blocks ∙ ap (λ i. s.read_block (calls - 1) i tested) is)
+    ap (λ (g : Got PartialLines). if sees_word (codes "else") g.following
+    then s.if_of (got test tested) g.value (s.read_block (calls - 1) (in_block around) (skip g.following))
+    else s.if_of (got test tested) g.value (got no_rows g.following)) (blocks ∙ ap (λ i. s.read_block (calls - 1) i tested) is)
     ∙ ap (λ n. s.read_if n around (got test tested)) (counted calls within)
     ∙ ap (s.read_if calls around) (tests ∙ ap (s.read_test calls) skips)
 

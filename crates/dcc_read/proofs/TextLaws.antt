@@ -20,11 +20,11 @@ functions-none (suc n) r e = if-true (is_stopped r || (length r.left == 0)) _ _ 
 
 pub functions-some : (n : ℕ) (r : Reader) (begun : Got Begun) (first : Got PartialFunction) → 0 < n → (is_stopped r || (length r.left == 0)) ≡ false →
     begun ≡ read_begun r → first ≡ read_function (n - 1) begun →
-    read_functions n r ≡ before_list (first.value ∷ []) (read_functions (n - 1) first.behind)
+    read_functions n r ≡ before_list (first.value ∷ []) (read_functions (n - 1) first.following)
 functions-some n r begun first within e begins reads =
     ap (λ k. read_functions k r) (sym (counted n within))
     ∙ if-false (is_stopped r || (length r.left == 0)) _ _ e
-    ∙ ap (λ (g : Got PartialFunction). before_list (g.value ∷ []) (read_functions (n - 1) g.behind)) (sym (reads ∙ ap (read_function (n - 1)) begins))
+    ∙ ap (λ (g : Got PartialFunction). before_list (g.value ∷ []) (read_functions (n - 1) g.following)) (sym (reads ∙ ap (read_function (n - 1)) begins))
 
 -- Global variables.
 
@@ -43,18 +43,18 @@ chosen-none (Some at) false f other e = refl
 chosen-none None b f other e = refl
 
 pub declared-place : (n : ℕ) (address : Option ℕ) (r : Reader) (place : Got ℕ) → 0 < n → sees_head place_words r ≡ true → place ≡ place_line r →
-    read_declared n address r ≡ read_declared (n - 1) (Some place.value) place.behind
+    read_declared n address r ≡ read_declared (n - 1) (Some place.value) place.following
 declared-place n address r place within e is =
     ap (λ k. read_declared k address r) (sym (counted n within))
     ∙ if-true (sees_head place_words r) _ _ e
-    ∙ ap (λ (g : Got ℕ). read_declared (n - 1) (Some g.value) g.behind) (sym is)
+    ∙ ap (λ (g : Got ℕ). read_declared (n - 1) (Some g.value) g.following) (sym is)
 
 -- what is declared after the test for a place line
 declared-others : (n : ℕ) (address : Option ℕ) (r : Reader) (begun : Got Begun) → 0 < n → sees_head place_words r ≡ false → begun ≡ read_begun r →
     read_declared n address r
     ≡ (elim address [
       | Some here ↦ if is_global begun
-          then (let v = read_global (n - 1) here begun in before_declared v.value (read_declared (n - 1) (Some (here + size_in_bytes v.value)) v.behind))
+          then (let v = read_global (n - 1) here begun in before_declared v.value (read_declared (n - 1) (Some (here + size_in_bytes v.value)) v.following))
           else declared [] (with_functions (n - 1) begun)
       | None ↦ declared [] (with_functions (n - 1) begun)
     ])
@@ -63,20 +63,20 @@ declared-others n address r begun within e begins =
     ∙ if-false (sees_head place_words r) _ _ e
     ∙ ap (λ (g : Got Begun). elim address [
       | Some here ↦ if is_global g
-          then (let v = read_global (n - 1) here g in before_declared v.value (read_declared (n - 1) (Some (here + size_in_bytes v.value)) v.behind))
+          then (let v = read_global (n - 1) here g in before_declared v.value (read_declared (n - 1) (Some (here + size_in_bytes v.value)) v.following))
           else declared [] (with_functions (n - 1) g)
       | None ↦ declared [] (with_functions (n - 1) g)
     ]) (sym begins)
 
 pub declared-global : (n : ℕ) (address : Option ℕ) (r : Reader) (begun : Got Begun) (here : ℕ) (v : Got PartialVariable) → 0 < n →
     sees_head place_words r ≡ false → begun ≡ read_begun r → Some here ≡ global_address address begun → v ≡ read_global (n - 1) here begun →
-    read_declared n address r ≡ before_declared v.value (read_declared (n - 1) (Some (here + size_in_bytes v.value)) v.behind)
+    read_declared n address r ≡ before_declared v.value (read_declared (n - 1) (Some (here + size_in_bytes v.value)) v.following)
 declared-global n address r begun here v within e begins stands reads =
     declared-others n address r begun within e begins
     ∙ chosen-some address (is_global begun)
-    (λ at. let w = read_global (n - 1) at begun in before_declared w.value (read_declared (n - 1) (Some (at + size_in_bytes w.value)) w.behind))
+    (λ at. let w = read_global (n - 1) at begun in before_declared w.value (read_declared (n - 1) (Some (at + size_in_bytes w.value)) w.following))
     (declared [] (with_functions (n - 1) begun)) here (sym stands)
-    ∙ ap (λ (g : Got PartialVariable). before_declared g.value (read_declared (n - 1) (Some (here + size_in_bytes g.value)) g.behind)) (sym reads)
+    ∙ ap (λ (g : Got PartialVariable). before_declared g.value (read_declared (n - 1) (Some (here + size_in_bytes g.value)) g.following)) (sym reads)
 
 pub declared-functions : (n : ℕ) (address : Option ℕ) (r : Reader) (begun : Got Begun) (functions : Got (List PartialFunction)) → 0 < n →
     sees_head place_words r ≡ false → begun ≡ read_begun r → None ≡ global_address address begun → functions ≡ with_functions (n - 1) begun →
@@ -84,7 +84,7 @@ pub declared-functions : (n : ℕ) (address : Option ℕ) (r : Reader) (begun : 
 declared-functions n address r begun functions within e begins stands reads =
     declared-others n address r begun within e begins
     ∙ chosen-none address (is_global begun)
-    (λ at. let w = read_global (n - 1) at begun in before_declared w.value (read_declared (n - 1) (Some (at + size_in_bytes w.value)) w.behind))
+    (λ at. let w = read_global (n - 1) at begun in before_declared w.value (read_declared (n - 1) (Some (at + size_in_bytes w.value)) w.following))
     (declared [] (with_functions (n - 1) begun)) (sym stands)
     ∙ ap (declared []) (sym reads)
 
@@ -92,7 +92,7 @@ pub globals-step : (before now : List PartialVariable) (v : PartialVariable) (wh
     whole ≡ before_declared v others → before_globals before whole ≡ target → before_globals now others ≡ target
 globals-step before now v whole others target is step had =
     ap (λ l. before_globals l others) is
-    ∙ ap (λ l. got (record { globals = l; functions = others.value.functions }) others.behind) (append_assoc before (v ∷ []) others.value.globals)
+    ∙ ap (λ l. got (record { globals = l; functions = others.value.functions }) others.following) (append_assoc before (v ∷ []) others.value.globals)
     ∙ sym (ap (before_globals before) step) ∙ had
 
 pub globals-done : (before : List PartialVariable) (functions : Got (List PartialFunction)) (whole target : Got Declared) → whole ≡ declared [] functions →
@@ -101,10 +101,10 @@ globals-done before functions whole target end had =
     sym (ap (λ l. declared l functions) (append-nil before)) ∙ sym (ap (before_globals before) end) ∙ had
 
 pub functions-first : (n : ℕ) (begun : Got Begun) (first : Got PartialFunction) (now : List PartialFunction) →
-    first ≡ read_function n begun → now ≡ first.value ∷ [] → before_list now (read_functions n first.behind) ≡ with_functions n begun
+    first ≡ read_function n begun → now ≡ first.value ∷ [] → before_list now (read_functions n first.following) ≡ with_functions n begun
 functions-first n begun first now is grown =
-    ap (λ l. before_list l (read_functions n first.behind)) grown
-    ∙ ap (λ (g : Got PartialFunction). before_list (g.value ∷ []) (read_functions n g.behind)) is
+    ap (λ l. before_list l (read_functions n first.following)) grown
+    ∙ ap (λ (g : Got PartialFunction). before_list (g.value ∷ []) (read_functions n g.following)) is
 
 -- A global variable.
 
@@ -115,13 +115,13 @@ global begun address size init done =
 -- from the initial values on, and from the size on
 abbrev global_filled : Begun → ℕ → Option NumberAt → Got (List NumberAt) → Got PartialVariable
 global_filled begun address size init =
-    let end = take_mark (codes ";") init.behind in got (global begun address size init.value (not (is_stopped end))) end
+    let end = take_mark (codes ";") init.following in got (global begun address size init.value (not (is_stopped end))) end
 
 abbrev global_sized : ℕ → Begun → ℕ → Got (Option NumberAt) → Got PartialVariable
-global_sized calls begun address size = global_filled begun address size.value (read_init calls size.behind)
+global_sized calls begun address size = global_filled begun address size.value (read_init calls size.following)
 
 pub global-read : (calls address : ℕ) (begun : Got Begun) (bounded filled end : Reader) (size : Option NumberAt) (init : List NumberAt) (stopped : Bool) →
-    got size bounded ≡ read_size begun.behind → got init filled ≡ read_init calls bounded → end ≡ take_mark (codes ";") filled → stopped ≡ is_stopped end →
+    got size bounded ≡ read_size begun.following → got init filled ≡ read_init calls bounded → end ≡ take_mark (codes ";") filled → stopped ≡ is_stopped end →
     got (global begun.value address size init (not stopped)) end ≡ read_global calls address begun
 global-read calls address begun bounded filled end size init stopped sizes fills ends stops =
     ap (λ b. got (global begun.value address size init (not b)) end) stops

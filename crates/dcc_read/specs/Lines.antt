@@ -40,8 +40,8 @@ label_line calls around r =
     let name = take_name r in
     elim name.value [
       | Some word ↦ statements.before_others (LabelOf word) r.at (line_of r.left)
-          (statements.read_lines calls around true false (statements.stop_if_nested around r.at (skip name.behind)))
-      | None ↦ got (statements.block_of no_rows false) name.behind
+          (statements.read_lines calls around true false (statements.stop_if_nested around r.at (skip name.following)))
+      | None ↦ got (statements.block_of no_rows false) name.following
     ]
 
 -- `(;;)`, which must stand here
@@ -52,23 +52,23 @@ take_forever r = take_mark (codes ")") (take_mark (codes ";") (take_mark (codes 
 abbrev pub while_stmt : ℕ → Around → Reader → Got PartialStmt
 while_stmt calls around r =
     let test = statements.read_test calls r in
-    statements.while_of test (statements.read_block calls (in_loop around) test.behind)
+    statements.while_of test (statements.read_block calls (in_loop around) test.following)
 
 abbrev pub do_while_stmt : ℕ → Around → Reader → Got PartialStmt
 do_while_stmt calls around r =
     let body = statements.read_block calls (in_loop around) r in
-    statements.do_while_of body (statements.read_test calls (take_word (codes "while") body.behind))
+    statements.do_while_of body (statements.read_test calls (take_word (codes "while") body.following))
 
 abbrev pub forever_stmt : ℕ → Around → Reader → Got PartialStmt
 forever_stmt calls around r =
     let body = statements.read_block calls (in_loop around) (take_forever r) in
-    got (ForeverOf body.value) body.behind
+    got (ForeverOf body.value) body.following
 
 -- a `switch`, the word of which stands here
 abbrev pub switch_stmt : ℕ → Around → Reader → Got PartialStmt
 switch_stmt calls around r =
     let test = statements.read_test calls (skip r) in
-    statements.switch_of test (statements.read_arms calls (in_switch around) (take_mark (codes "{") test.behind))
+    statements.switch_of test (statements.read_arms calls (in_switch around) (take_mark (codes "{") test.following))
 
 -- a statement without a word: `;`, an assignment or a call
 abbrev pub wordless_stmt : ℕ → Reader → Got PartialStmt
@@ -91,5 +91,5 @@ stmt_with None calls around r = wordless_stmt calls r
 abbrev pub arm_read : ℕ → Around → PartialArms → Reader → Got PartialArms
 arm_read calls around others r =
     let head = statements.read_arm_head calls r in
-    let body = statements.end_arm (statements.read_lines calls around false false head.behind) in
-    got (cases head.value.numbers head.value.default body.value others) body.behind
+    let body = statements.end_arm (statements.read_lines calls around false false head.following) in
+    got (cases head.value.numbers head.value.default body.value others) body.following

@@ -9,4 +9,4 @@ use Rattle.dcc_c.specs.ReadingStatements.{whole}
 abbrev pub after_star : ℕ → Reader → Got PartialExpr
 after_star calls r =
     let a = read_unary calls (in_operator (whole 0 r)) (take_mark (codes "*") r) in
-    got (UnaryHere r.at Deref a.value) a.behind
+    got (UnaryHere r.at Deref a.value) a.following

@@ -28,7 +28,7 @@ pub struct Reading<'a> {
     /// What was read.
     pub text: PartialText,
     /// The reader after it.
-    pub behind: Reader<'a>,
+    pub following: Reader<'a>,
 }
 
 /// Global variables, and the functions after them.
@@ -179,10 +179,10 @@ fn read_text(r: &mut Reader<'_>, alloc: Global, calls: usize) -> Got<PartialText
 /// Where memory runs out.
 pub fn read<'a>(alloc: Global, pieces: &'a [Piece]) -> Result<Reading<'a>, AllocError>
     requires few { length pieces.now < 67108864 }
-    ensures { IfOk result (λ r. reading.got (text_of r.text) (reader_of r.behind)
+    ensures { IfOk result (λ r. reading.got (text_of r.text) (reader_of r.following)
         ≡ texts.reading_of (pieces_of pieces.now)) }
 {
-    let mut behind = reader_at(pieces);
-    let text = read_text(&mut behind, alloc, enough_calls(pieces))?;
-    Ok(Reading { text, behind })
+    let mut following = reader_at(pieces);
+    let text = read_text(&mut following, alloc, enough_calls(pieces))?;
+    Ok(Reading { text, following })
 }

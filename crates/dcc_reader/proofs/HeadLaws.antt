@@ -35,12 +35,12 @@ head begun opened without params headed = with_body [] no_rows begun opened with
 -- from the parameters on
 abbrev head_filled : Begun → Reader → Got (List PartialVariable) → Got PartialFunction
 head_filled begun inside params =
-    let end = take_mark (codes ")") params.behind in
+    let end = take_mark (codes ")") params.following in
     got (head begun (opened_at inside) (sees_word (codes "void") inside) params.value (not (is_stopped end))) end
 
 pub head-read : (calls : ℕ) (begun : Got Begun) (inside filled end : Reader) (opened : Option ℕ) (without : Bool)
     (params locals : List PartialVariable) (body : PartialLines) (stopped : Bool) → locals ≡ [] → body ≡ no_rows →
-    inside ≡ take_mark (codes "(") begun.behind → opened ≡ opened_at inside → without ≡ sees_word (codes "void") inside →
+    inside ≡ take_mark (codes "(") begun.following → opened ≡ opened_at inside → without ≡ sees_word (codes "void") inside →
     got params filled ≡ read_params calls inside → end ≡ take_mark (codes ")") filled → stopped ≡ is_stopped end →
     got (with_body locals body begun.value opened without params (not stopped)) end ≡ read_head calls begun
 head-read calls begun inside filled end opened without params locals body stopped none empty marks opens voids fills ends stops =
@@ -54,10 +54,10 @@ head-read calls begun inside filled end opened without params locals body stoppe
     ∙ ap (λ i. head_filled begun.value i (read_params calls i)) marks
 
 -- the head of a function that begins with the first of the pieces
-pub head-at : (calls : ℕ) (pieces : List Piece) (begun : Got Begun) (r behind : Reader) (f : PartialFunction) → got f behind ≡ read_head calls begun →
+pub head-at : (calls : ℕ) (pieces : List Piece) (begun : Got Begun) (r following : Reader) (f : PartialFunction) → got f following ≡ read_head calls begun →
     begun ≡ read_begun r → r ≡ reader_of pieces → calls ≡ enough_calls pieces →
     f ≡ (read_head (enough_calls pieces) (read_begun (reader_of pieces))).value
-head-at calls pieces begun r behind f reads begins starts enough =
+head-at calls pieces begun r following f reads begins starts enough =
     ap (λ (g : Got PartialFunction). g.value) (reads
     ∙ ap (read_head calls) (begins ∙ ap read_begun starts)
     ∙ ap (λ n. read_head n (read_begun (reader_of pieces))) enough)

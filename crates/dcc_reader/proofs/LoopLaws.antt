@@ -34,7 +34,7 @@ pub before-step : {A : Type 0} (before xs now : List A) (whole others target : G
     whole ≡ before_list xs others → before_list before whole ≡ target → before_list now others ≡ target
 before-step before xs now whole others target is step had =
     ap (λ l. before_list l others) is
-    ∙ ap (λ l. got l others.behind) (append_assoc before xs others.value)
+    ∙ ap (λ l. got l others.following) (append_assoc before xs others.value)
     ∙ sym (ap (before_list before) step) ∙ had
 
 -- the end of a loop
@@ -49,11 +49,11 @@ arguments-none zero r e = refl
 arguments-none (suc n) r e = if-false (sees_mark (codes ",") r) _ _ e
 
 pub arguments-some : (n : ℕ) (r : Reader) (first : Got PartialExpr) → 0 < n → sees_mark (codes ",") r ≡ true → first ≡ read_enclosed (n - 1) (skip r) →
-    more_arguments n r ≡ before_list (first.value ∷ []) (more_arguments (n - 1) first.behind)
+    more_arguments n r ≡ before_list (first.value ∷ []) (more_arguments (n - 1) first.following)
 arguments-some n r first within e is =
     ap (λ k. more_arguments k r) (sym (counted n within))
     ∙ if-true (sees_mark (codes ",") r) _ _ e
-    ∙ ap (λ g. before_list (g.value ∷ []) (more_arguments (n - 1) g.behind)) (sym is)
+    ∙ ap (λ g. before_list (g.value ∷ []) (more_arguments (n - 1) g.following)) (sym is)
 
 -- Cases.
 
@@ -62,11 +62,11 @@ cases-none zero r e = refl
 cases-none (suc n) r e = if-false (sees_word (codes "case") r) _ _ e
 
 pub cases-some : (n : ℕ) (r : Reader) (first : Got (List NumberAt)) → 0 < n → sees_word (codes "case") r ≡ true → first ≡ read_case r →
-    read_cases n r ≡ before_list first.value (read_cases (n - 1) first.behind)
+    read_cases n r ≡ before_list first.value (read_cases (n - 1) first.following)
 cases-some n r first within e is =
     ap (λ k. read_cases k r) (sym (counted n within))
     ∙ if-true (sees_word (codes "case") r) _ _ e
-    ∙ ap (λ g. before_list g.value (read_cases (n - 1) g.behind)) (sym is)
+    ∙ ap (λ g. before_list g.value (read_cases (n - 1) g.following)) (sym is)
 
 -- Initial values.
 
@@ -79,12 +79,12 @@ values-none zero r e = refl
 values-none (suc n) r e = if-false (sees_mark (codes ",") r) _ _ e
 
 pub values-some : (n : ℕ) (r : Reader) (first : Got (Option NumberAt)) → 0 < n → sees_mark (codes ",") r ≡ true → first ≡ take_plain (skip r) →
-    more_values n r ≡ before_list (option_to_list first.value) (more_values (n - 1) first.behind)
+    more_values n r ≡ before_list (option_to_list first.value) (more_values (n - 1) first.following)
 values-some n r first within e is =
     ap (λ k. more_values k r) (sym (counted n within))
     ∙ if-true (sees_mark (codes ",") r) _ _ e
-    ∙ ap (λ g. before_list (list_of g.value) (more_values (n - 1) g.behind)) (sym is)
-    ∙ ap (λ l. before_list l (more_values (n - 1) first.behind)) (listed-values first.value)
+    ∙ ap (λ g. before_list (list_of g.value) (more_values (n - 1) g.following)) (sym is)
+    ∙ ap (λ l. before_list l (more_values (n - 1) first.following)) (listed-values first.value)
 
 -- Local variables.
 
@@ -93,11 +93,11 @@ locals-none zero r e = refl
 locals-none (suc n) r e = if-false (begins_local r) _ _ e
 
 pub locals-some : (n : ℕ) (r : Reader) (first : Got PartialVariable) → 0 < n → begins_local r ≡ true → first ≡ read_local r →
-    read_locals n r ≡ before_list (first.value ∷ []) (read_locals (n - 1) first.behind)
+    read_locals n r ≡ before_list (first.value ∷ []) (read_locals (n - 1) first.following)
 locals-some n r first within e is =
     ap (λ k. read_locals k r) (sym (counted n within))
     ∙ if-true (begins_local r) _ _ e
-    ∙ ap (λ g. before_list (g.value ∷ []) (read_locals (n - 1) g.behind)) (sym is)
+    ∙ ap (λ g. before_list (g.value ∷ []) (read_locals (n - 1) g.following)) (sym is)
 
 -- Parameters.
 
@@ -106,11 +106,11 @@ params-none zero r e = refl
 params-none (suc n) r e = if-false (sees_mark (codes ",") r) _ _ e
 
 pub params-some : (n : ℕ) (r : Reader) (first : Got PartialVariable) → 0 < n → sees_mark (codes ",") r ≡ true → first ≡ read_param (skip r) →
-    more_params n r ≡ before_list (first.value ∷ []) (more_params (n - 1) first.behind)
+    more_params n r ≡ before_list (first.value ∷ []) (more_params (n - 1) first.following)
 params-some n r first within e is =
     ap (λ k. more_params k r) (sym (counted n within))
     ∙ if-true (sees_mark (codes ",") r) _ _ e
-    ∙ ap (λ g. before_list (g.value ∷ []) (more_params (n - 1) g.behind)) (sym is)
+    ∙ ap (λ g. before_list (g.value ∷ []) (more_params (n - 1) g.following)) (sym is)
 
 -- The first parts.
 
@@ -119,17 +119,17 @@ pub map-first : {A B : Type 0} (f : A → B) (old now : List A) (x : A) → old 
 map-first f old now x none e = map-pushed f old now x e ∙ ap (λ l. map f l ++ f x ∷ []) none
 
 pub arguments-first : (n : ℕ) (r : Reader) (first : Got PartialExpr) (now : List PartialExpr) → sees_mark (codes ")") r ≡ false →
-    first ≡ read_enclosed n r → now ≡ first.value ∷ [] → before_list now (more_arguments n first.behind) ≡ read_arguments n r
+    first ≡ read_enclosed n r → now ≡ first.value ∷ [] → before_list now (more_arguments n first.following) ≡ read_arguments n r
 arguments-first n r first now e is grown =
-    ap (λ l. before_list l (more_arguments n first.behind)) grown
-    ∙ ap (λ (g : Got PartialExpr). before_list (g.value ∷ []) (more_arguments n g.behind)) is
+    ap (λ l. before_list l (more_arguments n first.following)) grown
+    ∙ ap (λ (g : Got PartialExpr). before_list (g.value ∷ []) (more_arguments n g.following)) is
     ∙ sym (if-false (sees_mark (codes ")") r) _ _ e)
 
 pub params-first : (n : ℕ) (r : Reader) (first : Got PartialVariable) (now : List PartialVariable) → sees_word (codes "void") r ≡ false →
-    first ≡ read_param r → now ≡ first.value ∷ [] → before_list now (more_params n first.behind) ≡ read_params n r
+    first ≡ read_param r → now ≡ first.value ∷ [] → before_list now (more_params n first.following) ≡ read_params n r
 params-first n r first now e is grown =
-    ap (λ l. before_list l (more_params n first.behind)) grown
-    ∙ ap (λ (g : Got PartialVariable). before_list (g.value ∷ []) (more_params n g.behind)) is
+    ap (λ l. before_list l (more_params n first.following)) grown
+    ∙ ap (λ (g : Got PartialVariable). before_list (g.value ∷ []) (more_params n g.following)) is
     ∙ sym (if-false (sees_word (codes "void") r) _ _ e)
 
 pub arguments-end : (n : ℕ) (r : Reader) → n ≡ 0 → more_arguments n r ≡ got [] r

@@ -26,8 +26,8 @@ after_one n ps = rw add-one (ap (map piece_of) (drop_more n ps) ∙ map_after (d
 
 at_next : (left : List pieces.Piece) (n : ℕ) (stop : Option kinds.Offence) (depth : ℕ) →
     let before : reading.Reader = record { left = left; at = n + 1; stop = stop; depth = depth } in
-    let behind : reading.Reader = record { left = left; at = suc n; stop = stop; depth = depth } in
-    before ≡ behind
+    let following : reading.Reader = record { left = left; at = suc n; stop = stop; depth = depth } in
+    before ≡ following
 at_next left n stop depth = rw add-one refl
 
 -- the reader after the next piece
@@ -48,4 +48,4 @@ second_of r seen = second_at r.left r.at r.stop r.depth seen
 
 -- what a type is read from
 abbrev pub type_after : reading.Got (Option Base) → reading.Got (Option CType)
-type_after base = elim base.value [ Some b ↦ reading.with_star b base.behind | None ↦ reading.got None base.behind ]
+type_after base = elim base.value [ Some b ↦ reading.with_star b base.following | None ↦ reading.got None base.following ]

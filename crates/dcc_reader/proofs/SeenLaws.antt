@@ -44,15 +44,15 @@ both-second false b e = absurd (false≢true e)
 abbrev name_taken : Reader → Option Word → Got (Option WordAt)
 name_taken r name = elim name [ Some word ↦ got (Some (record { word = word; at = r.at })) (skip r) | None ↦ got None (fail r) ]
 
-named : (r : Reader) (name : Option Word) → is_some name ≡ true → (name_taken r name).behind ≡ skip r
+named : (r : Reader) (name : Option Word) → is_some name ≡ true → (name_taken r name).following ≡ skip r
 named r (Some word) e = refl
 named r None e = absurd (false≢true e)
 
 -- after a name that a mark stands after
-pub mark-after : (bytes : List ℕ) (r behind : Reader) (name : Option WordAt) →
-    (is_some (name_of (next_token r)) && is_the_mark bytes (second_token r)) ≡ true → got name behind ≡ take_name r → is_some (next_token behind) ≡ true
-mark-after bytes r behind name e is =
+pub mark-after : (bytes : List ℕ) (r following : Reader) (name : Option WordAt) →
+    (is_some (name_of (next_token r)) && is_the_mark bytes (second_token r)) ≡ true → got name following ≡ take_name r → is_some (next_token following) ≡ true
+mark-after bytes r following name e is =
     let here = is_some (name_of (next_token r)) in
     let mark = is_the_mark bytes (second_token r) in
-    let same : behind ≡ skip r = ap (λ (g : Got (Option WordAt)). g.behind) is ∙ named r (name_of (next_token r)) (both-first here mark e) in
+    let same : following ≡ skip r = ap (λ (g : Got (Option WordAt)). g.following) is ∙ named r (name_of (next_token r)) (both-first here mark e) in
     ap (λ k. is_some (next_token k)) same ∙ token-mark bytes (second_token r) (both-second here mark e)

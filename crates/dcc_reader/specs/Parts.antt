@@ -8,14 +8,14 @@ use Rattle.dcc_c.specs.ReadingStatements.{list_of, more_values}
 
 -- what was read before, and what is read after it
 abbrev pub before_list : {A : Type 0} → List A → Got (List A) → Got (List A)
-before_list before others = got (before ++ others.value) others.behind
+before_list before others = got (before ++ others.value) others.following
 
 -- initial values after an opening brace, which stands here
 abbrev pub values_in_braces : ℕ → Reader → Got (List NumberAt)
 values_in_braces calls r =
     let first = take_plain (skip r) in
-    let others = more_values calls first.behind in
-    got (list_of first.value ++ others.value) (take_mark (codes "}") others.behind)
+    let others = more_values calls first.following in
+    got (list_of first.value ++ others.value) (take_mark (codes "}") others.following)
 
 -- the word `auto`, or nothing
 abbrev pub read_auto : Reader → Got Class

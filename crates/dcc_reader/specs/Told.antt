@@ -9,4 +9,4 @@ told first = option_map offence_of first.offence
 
 -- these offences are told after what has been told
 abbrev pub Tells : First → First → List kinds.Offence → Type 0
-Tells old new offences = told new ≡ kinds.first_behind (told old) offences
+Tells old new offences = told new ≡ kinds.first_after (told old) offences

@@ -304,7 +304,7 @@ impl<'a> Reader<'a> {
     // The base, after its last word.
     fn base_after(&mut self, base: Base) -> Option<Base>
         requires seen { is_some (reading.next_token (reader_of self.now)) ≡ true }
-        ensures { reading.got result (reader_of self.new) ≡ reading.base_behind base (reader_of self.old) }
+        ensures { reading.got result (reader_of self.new) ≡ reading.base_following base (reader_of self.old) }
     {
         self.skip();
         Some(base)

@@ -28,9 +28,9 @@ record Behind (o : Option ℕ) (i : ℕ) : Type 0 where
   there : o ≡ Some j
   is : suc j ≡ i
 
-behind : (o : Option ℕ) (i : ℕ) → option_map suc o ≡ Some i → Behind o i
-behind (Some j) i e = record { j = j; there = refl; is = same_Some (suc j) i e }
-behind None i e = absurd cc
+following : (o : Option ℕ) (i : ℕ) → option_map suc o ≡ Some i → Behind o i
+following (Some j) i e = record { j = j; there = refl; is = same_Some (suc j) i e }
+following None i e = absurd cc
 
 no_place : (o : Option ℕ) → option_map suc o ≡ None → o ≡ None
 no_place (Some j) e = absurd cc
@@ -67,7 +67,7 @@ found (d ∷ names) (b ∷ bs) word i fits e =
     elim (same_bytes d.name word) as (λ t. same_bytes d.name word ≡ t → (if t then Some 0 else option_map suc (index_named names word)) ≡ Some i → Found (d ∷ names) (b ∷ bs) word i) [
       | true ↦ λ same at. subst (λ n. Found (d ∷ names) (b ∷ bs) word n) (same_Some 0 i at) (found_first d names b bs word (heads _ _ _ _ fits) same)
       | false ↦ λ other at.
-          let p = behind (index_named names word) i at in
+          let p = following (index_named names word) i at in
           subst (λ n. Found (d ∷ names) (b ∷ bs) word n) p.is (found_later d names b bs word p.j other (found names bs word p.j (tails _ _ _ _ fits) p.there))
     ] refl e
 
@@ -117,7 +117,7 @@ assigned (d ∷ names) (f ∷ bs) word i b new v e here is =
     else binding_named d.name f ∷ after_assignment (bindings_named names bs) word v)) [
       | true ↦ λ at. assigned_first d names f bs i b new v at here is
       | false ↦ λ at.
-          let p = behind (index_named names word) i at in
+          let p = following (index_named names word) i at in
           let there : slice_get bs p.j ≡ Some b = ap (slice_get (f ∷ bs)) p.is ∙ here in
           ap (λ n. bindings_named (d ∷ names) (slice_set (f ∷ bs) n new)) (sym p.is)
           ∙ ap (λ xs. binding_named d.name f ∷ xs) (assigned names bs word p.j b new v p.there there is)
@@ -135,7 +135,7 @@ assigned_past (d ∷ names) (f ∷ bs) word i v e past =
     else binding_named d.name f ∷ after_assignment (bindings_named names bs) word v)) [
       | true ↦ λ at. let none : 0 ≡ i = same_Some 0 i at in absurd (omega arith)
       | false ↦ λ at.
-          let p = behind (index_named names word) i at in
+          let p = following (index_named names word) i at in
           let same = p.is in
           ap (λ xs. binding_named d.name f ∷ xs) (assigned_past names bs word p.j v p.there (omega arith))
     ] e
@@ -167,7 +167,7 @@ name_found (d ∷ names) word i e =
     elim (same_bytes d.name word) as (λ t. same_bytes d.name word ≡ t → (if t then Some 0 else option_map suc (index_named names word)) ≡ Some i → name_at (d ∷ names) i ≡ word) [
       | true ↦ λ same at. ap (name_at (d ∷ names)) (sym (same_Some 0 i at)) ∙ same_bytes-equal d.name word same
       | false ↦ λ other at.
-          let p = behind (index_named names word) i at in
+          let p = following (index_named names word) i at in
           ap (name_at (d ∷ names)) (sym p.is) ∙ name_found names word p.j p.there
     ] refl e
 
@@ -177,7 +177,7 @@ declared_found (d ∷ names) rest word i e =
     elim (same_bytes d.name word) as (λ t. (if t then Some 0 else option_map suc (index_named names word)) ≡ Some i → slice_get (d ∷ names) i ≡ (if t then Some d else declared_as (names ++ rest) word)) [
       | true ↦ λ at. ap (slice_get (d ∷ names)) (sym (same_Some 0 i at))
       | false ↦ λ at.
-          let p = behind (index_named names word) i at in
+          let p = following (index_named names word) i at in
           ap (slice_get (d ∷ names)) (sym p.is) ∙ declared_found names rest word p.j p.there
     ] e
 

@@ -19,7 +19,7 @@ use Rattle.dcc_c.proofs.reading.Stopping.{choice-some, if-true, if-false}
 use Rattle.dcc_c.proofs.reading.SimpleSound.{IsShallowStmt}
 use Rattle.dcc_c.proofs.reading.LineSound.{IsShallowLines}
 use Rattle.dcc_c.proofs.reading.StmtSound.{IsShallowArms}
-use Rattle.dcc_c.proofs.reading.Derivations.{flat_behind}
+use Rattle.dcc_c.proofs.reading.Derivations.{flat_after}
 use Rattle.dcc_c.proofs.reading.Leads.{Leads, test_leads, cases_leads, lines_leads}
 use Rattle.dcc_c.proofs.reading.PartsComplete.{test-complete}
 use Rattle.dcc_c.proofs.reading.SimpleComplete.{FindsStmt, named_stmt}
@@ -31,9 +31,9 @@ use Rattle.dcc_c.proofs.reading.BlockFinds.{deep_test}
 
 record FindsCases (ns : List ℕ) (rest : List Placed) (depth : ℕ) (g : Got (List NumberAt)) : Type 0 where
   numbers : List NumberAt
-  behind : ℕ
+  following : ℕ
   same : plain_numbers numbers ≡ ns
-  is : g ≡ got numbers (on rest behind depth)
+  is : g ≡ got numbers (on rest following depth)
 
 seen_case : (token : Token) (n : ℕ) → IsCaseNumber token n → case_number (Some token) ≡ Some n
 seen_case token n (plain_decimal small) = if-true (nat_le n 65535 && true) (Some n) None (rw (le-leb n 65535 small))
@@ -47,7 +47,7 @@ one_case at place colon n token rest p depth number = choice-some (case_number (
 
 -- a case and those after it
 case_then : ℕ → Got (List NumberAt) → Got (List NumberAt)
-case_then calls first = got (first.value ++ (read_cases calls first.behind).value) (read_cases calls first.behind).behind
+case_then calls first = got (first.value ++ (read_cases calls first.following).value) (read_cases calls first.following).following
 
 no_more_cases : (calls : ℕ) (r : Reader) → sees_word (codes "case") r ≡ false → read_cases calls r ≡ got [] r
 no_more_cases zero r ends = refl
@@ -61,19 +61,19 @@ cases-complete (more_cases number others) ends zero at depth enough = absurd (om
 cases-complete (last_case {at = line} {place} {colon} {n} {token} {rest} number) ends (suc calls) at depth enough =
     record {
       numbers = record { value = n; at = suc at } ∷ [];
-      behind = suc (suc (suc at));
+      following = suc (suc (suc at));
       same = refl;
       is = ap (case_then calls) (one_case line place colon n token rest at depth number)
-          ∙ ap (λ (g : Got (List NumberAt)). got (record { value = n; at = suc at } ∷ g.value) g.behind) (no_more_cases calls (on rest (suc (suc (suc at))) depth) ends);
+          ∙ ap (λ (g : Got (List NumberAt)). got (record { value = n; at = suc at } ∷ g.value) g.following) (no_more_cases calls (on rest (suc (suc (suc at))) depth) ends);
     }
 cases-complete (more_cases {at = line} {place} {colon} {n} {token} {others} number more) ends (suc calls) at depth enough =
     let found = cases-complete more ends calls (suc (suc (suc at))) depth (omega arith) in
     record {
       numbers = record { value = n; at = suc at } ∷ found.numbers;
-      behind = found.behind;
+      following = found.following;
       same = ap (λ ns. n ∷ ns) found.same;
       is = ap (case_then calls) (one_case line place colon n token others at depth number)
-          ∙ ap (λ (g : Got (List NumberAt)). got (record { value = n; at = suc at } ∷ g.value) g.behind) found.is;
+          ∙ ap (λ (g : Got (List NumberAt)). got (record { value = n; at = suc at } ∷ g.value) g.following) found.is;
     }
 
 cases_begin : {all tokens : List Placed} {ns : List ℕ} → AreCases all ns tokens → (at depth : ℕ) →
@@ -91,10 +91,10 @@ pub record EndsArms (rest : List Placed) : Type 0 where
 -- The arms were read, with exactly the rest left.
 pub record FindsArms (arms last : Arms) (after : ℕ) (rest : List Placed) (g : Got PartialArms) : Type 0 where
   pub partial : PartialArms
-  pub behind : ℕ
+  pub following : ℕ
   pub same : case_arms partial ≡ arms
   pub same_last : default_arms partial ≡ last
-  pub is : g ≡ got partial (on rest behind after)
+  pub is : g ≡ got partial (on rest following after)
 
 abbrev pub ArmsRead : Around → ℕ → List Placed → Arms → Arms → ℕ → List Placed → Type 0
 ArmsRead around depth tokens arms last after rest =
@@ -111,22 +111,22 @@ arms_no_stmt (default_arm room body arms) ends = refl
 pub no_arm-complete : (around : Around) (depth : ℕ) (rest : List Placed) → ArmsRead around depth rest no_arms no_arms depth rest
 no_arm-complete around depth rest zero at enough few deep deep_last ends = absurd (omega arith)
 no_arm-complete around depth rest (suc calls) at enough few deep deep_last ends =
-    record { partial = no_cases; behind = at; same = refl; same_last = refl; is = if-false (begins_arm (on rest at depth)) _ _ (ends.no_arm_here at depth) }
+    record { partial = no_cases; following = at; same = refl; same_last = refl; is = if-false (begins_arm (on rest at depth)) _ _ (ends.no_arm_here at depth) }
 
 -- an arm after its head
-abbrev arm_behind : ℕ → Around → Got ArmHead → Got PartialLines → Got PartialArms
-arm_behind calls around head body =
-    got (cases head.value.numbers head.value.default body.value (read_more_arms calls around body.behind).value) (read_more_arms calls around body.behind).behind
+abbrev arm_after : ℕ → Around → Got ArmHead → Got PartialLines → Got PartialArms
+arm_after calls around head body =
+    got (cases head.value.numbers head.value.default body.value (read_more_arms calls around body.following).value) (read_more_arms calls around body.following).following
 
 abbrev arm_of : ℕ → Around → Got ArmHead → Got PartialArms
-arm_of calls around head = arm_behind calls around head (end_arm (read_lines calls around false false head.behind))
+arm_of calls around head = arm_after calls around head (end_arm (read_lines calls around false false head.following))
 
 -- the body of an arm, which a `break` ends
 record FindsBody (body : Lines) (between : ℕ) (others : List Placed) (g : Got PartialLines) : Type 0 where
   partial : PartialLines
-  behind : ℕ
+  following : ℕ
   same : plain_lines partial ≡ body
-  is : g ≡ got partial (on others behind between)
+  is : g ≡ got partial (on others following between)
 
 body-complete : (around : Around) (depth between leaves_at end : ℕ) (tokens others : List Placed) (body : Lines) → around.blocks ≤ 200 → around.breaks ≡ true → begins_stmt (first_of others) ≡ false →
     LinesRead around false depth tokens body between (word leaves_at (codes "break") ∷ mark end (codes ";") ∷ others) → (calls at : ℕ) → IsEnoughFor calls 3 tokens → most_open 0 tokens ≤ 200 → IsShallowLines body →
@@ -134,14 +134,14 @@ body-complete : (around : Around) (depth between leaves_at end : ℕ) (tokens ot
 body-complete around depth between leaves_at end tokens others body room breaks ends read calls at enough few deep =
     let found = read calls at false enough few deep refl in
     let more : found.calls ≡ suc (suc (suc (found.calls - 3))) = (let e = found.enough in omega (arith, e)) in
-    let rest = on (word leaves_at (codes "break") ∷ mark end (codes ";") ∷ others) found.behind between in
-    let last = row BreakOf found.behind leaves_at no_rows in
+    let rest = on (word leaves_at (codes "break") ∷ mark end (codes ";") ∷ others) found.following between in
+    let last = row BreakOf found.following leaves_at no_rows in
     record {
       partial = found.partial;
-      behind = suc (suc found.behind);
+      following = suc (suc found.following);
       same = found.same;
-      is = ap end_arm (found.is ∙ ap (rows_before found.partial) (ap (λ n. read_lines n around false found.leaves rest) more ∙ break-complete (found.calls - 3) around found.leaves leaves_at end found.behind between others room breaks ends))
-          ∙ ap (λ rows. got rows (on others (suc (suc found.behind)) between)) (without_joined found.partial BreakOf found.behind leaves_at);
+      is = ap end_arm (found.is ∙ ap (rows_before found.partial) (ap (λ n. read_lines n around false found.leaves rest) more ∙ break-complete (found.calls - 3) around found.leaves leaves_at end found.following between others room breaks ends))
+          ∙ ap (λ rows. got rows (on others (suc (suc found.following)) between)) (without_joined found.partial BreakOf found.following leaves_at);
     }
 
 deep_arm : (body : Lines) (arms : Arms) → list_all (shallow_stmt 200) (stmts_in body ++ arm_stmts arms) ≡ true → IsShallowLines body × IsShallowArms arms
@@ -159,17 +159,17 @@ case_arm-complete around depth between after leaves_at end all tokens others res
     let parts = deep_arm body arms deep in
     let no_case : is_the_word (codes "case") (first_of tokens) ≡ false = lines_no_word (codes "case") refl lines refl in
     let c = cases-complete head no_case calls at depth (omega arith) in
-    let b = body-complete around depth between leaves_at end tokens others body room breaks (arms_no_stmt derived ends.no_stmt) read calls c.behind (omega (arith, leads.less)) (leads.enclosed few) parts.0 in
-    let few_behind : most_open 0 others ≤ 200 = flat_behind (Mark (codes ";")) 0 end others refl (flat_behind (WordToken (codes "break")) 0 leaves_at (mark end (codes ";") ∷ others) refl (inner.enclosed (leads.enclosed few))) in
-    let o = more calls b.behind (omega (arith, leads.less, inner.less)) few_behind parts.1 deep_last ends in
-    let h : Got ArmHead = got (record { numbers = c.numbers; default = None }) (on tokens c.behind depth) in
+    let b = body-complete around depth between leaves_at end tokens others body room breaks (arms_no_stmt derived ends.no_stmt) read calls c.following (omega (arith, leads.less)) (leads.enclosed few) parts.0 in
+    let few_after : most_open 0 others ≤ 200 = flat_after (Mark (codes ";")) 0 end others refl (flat_after (WordToken (codes "break")) 0 leaves_at (mark end (codes ";") ∷ others) refl (inner.enclosed (leads.enclosed few))) in
+    let o = more calls b.following (omega (arith, leads.less, inner.less)) few_after parts.1 deep_last ends in
+    let h : Got ArmHead = got (record { numbers = c.numbers; default = None }) (on tokens c.following depth) in
     record {
       partial = cases c.numbers None b.partial o.partial;
-      behind = o.behind;
+      following = o.following;
       same = ap (λ xs. arm xs (plain_lines b.partial) (case_arms o.partial)) c.same ∙ (ap (λ x. arm ns x (case_arms o.partial)) b.same ∙ ap (arm ns body) o.same);
       same_last = o.same_last;
-      is = if-true (begins_arm (on all at depth)) _ _ (or_left _ _ begins.0) ∙ (ap (arm_of calls around) (if-false (sees_word (codes "default") (on all at depth)) _ _ begins.1 ∙ ap (λ (g : Got (List NumberAt)). got (record { numbers = g.value; default = None }) g.behind) c.is)
-          ∙ (ap (arm_behind calls around h) b.is ∙ ap (λ (g : Got PartialArms). got (cases c.numbers None b.partial g.value) g.behind) o.is));
+      is = if-true (begins_arm (on all at depth)) _ _ (or_left _ _ begins.0) ∙ (ap (arm_of calls around) (if-false (sees_word (codes "default") (on all at depth)) _ _ begins.1 ∙ ap (λ (g : Got (List NumberAt)). got (record { numbers = g.value; default = None }) g.following) c.is)
+          ∙ (ap (arm_after calls around h) b.is ∙ ap (λ (g : Got PartialArms). got (cases c.numbers None b.partial g.value) g.following) o.is));
     }
 
 pub default_arm-complete : (around : Around) (depth between after line colon leaves_at end : ℕ) (tokens others rest : List Placed) (body : Lines) (arms last : Arms) → around.breaks ≡ true →
@@ -181,17 +181,17 @@ default_arm-complete around depth between after line colon leaves_at end tokens 
 default_arm-complete around depth between after line colon leaves_at end tokens others rest body arms last breaks room lines read derived more (suc calls) at enough few deep deep_last ends =
     let inner = lines_leads lines in
     let parts = deep_arm body last deep_last in
-    let within : most_open 0 tokens ≤ 200 = flat_behind (Mark (codes ":")) 0 colon tokens refl (flat_behind (WordToken (codes "default")) 0 line (mark colon (codes ":") ∷ tokens) refl few) in
+    let within : most_open 0 tokens ≤ 200 = flat_after (Mark (codes ":")) 0 colon tokens refl (flat_after (WordToken (codes "default")) 0 line (mark colon (codes ":") ∷ tokens) refl few) in
     let b = body-complete around depth between leaves_at end tokens others body room breaks (arms_no_stmt derived ends.no_stmt) read calls (suc (suc at)) (omega arith) within parts.0 in
-    let few_behind : most_open 0 others ≤ 200 = flat_behind (Mark (codes ";")) 0 end others refl (flat_behind (WordToken (codes "break")) 0 leaves_at (mark end (codes ";") ∷ others) refl (inner.enclosed within)) in
-    let o = more calls b.behind (omega (arith, inner.less)) few_behind deep parts.1 ends in
+    let few_after : most_open 0 others ≤ 200 = flat_after (Mark (codes ";")) 0 end others refl (flat_after (WordToken (codes "break")) 0 leaves_at (mark end (codes ";") ∷ others) refl (inner.enclosed within)) in
+    let o = more calls b.following (omega (arith, inner.less)) few_after deep parts.1 ends in
     let h : Got ArmHead = got (record { numbers = []; default = Some at }) (on tokens (suc (suc at)) depth) in
     record {
       partial = cases [] (Some at) b.partial o.partial;
-      behind = o.behind;
+      following = o.following;
       same = o.same;
       same_last = ap (λ x. arm [] x (default_arms o.partial)) b.same ∙ ap (arm [] body) o.same_last;
-      is = ap (arm_behind calls around h) b.is ∙ ap (λ (g : Got PartialArms). got (cases [] (Some at) b.partial g.value) g.behind) o.is;
+      is = ap (arm_after calls around h) b.is ∙ ap (λ (g : Got PartialArms). got (cases [] (Some at) b.partial g.value) g.following) o.is;
     }
 
 -- there is an arm, where the tree has one
@@ -214,16 +214,16 @@ switch-complete around depth after at opening closing brace end tokens inside re
     let parts = deep_test e (arm_stmts arms ++ arm_stmts last) deep in
     let inner : IsShallowArms arms × IsShallowArms last = and_parts _ _ (sym (list_all-append (shallow_stmt 200) (arm_stmts arms) (arm_stmts last)) ∙ parts.1) in
     let leads : Leads 1 0 0 (mark opening (codes "(") ∷ tokens) (mark brace (codes "{") ∷ inside) = test_leads test in
-    let within : most_open 0 (mark opening (codes "(") ∷ tokens) ≤ 200 = flat_behind (WordToken (codes "switch")) 0 at (mark opening (codes "(") ∷ tokens) refl few in
+    let within : most_open 0 (mark opening (codes "(") ∷ tokens) ≤ 200 = flat_after (WordToken (codes "switch")) 0 at (mark opening (codes "(") ∷ tokens) refl few in
     let p = test-complete {opening = opening} test (suc calls) (suc place) depth (omega arith) within parts.0 in
-    let few_inside : most_open 0 inside ≤ 200 = flat_behind (Mark (codes "{")) 0 brace inside refl (leads.enclosed within) in
-    let q = read calls (suc p.behind) (omega (arith, leads.less)) few_inside inner.0 inner.1 (brace_ends_arms end rest) in
+    let few_inside : most_open 0 inside ≤ 200 = flat_after (Mark (codes "{")) 0 brace inside refl (leads.enclosed within) in
+    let q = read calls (suc p.following) (omega (arith, leads.less)) few_inside inner.0 inner.1 (brace_ends_arms end rest) in
     record {
       partial = SwitchOf p.partial true q.partial;
-      behind = suc q.behind;
+      following = suc q.following;
       same = ap (λ x. Switch x (case_arms q.partial) (default_arms q.partial)) p.same ∙ (ap (λ x. Switch e x (default_arms q.partial)) q.same ∙ ap (Switch e arms) q.same_last);
-      is = ap (λ (t : Got PartialExpr). switch_of t (read_arms (suc calls) (in_switch around) (take_mark (codes "{") t.behind))) p.is
-          ∙ ap (switch_of (got p.partial (on (mark brace (codes "{") ∷ inside) p.behind depth))) (if-true (begins_arm (on inside (suc p.behind) depth)) _ _ (arms_begin derived has (suc p.behind) depth) ∙ q.is);
+      is = ap (λ (t : Got PartialExpr). switch_of t (read_arms (suc calls) (in_switch around) (take_mark (codes "{") t.following))) p.is
+          ∙ ap (switch_of (got p.partial (on (mark brace (codes "{") ∷ inside) p.following depth))) (if-true (begins_arm (on inside (suc p.following) depth)) _ _ (arms_begin derived has (suc p.following) depth) ∙ q.is);
     }
 
 -- Assignments and calls.
@@ -244,4 +244,4 @@ pub simple-complete : (around : Around) (depth : ℕ) (tokens rest : List Placed
 simple-complete around depth tokens rest s goes read zero at enough few deep ends = absurd (omega arith)
 simple-complete around depth tokens rest s goes read (suc calls) at enough few deep ends =
     let found = read calls at (omega arith) few deep in
-    record { partial = found.partial; behind = found.behind; same = found.same; is = goes calls at ∙ found.is }
+    record { partial = found.partial; following = found.following; same = found.same; is = goes calls at ∙ found.is }

@@ -24,10 +24,10 @@ use Rattle.dcc_c.proofs.reading.StmtSound.{IsShallowArms, ReadsArms}
 
 -- The reader passed the head of an arm: what the arm is, with its body and the arms after it.
 pub record ReadsHead (around : Around) (r : Reader) (head : Got ArmHead) : Type 0 where
-  pub steps : Steps 0 0 r head.behind
-  pub shorter : length head.behind.left < length r.left
+  pub steps : Steps 0 0 r head.following
+  pub shorter : length head.following.left < length r.left
   pub arm : (body : PartialLines) (others : PartialArms) (between after leaves end : ℕ) (tokens rest : List Placed) → around.blocks ≤ 200 →
-      AreLines 200 around false head.behind.depth (tokens_of head.behind.left) (plain_lines body) between (word leaves (codes "break") ∷ mark end (codes ";") ∷ tokens) →
+      AreLines 200 around false head.following.depth (tokens_of head.following.left) (plain_lines body) between (word leaves (codes "break") ∷ mark end (codes ";") ∷ tokens) →
       AreArms 200 around between tokens (case_arms others) (default_arms others) after rest →
       AreArms 200 around r.depth (tokens_of r.left) (case_arms (cases head.value.numbers head.value.default body others)) (default_arms (cases head.value.numbers head.value.default body others)) after rest
   pub shallow : (body : PartialLines) (others : PartialArms) → IsShallowLines (plain_lines body) → IsShallowArms (case_arms others) → IsShallowArms (default_arms others) →
@@ -37,19 +37,19 @@ pub record ReadsHead (around : Around) (r : Reader) (head : Got ArmHead) : Type 
 shallow_arm : (body : PartialLines) (arms : Arms) → IsShallowLines (plain_lines body) → IsShallowArms arms → list_all (shallow_stmt 200) (stmts_in (plain_lines body) ++ arm_stmts arms) ≡ true
 shallow_arm body arms first others = list_all-append (shallow_stmt 200) (stmts_in (plain_lines body)) (arm_stmts arms) ∙ and_from _ _ first others
 
-pub head-sound : (around : Around) (calls : ℕ) (r : Reader) → begins_arm r ≡ true → IsEnough calls 0 r.left → (read_arm_head calls r).behind.stop ≡ None → ReadsHead around r (read_arm_head calls r)
+pub head-sound : (around : Around) (calls : ℕ) (r : Reader) → begins_arm r ≡ true → IsEnough calls 0 r.left → (read_arm_head calls r).following.stop ≡ None → ReadsHead around r (read_arm_head calls r)
 head-sound around calls r begins enough =
-    if-cases (λ head. head.behind.stop ≡ None → ReadsHead around r head) (sees_word (codes "default") r)
+    if-cases (λ head. head.following.stop ≡ None → ReadsHead around r head) (sees_word (codes "default") r)
     (λ sees going.
     let took = sees_word-took (codes "default") r sees in
     let colon = take_mark-took (codes ":") (skip r) going in
-    let behind = take_mark (codes ":") (skip r) in
-    let steady : behind.depth ≡ r.depth = colon.steady ∙ took.steady in
+    let following = take_mark (codes ":") (skip r) in
+    let steady : following.depth ≡ r.depth = colon.steady ∙ took.steady in
     record {
       steps = then_steps (token_steps 0 refl took) (token_steps 0 refl colon);
       shorter = omega (arith, took.one_less, colon.one_less);
       arm = λ body others between after leaves end tokens rest room lines arms.
-          rw (took.begins, colon.begins) (default_arm room (subst (λ d. AreLines 200 around false d (tokens_of behind.left) (plain_lines body) between (word leaves (codes "break") ∷ mark end (codes ";") ∷ tokens)) steady lines) arms);
+          rw (took.begins, colon.begins) (default_arm room (subst (λ d. AreLines 200 around false d (tokens_of following.left) (plain_lines body) between (word leaves (codes "break") ∷ mark end (codes ";") ∷ tokens)) steady lines) arms);
       shallow = λ body others first arms last. (arms, shallow_arm body (default_arms others) first last);
       has = λ body others. or_right (has_arm (case_arms others)) true refl;
     })
@@ -61,7 +61,7 @@ head-sound around calls r begins enough =
       steps = read.steps;
       shorter = read.shorter;
       arm = λ body others between after leaves end tokens rest room lines arms.
-          case_arm read.derived room (subst (λ d. AreLines 200 around false d (tokens_of found.behind.left) (plain_lines body) between (word leaves (codes "break") ∷ mark end (codes ";") ∷ tokens)) read.steady lines) arms;
+          case_arm read.derived room (subst (λ d. AreLines 200 around false d (tokens_of found.following.left) (plain_lines body) between (word leaves (codes "break") ∷ mark end (codes ";") ∷ tokens)) read.steady lines) arms;
       shallow = λ body others first arms last. (shallow_arm body (case_arms others) first arms, last);
       has = λ body others. refl;
     })
@@ -88,17 +88,17 @@ shallow_without (row stmt at number (row next place other rows)) shallow =
 
 -- an arm and those after it
 pub arm_then : (around : Around) (r : Reader) (head : Got ArmHead) (lines : Got Block) (others : Got PartialArms) → ReadsHead around r head →
-    ReadsLines around false false head.behind lines → lines.value.leaves ≡ true → ReadsArms around lines.behind others →
-    ReadsArms around r (got (cases head.value.numbers head.value.default (without_last lines.value.lines) others.value) others.behind)
+    ReadsLines around false false head.following lines → lines.value.leaves ≡ true → ReadsArms around lines.following others →
+    ReadsArms around r (got (cases head.value.numbers head.value.default (without_last lines.value.lines) others.value) others.following)
 arm_then around r head lines others first body leaves read = by (body.leaving leaves)
   where
-    by : Leaving around false false head.behind lines → ReadsArms around r (got (cases head.value.numbers head.value.default (without_last lines.value.lines) others.value) others.behind)
+    by : Leaving around false false head.following lines → ReadsArms around r (got (cases head.value.numbers head.value.default (without_last lines.value.lines) others.value) others.following)
     by (nothing none is same) = absurd cc
     by (last_break at end some derived) =
         let deep = first.shallow (without_last lines.value.lines) others.value (shallow_without lines.value.lines body.shallow) read.shallow read.shallow_last in
         record {
           steps = then_steps first.steps (then_steps body.steps read.steps);
-          derived = first.arm (without_last lines.value.lines) others.value lines.behind.depth others.behind.depth at end (tokens_of lines.behind.left) (tokens_of others.behind.left) (room_of body.derived (row_is lines.value.lines some)) derived read.derived;
+          derived = first.arm (without_last lines.value.lines) others.value lines.following.depth others.following.depth at end (tokens_of lines.following.left) (tokens_of others.following.left) (room_of body.derived (row_is lines.value.lines some)) derived read.derived;
           shallow = deep.0;
           shallow_last = deep.1;
           has = λ _. first.has (without_last lines.value.lines) others.value;

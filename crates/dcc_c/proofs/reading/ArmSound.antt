@@ -10,7 +10,7 @@ use Rattle.dcc_c.specs.Reading.{Reader, Got, got, next_token, skip, sees_word}
 use Rattle.dcc_c.specs.ReadingStatements.{case_if, case_number, read_case, read_cases, is_case_suffix}
 use Rattle.dcc_c.specs.Stripped.{plain_numbers}
 use Rattle.dcc_c.proofs.reading.Passing.{tokens_of, if-cases, fail-stops, skip-took, sees_word-took, take_mark-took}
-use Rattle.dcc_c.proofs.reading.Enclosing.{open_behind}
+use Rattle.dcc_c.proofs.reading.Enclosing.{open_after}
 use Rattle.dcc_c.proofs.reading.Statements.{IsEnough}
 use Rattle.dcc_c.proofs.reading.Stopping.{choice-cases}
 use Rattle.dcc_c.proofs.reading.StmtStopping.{cases-keeps}
@@ -21,7 +21,7 @@ pub record SeesCase (seen : Option Token) (n : ℕ) : Type 0 where
   pub token : Token
   pub is : seen ≡ Some token
   pub number : IsCaseNumber token n
-  pub flat : open_behind token 0 ≡ 0
+  pub flat : open_after token 0 ≡ 0
 
 case_if-is : (token : Suffix → Token) (m : ℕ) (suffix : Suffix) (n : ℕ) → (m ≤ 65535 → IsCaseNumber (token plain_suffix) m) →
     (m ≤ 65535 → IsCaseNumber (token unsigned_suffix) m) → case_if m suffix ≡ Some n → IsCaseNumber (token suffix) n
@@ -47,22 +47,22 @@ case_number-is _ n is = absurd cc
 
 -- The reader passed a case.
 pub record ReadsCase (r : Reader) (g : Got (List NumberAt)) : Type 0 where
-  pub steps : Steps 0 0 r g.behind
-  pub steady : g.behind.depth ≡ r.depth
-  pub shorter : length g.behind.left < length r.left
+  pub steps : Steps 0 0 r g.following
+  pub steady : g.following.depth ≡ r.depth
+  pub shorter : length g.following.left < length r.left
   pub at : ℕ
   pub place : ℕ
   pub colon : ℕ
   pub n : ℕ
   pub token : Token
-  pub begins : tokens_of r.left ≡ word at (codes "case") ∷ placed place token ∷ mark colon (codes ":") ∷ tokens_of g.behind.left
+  pub begins : tokens_of r.left ≡ word at (codes "case") ∷ placed place token ∷ mark colon (codes ":") ∷ tokens_of g.following.left
   pub number : IsCaseNumber token n
   pub is : (others : List NumberAt) → plain_numbers (g.value ++ others) ≡ n ∷ plain_numbers others
 
-case-sound : (r : Reader) → sees_word (codes "case") r ≡ true → (read_case r).behind.stop ≡ None → ReadsCase r (read_case r)
+case-sound : (r : Reader) → sees_word (codes "case") r ≡ true → (read_case r).following.stop ≡ None → ReadsCase r (read_case r)
 case-sound r sees =
     let took = sees_word-took (codes "case") r sees in
-    choice-cases (λ g. g.behind.stop ≡ None → ReadsCase r g) (case_number (next_token (skip r)))
+    choice-cases (λ g. g.following.stop ≡ None → ReadsCase r g) (case_number (next_token (skip r)))
     (λ n is going.
     let seen = case_number-is (next_token (skip r)) n is in
     let number = skip-took (skip r) seen.token seen.is in
@@ -84,41 +84,41 @@ case-sound r sees =
 
 -- The reader passed cases, after another one.
 record ReadsMoreCases (r : Reader) (g : Got (List NumberAt)) : Type 0 where
-  steps : Steps 0 0 r g.behind
-  steady : g.behind.depth ≡ r.depth
+  steps : Steps 0 0 r g.following
+  steady : g.following.depth ≡ r.depth
   derived : (all : List Placed) (at place colon n : ℕ) (token : Token) → all ≡ word at (codes "case") ∷ placed place token ∷ mark colon (codes ":") ∷ tokens_of r.left →
-      IsCaseNumber token n → AreCases all (n ∷ plain_numbers g.value) (tokens_of g.behind.left)
+      IsCaseNumber token n → AreCases all (n ∷ plain_numbers g.value) (tokens_of g.following.left)
 
 no_more_cases : (r : Reader) → r.stop ≡ None → ReadsMoreCases r (got [] r)
 no_more_cases r going =
     record { steps = no_steps r going; steady = refl; derived = λ all at place colon n token same number. rw same (last_case number) }
 
-joined_cases : (r : Reader) (first others : Got (List NumberAt)) → ReadsCase r first → ReadsMoreCases first.behind others → ReadsMoreCases r (got (first.value ++ others.value) others.behind)
+joined_cases : (r : Reader) (first others : Got (List NumberAt)) → ReadsCase r first → ReadsMoreCases first.following others → ReadsMoreCases r (got (first.value ++ others.value) others.following)
 joined_cases r first others read more =
     record {
       steps = then_steps read.steps more.steps;
       steady = more.steady ∙ read.steady;
       derived = λ all at place colon n token same number.
-          rw same (more_cases {others = tokens_of r.left} {rest = tokens_of others.behind.left} {cases = plain_numbers (first.value ++ others.value)} number (rw (read.is others.value) (more.derived (tokens_of r.left) read.at read.place read.colon read.n read.token read.begins read.number)));
+          rw same (more_cases {others = tokens_of r.left} {rest = tokens_of others.following.left} {cases = plain_numbers (first.value ++ others.value)} number (rw (read.is others.value) (more.derived (tokens_of r.left) read.at read.place read.colon read.n read.token read.begins read.number)));
     }
 
-more_cases-sound : (calls : ℕ) (r : Reader) → (read_cases calls r).behind.stop ≡ None → ReadsMoreCases r (read_cases calls r)
+more_cases-sound : (calls : ℕ) (r : Reader) → (read_cases calls r).following.stop ≡ None → ReadsMoreCases r (read_cases calls r)
 more_cases-sound zero r = λ going. no_more_cases r going
 more_cases-sound (suc calls) r =
-    if-cases (λ g. g.behind.stop ≡ None → ReadsMoreCases r g) (sees_word (codes "case") r)
+    if-cases (λ g. g.following.stop ≡ None → ReadsMoreCases r g) (sees_word (codes "case") r)
     (λ sees going.
     let first = read_case r in
-    joined_cases r first (read_cases calls first.behind) (case-sound r sees (cases-keeps calls first.behind going)) (more_cases-sound calls first.behind going))
+    joined_cases r first (read_cases calls first.following) (case-sound r sees (cases-keeps calls first.following going)) (more_cases-sound calls first.following going))
     (λ _ going. no_more_cases r going)
 
 -- The reader passed one or more cases.
 pub record ReadsCases (r : Reader) (g : Got (List NumberAt)) : Type 0 where
-  pub steps : Steps 0 0 r g.behind
-  pub steady : g.behind.depth ≡ r.depth
-  pub shorter : length g.behind.left < length r.left
-  pub derived : AreCases (tokens_of r.left) (plain_numbers g.value) (tokens_of g.behind.left)
+  pub steps : Steps 0 0 r g.following
+  pub steady : g.following.depth ≡ r.depth
+  pub shorter : length g.following.left < length r.left
+  pub derived : AreCases (tokens_of r.left) (plain_numbers g.value) (tokens_of g.following.left)
 
-all_cases : (r : Reader) (first others : Got (List NumberAt)) → ReadsCase r first → ReadsMoreCases first.behind others → ReadsCases r (got (first.value ++ others.value) others.behind)
+all_cases : (r : Reader) (first others : Got (List NumberAt)) → ReadsCase r first → ReadsMoreCases first.following others → ReadsCases r (got (first.value ++ others.value) others.following)
 all_cases r first others read more =
     record {
       steps = then_steps read.steps more.steps;
@@ -127,11 +127,11 @@ all_cases r first others read more =
       derived = rw (read.is others.value) (more.derived (tokens_of r.left) read.at read.place read.colon read.n read.token read.begins read.number);
     }
 
-pub cases-sound : (calls : ℕ) (r : Reader) → sees_word (codes "case") r ≡ true → IsEnough calls 0 r.left → (read_cases calls r).behind.stop ≡ None → ReadsCases r (read_cases calls r)
+pub cases-sound : (calls : ℕ) (r : Reader) → sees_word (codes "case") r ≡ true → IsEnough calls 0 r.left → (read_cases calls r).following.stop ≡ None → ReadsCases r (read_cases calls r)
 cases-sound zero r sees enough = let took = sees_word-took (codes "case") r sees in absurd (omega (arith, took.one_less))
 cases-sound (suc calls) r sees enough =
-    if-cases (λ g. g.behind.stop ≡ None → ReadsCases r g) (sees_word (codes "case") r)
+    if-cases (λ g. g.following.stop ≡ None → ReadsCases r g) (sees_word (codes "case") r)
     (λ _ going.
     let first = read_case r in
-    all_cases r first (read_cases calls first.behind) (case-sound r sees (cases-keeps calls first.behind going)) (more_cases-sound calls first.behind going))
+    all_cases r first (read_cases calls first.following) (case-sound r sees (cases-keeps calls first.following going)) (more_cases-sound calls first.following going))
     (λ not. absurd cc)

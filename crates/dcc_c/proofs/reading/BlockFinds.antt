@@ -17,7 +17,7 @@ use Rattle.dcc_c.specs.Stripped.{plain_expr, plain_lines}
 use Rattle.dcc_c.proofs.reading.Statements.{IsEnoughFor, on, first_of}
 use Rattle.dcc_c.proofs.reading.Stopping.{if-false}
 use Rattle.dcc_c.proofs.reading.LineSound.{IsShallowLines}
-use Rattle.dcc_c.proofs.reading.Derivations.{flat_behind}
+use Rattle.dcc_c.proofs.reading.Derivations.{flat_after}
 use Rattle.dcc_c.proofs.reading.Leads.{Leads, test_leads}
 use Rattle.dcc_c.proofs.reading.PartsComplete.{expr_no_mark, no_semicolon, take_name-is, test-complete, value-complete}
 use Rattle.dcc_c.proofs.reading.LineFinds.{rows_before, joined_none, StmtRead, LinesRead}
@@ -25,9 +25,9 @@ use Rattle.dcc_c.proofs.reading.LineFinds.{rows_before, joined_none, StmtRead, L
 -- The block was read, with exactly the rest left.
 pub record FindsBlock (lines : Lines) (after : ℕ) (rest : List Placed) (g : Got PartialLines) : Type 0 where
   pub partial : PartialLines
-  pub behind : ℕ
+  pub following : ℕ
   pub same : plain_lines partial ≡ lines
-  pub is : g ≡ got partial (on rest behind after)
+  pub is : g ≡ got partial (on rest following after)
 
 abbrev pub BlockRead : Around → ℕ → List Placed → Lines → ℕ → List Placed → Type 0
 BlockRead around depth tokens lines after rest =
@@ -43,15 +43,15 @@ pub block-complete : (around : Around) (depth after opening closing : ℕ) (toke
     BlockRead around depth (mark opening (codes "{") ∷ tokens) lines after rest
 block-complete around depth after opening closing tokens rest lines read zero at enough few deep = absurd (omega arith)
 block-complete around depth after opening closing tokens rest lines read (suc calls) at enough few deep =
-    let within : most_open 0 tokens ≤ 200 = flat_behind (Mark (codes "{")) 0 opening tokens refl few in
+    let within : most_open 0 tokens ≤ 200 = flat_after (Mark (codes "{")) 0 opening tokens refl few in
     let found = read calls (suc at) false (omega arith) within deep refl in
-    let behind = on (mark closing (codes "}") ∷ rest) found.behind after in
+    let following = on (mark closing (codes "}") ∷ rest) found.following after in
     record {
       partial = found.partial;
-      behind = suc found.behind;
+      following = suc found.following;
       same = found.same;
-      is = ap end_block (found.is ∙ ap (rows_before found.partial) (brace_ends found.calls around found.leaves closing found.behind after rest found.enough))
-          ∙ ap (λ rows. end_block (got (block_of rows found.leaves) behind)) (joined_none found.partial);
+      is = ap end_block (found.is ∙ ap (rows_before found.partial) (brace_ends found.calls around found.leaves closing found.following after rest found.enough))
+          ∙ ap (λ rows. end_block (got (block_of rows found.leaves) following)) (joined_none found.partial);
     }
 
 -- Tests.
@@ -68,14 +68,14 @@ while-complete around depth after at opening closing tokens block rest e body te
 while-complete around depth after at opening closing tokens block rest e body test read (suc calls) place enough few deep ends =
     let parts = deep_test e (stmts_in body) deep in
     let leads : Leads 1 0 0 (mark opening (codes "(") ∷ tokens) block = test_leads test in
-    let within : most_open 0 (mark opening (codes "(") ∷ tokens) ≤ 200 = flat_behind (WordToken (codes "while")) 0 at (mark opening (codes "(") ∷ tokens) refl few in
+    let within : most_open 0 (mark opening (codes "(") ∷ tokens) ≤ 200 = flat_after (WordToken (codes "while")) 0 at (mark opening (codes "(") ∷ tokens) refl few in
     let p = test-complete {opening = opening} test calls (suc place) depth (omega arith) within parts.0 in
-    let q = read calls p.behind (omega (arith, leads.less)) (leads.enclosed within) parts.1 in
+    let q = read calls p.following (omega (arith, leads.less)) (leads.enclosed within) parts.1 in
     record {
       partial = WhileOf p.partial true q.partial;
-      behind = q.behind;
+      following = q.following;
       same = ap (λ x. While x (plain_lines q.partial)) p.same ∙ ap (While e) q.same;
-      is = ap (λ t. while_of t (read_block calls (in_loop around) t.behind)) p.is ∙ ap (while_of (got p.partial (on block p.behind depth))) q.is;
+      is = ap (λ t. while_of t (read_block calls (in_loop around) t.following)) p.is ∙ ap (while_of (got p.partial (on block p.following depth))) q.is;
     }
 
 pub if_alone-complete : (around : Around) (depth after at opening closing : ℕ) (tokens block rest : List Placed) (e : Expr) (body : Lines) →
@@ -87,16 +87,16 @@ if_alone-complete around depth after at opening closing tokens block rest e body
     let parts = deep_test e (stmts_in body ++ []) deep in
     let inner : IsShallowLines body × (true ≡ true) = and_parts _ true (sym (list_all-append (shallow_stmt 200) (stmts_in body) []) ∙ parts.1) in
     let leads : Leads 1 0 0 (mark opening (codes "(") ∷ tokens) block = test_leads test in
-    let within : most_open 0 (mark opening (codes "(") ∷ tokens) ≤ 200 = flat_behind (WordToken (codes "if")) 0 at (mark opening (codes "(") ∷ tokens) refl few in
+    let within : most_open 0 (mark opening (codes "(") ∷ tokens) ≤ 200 = flat_after (WordToken (codes "if")) 0 at (mark opening (codes "(") ∷ tokens) refl few in
     let p = test-complete {opening = opening} test (suc calls) (suc place) depth (omega arith) within parts.0 in
-    let q = read calls p.behind (omega (arith, leads.less)) (leads.enclosed within) inner.0 in
-    let test_read : Got PartialExpr = got p.partial (on block p.behind depth) in
+    let q = read calls p.following (omega (arith, leads.less)) (leads.enclosed within) inner.0 in
+    let test_read : Got PartialExpr = got p.partial (on block p.following depth) in
     record {
       partial = IfOf p.partial true q.partial no_rows;
-      behind = q.behind;
+      following = q.following;
       same = ap (λ x. If x (plain_lines q.partial) no_lines) p.same ∙ ap (λ b. If e b no_lines) q.same;
       is = ap (read_if (suc calls) around) p.is
-          ∙ (ap (λ (b : Got PartialLines). if sees_word (codes "else") b.behind then if_of test_read b.value (read_block calls (in_block around) (skip b.behind)) else if_of test_read b.value (got no_rows b.behind)) q.is
+          ∙ (ap (λ (b : Got PartialLines). if sees_word (codes "else") b.following then if_of test_read b.value (read_block calls (in_block around) (skip b.following)) else if_of test_read b.value (got no_rows b.following)) q.is
           ∙ if-false (is_the_word (codes "else") (first_of rest)) _ _ ends);
     }
 
@@ -110,18 +110,18 @@ if_else-complete around depth between after at opening closing other tokens bloc
     let parts = deep_test e (stmts_in body ++ stmts_in otherwise) deep in
     let inner : IsShallowLines body × IsShallowLines otherwise = and_parts _ _ (sym (list_all-append (shallow_stmt 200) (stmts_in body) (stmts_in otherwise)) ∙ parts.1) in
     let leads : Leads 1 0 0 (mark opening (codes "(") ∷ tokens) block = test_leads test in
-    let within : most_open 0 (mark opening (codes "(") ∷ tokens) ≤ 200 = flat_behind (WordToken (codes "if")) 0 at (mark opening (codes "(") ∷ tokens) refl few in
+    let within : most_open 0 (mark opening (codes "(") ∷ tokens) ≤ 200 = flat_after (WordToken (codes "if")) 0 at (mark opening (codes "(") ∷ tokens) refl few in
     let p = test-complete {opening = opening} test (suc calls) (suc place) depth (omega arith) within parts.0 in
-    let q = read calls p.behind (omega (arith, leads.less)) (leads.enclosed within) inner.0 in
-    let last : most_open 0 second ≤ 200 = flat_behind (WordToken (codes "else")) 0 other second refl (inner_leads.enclosed (leads.enclosed within)) in
-    let o = more calls (suc q.behind) (omega (arith, leads.less, inner_leads.less)) last inner.1 in
-    let test_read : Got PartialExpr = got p.partial (on block p.behind depth) in
+    let q = read calls p.following (omega (arith, leads.less)) (leads.enclosed within) inner.0 in
+    let last : most_open 0 second ≤ 200 = flat_after (WordToken (codes "else")) 0 other second refl (inner_leads.enclosed (leads.enclosed within)) in
+    let o = more calls (suc q.following) (omega (arith, leads.less, inner_leads.less)) last inner.1 in
+    let test_read : Got PartialExpr = got p.partial (on block p.following depth) in
     record {
       partial = IfOf p.partial true q.partial o.partial;
-      behind = o.behind;
+      following = o.following;
       same = ap (λ x. If x (plain_lines q.partial) (plain_lines o.partial)) p.same ∙ (ap (λ b. If e b (plain_lines o.partial)) q.same ∙ ap (If e body) o.same);
       is = ap (read_if (suc calls) around) p.is
-          ∙ (ap (λ (b : Got PartialLines). if sees_word (codes "else") b.behind then if_of test_read b.value (read_block calls (in_block around) (skip b.behind)) else if_of test_read b.value (got no_rows b.behind)) q.is
+          ∙ (ap (λ (b : Got PartialLines). if sees_word (codes "else") b.following then if_of test_read b.value (read_block calls (in_block around) (skip b.following)) else if_of test_read b.value (got no_rows b.following)) q.is
           ∙ ap (if_of test_read q.partial) o.is);
     }
 
@@ -132,15 +132,15 @@ pub do_while-complete : (around : Around) (depth after at again opening closing 
 do_while-complete around depth after at again opening closing end block tokens rest body e inner_leads read test zero place enough few deep ends = absurd (omega arith)
 do_while-complete around depth after at again opening closing end block tokens rest body e inner_leads read test (suc calls) place enough few deep ends =
     let parts = deep_test e (stmts_in body) deep in
-    let within : most_open 0 block ≤ 200 = flat_behind (WordToken (codes "do")) 0 at block refl few in
+    let within : most_open 0 block ≤ 200 = flat_after (WordToken (codes "do")) 0 at block refl few in
     let q = read calls (suc place) (omega arith) within parts.1 in
-    let few_behind : most_open 0 (mark opening (codes "(") ∷ tokens) ≤ 200 = flat_behind (WordToken (codes "while")) 0 again (mark opening (codes "(") ∷ tokens) refl (inner_leads.enclosed within) in
-    let p = test-complete {opening = opening} test calls (suc q.behind) after (omega (arith, inner_leads.less)) few_behind parts.0 in
+    let few_after : most_open 0 (mark opening (codes "(") ∷ tokens) ≤ 200 = flat_after (WordToken (codes "while")) 0 again (mark opening (codes "(") ∷ tokens) refl (inner_leads.enclosed within) in
+    let p = test-complete {opening = opening} test calls (suc q.following) after (omega (arith, inner_leads.less)) few_after parts.0 in
     record {
       partial = DoWhileOf q.partial p.partial true;
-      behind = suc p.behind;
+      following = suc p.following;
       same = ap (λ x. DoWhile x (plain_expr p.partial)) q.same ∙ ap (DoWhile body) p.same;
-      is = ap (λ (b : Got PartialLines). do_while_of b (read_test calls (take_word (codes "while") b.behind))) q.is ∙ ap (do_while_of (got q.partial (on (word again (codes "while") ∷ mark opening (codes "(") ∷ tokens) q.behind after))) p.is;
+      is = ap (λ (b : Got PartialLines). do_while_of b (read_test calls (take_word (codes "while") b.following))) q.is ∙ ap (do_while_of (got q.partial (on (word again (codes "while") ∷ mark opening (codes "(") ∷ tokens) q.following after))) p.is;
     }
 
 pub for-complete : (around : Around) (depth after : ℕ) (all block rest : List Placed) (body : Lines) →
@@ -151,9 +151,9 @@ for-complete around depth after _ block rest body (one (one (one (one (one none)
     let q = read calls (suc (suc (suc (suc (suc place))))) (omega arith) (leads.enclosed few) deep in
     record {
       partial = ForeverOf q.partial;
-      behind = q.behind;
+      following = q.following;
       same = ap Forever q.same;
-      is = ap (λ (b : Got PartialLines). got (ForeverOf b.value) b.behind) q.is;
+      is = ap (λ (b : Got PartialLines). got (ForeverOf b.value) b.following) q.is;
     }
 
 -- Short statements.
@@ -162,13 +162,13 @@ pub leave-complete : (around : Around) (depth at end : ℕ) (rest : List Placed)
     StmtRead around depth (word at (codes "break") ∷ mark end (codes ";") ∷ rest) Break depth rest
 leave-complete around depth at end rest allowed zero place enough few deep ends = absurd (omega arith)
 leave-complete around depth at end rest allowed (suc calls) place enough few deep ends =
-    record { partial = BreakOf; behind = suc (suc place); same = refl; is = ap (λ b. read_leave b BreakOf (on (word at (codes "break") ∷ mark end (codes ";") ∷ rest) place depth)) allowed }
+    record { partial = BreakOf; following = suc (suc place); same = refl; is = ap (λ b. read_leave b BreakOf (on (word at (codes "break") ∷ mark end (codes ";") ∷ rest) place depth)) allowed }
 
 pub continue-complete : (around : Around) (depth at end : ℕ) (rest : List Placed) → around.continues ≡ true →
     StmtRead around depth (word at (codes "continue") ∷ mark end (codes ";") ∷ rest) Continue depth rest
 continue-complete around depth at end rest allowed zero place enough few deep ends = absurd (omega arith)
 continue-complete around depth at end rest allowed (suc calls) place enough few deep ends =
-    record { partial = ContinueOf; behind = suc (suc place); same = refl; is = ap (λ b. read_leave b ContinueOf (on (word at (codes "continue") ∷ mark end (codes ";") ∷ rest) place depth)) allowed }
+    record { partial = ContinueOf; following = suc (suc place); same = refl; is = ap (λ b. read_leave b ContinueOf (on (word at (codes "continue") ∷ mark end (codes ";") ∷ rest) place depth)) allowed }
 
 pub goto-complete : (around : Around) (depth at place_at end : ℕ) (rest : List Placed) (name : Word) → is_name name ≡ true →
     StmtRead around depth (word at (codes "goto") ∷ word place_at name ∷ mark end (codes ";") ∷ rest) (Goto name) depth rest
@@ -176,29 +176,29 @@ goto-complete around depth at place_at end rest name good zero place enough few 
 goto-complete around depth at place_at end rest name good (suc calls) place enough few deep ends =
     record {
       partial = GotoOf (Some (record { word = name; at = suc place }));
-      behind = suc (suc (suc place));
+      following = suc (suc (suc place));
       same = refl;
-      is = ap (λ (g : Got (Option WordAt)). got (GotoOf g.value) (take_mark (codes ";") g.behind)) (take_name-is place_at (suc place) depth name (mark end (codes ";") ∷ rest) good);
+      is = ap (λ (g : Got (Option WordAt)). got (GotoOf g.value) (take_mark (codes ";") g.following)) (take_name-is place_at (suc place) depth name (mark end (codes ";") ∷ rest) good);
     }
 
 pub empty-complete : (around : Around) (depth end : ℕ) (rest : List Placed) → StmtRead around depth (mark end (codes ";") ∷ rest) Empty depth rest
 empty-complete around depth end rest zero place enough few deep ends = absurd (omega arith)
-empty-complete around depth end rest (suc calls) place enough few deep ends = record { partial = EmptyOf; behind = suc place; same = refl; is = refl }
+empty-complete around depth end rest (suc calls) place enough few deep ends = record { partial = EmptyOf; following = suc place; same = refl; is = refl }
 
 pub return_nothing-complete : (around : Around) (depth at end : ℕ) (rest : List Placed) → StmtRead around depth (word at (codes "return") ∷ mark end (codes ";") ∷ rest) (Return None) depth rest
 return_nothing-complete around depth at end rest zero place enough few deep ends = absurd (omega arith)
-return_nothing-complete around depth at end rest (suc calls) place enough few deep ends = record { partial = ReturnOf None true; behind = suc (suc place); same = refl; is = refl }
+return_nothing-complete around depth at end rest (suc calls) place enough few deep ends = record { partial = ReturnOf None true; following = suc (suc place); same = refl; is = refl }
 
 pub return_value-complete : (around : Around) (depth at end : ℕ) (tokens rest : List Placed) (e : Expr) → IsExpr 0 tokens e (mark end (codes ";") ∷ rest) →
     StmtRead around depth (word at (codes "return") ∷ tokens) (Return (Some e)) depth rest
 return_value-complete around depth at end tokens rest e value zero place enough few deep ends = absurd (omega arith)
 return_value-complete around depth at end tokens rest e value (suc calls) place enough few deep ends =
-    let within : most_open 0 tokens ≤ 200 = flat_behind (WordToken (codes "return")) 0 at tokens refl few in
+    let within : most_open 0 tokens ≤ 200 = flat_after (WordToken (codes "return")) 0 at tokens refl few in
     let v = value-complete value calls (suc place) depth (omega arith) within (deep_test e [] deep).0 in
     record {
       partial = ReturnOf (Some v.partial) true;
-      behind = suc v.behind;
+      following = suc v.following;
       same = ap (λ x. Return (Some x)) v.same;
       is = if-false (is_the_mark (codes ";") (first_of tokens)) _ _ (expr_no_mark (codes ";") refl no_semicolon value)
-          ∙ ap (λ (g : Got PartialExpr). got (ReturnOf (Some g.value) (not (is_stopped (take_mark (codes ";") g.behind)))) (take_mark (codes ";") g.behind)) v.is;
+          ∙ ap (λ (g : Got PartialExpr). got (ReturnOf (Some g.value) (not (is_stopped (take_mark (codes ";") g.following)))) (take_mark (codes ";") g.following)) v.is;
     }

@@ -22,10 +22,10 @@ use Rattle.dcc_c.proofs.reading.SimpleWhole.{going-done}
 
 -- reading that has not stopped has read the whole variable
 abbrev pub EntireVariable : Got PartialVariable → Type 0
-EntireVariable g = g.behind.stop ≡ None → is_complete_variable g.value ≡ true
+EntireVariable g = g.following.stop ≡ None → is_complete_variable g.value ≡ true
 
 abbrev pub EntireVariables : Got (List PartialVariable) → Type 0
-EntireVariables g = g.behind.stop ≡ None → list_all is_complete_variable g.value ≡ true
+EntireVariables g = g.following.stop ≡ None → list_all is_complete_variable g.value ≡ true
 
 -- a variable with a name, a type and an end
 pub variable-whole : (v : PartialVariable) → is_some v.name ≡ true → is_some v.type ≡ true → v.done ≡ true → is_complete_variable v ≡ true
@@ -39,12 +39,12 @@ is-there o a is = ap is_some is
 local_of-entire : (class : Class) (here : Reader) → EntireVariable (local_of class here)
 local_of-entire class here going =
     let type = take_type here in
-    let name = take_name type.behind in
-    let size = read_size name.behind in
-    let sized = size-sound name.behind (mark-keeps (codes ";") size.behind going) in
-    let named = name-sound type.behind sized.steps.passed.going in
+    let name = take_name type.following in
+    let size = read_size name.following in
+    let sized = size-sound name.following (mark-keeps (codes ";") size.following going) in
+    let named = name-sound type.following sized.steps.passed.going in
     let typed = type-sound here named.took.passed.going in
-    variable-whole (local_of class here).value (is-there name.value named.name named.is) (is-there type.value typed.type typed.is) (going-done (take_mark (codes ";") size.behind) going)
+    variable-whole (local_of class here).value (is-there name.value named.name named.is) (is-there type.value typed.type typed.is) (going-done (take_mark (codes ";") size.following) going)
 
 local-entire : (r : Reader) → EntireVariable (read_local r)
 local-entire r = by (sees_word (codes "auto") r)
@@ -57,7 +57,7 @@ pub locals-entire : (calls : ℕ) (r : Reader) → EntireVariables (read_locals 
 locals-entire zero r = λ going. refl
 locals-entire (suc calls) r =
     if-cases EntireVariables (sees_word (codes "auto") r || begins_type (next_token r))
-    (λ _ going. and_from (is_complete_variable (read_local r).value) (list_all is_complete_variable (read_locals calls (read_local r).behind).value) (local-entire r (locals-keep calls (read_local r).behind going)) (locals-entire calls (read_local r).behind going))
+    (λ _ going. and_from (is_complete_variable (read_local r).value) (list_all is_complete_variable (read_locals calls (read_local r).following).value) (local-entire r (locals-keep calls (read_local r).following going)) (locals-entire calls (read_local r).following going))
     (λ _ going. refl)
 
 -- Parameters.
@@ -65,11 +65,11 @@ locals-entire (suc calls) r =
 param-entire : (r : Reader) → EntireVariable (read_param r)
 param-entire r going =
     let class = read_class r in
-    let type = take_type class.behind in
-    let name = take_name type.behind in
-    let named = name-sound type.behind going in
-    let typed = type-sound class.behind named.took.passed.going in
-    variable-whole (read_param r).value (is-there name.value named.name named.is) (is-there type.value typed.type typed.is) (going-done name.behind going)
+    let type = take_type class.following in
+    let name = take_name type.following in
+    let named = name-sound type.following going in
+    let typed = type-sound class.following named.took.passed.going in
+    variable-whole (read_param r).value (is-there name.value named.name named.is) (is-there type.value typed.type typed.is) (going-done name.following going)
 
 more_params-entire : (calls : ℕ) (r : Reader) → EntireVariables (more_params calls r)
 more_params-entire zero r = λ going. refl
@@ -77,7 +77,7 @@ more_params-entire (suc calls) r =
     if-cases EntireVariables (sees_mark (codes ",") r)
     (λ _ going.
     let first = read_param (skip r) in
-    and_from (is_complete_variable first.value) (list_all is_complete_variable (more_params calls first.behind).value) (param-entire (skip r) (params_more-keep calls first.behind going)) (more_params-entire calls first.behind going))
+    and_from (is_complete_variable first.value) (list_all is_complete_variable (more_params calls first.following).value) (param-entire (skip r) (params_more-keep calls first.following going)) (more_params-entire calls first.following going))
     (λ _ going. refl)
 
 pub params-entire : (calls : ℕ) (r : Reader) → EntireVariables (read_params calls r)
@@ -85,7 +85,7 @@ params-entire calls r =
     if-cases EntireVariables (sees_word (codes "void") r) (λ _ going. refl)
     (λ _ going.
     let first = read_param r in
-    and_from (is_complete_variable first.value) (list_all is_complete_variable (more_params calls first.behind).value) (param-entire r (params_more-keep calls first.behind going)) (more_params-entire calls first.behind going))
+    and_from (is_complete_variable first.value) (list_all is_complete_variable (more_params calls first.following).value) (param-entire r (params_more-keep calls first.following going)) (more_params-entire calls first.following going))
 
 pub not-empty : {A : Type 0} (x : A) (xs : List A) → (length (x ∷ xs) == 0) ≡ false
 not-empty x xs = false_from_ne_true (length (x ∷ xs) == 0) (λ is. absurd (let none : length (x ∷ xs) ≡ 0 = eqb-true (length (x ∷ xs)) 0 is in omega (arith, none)))
@@ -95,25 +95,25 @@ pub params-agree : (calls : ℕ) (r : Reader) → agree (sees_word (codes "void"
 params-agree calls r =
     if-cases (λ (g : Got (List PartialVariable)). agree (sees_word (codes "void") r) (length g.value == 0) ≡ true) (sees_word (codes "void") r)
     (λ sees. ap (λ b. agree b true) sees)
-    (λ none. ap (agree (sees_word (codes "void") r)) (not-empty (read_param r).value (more_params calls (read_param r).behind).value) ∙ ap (λ b. agree b false) none)
+    (λ none. ap (agree (sees_word (codes "void") r)) (not-empty (read_param r).value (more_params calls (read_param r).following).value) ∙ ap (λ b. agree b false) none)
 
 -- Types.
 
-star-keeps : (base : Base) (behind : Reader) → GoesOn behind (with_star base behind).behind
-star-keeps base behind =
-    if-cases (λ (g : Got (Option CType)). GoesOn behind g.behind) (sees_mark (codes "*") behind) (λ _ going. going) (λ _ going. going)
+star-keeps : (base : Base) (following : Reader) → GoesOn following (with_star base following).following
+star-keeps base following =
+    if-cases (λ (g : Got (Option CType)). GoesOn following g.following) (sees_mark (codes "*") following) (λ _ going. going) (λ _ going. going)
 
 -- the type after its base
 abbrev typed_by : Option Base → Reader → Got (Option CType)
-typed_by base behind = elim base [ Some b ↦ with_star b behind | None ↦ got None behind ]
+typed_by base following = elim base [ Some b ↦ with_star b following | None ↦ got None following ]
 
-typed-keeps : (base : Option Base) (behind : Reader) → GoesOn behind (typed_by base behind).behind
-typed-keeps (Some base) behind = star-keeps base behind
-typed-keeps None behind = λ going. going
+typed-keeps : (base : Option Base) (following : Reader) → GoesOn following (typed_by base following).following
+typed-keeps (Some base) following = star-keeps base following
+typed-keeps None following = λ going. going
 
-base-begins : (r : Reader) → (take_base r).behind.stop ≡ None → begins_type (next_token r) ≡ true
+base-begins : (r : Reader) → (take_base r).following.stop ≡ None → begins_type (next_token r) ≡ true
 base-begins r =
-    let result : Got (Option Base) → Type 0 = λ g. g.behind.stop ≡ None → begins_type (next_token r) ≡ true in
+    let result : Got (Option Base) → Type 0 = λ g. g.following.stop ≡ None → begins_type (next_token r) ≡ true in
     let signs : Bool = sees_word (codes "signed") r || sees_word (codes "unsigned") r in
     let sizes : Bool = sees_word (codes "int") r || sees_word (codes "long") r in
     if-cases result (sees_word (codes "int") r) (λ sees _. or_right signs sizes (or_left (sees_word (codes "int") r) (sees_word (codes "long") r) sees))
@@ -123,8 +123,8 @@ base-begins r =
     (λ _ going. absurd (fail-stops r going)))))
 
 -- a type that was read begins as types do
-pub type-begins : (r : Reader) → (take_type r).behind.stop ≡ None → begins_type (next_token r) ≡ true
-type-begins r going = base-begins r (typed-keeps (take_base r).value (take_base r).behind going)
+pub type-begins : (r : Reader) → (take_type r).following.stop ≡ None → begins_type (next_token r) ≡ true
+type-begins r going = base-begins r (typed-keeps (take_base r).value (take_base r).following going)
 
 -- Beginnings, and global variables.
 
@@ -139,26 +139,26 @@ both-agree a b one other = ap (λ x. agree x b) one ∙ other
 agreed : (a b : Bool) → a ≡ true → agree a b ≡ true → b ≡ true
 agreed a b one both = sym (ap (λ x. agree x b) one) ∙ both
 
-pub begun-entire : (r : Reader) → (read_begun r).behind.stop ≡ None → EntireBegun (read_begun r).value
+pub begun-entire : (r : Reader) → (read_begun r).following.stop ≡ None → EntireBegun (read_begun r).value
 begun-entire r =
-    if-cases (λ (g : Got Begun). g.behind.stop ≡ None → EntireBegun g.value) (sees_word (codes "void") r)
+    if-cases (λ (g : Got Begun). g.following.stop ≡ None → EntireBegun g.value) (sees_word (codes "void") r)
     (λ _ going. let named = name-sound (skip r) going in record { named = is-there (take_name (skip r)).value named.name named.is; typed = refl })
     (λ _ going.
     let type = take_type r in
-    let named = name-sound type.behind going in
+    let named = name-sound type.following going in
     let typed = type-sound r named.took.passed.going in
     record {
-      named = is-there (take_name type.behind).value named.name named.is;
+      named = is-there (take_name type.following).value named.name named.is;
       typed = both-agree (begins_type (next_token r)) (is_some type.value) (type-begins r named.took.passed.going) (is-there type.value typed.type typed.is);
     })
 
-pub global-entire : (calls here : ℕ) (begun : Got Begun) → (begun.behind.stop ≡ None → EntireBegun begun.value) → begun.value.has_result ≡ true →
+pub global-entire : (calls here : ℕ) (begun : Got Begun) → (begun.following.stop ≡ None → EntireBegun begun.value) → begun.value.has_result ≡ true →
     EntireVariable (read_global calls here begun)
 global-entire calls here begun begins has going =
-    let size = read_size begun.behind in
-    let init = read_init calls size.behind in
-    let values = init-sound calls size.behind (mark-keeps (codes ";") init.behind going) in
-    let sized = size-sound begun.behind values.steps.passed.going in
+    let size = read_size begun.following in
+    let init = read_init calls size.following in
+    let values = init-sound calls size.following (mark-keeps (codes ";") init.following going) in
+    let sized = size-sound begun.following values.steps.passed.going in
     let head = begins sized.steps.passed.going in
     let typed = agreed begun.value.has_result (is_some begun.value.result) has head.typed in
-    variable-whole (read_global calls here begun).value head.named typed (going-done (take_mark (codes ";") init.behind) going)
+    variable-whole (read_global calls here begun).value head.named typed (going-done (take_mark (codes ";") init.following) going)

@@ -10,7 +10,7 @@ use Rattle.dcc_c.specs.Grammar.{is_name, mark, type_tokens, base_words, unary_ma
 use Rattle.dcc_c.specs.Rules.{most_open}
 use Rattle.dcc_c.specs.Reading.{begins_type}
 use Rattle.dcc_c.proofs.NameLaws.{same_bytes-equal}
-use Rattle.dcc_c.proofs.reading.Enclosing.{open_behind, enclosed-behind}
+use Rattle.dcc_c.proofs.reading.Enclosing.{open_after, enclosed-following}
 use Rattle.dcc_c.proofs.reading.Statements.{first_of}
 use Rattle.dcc_c.proofs.reading.ExprParts.{strength_most, unary_flat, binary_flat}
 
@@ -49,7 +49,7 @@ strongest (stronger a) = let most = strongest a in omega (arith, most)
 -- no token of these is a parenthesis
 abbrev pub AreFlat : List Token → Type 0
 AreFlat [] = ⊤
-AreFlat (token ∷ tokens) = ((opened : ℕ) → open_behind token opened ≡ opened) × AreFlat tokens
+AreFlat (token ∷ tokens) = ((opened : ℕ) → open_after token opened ≡ opened) × AreFlat tokens
 
 flat-append : (xs ys : List Token) → AreFlat xs → AreFlat ys → AreFlat (xs ++ ys)
 flat-append [] ys first second = second
@@ -67,43 +67,43 @@ pub flat_type : (type : CType) → AreFlat (type_tokens type)
 flat_type type = flat-append _ _ (flat_words (base_words type.base)) (flat_star type.pointer)
 
 -- tokens that keep to the limit, from one on which is no parenthesis
-pub flat_behind : (token : Token) (opened line : ℕ) (rest : List Placed) → open_behind token opened ≡ opened →
+pub flat_after : (token : Token) (opened line : ℕ) (rest : List Placed) → open_after token opened ≡ opened →
     most_open opened (placed line token ∷ rest) ≤ 200 → most_open opened rest ≤ 200
-flat_behind token opened line rest flat few = rw flat at (enclosed-behind token opened line rest few)
+flat_after token opened line rest flat few = rw flat at (enclosed-following token opened line rest few)
 
-pub opening_behind : (opened line : ℕ) (rest : List Placed) → most_open opened (mark line (codes "(") ∷ rest) ≤ 200 → most_open (suc opened) rest ≤ 200
-opening_behind opened line rest few = rw add-one at (enclosed-behind (Mark (codes "(")) opened line rest few)
+pub opening_after : (opened line : ℕ) (rest : List Placed) → most_open opened (mark line (codes "(") ∷ rest) ≤ 200 → most_open (suc opened) rest ≤ 200
+opening_after opened line rest few = rw add-one at (enclosed-following (Mark (codes "(")) opened line rest few)
 
-pub closing_behind : (opened line : ℕ) (rest : List Placed) → most_open (suc opened) (mark line (codes ")") ∷ rest) ≤ 200 → most_open opened rest ≤ 200
-closing_behind opened line rest few =
+pub closing_after : (opened line : ℕ) (rest : List Placed) → most_open (suc opened) (mark line (codes ")") ∷ rest) ≤ 200 → most_open opened rest ≤ 200
+closing_after opened line rest few =
     let same : suc opened - 1 ≡ opened = omega arith in
-    rw same at (enclosed-behind (Mark (codes ")")) (suc opened) line rest few)
+    rw same at (enclosed-following (Mark (codes ")")) (suc opened) line rest few)
 
 pub begins-enclosed : {all rest : List Placed} {tokens : List Token} → Begins all tokens rest → AreFlat tokens → (opened : ℕ) →
     most_open opened all ≤ 200 → most_open opened rest ≤ 200
 begins-enclosed none flat opened few = few
 begins-enclosed (one {at} {token} {all} later) flat opened few =
-    begins-enclosed later flat.1 opened (flat_behind token opened at all (flat.0 opened) few)
+    begins-enclosed later flat.1 opened (flat_after token opened at all (flat.0 opened) few)
 
-number_flat : {token : Token} {n : ℕ} {base : Base} → IsNumber token n base → (opened : ℕ) → open_behind token opened ≡ opened
+number_flat : {token : Token} {n : ℕ} {base : Base} → IsNumber token n base → (opened : ℕ) → open_after token opened ≡ opened
 number_flat (decimal n suffix) opened = refl
 number_flat (hex n suffix) opened = refl
 
 -- the parentheses of an expression are in pairs
 pub expr-enclosed : {least : ℕ} {tokens rest : List Placed} {e : Expr} → IsExpr least tokens e rest → (opened : ℕ) →
     most_open opened tokens ≤ 200 → most_open opened rest ≤ 200
-expr-enclosed (number {at} {token} {rest} is) opened few = flat_behind token opened at rest (number_flat is opened) few
-expr-enclosed (name {at} {rest} bytes is) opened few = flat_behind (WordToken bytes) opened at rest refl few
+expr-enclosed (number {at} {token} {rest} is) opened few = flat_after token opened at rest (number_flat is opened) few
+expr-enclosed (name {at} {rest} bytes is) opened few = flat_after (WordToken bytes) opened at rest refl few
 expr-enclosed (parentheses {opening} {closing} {tokens} {rest} inner) opened few =
-    closing_behind opened closing rest (expr-enclosed inner (suc opened) (opening_behind opened opening tokens few))
+    closing_after opened closing rest (expr-enclosed inner (suc opened) (opening_after opened opening tokens few))
 expr-enclosed (unary {at} {tokens} operator a) opened few =
-    expr-enclosed a opened (flat_behind (Mark (unary_mark operator)) opened at tokens (unary_flat operator opened) few)
+    expr-enclosed a opened (flat_after (Mark (unary_mark operator)) opened at tokens (unary_flat operator opened) few)
 expr-enclosed (cast {opening} {closing} {all} {tokens} type words a) opened few =
-    expr-enclosed a opened (closing_behind opened closing tokens (begins-enclosed words (flat_type type) (suc opened) (opening_behind opened opening all few)))
+    expr-enclosed a opened (closing_after opened closing tokens (begins-enclosed words (flat_type type) (suc opened) (opening_after opened opening all few)))
 expr-enclosed (binary {at} {others} operator a b) opened few =
-    expr-enclosed b opened (flat_behind (Mark (binary_mark operator)) opened at others (binary_flat operator opened) (expr-enclosed a opened few))
+    expr-enclosed b opened (flat_after (Mark (binary_mark operator)) opened at others (binary_flat operator opened) (expr-enclosed a opened few))
 expr-enclosed (conditional {question} {colon} {first} {second} a b c) opened few =
-    expr-enclosed c opened (flat_behind (Mark (codes ":")) opened colon second refl (expr-enclosed b opened (flat_behind (Mark (codes "?")) opened question first refl (expr-enclosed a opened few))))
+    expr-enclosed c opened (flat_after (Mark (codes ":")) opened colon second refl (expr-enclosed b opened (flat_after (Mark (codes "?")) opened question first refl (expr-enclosed a opened few))))
 expr-enclosed (stronger a) opened few = expr-enclosed a opened few
 
 -- First tokens.

@@ -6,10 +6,10 @@ use Rattle.dcc_c.specs.Lexing.{Placed, placed}
 use Rattle.dcc_c.specs.Rules.{most_open}
 
 -- how many parentheses are open after the token
-abbrev pub open_behind : Token → ℕ → ℕ
-open_behind (Mark mark) opened =
+abbrev pub open_after : Token → ℕ → ℕ
+open_after (Mark mark) opened =
     if same_bytes mark (codes "(") then opened + 1 else if same_bytes mark (codes ")") then opened - 1 else opened
-open_behind token opened = opened
+open_after token opened = opened
 
 two_tests : (a b : Bool) (opened : ℕ) (f : ℕ → ℕ) →
     (if a then max opened (f (opened + 1)) else if b then max opened (f (opened - 1)) else max opened (f opened))
@@ -19,7 +19,7 @@ two_tests false true opened f = refl
 two_tests false false opened f = refl
 
 most_open-cons : (token : Token) (opened line : ℕ) (tokens : List Placed) →
-    most_open opened (placed line token ∷ tokens) ≡ max opened (most_open (open_behind token opened) tokens)
+    most_open opened (placed line token ∷ tokens) ≡ max opened (most_open (open_after token opened) tokens)
 most_open-cons (Mark mark) opened line tokens =
     two_tests (same_bytes mark (codes "(")) (same_bytes mark (codes ")")) opened (λ o. most_open o tokens)
 most_open-cons (WordToken word) opened line tokens = refl
@@ -35,12 +35,12 @@ open_before opened (p ∷ tokens) =
 
 -- tokens keep to a limit where those after the first one do
 pub enclosed-before : (token : Token) (opened line : ℕ) (tokens : List Placed) → opened ≤ 200 →
-    most_open (open_behind token opened) tokens ≤ 200 → most_open opened (placed line token ∷ tokens) ≤ 200
-enclosed-before token opened line tokens few behind =
+    most_open (open_after token opened) tokens ≤ 200 → most_open opened (placed line token ∷ tokens) ≤ 200
+enclosed-before token opened line tokens few following =
     let same = most_open-cons token opened line tokens in omega (arith, same)
 
 -- and the other way round
-pub enclosed-behind : (token : Token) (opened line : ℕ) (tokens : List Placed) →
-    most_open opened (placed line token ∷ tokens) ≤ 200 → most_open (open_behind token opened) tokens ≤ 200
-enclosed-behind token opened line tokens all =
+pub enclosed-following : (token : Token) (opened line : ℕ) (tokens : List Placed) →
+    most_open opened (placed line token ∷ tokens) ≤ 200 → most_open (open_after token opened) tokens ≤ 200
+enclosed-following token opened line tokens all =
     let same = most_open-cons token opened line tokens in omega (arith, same)

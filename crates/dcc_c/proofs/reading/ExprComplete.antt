@@ -21,7 +21,7 @@ use Rattle.dcc_c.proofs.reading.Passing.{if-cases}
 use Rattle.dcc_c.proofs.reading.Enclosing.{open_before}
 use Rattle.dcc_c.proofs.reading.Stopping.{choice-cases, choice-some, if-true, inside_of}
 use Rattle.dcc_c.proofs.reading.ExprParts.{unary_flat}
-use Rattle.dcc_c.proofs.reading.Derivations.{begins-length, begins-enclosed, flat_behind, flat_type, opening_behind, closing_behind}
+use Rattle.dcc_c.proofs.reading.Derivations.{begins-length, begins-enclosed, flat_after, flat_type, opening_after, closing_after}
 use Rattle.dcc_c.proofs.reading.TypeComplete.{type-complete}
 
 -- What is to be read of a unary part, of a part of a strength, and of a whole expression.
@@ -33,12 +33,12 @@ UnaryRead tokens e rest =
 -- the operand was read, and what is left to be read after it
 pub record FindsOperand (least : ℕ) (inside : Inside) (tokens : List Placed) (e : Expr) (rest : List Placed) (at depth : ℕ) (g : Got PartialExpr) : Type 0 where
   pub partial : PartialExpr
-  pub behind : ℕ
+  pub following : ℕ
   pub calls : ℕ
   pub enough : IsEnoughFor calls 0 rest
   pub same : plain_expr partial ≡ e
-  pub place : behind + length rest ≡ at + length tokens
-  pub is : g ≡ read_more calls inside least (got partial (on rest behind depth))
+  pub place : following + length rest ≡ at + length tokens
+  pub is : g ≡ read_more calls inside least (got partial (on rest following depth))
 
 abbrev pub BinaryRead : ℕ → List Placed → Expr → List Placed → Type 0
 BinaryRead least tokens e rest =
@@ -81,7 +81,7 @@ number-complete is zero inside place depth enough fits = absurd (omega arith)
 number-complete {at} {rest} (decimal n suffix) (suc calls) inside place depth enough fits =
     record {
       partial = NumberHere place n (decimal_type n suffix);
-      behind = suc place;
+      following = suc place;
       same = refl;
       place = omega arith;
       is = unary_room calls inside (on (placed at (Decimal n suffix) ∷ rest) place depth) (omega (arith, fits.shallow));
@@ -89,7 +89,7 @@ number-complete {at} {rest} (decimal n suffix) (suc calls) inside place depth en
 number-complete {at} {rest} (hex n suffix) (suc calls) inside place depth enough fits =
     record {
       partial = NumberHere place n (hex_type n suffix);
-      behind = suc place;
+      following = suc place;
       same = refl;
       place = omega arith;
       is = unary_room calls inside (on (placed at (Hex n suffix) ∷ rest) place depth) (omega (arith, fits.shallow));
@@ -100,7 +100,7 @@ name-complete bytes is zero inside place depth enough fits = absurd (omega arith
 name-complete {at} {rest} bytes is (suc calls) inside place depth enough fits =
     record {
       partial = NameHere place bytes (sees_mark (codes "(") (on rest (suc place) depth));
-      behind = suc place;
+      following = suc place;
       same = refl;
       place = omega arith;
       is = unary_room calls inside (on (word at bytes ∷ rest) place depth) (omega (arith, fits.shallow)) ∙ choice-some (name_if bytes) bytes _ _ (rw is);
@@ -125,12 +125,12 @@ pub parentheses-complete : {opening closing : ℕ} {tokens rest : List Placed} {
 parentheses-complete no_type inner zero inside place depth enough fits = absurd (omega arith)
 parentheses-complete no_type inner (suc zero) inside place depth enough fits = absurd (omega arith)
 parentheses-complete {opening} {closing} {tokens} {rest} {e} no_type inner (suc (suc calls)) inside place depth enough fits =
-    let few : most_open (suc inside.opened) tokens ≤ 200 = opening_behind inside.opened opening tokens fits.enclosed in
+    let few : most_open (suc inside.opened) tokens ≤ 200 = opening_after inside.opened opening tokens fits.enclosed in
     let found = inner calls (in_parentheses inside) (suc place) depth (omega arith) (record { shallow = fits.shallow; enclosed = few }) in
     let r : Reader = on tokens (suc place) depth in
     record {
       partial = found.partial;
-      behind = suc found.behind;
+      following = suc found.following;
       same = found.same;
       place = omega (arith, found.place);
       is = unary_room (suc calls) inside (on (mark opening (codes "(") ∷ tokens) place depth) (omega (arith, fits.shallow, depth_least e))
@@ -144,14 +144,14 @@ cast-complete type words less operand zero inside place depth enough fits = absu
 cast-complete type words less operand (suc zero) inside place depth enough fits = absurd (omega arith)
 cast-complete type words less operand (suc (suc zero)) inside place depth enough fits = absurd (omega arith)
 cast-complete {opening} {closing} {all} {tokens} {rest} {e} type words less operand (suc (suc (suc calls))) inside place depth enough fits =
-    let few : most_open (suc inside.opened) all ≤ 200 = opening_behind inside.opened opening all fits.enclosed in
+    let few : most_open (suc inside.opened) all ≤ 200 = opening_after inside.opened opening all fits.enclosed in
     let typed = type-complete type all (mark closing (codes ")") ∷ tokens) (suc place) depth words refl in
-    let within : most_open inside.opened tokens ≤ 200 = closing_behind inside.opened closing tokens (begins-enclosed words (flat_type type) (suc inside.opened) few) in
-    let found = operand calls (in_operator inside) (suc typed.behind) depth (omega (arith, begins-length words)) (record { shallow = omega (arith, fits.shallow); enclosed = within }) in
+    let within : most_open inside.opened tokens ≤ 200 = closing_after inside.opened closing tokens (begins-enclosed words (flat_type type) (suc inside.opened) few) in
+    let found = operand calls (in_operator inside) (suc typed.following) depth (omega (arith, begins-length words)) (record { shallow = omega (arith, fits.shallow); enclosed = within }) in
     let r : Reader = on all (suc place) depth in
     record {
       partial = CastHere place type found.partial;
-      behind = found.behind;
+      following = found.following;
       same = ap (Cast type) found.same;
       place = omega (arith, found.place, typed.place);
       is = unary_room (suc (suc calls)) inside (on (mark opening (codes "(") ∷ all) place depth) (omega (arith, fits.shallow))
@@ -174,12 +174,12 @@ pub unary-complete : {at : ℕ} {tokens rest : List Placed} {e : Expr} (operator
     UnaryRead (mark at (unary_mark operator) ∷ tokens) (Unary operator e) rest
 unary-complete operator operand zero inside place depth enough fits = absurd (omega arith)
 unary-complete {at} {tokens} {rest} {e} operator operand (suc calls) inside place depth enough fits =
-    let within : most_open inside.opened tokens ≤ 200 = flat_behind (Mark (unary_mark operator)) inside.opened at tokens (unary_flat operator inside.opened) fits.enclosed in
+    let within : most_open inside.opened tokens ≤ 200 = flat_after (Mark (unary_mark operator)) inside.opened at tokens (unary_flat operator inside.opened) fits.enclosed in
     let found = operand calls (in_operator inside) (suc place) depth (omega arith) (record { shallow = omega (arith, fits.shallow); enclosed = within }) in
     let r : Reader = on (mark at (unary_mark operator) ∷ tokens) place depth in
     record {
       partial = UnaryHere place operator found.partial;
-      behind = found.behind;
+      following = found.following;
       same = ap (Unary operator) found.same;
       place = omega (arith, found.place);
       is = unary_room calls inside r (omega (arith, fits.shallow, depth_least e))
@@ -195,7 +195,7 @@ operand_of {least} {tokens} {rest} {e} less read (suc calls) inside place depth 
     let found = read calls inside place depth (omega arith) fits in
     record {
       partial = found.partial;
-      behind = found.behind;
+      following = found.following;
       calls = calls;
       enough = omega arith;
       same = found.same;
@@ -204,20 +204,20 @@ operand_of {least} {tokens} {rest} {e} less read (suc calls) inside place depth 
     }
 
 -- after an operand no operator follows that is strong enough
-pub more_ends : (calls : ℕ) (inside : Inside) (least : ℕ) (left : Got PartialExpr) → IsWeaker least (next_token left.behind) → read_more calls inside least left ≡ left
+pub more_ends : (calls : ℕ) (inside : Inside) (least : ℕ) (left : Got PartialExpr) → IsWeaker least (next_token left.following) → read_more calls inside least left ≡ left
 more_ends zero inside least left ends = refl
 more_ends (suc calls) inside least left ends =
-    choice-cases (λ g. g ≡ left) (binary_of (next_token left.behind))
+    choice-cases (λ g. g ≡ left) (binary_of (next_token left.following))
     (λ operator is. if-cases (λ g. g ≡ left) (nat_le least (strength operator))
     (λ above. absurd (omega (arith, leb-true least (strength operator) above, ends operator is))) (λ _. refl))
     (λ _. refl)
 
 -- an operator that is strong enough follows
-pub more_goes : (calls : ℕ) (inside : Inside) (least : ℕ) (left : Got PartialExpr) (operator : CBin) → binary_of (next_token left.behind) ≡ Some operator →
+pub more_goes : (calls : ℕ) (inside : Inside) (least : ℕ) (left : Got PartialExpr) (operator : CBin) → binary_of (next_token left.following) ≡ Some operator →
     least ≤ strength operator → read_more (suc calls) inside least left
-    ≡ read_more calls inside least (joined inside operator left.value (read_binary calls (in_operator inside) (suc (strength operator)) (skip left.behind)))
+    ≡ read_more calls inside least (joined inside operator left.value (read_binary calls (in_operator inside) (suc (strength operator)) (skip left.following)))
 more_goes calls inside least left operator is above =
-    choice-some (binary_of (next_token left.behind)) operator _ _ is ∙ if-true (nat_le least (strength operator)) _ _ (le-leb least (strength operator) above)
+    choice-some (binary_of (next_token left.following)) operator _ _ is ∙ if-true (nat_le least (strength operator)) _ _ (le-leb least (strength operator) above)
 
 pub not_deep : (inside : Inside) (e : PartialExpr) (r : Reader) → inside.operators + depth_of e ≤ 200 → stop_if_deep inside e r ≡ r
 not_deep inside e r room = rw (le-ltb 200 (inside.operators + depth_of e) room)

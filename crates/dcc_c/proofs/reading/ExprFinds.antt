@@ -14,7 +14,7 @@ use Rattle.dcc_c.specs.Stripped.{plain_expr}
 use Rattle.dcc_c.proofs.reading.Statements.{IsEnoughFor, IsWeaker, on, first_of, EndsExpr, CompleteUnary, CompleteExpr}
 use Rattle.dcc_c.proofs.reading.Stopping.{if-false}
 use Rattle.dcc_c.proofs.reading.ExprParts.{depth_same, strength_most, binary_flat}
-use Rattle.dcc_c.proofs.reading.Derivations.{shorter, strongest, flat_behind, expr_no_type, expr-enclosed}
+use Rattle.dcc_c.proofs.reading.Derivations.{shorter, strongest, flat_after, expr_no_type, expr-enclosed}
 use Rattle.dcc_c.proofs.reading.ExprComplete.{UnaryRead, FindsOperand, BinaryRead, ExprRead, Complete, number-complete, name-complete, parentheses-complete, cast-complete, unary-complete, operand_of, more_ends, more_goes, not_deep, seen_binary}
 
 -- a unary part is all that is to be shown of it
@@ -52,34 +52,34 @@ pair-complete : {at : ℕ} {tokens others rest : List Placed} {a b : Expr} (oper
     BinaryRead least tokens (Binary operator a b) rest
 pair-complete {at} {tokens} {others} {rest} {a} {b} operator least below less fewer balanced ends first second calls inside place depth enough fits =
     let found = first calls inside place depth enough (record { shallow = omega (arith, fits.shallow); enclosed = fits.enclosed }) in
-    behind_first found.calls found.partial found.behind found.enough found.same found.place found.is
+    following_first found.calls found.partial found.following found.enough found.same found.place found.is
   where
     whole_depth : (p q : PartialExpr) → plain_expr p ≡ a → plain_expr q ≡ b → inside.operators + depth_of (BinaryOf operator p q) ≤ 200
     whole_depth p q one other =
         let same : expr_depth (Binary operator a b) ≡ depth_of (BinaryOf operator p q) = rw (← one, ← other) (depth_same (BinaryOf operator p q)) in
         rw same at fits.shallow
 
-    behind_first : (calls_left : ℕ) (p : PartialExpr) (behind : ℕ) → IsEnoughFor calls_left 0 (mark at (binary_mark operator) ∷ others) → plain_expr p ≡ a →
-        behind + length (mark at (binary_mark operator) ∷ others) ≡ place + length tokens →
-        read_binary calls inside least (on tokens place depth) ≡ read_more calls_left inside least (got p (on (mark at (binary_mark operator) ∷ others) behind depth)) →
+    following_first : (calls_left : ℕ) (p : PartialExpr) (following : ℕ) → IsEnoughFor calls_left 0 (mark at (binary_mark operator) ∷ others) → plain_expr p ≡ a →
+        following + length (mark at (binary_mark operator) ∷ others) ≡ place + length tokens →
+        read_binary calls inside least (on tokens place depth) ≡ read_more calls_left inside least (got p (on (mark at (binary_mark operator) ∷ others) following depth)) →
         FindsOperand least inside tokens (Binary operator a b) rest place depth (read_binary calls inside least (on tokens place depth))
-    behind_first zero p behind room same stands is = absurd (omega arith)
-    behind_first (suc more) p behind room same stands is =
-        let within = flat_behind (Mark (binary_mark operator)) inside.opened at others (binary_flat operator inside.opened) (balanced inside.opened fits.enclosed) in
-        let found = second more (in_operator inside) (suc behind) depth (omega arith) (record { shallow = omega (arith, fits.shallow); enclosed = within }) in
-        let left : Got PartialExpr = got p (on (mark at (binary_mark operator) ∷ others) behind depth) in
-        let right : Got PartialExpr = got found.partial (on rest found.behind depth) in
+    following_first zero p following room same stands is = absurd (omega arith)
+    following_first (suc more) p following room same stands is =
+        let within = flat_after (Mark (binary_mark operator)) inside.opened at others (binary_flat operator inside.opened) (balanced inside.opened fits.enclosed) in
+        let found = second more (in_operator inside) (suc following) depth (omega arith) (record { shallow = omega (arith, fits.shallow); enclosed = within }) in
+        let left : Got PartialExpr = got p (on (mark at (binary_mark operator) ∷ others) following depth) in
+        let right : Got PartialExpr = got found.partial (on rest found.following depth) in
         let whole = BinaryOf operator p found.partial in
         record {
           partial = whole;
-          behind = found.behind;
+          following = found.following;
           calls = more;
           enough = omega arith;
           same = ap (λ e. Binary operator e (plain_expr found.partial)) same ∙ ap (Binary operator a) found.same;
           place = omega (arith, found.place);
           is = is ∙ (more_goes more inside least left operator (seen_binary operator) below
               ∙ (ap (λ g. read_more more inside least (joined inside operator p g)) (found.is ∙ more_ends found.calls (in_operator inside) (suc (strength operator)) right ends)
-              ∙ ap (λ r. read_more more inside least (got whole r)) (not_deep inside whole (on rest found.behind depth) (whole_depth p found.partial same found.same))));
+              ∙ ap (λ r. read_more more inside least (got whole r)) (not_deep inside whole (on rest found.following depth) (whole_depth p found.partial same found.same))));
         }
 
 -- the parts of a conditional, without their places
@@ -95,38 +95,38 @@ conditional-complete test one first second third zero inside place depth enough 
 conditional-complete test one first second third (suc zero) inside place depth enough fits = absurd (omega arith)
 conditional-complete {question} {colon} {tokens} {first = others} {second = last} {rest} {a} {b} {c} test one first second third (suc (suc more)) inside place depth enough fits =
     let p = first (suc more) inside place depth (omega arith) (record { shallow = omega (arith, fits.shallow); enclosed = fits.enclosed }) in
-    let few : most_open inside.opened others ≤ 200 = flat_behind (Mark (codes "?")) inside.opened question others refl (expr-enclosed test inside.opened fits.enclosed) in
-    let q = second more (in_operator inside) (suc p.behind) depth (omega (arith, shorter test)) (record { shallow = omega (arith, fits.shallow); enclosed = few }) in
-    let fewer : most_open inside.opened last ≤ 200 = flat_behind (Mark (codes ":")) inside.opened colon last refl (expr-enclosed one inside.opened few) in
-    let r = third more (in_operator inside) (suc q.behind) depth (omega (arith, shorter test, shorter one)) (record { shallow = omega (arith, fits.shallow); enclosed = fewer }) in
+    let few : most_open inside.opened others ≤ 200 = flat_after (Mark (codes "?")) inside.opened question others refl (expr-enclosed test inside.opened fits.enclosed) in
+    let q = second more (in_operator inside) (suc p.following) depth (omega (arith, shorter test)) (record { shallow = omega (arith, fits.shallow); enclosed = few }) in
+    let fewer : most_open inside.opened last ≤ 200 = flat_after (Mark (codes ":")) inside.opened colon last refl (expr-enclosed one inside.opened few) in
+    let r = third more (in_operator inside) (suc q.following) depth (omega (arith, shorter test, shorter one)) (record { shallow = omega (arith, fits.shallow); enclosed = fewer }) in
     let whole = ConditionalOf p.partial q.partial r.partial in
-    let left : Got PartialExpr = got p.partial (on (mark question (codes "?") ∷ others) p.behind depth) in
+    let left : Got PartialExpr = got p.partial (on (mark question (codes "?") ∷ others) p.following depth) in
     let plain = three_parts p.partial q.partial r.partial p.same q.same r.same in
     let same : expr_depth (Conditional a b c) ≡ depth_of whole = ap expr_depth (sym plain) ∙ depth_same whole in
     let room : inside.operators + depth_of whole ≤ 200 = rw same at fits.shallow in
     record {
       partial = whole;
-      behind = r.behind;
+      following = r.following;
       same = plain;
       place = omega (arith, p.place, q.place, r.place);
-      is = ap (read_rest (suc more) inside) (p.is ∙ more_ends p.calls inside 1 left (nothing_follows 1 (next_token left.behind) refl))
-          ∙ (ap (λ g. chosen inside p.partial g.value (read_expr more (in_operator inside) (take_mark (codes ":") g.behind))) q.is
-          ∙ (ap (λ g. chosen inside p.partial q.partial g) r.is ∙ ap (got whole) (not_deep inside whole (on rest r.behind depth) room)));
+      is = ap (read_rest (suc more) inside) (p.is ∙ more_ends p.calls inside 1 left (nothing_follows 1 (next_token left.following) refl))
+          ∙ (ap (λ g. chosen inside p.partial g.value (read_expr more (in_operator inside) (take_mark (codes ":") g.following))) q.is
+          ∙ (ap (λ g. chosen inside p.partial q.partial g) r.is ∙ ap (got whole) (not_deep inside whole (on rest r.following depth) room)));
     }
 
-rest_ends : (calls : ℕ) (inside : Inside) (test : Got PartialExpr) → sees_mark (codes "?") test.behind ≡ false → read_rest calls inside test ≡ test
+rest_ends : (calls : ℕ) (inside : Inside) (test : Got PartialExpr) → sees_mark (codes "?") test.following ≡ false → read_rest calls inside test ≡ test
 rest_ends zero inside test none = refl
-rest_ends (suc calls) inside test none = if-false (sees_mark (codes "?") test.behind) _ _ none
+rest_ends (suc calls) inside test none = if-false (sees_mark (codes "?") test.following) _ _ none
 
 -- operands and their operators, with nothing after them, are an expression
 operands-complete : {tokens rest : List Placed} {e : Expr} → EndsExpr rest → BinaryRead 1 tokens e rest → ExprRead tokens e rest
 operands-complete ends read zero inside place depth enough fits = absurd (omega arith)
 operands-complete {tokens} {rest} {e} ends read (suc calls) inside place depth enough fits =
     let found = read calls inside place depth (omega arith) fits in
-    let left : Got PartialExpr = got found.partial (on rest found.behind depth) in
+    let left : Got PartialExpr = got found.partial (on rest found.following depth) in
     record {
       partial = found.partial;
-      behind = found.behind;
+      following = found.following;
       same = found.same;
       place = found.place;
       is = ap (read_rest calls inside) (found.is ∙ more_ends found.calls inside 1 left (nothing_follows 1 (first_of rest) ends.no_operator)) ∙ rest_ends calls inside left ends.no_question;

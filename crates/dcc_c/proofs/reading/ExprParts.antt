@@ -15,7 +15,7 @@ use Rattle.dcc_c.specs.Partial.{PartialExpr, Missing, NumberHere, NameHere, Unar
 use Rattle.dcc_c.specs.Reading.{Reader, next_token, skip, name_of, number_of, Inside, read_leaf}
 use Rattle.dcc_c.specs.Stripped.{plain_expr}
 use Rattle.dcc_c.proofs.reading.Passing.{tokens_of, Took, fail-stops, skip-took}
-use Rattle.dcc_c.proofs.reading.Enclosing.{open_behind, open_before, enclosed-before}
+use Rattle.dcc_c.proofs.reading.Enclosing.{open_after, open_before, enclosed-before}
 use Rattle.dcc_c.proofs.reading.Words.{took_enclosed, number_of-is, name_of-is}
 use Rattle.dcc_c.proofs.reading.Statements.{IsSound}
 use Rattle.dcc_c.proofs.reading.Stopping.{choice-cases}
@@ -33,11 +33,11 @@ pub strength_most : (operator : CBin) → strength operator ≤ 10
 strength_most OrOr = omega arith
 strength_most _ = omega arith
 
-pub unary_flat : (operator : CUn) (opened : ℕ) → open_behind (Mark (unary_mark operator)) opened ≡ opened
+pub unary_flat : (operator : CUn) (opened : ℕ) → open_after (Mark (unary_mark operator)) opened ≡ opened
 unary_flat Minus opened = refl
 unary_flat _ opened = refl
 
-pub binary_flat : (operator : CBin) (opened : ℕ) → open_behind (Mark (binary_mark operator)) opened ≡ opened
+pub binary_flat : (operator : CBin) (opened : ℕ) → open_after (Mark (binary_mark operator)) opened ≡ opened
 binary_flat OrOr opened = refl
 binary_flat _ opened = refl
 
@@ -52,17 +52,17 @@ weaken {strong} {least} {tokens} {rest} {e} below derived =
     weaken_by (strong - least) (subst (λ n. IsExpr n tokens e rest) (let same : strong ≡ strong - least + least = omega arith in same) derived)
 
 -- A pair of parentheses around what keeps to the limit.
-pub opening_enclosed : {r behind : Reader} (opened : ℕ) → Took (Mark (codes "(")) r behind →
-    most_open (suc opened) (tokens_of behind.left) ≤ 200 → most_open opened (tokens_of r.left) ≤ 200
-opening_enclosed {behind} opened took few =
-    let least : opened ≤ 200 = omega (arith, open_before (suc opened) (tokens_of behind.left)) in
-    rw took.begins (enclosed-before (Mark (codes "(")) opened took.line (tokens_of behind.left) least (rw add-one few))
+pub opening_enclosed : {r following : Reader} (opened : ℕ) → Took (Mark (codes "(")) r following →
+    most_open (suc opened) (tokens_of following.left) ≤ 200 → most_open opened (tokens_of r.left) ≤ 200
+opening_enclosed {following} opened took few =
+    let least : opened ≤ 200 = omega (arith, open_before (suc opened) (tokens_of following.left)) in
+    rw took.begins (enclosed-before (Mark (codes "(")) opened took.line (tokens_of following.left) least (rw add-one few))
 
-pub closing_enclosed : {r behind : Reader} (opened : ℕ) → suc opened ≤ 200 → Took (Mark (codes ")")) r behind →
-    most_open opened (tokens_of behind.left) ≤ 200 → most_open (suc opened) (tokens_of r.left) ≤ 200
-closing_enclosed {behind} opened within took few =
+pub closing_enclosed : {r following : Reader} (opened : ℕ) → suc opened ≤ 200 → Took (Mark (codes ")")) r following →
+    most_open opened (tokens_of following.left) ≤ 200 → most_open (suc opened) (tokens_of r.left) ≤ 200
+closing_enclosed {following} opened within took few =
     let same : suc opened - 1 ≡ opened = omega arith in
-    rw took.begins (enclosed-before (Mark (codes ")")) (suc opened) took.line (tokens_of behind.left) within (rw same few))
+    rw took.begins (enclosed-before (Mark (codes ")")) (suc opened) took.line (tokens_of following.left) within (rw same few))
 
 -- A number or a name.
 

@@ -18,17 +18,17 @@ use Rattle.dcc_c.proofs.reading.ExprSound.{SoundBinary, SoundAt, weaken_read, no
 
 -- two operands and their operator, where the whole is not too deep
 joined_deep : (inside : Inside) (strong : ℕ) (operator : CBin) (r : Reader) (left b : Got PartialExpr) → SoundBinary strong (suc strong) inside r left →
-    binary_of (next_token left.behind) ≡ Some operator →
-    SoundBinary (suc (strength operator)) (suc (strength operator)) (in_operator inside) (skip left.behind) b →
+    binary_of (next_token left.following) ≡ Some operator →
+    SoundBinary (suc (strength operator)) (suc (strength operator)) (in_operator inside) (skip left.following) b →
     SoundBinary (strength operator) (suc (strength operator)) inside r (joined inside operator left.value b)
 joined_deep inside strong operator r left b read is second =
     let whole = BinaryOf operator left.value b.value in
-    let result : Reader → Type 0 = λ behind. SoundBinary (strength operator) (suc (strength operator)) inside r (got whole behind) in
-    if-cases result (nat_lt 200 (inside.operators + depth_of whole)) (λ _ going. absurd (stop_at-stops of_depth inside.start b.behind going))
+    let result : Reader → Type 0 = λ following. SoundBinary (strength operator) (suc (strength operator)) inside r (got whole following) in
+    if-cases result (nat_lt 200 (inside.operators + depth_of whole)) (λ _ going. absurd (stop_at-stops of_depth inside.start b.following going))
     (λ shallow going.
     let operand = second going in
-    let token = binary_of-is (next_token left.behind) operator is in
-    let took = skip-took left.behind _ token in
+    let token = binary_of-is (next_token left.following) operator is in
+    let took = skip-took left.following _ token in
     let found = read took.passed.going in
     let first = weaken_read (le_of_suc-le-suc (found.ends operator is)) found.read in
     record { read = joined-sound inside r operator left b first token operand.read (ltb-false 200 _ shallow); ends = operand.ends })
@@ -69,15 +69,15 @@ module _ (calls : ℕ) (keep : KeepsStop calls) (sound : SoundAt calls) where
       (λ room. inside-sound inside at start r took (ltb-false 200 (suc inside.opened) room) enough)
 
   cast-sound : (inside : Inside) (at : ℕ) (start r : Reader) (type : Got (Option CType)) → Took (Mark (codes "(")) start r →
-      SoundType r type → suc inside.opened ≤ 200 → (type.behind.stop ≡ None → IsEnough (suc calls) 1 type.behind.left) →
+      SoundType r type → suc inside.opened ≤ 200 → (type.following.stop ≡ None → IsEnough (suc calls) 1 type.following.left) →
       IsSound 11 inside start (read_cast (suc calls) inside at type)
   cast-sound inside at start r type took typed few enough =
       choice-cases (IsSound 11 inside start) type.value
       (λ of is going.
-      let behind = take_mark (codes ")") type.behind in
-      let close = take_mark-took (codes ")") type.behind (keep.unary (in_operator inside) behind going) in
-      cast_of-sound inside at start r type of (read_unary calls (in_operator inside) behind) took few (typed close.passed.going) is close
-      (sound.unary (in_operator inside) behind (omega (arith, close.one_less, enough close.passed.going)) going))
+      let following = take_mark (codes ")") type.following in
+      let close = take_mark-took (codes ")") type.following (keep.unary (in_operator inside) following going) in
+      cast_of-sound inside at start r type of (read_unary calls (in_operator inside) following) took few (typed close.passed.going) is close
+      (sound.unary (in_operator inside) following (omega (arith, close.one_less, enough close.passed.going)) going))
       (λ nothing going. absurd (let some = (typed going).is in cc))
 
   binary-sound : (inside : Inside) (least : ℕ) (r : Reader) → least ≤ 11 → IsEnough (suc calls) 2 r.left →
@@ -89,21 +89,21 @@ module _ (calls : ℕ) (keep : KeepsStop calls) (sound : SoundAt calls) where
       (λ going. record { read = read going; ends = λ operator is. omega (arith, strength_most operator) })
 
   more-sound : (inside : Inside) (least strong : ℕ) (r : Reader) (left : Got PartialExpr) → least ≤ strong →
-      (left.behind.stop ≡ None → IsEnough (suc calls) 0 left.behind.left) → SoundBinary strong (suc strong) inside r left →
+      (left.following.stop ≡ None → IsEnough (suc calls) 0 left.following.left) → SoundBinary strong (suc strong) inside r left →
       SoundBinary least least inside r (read_more (suc calls) inside least left)
   more-sound inside least strong r left below enough read =
       let result : Got PartialExpr → Type 0 = SoundBinary least least inside r in
-      choice-cases result (binary_of (next_token left.behind))
+      choice-cases result (binary_of (next_token left.following))
       (λ operator is. if-cases result (nat_le least (strength operator))
       (λ above going.
-      let b = read_binary calls (in_operator inside) (suc (strength operator)) (skip left.behind) in
+      let b = read_binary calls (in_operator inside) (suc (strength operator)) (skip left.following) in
       let whole = joined inside operator left.value b in
-      let took = skip-took left.behind _ (binary_of-is (next_token left.behind) operator is) in
+      let took = skip-took left.following _ (binary_of-is (next_token left.following) operator is) in
       let room = enough took.passed.going in
-      let second = sound.binary (in_operator inside) (suc (strength operator)) (skip left.behind) (omega (arith, strength_most operator)) (omega (arith, took.one_less, room)) in
+      let second = sound.binary (in_operator inside) (suc (strength operator)) (skip left.following) (omega (arith, strength_most operator)) (omega (arith, took.one_less, room)) in
       let both = joined_deep inside strong operator r left b read is second in
       sound.more inside least (strength operator) r whole (leb-true least (strength operator) above)
-      (λ on. omega (arith, took.one_less, room, deep_length inside whole.value b.behind, (second (deep-keeps inside whole.value b.behind on)).read.shorter)) both going)
+      (λ on. omega (arith, took.one_less, room, deep_length inside whole.value b.following, (second (deep-keeps inside whole.value b.following on)).read.shorter)) both going)
       (λ under going.
       let found = read going in
       record { read = weaken_read below found.read; ends = λ other same. (let one : operator ≡ other = cc in rw (← one) (leb-false least (strength operator) under)) }))
@@ -116,30 +116,30 @@ module _ (calls : ℕ) (keep : KeepsStop calls) (sound : SoundAt calls) where
       let read = sound.binary inside 1 r (omega arith) (omega arith) in
       sound.rest inside r (read_binary calls inside 1 r) (λ going. omega (arith, (read going).read.shorter)) (λ going. (read going).read)
 
-  chosen_deep : (inside : Inside) (r : Reader) (test : Got PartialExpr) → (test.behind.stop ≡ None → IsEnough (suc calls) 0 test.behind.left) →
-      IsSound 1 inside r test → sees_mark (codes "?") test.behind ≡ true →
-      IsSound 0 inside r (chosen inside test.value (read_expr calls (in_operator inside) (skip test.behind)).value (read_expr calls (in_operator inside) (take_mark (codes ":") (read_expr calls (in_operator inside) (skip test.behind)).behind)))
+  chosen_deep : (inside : Inside) (r : Reader) (test : Got PartialExpr) → (test.following.stop ≡ None → IsEnough (suc calls) 0 test.following.left) →
+      IsSound 1 inside r test → sees_mark (codes "?") test.following ≡ true →
+      IsSound 0 inside r (chosen inside test.value (read_expr calls (in_operator inside) (skip test.following)).value (read_expr calls (in_operator inside) (take_mark (codes ":") (read_expr calls (in_operator inside) (skip test.following)).following)))
   chosen_deep inside r test enough read sees =
-      let first = read_expr calls (in_operator inside) (skip test.behind) in
-      let between = take_mark (codes ":") first.behind in
+      let first = read_expr calls (in_operator inside) (skip test.following) in
+      let between = take_mark (codes ":") first.following in
       let second = read_expr calls (in_operator inside) between in
       let whole = ConditionalOf test.value first.value second.value in
-      let result : Reader → Type 0 = λ behind. IsSound 0 inside r (got whole behind) in
-      if-cases result (nat_lt 200 (inside.operators + depth_of whole)) {x = stop_at of_depth inside.start second.behind} {y = second.behind}
-      (λ _ going. absurd (stop_at-stops of_depth inside.start second.behind going))
+      let result : Reader → Type 0 = λ following. IsSound 0 inside r (got whole following) in
+      if-cases result (nat_lt 200 (inside.operators + depth_of whole)) {x = stop_at of_depth inside.start second.following} {y = second.following}
+      (λ _ going. absurd (stop_at-stops of_depth inside.start second.following going))
       (λ shallow going.
-      let token = the_mark-is (codes "?") (next_token test.behind) sees in
-      let took = skip-took test.behind (Mark (codes "?")) token in
-      let colon = take_mark-took (codes ":") first.behind (keep.expr (in_operator inside) between going) in
+      let token = the_mark-is (codes "?") (next_token test.following) sees in
+      let took = skip-took test.following (Mark (codes "?")) token in
+      let colon = take_mark-took (codes ":") first.following (keep.expr (in_operator inside) between going) in
       let room = enough took.passed.going in
-      let one_way = sound.expr (in_operator inside) (skip test.behind) (omega (arith, took.one_less, room)) colon.passed.going in
+      let one_way = sound.expr (in_operator inside) (skip test.following) (omega (arith, took.one_less, room)) colon.passed.going in
       let other = sound.expr (in_operator inside) between (omega (arith, took.one_less, room, one_way.shorter, colon.one_less)) going in
       chosen-sound inside r test first second (read took.passed.going) token one_way colon other (ltb-false 200 _ shallow))
 
-  rest-sound : (inside : Inside) (r : Reader) (test : Got PartialExpr) → (test.behind.stop ≡ None → IsEnough (suc calls) 0 test.behind.left) →
+  rest-sound : (inside : Inside) (r : Reader) (test : Got PartialExpr) → (test.following.stop ≡ None → IsEnough (suc calls) 0 test.following.left) →
       IsSound 1 inside r test → IsSound 0 inside r (read_rest (suc calls) inside test)
   rest-sound inside r test enough read =
-      if-cases (IsSound 0 inside r) (sees_mark (codes "?") test.behind) (λ sees. chosen_deep inside r test enough read sees)
+      if-cases (IsSound 0 inside r) (sees_mark (codes "?") test.following) (λ sees. chosen_deep inside r test enough read sees)
       (λ _ going. weaken_read (omega arith) (read going))
 
   one_more-sound : SoundAt (suc calls)

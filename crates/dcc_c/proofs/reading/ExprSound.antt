@@ -18,10 +18,10 @@ use Rattle.dcc_c.proofs.reading.ExprParts.{depth_same, unary_flat, binary_flat, 
 -- What was read of operands and their operators, and no operator follows that belongs to them.
 pub record ReadsBinary (least limit : ℕ) (inside : Inside) (r : Reader) (g : Got PartialExpr) : Type 0 where
   pub read : ReadsExpr least inside r g
-  pub ends : IsWeaker limit (next_token g.behind)
+  pub ends : IsWeaker limit (next_token g.following)
 
 abbrev pub SoundBinary : ℕ → ℕ → Inside → Reader → Got PartialExpr → Type 0
-SoundBinary least limit inside r g = g.behind.stop ≡ None → ReadsBinary least limit inside r g
+SoundBinary least limit inside r g = g.following.stop ≡ None → ReadsBinary least limit inside r g
 
 -- reading with so many calls is sound
 pub record SoundAt (calls : ℕ) : Type 0 where
@@ -29,15 +29,15 @@ pub record SoundAt (calls : ℕ) : Type 0 where
   pub parentheses : (inside : Inside) (at : ℕ) (start r : Reader) → Took (Mark (codes "(")) start r → IsEnough calls 4 r.left →
       IsSound 11 inside start (read_parentheses calls inside at r)
   pub cast : (inside : Inside) (at : ℕ) (start r : Reader) (type : Got (Option CType)) → Took (Mark (codes "(")) start r →
-      SoundType r type → suc inside.opened ≤ 200 → (type.behind.stop ≡ None → IsEnough calls 1 type.behind.left) →
+      SoundType r type → suc inside.opened ≤ 200 → (type.following.stop ≡ None → IsEnough calls 1 type.following.left) →
       IsSound 11 inside start (read_cast calls inside at type)
   pub binary : (inside : Inside) (least : ℕ) (r : Reader) → least ≤ 11 → IsEnough calls 2 r.left →
       SoundBinary least least inside r (read_binary calls inside least r)
   pub more : (inside : Inside) (least strong : ℕ) (r : Reader) (left : Got PartialExpr) → least ≤ strong →
-      (left.behind.stop ≡ None → IsEnough calls 0 left.behind.left) → SoundBinary strong (suc strong) inside r left →
+      (left.following.stop ≡ None → IsEnough calls 0 left.following.left) → SoundBinary strong (suc strong) inside r left →
       SoundBinary least least inside r (read_more calls inside least left)
   pub expr : (inside : Inside) (r : Reader) → IsEnough calls 3 r.left → IsSound 0 inside r (read_expr calls inside r)
-  pub rest : (inside : Inside) (r : Reader) (test : Got PartialExpr) → (test.behind.stop ≡ None → IsEnough calls 0 test.behind.left) →
+  pub rest : (inside : Inside) (r : Reader) (test : Got PartialExpr) → (test.following.stop ≡ None → IsEnough calls 0 test.following.left) →
       IsSound 1 inside r test → IsSound 0 inside r (read_rest calls inside test)
 
 no_token : (left : List Piece) → 16 * length left + 0 ≤ 0 → first_token left ≡ None
@@ -63,7 +63,7 @@ none-sound =
       binary = λ inside least r small enough. absurd (omega arith);
       more = λ inside least strong r left below enough sound going.
           (let found = sound going in
-          record { read = weaken_read below found.read; ends = nothing_ends (next_token left.behind) least (none_left left.behind going (enough going)) });
+          record { read = weaken_read below found.read; ends = nothing_ends (next_token left.following) least (none_left left.following going (enough going)) });
       expr = λ inside r enough. absurd (omega arith);
       rest = λ inside r test enough sound going. weaken_read (omega arith) (sound going);
     }
@@ -86,68 +86,68 @@ operator-sound inside r operator a is read =
 pub closed-sound : (inside : Inside) (start r : Reader) (inner : Got PartialExpr) → Took (Mark (codes "(")) start r → suc inside.opened ≤ 200 →
     IsSound 0 (in_parentheses inside) r inner → IsSound 11 inside start (closed inner)
 closed-sound inside start r inner took few sound going =
-    let close = take_mark-took (codes ")") inner.behind going in
+    let close = take_mark-took (codes ")") inner.following going in
     let read = sound close.passed.going in
-    let inner_tokens : IsExpr 0 (tokens_of r.left) (plain_expr inner.value) (mark close.line (codes ")") ∷ tokens_of (take_mark (codes ")") inner.behind).left) = subst (λ ts. IsExpr 0 (tokens_of r.left) (plain_expr inner.value) ts) close.begins read.derived in
+    let inner_tokens : IsExpr 0 (tokens_of r.left) (plain_expr inner.value) (mark close.line (codes ")") ∷ tokens_of (take_mark (codes ")") inner.following).left) = subst (λ ts. IsExpr 0 (tokens_of r.left) (plain_expr inner.value) ts) close.begins read.derived in
     record {
       passed = then_passed (then_passed took.passed read.passed) close.passed;
       steady = close.steady ∙ (read.steady ∙ took.steady);
       shorter = omega (arith, took.one_less, read.shorter, close.one_less);
       derived = rw took.begins (parentheses inner_tokens);
-      enclosed = λ behind. opening_enclosed inside.opened took (read.enclosed (closing_enclosed inside.opened few close behind));
+      enclosed = λ following. opening_enclosed inside.opened took (read.enclosed (closing_enclosed inside.opened few close following));
       shallow = read.shallow;
     }
 
 -- and a cast
 pub cast_of-sound : (inside : Inside) (at : ℕ) (start r : Reader) (type : Got (Option CType)) (of : CType) (a : Got PartialExpr) →
     Took (Mark (codes "(")) start r → suc inside.opened ≤ 200 → ReadsType r type → type.value ≡ Some of →
-    Took (Mark (codes ")")) type.behind (take_mark (codes ")") type.behind) →
-    ReadsExpr 11 (in_operator inside) (take_mark (codes ")") type.behind) a → ReadsExpr 11 inside start (cast_of at of a)
+    Took (Mark (codes ")")) type.following (take_mark (codes ")") type.following) →
+    ReadsExpr 11 (in_operator inside) (take_mark (codes ")") type.following) a → ReadsExpr 11 inside start (cast_of at of a)
 cast_of-sound inside at start r type of a took few typed is close read =
     let same : typed.type ≡ of = (let one : Some typed.type ≡ Some of = sym typed.is ∙ is in cc) in
-    let words : Begins (tokens_of r.left) (type_tokens of) (mark close.line (codes ")") ∷ tokens_of (take_mark (codes ")") type.behind).left) = subst (λ ts. Begins (tokens_of r.left) (type_tokens of) ts) close.begins (subst (λ t. Begins (tokens_of r.left) (type_tokens t) (tokens_of type.behind.left)) same typed.derived) in
+    let words : Begins (tokens_of r.left) (type_tokens of) (mark close.line (codes ")") ∷ tokens_of (take_mark (codes ")") type.following).left) = subst (λ ts. Begins (tokens_of r.left) (type_tokens of) ts) close.begins (subst (λ t. Begins (tokens_of r.left) (type_tokens t) (tokens_of type.following.left)) same typed.derived) in
     record {
       passed = then_passed took.passed (then_passed typed.passed (then_passed close.passed read.passed));
       steady = read.steady ∙ (close.steady ∙ (typed.steady ∙ took.steady));
       shorter = omega (arith, took.one_less, typed.shorter, close.one_less, read.shorter);
       derived = rw took.begins (cast of words read.derived);
-      enclosed = λ behind. opening_enclosed inside.opened took (typed.enclosed (suc inside.opened) (closing_enclosed inside.opened few close (read.enclosed behind)));
+      enclosed = λ following. opening_enclosed inside.opened took (typed.enclosed (suc inside.opened) (closing_enclosed inside.opened few close (read.enclosed following)));
       shallow = omega (arith, read.shallow);
     }
 
 -- two operands and their operator
 pub joined-sound : (inside : Inside) (r : Reader) (operator : CBin) (a b : Got PartialExpr) → ReadsExpr (strength operator) inside r a →
-    next_token a.behind ≡ Some (Mark (binary_mark operator)) → ReadsExpr (suc (strength operator)) (in_operator inside) (skip a.behind) b →
+    next_token a.following ≡ Some (Mark (binary_mark operator)) → ReadsExpr (suc (strength operator)) (in_operator inside) (skip a.following) b →
     inside.operators + depth_of (BinaryOf operator a.value b.value) ≤ 200 →
-    ReadsExpr (strength operator) inside r (got (BinaryOf operator a.value b.value) b.behind)
+    ReadsExpr (strength operator) inside r (got (BinaryOf operator a.value b.value) b.following)
 joined-sound inside r operator a b first is second deep =
-    let took = skip-took a.behind (Mark (binary_mark operator)) is in
-    let operand : IsExpr (strength operator) (tokens_of r.left) (plain_expr a.value) (mark took.line (binary_mark operator) ∷ tokens_of (skip a.behind).left) = subst (λ ts. IsExpr (strength operator) (tokens_of r.left) (plain_expr a.value) ts) took.begins first.derived in
+    let took = skip-took a.following (Mark (binary_mark operator)) is in
+    let operand : IsExpr (strength operator) (tokens_of r.left) (plain_expr a.value) (mark took.line (binary_mark operator) ∷ tokens_of (skip a.following).left) = subst (λ ts. IsExpr (strength operator) (tokens_of r.left) (plain_expr a.value) ts) took.begins first.derived in
     record {
       passed = then_passed first.passed (then_passed took.passed second.passed);
       steady = second.steady ∙ (took.steady ∙ first.steady);
       shorter = omega (arith, took.one_less, first.shorter, second.shorter);
       derived = binary operator operand second.derived;
-      enclosed = λ behind. first.enclosed (took_enclosed (Mark (binary_mark operator)) a.behind (skip a.behind) took inside.opened (binary_flat operator inside.opened) (second.enclosed behind));
+      enclosed = λ following. first.enclosed (took_enclosed (Mark (binary_mark operator)) a.following (skip a.following) took inside.opened (binary_flat operator inside.opened) (second.enclosed following));
       shallow = rw (depth_same a.value, depth_same b.value) deep;
     }
 
 -- a conditional
 pub chosen-sound : (inside : Inside) (r : Reader) (a b c : Got PartialExpr) → ReadsExpr 1 inside r a →
-    next_token a.behind ≡ Some (Mark (codes "?")) → ReadsExpr 0 (in_operator inside) (skip a.behind) b →
-    Took (Mark (codes ":")) b.behind (take_mark (codes ":") b.behind) →
-    ReadsExpr 0 (in_operator inside) (take_mark (codes ":") b.behind) c →
+    next_token a.following ≡ Some (Mark (codes "?")) → ReadsExpr 0 (in_operator inside) (skip a.following) b →
+    Took (Mark (codes ":")) b.following (take_mark (codes ":") b.following) →
+    ReadsExpr 0 (in_operator inside) (take_mark (codes ":") b.following) c →
     inside.operators + depth_of (ConditionalOf a.value b.value c.value) ≤ 200 →
-    ReadsExpr 0 inside r (got (ConditionalOf a.value b.value c.value) c.behind)
+    ReadsExpr 0 inside r (got (ConditionalOf a.value b.value c.value) c.following)
 chosen-sound inside r a b c first is second colon third deep =
-    let took = skip-took a.behind (Mark (codes "?")) is in
-    let test : IsExpr 1 (tokens_of r.left) (plain_expr a.value) (mark took.line (codes "?") ∷ tokens_of (skip a.behind).left) = subst (λ ts. IsExpr 1 (tokens_of r.left) (plain_expr a.value) ts) took.begins first.derived in
-    let one_way : IsExpr 0 (tokens_of (skip a.behind).left) (plain_expr b.value) (mark colon.line (codes ":") ∷ tokens_of (take_mark (codes ":") b.behind).left) = subst (λ ts. IsExpr 0 (tokens_of (skip a.behind).left) (plain_expr b.value) ts) colon.begins second.derived in
+    let took = skip-took a.following (Mark (codes "?")) is in
+    let test : IsExpr 1 (tokens_of r.left) (plain_expr a.value) (mark took.line (codes "?") ∷ tokens_of (skip a.following).left) = subst (λ ts. IsExpr 1 (tokens_of r.left) (plain_expr a.value) ts) took.begins first.derived in
+    let one_way : IsExpr 0 (tokens_of (skip a.following).left) (plain_expr b.value) (mark colon.line (codes ":") ∷ tokens_of (take_mark (codes ":") b.following).left) = subst (λ ts. IsExpr 0 (tokens_of (skip a.following).left) (plain_expr b.value) ts) colon.begins second.derived in
     record {
       passed = then_passed first.passed (then_passed took.passed (then_passed second.passed (then_passed colon.passed third.passed)));
       steady = third.steady ∙ (colon.steady ∙ (second.steady ∙ (took.steady ∙ first.steady)));
       shorter = omega (arith, took.one_less, first.shorter, second.shorter, third.shorter, colon.one_less);
       derived = conditional test one_way third.derived;
-      enclosed = λ behind. first.enclosed (took_enclosed (Mark (codes "?")) a.behind (skip a.behind) took inside.opened refl (second.enclosed (took_enclosed (Mark (codes ":")) b.behind (take_mark (codes ":") b.behind) colon inside.opened refl (third.enclosed behind))));
+      enclosed = λ following. first.enclosed (took_enclosed (Mark (codes "?")) a.following (skip a.following) took inside.opened refl (second.enclosed (took_enclosed (Mark (codes ":")) b.following (take_mark (codes ":") b.following) colon inside.opened refl (third.enclosed following))));
       shallow = rw (depth_same a.value, depth_same b.value, depth_same c.value) deep;
     }

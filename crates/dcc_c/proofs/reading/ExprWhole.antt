@@ -26,7 +26,7 @@ NoCall r = sees_mark (codes "(") r ≡ false
 
 -- reading that has not stopped, and does not stand before a parenthesis, has read the whole expression
 abbrev pub Entire : Got PartialExpr → Type 0
-Entire g = g.behind.stop ≡ None → NoCall g.behind → is_complete_expr g.value ≡ true
+Entire g = g.following.stop ≡ None → NoCall g.following → is_complete_expr g.value ≡ true
 
 -- another mark is next
 pub mark-no_call : (bytes : Word) (r : Reader) → same_bytes bytes (codes "(") ≡ false → sees_mark bytes r ≡ true → NoCall r
@@ -34,7 +34,7 @@ mark-no_call bytes r other sees = ap (is_the_mark (codes "(")) (the_mark-is byte
 
 pub taken-no_call : (bytes : Word) (r : Reader) → same_bytes bytes (codes "(") ≡ false → (take_mark bytes r).stop ≡ None → NoCall r
 taken-no_call bytes r other =
-    if-cases (λ (behind : Reader). behind.stop ≡ None → NoCall r) (sees_mark bytes r)
+    if-cases (λ (following : Reader). following.stop ≡ None → NoCall r) (sees_mark bytes r)
     (λ sees _. mark-no_call bytes r other sees) (λ _ going. absurd (fail-stops r going))
 
 binary_other : (operator : CBin) → same_bytes (binary_mark operator) (codes "(") ≡ false
@@ -48,13 +48,13 @@ binary-no_call operator r is = ap (is_the_mark (codes "(")) (binary_of-is (next_
 pub record EntireAt (calls : ℕ) : Type 0 where
   pub unary : (inside : Inside) (r : Reader) → IsEnough calls 1 r.left → Entire (read_unary calls inside r)
   pub parentheses : (inside : Inside) (at : ℕ) (r : Reader) → IsEnough calls 4 r.left → Entire (read_parentheses calls inside at r)
-  pub cast : (inside : Inside) (at : ℕ) (type : Got (Option CType)) → (type.behind.stop ≡ None → is_some type.value ≡ true) →
-      (type.behind.stop ≡ None → IsEnough calls 1 type.behind.left) → Entire (read_cast calls inside at type)
+  pub cast : (inside : Inside) (at : ℕ) (type : Got (Option CType)) → (type.following.stop ≡ None → is_some type.value ≡ true) →
+      (type.following.stop ≡ None → IsEnough calls 1 type.following.left) → Entire (read_cast calls inside at type)
   pub binary : (inside : Inside) (least : ℕ) (r : Reader) → least ≤ 11 → IsEnough calls 2 r.left → Entire (read_binary calls inside least r)
-  pub more : (inside : Inside) (least : ℕ) (left : Got PartialExpr) → (left.behind.stop ≡ None → IsEnough calls 0 left.behind.left) →
+  pub more : (inside : Inside) (least : ℕ) (left : Got PartialExpr) → (left.following.stop ≡ None → IsEnough calls 0 left.following.left) →
       Entire left → Entire (read_more calls inside least left)
   pub expr : (inside : Inside) (r : Reader) → IsEnough calls 3 r.left → Entire (read_expr calls inside r)
-  pub rest : (inside : Inside) (test : Got PartialExpr) → (test.behind.stop ≡ None → IsEnough calls 0 test.behind.left) →
+  pub rest : (inside : Inside) (test : Got PartialExpr) → (test.following.stop ≡ None → IsEnough calls 0 test.following.left) →
       Entire test → Entire (read_rest calls inside test)
 
 none-entire : EntireAt zero
@@ -95,7 +95,7 @@ module _ (calls : ℕ) (keep : KeepsStop calls) (sound : SoundAt calls) (entire 
       if-cases Entire (begins_type (next_token r))
       (λ _. entire.cast inside at (take_type r) (λ going. ap is_some (type-sound r going).is) (λ going. omega (arith, (type-sound r going).shorter)))
       (λ _ going _.
-      entire.expr (in_parentheses inside) r (omega arith) (take_mark-took (codes ")") inner.behind going).passed.going (taken-no_call (codes ")") inner.behind refl going))
+      entire.expr (in_parentheses inside) r (omega arith) (take_mark-took (codes ")") inner.following going).passed.going (taken-no_call (codes ")") inner.following refl going))
 
   parentheses_entire : (inside : Inside) (at : ℕ) (r : Reader) → IsEnough (suc calls) 4 r.left → Entire (read_parentheses (suc calls) inside at r)
   parentheses_entire inside at r enough =
@@ -106,14 +106,14 @@ module _ (calls : ℕ) (keep : KeepsStop calls) (sound : SoundAt calls) (entire 
       (λ _ going. absurd (fail-stops r (inside-keeps calls keep inside at (fail r) going))))
       (λ _. inside_entire inside at r enough)
 
-  cast_entire : (inside : Inside) (at : ℕ) (type : Got (Option CType)) → (type.behind.stop ≡ None → is_some type.value ≡ true) →
-      (type.behind.stop ≡ None → IsEnough (suc calls) 1 type.behind.left) → Entire (read_cast (suc calls) inside at type)
+  cast_entire : (inside : Inside) (at : ℕ) (type : Got (Option CType)) → (type.following.stop ≡ None → is_some type.value ≡ true) →
+      (type.following.stop ≡ None → IsEnough (suc calls) 1 type.following.left) → Entire (read_cast (suc calls) inside at type)
   cast_entire inside at type some enough =
       choice-cases Entire type.value
       (λ of is going ends.
-      let behind = take_mark (codes ")") type.behind in
-      let close = take_mark-took (codes ")") type.behind (keep.unary (in_operator inside) behind going) in
-      entire.unary (in_operator inside) behind (omega (arith, close.one_less, enough close.passed.going)) going ends)
+      let following = take_mark (codes ")") type.following in
+      let close = take_mark-took (codes ")") type.following (keep.unary (in_operator inside) following going) in
+      entire.unary (in_operator inside) following (omega (arith, close.one_less, enough close.passed.going)) going ends)
       (λ nothing going. absurd (let there = some going in let none : is_some type.value ≡ false = ap is_some nothing in cc))
 
   binary_entire : (inside : Inside) (least : ℕ) (r : Reader) → least ≤ 11 → IsEnough (suc calls) 2 r.left → Entire (read_binary (suc calls) inside least r)
@@ -122,30 +122,30 @@ module _ (calls : ℕ) (keep : KeepsStop calls) (sound : SoundAt calls) (entire 
       (entire.unary inside r (omega arith))
 
   -- two operands and their operator
-  joined_entire : (inside : Inside) (operator : CBin) (left b : Got PartialExpr) → binary_of (next_token left.behind) ≡ Some operator →
-      Entire left → (b.behind.stop ≡ None → left.behind.stop ≡ None) → Entire b → Entire (joined inside operator left.value b)
+  joined_entire : (inside : Inside) (operator : CBin) (left b : Got PartialExpr) → binary_of (next_token left.following) ≡ Some operator →
+      Entire left → (b.following.stop ≡ None → left.following.stop ≡ None) → Entire b → Entire (joined inside operator left.value b)
   joined_entire inside operator left b is first before second =
       let whole = BinaryOf operator left.value b.value in
-      let result : Reader → Type 0 = λ behind. Entire (got whole behind) in
-      if-cases result (nat_lt 200 (inside.operators + depth_of whole)) {x = stop_at of_depth inside.start b.behind} {y = b.behind}
-      (λ _ going. absurd (stop_at-stops of_depth inside.start b.behind going))
-      (λ _ going ends. and_from _ _ (first (before going) (binary-no_call operator left.behind is)) (second going ends))
+      let result : Reader → Type 0 = λ following. Entire (got whole following) in
+      if-cases result (nat_lt 200 (inside.operators + depth_of whole)) {x = stop_at of_depth inside.start b.following} {y = b.following}
+      (λ _ going. absurd (stop_at-stops of_depth inside.start b.following going))
+      (λ _ going ends. and_from _ _ (first (before going) (binary-no_call operator left.following is)) (second going ends))
 
-  more_entire : (inside : Inside) (least : ℕ) (left : Got PartialExpr) → (left.behind.stop ≡ None → IsEnough (suc calls) 0 left.behind.left) →
+  more_entire : (inside : Inside) (least : ℕ) (left : Got PartialExpr) → (left.following.stop ≡ None → IsEnough (suc calls) 0 left.following.left) →
       Entire left → Entire (read_more (suc calls) inside least left)
   more_entire inside least left enough read =
-      choice-cases Entire (binary_of (next_token left.behind))
+      choice-cases Entire (binary_of (next_token left.following))
       (λ operator is. if-cases Entire (nat_le least (strength operator))
       (λ _.
-      let b = read_binary calls (in_operator inside) (suc (strength operator)) (skip left.behind) in
+      let b = read_binary calls (in_operator inside) (suc (strength operator)) (skip left.following) in
       let whole = joined inside operator left.value b in
-      let took = skip-took left.behind _ (binary_of-is (next_token left.behind) operator is) in
+      let took = skip-took left.following _ (binary_of-is (next_token left.following) operator is) in
       let room = enough took.passed.going in
       let small : suc (strength operator) ≤ 11 = omega (arith, strength_most operator) in
-      let within : IsEnough calls 2 (skip left.behind).left = omega (arith, took.one_less, room) in
+      let within : IsEnough calls 2 (skip left.following).left = omega (arith, took.one_less, room) in
       entire.more inside least whole
-      (λ on. omega (arith, took.one_less, room, ap length (deep_left inside whole.value b.behind), (sound.binary (in_operator inside) (suc (strength operator)) (skip left.behind) small within (deep-keeps inside whole.value b.behind on)).read.shorter))
-      (joined_entire inside operator left b is read (λ _. took.passed.going) (entire.binary (in_operator inside) (suc (strength operator)) (skip left.behind) small within)))
+      (λ on. omega (arith, took.one_less, room, ap length (deep_left inside whole.value b.following), (sound.binary (in_operator inside) (suc (strength operator)) (skip left.following) small within (deep-keeps inside whole.value b.following on)).read.shorter))
+      (joined_entire inside operator left b is read (λ _. took.passed.going) (entire.binary (in_operator inside) (suc (strength operator)) (skip left.following) small within)))
       (λ _. read))
       (λ _. read)
 
@@ -154,30 +154,30 @@ module _ (calls : ℕ) (keep : KeepsStop calls) (sound : SoundAt calls) (entire 
       entire.rest inside (read_binary calls inside 1 r) (λ going. omega (arith, (sound.binary inside 1 r (omega arith) (omega arith) going).read.shorter))
       (entire.binary inside 1 r (omega arith) (omega arith))
 
-  chosen_entire : (inside : Inside) (test : Got PartialExpr) → (test.behind.stop ≡ None → IsEnough (suc calls) 0 test.behind.left) → Entire test → sees_mark (codes "?") test.behind ≡ true →
-      Entire (chosen inside test.value (read_expr calls (in_operator inside) (skip test.behind)).value (read_expr calls (in_operator inside) (take_mark (codes ":") (read_expr calls (in_operator inside) (skip test.behind)).behind)))
+  chosen_entire : (inside : Inside) (test : Got PartialExpr) → (test.following.stop ≡ None → IsEnough (suc calls) 0 test.following.left) → Entire test → sees_mark (codes "?") test.following ≡ true →
+      Entire (chosen inside test.value (read_expr calls (in_operator inside) (skip test.following)).value (read_expr calls (in_operator inside) (take_mark (codes ":") (read_expr calls (in_operator inside) (skip test.following)).following)))
   chosen_entire inside test enough read sees =
-      let first = read_expr calls (in_operator inside) (skip test.behind) in
-      let between = take_mark (codes ":") first.behind in
+      let first = read_expr calls (in_operator inside) (skip test.following) in
+      let between = take_mark (codes ":") first.following in
       let second = read_expr calls (in_operator inside) between in
       let whole = ConditionalOf test.value first.value second.value in
-      let result : Reader → Type 0 = λ behind. Entire (got whole behind) in
-      if-cases result (nat_lt 200 (inside.operators + depth_of whole)) {x = stop_at of_depth inside.start second.behind} {y = second.behind}
-      (λ _ going. absurd (stop_at-stops of_depth inside.start second.behind going))
+      let result : Reader → Type 0 = λ following. Entire (got whole following) in
+      if-cases result (nat_lt 200 (inside.operators + depth_of whole)) {x = stop_at of_depth inside.start second.following} {y = second.following}
+      (λ _ going. absurd (stop_at-stops of_depth inside.start second.following going))
       (λ _ going ends.
-      let took = sees_mark-took (codes "?") test.behind sees in
+      let took = sees_mark-took (codes "?") test.following sees in
       let on = keep.expr (in_operator inside) between going in
-      let colon = take_mark-took (codes ":") first.behind on in
+      let colon = take_mark-took (codes ":") first.following on in
       let room = enough took.passed.going in
-      let shorter = (sound.expr (in_operator inside) (skip test.behind) (omega (arith, took.one_less, room)) colon.passed.going).shorter in
-      and_from _ _ (read took.passed.going (mark-no_call (codes "?") test.behind refl sees))
-      (and_from _ _ (entire.expr (in_operator inside) (skip test.behind) (omega (arith, took.one_less, room)) colon.passed.going (taken-no_call (codes ":") first.behind refl on))
+      let shorter = (sound.expr (in_operator inside) (skip test.following) (omega (arith, took.one_less, room)) colon.passed.going).shorter in
+      and_from _ _ (read took.passed.going (mark-no_call (codes "?") test.following refl sees))
+      (and_from _ _ (entire.expr (in_operator inside) (skip test.following) (omega (arith, took.one_less, room)) colon.passed.going (taken-no_call (codes ":") first.following refl on))
       (entire.expr (in_operator inside) between (omega (arith, took.one_less, room, shorter, colon.one_less)) going ends)))
 
-  rest_entire : (inside : Inside) (test : Got PartialExpr) → (test.behind.stop ≡ None → IsEnough (suc calls) 0 test.behind.left) → Entire test →
+  rest_entire : (inside : Inside) (test : Got PartialExpr) → (test.following.stop ≡ None → IsEnough (suc calls) 0 test.following.left) → Entire test →
       Entire (read_rest (suc calls) inside test)
   rest_entire inside test enough read =
-      if-cases Entire (sees_mark (codes "?") test.behind) (λ sees. chosen_entire inside test enough read sees) (λ _. read)
+      if-cases Entire (sees_mark (codes "?") test.following) (λ sees. chosen_entire inside test enough read sees) (λ _. read)
 
   one_more-entire : EntireAt (suc calls)
   one_more-entire =

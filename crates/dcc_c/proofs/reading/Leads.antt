@@ -6,8 +6,8 @@ use Rattle.dcc_c.specs.Lexing.{Placed, placed}
 use Rattle.dcc_c.specs.Tree.{Word, Expr, Stmt, Lines, Arms}
 use Rattle.dcc_c.specs.Grammar.{mark, IsExpr, IsPlace, name_place, deref_place, AreArguments, no_argument, last_argument, more_arguments, IsCall, call, Around, IsCaseNumber, plain_decimal, unsigned_decimal, plain_hex, unsigned_hex, AreCases, last_case, more_cases, IsStmt, assign, call_alone, call_into, if_alone, if_else, while, do_while, for_ever, switch, break, continue, goto, empty, return_nothing, return_value, IsBlock, block, AreLines, no_more, depth_pragma, label, statement, AreArms, no_arm, case_arm, default_arm, Begins, none, one}
 use Rattle.dcc_c.specs.Rules.{most_open}
-use Rattle.dcc_c.proofs.reading.Enclosing.{open_behind}
-use Rattle.dcc_c.proofs.reading.Derivations.{shorter, flat_behind, opening_behind, closing_behind, expr-enclosed}
+use Rattle.dcc_c.proofs.reading.Enclosing.{open_after}
+use Rattle.dcc_c.proofs.reading.Derivations.{shorter, flat_after, opening_after, closing_after, expr-enclosed}
 
 -- The tokens lead to others, at least so many fewer, with so many parentheses open before and after.
 pub record Leads (least opened after : ℕ) (tokens rest : List Placed) : Type 0 where
@@ -23,14 +23,14 @@ some_leads first = record { less = omega (arith, first.less); enclosed = first.e
 pub no_leads : {a : ℕ} {tokens : List Placed} → Leads 0 a a tokens tokens
 no_leads = record { less = omega arith; enclosed = λ few. few }
 
-pub token_leads : {token : Token} {opened line : ℕ} {rest : List Placed} → open_behind token opened ≡ opened → Leads 1 opened opened (placed line token ∷ rest) rest
-token_leads {token} {opened} {line} {rest} flat = record { less = omega arith; enclosed = λ few. flat_behind token opened line rest flat few }
+pub token_leads : {token : Token} {opened line : ℕ} {rest : List Placed} → open_after token opened ≡ opened → Leads 1 opened opened (placed line token ∷ rest) rest
+token_leads {token} {opened} {line} {rest} flat = record { less = omega arith; enclosed = λ few. flat_after token opened line rest flat few }
 
 pub opening_leads : {opened line : ℕ} {rest : List Placed} → Leads 1 opened (suc opened) (mark line (codes "(") ∷ rest) rest
-opening_leads {opened} {line} {rest} = record { less = omega arith; enclosed = λ few. opening_behind opened line rest few }
+opening_leads {opened} {line} {rest} = record { less = omega arith; enclosed = λ few. opening_after opened line rest few }
 
 pub closing_leads : {opened line : ℕ} {rest : List Placed} → Leads 1 (suc opened) opened (mark line (codes ")") ∷ rest) rest
-closing_leads {opened} {line} {rest} = record { less = omega arith; enclosed = λ few. closing_behind opened line rest few }
+closing_leads {opened} {line} {rest} = record { less = omega arith; enclosed = λ few. closing_after opened line rest few }
 
 pub expr_leads : {least opened : ℕ} {tokens rest : List Placed} {e : Expr} → IsExpr least tokens e rest → Leads 1 opened opened tokens rest
 expr_leads {opened} derived = record { less = omega (arith, shorter derived); enclosed = λ few. expr-enclosed derived opened few }
@@ -51,7 +51,7 @@ arguments_leads (more_arguments e others) = then_leads (some_leads (expr_leads e
 pub call_leads : {tokens rest : List Placed} {function : Word} {es : List Expr} → IsCall tokens function es rest → Leads 1 0 0 tokens rest
 call_leads (call function is arguments) = then_leads (token_leads refl) (then_leads opening_leads (then_leads (arguments_leads arguments) closing_leads))
 
-case_flat : {token : Token} {n : ℕ} → IsCaseNumber token n → open_behind token 0 ≡ 0
+case_flat : {token : Token} {n : ℕ} → IsCaseNumber token n → open_after token 0 ≡ 0
 case_flat (plain_decimal small) = refl
 case_flat (unsigned_decimal small) = refl
 case_flat (plain_hex small) = refl

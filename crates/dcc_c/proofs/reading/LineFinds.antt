@@ -17,7 +17,7 @@ use Rattle.dcc_c.proofs.reading.Statements.{IsEnoughFor, on, first_of}
 use Rattle.dcc_c.proofs.reading.Stopping.{if-true, if-false}
 use Rattle.dcc_c.proofs.reading.SimpleSound.{IsShallowStmt}
 use Rattle.dcc_c.proofs.reading.LineSound.{IsShallowLines}
-use Rattle.dcc_c.proofs.reading.Derivations.{flat_behind}
+use Rattle.dcc_c.proofs.reading.Derivations.{flat_after}
 use Rattle.dcc_c.proofs.reading.Leads.{stmt_leads}
 use Rattle.dcc_c.proofs.reading.PartsComplete.{take_name-is}
 use Rattle.dcc_c.proofs.reading.SimpleComplete.{FindsStmt}
@@ -29,7 +29,7 @@ joined_rows no_rows others = others
 joined_rows (row stmt at number rows) others = row stmt at number (joined_rows rows others)
 
 abbrev pub rows_before : PartialLines → Got Block → Got Block
-rows_before rows others = got (block_of (joined_rows rows others.value.lines) others.value.leaves) others.behind
+rows_before rows others = got (block_of (joined_rows rows others.value.lines) others.value.leaves) others.following
 
 pub joined_none : (rows : PartialLines) → joined_rows rows no_rows ≡ rows
 joined_none no_rows = refl
@@ -44,12 +44,12 @@ without_joined (row first place other (row next p l rows)) stmt at number = ap (
 -- The statements were read, and reading goes on with the rest.
 pub record FindsLines (around : Around) (lines : Lines) (after : ℕ) (rest : List Placed) (g : Got Block) : Type 0 where
   pub partial : PartialLines
-  pub behind : ℕ
+  pub following : ℕ
   pub calls : ℕ
   pub leaves : Bool
   pub enough : IsEnoughFor calls 3 rest
   pub same : plain_lines partial ≡ lines
-  pub is : g ≡ rows_before partial (read_lines calls around false leaves (on rest behind after))
+  pub is : g ≡ rows_before partial (read_lines calls around false leaves (on rest following after))
 
 -- what is to be read of a statement, and of statements
 abbrev pub StmtRead : Around → ℕ → List Placed → Stmt → ℕ → List Placed → Type 0
@@ -64,7 +64,7 @@ LinesRead around labelled depth tokens lines after rest =
 
 pub no_more-complete : {around : Around} {depth : ℕ} {rest : List Placed} → LinesRead around false depth rest no_lines depth rest
 no_more-complete calls at leaves enough few deep ends =
-    record { partial = no_rows; behind = at; calls = calls; leaves = leaves; enough = enough; same = refl; is = refl }
+    record { partial = no_rows; following = at; calls = calls; leaves = leaves; enough = enough; same = refl; is = refl }
 
 -- there is room for a statement
 not_nested : (around : Around) → around.blocks ≤ 200 → is_nested around ≡ false
@@ -85,7 +85,7 @@ number_of_line-is number n at depth rest = if-true (number == number) _ _ (eq-eq
 
 depth-is : (number n at depth : ℕ) (rest : List Placed) →
     read_depth (on (placed number (Pragma depth_line) ∷ placed number (Decimal n plain_number) ∷ rest) at depth) ≡ on rest (suc (suc at)) n
-depth-is number n at depth rest = ap (λ (g : Got (Option NumberAt)). set_depth g.value g.behind) (number_of_line-is number n (suc at) depth rest)
+depth-is number n at depth rest = ap (λ (g : Got (Option NumberAt)). set_depth g.value g.following) (number_of_line-is number n (suc at) depth rest)
 
 pub depth-complete : (around : Around) (depth after number n : ℕ) (tokens rest : List Placed) (lines : Lines) → around.blocks ≤ 200 → LinesRead around false n tokens lines after rest →
     LinesRead around false depth (placed number (Pragma depth_line) ∷ placed number (Decimal n plain_number) ∷ tokens) lines after rest
@@ -93,11 +93,11 @@ depth-complete around depth after number n tokens rest lines room others zero at
 depth-complete around depth after number n tokens rest lines room others (suc zero) at leaves enough few deep ends = absurd (omega arith)
 depth-complete around depth after number n tokens rest lines room others (suc (suc calls)) at leaves enough few deep ends =
     let r : Reader = on (placed number (Pragma depth_line) ∷ placed number (Decimal n plain_number) ∷ tokens) at depth in
-    let within : most_open 0 tokens ≤ 200 = flat_behind (Decimal n plain_number) 0 number tokens refl (flat_behind (Pragma depth_line) 0 number (placed number (Decimal n plain_number) ∷ tokens) refl few) in
+    let within : most_open 0 tokens ≤ 200 = flat_after (Decimal n plain_number) 0 number tokens refl (flat_after (Pragma depth_line) 0 number (placed number (Decimal n plain_number) ∷ tokens) refl few) in
     let found = others calls (suc (suc at)) false (omega arith) within deep ends in
     record {
       partial = found.partial;
-      behind = found.behind;
+      following = found.following;
       calls = found.calls;
       leaves = found.leaves;
       enough = found.enough;
@@ -111,8 +111,8 @@ depth-complete around depth after number n tokens rest lines room others (suc (s
 
 label_rest : ℕ → Around → ℕ → ℕ → Got (Option WordAt) → Got Block
 label_rest calls around at number name = elim name.value [
-  | Some found ↦ before_others (LabelOf found) at number (read_lines calls around true false (stop_if_nested around at (skip name.behind)))
-  | None ↦ got (block_of no_rows false) name.behind
+  | Some found ↦ before_others (LabelOf found) at number (read_lines calls around true false (stop_if_nested around at (skip name.following)))
+  | None ↦ got (block_of no_rows false) name.following
 ]
 
 pub label-complete : (around : Around) (labelled : Bool) (depth after number colon : ℕ) (tokens rest : List Placed) (lines : Lines) (name : Word) → is_name name ≡ true → around.blocks ≤ 200 →
@@ -122,12 +122,12 @@ label-complete around labelled depth after number colon tokens rest lines name g
 label-complete around labelled depth after number colon tokens rest lines name good room others (suc zero) at leaves enough few deep ends = absurd (omega arith)
 label-complete around labelled depth after number colon tokens rest lines name good room others (suc (suc calls)) at leaves enough few deep ends =
     let r : Reader = on (word number name ∷ mark colon (codes ":") ∷ tokens) at depth in
-    let within : most_open 0 tokens ≤ 200 = flat_behind (Mark (codes ":")) 0 colon tokens refl (flat_behind (WordToken name) 0 number (mark colon (codes ":") ∷ tokens) refl few) in
+    let within : most_open 0 tokens ≤ 200 = flat_after (Mark (codes ":")) 0 colon tokens refl (flat_after (WordToken name) 0 number (mark colon (codes ":") ∷ tokens) refl few) in
     let found = others calls (suc (suc at)) false (omega arith) within deep ends in
     let begins : begins_label r ≡ true = and_from _ _ (ap is_some (if-true (is_name name) (Some name) None good)) refl in
     record {
       partial = row (LabelOf (record { word = name; at = at })) at number found.partial;
-      behind = found.behind;
+      following = found.following;
       calls = found.calls;
       leaves = found.leaves;
       enough = found.enough;
@@ -149,17 +149,17 @@ pub statement-complete : (around : Around) (labelled : Bool) {depth between afte
     IsStmt 200 around depth (placed number token ∷ tokens) s between others → StmtRead around depth (placed number token ∷ tokens) s between others →
     (is_the_word (codes "else") (first_of rest) ≡ false → is_the_word (codes "else") (first_of others) ≡ false) → LinesRead around false between others lines after rest →
     LinesRead around labelled depth (placed number token ∷ tokens) (line s number lines) after rest
-statement-complete around labelled room derived first no_else behind zero at leaves enough few deep ends = absurd (omega arith)
-statement-complete around labelled room derived first no_else behind (suc zero) at leaves enough few deep ends = absurd (omega arith)
-statement-complete around labelled {depth} {between} {after} {number} {token} {tokens} {others} {rest} {s} {lines} room derived first no_else behind (suc (suc calls)) at leaves enough few deep ends =
+statement-complete around labelled room derived first no_else following zero at leaves enough few deep ends = absurd (omega arith)
+statement-complete around labelled room derived first no_else following (suc zero) at leaves enough few deep ends = absurd (omega arith)
+statement-complete around labelled {depth} {between} {after} {number} {token} {tokens} {others} {rest} {s} {lines} room derived first no_else following (suc (suc calls)) at leaves enough few deep ends =
     let r : Reader = on (placed number token ∷ tokens) at depth in
     let leads = stmt_leads derived in
     let parts = shallow_parts s number lines deep in
     let p = first calls at (omega arith) few parts.0 (no_else ends) in
-    let q = behind calls p.behind (is_break p.partial && not labelled) (omega (arith, leads.less)) (leads.enclosed few) parts.1 ends in
+    let q = following calls p.following (is_break p.partial && not labelled) (omega (arith, leads.less)) (leads.enclosed few) parts.1 ends in
     record {
       partial = row p.partial at number q.partial;
-      behind = q.behind;
+      following = q.following;
       calls = q.calls;
       leaves = q.leaves;
       enough = q.enough;
@@ -168,8 +168,8 @@ statement-complete around labelled {depth} {between} {after} {number} {token} {t
           ∙ (if-false (sees_head depth_line r) _ _ (stmt_no_head derived)
           ∙ (if-false (begins_label r) _ _ (stmt_no_label derived at depth)
           ∙ (if-false (is_nested around && is_block_word (Some token)) _ _ (ap (λ b. b && is_block_word (Some token)) (not_nested around room))
-          ∙ (ap (λ (g : Got PartialStmt). before_others g.value at number (read_lines calls around false (is_break g.value && not labelled) (stop_if_nested around at g.behind))) p.is
-          ∙ (ap (λ o. before_others p.partial at number (read_lines calls around false (is_break p.partial && not labelled) o)) (nested_room around at (on others p.behind between) room)
+          ∙ (ap (λ (g : Got PartialStmt). before_others g.value at number (read_lines calls around false (is_break g.value && not labelled) (stop_if_nested around at g.following))) p.is
+          ∙ (ap (λ o. before_others p.partial at number (read_lines calls around false (is_break p.partial && not labelled) o)) (nested_room around at (on others p.following between) room)
           ∙ ap (before_others p.partial at number) q.is)))));
     }
 
@@ -183,6 +183,6 @@ break-complete calls around leaves number end at depth others room breaks ends =
     let stmt : Bool → Got PartialStmt = λ b. read_leave b BreakOf r in
     line_begins (suc (suc calls)) around false leaves r refl
     ∙ (if-false (is_nested around && false) _ _ (ap (λ b. b && false) (not_nested around room))
-    ∙ (ap (λ b. before_others (stmt b).value at number (read_lines (suc calls) around false (is_break (stmt b).value && true) (stop_if_nested around at (stmt b).behind))) breaks
+    ∙ (ap (λ b. before_others (stmt b).value at number (read_lines (suc calls) around false (is_break (stmt b).value && true) (stop_if_nested around at (stmt b).following))) breaks
     ∙ (ap (λ q. before_others BreakOf at number (read_lines (suc calls) around false true q)) (nested_room around at (on others (suc (suc at)) depth) room)
     ∙ ap (before_others BreakOf at number) (if-false (begins_stmt (first_of others)) _ _ ends))))

@@ -30,20 +30,20 @@ is_row (row stmt at number rows) = true
 -- The last statement is a `break` that no label stands before: it is the one before these, where there are none, or the
 -- last of them, and those before it are statements too.
 pub data Leaving (around : Around) (labelled leaves : Bool) (r : Reader) (g : Got Block) : Type 0 where
-  nothing : g.value.lines ≡ no_rows → leaves ≡ true → g.behind ≡ r → Leaving around labelled leaves r g
+  nothing : g.value.lines ≡ no_rows → leaves ≡ true → g.following ≡ r → Leaving around labelled leaves r g
   last_break : (at end : ℕ) → is_row g.value.lines ≡ true →
-      AreLines 200 around labelled r.depth (tokens_of r.left) (plain_lines (without_last g.value.lines)) g.behind.depth
-      (word at (codes "break") ∷ mark end (codes ";") ∷ tokens_of g.behind.left) → Leaving around labelled leaves r g
+      AreLines 200 around labelled r.depth (tokens_of r.left) (plain_lines (without_last g.value.lines)) g.following.depth
+      (word at (codes "break") ∷ mark end (codes ";") ∷ tokens_of g.following.left) → Leaving around labelled leaves r g
 
 -- The reader passed statements.
 pub record ReadsLines (around : Around) (labelled leaves : Bool) (r : Reader) (g : Got Block) : Type 0 where
-  pub steps : Steps 0 0 r g.behind
-  pub derived : AreLines 200 around labelled r.depth (tokens_of r.left) (plain_lines g.value.lines) g.behind.depth (tokens_of g.behind.left)
+  pub steps : Steps 0 0 r g.following
+  pub derived : AreLines 200 around labelled r.depth (tokens_of r.left) (plain_lines g.value.lines) g.following.depth (tokens_of g.following.left)
   pub shallow : IsShallowLines (plain_lines g.value.lines)
   pub leaving : g.value.leaves ≡ true → Leaving around labelled leaves r g
 
 abbrev pub SoundLines : Around → Bool → Bool → Reader → Got Block → Type 0
-SoundLines around labelled leaves r g = g.behind.stop ≡ None → ReadsLines around labelled leaves r g
+SoundLines around labelled leaves r g = g.following.stop ≡ None → ReadsLines around labelled leaves r g
 
 -- nothing was read
 pub no_lines-sound : (around : Around) (leaves : Bool) (r : Reader) → SoundLines around false leaves r (got (block_of no_rows leaves) r)
@@ -51,17 +51,17 @@ no_lines-sound around leaves r going =
     record { steps = no_steps r going; derived = no_more; shallow = refl; leaving = λ is. nothing refl is refl }
 
 -- a token in the line of the next piece
-pub begins_here : {token : Token} {r behind : Reader} → Took token r behind → tokens_of r.left ≡ placed (line_of r.left) token ∷ tokens_of behind.left
-begins_here {token} {r} {behind} took = took.begins ∙ ap (λ l. placed l token ∷ tokens_of behind.left) took.line_is
+pub begins_here : {token : Token} {r following : Reader} → Took token r following → tokens_of r.left ≡ placed (line_of r.left) token ∷ tokens_of following.left
+begins_here {token} {r} {following} took = took.begins ∙ ap (λ l. placed l token ∷ tokens_of following.left) took.line_is
 
 -- Depth lines.
 
 -- The reader passed a depth line.
-pub record ReadsDepth (r behind : Reader) : Type 0 where
-  pub steps : Steps 0 0 r behind
-  pub shorter : length behind.left < length r.left
+pub record ReadsDepth (r following : Reader) : Type 0 where
+  pub steps : Steps 0 0 r following
+  pub shorter : length following.left < length r.left
   pub at : ℕ
-  pub begins : tokens_of r.left ≡ placed at (Pragma depth_line) ∷ placed at (Decimal behind.depth plain_number) ∷ tokens_of behind.left
+  pub begins : tokens_of r.left ≡ placed at (Pragma depth_line) ∷ placed at (Decimal following.depth plain_number) ∷ tokens_of following.left
 
 depth_set : (r between : Reader) (value : Option NumberAt) (number : NumberAt) → value ≡ Some number →
     ReadsDepth r (record between { depth = number.value }) → ReadsDepth r (set_depth value between)
@@ -71,19 +71,19 @@ pub depth-sound : (r : Reader) → sees_head depth_line r ≡ true → (read_dep
 depth-sound r sees going =
     let took = sees_head-took depth_line r sees in
     let n = take_number_of_line (line_of r.left) (skip r) in
-    let seen = number-sound (line_of r.left) (skip r) (set-keeps n.value n.behind going) in
+    let seen = number-sound (line_of r.left) (skip r) (set-keeps n.value n.following going) in
     let number = seen.0.took in
     let same : number.line ≡ took.line = number.line_is ∙ (seen.1 ∙ sym took.line_is) in
-    depth_set r n.behind n.value seen.0.number seen.0.is (record {
+    depth_set r n.following n.value seen.0.number seen.0.is (record {
       steps = with_depth seen.0.number.value (then_steps (token_steps 0 refl took) (token_steps 0 refl number));
       shorter = omega (arith, took.one_less, number.one_less);
       at = took.line;
-      begins = took.begins ∙ ap (λ ts. placed took.line (Pragma depth_line) ∷ ts) (number.begins ∙ ap (λ l. placed l (Decimal seen.0.number.value plain_number) ∷ tokens_of n.behind.left) same);
+      begins = took.begins ∙ ap (λ ts. placed took.line (Pragma depth_line) ∷ ts) (number.begins ∙ ap (λ l. placed l (Decimal seen.0.number.value plain_number) ∷ tokens_of n.following.left) same);
     })
 
-pub depth_then : (around : Around) (leaves : Bool) (r behind : Reader) (g : Got Block) → around.blocks ≤ 200 → ReadsDepth r behind →
-    ReadsLines around false false behind g → ReadsLines around false leaves r g
-depth_then around leaves r behind g room first others =
+pub depth_then : (around : Around) (leaves : Bool) (r following : Reader) (g : Got Block) → around.blocks ≤ 200 → ReadsDepth r following →
+    ReadsLines around false false following g → ReadsLines around false leaves r g
+depth_then around leaves r following g room first others =
     record {
       steps = then_steps first.steps others.steps;
       derived = rw first.begins (depth_pragma room others.derived);
@@ -91,7 +91,7 @@ depth_then around leaves r behind g room first others =
       leaving = λ is. after (others.leaving is);
     }
   where
-    after : Leaving around false false behind g → Leaving around false leaves r g
+    after : Leaving around false false following g → Leaving around false leaves r g
     after (nothing none is same) = absurd cc
     after (last_break at end some lines) = last_break at end some (rw first.begins (depth_pragma room lines))
 
@@ -144,7 +144,7 @@ is_break-is _ is = absurd cc
 
 pub stmt_then : (around : Around) (labelled leaves : Bool) (r between : Reader) (token : Token) (stmt : Got PartialStmt) (others : Got Block) → around.blocks ≤ 200 →
     tokens_of r.left ≡ placed (line_of r.left) token ∷ tokens_of between.left → ReadsStmt around r stmt →
-    ReadsLines around false (is_break stmt.value && not labelled) stmt.behind others →
+    ReadsLines around false (is_break stmt.value && not labelled) stmt.following others →
     ReadsLines around labelled leaves r (before_others stmt.value r.at (line_of r.left) others)
 stmt_then around labelled leaves r between token stmt others room begins first read =
     record {
@@ -154,22 +154,22 @@ stmt_then around labelled leaves r between token stmt others room begins first r
       leaving = λ is. after (read.leaving is);
     }
   where
-    build : {lines : Lines} {after : ℕ} {rest : List Placed} → AreLines 200 around false stmt.behind.depth (tokens_of stmt.behind.left) lines after rest →
+    build : {lines : Lines} {after : ℕ} {rest : List Placed} → AreLines 200 around false stmt.following.depth (tokens_of stmt.following.left) lines after rest →
         AreLines 200 around labelled r.depth (tokens_of r.left) (line (plain_stmt stmt.value) (line_of r.left) lines) after rest
     build derived =
-        rw begins (statement room (subst (λ ts. IsStmt 200 around r.depth ts (plain_stmt stmt.value) stmt.behind.depth (tokens_of stmt.behind.left)) begins first.derived) derived)
+        rw begins (statement room (subst (λ ts. IsStmt 200 around r.depth ts (plain_stmt stmt.value) stmt.following.depth (tokens_of stmt.following.left)) begins first.derived) derived)
 
-    only_break : (is : Bool) → labelled ≡ is → is_break stmt.value ≡ true → not is ≡ true → others.value.lines ≡ no_rows → others.behind ≡ stmt.behind →
+    only_break : (is : Bool) → labelled ≡ is → is_break stmt.value ≡ true → not is ≡ true → others.value.lines ≡ no_rows → others.following ≡ stmt.following →
         Leaving around labelled leaves r (before_others stmt.value r.at (line_of r.left) others)
     only_break true same is free none stays = absurd cc
     only_break false same is free none stays =
         let found = break_tokens first.derived (ap plain_stmt (is_break-is stmt.value is)) in
         let lines : AreLines 200 around labelled r.depth (tokens_of r.left) no_lines r.depth (tokens_of r.left) = rw same no_more in
-        let behind : AreLines 200 around labelled r.depth (tokens_of r.left) no_lines stmt.behind.depth (word found.0 (codes "break") ∷ mark found.1 (codes ";") ∷ tokens_of stmt.behind.left) =
-        subst (λ d. AreLines 200 around labelled r.depth (tokens_of r.left) no_lines d (word found.0 (codes "break") ∷ mark found.1 (codes ";") ∷ tokens_of stmt.behind.left)) (sym found.3) (subst (λ ts. AreLines 200 around labelled r.depth (tokens_of r.left) no_lines r.depth ts) found.2 lines) in
-        last_break found.0 found.1 refl (rw (without_one stmt.value r.at (line_of r.left) others.value.lines none) (subst (λ q. AreLines 200 around labelled r.depth (tokens_of r.left) no_lines q.depth (word found.0 (codes "break") ∷ mark found.1 (codes ";") ∷ tokens_of q.left)) (sym stays) behind))
+        let following : AreLines 200 around labelled r.depth (tokens_of r.left) no_lines stmt.following.depth (word found.0 (codes "break") ∷ mark found.1 (codes ";") ∷ tokens_of stmt.following.left) =
+        subst (λ d. AreLines 200 around labelled r.depth (tokens_of r.left) no_lines d (word found.0 (codes "break") ∷ mark found.1 (codes ";") ∷ tokens_of stmt.following.left)) (sym found.3) (subst (λ ts. AreLines 200 around labelled r.depth (tokens_of r.left) no_lines r.depth ts) found.2 lines) in
+        last_break found.0 found.1 refl (rw (without_one stmt.value r.at (line_of r.left) others.value.lines none) (subst (λ q. AreLines 200 around labelled r.depth (tokens_of r.left) no_lines q.depth (word found.0 (codes "break") ∷ mark found.1 (codes ";") ∷ tokens_of q.left)) (sym stays) following))
 
-    after : Leaving around false (is_break stmt.value && not labelled) stmt.behind others → Leaving around labelled leaves r (before_others stmt.value r.at (line_of r.left) others)
+    after : Leaving around false (is_break stmt.value && not labelled) stmt.following others → Leaving around labelled leaves r (before_others stmt.value r.at (line_of r.left) others)
     after (nothing none is same) =
         let parts = and_parts (is_break stmt.value) (not labelled) is in only_break labelled refl parts.0 parts.1 none same
     after (last_break at end some lines) = last_break at end refl (rw (without_more stmt.value r.at (line_of r.left) others.value.lines some) (build lines))

@@ -25,7 +25,7 @@ pub record AreUnit (tokens : List Placed) (tree : Tree) : Type 0 where
 
 -- Nothing offends in the pieces, which are read to their end as the tree.
 pub record IsParsed (pieces : List Piece) (tree : Tree) : Type 0 where
-  pub going : (reading_of pieces).behind.stop ≡ None
+  pub going : (reading_of pieces).following.stop ≡ None
   pub same : plain_text (reading_of pieces).value ≡ tree
   pub clean : text_offences (reading_of pieces).value [] ≡ []
 

@@ -18,7 +18,7 @@ use Rattle.dcc_c.specs.Stripped.{plain_expr}
 use Rattle.dcc_c.proofs.reading.Statements.{IsEnoughFor, on, first_of, EndsExpr, FindsExpr}
 use Rattle.dcc_c.proofs.reading.Stopping.{choice-some, if-true, if-false}
 use Rattle.dcc_c.proofs.reading.StmtParts.{are_shallow}
-use Rattle.dcc_c.proofs.reading.Derivations.{shorter, opening_behind, flat_behind, expr-enclosed}
+use Rattle.dcc_c.proofs.reading.Derivations.{shorter, opening_after, flat_after, expr-enclosed}
 use Rattle.dcc_c.proofs.reading.ExprFinds.{complete_expr, complete_unary}
 
 -- First tokens of an expression.
@@ -87,21 +87,21 @@ expr_no_call {tokens} derived ends at depth = by tokens (λ bytes is. name_alone
 
 pub record FindsTest (tokens : List Placed) (e : Expr) (rest : List Placed) (depth : ℕ) (g : Got PartialExpr) : Type 0 where
   pub partial : PartialExpr
-  pub behind : ℕ
+  pub following : ℕ
   pub same : plain_expr partial ≡ e
-  pub is : g ≡ got partial (on rest behind depth)
+  pub is : g ≡ got partial (on rest following depth)
 
 pub test-complete : {opening closing : ℕ} {tokens rest : List Placed} {e : Expr} → IsExpr 0 tokens e (mark closing (codes ")") ∷ rest) →
     (calls at depth : ℕ) → IsEnoughFor calls 0 (mark opening (codes "(") ∷ tokens) → most_open 0 (mark opening (codes "(") ∷ tokens) ≤ 200 → expr_depth e ≤ 200 →
     FindsTest (mark opening (codes "(") ∷ tokens) e rest depth (read_test calls (on (mark opening (codes "(") ∷ tokens) at depth))
 test-complete {opening} {closing} {tokens} {rest} {e} derived calls at depth enough few deep =
     let inside : Inside = whole 1 (on tokens (suc at) depth) in
-    let found = complete_expr tokens (mark closing (codes ")") ∷ rest) e derived (record { no_operator = refl; no_question = refl }) calls inside (suc at) depth (omega arith) (record { shallow = omega arith; enclosed = opening_behind 0 opening tokens few }) in
+    let found = complete_expr tokens (mark closing (codes ")") ∷ rest) e derived (record { no_operator = refl; no_question = refl }) calls inside (suc at) depth (omega arith) (record { shallow = omega arith; enclosed = opening_after 0 opening tokens few }) in
     record {
       partial = found.partial;
-      behind = suc found.behind;
+      following = suc found.following;
       same = found.same;
-      is = ap (λ g. got g.value (take_mark (codes ")") g.behind)) found.is;
+      is = ap (λ g. got g.value (take_mark (codes ")") g.following)) found.is;
     }
 
 -- A place.
@@ -115,38 +115,38 @@ pub place-complete : {tokens rest : List Placed} {e : Expr} → IsPlace tokens e
 place-complete (name_place {at = line} {rest} bytes good) calls at depth enough few deep =
     record {
       partial = NameHere at bytes (sees_mark (codes "(") (on rest (suc at) depth));
-      behind = suc at;
+      following = suc at;
       same = refl;
       is = choice-some (name_if bytes) bytes _ _ (if-true (is_name bytes) _ _ good);
     }
 place-complete (deref_place {at = line} {tokens} {rest} {e} a) calls at depth enough few deep =
     let inside : Inside = in_operator (whole 0 (on (mark line (codes "*") ∷ tokens) at depth)) in
-    let found = complete_unary tokens rest e a calls inside (suc at) depth (omega arith) (record { shallow = omega arith; enclosed = flat_behind (Mark (codes "*")) 0 line tokens refl few }) in
+    let found = complete_unary tokens rest e a calls inside (suc at) depth (omega arith) (record { shallow = omega arith; enclosed = flat_after (Mark (codes "*")) 0 line tokens refl few }) in
     record {
       partial = UnaryHere at Deref found.partial;
-      behind = found.behind;
+      following = found.following;
       same = ap (Unary Deref) found.same;
-      is = ap (λ g. got (UnaryHere at Deref g.value) g.behind) found.is;
+      is = ap (λ g. got (UnaryHere at Deref g.value) g.following) found.is;
     }
 
 -- Arguments.
 
 pub record FindsArguments (es : List Expr) (rest : List Placed) (depth : ℕ) (g : Got (List PartialExpr)) : Type 0 where
   pub partials : List PartialExpr
-  pub behind : ℕ
+  pub following : ℕ
   pub same : map plain_expr partials ≡ es
-  pub is : g ≡ got partials (on rest behind depth)
+  pub is : g ≡ got partials (on rest following depth)
 
 -- an argument and those after it
 abbrev some_arguments : ℕ → Reader → Got (List PartialExpr)
 some_arguments calls r =
     let first = read_enclosed calls r in
-    let others = more_arguments calls first.behind in
-    got (first.value ∷ others.value) others.behind
+    let others = more_arguments calls first.following in
+    got (first.value ∷ others.value) others.following
 
 -- what is read of them, after the first one
-abbrev behind_first : ℕ → Got PartialExpr → Got (List PartialExpr)
-behind_first calls first = got (first.value ∷ (more_arguments calls first.behind).value) (more_arguments calls first.behind).behind
+abbrev following_first : ℕ → Got PartialExpr → Got (List PartialExpr)
+following_first calls first = got (first.value ∷ (more_arguments calls first.following).value) (more_arguments calls first.following).following
 
 no_more_arguments : (calls : ℕ) (closing : ℕ) (rest : List Placed) (at depth : ℕ) →
     more_arguments calls (on (mark closing (codes ")") ∷ rest) at depth) ≡ got [] (on (mark closing (codes ")") ∷ rest) at depth)
@@ -161,29 +161,29 @@ first_argument {tokens} {rest} {e} derived ends calls at depth enough few deep =
 deep_parts : (e : Expr) (es : List Expr) → are_shallow (e ∷ es) ≡ true → (expr_depth e ≤ 200) × (are_shallow es ≡ true)
 deep_parts e es deep = let parts = and_parts (nat_le (expr_depth e) 200) (are_shallow es) deep in (leb-true (expr_depth e) 200 parts.0, parts.1)
 
-some-complete : {closing : ℕ} {tokens rest behind : List Placed} {e : Expr} {es : List Expr} → AreArguments tokens (e ∷ es) behind → behind ≡ mark closing (codes ")") ∷ rest →
+some-complete : {closing : ℕ} {tokens rest following : List Placed} {e : Expr} {es : List Expr} → AreArguments tokens (e ∷ es) following → following ≡ mark closing (codes ")") ∷ rest →
     (calls at depth : ℕ) → IsEnoughFor calls 3 tokens → most_open 1 tokens ≤ 200 → are_shallow (e ∷ es) ≡ true →
-    FindsArguments (e ∷ es) behind depth (some_arguments calls (on tokens at depth))
-some-complete {closing} {rest} {behind} {e} (last_argument {tokens} derived) same calls at depth enough few deep =
+    FindsArguments (e ∷ es) following depth (some_arguments calls (on tokens at depth))
+some-complete {closing} {rest} {following} {e} (last_argument {tokens} derived) same calls at depth enough few deep =
     let derived_here : IsExpr 0 tokens e (mark closing (codes ")") ∷ rest) = subst (λ ts. IsExpr 0 tokens e ts) same derived in
     let found = first_argument derived_here (record { no_operator = refl; no_question = refl }) calls at depth enough few (deep_parts e [] deep).0 in
     record {
       partials = found.partial ∷ [];
-      behind = found.behind;
+      following = found.following;
       same = ap (λ x. x ∷ []) found.same;
-      is = ap (behind_first calls) found.is ∙ (ap (λ (g : Got (List PartialExpr)). got (found.partial ∷ g.value) g.behind) (no_more_arguments calls closing rest found.behind depth) ∙ ap (λ (ts : List Placed). got (found.partial ∷ []) (on ts found.behind depth)) (sym same));
+      is = ap (following_first calls) found.is ∙ (ap (λ (g : Got (List PartialExpr)). got (found.partial ∷ g.value) g.following) (no_more_arguments calls closing rest found.following depth) ∙ ap (λ (ts : List Placed). got (found.partial ∷ []) (on ts found.following depth)) (sym same));
     }
-some-complete {closing} {rest} {behind} {e} (more_of {at = comma} {others} {f} {es} derived more) same zero at depth enough few deep = absurd (omega arith)
-some-complete {closing} {rest} {behind} {e} (more_of {at = comma} {others} {f} {es} derived more) same (suc calls) at depth enough few deep =
+some-complete {closing} {rest} {following} {e} (more_of {at = comma} {others} {f} {es} derived more) same zero at depth enough few deep = absurd (omega arith)
+some-complete {closing} {rest} {following} {e} (more_of {at = comma} {others} {f} {es} derived more) same (suc calls) at depth enough few deep =
     let parts = deep_parts e (f ∷ es) deep in
     let found = first_argument derived (record { no_operator = refl; no_question = refl }) (suc calls) at depth enough few parts.0 in
-    let within = flat_behind (Mark (codes ",")) 1 comma others refl (expr-enclosed derived 1 few) in
-    let tail = some-complete more same calls (suc found.behind) depth (omega (arith, shorter derived)) within parts.1 in
+    let within = flat_after (Mark (codes ",")) 1 comma others refl (expr-enclosed derived 1 few) in
+    let tail = some-complete more same calls (suc found.following) depth (omega (arith, shorter derived)) within parts.1 in
     record {
       partials = found.partial ∷ tail.partials;
-      behind = tail.behind;
+      following = tail.following;
       same = ap (λ x. x ∷ map plain_expr tail.partials) found.same ∙ ap (λ xs. e ∷ xs) tail.same;
-      is = ap (behind_first (suc calls)) found.is ∙ ap (λ (g : Got (List PartialExpr)). got (found.partial ∷ g.value) g.behind) tail.is;
+      is = ap (following_first (suc calls)) found.is ∙ ap (λ (g : Got (List PartialExpr)). got (found.partial ∷ g.value) g.following) tail.is;
     }
 
 pub arguments-complete : {closing : ℕ} {tokens rest : List Placed} {es : List Expr} → AreArguments tokens es (mark closing (codes ")") ∷ rest) →
@@ -191,20 +191,20 @@ pub arguments-complete : {closing : ℕ} {tokens rest : List Placed} {es : List 
     FindsArguments es (mark closing (codes ")") ∷ rest) depth (read_arguments calls (on tokens at depth))
 arguments-complete {closing} {rest} derived = by derived refl
   where
-    by : {tokens behind : List Placed} {es : List Expr} → AreArguments tokens es behind → behind ≡ mark closing (codes ")") ∷ rest →
-        (calls at depth : ℕ) → IsEnoughFor calls 3 tokens → most_open 1 tokens ≤ 200 → are_shallow es ≡ true → FindsArguments es behind depth (read_arguments calls (on tokens at depth))
+    by : {tokens following : List Placed} {es : List Expr} → AreArguments tokens es following → following ≡ mark closing (codes ")") ∷ rest →
+        (calls at depth : ℕ) → IsEnoughFor calls 3 tokens → most_open 1 tokens ≤ 200 → are_shallow es ≡ true → FindsArguments es following depth (read_arguments calls (on tokens at depth))
     by (no_argument {rest = ts}) same calls at depth enough few deep =
-        record { partials = []; behind = at; same = refl; is = if-true (sees_mark (codes ")") (on ts at depth)) _ _ (ap (λ x. is_the_mark (codes ")") (first_of x)) same) }
+        record { partials = []; following = at; same = refl; is = if-true (sees_mark (codes ")") (on ts at depth)) _ _ (ap (λ x. is_the_mark (codes ")") (first_of x)) same) }
     by (last_argument {tokens} {e} e_is) same calls at depth enough few deep =
         let found = some-complete (last_argument e_is) same calls at depth enough few deep in
-        record { partials = found.partials; behind = found.behind; same = found.same; is = if-false (sees_mark (codes ")") (on tokens at depth)) _ _ (expr_no_mark (codes ")") refl no_closing e_is) ∙ found.is }
+        record { partials = found.partials; following = found.following; same = found.same; is = if-false (sees_mark (codes ")") (on tokens at depth)) _ _ (expr_no_mark (codes ")") refl no_closing e_is) ∙ found.is }
     by (more_of {tokens} e_is more) same calls at depth enough few deep =
         let found = some-complete (more_of e_is more) same calls at depth enough few deep in
-        record { partials = found.partials; behind = found.behind; same = found.same; is = if-false (sees_mark (codes ")") (on tokens at depth)) _ _ (expr_no_mark (codes ")") refl no_closing e_is) ∙ found.is }
+        record { partials = found.partials; following = found.following; same = found.same; is = if-false (sees_mark (codes ")") (on tokens at depth)) _ _ (expr_no_mark (codes ")") refl no_closing e_is) ∙ found.is }
 
 -- a value, before a semicolon
 pub value-complete : {end : ℕ} {tokens rest : List Placed} {e : Expr} → IsExpr 0 tokens e (mark end (codes ";") ∷ rest) → (calls at depth : ℕ) → IsEnoughFor calls 3 tokens →
     most_open 0 tokens ≤ 200 → expr_depth e ≤ 200 → FindsTest tokens e (mark end (codes ";") ∷ rest) depth (read_value calls (on tokens at depth))
 value-complete {end} {tokens} {rest} {e} derived calls at depth enough few deep =
     let found = complete_expr tokens (mark end (codes ";") ∷ rest) e derived (record { no_operator = refl; no_question = refl }) calls (whole 0 (on tokens at depth)) at depth enough (record { shallow = omega arith; enclosed = few }) in
-    record { partial = found.partial; behind = found.behind; same = found.same; is = found.is }
+    record { partial = found.partial; following = found.following; same = found.same; is = found.is }

@@ -24,22 +24,22 @@ abbrev pub pieces_with : List Placed → List Piece
 pieces_with tokens = map (λ p. piece p.line (Some p.token)) tokens
 
 -- The reader came from the first place to the second one, and passed nothing but tokens.
-pub record Passed (r behind : Reader) : Type 0 where
+pub record Passed (r following : Reader) : Type 0 where
   pub going : r.stop ≡ None
-  pub whole : are_tokens r.left ≡ are_tokens behind.left
-  pub place : behind.at + length behind.left ≡ r.at + length r.left
-  pub fewer : length behind.left ≤ length r.left
+  pub whole : are_tokens r.left ≡ are_tokens following.left
+  pub place : following.at + length following.left ≡ r.at + length r.left
+  pub fewer : length following.left ≤ length r.left
 
 -- It passed this token, and no other.
-pub record Took (token : Token) (r behind : Reader) : Type 0 where
-  pub passed : Passed r behind
-  pub steady : behind.depth ≡ r.depth
+pub record Took (token : Token) (r following : Reader) : Type 0 where
+  pub passed : Passed r following
+  pub steady : following.depth ≡ r.depth
   pub line : ℕ
   pub line_is : line ≡ line_of r.left
-  pub begins : tokens_of r.left ≡ placed line token ∷ tokens_of behind.left
-  pub one_less : length r.left ≡ suc (length behind.left)
+  pub begins : tokens_of r.left ≡ placed line token ∷ tokens_of following.left
+  pub one_less : length r.left ≡ suc (length following.left)
 
-pub then_passed : {r between behind : Reader} → Passed r between → Passed between behind → Passed r behind
+pub then_passed : {r between following : Reader} → Passed r between → Passed between following → Passed r following
 then_passed first second =
     record { going = first.going; whole = first.whole ∙ second.whole; place = second.place ∙ first.place; fewer = omega (arith, first.fewer, second.fewer) }
 
@@ -105,10 +105,10 @@ sees_word-took bytes r sees = skip-took r (WordToken bytes) (the_word-is bytes (
 
 pub take_mark-took : (bytes : Word) (r : Reader) → (take_mark bytes r).stop ≡ None → Took (Mark bytes) r (take_mark bytes r)
 take_mark-took bytes r =
-    if-cases (λ behind. behind.stop ≡ None → Took (Mark bytes) r behind) (sees_mark bytes r)
+    if-cases (λ following. following.stop ≡ None → Took (Mark bytes) r following) (sees_mark bytes r)
     (λ sees _. sees_mark-took bytes r sees) (λ _ none. absurd (fail-stops r none))
 
 pub take_word-took : (bytes : Word) (r : Reader) → (take_word bytes r).stop ≡ None → Took (WordToken bytes) r (take_word bytes r)
 take_word-took bytes r =
-    if-cases (λ behind. behind.stop ≡ None → Took (WordToken bytes) r behind) (sees_word bytes r)
+    if-cases (λ following. following.stop ≡ None → Took (WordToken bytes) r following) (sees_word bytes r)
     (λ sees _. sees_word-took bytes r sees) (λ _ none. absurd (fail-stops r none))

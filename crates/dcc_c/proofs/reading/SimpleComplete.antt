@@ -16,7 +16,7 @@ use Rattle.dcc_c.proofs.reading.Stopping.{if-true, if-false}
 use Rattle.dcc_c.proofs.reading.StmtStopping.{call_named}
 use Rattle.dcc_c.proofs.reading.StmtParts.{are_shallow}
 use Rattle.dcc_c.proofs.reading.SimpleSound.{IsShallowStmt}
-use Rattle.dcc_c.proofs.reading.Derivations.{opening_behind, flat_behind, name_other}
+use Rattle.dcc_c.proofs.reading.Derivations.{opening_after, flat_after, name_other}
 use Rattle.dcc_c.proofs.reading.Leads.{place_leads}
 use Rattle.dcc_c.proofs.reading.PartsComplete.{expr_no_call, take_name-is, place-complete, arguments-complete, value-complete}
 use Rattle.dcc_c.proofs.reading.StmtKinds.{semicolon_stmts, last_stmts, return_stmts, goto_stmts, leave_stmts, switch_stmt, switch_stmts, for_stmt, for_stmts, do_stmt, do_stmts, while_stmt, while_stmts}
@@ -24,9 +24,9 @@ use Rattle.dcc_c.proofs.reading.StmtKinds.{semicolon_stmts, last_stmts, return_s
 -- The statement was read, with exactly the rest left.
 pub record FindsStmt (s : Stmt) (after : ℕ) (rest : List Placed) (g : Got PartialStmt) : Type 0 where
   pub partial : PartialStmt
-  pub behind : ℕ
+  pub following : ℕ
   pub same : plain_stmt partial ≡ s
-  pub is : g ≡ got partial (on rest behind after)
+  pub is : g ≡ got partial (on rest following after)
 
 -- A statement that begins with a name is an assignment or a call.
 pub named_stmt : (calls : ℕ) (around : Around) (at line depth : ℕ) (bytes : Word) (rest : List Placed) → is_name bytes ≡ true →
@@ -47,7 +47,7 @@ named_stmt calls around at line depth bytes rest good =
 
 call_rest : ℕ → ℕ → Option PartialExpr → WordAt → Got (List PartialExpr) → Got PartialStmt
 call_rest calls depth place function arguments =
-    let end = take_mark (codes ")") arguments.behind in
+    let end = take_mark (codes ")") arguments.following in
     got (CallOf place (record { function = function; arguments = arguments.value; closed = not (is_stopped end); depth = depth })) (take_mark (codes ";") end)
 
 pub call-complete : {end : ℕ} {tokens rest : List Placed} {function : Word} {es : List Expr} → IsCall tokens function es (mark end (codes ";") ∷ rest) →
@@ -55,14 +55,14 @@ pub call-complete : {end : ℕ} {tokens rest : List Placed} {function : Word} {e
     FindsStmt (Call (option_map plain_expr place) function es depth) depth rest (read_call calls place (on tokens at depth))
 unfolding call_rest
 call-complete {end} {rest} (call {at = line} {opening} {closing} {tokens} {arguments = es} function good derived) calls at depth place enough few deep =
-    let within = opening_behind 0 opening tokens (flat_behind (WordToken function) 0 line (mark opening (codes "(") ∷ tokens) refl few) in
+    let within = opening_after 0 opening tokens (flat_after (WordToken function) 0 line (mark opening (codes "(") ∷ tokens) refl few) in
     let found = arguments-complete derived calls (suc (suc at)) depth (omega arith) within deep in
     let name : WordAt = record { word = function; at = at } in
     record {
       partial = CallOf place (record { function = name; arguments = found.partials; closed = true; depth = depth });
-      behind = suc (suc found.behind);
+      following = suc (suc found.following);
       same = ap (λ xs. Call (option_map plain_expr place) function xs depth) found.same;
-      is = ap (λ (g : Got (Option WordAt)). call_named calls place g.value g.behind) (take_name-is line at depth function (mark opening (codes "(") ∷ tokens) good)
+      is = ap (λ (g : Got (Option WordAt)). call_named calls place g.value g.following) (take_name-is line at depth function (mark opening (codes "(") ∷ tokens) good)
           ∙ ap (λ arguments. call_rest calls depth place name arguments) found.is;
     }
 
@@ -79,10 +79,10 @@ place_no_call (name_place bytes good) same at depth = and_right _ _ (ap (λ ts. 
 place_no_call (deref_place a) same at depth = refl
 
 -- what takes a value at the place, after the place
-assigned-is : {equals : ℕ} {tokens right : List Placed} {place : Expr} → IsPlace tokens place (mark equals (codes "=") ∷ right) → (calls at depth : ℕ) (p : PartialExpr) (behind : ℕ) →
-    read_place calls (on tokens at depth) ≡ got p (on (mark equals (codes "=") ∷ right) behind depth) →
-    read_simple calls (on tokens at depth) ≡ read_assigned calls (got p (on (mark equals (codes "=") ∷ right) behind depth))
-assigned-is {equals} {tokens} {right} derived calls at depth p behind is =
+assigned-is : {equals : ℕ} {tokens right : List Placed} {place : Expr} → IsPlace tokens place (mark equals (codes "=") ∷ right) → (calls at depth : ℕ) (p : PartialExpr) (following : ℕ) →
+    read_place calls (on tokens at depth) ≡ got p (on (mark equals (codes "=") ∷ right) following depth) →
+    read_simple calls (on tokens at depth) ≡ read_assigned calls (got p (on (mark equals (codes "=") ∷ right) following depth))
+assigned-is {equals} {tokens} {right} derived calls at depth p following is =
     if-false (begins_call (on tokens at depth)) _ _ (place_no_call derived refl at depth) ∙ ap (read_assigned calls) is
 
 pub assign-complete : {equals end : ℕ} {tokens right rest : List Placed} {place e : Expr} → IsPlace tokens place (mark equals (codes "=") ∷ right) →
@@ -92,15 +92,15 @@ assign-complete {equals} {end} {tokens} {right} {rest} {place} {e} to value call
     let parts = and_parts (nat_le (expr_depth place) 200) _ (and_parts _ true deep).0 in
     let leads = place_leads to in
     let p = place-complete to calls at depth enough few (leb-true _ 200 parts.0) in
-    let within = flat_behind (Mark (codes "=")) 0 equals right refl (leads.enclosed few) in
-    let v = value-complete value calls (suc p.behind) depth (omega (arith, leads.less)) within (leb-true _ 200 (and_parts (nat_le (expr_depth e) 200) true parts.1).0) in
+    let within = flat_after (Mark (codes "=")) 0 equals right refl (leads.enclosed few) in
+    let v = value-complete value calls (suc p.following) depth (omega (arith, leads.less)) within (leb-true _ 200 (and_parts (nat_le (expr_depth e) 200) true parts.1).0) in
     record {
       partial = AssignOf p.partial (Some v.partial) true;
-      behind = suc v.behind;
+      following = suc v.following;
       same = ap (λ x. Assign x (plain_expr v.partial)) p.same ∙ ap (Assign place) v.same;
-      is = assigned-is to calls at depth p.partial p.behind p.is
-          ∙ (if-false (begins_call (on right (suc p.behind) depth)) _ _ (expr_no_call value refl (suc p.behind) depth)
-          ∙ ap (λ (g : Got PartialExpr). got (AssignOf p.partial (Some g.value) (not (is_stopped (take_mark (codes ";") g.behind)))) (take_mark (codes ";") g.behind)) v.is);
+      is = assigned-is to calls at depth p.partial p.following p.is
+          ∙ (if-false (begins_call (on right (suc p.following) depth)) _ _ (expr_no_call value refl (suc p.following) depth)
+          ∙ ap (λ (g : Got PartialExpr). got (AssignOf p.partial (Some g.value) (not (is_stopped (take_mark (codes ";") g.following)))) (take_mark (codes ";") g.following)) v.is);
     }
 
 pub into-complete : {equals end : ℕ} {tokens right rest : List Placed} {place : Expr} {function : Word} {es : List Expr} → IsPlace tokens place (mark equals (codes "=") ∷ right) →
@@ -110,13 +110,13 @@ into-complete {equals} {end} {tokens} {right} {rest} {place} {function} {es} to 
     let parts = and_parts (nat_le (expr_depth place) 200) _ (and_parts _ true deep).0 in
     let leads = place_leads to in
     let p = place-complete to calls at depth enough few (leb-true _ 200 parts.0) in
-    let within = flat_behind (Mark (codes "=")) 0 equals right refl (leads.enclosed few) in
-    let v = call-complete value calls (suc p.behind) depth (Some p.partial) (omega (arith, leads.less)) within parts.1 in
+    let within = flat_after (Mark (codes "=")) 0 equals right refl (leads.enclosed few) in
+    let v = call-complete value calls (suc p.following) depth (Some p.partial) (omega (arith, leads.less)) within parts.1 in
     record {
       partial = v.partial;
-      behind = v.behind;
+      following = v.following;
       same = v.same ∙ ap (λ x. Call (Some x) function es depth) p.same;
-      is = assigned-is to calls at depth p.partial p.behind p.is ∙ (if-true (begins_call (on right (suc p.behind) depth)) _ _ (call_begins value (suc p.behind) depth) ∙ v.is);
+      is = assigned-is to calls at depth p.partial p.following p.is ∙ (if-true (begins_call (on right (suc p.following) depth)) _ _ (call_begins value (suc p.following) depth) ∙ v.is);
     }
 
 pub alone-complete : {end : ℕ} {tokens rest : List Placed} {function : Word} {es : List Expr} → IsCall tokens function es (mark end (codes ";") ∷ rest) →
@@ -126,7 +126,7 @@ alone-complete {tokens} value calls at depth enough few deep =
     let v = call-complete value calls at depth None enough few (and_parts _ true deep).0 in
     record {
       partial = v.partial;
-      behind = v.behind;
+      following = v.following;
       same = v.same;
       is = if-true (begins_call (on tokens at depth)) _ _ (call_begins value at depth) ∙ v.is;
     }

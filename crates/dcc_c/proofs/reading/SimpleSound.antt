@@ -27,37 +27,37 @@ IsShallowStmt stmt = list_all (shallow_stmt 200) (stmt ∷ inner_stmts stmt) ≡
 
 -- The reader passed a statement.
 pub record ReadsStmt (around : Around) (r : Reader) (g : Got PartialStmt) : Type 0 where
-  pub steps : Steps 0 0 r g.behind
-  pub shorter : length g.behind.left < length r.left
-  pub derived : IsStmt 200 around r.depth (tokens_of r.left) (plain_stmt g.value) g.behind.depth (tokens_of g.behind.left)
+  pub steps : Steps 0 0 r g.following
+  pub shorter : length g.following.left < length r.left
+  pub derived : IsStmt 200 around r.depth (tokens_of r.left) (plain_stmt g.value) g.following.depth (tokens_of g.following.left)
   pub shallow : IsShallowStmt (plain_stmt g.value)
 
 abbrev pub SoundStmt : Around → Reader → Got PartialStmt → Type 0
-SoundStmt around r g = g.behind.stop ≡ None → ReadsStmt around r g
+SoundStmt around r g = g.following.stop ≡ None → ReadsStmt around r g
 
 -- a statement that keeps the depth of calls
-pub steady_stmt : {around : Around} {r : Reader} {g : Got PartialStmt} → Steps 0 0 r g.behind → g.behind.depth ≡ r.depth →
-    length g.behind.left < length r.left → IsStmt 200 around r.depth (tokens_of r.left) (plain_stmt g.value) r.depth (tokens_of g.behind.left) →
+pub steady_stmt : {around : Around} {r : Reader} {g : Got PartialStmt} → Steps 0 0 r g.following → g.following.depth ≡ r.depth →
+    length g.following.left < length r.left → IsStmt 200 around r.depth (tokens_of r.left) (plain_stmt g.value) r.depth (tokens_of g.following.left) →
     IsShallowStmt (plain_stmt g.value) → ReadsStmt around r g
 steady_stmt {around} {r} {g} steps steady shorter derived shallow =
-    record { steps = steps; shorter = shorter; derived = subst (λ d. IsStmt 200 around r.depth (tokens_of r.left) (plain_stmt g.value) d (tokens_of g.behind.left)) (sym steady) derived; shallow = shallow }
+    record { steps = steps; shorter = shorter; derived = subst (λ d. IsStmt 200 around r.depth (tokens_of r.left) (plain_stmt g.value) d (tokens_of g.following.left)) (sym steady) derived; shallow = shallow }
 
 -- Calls.
 
 -- The reader passed a call, and the semicolon after it.
 pub record ReadsCall (place : Option PartialExpr) (r : Reader) (g : Got PartialStmt) : Type 0 where
-  pub steps : Steps 0 0 r g.behind
-  pub steady : g.behind.depth ≡ r.depth
-  pub shorter : length g.behind.left < length r.left
+  pub steps : Steps 0 0 r g.following
+  pub steady : g.following.depth ≡ r.depth
+  pub shorter : length g.following.left < length r.left
   pub function : Word
   pub arguments : List Expr
   pub end : ℕ
   pub is : plain_stmt g.value ≡ Call (option_map plain_expr place) function arguments r.depth
-  pub derived : IsCall (tokens_of r.left) function arguments (mark end (codes ";") ∷ tokens_of g.behind.left)
+  pub derived : IsCall (tokens_of r.left) function arguments (mark end (codes ";") ∷ tokens_of g.following.left)
   pub deep : are_shallow arguments ≡ true
 
 abbrev SoundCall : Option PartialExpr → Reader → Got PartialStmt → Type 0
-SoundCall place r g = g.behind.stop ≡ None → ReadsCall place r g
+SoundCall place r g = g.following.stop ≡ None → ReadsCall place r g
 
 -- an opening parenthesis stands after the name
 abbrev OpensBehind : Reader → Type 0
@@ -67,9 +67,9 @@ call_of-sound : (calls : ℕ) (place : Option PartialExpr) (start : Reader) (fun
     Took (WordToken function.word) start r → OpensBehind r → IsEnough calls 0 r.left → SoundCall place start (call_of calls place function r)
 call_of-sound calls place start function r good took opens enough going =
     let arguments = read_arguments calls (skip r) in
-    let between = take_mark (codes ")") arguments.behind in
+    let between = take_mark (codes ")") arguments.following in
     let end = take_mark-took (codes ";") between going in
-    let close = take_mark-took (codes ")") arguments.behind end.passed.going in
+    let close = take_mark-took (codes ")") arguments.following end.passed.going in
     let going_on : r.stop ≡ None = arguments-keeps calls (skip r) close.passed.going in
     let begun = sees_mark-took (codes "(") r (opens going_on) in
     let read = arguments-sound calls (skip r) (omega (arith, begun.one_less)) close.passed.going in
@@ -89,7 +89,7 @@ call_of-sound calls place start function r good took opens enough going =
 call-sound : (calls : ℕ) (place : Option PartialExpr) (r : Reader) → is_the_mark (codes "(") (second_token r) ≡ true → IsEnough calls 0 r.left →
     SoundCall place r (read_call calls place r)
 call-sound calls place r second enough =
-    choice-cases (λ (g : Got (Option WordAt)). SoundCall place r (call_named calls place g.value g.behind)) (name_of (next_token r))
+    choice-cases (λ (g : Got (Option WordAt)). SoundCall place r (call_named calls place g.value g.following)) (name_of (next_token r))
     (λ name is.
     let seen = name_of-is (next_token r) name is in
     let took = skip-took r (WordToken name) seen.0 in
@@ -97,10 +97,10 @@ call-sound calls place r second enough =
     (λ _ going. absurd (fail-stops r going))
 
 -- the statement that a call with a place or without one is
-called : {around : Around} {r : Reader} {g : Got PartialStmt} (s : Stmt) → plain_stmt g.value ≡ s → Steps 0 0 r g.behind → g.behind.depth ≡ r.depth →
-    length g.behind.left < length r.left → IsStmt 200 around r.depth (tokens_of r.left) s r.depth (tokens_of g.behind.left) → IsShallowStmt s → ReadsStmt around r g
+called : {around : Around} {r : Reader} {g : Got PartialStmt} (s : Stmt) → plain_stmt g.value ≡ s → Steps 0 0 r g.following → g.following.depth ≡ r.depth →
+    length g.following.left < length r.left → IsStmt 200 around r.depth (tokens_of r.left) s r.depth (tokens_of g.following.left) → IsShallowStmt s → ReadsStmt around r g
 called {around} {r} {g} s is steps steady shorter derived shallow =
-    steady_stmt steps steady shorter (subst (λ x. IsStmt 200 around r.depth (tokens_of r.left) x r.depth (tokens_of g.behind.left)) (sym is) derived) (subst IsShallowStmt (sym is) shallow)
+    steady_stmt steps steady shorter (subst (λ x. IsStmt 200 around r.depth (tokens_of r.left) x r.depth (tokens_of g.following.left)) (sym is) derived) (subst IsShallowStmt (sym is) shallow)
 
 alone-sound : (around : Around) (calls : ℕ) (r : Reader) → is_the_mark (codes "(") (second_token r) ≡ true → IsEnough calls 0 r.left →
     SoundStmt around r (read_call calls None r)
@@ -108,36 +108,36 @@ alone-sound around calls r second enough going =
     let read = call-sound calls None r second enough going in
     called (Call None read.function read.arguments r.depth) read.is read.steps read.steady read.shorter (call_alone read.derived) (rw read.deep)
 
-into-sound : (around : Around) (calls : ℕ) (r : Reader) (place : Got PartialExpr) → (place.behind.stop ≡ None → ReadsPlace r place) →
-    sees_mark (codes "=") place.behind ≡ true → is_the_mark (codes "(") (second_token (skip place.behind)) ≡ true → IsEnough calls 0 r.left →
-    SoundStmt around r (read_call calls (Some place.value) (skip place.behind))
+into-sound : (around : Around) (calls : ℕ) (r : Reader) (place : Got PartialExpr) → (place.following.stop ≡ None → ReadsPlace r place) →
+    sees_mark (codes "=") place.following ≡ true → is_the_mark (codes "(") (second_token (skip place.following)) ≡ true → IsEnough calls 0 r.left →
+    SoundStmt around r (read_call calls (Some place.value) (skip place.following))
 into-sound around calls r place placed sees second enough going =
-    let equals = sees_mark-took (codes "=") place.behind sees in
+    let equals = sees_mark-took (codes "=") place.following sees in
     let first = placed equals.passed.going in
-    let g = read_call calls (Some place.value) (skip place.behind) in
-    let read = call-sound calls (Some place.value) (skip place.behind) second (omega (arith, first.shorter, equals.one_less)) going in
-    let at : IsPlace (tokens_of r.left) (plain_expr place.value) (mark equals.line (codes "=") ∷ tokens_of (skip place.behind).left) = subst (λ ts. IsPlace (tokens_of r.left) (plain_expr place.value) ts) equals.begins first.derived in
+    let g = read_call calls (Some place.value) (skip place.following) in
+    let read = call-sound calls (Some place.value) (skip place.following) second (omega (arith, first.shorter, equals.one_less)) going in
+    let at : IsPlace (tokens_of r.left) (plain_expr place.value) (mark equals.line (codes "=") ∷ tokens_of (skip place.following).left) = subst (λ ts. IsPlace (tokens_of r.left) (plain_expr place.value) ts) equals.begins first.derived in
     let is : plain_stmt g.value ≡ Call (Some (plain_expr place.value)) read.function read.arguments r.depth = read.is ∙ ap (Call (Some (plain_expr place.value)) read.function read.arguments) first.steady in
     called (Call (Some (plain_expr place.value)) read.function read.arguments r.depth) is (then_steps first.steps (then_steps (token_steps 0 refl equals) read.steps)) (read.steady ∙ (equals.steady ∙ first.steady)) (omega (arith, first.shorter, equals.one_less, read.shorter)) (call_into at read.derived) (rw (le-leb (expr_depth (plain_expr place.value)) 200 first.deep, read.deep))
 
-assignment-sound : (around : Around) (calls : ℕ) (r : Reader) (place : Got PartialExpr) → (place.behind.stop ≡ None → ReadsPlace r place) →
-    sees_mark (codes "=") place.behind ≡ true → IsEnough calls 0 r.left → SoundStmt around r (assignment_of calls place.value (skip place.behind))
+assignment-sound : (around : Around) (calls : ℕ) (r : Reader) (place : Got PartialExpr) → (place.following.stop ≡ None → ReadsPlace r place) →
+    sees_mark (codes "=") place.following ≡ true → IsEnough calls 0 r.left → SoundStmt around r (assignment_of calls place.value (skip place.following))
 assignment-sound around calls r place placed sees enough going =
-    let equals = sees_mark-took (codes "=") place.behind sees in
+    let equals = sees_mark-took (codes "=") place.following sees in
     let first = placed equals.passed.going in
-    let e = read_value calls (skip place.behind) in
-    let read = value-sound calls (skip place.behind) (omega (arith, first.shorter, equals.one_less)) going in
-    let at : IsPlace (tokens_of r.left) (plain_expr place.value) (mark equals.line (codes "=") ∷ tokens_of (skip place.behind).left) = subst (λ ts. IsPlace (tokens_of r.left) (plain_expr place.value) ts) equals.begins first.derived in
+    let e = read_value calls (skip place.following) in
+    let read = value-sound calls (skip place.following) (omega (arith, first.shorter, equals.one_less)) going in
+    let at : IsPlace (tokens_of r.left) (plain_expr place.value) (mark equals.line (codes "=") ∷ tokens_of (skip place.following).left) = subst (λ ts. IsPlace (tokens_of r.left) (plain_expr place.value) ts) equals.begins first.derived in
     called (Assign (plain_expr place.value) (plain_expr e.value)) refl (then_steps first.steps (then_steps (token_steps 0 refl equals) read.steps)) (read.steady ∙ (equals.steady ∙ first.steady)) (omega (arith, first.shorter, equals.one_less, read.shorter)) (assign at read.derived) (rw (le-leb (expr_depth (plain_expr place.value)) 200 first.deep, le-leb (expr_depth (plain_expr e.value)) 200 read.deep))
 
-assigned-sound : (around : Around) (calls : ℕ) (r : Reader) (place : Got PartialExpr) → (place.behind.stop ≡ None → ReadsPlace r place) → IsEnough calls 0 r.left →
+assigned-sound : (around : Around) (calls : ℕ) (r : Reader) (place : Got PartialExpr) → (place.following.stop ≡ None → ReadsPlace r place) → IsEnough calls 0 r.left →
     SoundStmt around r (read_assigned calls place)
 assigned-sound around calls r place placed enough =
-    if-cases (SoundStmt around r) (not (sees_mark (codes "=") place.behind)) (λ _ going. absurd (fail-stops place.behind going))
+    if-cases (SoundStmt around r) (not (sees_mark (codes "=") place.following)) (λ _ going. absurd (fail-stops place.following going))
     (λ sees.
-    let equals = not-false (sees_mark (codes "=") place.behind) sees in
-    if-cases (SoundStmt around r) (begins_call (skip place.behind))
-    (λ begins. into-sound around calls r place placed equals (and_parts _ (is_the_mark (codes "(") (second_token (skip place.behind))) begins).1 enough)
+    let equals = not-false (sees_mark (codes "=") place.following) sees in
+    if-cases (SoundStmt around r) (begins_call (skip place.following))
+    (λ begins. into-sound around calls r place placed equals (and_parts _ (is_the_mark (codes "(") (second_token (skip place.following))) begins).1 enough)
     (λ _. assignment-sound around calls r place placed equals enough))
 
 -- an assignment or a call
@@ -175,7 +175,7 @@ pub goto-sound : (around : Around) (r : Reader) → sees_word (codes "goto") r �
 goto-sound around r sees going =
     let took = sees_word-took (codes "goto") r sees in
     let name = take_name (skip r) in
-    let end = take_mark-took (codes ";") name.behind going in
+    let end = take_mark-took (codes ";") name.following going in
     let named = name-sound (skip r) end.passed.going in
     called (Goto named.name.word) (ap (λ n. plain_stmt (GotoOf n)) named.is) (then_steps (token_steps 0 refl took) (then_steps (token_steps 0 refl named.took) (token_steps 0 refl end))) (end.steady ∙ (named.took.steady ∙ took.steady)) (omega (arith, took.one_less, named.took.one_less, end.one_less))
     (rw (took.begins, named.took.begins, end.begins) (goto named.name.word named.good)) refl

@@ -27,23 +27,23 @@ going-done r going = ap (λ stop. not (is_some stop)) going
 
 -- Parts of statements.
 
-pub test-entire : (calls : ℕ) (r : Reader) → IsEnough calls 0 r.left → (read_test calls r).behind.stop ≡ None → is_complete_expr (read_test calls r).value ≡ true
+pub test-entire : (calls : ℕ) (r : Reader) → IsEnough calls 0 r.left → (read_test calls r).following.stop ≡ None → is_complete_expr (read_test calls r).value ≡ true
 test-entire calls r enough going =
     let here = take_mark (codes "(") r in
     let e = read_enclosed calls here in
-    let close = take_mark-took (codes ")") e.behind going in
+    let close = take_mark-took (codes ")") e.following going in
     let begun = take_mark-took (codes "(") r ((keeps_stop calls).expr (whole 1 here) here close.passed.going) in
-    expr-entire calls (whole 1 here) here (omega (arith, begun.one_less)) close.passed.going (taken-no_call (codes ")") e.behind refl going)
+    expr-entire calls (whole 1 here) here (omega (arith, begun.one_less)) close.passed.going (taken-no_call (codes ")") e.following refl going)
 
-pub value-entire : (calls : ℕ) (r : Reader) → IsEnough calls 3 r.left → (take_mark (codes ";") (read_value calls r).behind).stop ≡ None →
+pub value-entire : (calls : ℕ) (r : Reader) → IsEnough calls 3 r.left → (take_mark (codes ";") (read_value calls r).following).stop ≡ None →
     is_complete_expr (read_value calls r).value ≡ true
 value-entire calls r enough going =
     let e = read_value calls r in
-    expr-entire calls (whole 0 r) r enough (mark-keeps (codes ";") e.behind going) (taken-no_call (codes ";") e.behind refl going)
+    expr-entire calls (whole 0 r) r enough (mark-keeps (codes ";") e.following going) (taken-no_call (codes ";") e.following refl going)
 
 -- the same for a place
 abbrev pub EntirePlace : Got PartialExpr → Type 0
-EntirePlace g = g.behind.stop ≡ None → NoCall g.behind → is_complete_place g.value ≡ true
+EntirePlace g = g.following.stop ≡ None → NoCall g.following → is_complete_place g.value ≡ true
 
 place-entire : (calls : ℕ) (r : Reader) → IsEnough calls 0 r.left → EntirePlace (read_place calls r)
 place-entire calls r enough =
@@ -59,48 +59,48 @@ abbrev EntireList : Got (List PartialExpr) → Type 0
 EntireList g = list_all is_complete_expr g.value ≡ true
 
 -- of those after the first one, before which no parenthesis stands either
-more_arguments-entire : (calls : ℕ) (r : Reader) → IsEnough calls 0 r.left → (more_arguments calls r).behind.stop ≡ None → NoCall (more_arguments calls r).behind →
+more_arguments-entire : (calls : ℕ) (r : Reader) → IsEnough calls 0 r.left → (more_arguments calls r).following.stop ≡ None → NoCall (more_arguments calls r).following →
     NoCall r × EntireList (more_arguments calls r)
 more_arguments-entire zero r enough = λ going ends. (ends, refl)
 more_arguments-entire (suc calls) r enough =
-    if-cases (λ (g : Got (List PartialExpr)). g.behind.stop ≡ None → NoCall g.behind → NoCall r × EntireList g) (sees_mark (codes ",") r)
+    if-cases (λ (g : Got (List PartialExpr)). g.following.stop ≡ None → NoCall g.following → NoCall r × EntireList g) (sees_mark (codes ",") r)
     (λ sees going ends.
     let first = read_enclosed calls (skip r) in
     let comma = sees_mark-took (codes ",") r sees in
-    let on = more_arguments-keeps calls first.behind going in
+    let on = more_arguments-keeps calls first.following going in
     let read = sound_expr calls (whole 1 (skip r)) (skip r) (omega (arith, comma.one_less)) on in
-    let others = more_arguments-entire calls first.behind (omega (arith, comma.one_less, read.shorter)) going ends in
+    let others = more_arguments-entire calls first.following (omega (arith, comma.one_less, read.shorter)) going ends in
     (mark-no_call (codes ",") r refl sees, and_from _ _ (expr-entire calls (whole 1 (skip r)) (skip r) (omega (arith, comma.one_less)) on others.0) others.1))
     (λ _ going ends. (ends, refl))
 
-arguments-entire : (calls : ℕ) (r : Reader) → IsEnough calls 3 r.left → (read_arguments calls r).behind.stop ≡ None → NoCall (read_arguments calls r).behind → EntireList (read_arguments calls r)
+arguments-entire : (calls : ℕ) (r : Reader) → IsEnough calls 3 r.left → (read_arguments calls r).following.stop ≡ None → NoCall (read_arguments calls r).following → EntireList (read_arguments calls r)
 arguments-entire calls r enough =
-    if-cases (λ (g : Got (List PartialExpr)). g.behind.stop ≡ None → NoCall g.behind → EntireList g) (sees_mark (codes ")") r) (λ _ going ends. refl)
+    if-cases (λ (g : Got (List PartialExpr)). g.following.stop ≡ None → NoCall g.following → EntireList g) (sees_mark (codes ")") r) (λ _ going ends. refl)
     (λ _ going ends.
     let first = read_enclosed calls r in
-    let on = more_arguments-keeps calls first.behind going in
+    let on = more_arguments-keeps calls first.following going in
     let read = sound_expr calls (whole 1 r) r enough on in
-    let others = more_arguments-entire calls first.behind (omega (arith, read.shorter)) going ends in
+    let others = more_arguments-entire calls first.following (omega (arith, read.shorter)) going ends in
     and_from _ _ (expr-entire calls (whole 1 r) r enough on others.0) others.1)
 
 -- Statements.
 
 -- a statement that was read is complete, and has at most 200 blocks around each inside it, where so many are around it
 abbrev pub EntireStmt : ℕ → Got PartialStmt → Type 0
-EntireStmt blocks g = g.behind.stop ≡ None → (is_complete_stmt g.value ≡ true) × (is_within blocks g.value ≡ true)
+EntireStmt blocks g = g.following.stop ≡ None → (is_complete_stmt g.value ≡ true) × (is_within blocks g.value ≡ true)
 
-pub fewer_behind : (pieces : List Piece) → length (drop 1 pieces) ≤ length pieces
-fewer_behind [] = omega arith
-fewer_behind (p ∷ pieces) = omega arith
+pub fewer_after : (pieces : List Piece) → length (drop 1 pieces) ≤ length pieces
+fewer_after [] = omega arith
+fewer_after (p ∷ pieces) = omega arith
 
 call_of-entire : (blocks calls : ℕ) (place : Option PartialExpr) (function : WordAt) (r : Reader) → (r.stop ≡ None → is_complete_place_if place ≡ true) → IsEnough calls 3 r.left →
     EntireStmt blocks (call_of calls place function r)
 call_of-entire blocks calls place function r placed enough going =
     let arguments = read_arguments calls (skip r) in
-    let between = take_mark (codes ")") arguments.behind in
+    let between = take_mark (codes ")") arguments.following in
     let closed = mark-keeps (codes ";") between going in
-    let on = mark-keeps (codes ")") arguments.behind closed in
-    let read = arguments-entire calls (skip r) (omega (arith, fewer_behind r.left)) on (taken-no_call (codes ")") arguments.behind refl closed) in
+    let on = mark-keeps (codes ")") arguments.following closed in
+    let read = arguments-entire calls (skip r) (omega (arith, fewer_after r.left)) on (taken-no_call (codes ")") arguments.following refl closed) in
     (and_from _ _ (placed (arguments-keeps calls (skip r) on)) (and_from _ _ read (going-done between closed)), refl)
 
 call_named-entire : (blocks calls : ℕ) (place : Option PartialExpr) (r : Reader) (name : Option WordAt) → (r.stop ≡ None → is_complete_place_if place ≡ true) → IsEnough calls 3 r.left →
@@ -111,30 +111,30 @@ call_named-entire blocks calls place r None placed enough = λ going. (refl, ref
 call-entire : (blocks calls : ℕ) (place : Option PartialExpr) (r : Reader) → is_complete_place_if place ≡ true → IsEnough calls 0 r.left →
     EntireStmt blocks (read_call calls place r)
 call-entire blocks calls place r placed enough =
-    choice-cases (λ (g : Got (Option WordAt)). EntireStmt blocks (call_named calls place g.value g.behind)) (name_of (next_token r))
+    choice-cases (λ (g : Got (Option WordAt)). EntireStmt blocks (call_named calls place g.value g.following)) (name_of (next_token r))
     (λ word is.
     let took = skip-took r (WordToken word) (name_of-is (next_token r) word is).0 in
     call_named-entire blocks calls place (skip r) (Some (record { word = word; at = r.at })) (λ _. placed) (omega (arith, took.one_less)))
     (λ _ going. absurd (fail-stops r going))
 
 -- what takes a value at a place that was read
-assigned-entire : (blocks calls : ℕ) (place : Got PartialExpr) → EntirePlace place → (place.behind.stop ≡ None → IsEnough calls 0 place.behind.left) →
+assigned-entire : (blocks calls : ℕ) (place : Got PartialExpr) → EntirePlace place → (place.following.stop ≡ None → IsEnough calls 0 place.following.left) →
     EntireStmt blocks (read_assigned calls place)
 assigned-entire blocks calls place placed enough =
-    if-cases (EntireStmt blocks) (not (sees_mark (codes "=") place.behind)) (λ _ going. absurd (fail-stops place.behind going))
+    if-cases (EntireStmt blocks) (not (sees_mark (codes "=") place.following)) (λ _ going. absurd (fail-stops place.following going))
     (λ unless. by unless)
   where
-    by : not (sees_mark (codes "=") place.behind) ≡ false →
-        EntireStmt blocks (if begins_call (skip place.behind) then read_call calls (Some place.value) (skip place.behind) else assignment_of calls place.value (skip place.behind))
+    by : not (sees_mark (codes "=") place.following) ≡ false →
+        EntireStmt blocks (if begins_call (skip place.following) then read_call calls (Some place.value) (skip place.following) else assignment_of calls place.value (skip place.following))
     by unless =
-        let sees : sees_mark (codes "=") place.behind ≡ true = not-false (sees_mark (codes "=") place.behind) unless in
-        let equals = sees_mark-took (codes "=") place.behind sees in
-        let complete = placed equals.passed.going (mark-no_call (codes "=") place.behind refl sees) in
+        let sees : sees_mark (codes "=") place.following ≡ true = not-false (sees_mark (codes "=") place.following) unless in
+        let equals = sees_mark-took (codes "=") place.following sees in
+        let complete = placed equals.passed.going (mark-no_call (codes "=") place.following refl sees) in
         let some = enough equals.passed.going in
-        let room : IsEnough calls 3 (skip place.behind).left = omega (arith, some, equals.one_less) in
-        if-cases (EntireStmt blocks) (begins_call (skip place.behind))
-        (λ _. call-entire blocks calls (Some place.value) (skip place.behind) complete (omega (arith, room)))
-        (λ _ going. (and_from _ _ complete (and_from _ _ (value-entire calls (skip place.behind) room going) (going-done (take_mark (codes ";") (read_value calls (skip place.behind)).behind) going)), refl))
+        let room : IsEnough calls 3 (skip place.following).left = omega (arith, some, equals.one_less) in
+        if-cases (EntireStmt blocks) (begins_call (skip place.following))
+        (λ _. call-entire blocks calls (Some place.value) (skip place.following) complete (omega (arith, room)))
+        (λ _ going. (and_from _ _ complete (and_from _ _ (value-entire calls (skip place.following) room going) (going-done (take_mark (codes ";") (read_value calls (skip place.following)).following) going)), refl))
 
 -- an assignment or a call
 pub simple-entire : (blocks calls : ℕ) (r : Reader) → IsEnough calls 0 r.left → EntireStmt blocks (read_simple calls r)
@@ -146,14 +146,14 @@ simple-entire blocks calls r enough =
 return-entire : (blocks calls : ℕ) (r : Reader) → sees_word (codes "return") r ≡ true → IsEnough calls 0 r.left → EntireStmt blocks (read_return calls r)
 return-entire blocks calls r sees enough =
     let took = sees_word-took (codes "return") r sees in
-    let behind = take_mark (codes ";") (read_value calls (skip r)).behind in
+    let following = take_mark (codes ";") (read_value calls (skip r)).following in
     if-cases (EntireStmt blocks) (sees_mark (codes ";") (skip r)) (λ _ going. (refl, refl))
-    (λ _ going. (and_from _ _ (value-entire calls (skip r) (omega (arith, took.one_less)) going) (going-done behind going), refl))
+    (λ _ going. (and_from _ _ (value-entire calls (skip r) (omega (arith, took.one_less)) going) (going-done following going), refl))
 
 goto-entire : (blocks : ℕ) (r : Reader) → EntireStmt blocks (read_goto r)
 goto-entire blocks r going =
     let name = take_name (skip r) in
-    (ap is_some (name-sound (skip r) (mark-keeps (codes ";") name.behind going)).is, refl)
+    (ap is_some (name-sound (skip r) (mark-keeps (codes ";") name.following going)).is, refl)
 
 -- statements that hold no blocks
 pub leave_stmts-entire : (blocks calls : ℕ) (around : Around) (r : Reader) → IsEnough calls 0 r.left → EntireStmt blocks (leave_stmts calls around r)

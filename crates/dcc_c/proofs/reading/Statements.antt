@@ -29,26 +29,26 @@ IsWeaker least token = (operator : CBin) → binary_of token ≡ Some operator �
 -- What was read between two readers is an expression of this strength: the grammar says so of the tokens in whatever
 -- follows, no parenthesis in it is one too many, and with the operators around it it is at most 200 deep.
 pub record ReadsExpr (least : ℕ) (inside : Inside) (r : Reader) (g : Got PartialExpr) : Type 0 where
-  pub passed : Passed r g.behind
-  pub steady : g.behind.depth ≡ r.depth
-  pub shorter : length g.behind.left < length r.left
-  pub derived : IsExpr least (tokens_of r.left) (plain_expr g.value) (tokens_of g.behind.left)
-  pub enclosed : most_open inside.opened (tokens_of g.behind.left) ≤ 200 → most_open inside.opened (tokens_of r.left) ≤ 200
+  pub passed : Passed r g.following
+  pub steady : g.following.depth ≡ r.depth
+  pub shorter : length g.following.left < length r.left
+  pub derived : IsExpr least (tokens_of r.left) (plain_expr g.value) (tokens_of g.following.left)
+  pub enclosed : most_open inside.opened (tokens_of g.following.left) ≤ 200 → most_open inside.opened (tokens_of r.left) ≤ 200
   pub shallow : inside.operators + expr_depth (plain_expr g.value) ≤ 200
 
 -- reading that has not stopped has read an expression
 abbrev pub IsSound : ℕ → Inside → Reader → Got PartialExpr → Type 0
-IsSound least inside r g = g.behind.stop ≡ None → ReadsExpr least inside r g
+IsSound least inside r g = g.following.stop ≡ None → ReadsExpr least inside r g
 
 -- the same for a type
 pub record ReadsType (r : Reader) (g : Got (Option CType)) : Type 0 where
-  pub passed : Passed r g.behind
-  pub steady : g.behind.depth ≡ r.depth
-  pub shorter : length g.behind.left < length r.left
+  pub passed : Passed r g.following
+  pub steady : g.following.depth ≡ r.depth
+  pub shorter : length g.following.left < length r.left
   pub type : CType
   pub is : g.value ≡ Some type
-  pub derived : Begins (tokens_of r.left) (type_tokens type) (tokens_of g.behind.left)
-  pub enclosed : (opened : ℕ) → most_open opened (tokens_of g.behind.left) ≤ 200 → most_open opened (tokens_of r.left) ≤ 200
+  pub derived : Begins (tokens_of r.left) (type_tokens type) (tokens_of g.following.left)
+  pub enclosed : (opened : ℕ) → most_open opened (tokens_of g.following.left) ≤ 200 → most_open opened (tokens_of r.left) ≤ 200
 
 -- The other direction.
 
@@ -77,10 +77,10 @@ pub record IsShallow (inside : Inside) (tokens : List Placed) (e : Expr) : Type 
 -- the expression was read, with exactly the rest left
 pub record FindsExpr (tokens : List Placed) (e : Expr) (rest : List Placed) (at depth : ℕ) (g : Got PartialExpr) : Type 0 where
   pub partial : PartialExpr
-  pub behind : ℕ
+  pub following : ℕ
   pub same : plain_expr partial ≡ e
-  pub place : behind + length rest ≡ at + length tokens
-  pub is : g ≡ got partial (on rest behind depth)
+  pub place : following + length rest ≡ at + length tokens
+  pub is : g ≡ got partial (on rest following depth)
 
 -- The statements.
 
@@ -123,11 +123,11 @@ pub record IsText (tokens : List Placed) (tree : Tree) : Type 0 where
 -- What has been read of a text to its end is one, and its pieces are tokens.
 abbrev pub SoundText : Type 0
 SoundText =
-    (pieces : List Piece) → (reading_of pieces).behind.stop ≡ None →
-    (are_tokens pieces ≡ true) × IsText (tokens_of pieces) (plain_text (reading_of pieces).value) × ((reading_of pieces).behind.left ≡ [])
+    (pieces : List Piece) → (reading_of pieces).following.stop ≡ None →
+    (are_tokens pieces ≡ true) × IsText (tokens_of pieces) (plain_text (reading_of pieces).value) × ((reading_of pieces).following.left ≡ [])
 
 -- A text of the grammar that the limits of depth allow is read to its end.
 abbrev pub CompleteText : Type 0
 CompleteText =
     (tokens : List Placed) (tree : Tree) → IsText tokens tree →
-    ((reading_of (pieces_with tokens)).behind.stop ≡ None) × (plain_text (reading_of (pieces_with tokens)).value ≡ tree)
+    ((reading_of (pieces_with tokens)).following.stop ≡ None) × (plain_text (reading_of (pieces_with tokens)).value ≡ tree)

@@ -24,7 +24,7 @@ leave_stmts calls around r = if sees_word (codes "break") r then read_leave arou
 
 abbrev pub switch_stmt : ℕ → Around → Reader → Got PartialStmt
 switch_stmt calls around r =
-    switch_of (read_test calls (skip r)) (read_arms calls (in_switch around) (take_mark (codes "{") (read_test calls (skip r)).behind))
+    switch_of (read_test calls (skip r)) (read_arms calls (in_switch around) (take_mark (codes "{") (read_test calls (skip r)).following))
 
 abbrev pub switch_stmts : ℕ → Around → Reader → Got PartialStmt
 switch_stmts calls around r = if sees_word (codes "switch") r then switch_stmt calls around r else leave_stmts calls around r
@@ -32,20 +32,20 @@ switch_stmts calls around r = if sees_word (codes "switch") r then switch_stmt c
 abbrev pub for_stmt : ℕ → Around → Reader → Got PartialStmt
 for_stmt calls around r =
     let body = read_block calls (in_loop around) (take_mark (codes ")") (take_mark (codes ";") (take_mark (codes ";") (take_mark (codes "(") (skip r))))) in
-    got (ForeverOf body.value) body.behind
+    got (ForeverOf body.value) body.following
 
 abbrev pub for_stmts : ℕ → Around → Reader → Got PartialStmt
 for_stmts calls around r = if sees_word (codes "for") r then for_stmt calls around r else switch_stmts calls around r
 
 abbrev pub do_stmt : ℕ → Around → Reader → Got PartialStmt
 do_stmt calls around r =
-    do_while_of (read_block calls (in_loop around) (skip r)) (read_test calls (take_word (codes "while") (read_block calls (in_loop around) (skip r)).behind))
+    do_while_of (read_block calls (in_loop around) (skip r)) (read_test calls (take_word (codes "while") (read_block calls (in_loop around) (skip r)).following))
 
 abbrev pub do_stmts : ℕ → Around → Reader → Got PartialStmt
 do_stmts calls around r = if sees_word (codes "do") r then do_stmt calls around r else for_stmts calls around r
 
 abbrev pub while_stmt : ℕ → Around → Reader → Got PartialStmt
-while_stmt calls around r = while_of (read_test calls (skip r)) (read_block calls (in_loop around) (read_test calls (skip r)).behind)
+while_stmt calls around r = while_of (read_test calls (skip r)) (read_block calls (in_loop around) (read_test calls (skip r)).following)
 
 abbrev pub while_stmts : ℕ → Around → Reader → Got PartialStmt
 while_stmts calls around r = if sees_word (codes "while") r then while_stmt calls around r else do_stmts calls around r

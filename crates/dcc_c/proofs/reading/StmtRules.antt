@@ -28,10 +28,10 @@ module _ (calls : ℕ) (keep : KeepsStmts calls) (sound : SoundStmts calls) wher
   do-sound around r sees enough going =
       let took = sees_word-took (codes "do") r sees in
       let body = read_block calls (in_loop around) (skip r) in
-      let here = take_word (codes "while") body.behind in
+      let here = take_word (codes "while") body.following in
       let test = read_test calls here in
-      let end = take_mark-took (codes ";") test.behind going in
-      let again = take_word-took (codes "while") body.behind (test-keeps calls here end.passed.going) in
+      let end = take_mark-took (codes ";") test.following going in
+      let again = take_word-took (codes "while") body.following (test-keeps calls here end.passed.going) in
       let inner = sound.block (in_loop around) (skip r) (omega (arith, took.one_less)) again.passed.going in
       let read = test-sound calls here (omega (arith, took.one_less, inner.shorter, again.one_less)) end.passed.going in
       do_while-sound around r body test took inner again read end
@@ -41,10 +41,10 @@ module _ (calls : ℕ) (keep : KeepsStmts calls) (sound : SoundStmts calls) wher
   choice-sound around r sees enough going =
       let took = sees_word-took (codes "switch") r sees in
       let test = read_test calls (skip r) in
-      let inside = take_mark (codes "{") test.behind in
+      let inside = take_mark (codes "{") test.following in
       let arms = read_arms calls (in_switch around) inside in
-      let end = take_mark-took (codes "}") arms.behind going in
-      let brace = take_mark-took (codes "{") test.behind (keep.arms (in_switch around) inside end.passed.going) in
+      let end = take_mark-took (codes "}") arms.following going in
+      let brace = take_mark-took (codes "{") test.following (keep.arms (in_switch around) inside end.passed.going) in
       let read = test-sound calls (skip r) (omega (arith, took.one_less)) brace.passed.going in
       let inner = sound.arms (in_switch around) inside (omega (arith, took.one_less, read.shorter, brace.one_less)) end.passed.going in
       switch-sound around r test arms took read brace inner.0 inner.1 end
@@ -66,8 +66,8 @@ module _ (calls : ℕ) (keep : KeepsStmts calls) (sound : SoundStmts calls) wher
   turns-sound around r sees enough going =
       let took = sees_word-took (codes "while") r sees in
       let test = read_test calls (skip r) in
-      let read = test-sound calls (skip r) (omega (arith, took.one_less)) (keep.block (in_loop around) test.behind going) in
-      while-sound around r test (read_block calls (in_loop around) test.behind) took read (sound.block (in_loop around) test.behind (omega (arith, took.one_less, read.shorter)) going)
+      let read = test-sound calls (skip r) (omega (arith, took.one_less)) (keep.block (in_loop around) test.following going) in
+      while-sound around r test (read_block calls (in_loop around) test.following) took read (sound.block (in_loop around) test.following (omega (arith, took.one_less, read.shorter)) going)
 
   goto-stmts : (around : Around) (r : Reader) → IsEnough calls 0 r.left → SoundStmt around r (goto_stmts calls around r)
   goto-stmts around r room =
@@ -106,20 +106,20 @@ module _ (calls : ℕ) (keep : KeepsStmts calls) (sound : SoundStmts calls) wher
       (λ _. tests-sound around r enough)
 
   if-sound : (around : Around) (start r : Reader) (test : Got PartialExpr) → Took (WordToken (codes "if")) start r →
-      (test.behind.stop ≡ None → ReadsTest r test) → (test.behind.stop ≡ None → IsEnough (suc calls) 2 test.behind.left) →
+      (test.following.stop ≡ None → ReadsTest r test) → (test.following.stop ≡ None → IsEnough (suc calls) 2 test.following.left) →
       SoundStmt around start (read_if (suc calls) around test)
   if-sound around start r test took read enough =
-      let body = read_block calls (in_block around) test.behind in
-      let first : body.behind.stop ≡ None → ReadsBlock (in_block around) test.behind body = λ going.
-      sound.block (in_block around) test.behind (let room = enough (keep.block (in_block around) test.behind going) in omega (arith, room)) going
+      let body = read_block calls (in_block around) test.following in
+      let first : body.following.stop ≡ None → ReadsBlock (in_block around) test.following body = λ going.
+      sound.block (in_block around) test.following (let room = enough (keep.block (in_block around) test.following going) in omega (arith, room)) going
       in
-      if-cases (SoundStmt around start) (sees_word (codes "else") body.behind)
+      if-cases (SoundStmt around start) (sees_word (codes "else") body.following)
       (λ sees going.
-      let between = sees_word-took (codes "else") body.behind sees in
+      let between = sees_word-took (codes "else") body.following sees in
       let inner = first between.passed.going in
       let room = enough inner.steps.passed.going in
-      if_else-sound around start r test body (read_block calls (in_block around) (skip body.behind)) took (read inner.steps.passed.going) inner between
-      (sound.block (in_block around) (skip body.behind) (omega (arith, room, inner.shorter, between.one_less)) going))
+      if_else-sound around start r test body (read_block calls (in_block around) (skip body.following)) took (read inner.steps.passed.going) inner between
+      (sound.block (in_block around) (skip body.following) (omega (arith, room, inner.shorter, between.one_less)) going))
       (λ _ going.
       let inner = first going in
       if_alone-sound around start r test body took (read inner.steps.passed.going) inner)
@@ -128,7 +128,7 @@ module _ (calls : ℕ) (keep : KeepsStmts calls) (sound : SoundStmts calls) wher
   blocks-sound around r enough going =
       let inside = take_mark (codes "{") r in
       let lines = read_lines calls around false false inside in
-      let end = take_mark-took (codes "}") lines.behind going in
+      let end = take_mark-took (codes "}") lines.following going in
       let begun = take_mark-took (codes "{") r (keep.lines around false false inside end.passed.going) in
       block-sound around r inside lines begun (sound.lines around false false inside (omega (arith, begun.one_less)) end.passed.going) end
 
@@ -158,28 +158,28 @@ module _ (calls : ℕ) (keep : KeepsStmts calls) (sound : SoundStmts calls) wher
       label_then around labelled leaves r (skip r) here others (ltb-false 200 around.blocks room) seen.1 took colon (sound.lines around true false (skip (skip r)) (omega (arith, took.one_less, colon.one_less)) going))
 
   labels-sound : (around : Around) (labelled leaves : Bool) (r : Reader) → begins_label r ≡ true → IsEnough (suc calls) 2 r.left →
-      SoundLines around labelled leaves r (elim (take_name r).value [ Some word ↦ before_others (LabelOf word) r.at (line_of r.left) (read_lines calls around true false (stop_if_nested around r.at (skip (take_name r).behind))) | None ↦ got (block_of no_rows false) (take_name r).behind ])
+      SoundLines around labelled leaves r (elim (take_name r).value [ Some word ↦ before_others (LabelOf word) r.at (line_of r.left) (read_lines calls around true false (stop_if_nested around r.at (skip (take_name r).following))) | None ↦ got (block_of no_rows false) (take_name r).following ])
   labels-sound around labelled leaves r begins enough =
       let second = (and_parts (is_some (name_of (next_token r))) (is_the_mark (codes ":") (second_token r)) begins).1 in
-      choice-cases (λ (g : Got (Option WordAt)). SoundLines around labelled leaves r (elim g.value [ Some word ↦ before_others (LabelOf word) r.at (line_of r.left) (read_lines calls around true false (stop_if_nested around r.at (skip g.behind))) | None ↦ got (block_of no_rows false) g.behind ])) (name_of (next_token r))
+      choice-cases (λ (g : Got (Option WordAt)). SoundLines around labelled leaves r (elim g.value [ Some word ↦ before_others (LabelOf word) r.at (line_of r.left) (read_lines calls around true false (stop_if_nested around r.at (skip g.following))) | None ↦ got (block_of no_rows false) g.following ])) (name_of (next_token r))
       (λ name is. label-sound around labelled leaves r name is second enough)
       (λ _ going. absurd (fail-stops r going))
 
   -- a statement that is no label
   one_stmt-sound : (around : Around) (labelled leaves : Bool) (r : Reader) (token : Token) → next_token r ≡ Some token → IsEnough (suc calls) 2 r.left →
-      SoundLines around labelled leaves r (before_others (read_stmt calls around r).value r.at (line_of r.left) (read_lines calls around false (is_break (read_stmt calls around r).value && not labelled) (stop_if_nested around r.at (read_stmt calls around r).behind)))
+      SoundLines around labelled leaves r (before_others (read_stmt calls around r).value r.at (line_of r.left) (read_lines calls around false (is_break (read_stmt calls around r).value && not labelled) (stop_if_nested around r.at (read_stmt calls around r).following)))
   one_stmt-sound around labelled leaves r token is enough =
       let stmt = read_stmt calls around r in
       let leaving : Bool = is_break stmt.value && not labelled in
       let result : Reader → Type 0 = λ q. SoundLines around labelled leaves r (before_others stmt.value r.at (line_of r.left) (read_lines calls around false leaving q)) in
-      let stopped : Reader = stop_at of_depth r.at stmt.behind in
-      if-cases result (is_nested around) {x = stopped} {y = stmt.behind}
-      (λ _ going. absurd (stop_at-stops of_depth r.at stmt.behind (keep.lines around false leaving stopped going)))
+      let stopped : Reader = stop_at of_depth r.at stmt.following in
+      if-cases result (is_nested around) {x = stopped} {y = stmt.following}
+      (λ _ going. absurd (stop_at-stops of_depth r.at stmt.following (keep.lines around false leaving stopped going)))
       (λ room going.
-      let others = read_lines calls around false leaving stmt.behind in
-      let first = sound.stmt around r (omega arith) (keep.lines around false leaving stmt.behind going) in
+      let others = read_lines calls around false leaving stmt.following in
+      let first = sound.stmt around r (omega arith) (keep.lines around false leaving stmt.following going) in
       let took = skip-took r token is in
-      stmt_then around labelled leaves r (skip r) token stmt others (ltb-false 200 around.blocks room) (begins_here took) first (sound.lines around false leaving stmt.behind (omega (arith, first.shorter)) going))
+      stmt_then around labelled leaves r (skip r) token stmt others (ltb-false 200 around.blocks room) (begins_here took) first (sound.lines around false leaving stmt.following (omega (arith, first.shorter)) going))
 
   line-sound : (around : Around) (labelled leaves : Bool) (r : Reader) → begins_stmt (next_token r) ≡ true → IsEnough (suc calls) 2 r.left →
       SoundLines around labelled leaves r (read_line (suc calls) around labelled r)
@@ -203,28 +203,28 @@ module _ (calls : ℕ) (keep : KeepsStmts calls) (sound : SoundStmts calls) wher
           depth_then around leaves r (read_depth r) (read_lines calls around false false (read_depth r)) (ltb-false 200 around.blocks room) read (sound.lines around false false (read_depth r) (omega (arith, read.shorter)) going))
 
   arms-sound : (around : Around) (r : Reader) → IsEnough (suc calls) 2 r.left →
-      (read_arms (suc calls) around r).behind.stop ≡ None → ReadsArms around r (read_arms (suc calls) around r) × (begins_arm r ≡ true)
+      (read_arms (suc calls) around r).following.stop ≡ None → ReadsArms around r (read_arms (suc calls) around r) × (begins_arm r ≡ true)
   arms-sound around r enough =
-      if-cases (λ g. g.behind.stop ≡ None → ReadsArms around r g × (begins_arm r ≡ true)) (begins_arm r)
+      if-cases (λ g. g.following.stop ≡ None → ReadsArms around r g × (begins_arm r ≡ true)) (begins_arm r)
       (λ begins going. (sound.more_arms around r (omega arith) going, begins)) (λ _ going. absurd (fail-stops r going))
 
   more_arms-sound : (around : Around) (r : Reader) → IsEnough (suc calls) 1 r.left → SoundArms around r (read_more_arms (suc calls) around r)
   more_arms-sound around r enough =
       let head = read_arm_head calls r in
-      let lines = read_lines calls around false false head.behind in
+      let lines = read_lines calls around false false head.following in
       let result : Got PartialLines → Type 0 = λ body.
-      SoundArms around r (got (cases head.value.numbers head.value.default body.value (read_more_arms calls around body.behind).value) (read_more_arms calls around body.behind).behind)
+      SoundArms around r (got (cases head.value.numbers head.value.default body.value (read_more_arms calls around body.following).value) (read_more_arms calls around body.following).following)
       in
       if-cases (SoundArms around r) (begins_arm r)
-      (λ begins. if-cases result (is_stopped lines.behind) {x = got lines.value.lines lines.behind} {y = if lines.value.leaves then got (without_last lines.value.lines) lines.behind else got lines.value.lines (fail lines.behind)}
-      (λ stopped going. absurd (going_on lines.behind (keep.more_arms around lines.behind going) stopped))
-      (λ _. if-cases result lines.value.leaves {x = got (without_last lines.value.lines) lines.behind} {y = got lines.value.lines (fail lines.behind)}
+      (λ begins. if-cases result (is_stopped lines.following) {x = got lines.value.lines lines.following} {y = if lines.value.leaves then got (without_last lines.value.lines) lines.following else got lines.value.lines (fail lines.following)}
+      (λ stopped going. absurd (going_on lines.following (keep.more_arms around lines.following going) stopped))
+      (λ _. if-cases result lines.value.leaves {x = got (without_last lines.value.lines) lines.following} {y = got lines.value.lines (fail lines.following)}
       (λ leaves going.
-      let behind = keep.more_arms around lines.behind going in
-      let first = head-sound around calls r begins (omega arith) (keep.lines around false false head.behind behind) in
-      let body = sound.lines around false false head.behind (omega (arith, first.shorter)) behind in
-      arm_then around r head lines (read_more_arms calls around lines.behind) first body leaves (sound.more_arms around lines.behind (omega (arith, first.shorter, body.steps.passed.fewer)) going))
-      (λ _ going. absurd (fail-stops lines.behind (keep.more_arms around (fail lines.behind) going)))))
+      let following = keep.more_arms around lines.following going in
+      let first = head-sound around calls r begins (omega arith) (keep.lines around false false head.following following) in
+      let body = sound.lines around false false head.following (omega (arith, first.shorter)) following in
+      arm_then around r head lines (read_more_arms calls around lines.following) first body leaves (sound.more_arms around lines.following (omega (arith, first.shorter, body.steps.passed.fewer)) going))
+      (λ _ going. absurd (fail-stops lines.following (keep.more_arms around (fail lines.following) going)))))
       (λ none going.
       record { steps = no_steps r going; derived = no_arm; shallow = refl; shallow_last = refl; has = λ begins. absurd cc })
     where

@@ -11,10 +11,10 @@ use Rattle.dcc_c.proofs.reading.Words.{type-sound}
 
 -- reading that goes on after has gone on before
 abbrev pub GoesOn : Reader → Reader → Type 0
-GoesOn r behind = behind.stop ≡ None → r.stop ≡ None
+GoesOn r following = following.stop ≡ None → r.stop ≡ None
 
 abbrev pub Keeps : Reader → Got PartialExpr → Type 0
-Keeps r g = GoesOn r g.behind
+Keeps r g = GoesOn r g.following
 
 -- a choice by what there is
 pub choice-cases : {A B : Type 0} (P : B → Type 0) (o : Option A) {f : A → B} {n : B} → ((a : A) → o ≡ Some a → P (f a)) → (o ≡ None → P n) →
@@ -41,7 +41,7 @@ deep-keeps inside e r =
 
 pub deep_left : (inside : Inside) (e : PartialExpr) (r : Reader) → (stop_if_deep inside e r).left ≡ r.left
 deep_left inside e r =
-    let same : Reader → Type 0 = λ behind. behind.left ≡ r.left in
+    let same : Reader → Type 0 = λ following. following.left ≡ r.left in
     let stopped : Reader = record r { stop = Some (offence of_depth inside.start) } in
     if-cases same (nat_lt 200 (inside.operators + depth_of e)) {x = stop_at of_depth inside.start r} {y = r}
     (λ _. if-cases same (is_stopped r) {x = r} {y = stopped} (λ _. refl) (λ _. refl)) (λ _. refl)
@@ -55,13 +55,13 @@ enclosed-keeps inside r =
 
 -- reading an expression with so many calls keeps the stop
 pub record KeepsStop (calls : ℕ) : Type 0 where
-  pub unary : (inside : Inside) (r : Reader) → GoesOn r (read_unary calls inside r).behind
-  pub parentheses : (inside : Inside) (at : ℕ) (r : Reader) → GoesOn r (read_parentheses calls inside at r).behind
-  pub cast : (inside : Inside) (at : ℕ) (type : Got (Option CType)) → GoesOn type.behind (read_cast calls inside at type).behind
-  pub binary : (inside : Inside) (weakest : ℕ) (r : Reader) → GoesOn r (read_binary calls inside weakest r).behind
-  pub more : (inside : Inside) (weakest : ℕ) (left : Got PartialExpr) → GoesOn left.behind (read_more calls inside weakest left).behind
-  pub expr : (inside : Inside) (r : Reader) → GoesOn r (read_expr calls inside r).behind
-  pub rest : (inside : Inside) (test : Got PartialExpr) → GoesOn test.behind (read_rest calls inside test).behind
+  pub unary : (inside : Inside) (r : Reader) → GoesOn r (read_unary calls inside r).following
+  pub parentheses : (inside : Inside) (at : ℕ) (r : Reader) → GoesOn r (read_parentheses calls inside at r).following
+  pub cast : (inside : Inside) (at : ℕ) (type : Got (Option CType)) → GoesOn type.following (read_cast calls inside at type).following
+  pub binary : (inside : Inside) (weakest : ℕ) (r : Reader) → GoesOn r (read_binary calls inside weakest r).following
+  pub more : (inside : Inside) (weakest : ℕ) (left : Got PartialExpr) → GoesOn left.following (read_more calls inside weakest left).following
+  pub expr : (inside : Inside) (r : Reader) → GoesOn r (read_expr calls inside r).following
+  pub rest : (inside : Inside) (test : Got PartialExpr) → GoesOn test.following (read_rest calls inside test).following
 
 none-keep : KeepsStop zero
 none-keep =
@@ -98,45 +98,45 @@ module _ (calls : ℕ) (keep : KeepsStop calls) where
       let inner = read_expr calls (in_parentheses inside) here in
       if-cases (Keeps here) (begins_type (next_token here))
       (λ _ going. (type-sound here (keep.cast inside at (take_type here) going)).passed.going)
-      (λ _ going. keep.expr (in_parentheses inside) here (take_mark-took (codes ")") inner.behind going).passed.going)
+      (λ _ going. keep.expr (in_parentheses inside) here (take_mark-took (codes ")") inner.following going).passed.going)
 
   parentheses-keeps : (inside : Inside) (at : ℕ) (r : Reader) → Keeps r (read_parentheses (suc calls) inside at r)
   parentheses-keeps inside at r =
       λ going. enclosed-keeps (in_parentheses inside) r (inside-keeps inside at (stop_if_enclosed (in_parentheses inside) r) going)
 
-  cast-keeps : (inside : Inside) (at : ℕ) (type : Got (Option CType)) → Keeps type.behind (read_cast (suc calls) inside at type)
+  cast-keeps : (inside : Inside) (at : ℕ) (type : Got (Option CType)) → Keeps type.following (read_cast (suc calls) inside at type)
   cast-keeps inside at type =
-      choice-cases (Keeps type.behind) type.value
-      (λ of is going. (take_mark-took (codes ")") type.behind (keep.unary (in_operator inside) (take_mark (codes ")") type.behind) going)).passed.going)
+      choice-cases (Keeps type.following) type.value
+      (λ of is going. (take_mark-took (codes ")") type.following (keep.unary (in_operator inside) (take_mark (codes ")") type.following) going)).passed.going)
       (λ _ going. going)
 
   binary-keeps : (inside : Inside) (weakest : ℕ) (r : Reader) → Keeps r (read_binary (suc calls) inside weakest r)
   binary-keeps inside weakest r = λ going. keep.unary inside r (keep.more inside weakest (read_unary calls inside r) going)
 
-  more-keeps : (inside : Inside) (weakest : ℕ) (left : Got PartialExpr) → Keeps left.behind (read_more (suc calls) inside weakest left)
+  more-keeps : (inside : Inside) (weakest : ℕ) (left : Got PartialExpr) → Keeps left.following (read_more (suc calls) inside weakest left)
   more-keeps inside weakest left =
-      choice-cases (Keeps left.behind) (binary_of (next_token left.behind))
-      (λ operator is. if-cases (Keeps left.behind) (nat_le weakest (strength operator))
+      choice-cases (Keeps left.following) (binary_of (next_token left.following))
+      (λ operator is. if-cases (Keeps left.following) (nat_le weakest (strength operator))
       (λ _ going.
-      let b = read_binary calls (in_operator inside) (suc (strength operator)) (skip left.behind) in
+      let b = read_binary calls (in_operator inside) (suc (strength operator)) (skip left.following) in
       let whole = joined inside operator left.value b in
-      keep.binary (in_operator inside) (suc (strength operator)) (skip left.behind) (deep-keeps inside whole.value b.behind (keep.more inside weakest whole going)))
+      keep.binary (in_operator inside) (suc (strength operator)) (skip left.following) (deep-keeps inside whole.value b.following (keep.more inside weakest whole going)))
       (λ _ going. going))
       (λ _ going. going)
 
   expr-keeps : (inside : Inside) (r : Reader) → Keeps r (read_expr (suc calls) inside r)
   expr-keeps inside r = λ going. keep.binary inside 1 r (keep.rest inside (read_binary calls inside 1 r) going)
 
-  rest-keeps : (inside : Inside) (test : Got PartialExpr) → Keeps test.behind (read_rest (suc calls) inside test)
+  rest-keeps : (inside : Inside) (test : Got PartialExpr) → Keeps test.following (read_rest (suc calls) inside test)
   rest-keeps inside test =
-      let first = read_expr calls (in_operator inside) (skip test.behind) in
-      let second = read_expr calls (in_operator inside) (take_mark (codes ":") first.behind) in
+      let first = read_expr calls (in_operator inside) (skip test.following) in
+      let second = read_expr calls (in_operator inside) (take_mark (codes ":") first.following) in
       let whole = chosen inside test.value first.value second in
-      if-cases (Keeps test.behind) (sees_mark (codes "?") test.behind)
+      if-cases (Keeps test.following) (sees_mark (codes "?") test.following)
       (λ _ going.
-      let behind : second.behind.stop ≡ None = deep-keeps inside whole.value second.behind going in
-      let colon : (take_mark (codes ":") first.behind).stop ≡ None = keep.expr (in_operator inside) (take_mark (codes ":") first.behind) behind in
-      keep.expr (in_operator inside) (skip test.behind) (take_mark-took (codes ":") first.behind colon).passed.going)
+      let following : second.following.stop ≡ None = deep-keeps inside whole.value second.following going in
+      let colon : (take_mark (codes ":") first.following).stop ≡ None = keep.expr (in_operator inside) (take_mark (codes ":") first.following) following in
+      keep.expr (in_operator inside) (skip test.following) (take_mark-took (codes ":") first.following colon).passed.going)
       (λ _ going. going)
 
   one_more-keeps : KeepsStop (suc calls)

@@ -15,7 +15,7 @@ use Rattle.dcc_c.specs.ReadingText.{head_with, Begun, begun_by, read_begun, read
 use Rattle.dcc_c.specs.Stripped.{plain_variable, plain_lines, plain_function}
 use Rattle.dcc_c.proofs.reading.Statements.{IsEnoughFor, on, first_of, is_shallow}
 use Rattle.dcc_c.proofs.reading.Stopping.{if-false}
-use Rattle.dcc_c.proofs.reading.Derivations.{begins-length, begins-enclosed, flat_type, flat_behind}
+use Rattle.dcc_c.proofs.reading.Derivations.{begins-length, begins-enclosed, flat_type, flat_after}
 use Rattle.dcc_c.proofs.reading.TypeComplete.{type-complete}
 use Rattle.dcc_c.proofs.reading.PartsComplete.{take_name-is}
 use Rattle.dcc_c.proofs.reading.LineComplete.{lines_begin, stmt_no_word}
@@ -32,31 +32,31 @@ pub record FindsBegun (r : Option CType) (name : Word) (rest : List Placed) (dep
   pub at : ℕ
   pub has_result : Bool
   pub name_at : ℕ
-  pub behind : ℕ
-  pub is : g ≡ got (record { at = at; has_result = has_result; result = r; name = Some (record { word = name; at = name_at }) }) (on rest behind depth)
+  pub following : ℕ
+  pub is : g ≡ got (record { at = at; has_result = has_result; result = r; name = Some (record { word = name; at = name_at }) }) (on rest following depth)
   pub typed : (r ≡ None) ⊎ (has_result ≡ true)
 
-pub begun-complete : {name_at : ℕ} {tokens rest : List Placed} {r : Option CType} {behind : List Placed} (name : Word) → HasResult tokens r behind → behind ≡ word name_at name ∷ rest → is_name name ≡ true → (at depth : ℕ) →
+pub begun-complete : {name_at : ℕ} {tokens rest : List Placed} {r : Option CType} {following : List Placed} (name : Word) → HasResult tokens r following → following ≡ word name_at name ∷ rest → is_name name ≡ true → (at depth : ℕ) →
     FindsBegun r name rest depth (read_begun (on tokens at depth))
-begun-complete {name_at} {rest} name (no_result {rest = behind}) same good at depth =
+begun-complete {name_at} {rest} name (no_result {rest = following}) same good at depth =
     record {
       at = at;
       has_result = false;
       name_at = suc at;
-      behind = suc (suc at);
+      following = suc (suc at);
       is = ap (λ ts. begun_by at false None (take_name (on ts (suc at) depth))) same ∙ ap (begun_by at false None) (take_name-is name_at (suc at) depth name rest good);
       typed = inl refl;
     }
-begun-complete {name_at} {tokens} {rest} name (result {rest = behind} type words) same good at depth =
+begun-complete {name_at} {tokens} {rest} name (result {rest = following} type words) same good at depth =
     let here = subst (λ ts. Begins tokens (type_tokens type) ts) same words in
     let t = type-complete type tokens (word name_at name ∷ rest) at depth here refl in
     record {
       at = at;
       has_result = begins_type (first_of tokens);
-      name_at = t.behind;
-      behind = suc t.behind;
+      name_at = t.following;
+      following = suc t.following;
       is = if-false (is_the_word (codes "void") (first_of tokens)) _ _ (type_no_word (codes "void") (first_of tokens) t.begins refl)
-          ∙ (ap (λ (g : Got (Option CType)). begun_by at (begins_type (first_of tokens)) g.value (take_name g.behind)) t.is ∙ ap (begun_by at (begins_type (first_of tokens)) (Some type)) (take_name-is name_at t.behind depth name rest good));
+          ∙ (ap (λ (g : Got (Option CType)). begun_by at (begins_type (first_of tokens)) g.value (take_name g.following)) t.is ∙ ap (begun_by at (begins_type (first_of tokens)) (Some type)) (take_name-is name_at t.following depth name rest good));
       typed = inr t.begins;
     }
 
@@ -65,7 +65,7 @@ result_length no_result = omega arith
 result_length (result type words) = omega (arith, begins-length words)
 
 pub result_enclosed : {tokens rest : List Placed} {r : Option CType} → HasResult tokens r rest → most_open 0 tokens ≤ 200 → most_open 0 rest ≤ 200
-result_enclosed (no_result {at} {rest}) few = flat_behind (WordToken (codes "void")) 0 at rest refl few
+result_enclosed (no_result {at} {rest}) few = flat_after (WordToken (codes "void")) 0 at rest refl few
 result_enclosed (result type words) few = begins-enclosed words (flat_type type) 0 few
 
 -- Functions.
@@ -86,18 +86,18 @@ body_no_local {last} {body} {rest} derived = by (lines_begin derived)
 -- the steps of reading a function after its head
 abbrev lines_step : PartialFunction → List PartialVariable → Got Block → Got PartialFunction
 lines_step head locals body =
-    got (record head { locals = locals; body = body.value.lines; last = line_of body.behind.left }) (take_mark (codes "}") body.behind)
+    got (record head { locals = locals; body = body.value.lines; last = line_of body.following.left }) (take_mark (codes "}") body.following)
 
 abbrev locals_step : ℕ → PartialFunction → Got (List PartialVariable) → Got PartialFunction
-locals_step calls head locals = lines_step head locals.value (read_lines calls outermost false false locals.behind)
+locals_step calls head locals = lines_step head locals.value (read_lines calls outermost false false locals.following)
 
 -- The function was read, with exactly the rest left.
 pub record FindsFunction (f : Function) (rest : List Placed) (g : Got PartialFunction) : Type 0 where
   pub partial : PartialFunction
-  pub behind : ℕ
+  pub following : ℕ
   pub depth : ℕ
   pub same : plain_function partial ≡ f
-  pub is : g ≡ got partial (on rest behind depth)
+  pub is : g ≡ got partial (on rest following depth)
 
 -- what the function begins with was read
 pub function_begun : (f : Function) (tokens rest : List Placed) (is : IsFunction 200 tokens f rest) (at depth : ℕ) →
@@ -118,19 +118,19 @@ function-complete f tokens rest is calls at depth enough few deep =
     let less : length is.params < length tokens = (let l = result_leads is.result_is in omega (arith, l.less)) in
     let less_locals : length is.locals < length tokens = (let l = params_leads is.params_are in omega (arith, l.less, less)) in
     let less_body : length is.body < length tokens = (let l = locals_leads is.locals_are in omega (arith, l.less, less_locals)) in
-    let p = params-complete is.params_are calls (suc b.behind) depth (omega (arith, less)) in
-    let head_at : Got PartialFunction = head_with (got (record { at = b.at; has_result = b.has_result; result = f.result; name = Some (record { word = f.name; at = b.name_at }) }) (on (mark is.open_at (codes "(") ∷ is.params) b.behind depth)) (on is.params (suc b.behind) depth) (got p.partials (on (mark is.close_at (codes ")") ∷ mark is.brace_at (codes "{") ∷ is.locals) p.behind depth)) in
-    let l = locals-complete is.locals_are (body_no_local is.body_is) calls (suc (suc p.behind)) 2 (omega (arith, less_locals)) in
-    let s = lines_complete is.body_is calls l.behind false (omega (arith, less_body)) (before.enclosed few) deep refl in
-    let closing = on (mark f.last (codes "}") ∷ rest) s.behind is.depth in
+    let p = params-complete is.params_are calls (suc b.following) depth (omega (arith, less)) in
+    let head_at : Got PartialFunction = head_with (got (record { at = b.at; has_result = b.has_result; result = f.result; name = Some (record { word = f.name; at = b.name_at }) }) (on (mark is.open_at (codes "(") ∷ is.params) b.following depth)) (on is.params (suc b.following) depth) (got p.partials (on (mark is.close_at (codes ")") ∷ mark is.brace_at (codes "{") ∷ is.locals) p.following depth)) in
+    let l = locals-complete is.locals_are (body_no_local is.body_is) calls (suc (suc p.following)) 2 (omega (arith, less_locals)) in
+    let s = lines_complete is.body_is calls l.following false (omega (arith, less_body)) (before.enclosed few) deep refl in
+    let closing = on (mark f.last (codes "}") ∷ rest) s.following is.depth in
     record {
       partial = record head_at.value { locals = l.partials; body = s.partial; last = f.last };
-      behind = suc s.behind;
+      following = suc s.following;
       depth = is.depth;
       same = function_path f (map plain_variable p.partials) (map plain_variable l.partials) (plain_lines s.partial) p.same l.same s.same;
       is = ap (read_function calls) b.is
-          ∙ (ap (λ (ps : Got (List PartialVariable)). read_body calls (head_with (got (record { at = b.at; has_result = b.has_result; result = f.result; name = Some (record { word = f.name; at = b.name_at }) }) (on (mark is.open_at (codes "(") ∷ is.params) b.behind depth)) (on is.params (suc b.behind) depth) ps)) p.is
+          ∙ (ap (λ (ps : Got (List PartialVariable)). read_body calls (head_with (got (record { at = b.at; has_result = b.has_result; result = f.result; name = Some (record { word = f.name; at = b.name_at }) }) (on (mark is.open_at (codes "(") ∷ is.params) b.following depth)) (on is.params (suc b.following) depth) ps)) p.is
           ∙ (ap (locals_step calls head_at.value) l.is
-          ∙ (ap (lines_step head_at.value l.partials) (s.is ∙ ap (rows_before s.partial) (brace_ends s.calls outermost s.leaves f.last s.behind is.depth rest s.enough))
+          ∙ (ap (lines_step head_at.value l.partials) (s.is ∙ ap (rows_before s.partial) (brace_ends s.calls outermost s.leaves f.last s.following is.depth rest s.enough))
           ∙ ap (λ rows. lines_step head_at.value l.partials (got (block_of rows s.leaves) closing)) (joined_none s.partial))));
     }

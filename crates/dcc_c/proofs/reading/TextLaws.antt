@@ -29,7 +29,7 @@ pieces_are (p ∷ pieces) all = piece_is p p.token pieces refl all (pieces_are p
 
 -- The pieces are read to their end as the tree.
 pub record IsReadAs (pieces : List Piece) (tree : Tree) : Type 0 where
-  pub going : (reading_of pieces).behind.stop ≡ None
+  pub going : (reading_of pieces).following.stop ≡ None
   pub same : plain_text (reading_of pieces).value ≡ tree
 
 -- what is read to its end is what the grammar and the limits of depth say
@@ -43,7 +43,7 @@ text_is_read pieces tree all is =
     let found = complete_text (tokens_of pieces) tree is in
     let same = pieces_are pieces all in
     record {
-      going = ap (λ ps. (reading_of ps).behind.stop) (sym same) ∙ found.0;
+      going = ap (λ ps. (reading_of ps).following.stop) (sym same) ∙ found.0;
       same = ap (λ ps. plain_text (reading_of ps).value) (sym same) ∙ found.1;
     }
 

@@ -28,13 +28,13 @@ use Rattle.dcc_c.proofs.reading.DeclSound.{type_steps, locals-sound, params-soun
 
 -- The reader passed a result and a name.
 pub record ReadsBegun (r : Reader) (g : Got Begun) : Type 0 where
-  pub steps : Steps 0 0 r g.behind
-  pub steady : g.behind.depth ≡ r.depth
-  pub shorter : length g.behind.left < length r.left
+  pub steps : Steps 0 0 r g.following
+  pub steady : g.following.depth ≡ r.depth
+  pub shorter : length g.following.left < length r.left
   pub name_at : ℕ
   pub good : is_name (plain_name g.value.name) ≡ true
-  pub result_is : HasResult (tokens_of r.left) g.value.result (word name_at (plain_name g.value.name) ∷ tokens_of g.behind.left)
-  pub typed : g.value.has_result ≡ true → Begins (tokens_of r.left) (type_tokens (plain_type g.value.result)) (word name_at (plain_name g.value.name) ∷ tokens_of g.behind.left)
+  pub result_is : HasResult (tokens_of r.left) g.value.result (word name_at (plain_name g.value.name) ∷ tokens_of g.following.left)
+  pub typed : g.value.has_result ≡ true → Begins (tokens_of r.left) (type_tokens (plain_type g.value.result)) (word name_at (plain_name g.value.name) ∷ tokens_of g.following.left)
       × (g.value.result ≡ Some (plain_type g.value.result))
 
 -- a name after a result
@@ -45,7 +45,7 @@ named : (r between : Reader) (at : ℕ) (has_result : Bool) (found : Option CTyp
 named r between at has_result found steps steady shorter read result_is typed =
     let name = take_name between in
     let same : plain_name name.value ≡ read.name.word = ap plain_name read.is in
-    let tokens : tokens_of between.left ≡ word read.took.line (plain_name name.value) ∷ tokens_of name.behind.left = read.took.begins ∙ ap (λ w. word read.took.line w ∷ tokens_of name.behind.left) (sym same) in
+    let tokens : tokens_of between.left ≡ word read.took.line (plain_name name.value) ∷ tokens_of name.following.left = read.took.begins ∙ ap (λ w. word read.took.line w ∷ tokens_of name.following.left) (sym same) in
     record {
       steps = then_steps steps (token_steps 0 refl read.took);
       steady = read.took.steady ∙ steady;
@@ -56,50 +56,50 @@ named r between at has_result found steps steady shorter read result_is typed =
       typed = λ has. let both = typed has in (subst (λ ts. Begins (tokens_of r.left) (type_tokens (plain_type found)) ts) tokens both.0, both.1);
     }
 
-pub begun-sound : (r : Reader) → (read_begun r).behind.stop ≡ None → ReadsBegun r (read_begun r)
+pub begun-sound : (r : Reader) → (read_begun r).following.stop ≡ None → ReadsBegun r (read_begun r)
 begun-sound r =
-    if-cases (λ g. g.behind.stop ≡ None → ReadsBegun r g) (sees_word (codes "void") r)
+    if-cases (λ g. g.following.stop ≡ None → ReadsBegun r g) (sees_word (codes "void") r)
     (λ sees going.
     let took = sees_word-took (codes "void") r sees in
     named r (skip r) r.at false None (token_steps 0 refl took) took.steady (omega (arith, took.one_less)) (name-sound (skip r) going) (rw took.begins no_result) (λ has. absurd cc))
     (λ _ going.
     let type = take_type r in
-    let read = name-sound type.behind going in
+    let read = name-sound type.following going in
     let typed = type-sound r read.took.passed.going in
     let same : plain_type type.value ≡ typed.type = ap plain_type typed.is in
-    named r type.behind r.at (begins_type (next_token r)) type.value (type_steps 0 typed) typed.steady typed.shorter read
-    (subst (λ t. HasResult (tokens_of r.left) t (tokens_of type.behind.left)) (sym typed.is) (result typed.type typed.derived))
-    (λ _. (subst (λ t. Begins (tokens_of r.left) (type_tokens t) (tokens_of type.behind.left)) (sym same) typed.derived, typed.is ∙ ap (λ t. Some t) (sym same))))
+    named r type.following r.at (begins_type (next_token r)) type.value (type_steps 0 typed) typed.steady typed.shorter read
+    (subst (λ t. HasResult (tokens_of r.left) t (tokens_of type.following.left)) (sym typed.is) (result typed.type typed.derived))
+    (λ _. (subst (λ t. Begins (tokens_of r.left) (type_tokens t) (tokens_of type.following.left)) (sym same) typed.derived, typed.is ∙ ap (λ t. Some t) (sym same))))
 
 -- Functions.
 
 -- The reader passed a function.
 pub record ReadsFunction (r : Reader) (g : Got PartialFunction) : Type 0 where
-  pub steps : Steps 0 0 r g.behind
-  pub shorter : length g.behind.left < length r.left
-  pub derived : IsFunction 200 (tokens_of r.left) (plain_function g.value) (tokens_of g.behind.left)
+  pub steps : Steps 0 0 r g.following
+  pub shorter : length g.following.left < length r.left
+  pub derived : IsFunction 200 (tokens_of r.left) (plain_function g.value) (tokens_of g.following.left)
   pub shallow : is_shallow (plain_function g.value) ≡ true
 
-pub function-sound : (calls : ℕ) (r : Reader) (begun : Got Begun) → (begun.behind.stop ≡ None → ReadsBegun r begun) → IsEnough calls 0 r.left →
-    (read_function calls begun).behind.stop ≡ None → ReadsFunction r (read_function calls begun)
+pub function-sound : (calls : ℕ) (r : Reader) (begun : Got Begun) → (begun.following.stop ≡ None → ReadsBegun r begun) → IsEnough calls 0 r.left →
+    (read_function calls begun).following.stop ≡ None → ReadsFunction r (read_function calls begun)
 function-sound calls r begun begins enough going =
-    let inside = take_mark (codes "(") begun.behind in
+    let inside = take_mark (codes "(") begun.following in
     let params = read_params calls inside in
-    let end = take_mark (codes ")") params.behind in
+    let end = take_mark (codes ")") params.following in
     let brace = take_mark (codes "{") (with_first_depth end) in
     let locals = read_locals calls brace in
-    let body = read_lines calls outermost false false locals.behind in
-    let last = take_mark-took (codes "}") body.behind going in
-    let placed_locals = locals-sound calls brace ((keeps_stmts calls).lines outermost false false locals.behind last.passed.going) in
+    let body = read_lines calls outermost false false locals.following in
+    let last = take_mark-took (codes "}") body.following going in
+    let placed_locals = locals-sound calls brace ((keeps_stmts calls).lines outermost false false locals.following last.passed.going) in
     let opened = take_mark-took (codes "{") (with_first_depth end) placed_locals.steps.passed.going in
-    let closed = take_mark-took (codes ")") params.behind opened.passed.going in
+    let closed = take_mark-took (codes ")") params.following opened.passed.going in
     let given = params-sound calls inside closed.passed.going in
-    let open_mark = take_mark-took (codes "(") begun.behind given.steps.passed.going in
+    let open_mark = take_mark-took (codes "(") begun.following given.steps.passed.going in
     let head = begins open_mark.passed.going in
-    let before : length locals.behind.left < length r.left = omega (arith, head.shorter, open_mark.one_less, given.steps.passed.fewer, closed.one_less, opened.one_less, placed_locals.steps.passed.fewer) in
-    let lines = (sound_stmts calls).lines outermost false false locals.behind (omega arith) last.passed.going in
-    let first_depth : locals.behind.depth ≡ 2 = placed_locals.steady ∙ opened.steady in
-    let inner : Steps 0 0 (with_first_depth end) (take_mark (codes "}") body.behind) = then_steps (token_steps 0 refl opened) (then_steps placed_locals.steps (then_steps lines.steps (token_steps 0 refl last))) in
+    let before : length locals.following.left < length r.left = omega (arith, head.shorter, open_mark.one_less, given.steps.passed.fewer, closed.one_less, opened.one_less, placed_locals.steps.passed.fewer) in
+    let lines = (sound_stmts calls).lines outermost false false locals.following (omega arith) last.passed.going in
+    let first_depth : locals.following.depth ≡ 2 = placed_locals.steady ∙ opened.steady in
+    let inner : Steps 0 0 (with_first_depth end) (take_mark (codes "}") body.following) = then_steps (token_steps 0 refl opened) (then_steps placed_locals.steps (then_steps lines.steps (token_steps 0 refl last))) in
     let outer : Steps 0 0 r (with_first_depth end) = with_depth 2 (then_steps head.steps (then_steps (opening_steps 0 open_mark) (then_steps given.steps (closing_steps 0 (omega arith) closed)))) in
     let f = plain_function (read_function calls begun).value in
     record {
@@ -110,16 +110,16 @@ function-sound calls r begun begins enough going =
         open_at = open_mark.line;
         close_at = closed.line;
         brace_at = opened.line;
-        depth = body.behind.depth;
+        depth = body.following.depth;
         params = tokens_of inside.left;
         locals = tokens_of brace.left;
-        body = tokens_of locals.behind.left;
+        body = tokens_of locals.following.left;
         result_is = subst (λ ts. HasResult (tokens_of r.left) f.result (word head.name_at f.name ∷ ts)) open_mark.begins head.result_is;
         name_is = head.good;
         params_are = subst (λ ts. AreParams (tokens_of inside.left) f.params ts) (closed.begins ∙ ap (λ ts. mark closed.line (codes ")") ∷ ts) opened.begins) given.derived;
         locals_are = placed_locals.derived;
-        body_is = subst (λ d. AreLines 200 outermost false d (tokens_of locals.behind.left) f.body body.behind.depth (mark f.last (codes "}") ∷ tokens_of (take_mark (codes "}") body.behind).left)) first_depth
-            (subst (λ ts. AreLines 200 outermost false locals.behind.depth (tokens_of locals.behind.left) f.body body.behind.depth ts) (begins_here last) lines.derived);
+        body_is = subst (λ d. AreLines 200 outermost false d (tokens_of locals.following.left) f.body body.following.depth (mark f.last (codes "}") ∷ tokens_of (take_mark (codes "}") body.following).left)) first_depth
+            (subst (λ ts. AreLines 200 outermost false locals.following.depth (tokens_of locals.following.left) f.body body.following.depth ts) (begins_here last) lines.derived);
       };
       shallow = lines.shallow;
     }
@@ -132,27 +132,27 @@ pub record ReadsRest (r : Reader) (g : Got (List PartialFunction)) : Type 0 wher
   pub enclosed : most_open 0 (tokens_of r.left) ≤ 200
   pub derived : (all : List Placed) (f : Function) → IsFunction 200 all f (tokens_of r.left) → AreFunctions 200 all (f ∷ map plain_function g.value)
   pub shallow : list_all is_shallow (map plain_function g.value) ≡ true
-  pub ends : g.behind.left ≡ []
+  pub ends : g.following.left ≡ []
 
-pub function-keeps : (calls : ℕ) (begun : Got Begun) → GoesOn begun.behind (read_function calls begun).behind
+pub function-keeps : (calls : ℕ) (begun : Got Begun) → GoesOn begun.following (read_function calls begun).following
 function-keeps calls begun going =
-    let inside = take_mark (codes "(") begun.behind in
+    let inside = take_mark (codes "(") begun.following in
     let params = read_params calls inside in
-    let end = take_mark (codes ")") params.behind in
+    let end = take_mark (codes ")") params.following in
     let brace = take_mark (codes "{") (with_first_depth end) in
     let locals = read_locals calls brace in
-    let body = read_lines calls outermost false false locals.behind in
-    let last = take_mark-took (codes "}") body.behind going in
-    let placed_locals = locals-sound calls brace ((keeps_stmts calls).lines outermost false false locals.behind last.passed.going) in
+    let body = read_lines calls outermost false false locals.following in
+    let last = take_mark-took (codes "}") body.following going in
+    let placed_locals = locals-sound calls brace ((keeps_stmts calls).lines outermost false false locals.following last.passed.going) in
     let opened = take_mark-took (codes "{") (with_first_depth end) placed_locals.steps.passed.going in
-    let closed = take_mark-took (codes ")") params.behind opened.passed.going in
-    (take_mark-took (codes "(") begun.behind (params-sound calls inside closed.passed.going).steps.passed.going).passed.going
+    let closed = take_mark-took (codes ")") params.following opened.passed.going in
+    (take_mark-took (codes "(") begun.following (params-sound calls inside closed.passed.going).steps.passed.going).passed.going
 
-pub functions-keep : (calls : ℕ) (r : Reader) → GoesOn r (read_functions calls r).behind
+pub functions-keep : (calls : ℕ) (r : Reader) → GoesOn r (read_functions calls r).following
 functions-keep zero r = λ going. going
 functions-keep (suc calls) r =
-    if-cases (λ (g : Got (List PartialFunction)). GoesOn r g.behind) (is_stopped r || (length r.left == 0)) (λ _ going. going)
-    (λ _ going. (begun-sound r (function-keeps calls (read_begun r) (functions-keep calls (read_function calls (read_begun r)).behind going))).steps.passed.going)
+    if-cases (λ (g : Got (List PartialFunction)). GoesOn r g.following) (is_stopped r || (length r.left == 0)) (λ _ going. going)
+    (λ _ going. (begun-sound r (function-keeps calls (read_begun r) (functions-keep calls (read_function calls (read_begun r)).following going))).steps.passed.going)
 
 nothing_left : (left : List Piece) → length left ≡ 0 → left ≡ []
 nothing_left [] none = refl
@@ -166,8 +166,8 @@ ends_here r going ends =
     ]
 
 -- a function and what was read after it
-joined_functions : (r : Reader) (first : Got PartialFunction) (others : Got (List PartialFunction)) → ReadsFunction r first → ReadsRest first.behind others →
-    ReadsRest r (got (first.value ∷ others.value) others.behind)
+joined_functions : (r : Reader) (first : Got PartialFunction) (others : Got (List PartialFunction)) → ReadsFunction r first → ReadsRest first.following others →
+    ReadsRest r (got (first.value ∷ others.value) others.following)
 joined_functions r first others read more =
     record {
       going = read.steps.passed.going;
@@ -178,10 +178,10 @@ joined_functions r first others read more =
       ends = more.ends;
     }
 
-pub rest-sound : (calls : ℕ) (r : Reader) → IsEnough calls 1 r.left → (read_functions calls r).behind.stop ≡ None → ReadsRest r (read_functions calls r)
+pub rest-sound : (calls : ℕ) (r : Reader) → IsEnough calls 1 r.left → (read_functions calls r).following.stop ≡ None → ReadsRest r (read_functions calls r)
 rest-sound zero r enough = absurd (omega arith)
 rest-sound (suc calls) r enough =
-    if-cases (λ g. g.behind.stop ≡ None → ReadsRest r g) (is_stopped r || (length r.left == 0))
+    if-cases (λ g. g.following.stop ≡ None → ReadsRest r g) (is_stopped r || (length r.left == 0))
     (λ ends going.
     let none = ends_here r going ends in
     record {
@@ -194,5 +194,5 @@ rest-sound (suc calls) r enough =
     })
     (λ _ going.
     let first = read_function calls (read_begun r) in
-    let read = function-sound calls r (read_begun r) (begun-sound r) (omega arith) (functions-keep calls first.behind going) in
-    joined_functions r first (read_functions calls first.behind) read (rest-sound calls first.behind (omega (arith, read.shorter)) going))
+    let read = function-sound calls r (read_begun r) (begun-sound r) (omega arith) (functions-keep calls first.following going) in
+    joined_functions r first (read_functions calls first.following) read (rest-sound calls first.following (omega (arith, read.shorter)) going))

@@ -33,31 +33,31 @@ function-whole : (f : PartialFunction) → is_some f.name ≡ true → is_some f
 function-whole f named opened headed typed empty params locals body =
     and_from _ _ (and_from _ _ named (and_from _ _ opened headed)) (and_from _ _ (and_from _ _ typed empty) (and_from _ _ params (and_from _ _ locals (and_from _ _ body.0 body.1))))
 
-function-entire : (calls : ℕ) (r : Reader) (begun : Got Begun) → (begun.behind.stop ≡ None → ReadsBegun r begun) → (begun.behind.stop ≡ None → EntireBegun begun.value) → IsEnough calls 0 r.left →
-    (read_function calls begun).behind.stop ≡ None → is_complete_function (read_function calls begun).value ≡ true
+function-entire : (calls : ℕ) (r : Reader) (begun : Got Begun) → (begun.following.stop ≡ None → ReadsBegun r begun) → (begun.following.stop ≡ None → EntireBegun begun.value) → IsEnough calls 0 r.left →
+    (read_function calls begun).following.stop ≡ None → is_complete_function (read_function calls begun).value ≡ true
 function-entire calls r begun begins there enough going =
-    let inside = take_mark (codes "(") begun.behind in
+    let inside = take_mark (codes "(") begun.following in
     let params = read_params calls inside in
-    let end = take_mark (codes ")") params.behind in
+    let end = take_mark (codes ")") params.following in
     let brace = take_mark (codes "{") (with_first_depth end) in
     let locals = read_locals calls brace in
-    let body = read_lines calls outermost false false locals.behind in
-    let ended = mark-keeps (codes "}") body.behind going in
-    let located = (keeps_stmts calls).lines outermost false false locals.behind ended in
+    let body = read_lines calls outermost false false locals.following in
+    let ended = mark-keeps (codes "}") body.following going in
+    let located = (keeps_stmts calls).lines outermost false false locals.following ended in
     let placed_locals = locals-sound calls brace located in
     let opened = take_mark-took (codes "{") (with_first_depth end) placed_locals.steps.passed.going in
-    let closed = take_mark-took (codes ")") params.behind opened.passed.going in
+    let closed = take_mark-took (codes ")") params.following opened.passed.going in
     let given = params-sound calls inside closed.passed.going in
-    let open_mark = take_mark-took (codes "(") begun.behind given.steps.passed.going in
+    let open_mark = take_mark-took (codes "(") begun.following given.steps.passed.going in
     let head = begins open_mark.passed.going in
     let begin = there open_mark.passed.going in
-    let lines = (entire_stmts calls).lines outermost false false locals.behind (omega (arith, head.shorter, open_mark.one_less, given.steps.passed.fewer, closed.one_less, opened.one_less, placed_locals.steps.passed.fewer)) ended in
+    let lines = (entire_stmts calls).lines outermost false false locals.following (omega (arith, head.shorter, open_mark.one_less, given.steps.passed.fewer, closed.one_less, opened.one_less, placed_locals.steps.passed.fewer)) ended in
     let place : is_some (if is_stopped inside then None else Some inside.at) ≡ true = ap (λ stop. is_some (if is_some stop then None else Some inside.at)) given.steps.passed.going in
     function-whole (read_function calls begun).value begin.named place (going-done end opened.passed.going) begin.typed (params-agree calls inside)
     (params-entire calls inside closed.passed.going) (locals-entire calls brace located) lines
 
 abbrev EntireFunctions : Got (List PartialFunction) → Type 0
-EntireFunctions g = g.behind.stop ≡ None → list_all is_complete_function g.value ≡ true
+EntireFunctions g = g.following.stop ≡ None → list_all is_complete_function g.value ≡ true
 
 functions-entire : (calls : ℕ) (r : Reader) → IsEnough calls 1 r.left → EntireFunctions (read_functions calls r)
 functions-entire zero r enough = λ going. refl
@@ -65,9 +65,9 @@ functions-entire (suc calls) r enough =
     if-cases EntireFunctions (is_stopped r || (length r.left == 0)) (λ _ going. refl)
     (λ _ going.
     let first = read_function calls (read_begun r) in
-    let on = functions-keep calls first.behind going in
+    let on = functions-keep calls first.following going in
     let read = function-sound calls r (read_begun r) (begun-sound r) (omega arith) on in
-    and_from (is_complete_function first.value) (list_all is_complete_function (read_functions calls first.behind).value) (function-entire calls r (read_begun r) (begun-sound r) (begun-entire r) (omega arith) on) (functions-entire calls first.behind (omega (arith, read.shorter)) going))
+    and_from (is_complete_function first.value) (list_all is_complete_function (read_functions calls first.following).value) (function-entire calls r (read_begun r) (begun-sound r) (begun-entire r) (omega arith) on) (functions-entire calls first.following (omega (arith, read.shorter)) going))
 
 -- Global variables and functions.
 
@@ -78,17 +78,17 @@ record EntireDeclared (d : Declared) : Type 0 where
   some : (length d.functions == 0) ≡ false
 
 abbrev AreDeclared : Got Declared → Type 0
-AreDeclared g = g.behind.stop ≡ None → EntireDeclared g.value
+AreDeclared g = g.following.stop ≡ None → EntireDeclared g.value
 
 with-entire : (calls : ℕ) (r : Reader) → IsEnough (suc calls) 1 r.left → AreDeclared (declared [] (with_functions calls (read_begun r)))
 with-entire calls r enough going =
     let first = read_function calls (read_begun r) in
-    let on = functions-keep calls first.behind going in
+    let on = functions-keep calls first.following going in
     let read = function-sound calls r (read_begun r) (begun-sound r) (omega arith) on in
     record {
       globals = refl;
-      functions = and_from (is_complete_function first.value) (list_all is_complete_function (read_functions calls first.behind).value) (function-entire calls r (read_begun r) (begun-sound r) (begun-entire r) (omega arith) on) (functions-entire calls first.behind (omega (arith, read.shorter)) going);
-      some = not-empty first.value (read_functions calls first.behind).value;
+      functions = and_from (is_complete_function first.value) (list_all is_complete_function (read_functions calls first.following).value) (function-entire calls r (read_begun r) (begun-sound r) (begun-entire r) (omega arith) on) (functions-entire calls first.following (omega (arith, read.shorter)) going);
+      some = not-empty first.value (read_functions calls first.following).value;
     }
 
 -- a variable, and what is declared after it
@@ -100,24 +100,24 @@ declared-entire : (calls : ℕ) (address : Option ℕ) (r : Reader) → IsEnough
 declared-entire zero address r enough = absurd (omega arith)
 declared-entire (suc calls) address r enough =
     let n = take_number_of_line (line_of r.left) (skip r) in
-    if-cases AreDeclared (sees_head place_line r) {x = read_declared calls (Some (address_of n.value)) n.behind} {y = here_declared calls address r}
+    if-cases AreDeclared (sees_head place_line r) {x = read_declared calls (Some (address_of n.value)) n.following} {y = here_declared calls address r}
     (λ sees going.
     let took = sees_head-took place_line r sees in
-    let read = number-sound (line_of r.left) (skip r) (declared-keeps calls (Some (address_of n.value)) n.behind going) in
-    declared-entire calls (Some (address_of n.value)) n.behind (omega (arith, took.one_less, read.0.took.one_less)) going)
-    (λ _. by address (λ here room going. declared-entire calls (Some (here + size_in_bytes (read_global calls here (read_begun r)).value)) (read_global calls here (read_begun r)).behind room going))
+    let read = number-sound (line_of r.left) (skip r) (declared-keeps calls (Some (address_of n.value)) n.following going) in
+    declared-entire calls (Some (address_of n.value)) n.following (omega (arith, took.one_less, read.0.took.one_less)) going)
+    (λ _. by address (λ here room going. declared-entire calls (Some (here + size_in_bytes (read_global calls here (read_begun r)).value)) (read_global calls here (read_begun r)).following room going))
   where
-    by : (a : Option ℕ) → ((here : ℕ) → IsEnough calls 1 (read_global calls here (read_begun r)).behind.left →
-        AreDeclared (read_declared calls (Some (here + size_in_bytes (read_global calls here (read_begun r)).value)) (read_global calls here (read_begun r)).behind)) →
+    by : (a : Option ℕ) → ((here : ℕ) → IsEnough calls 1 (read_global calls here (read_begun r)).following.left →
+        AreDeclared (read_declared calls (Some (here + size_in_bytes (read_global calls here (read_begun r)).value)) (read_global calls here (read_begun r)).following)) →
         AreDeclared (here_declared calls a r)
     by (Some here) others =
         let v = read_global calls here (read_begun r) in
-        let next = read_declared calls (Some (here + size_in_bytes v.value)) v.behind in
-        if-cases AreDeclared ((read_begun r).value.has_result && not (sees_mark (codes "(") (read_begun r).behind))
+        let next = read_declared calls (Some (here + size_in_bytes v.value)) v.following in
+        if-cases AreDeclared ((read_begun r).value.has_result && not (sees_mark (codes "(") (read_begun r).following))
         {x = before_declared v.value next} {y = declared [] (with_functions calls (read_begun r))}
         (λ is going.
-        let has = (and_parts (read_begun r).value.has_result (not (sees_mark (codes "(") (read_begun r).behind)) is).0 in
-        let on = declared-keeps calls (Some (here + size_in_bytes v.value)) v.behind going in
+        let has = (and_parts (read_begun r).value.has_result (not (sees_mark (codes "(") (read_begun r).following)) is).0 in
+        let on = declared-keeps calls (Some (here + size_in_bytes v.value)) v.following going in
         let read = global-sound calls here r (read_begun r) (begun-sound r) has on in
         before-entire v.value next (global-entire calls here (read_begun r) (begun-entire r) has on) (others here (omega (arith, read.shorter)) going))
         (λ _. with-entire calls r enough)
@@ -129,19 +129,19 @@ text-whole : (text : PartialText) → is_some text.lo ≡ true → is_some text.
     list_all is_complete_function text.functions ≡ true → (length text.functions == 0) ≡ false → is_complete_text text ≡ true
 text-whole text lo hi globals functions some = and_from _ _ (and_from _ _ lo hi) (and_from _ _ globals (and_from _ _ functions (ap not some)))
 
-text-entire : (calls : ℕ) (r : Reader) → IsEnough calls 1 r.left → (read_text calls r).behind.stop ≡ None → is_complete_text (read_text calls r).value ≡ true
+text-entire : (calls : ℕ) (r : Reader) → IsEnough calls 1 r.left → (read_text calls r).following.stop ≡ None → is_complete_text (read_text calls r).value ≡ true
 text-entire calls r enough going =
     let stack = take_head stack_line r in
     let lo = take_number_of_line (line_of r.left) stack in
-    let hi = take_number_of_line (line_of r.left) lo.behind in
-    let two = number-sound (line_of r.left) lo.behind (declared-keeps calls None hi.behind going) in
+    let hi = take_number_of_line (line_of r.left) lo.following in
+    let two = number-sound (line_of r.left) lo.following (declared-keeps calls None hi.following going) in
     let one = number-sound (line_of r.left) stack two.0.took.passed.going in
     let took = head-sound stack_line r one.0.took.passed.going in
-    let all = declared-entire calls None hi.behind (omega (arith, took.one_less, one.0.took.one_less, two.0.took.one_less)) going in
+    let all = declared-entire calls None hi.following (omega (arith, took.one_less, one.0.took.one_less, two.0.took.one_less)) going in
     text-whole (read_text calls r).value (is-there lo.value one.0.number one.0.is) (is-there hi.value two.0.number two.0.is) all.globals all.functions all.some
 
 -- What has been read of a text to its end is complete, and its expressions are at most 200 deep.
-pub complete_reading : (pieces : List Piece) → (reading_of pieces).behind.stop ≡ None →
+pub complete_reading : (pieces : List Piece) → (reading_of pieces).following.stop ≡ None →
     (is_complete_text (reading_of pieces).value ≡ true) × (are_shallow (reading_of pieces).value.functions ≡ true)
 complete_reading pieces going =
     let read = sound_text pieces going in

@@ -8,7 +8,7 @@ use Rattle.dcc_c.specs.declared.syntax.Class.TheVariants.{Plain}
 use Rattle.dcc_c.specs.Token.{Token, WordToken, place_line}
 use Rattle.dcc_c.specs.Lexing.{Placed}
 use Rattle.dcc_c.specs.Tree.{Word, Global, Function}
-use Rattle.dcc_c.specs.Placement.{behind_global, bytes_of}
+use Rattle.dcc_c.specs.Placement.{after_global, bytes_of}
 use Rattle.dcc_c.specs.Grammar.{mark, word, type_tokens, Begins, HasResult, no_result, result, HasSize, no_size, size, AreInitial, no_value, one_value, values, IsFunction, AreFunctions, last_function, more_functions, IsGlobal}
 use Rattle.dcc_c.specs.Rules.{most_open}
 use Rattle.dcc_c.specs.Partial.{NumberAt, PartialVariable, PartialFunction}
@@ -39,13 +39,13 @@ function_shorter is =
 -- The functions were read to the end of the text.
 pub record FindsFunctions (fs : List Function) (g : Got (List PartialFunction)) : Type 0 where
   pub partials : List PartialFunction
-  pub behind : ℕ
+  pub following : ℕ
   pub depth : ℕ
   pub same : map plain_function partials ≡ fs
-  pub is : g ≡ got partials (on [] behind depth)
+  pub is : g ≡ got partials (on [] following depth)
 
 abbrev then_functions : ℕ → Got PartialFunction → Got (List PartialFunction)
-then_functions calls first = got (first.value ∷ (read_functions calls first.behind).value) (read_functions calls first.behind).behind
+then_functions calls first = got (first.value ∷ (read_functions calls first.following).value) (read_functions calls first.following).following
 
 no_functions : (calls at depth : ℕ) → read_functions calls (on [] at depth) ≡ got [] (on [] at depth)
 no_functions zero at depth = refl
@@ -65,23 +65,23 @@ functions-complete (last_function {tokens} {f} is) calls at depth enough few dee
     let first = function-complete f tokens [] is calls at depth enough few (and_parts _ true deep).0 in
     record {
       partials = first.partial ∷ [];
-      behind = first.behind;
+      following = first.following;
       depth = first.depth;
       same = ap (λ x. x ∷ []) first.same;
-      is = ap (then_functions calls) first.is ∙ ap (λ (g : Got (List PartialFunction)). got (first.partial ∷ g.value) g.behind) (no_functions calls first.behind first.depth);
+      is = ap (then_functions calls) first.is ∙ ap (λ (g : Got (List PartialFunction)). got (first.partial ∷ g.value) g.following) (no_functions calls first.following first.depth);
     }
 functions-complete (more_functions is others) zero at depth enough few deep = absurd (omega (arith, function_shorter is))
 functions-complete (more_functions {tokens} {rest} {f} {functions} is others) (suc calls) at depth enough few deep =
     let parts = and_parts (is_shallow f) (list_all is_shallow functions) deep in
     let first = function-complete f tokens rest is (suc calls) at depth enough few parts.0 in
     let leads = function_leads is in
-    let found = functions-complete others calls first.behind first.depth (omega (arith, function_shorter is)) (leads.enclosed few) parts.1 in
+    let found = functions-complete others calls first.following first.depth (omega (arith, function_shorter is)) (leads.enclosed few) parts.1 in
     record {
       partials = first.partial ∷ found.partials;
-      behind = found.behind;
+      following = found.following;
       depth = found.depth;
       same = ap (λ x. x ∷ map plain_function found.partials) first.same ∙ ap (λ xs. f ∷ xs) found.same;
-      is = ap (then_functions (suc calls)) first.is ∙ ap (λ (g : Got (List PartialFunction)). got (first.partial ∷ g.value) g.behind) (more_here calls first.behind first.depth rest (functions_some others) ∙ found.is);
+      is = ap (then_functions (suc calls)) first.is ∙ ap (λ (g : Got (List PartialFunction)). got (first.partial ∷ g.value) g.following) (more_here calls first.following first.depth rest (functions_some others) ∙ found.is);
     }
 
 -- Global variables.
@@ -94,7 +94,7 @@ type_no_head _ begins = absurd cc
 pub type_here : {tokens rest : List Placed} {name_at : ℕ} {name : Word} (type : CType) → Begins tokens (type_tokens type) (word name_at name ∷ rest) → begins_type (first_of tokens) ≡ true
 type_here {tokens} {rest} {name_at} {name} type words = (type-complete type tokens (word name_at name ∷ rest) 0 0 words refl).begins
 
-result_no_head : {tokens rest behind : List Placed} {name_at : ℕ} {name : Word} {r : Option CType} → HasResult tokens r behind → behind ≡ word name_at name ∷ rest → is_the_head place_line (first_of tokens) ≡ false
+result_no_head : {tokens rest following : List Placed} {name_at : ℕ} {name : Word} {r : Option CType} → HasResult tokens r following → following ≡ word name_at name ∷ rest → is_the_head place_line (first_of tokens) ≡ false
 result_no_head no_result same = refl
 result_no_head {tokens} {rest} {name_at} {name} (result type words) same =
     type_no_head (first_of tokens) (type_here {rest = rest} {name_at = name_at} {name = name} type (subst (λ ts. Begins tokens (type_tokens type) ts) same words))
@@ -103,7 +103,7 @@ pub functions_no_head : {tokens : List Placed} {fs : List Function} → AreFunct
 functions_no_head (last_function is) = result_no_head is.result_is refl
 functions_no_head (more_functions is others) = result_no_head is.result_is refl
 
-pub initial_no_mark : {end : ℕ} {tokens rest behind : List Placed} {ns : List ℕ} → AreInitial tokens ns behind → behind ≡ mark end (codes ";") ∷ rest →
+pub initial_no_mark : {end : ℕ} {tokens rest following : List Placed} {ns : List ℕ} → AreInitial tokens ns following → following ≡ mark end (codes ";") ∷ rest →
     (is_the_mark (codes "(") (first_of tokens) ≡ false) × (is_the_mark (codes "[") (first_of tokens) ≡ false)
 initial_no_mark no_value same = (ap (λ ts. is_the_mark (codes "(") (first_of ts)) same, ap (λ ts. is_the_mark (codes "[") (first_of ts)) same)
 initial_no_mark one_value same = (refl, refl)
@@ -116,29 +116,29 @@ size_no_open size ends = refl
 -- the steps of reading a global variable after its name
 abbrev init_step : ℕ → Got Begun → Option NumberAt → Got (List NumberAt) → Got PartialVariable
 init_step address begun found init =
-    let end = take_mark (codes ";") init.behind in
+    let end = take_mark (codes ";") init.following in
     got (record { name = begun.value.name; type = begun.value.result; class = Plain; size = found; init = init.value; address = address; done = not (is_stopped end) }) end
 
 abbrev size_step : ℕ → ℕ → Got Begun → Got (Option NumberAt) → Got PartialVariable
-size_step calls address begun found = init_step address begun found.value (read_init calls found.behind)
+size_step calls address begun found = init_step address begun found.value (read_init calls found.following)
 
 pub record FindsGlobal (g : Global) (rest : List Placed) (depth : ℕ) (v : Got PartialVariable) : Type 0 where
   pub partial : PartialVariable
-  pub behind : ℕ
+  pub following : ℕ
   pub same : plain_global partial ≡ g
-  pub next : g.at + size_in_bytes partial ≡ behind_global g
-  pub is : v ≡ got partial (on rest behind depth)
+  pub next : g.at + size_in_bytes partial ≡ after_global g
+  pub is : v ≡ got partial (on rest following depth)
 
 pub global-complete : (g : Global) (tokens rest : List Placed) (is : IsGlobal tokens g rest) (calls at depth : ℕ) → IsEnoughFor calls 0 tokens →
-    (b : FindsBegun (Some g.type) g.name is.behind_name depth (read_begun (on tokens at depth))) → FindsGlobal g rest depth (read_global calls g.at (got (record { at = b.at; has_result = b.has_result; result = Some g.type; name = Some (record { word = g.name; at = b.name_at }) }) (on is.behind_name b.behind depth)))
+    (b : FindsBegun (Some g.type) g.name is.after_name depth (read_begun (on tokens at depth))) → FindsGlobal g rest depth (read_global calls g.at (got (record { at = b.at; has_result = b.has_result; result = Some g.type; name = Some (record { word = g.name; at = b.name_at }) }) (on is.after_name b.following depth)))
 global-complete g tokens rest is calls at depth enough b =
-    let begun : Got Begun = got (record { at = b.at; has_result = b.has_result; result = Some g.type; name = Some (record { word = g.name; at = b.name_at }) }) (on is.behind_name b.behind depth) in
-    let s = size-complete is.len_is (initial_no_mark is.init_is refl).1 b.behind depth in
+    let begun : Got Begun = got (record { at = b.at; has_result = b.has_result; result = Some g.type; name = Some (record { word = g.name; at = b.name_at }) }) (on is.after_name b.following depth) in
+    let s = size-complete is.len_is (initial_no_mark is.init_is refl).1 b.following depth in
     let lengths = size_leads is.len_is in
-    let i = init-complete is.init_is refl calls s.behind depth (omega (arith, begins-length is.type_is, lengths.less)) in
+    let i = init-complete is.init_is refl calls s.following depth (omega (arith, begins-length is.type_is, lengths.less)) in
     record {
       partial = record { name = Some (record { word = g.name; at = b.name_at }); type = Some g.type; class = Plain; size = s.partial; init = i.numbers; address = g.at; done = true };
-      behind = suc i.behind;
+      following = suc i.following;
       same = ap₂ (λ (l : Option ℕ) (ns : List ℕ). record { name = g.name; at = g.at; type = g.type; len = l; init = ns }) s.same i.same;
       next = ap (λ l. g.at + bytes_of g.type l) s.same;
       is = ap (size_step calls g.at begun) s.is ∙ ap (init_step g.at begun s.partial) i.is;

@@ -5,7 +5,7 @@ use Rattle.std.specs.List.{list_all}
 use Rattle.std.proofs.lemmas.Bool.{and_parts, and_from}
 use Rattle.dcc_c.specs.Token.{Decimal, Pragma, plain_number as plain_suffix, version_line, stack_line, place_line}
 use Rattle.dcc_c.specs.Lexing.{Placed, placed}
-use Rattle.dcc_c.specs.Placement.{behind_global, bytes_of}
+use Rattle.dcc_c.specs.Placement.{after_global, bytes_of}
 use Rattle.dcc_c.specs.Grammar.{AreFunctions, IsGlobal, AreInitial, AreGlobals, no_global, placed_at, one_global}
 use Rattle.dcc_c.specs.Rules.{most_open}
 use Rattle.dcc_c.specs.Partial.{NumberAt, PartialVariable}
@@ -31,17 +31,17 @@ pub record ReadsDeclared (address : Option ℕ) (r : Reader) (g : Got Declared) 
   pub globals : AreGlobals address (tokens_of r.left) (map plain_global g.value.globals) tokens
   pub functions : AreFunctions 200 tokens (map plain_function g.value.functions)
   pub shallow : list_all is_shallow (map plain_function g.value.functions) ≡ true
-  pub ends : g.behind.left ≡ []
+  pub ends : g.following.left ≡ []
 
 abbrev SoundDeclared : Option ℕ → Reader → Got Declared → Type 0
-SoundDeclared address r g = g.behind.stop ≡ None → ReadsDeclared address r g
+SoundDeclared address r g = g.following.stop ≡ None → ReadsDeclared address r g
 
 -- Functions, the first of which has begun.
 functions-sound : (calls : ℕ) (address : Option ℕ) (r : Reader) → IsEnough (suc calls) 1 r.left → SoundDeclared address r (declared [] (with_functions calls (read_begun r)))
 functions-sound calls address r enough going =
     let first = read_function calls (read_begun r) in
-    let read = function-sound calls r (read_begun r) (begun-sound r) (omega arith) (functions-keep calls first.behind going) in
-    let more = rest-sound calls first.behind (omega (arith, read.shorter)) going in
+    let read = function-sound calls r (read_begun r) (begun-sound r) (omega arith) (functions-keep calls first.following going) in
+    let more = rest-sound calls first.following (omega (arith, read.shorter)) going in
     record {
       going = read.steps.passed.going;
       whole = read.steps.passed.whole ∙ more.whole;
@@ -53,33 +53,33 @@ functions-sound calls address r enough going =
       ends = more.ends;
     }
 
-with-keeps : (calls : ℕ) (r : Reader) → GoesOn r (with_functions calls (read_begun r)).behind
+with-keeps : (calls : ℕ) (r : Reader) → GoesOn r (with_functions calls (read_begun r)).following
 with-keeps calls r going =
-    (begun-sound r (function-keeps calls (read_begun r) (functions-keep calls (read_function calls (read_begun r)).behind going))).steps.passed.going
+    (begun-sound r (function-keeps calls (read_begun r) (functions-keep calls (read_function calls (read_begun r)).following going))).steps.passed.going
 
 -- Global variables.
 
 pub record ReadsGlobal (here : ℕ) (r : Reader) (g : Got PartialVariable) : Type 0 where
-  pub steps : Steps 0 0 r g.behind
-  pub shorter : length g.behind.left < length r.left
-  pub derived : IsGlobal (tokens_of r.left) (plain_global g.value) (tokens_of g.behind.left)
-  pub next : here + size_in_bytes g.value ≡ behind_global (plain_global g.value)
+  pub steps : Steps 0 0 r g.following
+  pub shorter : length g.following.left < length r.left
+  pub derived : IsGlobal (tokens_of r.left) (plain_global g.value) (tokens_of g.following.left)
+  pub next : here + size_in_bytes g.value ≡ after_global (plain_global g.value)
 
-global-keeps : (calls here : ℕ) (begun : Got Begun) → GoesOn begun.behind (read_global calls here begun).behind
+global-keeps : (calls here : ℕ) (begun : Got Begun) → GoesOn begun.following (read_global calls here begun).following
 global-keeps calls here begun going =
-    let size = read_size begun.behind in
-    let init = read_init calls size.behind in
-    (size-sound begun.behind (init-sound calls size.behind (take_mark-took (codes ";") init.behind going).passed.going).steps.passed.going).steps.passed.going
+    let size = read_size begun.following in
+    let init = read_init calls size.following in
+    (size-sound begun.following (init-sound calls size.following (take_mark-took (codes ";") init.following going).passed.going).steps.passed.going).steps.passed.going
 
-pub global-sound : (calls here : ℕ) (r : Reader) (begun : Got Begun) → (begun.behind.stop ≡ None → ReadsBegun r begun) → begun.value.has_result ≡ true →
-    (read_global calls here begun).behind.stop ≡ None → ReadsGlobal here r (read_global calls here begun)
+pub global-sound : (calls here : ℕ) (r : Reader) (begun : Got Begun) → (begun.following.stop ≡ None → ReadsBegun r begun) → begun.value.has_result ≡ true →
+    (read_global calls here begun).following.stop ≡ None → ReadsGlobal here r (read_global calls here begun)
 global-sound calls here r begun begins has going =
-    let size = read_size begun.behind in
-    let init = read_init calls size.behind in
-    let behind = take_mark (codes ";") init.behind in
-    let end = take_mark-took (codes ";") init.behind going in
-    let values = init-sound calls size.behind end.passed.going in
-    let sized = size-sound begun.behind values.steps.passed.going in
+    let size = read_size begun.following in
+    let init = read_init calls size.following in
+    let following = take_mark (codes ";") init.following in
+    let end = take_mark-took (codes ";") init.following going in
+    let values = init-sound calls size.following end.passed.going in
+    let sized = size-sound begun.following values.steps.passed.going in
     let head = begins sized.steps.passed.going in
     let typed = head.typed has in
     record {
@@ -88,25 +88,25 @@ global-sound calls here r begun begins has going =
       derived = record {
         name_at = head.name_at;
         end_at = end.line;
-        behind_name = tokens_of begun.behind.left;
-        behind_size = tokens_of size.behind.left;
+        after_name = tokens_of begun.following.left;
+        after_size = tokens_of size.following.left;
         type_is = typed.0;
         name_is = head.good;
         len_is = sized.derived;
-        init_is = subst (λ ts. AreInitial (tokens_of size.behind.left) (plain_numbers init.value) ts) end.begins values.derived;
+        init_is = subst (λ ts. AreInitial (tokens_of size.following.left) (plain_numbers init.value) ts) end.begins values.derived;
       };
       next = ap (λ t. here + elim t [ Some type ↦ bytes_of type (option_map (λ n. n.value) size.value) | None ↦ 0 ]) typed.1;
     }
 
 global_then : (here : ℕ) (r : Reader) (v : Got PartialVariable) (others : Got Declared) → v.value.address ≡ here → ReadsGlobal here r v →
-    ReadsDeclared (Some (here + size_in_bytes v.value)) v.behind others → ReadsDeclared (Some here) r (before_declared v.value others)
+    ReadsDeclared (Some (here + size_in_bytes v.value)) v.following others → ReadsDeclared (Some here) r (before_declared v.value others)
 global_then here r v others at read more =
     record {
       going = read.steps.passed.going;
       whole = read.steps.passed.whole ∙ more.whole;
       enclosed = read.steps.enclosed more.enclosed;
       tokens = more.tokens;
-      globals = subst (λ a. AreGlobals (Some a) (tokens_of r.left) (map plain_global (v.value ∷ others.value.globals)) more.tokens) at (one_global read.derived (subst (λ a. AreGlobals (Some a) (tokens_of v.behind.left) (map plain_global others.value.globals) more.tokens) read.next more.globals));
+      globals = subst (λ a. AreGlobals (Some a) (tokens_of r.left) (map plain_global (v.value ∷ others.value.globals)) more.tokens) at (one_global read.derived (subst (λ a. AreGlobals (Some a) (tokens_of v.following.left) (map plain_global others.value.globals) more.tokens) read.next more.globals));
       functions = more.functions;
       shallow = more.shallow;
       ends = more.ends;
@@ -136,25 +136,25 @@ place_then address r between value others took read line more =
 -- what stands after place lines, at an address or at none
 abbrev pub here_declared : ℕ → Option ℕ → Reader → Got Declared
 here_declared calls address r = elim address [
-  | Some here ↦ if (read_begun r).value.has_result && not (sees_mark (codes "(") (read_begun r).behind)
-      then before_declared (read_global calls here (read_begun r)).value (read_declared calls (Some (here + size_in_bytes (read_global calls here (read_begun r)).value)) (read_global calls here (read_begun r)).behind)
+  | Some here ↦ if (read_begun r).value.has_result && not (sees_mark (codes "(") (read_begun r).following)
+      then before_declared (read_global calls here (read_begun r)).value (read_declared calls (Some (here + size_in_bytes (read_global calls here (read_begun r)).value)) (read_global calls here (read_begun r)).following)
       else declared [] (with_functions calls (read_begun r))
   | None ↦ declared [] (with_functions calls (read_begun r))
 ]
 
-pub declared-keeps : (calls : ℕ) (address : Option ℕ) (r : Reader) → GoesOn r (read_declared calls address r).behind
+pub declared-keeps : (calls : ℕ) (address : Option ℕ) (r : Reader) → GoesOn r (read_declared calls address r).following
 declared-keeps zero address r = λ going. going
 declared-keeps (suc calls) address r =
     let n = take_number_of_line (line_of r.left) (skip r) in
-    if-cases (λ (g : Got Declared). GoesOn r g.behind) (sees_head place_line r) {x = read_declared calls (Some (address_of n.value)) n.behind} {y = here_declared calls address r}
-    (λ _ going. number-keeps (line_of r.left) (skip r) (declared-keeps calls (Some (address_of n.value)) n.behind going)) (λ _. by address (λ here. declared-keeps calls (Some (here + size_in_bytes (read_global calls here (read_begun r)).value)) (read_global calls here (read_begun r)).behind))
+    if-cases (λ (g : Got Declared). GoesOn r g.following) (sees_head place_line r) {x = read_declared calls (Some (address_of n.value)) n.following} {y = here_declared calls address r}
+    (λ _ going. number-keeps (line_of r.left) (skip r) (declared-keeps calls (Some (address_of n.value)) n.following going)) (λ _. by address (λ here. declared-keeps calls (Some (here + size_in_bytes (read_global calls here (read_begun r)).value)) (read_global calls here (read_begun r)).following))
   where
-    by : (a : Option ℕ) → ((here : ℕ) → GoesOn (read_global calls here (read_begun r)).behind (read_declared calls (Some (here + size_in_bytes (read_global calls here (read_begun r)).value)) (read_global calls here (read_begun r)).behind).behind) →
-        GoesOn r (here_declared calls a r).behind
+    by : (a : Option ℕ) → ((here : ℕ) → GoesOn (read_global calls here (read_begun r)).following (read_declared calls (Some (here + size_in_bytes (read_global calls here (read_begun r)).value)) (read_global calls here (read_begun r)).following).following) →
+        GoesOn r (here_declared calls a r).following
     by (Some here) others =
         let v = read_global calls here (read_begun r) in
-        if-cases (λ (g : Got Declared). GoesOn r g.behind) ((read_begun r).value.has_result && not (sees_mark (codes "(") (read_begun r).behind))
-        {x = before_declared v.value (read_declared calls (Some (here + size_in_bytes v.value)) v.behind)} {y = declared [] (with_functions calls (read_begun r))}
+        if-cases (λ (g : Got Declared). GoesOn r g.following) ((read_begun r).value.has_result && not (sees_mark (codes "(") (read_begun r).following))
+        {x = before_declared v.value (read_declared calls (Some (here + size_in_bytes v.value)) v.following)} {y = declared [] (with_functions calls (read_begun r))}
         (λ _ going. (begun-sound r (global-keeps calls here (read_begun r) (others here going))).steps.passed.going) (λ _ going. with-keeps calls r going)
     by None others = λ going. with-keeps calls r going
 
@@ -162,25 +162,25 @@ declared-sound : (calls : ℕ) (address : Option ℕ) (r : Reader) → IsEnough 
 declared-sound zero address r enough = absurd (omega arith)
 declared-sound (suc calls) address r enough =
     let n = take_number_of_line (line_of r.left) (skip r) in
-    if-cases (SoundDeclared address r) (sees_head place_line r) {x = read_declared calls (Some (address_of n.value)) n.behind} {y = here_declared calls address r}
+    if-cases (SoundDeclared address r) (sees_head place_line r) {x = read_declared calls (Some (address_of n.value)) n.following} {y = here_declared calls address r}
     (λ sees going.
     let took = sees_head-took place_line r sees in
-    let read = number-sound (line_of r.left) (skip r) (declared-keeps calls (Some (address_of n.value)) n.behind going) in
-    place_then address r n.behind n.value (read_declared calls (Some (address_of n.value)) n.behind) took read.0 read.1
-    (declared-sound calls (Some (address_of n.value)) n.behind (omega (arith, took.one_less, read.0.took.one_less)) going))
-    (λ _. by address (λ here room going. declared-sound calls (Some (here + size_in_bytes (read_global calls here (read_begun r)).value)) (read_global calls here (read_begun r)).behind room going))
+    let read = number-sound (line_of r.left) (skip r) (declared-keeps calls (Some (address_of n.value)) n.following going) in
+    place_then address r n.following n.value (read_declared calls (Some (address_of n.value)) n.following) took read.0 read.1
+    (declared-sound calls (Some (address_of n.value)) n.following (omega (arith, took.one_less, read.0.took.one_less)) going))
+    (λ _. by address (λ here room going. declared-sound calls (Some (here + size_in_bytes (read_global calls here (read_begun r)).value)) (read_global calls here (read_begun r)).following room going))
   where
-    by : (a : Option ℕ) → ((here : ℕ) → IsEnough calls 1 (read_global calls here (read_begun r)).behind.left →
-        SoundDeclared (Some (here + size_in_bytes (read_global calls here (read_begun r)).value)) (read_global calls here (read_begun r)).behind (read_declared calls (Some (here + size_in_bytes (read_global calls here (read_begun r)).value)) (read_global calls here (read_begun r)).behind)) →
+    by : (a : Option ℕ) → ((here : ℕ) → IsEnough calls 1 (read_global calls here (read_begun r)).following.left →
+        SoundDeclared (Some (here + size_in_bytes (read_global calls here (read_begun r)).value)) (read_global calls here (read_begun r)).following (read_declared calls (Some (here + size_in_bytes (read_global calls here (read_begun r)).value)) (read_global calls here (read_begun r)).following)) →
         SoundDeclared a r (here_declared calls a r)
     by (Some here) others =
         let v = read_global calls here (read_begun r) in
-        let next = read_declared calls (Some (here + size_in_bytes v.value)) v.behind in
-        if-cases (SoundDeclared (Some here) r) ((read_begun r).value.has_result && not (sees_mark (codes "(") (read_begun r).behind))
+        let next = read_declared calls (Some (here + size_in_bytes v.value)) v.following in
+        if-cases (SoundDeclared (Some here) r) ((read_begun r).value.has_result && not (sees_mark (codes "(") (read_begun r).following))
         {x = before_declared v.value next} {y = declared [] (with_functions calls (read_begun r))}
         (λ is going.
-        let has = (and_parts (read_begun r).value.has_result (not (sees_mark (codes "(") (read_begun r).behind)) is).0 in
-        let read = global-sound calls here r (read_begun r) (begun-sound r) has (declared-keeps calls (Some (here + size_in_bytes v.value)) v.behind going) in
+        let has = (and_parts (read_begun r).value.has_result (not (sees_mark (codes "(") (read_begun r).following)) is).0 in
+        let read = global-sound calls here r (read_begun r) (begun-sound r) has (declared-keeps calls (Some (here + size_in_bytes v.value)) v.following going) in
         global_then here r v next refl read (others here (omega (arith, read.shorter)) going))
         (λ _ going. functions-sound calls (Some here) r enough going)
     by None others = λ going. functions-sound calls None r enough going
@@ -197,7 +197,7 @@ stack_then r stack first second lo hi others took one one_line two two_line read
     let lo_is : one.number.value ≡ plain_number lo = sym (ap plain_number one.is) in
     let hi_is : two.number.value ≡ plain_number hi = sym (ap plain_number two.is) in
     let steps : Steps 0 0 r second = then_steps (token_steps 0 refl took) (then_steps (token_steps 0 refl one.took) (token_steps 0 refl two.took)) in
-    let behind : tokens_of first.left ≡ placed took.line (Decimal (plain_number hi) plain_suffix) ∷ tokens_of second.left =
+    let following : tokens_of first.left ≡ placed took.line (Decimal (plain_number hi) plain_suffix) ∷ tokens_of second.left =
     two.took.begins ∙ (ap (λ l. placed l (Decimal two.number.value plain_suffix) ∷ tokens_of second.left) same_two ∙ ap (λ n. placed took.line (Decimal n plain_suffix) ∷ tokens_of second.left) hi_is)
     in
     let between : tokens_of stack.left ≡ placed took.line (Decimal (plain_number lo) plain_suffix) ∷ tokens_of first.left =
@@ -210,7 +210,7 @@ stack_then r stack first second lo hi others took one one_line two two_line read
           stack_at = took.line;
           globals = tokens_of second.left;
           functions = read.tokens;
-          head_is = ap with_version (took.begins ∙ ap (λ ts. placed took.line (Pragma stack_line) ∷ ts) (between ∙ ap (λ ts. placed took.line (Decimal (plain_number lo) plain_suffix) ∷ ts) behind));
+          head_is = ap with_version (took.begins ∙ ap (λ ts. placed took.line (Pragma stack_line) ∷ ts) (between ∙ ap (λ ts. placed took.line (Decimal (plain_number lo) plain_suffix) ∷ ts) following));
           version_is = refl;
           globals_are = read.globals;
           functions_are = read.functions;
@@ -220,18 +220,18 @@ stack_then r stack first second lo hi others took one one_line two two_line read
       },
     )
 
-text-sound : (calls : ℕ) (r : Reader) → IsEnough calls 1 r.left → (read_text calls r).behind.stop ≡ None →
-    (are_tokens r.left ≡ true) × IsText (tokens_of r.left) (plain_text (read_text calls r).value) × ((read_text calls r).behind.left ≡ [])
+text-sound : (calls : ℕ) (r : Reader) → IsEnough calls 1 r.left → (read_text calls r).following.stop ≡ None →
+    (are_tokens r.left ≡ true) × IsText (tokens_of r.left) (plain_text (read_text calls r).value) × ((read_text calls r).following.left ≡ [])
 text-sound calls r enough going =
     let stack = take_head stack_line r in
     let lo = take_number_of_line (line_of r.left) stack in
-    let hi = take_number_of_line (line_of r.left) lo.behind in
-    let others = read_declared calls None hi.behind in
-    let two = number-sound (line_of r.left) lo.behind (declared-keeps calls None hi.behind going) in
+    let hi = take_number_of_line (line_of r.left) lo.following in
+    let others = read_declared calls None hi.following in
+    let two = number-sound (line_of r.left) lo.following (declared-keeps calls None hi.following going) in
     let one = number-sound (line_of r.left) stack two.0.took.passed.going in
     let took = head-sound stack_line r one.0.took.passed.going in
-    let read = declared-sound calls None hi.behind (omega (arith, took.one_less, one.0.took.one_less, two.0.took.one_less)) going in
-    let found = stack_then r stack lo.behind hi.behind lo.value hi.value others took one.0 one.1 two.0 two.1 read in
+    let read = declared-sound calls None hi.following (omega (arith, took.one_less, one.0.took.one_less, two.0.took.one_less)) going in
+    let found = stack_then r stack lo.following hi.following lo.value hi.value others took one.0 one.1 two.0 two.1 read in
     (found.0, found.1, read.ends)
 
 -- what has been read of a text to its end is one

@@ -13,33 +13,33 @@ use Rattle.dcc_c.specs.Grammar.{is_name, unary_mark, binary_mark, base_words, ty
 use Rattle.dcc_c.specs.Rules.{most_open}
 use Rattle.dcc_c.specs.Reading.{Reader, Got, got, skip, is_the_mark, name_if, name_of, plain_of, sees_mark, sees_word, signed_base, unsigned_base, take_base, with_star, take_type, all_unary, all_binary, unary_in, binary_in, unary_of, binary_of, TypedNumber, number_of}
 use Rattle.dcc_c.proofs.reading.Passing.{tokens_of, Passed, Took, then_passed, not_passed, if-cases, fail-stops, the_mark-is, sees_mark-took, sees_word-took}
-use Rattle.dcc_c.proofs.reading.Enclosing.{open_behind, open_before, enclosed-before}
+use Rattle.dcc_c.proofs.reading.Enclosing.{open_after, open_before, enclosed-before}
 use Rattle.dcc_c.proofs.reading.Statements.{ReadsType}
 
 -- The reader passed these tokens, none of which is a parenthesis.
-pub record Walks (tokens : List Token) (r behind : Reader) : Type 0 where
-  pub passed : Passed r behind
-  pub steady : behind.depth ≡ r.depth
-  pub less : length r.left ≡ length tokens + length behind.left
-  pub begins : Begins (tokens_of r.left) tokens (tokens_of behind.left)
-  pub enclosed : (opened : ℕ) → most_open opened (tokens_of behind.left) ≤ 200 → most_open opened (tokens_of r.left) ≤ 200
+pub record Walks (tokens : List Token) (r following : Reader) : Type 0 where
+  pub passed : Passed r following
+  pub steady : following.depth ≡ r.depth
+  pub less : length r.left ≡ length tokens + length following.left
+  pub begins : Begins (tokens_of r.left) tokens (tokens_of following.left)
+  pub enclosed : (opened : ℕ) → most_open opened (tokens_of following.left) ≤ 200 → most_open opened (tokens_of r.left) ≤ 200
 
 -- a token that is no parenthesis keeps to the limit where what follows does
-pub took_enclosed : (token : Token) (r behind : Reader) → Took token r behind → (opened : ℕ) → open_behind token opened ≡ opened →
-    most_open opened (tokens_of behind.left) ≤ 200 → most_open opened (tokens_of r.left) ≤ 200
-took_enclosed token r behind took opened flat few =
-    let least : opened ≤ 200 = omega (arith, open_before opened (tokens_of behind.left)) in
-    rw took.begins (enclosed-before token opened took.line (tokens_of behind.left) least (rw flat few))
+pub took_enclosed : (token : Token) (r following : Reader) → Took token r following → (opened : ℕ) → open_after token opened ≡ opened →
+    most_open opened (tokens_of following.left) ≤ 200 → most_open opened (tokens_of r.left) ≤ 200
+took_enclosed token r following took opened flat few =
+    let least : opened ≤ 200 = omega (arith, open_before opened (tokens_of following.left)) in
+    rw took.begins (enclosed-before token opened took.line (tokens_of following.left) least (rw flat few))
 
 -- one token
-pub one_walk : (token : Token) {r behind : Reader} → ((opened : ℕ) → open_behind token opened ≡ opened) → Took token r behind → Walks (token ∷ []) r behind
-one_walk token {r} {behind} flat took =
+pub one_walk : (token : Token) {r following : Reader} → ((opened : ℕ) → open_after token opened ≡ opened) → Took token r following → Walks (token ∷ []) r following
+one_walk token {r} {following} flat took =
     record {
       passed = took.passed;
       steady = took.steady;
       less = omega (arith, took.one_less);
       begins = rw took.begins (one none);
-      enclosed = λ opened few. took_enclosed token r behind took opened (flat opened) few;
+      enclosed = λ opened few. took_enclosed token r following took opened (flat opened) few;
     }
 
 begins-append : {a b c : List Placed} {xs : List Token} (ys : List Token) → Begins a xs b → Begins b ys c → Begins a (xs ++ ys) c
@@ -47,7 +47,7 @@ begins-append ys none second = second
 begins-append ys (one first) second = one (begins-append ys first second)
 
 -- some tokens and others
-pub then_walks : (xs ys : List Token) {r between behind : Reader} → Walks xs r between → Walks ys between behind → Walks (xs ++ ys) r behind
+pub then_walks : (xs ys : List Token) {r between following : Reader} → Walks xs r between → Walks ys between following → Walks (xs ++ ys) r following
 then_walks xs ys first second =
     record {
       passed = then_passed first.passed second.passed;
@@ -61,11 +61,11 @@ then_walks xs ys first second =
 
 -- the words of a base were passed
 abbrev ReadsBase : Reader → Option Base → Reader → Type 0
-ReadsBase r (Some base) behind = Walks (map WordToken (base_words base)) r behind
-ReadsBase r None behind = ⊥
+ReadsBase r (Some base) following = Walks (map WordToken (base_words base)) r following
+ReadsBase r None following = ⊥
 
 abbrev SoundBase : Reader → Got (Option Base) → Type 0
-SoundBase r g = g.behind.stop ≡ None → ReadsBase r g.value g.behind
+SoundBase r g = g.following.stop ≡ None → ReadsBase r g.value g.following
 
 -- one word
 word_walk : (bytes : Word) {r : Reader} → sees_word bytes r ≡ true → Walks (WordToken bytes ∷ []) r (skip r)
@@ -101,7 +101,7 @@ base-sound r =
     (λ _ none. absurd (fail-stops r none)))))
 
 -- the type that was passed
-reads_type : {r behind : Reader} (type : CType) → Walks (type_tokens type) r behind → length behind.left < length r.left → ReadsType r (got (Some type) behind)
+reads_type : {r following : Reader} (type : CType) → Walks (type_tokens type) r following → length following.left < length r.left → ReadsType r (got (Some type) following)
 reads_type type walks shorter =
     record { passed = walks.passed; steady = walks.steady; shorter = shorter; type = type; is = refl; derived = walks.begins; enclosed = walks.enclosed }
 
@@ -110,32 +110,32 @@ some_words Schar = omega arith
 some_words _ = omega arith
 
 abbrev pub SoundType : Reader → Got (Option CType) → Type 0
-SoundType r g = g.behind.stop ≡ None → ReadsType r g
+SoundType r g = g.following.stop ≡ None → ReadsType r g
 
 no_walk : (r : Reader) → r.stop ≡ None → Walks [] r r
 no_walk r going =
     record { passed = not_passed r going; steady = refl; less = omega arith; begins = none; enclosed = λ opened few. few }
 
-star-sound : (r : Reader) (base : Base) (behind : Reader) → SoundBase r (got (Some base) behind) → SoundType r (with_star base behind)
-star-sound r base behind read =
+star-sound : (r : Reader) (base : Base) (following : Reader) → SoundBase r (got (Some base) following) → SoundType r (with_star base following)
+star-sound r base following read =
     let words : List Token = map WordToken (base_words base) in
-    if-cases (SoundType r) (sees_mark (codes "*") behind)
+    if-cases (SoundType r) (sees_mark (codes "*") following)
     (λ sees _.
-    let star = sees_mark-took (codes "*") behind sees in
+    let star = sees_mark-took (codes "*") following sees in
     let walks = then_walks words (Mark (codes "*") ∷ []) (read star.passed.going) (one_walk (Mark (codes "*")) (λ opened. refl) star) in
     reads_type (record { base = base; pointer = true }) walks (omega (arith, walks.less, length-append words (Mark (codes "*") ∷ []), some_words base)))
     (λ _ going.
-    let walks = then_walks words [] (read going) (no_walk behind going) in
+    let walks = then_walks words [] (read going) (no_walk following going) in
     reads_type (record { base = base; pointer = false }) walks (omega (arith, walks.less, length-append words [], some_words base)))
 
-typed-sound : (r : Reader) (base : Option Base) (behind : Reader) → SoundBase r (got base behind) →
-    SoundType r (elim base [ Some b ↦ with_star b behind | None ↦ got None behind ])
-typed-sound r (Some base) behind read = star-sound r base behind read
-typed-sound r None behind read = λ going. absurd (read going)
+typed-sound : (r : Reader) (base : Option Base) (following : Reader) → SoundBase r (got base following) →
+    SoundType r (elim base [ Some b ↦ with_star b following | None ↦ got None following ])
+typed-sound r (Some base) following read = star-sound r base following read
+typed-sound r None following read = λ going. absurd (read going)
 
 -- a type that was read is one
 pub type-sound : (r : Reader) → SoundType r (take_type r)
-type-sound r = typed-sound r (take_base r).value (take_base r).behind (base-sound r)
+type-sound r = typed-sound r (take_base r).value (take_base r).following (base-sound r)
 
 -- Operators, numbers and names.
 
@@ -164,7 +164,7 @@ pub record SeesNumber (seen : Option Token) (n : TypedNumber) : Type 0 where
   pub token : Token
   pub is : seen ≡ Some token
   pub number : IsNumber token n.value n.base
-  pub flat : (opened : ℕ) → open_behind token opened ≡ opened
+  pub flat : (opened : ℕ) → open_after token opened ≡ opened
 
 pub number_of-is : (token : Option Token) (n : TypedNumber) → number_of token ≡ Some n → SeesNumber token n
 number_of-is (Some (Decimal n suffix)) number is =

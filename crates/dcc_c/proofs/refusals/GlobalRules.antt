@@ -9,7 +9,7 @@ use Rattle.dcc_c.specs.declared.syntax.CType.{CType}
 use Rattle.dcc_c.specs.declared.syntax.Base.TheVariants.{Schar, Uchar, Int, Uint, Long, Ulong}
 use Rattle.dcc_c.specs.Tree.{Global}
 use Rattle.dcc_c.specs.Types.{size_of}
-use Rattle.dcc_c.specs.Placement.{elements, bytes_of, behind_global}
+use Rattle.dcc_c.specs.Placement.{elements, bytes_of, after_global}
 use Rattle.dcc_c.specs.Rules.{has_element, allows_global, are_apart, all_apart, is_off_stack}
 use Rattle.dcc_c.specs.Kinds.{of_place, offence, only_if}
 use Rattle.dcc_c.specs.Partial.{WordAt, NumberAt, PartialVariable}
@@ -77,13 +77,13 @@ fits-surplus v fit = ap first_number (none-drop (element_count v.size) v.init
 
 -- Ends.
 
-pub end-is : (v : PartialVariable) → Complete v → end_of v ≡ behind_global (plain_global v)
+pub end-is : (v : PartialVariable) → Complete v → end_of v ≡ after_global (plain_global v)
 end-is v c =
     ap (λ (o : Option CType). v.address + (elim o [ Some type ↦ bytes_of type (option_map (λ n. n.value) v.size) | None ↦ 0 ])) c.type_is
     ∙ ap (λ o. v.address + bytes_of (plain_type o) (option_map (λ n. n.value) v.size)) (sym c.type_is)
 
 apart-is : (v u : PartialVariable) → Complete v → Complete u → stand_apart v u ≡ are_apart (plain_global v) (plain_global u)
-apart-is v u c d = ap (λ n. nat_le n u.address || nat_le (end_of u) v.address) (end-is v c) ∙ ap (λ n. nat_le (behind_global (plain_global v)) u.address || nat_le n v.address) (end-is u d)
+apart-is v u c d = ap (λ n. nat_le n u.address || nat_le (end_of u) v.address) (end-is v c) ∙ ap (λ n. nat_le (after_global (plain_global v)) u.address || nat_le n v.address) (end-is u d)
 
 or-swap : (a b : Bool) → a || b ≡ b || a
 or-swap true true = refl
@@ -92,7 +92,7 @@ or-swap false true = refl
 or-swap false false = refl
 
 apart-swap : (a b : Global) → are_apart a b ≡ are_apart b a
-apart-swap a b = or-swap (nat_le (behind_global a) b.at) (nat_le (behind_global b) a.at)
+apart-swap a b = or-swap (nat_le (after_global a) b.at) (nat_le (after_global b) a.at)
 
 -- a variable with an element takes a byte
 size-positive : (type : CType) → 0 < size_of type
@@ -146,7 +146,7 @@ own-placed lo hi earlier v c size init place =
     let stack = not-true _ (or-left (not (nat_le hi lo || (nat_le (end_of v) lo || nat_le hi v.address))) _ others) in
     let free = not-true _ (or-right (not (nat_le hi lo || (nat_le (end_of v) lo || nat_le hi v.address))) (not (list_all (stand_apart v) earlier)) others) in (
       record {
-        allowed = rw element (rw (le-leb (behind_global (plain_global v)) 65536 (omega (arith, ltb-false 65536 (end_of v) memory, end-is v c))) (surplus-fits v init));
+        allowed = rw element (rw (le-leb (after_global (plain_global v)) 65536 (omega (arith, ltb-false 65536 (end_of v) memory, end-is v c))) (surplus-fits v init));
         off = ap (λ n. nat_le hi lo || (nat_le n lo || nat_le hi v.address)) (sym (end-is v c)) ∙ stack;
       },
       free,
@@ -215,9 +215,9 @@ placed-clean lo hi earlier (v ∷ vs) whole are =
     let apart = and-both (list_all (are_apart (plain_global v)) (map plain_global vs)) (all_apart (map plain_global vs)) are.apart in
     let free = and-both (list_all (stand_apart v) earlier) (all_off earlier vs) are.earlier_apart in
     let element = and-both (has_element (option_map (λ n. n.value) v.size)) _ allowed.0 in
-    let limits = and-both (nat_le (behind_global (plain_global v)) 65536) _ element.1 in
+    let limits = and-both (nat_le (after_global (plain_global v)) 65536) _ element.1 in
     let taken : takes_bytes v ≡ true = rw c.done (lt-ltb 0 (size_in_bytes v) (bytes-there v c element.0)) in
-    let memory : nat_lt 65536 (end_of v) ≡ false = le-ltb 65536 (end_of v) (omega (arith, leb-true (behind_global (plain_global v)) 65536 limits.0, end-is v c)) in
+    let memory : nat_lt 65536 (end_of v) ≡ false = le-ltb 65536 (end_of v) (omega (arith, leb-true (after_global (plain_global v)) 65536 limits.0, end-is v c)) in
     let stack : (nat_le hi lo || (nat_le (end_of v) lo || nat_le hi v.address)) ≡ true = ap (λ n. nat_le hi lo || (nat_le n lo || nat_le hi v.address)) (end-is v c) ∙ off.0 in
     let right : is_misplaced lo hi earlier v ≡ false =
     ap (λ b. nat_lt 0 (size_in_bytes v) && (b || (not (nat_le hi lo || (nat_le (end_of v) lo || nat_le hi v.address)) || not (list_all (stand_apart v) earlier)))) memory

@@ -23,13 +23,13 @@ enclosed-leaves n inside r =
 
 -- reading an expression with so many calls
 pub record ExprsLeave (n calls : ℕ) : Type 0 where
-  pub unary : (inside : Inside) (r : Reader) → Leaves n r (read_unary calls inside r).behind
-  pub parentheses : (inside : Inside) (at : ℕ) (r : Reader) → Leaves n r (read_parentheses calls inside at r).behind
-  pub cast : (inside : Inside) (at : ℕ) (type : Got (Option CType)) → Leaves n type.behind (read_cast calls inside at type).behind
-  pub binary : (inside : Inside) (weakest : ℕ) (r : Reader) → Leaves n r (read_binary calls inside weakest r).behind
-  pub more : (inside : Inside) (weakest : ℕ) (left : Got PartialExpr) → Leaves n left.behind (read_more calls inside weakest left).behind
-  pub expr : (inside : Inside) (r : Reader) → Leaves n r (read_expr calls inside r).behind
-  pub rest : (inside : Inside) (test : Got PartialExpr) → Leaves n test.behind (read_rest calls inside test).behind
+  pub unary : (inside : Inside) (r : Reader) → Leaves n r (read_unary calls inside r).following
+  pub parentheses : (inside : Inside) (at : ℕ) (r : Reader) → Leaves n r (read_parentheses calls inside at r).following
+  pub cast : (inside : Inside) (at : ℕ) (type : Got (Option CType)) → Leaves n type.following (read_cast calls inside at type).following
+  pub binary : (inside : Inside) (weakest : ℕ) (r : Reader) → Leaves n r (read_binary calls inside weakest r).following
+  pub more : (inside : Inside) (weakest : ℕ) (left : Got PartialExpr) → Leaves n left.following (read_more calls inside weakest left).following
+  pub expr : (inside : Inside) (r : Reader) → Leaves n r (read_expr calls inside r).following
+  pub rest : (inside : Inside) (test : Got PartialExpr) → Leaves n test.following (read_rest calls inside test).following
 
 none-leave : (n : ℕ) → ExprsLeave n zero
 none-leave n =
@@ -60,45 +60,45 @@ module _ (n calls : ℕ) (leave : ExprsLeave n calls) where
       let inner = read_expr calls (in_parentheses inside) here in
       if-cases (LeavesIn n here) (begins_type (next_token here))
       (λ _ more. type-leaves n here (leave.cast inside at (take_type here) more))
-      (λ _ more. leave.expr (in_parentheses inside) here (mark-leaves n (codes ")") inner.behind more))
+      (λ _ more. leave.expr (in_parentheses inside) here (mark-leaves n (codes ")") inner.following more))
 
   parentheses-leaves : (inside : Inside) (at : ℕ) (r : Reader) → LeavesIn n r (read_parentheses (suc calls) inside at r)
   parentheses-leaves inside at r =
       λ more. enclosed-leaves n (in_parentheses inside) r (inside-leaves inside at (stop_if_enclosed (in_parentheses inside) r) more)
 
-  cast-leaves : (inside : Inside) (at : ℕ) (type : Got (Option CType)) → LeavesIn n type.behind (read_cast (suc calls) inside at type)
+  cast-leaves : (inside : Inside) (at : ℕ) (type : Got (Option CType)) → LeavesIn n type.following (read_cast (suc calls) inside at type)
   cast-leaves inside at type =
-      choice-cases (LeavesIn n type.behind) type.value
-      (λ of _ more. mark-leaves n (codes ")") type.behind (leave.unary (in_operator inside) (take_mark (codes ")") type.behind) more))
+      choice-cases (LeavesIn n type.following) type.value
+      (λ of _ more. mark-leaves n (codes ")") type.following (leave.unary (in_operator inside) (take_mark (codes ")") type.following) more))
       (λ _ more. more)
 
   binary-leaves : (inside : Inside) (weakest : ℕ) (r : Reader) → LeavesIn n r (read_binary (suc calls) inside weakest r)
   binary-leaves inside weakest r = λ more. leave.unary inside r (leave.more inside weakest (read_unary calls inside r) more)
 
-  more-leaves : (inside : Inside) (weakest : ℕ) (left : Got PartialExpr) → LeavesIn n left.behind (read_more (suc calls) inside weakest left)
+  more-leaves : (inside : Inside) (weakest : ℕ) (left : Got PartialExpr) → LeavesIn n left.following (read_more (suc calls) inside weakest left)
   more-leaves inside weakest left =
-      choice-cases (LeavesIn n left.behind) (binary_of (next_token left.behind))
-      (λ operator _. if-cases (LeavesIn n left.behind) (nat_le weakest (strength operator))
+      choice-cases (LeavesIn n left.following) (binary_of (next_token left.following))
+      (λ operator _. if-cases (LeavesIn n left.following) (nat_le weakest (strength operator))
       (λ _ more.
-      let b = read_binary calls (in_operator inside) (suc (strength operator)) (skip left.behind) in
+      let b = read_binary calls (in_operator inside) (suc (strength operator)) (skip left.following) in
       let whole = joined inside operator left.value b in
-      skip-leaves n left.behind (leave.binary (in_operator inside) (suc (strength operator)) (skip left.behind) (deep-leaves n inside whole.value b.behind (leave.more inside weakest whole more))))
+      skip-leaves n left.following (leave.binary (in_operator inside) (suc (strength operator)) (skip left.following) (deep-leaves n inside whole.value b.following (leave.more inside weakest whole more))))
       (λ _ more. more))
       (λ _ more. more)
 
   expr-leaves : (inside : Inside) (r : Reader) → LeavesIn n r (read_expr (suc calls) inside r)
   expr-leaves inside r = λ more. leave.binary inside 1 r (leave.rest inside (read_binary calls inside 1 r) more)
 
-  rest-leaves : (inside : Inside) (test : Got PartialExpr) → LeavesIn n test.behind (read_rest (suc calls) inside test)
+  rest-leaves : (inside : Inside) (test : Got PartialExpr) → LeavesIn n test.following (read_rest (suc calls) inside test)
   rest-leaves inside test =
-      let first = read_expr calls (in_operator inside) (skip test.behind) in
-      let second = read_expr calls (in_operator inside) (take_mark (codes ":") first.behind) in
+      let first = read_expr calls (in_operator inside) (skip test.following) in
+      let second = read_expr calls (in_operator inside) (take_mark (codes ":") first.following) in
       let whole = chosen inside test.value first.value second in
-      if-cases (LeavesIn n test.behind) (sees_mark (codes "?") test.behind)
+      if-cases (LeavesIn n test.following) (sees_mark (codes "?") test.following)
       (λ _ more.
-      skip-leaves n test.behind (leave.expr (in_operator inside) (skip test.behind)
-      (mark-leaves n (codes ":") first.behind (leave.expr (in_operator inside) (take_mark (codes ":") first.behind)
-      (deep-leaves n inside whole.value second.behind more)))))
+      skip-leaves n test.following (leave.expr (in_operator inside) (skip test.following)
+      (mark-leaves n (codes ":") first.following (leave.expr (in_operator inside) (take_mark (codes ":") first.following)
+      (deep-leaves n inside whole.value second.following more)))))
       (λ _ more. more)
 
   one-leaves : ExprsLeave n (suc calls)

@@ -2,7 +2,7 @@ use Rattle.std.proofs.Common.{◌+◌, ◌<◌, ◌++◌, ◌∷◌, [], not, le
 use Rattle.std.specs.Prelude.{◌==◌}
 use Rattle.std.specs.List.{list_any}
 use Rattle.std.proofs.lemmas.List.{at_drop_more}
-use Rattle.dcc_c.specs.Kinds.{of_name, offence, only_if, first_behind}
+use Rattle.dcc_c.specs.Kinds.{of_name, offence, only_if, first_after}
 use Rattle.dcc_c.specs.Offences.{case_offences, case_numbers}
 use Rattle.dcc_reader.specs.declared.partial.CaseAt.{CaseAt}
 use Rattle.dcc_reader.specs.PartialViews.{case_of, arms_of}
@@ -25,7 +25,7 @@ loop-number-init c =
     next-left (λ l. case_numbers (arms_of l)) arms i a within c.arm-item.is
     ∙ ap case_numbers (arm-parts a rest)
     ∙ ap (λ l. map case_of l ++ case_numbers rest) (sym c.deref-number-items.ensures.value) in
-    (invariant.0, (invariant.1.0, ap (λ l. first_behind (told c.loop-arm.first) (case_offences invariant.0 l)) (sym parts) ∙ invariant.1.1))
+    (invariant.0, (invariant.1.0, ap (λ l. first_after (told c.loop-arm.first) (case_offences invariant.0 l)) (sym parts) ∙ invariant.1.1))
 
 pub loop-number-preserved : goal.loop-number-preserved
 loop-number-preserved c =
@@ -41,9 +41,9 @@ loop-number-preserved c =
     let start = told c.loop-number.first in
     let twice = only_if (list_any (λ m. m == n.value) earlier) (offence of_name n.at) in
     let is_old = ap not c.in_ok-is_new.ensures.added ∙ not-not _ ∙ invariant.1.0 n.value in
-    let number_told = c.tell_if.ensures ∙ ap (λ test. first_behind start (only_if test (offence of_name n.at))) is_old in
+    let number_told = c.tell_if.ensures ∙ ap (λ test. first_after start (only_if test (offence of_name n.at))) is_old in
     let parts = at_drop_more (λ l. case_offences earlier (map case_of l ++ later)) numbers j none within in
-    let end = first_behind (told c.args.first.now) (case_offences [] (case_numbers (arms_of c.args.arms.now))) in (
+    let end = first_after (told c.args.first.now) (case_offences [] (case_numbers (arms_of c.args.arms.now))) in (
       n.value ∷ earlier,
       (
         known-more c.loop-number.known c.insert.new.self earlier n.value invariant.1.0 c.in_ok-is_new.ensures.updates,

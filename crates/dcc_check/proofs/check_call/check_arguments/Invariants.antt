@@ -1,5 +1,5 @@
 use Rattle.std.proofs.Common.{◌≡◌, map, drop}
-use Rattle.dcc_c.specs.Kinds.{first_behind}
+use Rattle.dcc_c.specs.Kinds.{first_after}
 use Rattle.dcc_c.specs.Offences.{Scene, arguments_inner}
 use Rattle.dcc_reader.specs.PartialViews.{expr_of}
 use Rattle.dcc_reader.specs.Told.{told}
@@ -9,5 +9,5 @@ use Rattle.dcc_check.proofs.check_call.check_arguments.Given as goal
 -- with the arguments that are left, the first offence is that of all
 abbrev pub invariant-loop-e : goal.invariant-loop-e
 invariant-loop-e l = (s : Scene) → IsScene l.scene s →
-    first_behind (told l.first) (arguments_inner s (map expr_of (drop l.e-index l.arguments)))
-    ≡ first_behind (told l.initial.first) (arguments_inner s (map expr_of l.arguments))
+    first_after (told l.first) (arguments_inner s (map expr_of (drop l.e-index l.arguments)))
+    ≡ first_after (told l.initial.first) (arguments_inner s (map expr_of l.arguments))

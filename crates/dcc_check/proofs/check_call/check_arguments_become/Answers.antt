@@ -3,7 +3,7 @@ use Rattle.std.specs.Prelude.{nat_lt}
 use Rattle.std.proofs.lemmas.List.{at_drop_more, length-drop, length-map}
 use Rattle.dcc_c.specs.declared.syntax.Base.TheVariants.{Schar}
 use Rattle.dcc_c.specs.declared.syntax.CType.{CType}
-use Rattle.dcc_c.specs.Kinds.{first_behind}
+use Rattle.dcc_c.specs.Kinds.{first_after}
 use Rattle.dcc_c.specs.Offences.{becomes, arguments_become}
 use Rattle.dcc_reader.specs.PartialViews.{expr_of}
 use Rattle.dcc_reader.specs.Told.{told}
@@ -32,8 +32,8 @@ loop-i-preserved c = λ s is.
     let done_is = c.is_done-done.ensures ∙ sym (ap (λ more. closed || more) (more-left expr_of xs i)) in
     let become_told =
     c.check_becomes.ensures s e (c.operand_of-argument.ensures s is)
-    ∙ ap (λ d. first_behind (told c.loop-i.first) (becomes s e d (Some type))) done_is in
-    step-told (told c.loop-i.first) (told c.check_becomes.new.first) (first_behind (told c.args.first.now) (arguments_become s closed params (map expr_of xs)))
+    ∙ ap (λ d. first_after (told c.loop-i.first) (becomes s e d (Some type))) done_is in
+    step-told (told c.loop-i.first) (told c.check_becomes.new.first) (first_after (told c.args.first.now) (arguments_become s closed params (map expr_of xs)))
     (becomes s e done (Some type)) rest (arguments_become s closed (drop i params) (map expr_of (drop i xs))) become_told parts (c.loop-i.invariant s is)
 
 pub returns : goal.returns
@@ -43,4 +43,4 @@ returns c = λ s is.
     let params_left = length-drop c.loop-i.i c.args.params.now in
     let left = length-map (drop c.loop-i.i c.args.arguments.now) expr_of ∙ length-drop c.loop-i.i c.args.arguments.now in
     let over : 0 < length params → 0 < length xs → ⊥ = λ a b. omega (arith, params_left, left, a, b, c.min-i-end.ensures, c.loop-i-test.false) in
-    sym (ap (first_behind (told c.loop-i.first)) (become-empty s c.args.closed params xs over)) ∙ c.loop-i.invariant s is
+    sym (ap (first_after (told c.loop-i.first)) (become-empty s c.args.closed params xs over)) ∙ c.loop-i.invariant s is

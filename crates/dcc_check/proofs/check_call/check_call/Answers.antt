@@ -1,6 +1,6 @@
 use Rattle.std.proofs.Common.{◌++◌, map, ap, ◌∙◌}
 use Rattle.std.specs.Prelude.{option_map}
-use Rattle.dcc_c.specs.Kinds.{first_behind}
+use Rattle.dcc_c.specs.Kinds.{first_after}
 use Rattle.dcc_c.specs.Offences.{place_if, arguments_inner, callee_offences}
 use Rattle.dcc_reader.specs.PartialViews.{expr_of, call_of}
 use Rattle.dcc_reader.specs.Told.{told}
@@ -16,6 +16,6 @@ returns c = λ s is.
     let end = told c.check_callee.new.first in
     let inner = arguments_inner s (map expr_of call.arguments.items) in
     let callee = callee_offences s c.args.at place (call_of call) in
-    let inner_told = c.check_arguments.ensures s is ∙ ap (λ l. first_behind after_place (arguments_inner s (map expr_of l))) c.deref.ensures.value in
+    let inner_told = c.check_arguments.ensures s is ∙ ap (λ l. first_after after_place (arguments_inner s (map expr_of l))) c.deref.ensures.value in
     then-told (told c.args.first.now) after_place end (place_if s place) (inner ++ callee) (c.check_place_if-place.ensures.told s is)
     (then-told after_place after_arguments end inner callee inner_told (c.check_callee.ensures s place is (c.check_place_if-place.ensures.place s is)))

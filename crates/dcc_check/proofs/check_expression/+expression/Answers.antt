@@ -1,7 +1,7 @@
 use Rattle.std.proofs.Common.{◌≡◌, ◌++◌, rules, sym, ap, ◌∙◌}
 use Rattle.std.specs.Prelude.{is_some}
 use Rattle.dcc_c.specs.declared.syntax.CUn.TheVariants.{AddressOf}
-use Rattle.dcc_c.specs.Kinds.{of_type, offence, only_if, first_behind}
+use Rattle.dcc_c.specs.Kinds.{of_type, offence, only_if, first_after}
 use Rattle.dcc_c.specs.Offences.{expr_offences, told_type, unary_offences, binary_offences, wants_number, arms_offences}
 use Rattle.dcc_c.specs.Partial.{BinaryOf, ConditionalOf, place_of}
 use Rattle.dcc_c.specs.Typing as typing
@@ -18,7 +18,7 @@ check_address-returns-in-None-clause-told t c = λ s is.
     let e = expr_of c.args.a.now in
     let typed = only_if (is_some (told_type s.names e)) (offence of_type (place_of e)) in
     then-told (told c.args.first.now) (told c.check_expr-inner.new.first) (told c.tell_typed.new.first) (expr_offences s e) typed (inner.told s is) (c.tell_typed.ensures s e (inner.operand s is))
-    ∙ ap (first_behind (told c.args.first.now)) (sym (address-told s (expr_of c.args.a.now) none))
+    ∙ ap (first_after (told c.args.first.now)) (sym (address-told s (expr_of c.args.a.now) none))
 
 pub check_expr-returns-in-Binary-clause-told : goal.check_expr-returns-in-Binary-clause-told
 check_expr-returns-in-Binary-clause-told t c = λ s is.
@@ -35,7 +35,7 @@ check_expr-returns-in-Binary-clause-told t c = λ s is.
     ∙ ap expr_of (sym c.in-Binary.is) in
     then-told (told c.args.first.now) (told c.check_expr-a.new.first) end (expr_offences s d) (expr_offences s e ++ last) (a.told s is)
     (then-told (told c.check_expr-a.new.first) (told c.check_expr-b.new.first) end (expr_offences s e) last (b.told s is) (c.check_binary.ensures s d e (a.operand s is) (b.operand s is)))
-    ∙ ap (λ e. first_behind (told c.args.first.now) (expr_offences s e)) tree
+    ∙ ap (λ e. first_after (told c.args.first.now) (expr_offences s e)) tree
 
 pub check_expr-returns-in-Conditional-clause-operand :
     goal.check_expr-returns-in-Conditional-clause-operand
@@ -83,7 +83,7 @@ check_expr-returns-in-Conditional-clause-told t c = λ s is.
     (then-told after_a after_b end (expr_offences s y) (expr_offences s z ++ last) (b.told s is)
     (then-told after_b after_c end (expr_offences s z) last (c'.told s is)
     (then-told after_c after_number end (wants_number s x) (arms_offences s y z) (c.want_number.ensures s x (a.operand s is)) (c.check_choice.ensures s y z (b.operand s is) (c'.operand s is)))))
-    ∙ ap (λ e. first_behind (told c.args.first.now) (expr_offences s e)) tree
+    ∙ ap (λ e. first_after (told c.args.first.now) (expr_offences s e)) tree
 
 pub check_operator-returns-clause-told : goal.check_operator-returns-clause-told
 check_operator-returns-clause-told t c = λ s is.
@@ -92,4 +92,4 @@ check_operator-returns-clause-told t c = λ s is.
     let other : c.args.operator ≡ AddressOf → ⊥ = search rules in
     then-told (told c.args.first.now) (told c.check_expr-a.new.first) (told c.check_unary.new.first) (expr_offences s e)
     (unary_offences s c.args.operator e) (a.told s is) (c.check_unary.ensures s e (a.operand s is))
-    ∙ ap (first_behind (told c.args.first.now)) (sym (operator-told s c.args.at c.args.operator (expr_of c.args.a.now) other))
+    ∙ ap (first_after (told c.args.first.now)) (sym (operator-told s c.args.at c.args.operator (expr_of c.args.a.now) other))

@@ -1,6 +1,6 @@
 use Rattle.std.proofs.Common.{◌≡◌, ◌∙◌, ◌&&◌, ◌++◌, [], false, not, rules, sym, ap}
 use Rattle.std.specs.Prelude.{option_map}
-use Rattle.dcc_c.specs.Kinds.{first_behind}
+use Rattle.dcc_c.specs.Kinds.{first_after}
 use Rattle.dcc_c.specs.Partial.{is_name_here}
 use Rattle.dcc_c.specs.Offences.{expr_offences, place_offences, assigned_offences, becomes, told_place}
 use Rattle.dcc_reader.specs.PartialViews.{expr_of}
@@ -23,7 +23,7 @@ returns-then-done c = λ s is.
       | then-done-via-then-done w ↦ not-alone (is_name_here e) c.args.done (search rules)
       | then-done-via-else-done+then-not-is_name w ↦ alone-not (is_name_here e) c.args.done (search rules)
     ] in
-    let becomes_told = c.check_becomes.ensures s e (from.ensures.operand s is) ∙ ap (λ o. first_behind (told from.new.first) (becomes s e c.args.done o.ty)) (to.ensures.place s is) in
+    let becomes_told = c.check_becomes.ensures s e (from.ensures.operand s is) ∙ ap (λ o. first_after (told from.new.first) (becomes s e c.args.done o.ty)) (to.ensures.place s is) in
     let value_told = then-told (told to.new.first) (told from.new.first) end (expr_offences s e) value (from.ensures.told s is) becomes_told in
     then-if_not start (told to.new.first) end (place_offences s place) [] (expr_offences s e ++ value) (is_name_here e && not c.args.done) read (to.ensures.told s is) value_told
-    ∙ ap (λ o. first_behind start (assigned_offences s place (option_map expr_of o) c.args.done)) (sym c.in-Some.is)
+    ∙ ap (λ o. first_after start (assigned_offences s place (option_map expr_of o) c.args.done)) (sym c.in-Some.is)

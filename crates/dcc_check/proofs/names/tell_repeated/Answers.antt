@@ -1,7 +1,7 @@
 use Rattle.std.proofs.Common.{◌∷◌, string_bytes, refl, sym, ap, ◌∙◌}
 use Rattle.std.proofs.lemmas.List.{drop_all}
 use Rattle.dcc_c.specs.Grammar.{is_among}
-use Rattle.dcc_c.specs.Kinds.{first_behind}
+use Rattle.dcc_c.specs.Kinds.{first_after}
 use Rattle.dcc_c.specs.Offences.{repeated}
 use Rattle.dcc_check.specs.Names.{lent_names}
 use Rattle.dcc_reader.specs.Told.{told}
@@ -26,4 +26,4 @@ loop-name-preserved c = λ before all.
 pub returns : goal.returns
 returns c = λ known all.
     let inv = c.loop-name.invariant known all in
-    sym (ap (λ l. first_behind (told c.loop-name.first) (repeated inv.0 (lent_names l))) (drop_all c.loop-name.name-index c.args.names.now c.loop-name-test.false)) ∙ inv.2
+    sym (ap (λ l. first_after (told c.loop-name.first) (repeated inv.0 (lent_names l))) (drop_all c.loop-name.name-index c.args.names.now c.loop-name-test.false)) ∙ inv.2

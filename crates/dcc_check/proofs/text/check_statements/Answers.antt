@@ -1,6 +1,6 @@
 use Rattle.std.proofs.Common.{refl, ap, ◌∙◌}
 use Rattle.std.specs.Prelude.{not}
-use Rattle.dcc_c.specs.Kinds.{first_behind}
+use Rattle.dcc_c.specs.Kinds.{first_after}
 use Rattle.dcc_c.specs.Offences.{lines_offences}
 use Rattle.dcc_c.specs.Placement.{is_auto, is_register}
 use Rattle.dcc_c.specs.TextOffences.{declared_of, scene_of}
@@ -23,4 +23,4 @@ returns c = λ w more is_whole are_labels.
       has_result = refl;
       result = refl;
     })
-    ∙ ap (λ rows. first_behind (told c.args.first.now) (lines_offences (scene_of w more f) 0 (lines_of rows))) c.deref.ensures.value
+    ∙ ap (λ rows. first_after (told c.args.first.now) (lines_offences (scene_of w more f) 0 (lines_of rows))) c.deref.ensures.value

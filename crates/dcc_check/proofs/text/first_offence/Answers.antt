@@ -1,7 +1,7 @@
 use Rattle.std.proofs.Common.{[], ◌++◌, map, None, refl, sym, ap, ◌∙◌}
 use Rattle.std.specs.Prelude.{option_map}
 use Rattle.dcc_c.specs.Dos.{dos_names}
-use Rattle.dcc_c.specs.Kinds.{first_behind}
+use Rattle.dcc_c.specs.Kinds.{first_after}
 use Rattle.dcc_c.specs.Known.{known_functions}
 use Rattle.dcc_c.specs.Offences.{repeated}
 use Rattle.dcc_c.specs.TextOffences.{known_in, stop_offences, stack_offences, name_list, function_names, globals_places, number_or_zero, start_offences, functions_offences, text_offences}
@@ -35,11 +35,11 @@ returns c =
     (told-four first named placed started last names places start functions
     c.in_ok-tell_names.ensures
     (c.in_ok-tell_globals.ensures
-    ∙ ap (λ l. first_behind named (globals_places c.number_or_zero.result c.number_or_zero-2.result [] (map variable_of l))) c.deref-2.ensures.value
-    ∙ ap (λ n. first_behind named (globals_places n c.number_or_zero-2.result [] text.globals)) c.number_or_zero.ensures
-    ∙ ap (λ n. first_behind named (globals_places (number_or_zero text.lo) n [] text.globals)) c.number_or_zero-2.ensures)
-    (c.tell_start.ensures ∙ ap (λ l. first_behind placed (start_offences (map function_of l))) c.deref-3.ensures.value)
+    ∙ ap (λ l. first_after named (globals_places c.number_or_zero.result c.number_or_zero-2.result [] (map variable_of l))) c.deref-2.ensures.value
+    ∙ ap (λ n. first_after named (globals_places n c.number_or_zero-2.result [] text.globals)) c.number_or_zero.ensures
+    ∙ ap (λ n. first_after named (globals_places (number_or_zero text.lo) n [] text.globals)) c.number_or_zero-2.ensures)
+    (c.tell_start.ensures ∙ ap (λ l. first_after placed (start_offences (map function_of l))) c.deref-3.ensures.value)
     (c.in_ok-check_functions.ensures whole is_whole refl
-    ∙ ap (λ l. first_behind started (functions_offences whole (map function_of l))) c.deref-4.ensures.value))
-    ∙ ap (λ f. first_behind f (text_offences text rest)) (sym (stop-first stop))
+    ∙ ap (λ l. first_after started (functions_offences whole (map function_of l))) c.deref-4.ensures.value))
+    ∙ ap (λ f. first_after f (text_offences text rest)) (sym (stop-first stop))
     ∙ sym (first-append None (stop_offences stop) (text_offences text rest))

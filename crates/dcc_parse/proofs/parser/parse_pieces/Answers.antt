@@ -13,13 +13,13 @@ use Rattle.dcc_parse.proofs.parser.parse_pieces.Goals as goal
 pub first_offence-requires : goal.first_offence-requires
 first_offence-requires c =
     let reading = c.in_ok-reading.reading in
-    let few = few-unread c.args.pieces.now c.unread-rest.result.now (text_of reading.text) (reader_of reading.behind) c.in_ok-reading.ensures c.unread-rest.ensures in
+    let few = few-unread c.args.pieces.now c.unread-rest.result.now (text_of reading.text) (reader_of reading.following) c.in_ok-reading.ensures c.unread-rest.ensures in
     record { few = omega (arith, few, c.requires.few) }
 
 pub returns-clause-unit : goal.returns-clause-unit
 returns-clause-unit c =
     let reading = c.in_ok-reading.reading in
-    read-tree (pieces_of c.args.pieces.now) (text_of reading.text) (reader_of reading.behind) (tree_of c.in_ok-strip-in-None.field-0) c.in_ok-reading.ensures
-    (ap (λ rest. first_of (stop_offences (option_map offence_of reading.behind.stop) ++ text_offences (text_of reading.text) rest)) (sym c.unread-rest.ensures)
+    read-tree (pieces_of c.args.pieces.now) (text_of reading.text) (reader_of reading.following) (tree_of c.in_ok-strip-in-None.field-0) c.in_ok-reading.ensures
+    (ap (λ rest. first_of (stop_offences (option_map offence_of reading.following.stop) ++ text_offences (text_of reading.text) rest)) (sym c.unread-rest.ensures)
     ∙ sym c.in_ok-offence.ensures ∙ ap (λ o. option_map offence_of o) c.in-None.is)
     c.in_ok-strip-in-None.ensures

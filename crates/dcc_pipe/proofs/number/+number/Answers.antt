@@ -5,7 +5,7 @@ use Rattle.std.proofs.lemmas.Result.{IfOk-weaker}
 use Rattle.dcc_c.specs.declared.syntax.Arm.{out-Arm}
 use Rattle.dcc_c.specs.Tree.{Arms, If, While, DoWhile, Forever, Switch, no_lines, line, arm, no_arms}
 use Rattle.dcc_c.specs.Parts.{stmts_in, inner_stmts, arm_stmts, exprs_of}
-use Rattle.dcc_c.specs.Written.{depth_behind, written_cases, written_stmt, written_lines, written_arms, written_default}
+use Rattle.dcc_c.specs.Written.{depth_after, written_cases, written_stmt, written_lines, written_arms, written_default}
 use Rattle.dcc_c.specs.Numbered.{rows, numbered_stmt, numbered_lines, numbered_arms, numbered_default}
 use Rattle.dcc_c.specs.Views.{expr_of, stmt_of, lines_of, arm_before, arms_of, arms_if}
 use Rattle.dcc_c.proofs.RowLaws.{arm-parts, if-tree, while-tree, do_while-tree, forever-tree, switch-tree}
@@ -33,21 +33,21 @@ number_arm-returns t c =
       numbered = λ rest u.
           let first_is : c.in_ok-first.first ≡ at + length cases = c.in_ok-first.ensures ∙ ap (λ n. at + n) (c.cases_rows.ensures.count ∙ ap length c.deref.ensures.value) in
           if-both c.below.result _ _ _
-          (λ behind line_is depth_is. counted-arm a c.number_lines.new.lines (numbered_arms behind.depth behind.line rest) (c.number_lines.auto.lines ∙ ap length c.deref_mut.ensures.value)
-          ∙ arm-numbered c.args.depth at c.in_ok-first.first behind.depth last.line behind.line cases body (lines_of c.number_lines.new.lines) rest first_is
+          (λ following line_is depth_is. counted-arm a c.number_lines.new.lines (numbered_arms following.depth following.line rest) (c.number_lines.auto.lines ∙ ap length c.deref_mut.ensures.value)
+          ∙ arm-numbered c.args.depth at c.in_ok-first.first following.depth last.line following.line cases body (lines_of c.number_lines.new.lines) rest first_is
           (lines.numbered (inner u)) (lines.line (inner u)) (depth_is ∙ lines.depth) line_is
           ∙ ap (numbered_arms c.args.depth at) (sym (is rest)))
           c.below.ensures.line c.below.ensures.depth;
       line = λ rest u.
           let first_is = c.in_ok-first.ensures ∙ ap (λ n. at + n) (c.cases_rows.ensures.rows ∙ ap (λ ns. rows (written_cases 1 ns)) c.deref.ensures.value) in
           if-both c.below.result _ _ _
-          (λ behind line_is depth_is. arm-line c.args.depth at c.in_ok-first.first behind.depth last.line behind.line cases body rest first_is (lines.line (inner u)) (depth_is ∙ lines.depth) line_is
+          (λ following line_is depth_is. arm-line c.args.depth at c.in_ok-first.first following.depth last.line following.line cases body rest first_is (lines.line (inner u)) (depth_is ∙ lines.depth) line_is
           ∙ ap (λ arms. at + rows (written_arms 1 c.args.depth arms)) (sym (is rest)))
           c.below.ensures.line c.below.ensures.depth;
       depth = λ rest.
           IfOk-weaker c.below.result _ _
-          (λ behind depth_is. arm-depth c.args.depth behind.depth cases body rest (depth_is ∙ c.in_ok-number_lines.ensures.depth)
-          ∙ ap (λ arms. depth_behind c.args.depth (arm_stmts arms)) (sym (is rest)))
+          (λ following depth_is. arm-depth c.args.depth following.depth cases body rest (depth_is ∙ c.in_ok-number_lines.ensures.depth)
+          ∙ ap (λ arms. depth_after c.args.depth (arm_stmts arms)) (sym (is rest)))
           c.below.ensures.depth;
     }
 
@@ -74,18 +74,18 @@ number_default-returns-in_ok-below-in-Some t c =
           let second = c.in_ok-below-in-Some.ensures.line in
           let all : rows (written_default 1 c.args.depth (arms_if c.args.last.now)) ≡ rows (written_lines 1 c.args.depth body) + 2 =
           ap (λ arms. rows (written_default 1 c.args.depth arms)) is ∙ default-count c.args.depth cases body in
-          IfOk-weaker c.below-in-Some.result _ _ (λ behind line_is. omega (arith, first, second, line_is, all)) c.below-in-Some.ensures.line;
+          IfOk-weaker c.below-in-Some.result _ _ (λ following line_is. omega (arith, first, second, line_is, all)) c.below-in-Some.ensures.line;
       depth =
           IfOk-weaker c.below-in-Some.result _ _
-          (λ behind depth_is. depth_is ∙ c.in_ok-below-in-Some.ensures.depth ∙ c.in_ok-number_lines-in-Some.ensures.depth
-          ∙ ap (depth_behind c.args.depth) (sym (append-nil (stmts_in body))) ∙ ap (λ arms. depth_behind c.args.depth (arm_stmts arms)) (sym is))
+          (λ following depth_is. depth_is ∙ c.in_ok-below-in-Some.ensures.depth ∙ c.in_ok-number_lines-in-Some.ensures.depth
+          ∙ ap (depth_after c.args.depth) (sym (append-nil (stmts_in body))) ∙ ap (λ arms. depth_after c.args.depth (arm_stmts arms)) (sym is))
           c.below-in-Some.ensures.depth;
     }
 
 -- An `if`.
 
-pub number_stmt-returns-in_ok-behind-in-If : goal.number_stmt-returns-in_ok-behind-in-If
-number_stmt-returns-in_ok-behind-in-If t c =
+pub number_stmt-returns-in_ok-following-in-If : goal.number_stmt-returns-in_ok-following-in-If
+number_stmt-returns-in_ok-following-in-If t c =
     let e = expr_of c.in-If.test in
     let body = lines_of c.deref_mut.result.now in
     let otherwise = lines_of c.deref_mut-in-If.result.now in
@@ -109,22 +109,22 @@ number_stmt-returns-in_ok-behind-in-If t c =
           let middle = c.in_ok-middle-in-If.middle in
           let flat = test-unbroken stmt e (ap exprs_of is) u in
           let end = c.in_ok-end-in-If.ensures.line inner.1 in
-          let last = c.in_ok-behind-in-If.ensures.line in
+          let last = c.in_ok-following-in-If.ensures.line in
           let has_else : not c.is_empty-has_else.result ≡ not (length c.deref_mut-in-If.result.now == 0) =
           ap not (c.is_empty-has_else.ensures ∙ ap (λ n. n == 0) (sym c.deref_mut-in-If.ensures.len)) in
           let more = else-lines middle.depth c.deref_mut-in-If.result.now (not c.is_empty-has_else.result) has_else in
           if-line c.args.depth c.args.line stmt e body otherwise c.in_ok-further-in-If.field-0 middle.depth middle.line c.in_ok-further-in-If-2.field-0
-          c.in_ok-behind-in-If.behind.line is flat c.in_ok-further-in-If.ensures (lines.line inner.0) lines.depth c.in_ok-further-in-If-2.ensures
+          c.in_ok-following-in-If.following.line is flat c.in_ok-further-in-If.ensures (lines.line inner.0) lines.depth c.in_ok-further-in-If-2.ensures
           (omega (arith, last, end, more));
       depth =
-          if-depth c.args.depth stmt e body otherwise c.in_ok-middle-in-If.middle.depth c.in_ok-behind-in-If.behind.depth is c.in_ok-middle-in-If.ensures.depth
-          (c.in_ok-behind-in-If.ensures.depth ∙ c.in_ok-end-in-If.ensures.depth);
+          if-depth c.args.depth stmt e body otherwise c.in_ok-middle-in-If.middle.depth c.in_ok-following-in-If.following.depth is c.in_ok-middle-in-If.ensures.depth
+          (c.in_ok-following-in-If.ensures.depth ∙ c.in_ok-end-in-If.ensures.depth);
     }
 
 -- Loops.
 
-pub number_stmt-returns-in_ok-behind-in-While : goal.number_stmt-returns-in_ok-behind-in-While
-number_stmt-returns-in_ok-behind-in-While t c =
+pub number_stmt-returns-in_ok-following-in-While : goal.number_stmt-returns-in_ok-following-in-While
+number_stmt-returns-in_ok-following-in-While t c =
     let e = expr_of c.in-While.test in
     let body = lines_of c.deref_mut-in-While.result.now in
     let stmt = stmt_of c.args.stmt in
@@ -141,14 +141,14 @@ number_stmt-returns-in_ok-behind-in-While t c =
           let flat = test-unbroken stmt e (ap exprs_of is) u in
           let first = c.in_ok-further-in-While.ensures in
           let last = c.in_ok-number_lines-in-While.ensures.line inner in
-          let end = c.in_ok-behind-in-While.ensures.line in
+          let end = c.in_ok-following-in-While.ensures.line in
           let all = ap (λ s. rows (written_stmt 1 c.args.depth s)) is ∙ while-count c.args.depth e body flat in
           omega (arith, first, last, end, all);
-      depth = c.in_ok-behind-in-While.ensures.depth ∙ c.in_ok-number_lines-in-While.ensures.depth ∙ ap (λ s. depth_behind c.args.depth (s ∷ inner_stmts s)) (sym is);
+      depth = c.in_ok-following-in-While.ensures.depth ∙ c.in_ok-number_lines-in-While.ensures.depth ∙ ap (λ s. depth_after c.args.depth (s ∷ inner_stmts s)) (sym is);
     }
 
-pub number_stmt-returns-in_ok-behind-in-DoWhile : goal.number_stmt-returns-in_ok-behind-in-DoWhile
-number_stmt-returns-in_ok-behind-in-DoWhile t c =
+pub number_stmt-returns-in_ok-following-in-DoWhile : goal.number_stmt-returns-in_ok-following-in-DoWhile
+number_stmt-returns-in_ok-following-in-DoWhile t c =
     let e = expr_of c.in-DoWhile.test in
     let body = lines_of c.deref_mut-in-DoWhile.result.now in
     let stmt = stmt_of c.args.stmt in
@@ -165,14 +165,14 @@ number_stmt-returns-in_ok-behind-in-DoWhile t c =
           let flat = test-unbroken stmt e (ap exprs_of is) u in
           let first = c.in_ok-further-in-DoWhile.ensures in
           let last = c.in_ok-number_lines-in-DoWhile.ensures.line inner in
-          let end = c.in_ok-behind-in-DoWhile.ensures.line in
+          let end = c.in_ok-following-in-DoWhile.ensures.line in
           let all = ap (λ s. rows (written_stmt 1 c.args.depth s)) is ∙ do_while-count c.args.depth e body flat in
           omega (arith, first, last, end, all);
-      depth = c.in_ok-behind-in-DoWhile.ensures.depth ∙ c.in_ok-number_lines-in-DoWhile.ensures.depth ∙ ap (λ s. depth_behind c.args.depth (s ∷ inner_stmts s)) (sym is);
+      depth = c.in_ok-following-in-DoWhile.ensures.depth ∙ c.in_ok-number_lines-in-DoWhile.ensures.depth ∙ ap (λ s. depth_after c.args.depth (s ∷ inner_stmts s)) (sym is);
     }
 
-pub number_stmt-returns-in_ok-behind-in-Forever : goal.number_stmt-returns-in_ok-behind-in-Forever
-number_stmt-returns-in_ok-behind-in-Forever t c =
+pub number_stmt-returns-in_ok-following-in-Forever : goal.number_stmt-returns-in_ok-following-in-Forever
+number_stmt-returns-in_ok-following-in-Forever t c =
     let body = lines_of c.deref_mut-in-Forever.result.now in
     let stmt = stmt_of c.args.stmt in
     let is : stmt ≡ Forever body = ap stmt_of c.in-Forever.is ∙ forever-tree c.in-Forever.body ∙ ap (λ b. Forever (lines_of b)) (sym c.deref_mut-in-Forever.ensures.value) in
@@ -187,16 +187,16 @@ number_stmt-returns-in_ok-behind-in-Forever t c =
           let inner = inner-unbroken stmt (stmts_in body) (ap inner_stmts is) u in
           let first = c.in_ok-further-in-Forever.ensures in
           let last = c.in_ok-number_lines-in-Forever.ensures.line inner in
-          let end = c.in_ok-behind-in-Forever.ensures.line in
+          let end = c.in_ok-following-in-Forever.ensures.line in
           let all = ap (λ s. rows (written_stmt 1 c.args.depth s)) is ∙ forever-count c.args.depth body in
           omega (arith, first, last, end, all);
-      depth = c.in_ok-behind-in-Forever.ensures.depth ∙ c.in_ok-number_lines-in-Forever.ensures.depth ∙ ap (λ s. depth_behind c.args.depth (s ∷ inner_stmts s)) (sym is);
+      depth = c.in_ok-following-in-Forever.ensures.depth ∙ c.in_ok-number_lines-in-Forever.ensures.depth ∙ ap (λ s. depth_after c.args.depth (s ∷ inner_stmts s)) (sym is);
     }
 
 -- A `switch`.
 
-pub number_stmt-returns-in_ok-behind-in-Switch : goal.number_stmt-returns-in_ok-behind-in-Switch
-number_stmt-returns-in_ok-behind-in-Switch t c =
+pub number_stmt-returns-in_ok-following-in-Switch : goal.number_stmt-returns-in_ok-following-in-Switch
+number_stmt-returns-in_ok-following-in-Switch t c =
     let e = expr_of c.in-Switch.value in
     let arms = arms_of c.deref_mut-in-Switch.result.now in
     let last = arms_if c.in-Switch.last in
@@ -208,24 +208,24 @@ number_stmt-returns-in_ok-behind-in-Switch t c =
           let inner = both-unbroken (arm_stmts arms) (arm_stmts last) (inner-unbroken stmt (arm_stmts arms ++ arm_stmts last) (ap inner_stmts is) u) in
           let lines = c.in_ok-middle-in-Switch.ensures in
           let middle = c.in_ok-middle-in-Switch.middle in
-          let behind = c.in_ok-behind-in-Switch.ensures in
+          let following = c.in_ok-following-in-Switch.ensures in
           let counted : Switch e (arms_of c.number_arms.new.arms) (arms_if c.number_default.new.last) ≡ numbered_stmt c.args.depth c.args.line stmt =
           switch-numbered c.args.depth c.args.line stmt e arms last c.in_ok-further-in-Switch.field-0 middle.depth middle.line c.in_ok-further-in-Switch-2.field-0
           (arms_of c.number_arms.new.arms) (arms_if c.number_default.new.last) is c.in_ok-further-in-Switch.ensures (lines.numbered inner.0)
-          (lines.line inner.0) lines.depth c.in_ok-further-in-Switch-2.ensures (behind.numbered inner.1) in
+          (lines.line inner.0) lines.depth c.in_ok-further-in-Switch-2.ensures (following.numbered inner.1) in
           counted-switch _ _ c.in-Switch.value c.number_default.new.last c.number_arms.new.arms _ refl (c.number_arms.auto.arms ∙ ap length c.deref_mut-in-Switch.ensures.value) counted;
       line = λ u.
           let inner = both-unbroken (arm_stmts arms) (arm_stmts last) (inner-unbroken stmt (arm_stmts arms ++ arm_stmts last) (ap inner_stmts is) u) in
           let lines = c.in_ok-middle-in-Switch.ensures in
           let middle = c.in_ok-middle-in-Switch.middle in
-          let behind = c.in_ok-behind-in-Switch.ensures in
+          let following = c.in_ok-following-in-Switch.ensures in
           let flat = test-unbroken stmt e (ap exprs_of is) u in
           switch-line c.args.depth c.args.line stmt e arms last c.in_ok-further-in-Switch.field-0 middle.depth middle.line c.in_ok-further-in-Switch-2.field-0
-          c.in_ok-behind-in-Switch.behind.line is flat c.in_ok-further-in-Switch.ensures (lines.line inner.0) lines.depth c.in_ok-further-in-Switch-2.ensures
-          (behind.line inner.1);
+          c.in_ok-following-in-Switch.following.line is flat c.in_ok-further-in-Switch.ensures (lines.line inner.0) lines.depth c.in_ok-further-in-Switch-2.ensures
+          (following.line inner.1);
       depth =
-          switch-depth c.args.depth stmt e arms last c.in_ok-middle-in-Switch.middle.depth c.in_ok-behind-in-Switch.behind.depth is
-          c.in_ok-middle-in-Switch.ensures.depth c.in_ok-behind-in-Switch.ensures.depth;
+          switch-depth c.args.depth stmt e arms last c.in_ok-middle-in-Switch.middle.depth c.in_ok-following-in-Switch.following.depth is
+          c.in_ok-middle-in-Switch.ensures.depth c.in_ok-following-in-Switch.ensures.depth;
     }
 
 -- The lines of a slice, and the arms.
@@ -248,7 +248,7 @@ number_lines-loop-i-preserved t c =
     let before = c.loop-i.invariant in
     let own = c.own_depth-own.result in
     let here = c.in_ok-here.here in
-    let behind = lines-left lines i new in
+    let following = lines-left lines i new in
     record {
       unvisited = (
         length-set lines i new ∙ before.unvisited.0,
@@ -256,21 +256,21 @@ number_lines-loop-i-preserved t c =
             let other : k ≢ i = omega (arith, later) in
             get_or-set_other lines i k new d other ∙ before.unvisited.1 k d (omega (arith, later)),
       );
-      unbroken = λ u. ap (λ l. are_unbroken (stmts_in l)) behind ∙ (line-unbroken stmt old.line rest left is (before.unbroken u)).1;
+      unbroken = λ u. ap (λ l. are_unbroken (stmts_in l)) following ∙ (line-unbroken stmt old.line rest left is (before.unbroken u)).1;
       numbered = λ u.
           let inner = (line-unbroken stmt old.line rest left is (before.unbroken u)).0 in
           one-line lines i new (numbered_lines place.depth place.line (lines_of (drop (i + 1) (set lines i new)))) within
-          ∙ ap₂ (λ n l. lines_before (take i lines) (line (stmt_of new.stmt) n (numbered_lines place.depth place.line l))) after.here behind
+          ∙ ap₂ (λ n l. lines_before (take i lines) (line (stmt_of new.stmt) n (numbered_lines place.depth place.line l))) after.here following
           ∙ ap (lines_before (take i lines))
           (line-numbered depth at own here place.depth place.line stmt
           (stmt_of new.stmt) old.line rest left is c.own_depth-own.ensures c.in_ok-here.ensures (after.numbered inner) (after.line inner) after.depth)
           ∙ before.numbered u;
       line = λ u.
           let inner = (line-unbroken stmt old.line rest left is (before.unbroken u)).0 in
-          ap (λ l. place.line + rows (written_lines 1 place.depth l)) behind
+          ap (λ l. place.line + rows (written_lines 1 place.depth l)) following
           ∙ line-line depth at own here place.depth place.line stmt old.line rest left is c.own_depth-own.ensures c.in_ok-here.ensures (after.line inner) after.depth
           ∙ before.line u;
-      depth = ap (λ l. depth_behind place.depth (stmts_in l)) behind
+      depth = ap (λ l. depth_after place.depth (stmts_in l)) following
           ∙ line-depth depth own place.depth old.line stmt rest left is c.own_depth-own.ensures after.depth
           ∙ before.depth;
     }
@@ -301,7 +301,7 @@ number_arms-loop-i-preserved t c =
     let place = c.in_ok-place.place in
     let after = c.in_ok-place.ensures in
     let before = c.loop-i.invariant in
-    let behind = arms-left arms i new in
+    let following = arms-left arms i new in
     record {
       unvisited = (
         length-set arms i new ∙ before.unvisited.0,
@@ -309,20 +309,20 @@ number_arms-loop-i-preserved t c =
             let other : k ≢ i = omega (arith, later) in
             get_or-set_other arms i k new d other ∙ before.unvisited.1 k d (omega (arith, later)),
       );
-      unbroken = λ u. ap (λ l. are_unbroken (arm_stmts l)) behind ∙ (arms-unbroken old rest left is (before.unbroken u)).1;
+      unbroken = λ u. ap (λ l. are_unbroken (arm_stmts l)) following ∙ (arms-unbroken old rest left is (before.unbroken u)).1;
       numbered = λ u.
           let inner = (arms-unbroken old rest left is (before.unbroken u)).0 in
           one-arm arms i new (numbered_arms place.depth place.line (arms_of (drop (i + 1) (set arms i new)))) within
-          ∙ ap (λ l. arms_before (take i arms) (arm_before new (numbered_arms place.depth place.line l))) behind
+          ∙ ap (λ l. arms_before (take i arms) (arm_before new (numbered_arms place.depth place.line l))) following
           ∙ ap (arms_before (take i arms)) (after.numbered rest inner ∙ ap (numbered_arms depth at) (sym is))
           ∙ before.numbered u;
       line = λ u.
           let inner = (arms-unbroken old rest left is (before.unbroken u)).0 in
-          ap (λ l. place.line + rows (written_arms 1 place.depth l)) behind
+          ap (λ l. place.line + rows (written_arms 1 place.depth l)) following
           ∙ after.line rest inner ∙ ap (λ l. at + rows (written_arms 1 depth l)) (sym is)
           ∙ before.line u;
-      depth = ap (λ l. depth_behind place.depth (arm_stmts l)) behind
-          ∙ after.depth rest ∙ ap (λ l. depth_behind depth (arm_stmts l)) (sym is)
+      depth = ap (λ l. depth_after place.depth (arm_stmts l)) following
+          ∙ after.depth rest ∙ ap (λ l. depth_after depth (arm_stmts l)) (sym is)
           ∙ before.depth;
     }
 
@@ -339,14 +339,14 @@ number_arms-returns-clause-numbered t c u =
 
 -- Statements without blocks.
 
-pub number_stmt-returns-in_ok-behind-in_default : goal.number_stmt-returns-in_ok-behind-in_default
-number_stmt-returns-in_ok-behind-in_default t c =
+pub number_stmt-returns-in_ok-following-in_default : goal.number_stmt-returns-in_ok-following-in_default
+number_stmt-returns-in_ok-following-in_default t c =
     let not = c.in_default in
     let stmt = stmt_of c.args.stmt in
     let none = no-block c.args.stmt (record { no_if = not.not-If; no_while = not.not-While; no_do_while = not.not-DoWhile; no_forever = not.not-Forever; no_switch = not.not-Switch }) in
-    let behind = c.in_ok-behind-in_default.ensures in
+    let following = c.in_ok-following-in_default.ensures in
     record {
       numbered = λ u. simple-same c.args.depth c.args.line stmt none;
-      line = λ u. own-line c.args.depth c.args.line c.in_ok-behind-in_default.behind.line stmt none u behind.line;
-      depth = behind.depth ∙ c.depth_behind_simple-depth.ensures ∙ ap (λ l. depth_behind c.args.depth (stmt ∷ l)) (sym (simple-inner stmt none));
+      line = λ u. own-line c.args.depth c.args.line c.in_ok-following-in_default.following.line stmt none u following.line;
+      depth = following.depth ∙ c.depth_after_simple-depth.ensures ∙ ap (λ l. depth_after c.args.depth (stmt ∷ l)) (sym (simple-inner stmt none));
     }

@@ -1,7 +1,7 @@
 use Rattle.std.proofs.Common.{◌≡◌, ℕ, true, ◌+◌, ◌≤◌, length, get_or, take, drop}
 use Rattle.dcc_c.specs.declared.syntax.Line.{Line}
 use Rattle.dcc_c.specs.Parts.{stmts_in, arm_stmts}
-use Rattle.dcc_c.specs.Written.{depth_behind, written_lines, written_arms}
+use Rattle.dcc_c.specs.Written.{depth_after, written_lines, written_arms}
 use Rattle.dcc_c.specs.Numbered.{rows, numbered_lines, numbered_arms}
 use Rattle.dcc_c.specs.Views.{lines_of, arms_of}
 use Rattle.dcc_pipe.specs.Unbroken.{are_unbroken}
@@ -19,8 +19,8 @@ invariant-number_lines-loop-i l = record {
   line : are_unbroken (stmts_in (lines_of l.initial.lines)) ≡ true →
       l.place.line + rows (written_lines 1 l.place.depth (lines_of (drop l.i l.lines)))
       ≡ l.initial.place.line + rows (written_lines 1 l.initial.place.depth (lines_of l.initial.lines));
-  depth : depth_behind l.place.depth (stmts_in (lines_of (drop l.i l.lines)))
-      ≡ depth_behind l.initial.place.depth (stmts_in (lines_of l.initial.lines));
+  depth : depth_after l.place.depth (stmts_in (lines_of (drop l.i l.lines)))
+      ≡ depth_after l.initial.place.depth (stmts_in (lines_of l.initial.lines));
 }
 
 -- the same of arms
@@ -34,6 +34,6 @@ invariant-number_arms-loop-i l = record {
   line : are_unbroken (arm_stmts (arms_of l.initial.arms)) ≡ true →
       l.place.line + rows (written_arms 1 l.place.depth (arms_of (drop l.i l.arms)))
       ≡ l.initial.place.line + rows (written_arms 1 l.initial.place.depth (arms_of l.initial.arms));
-  depth : depth_behind l.place.depth (arm_stmts (arms_of (drop l.i l.arms)))
-      ≡ depth_behind l.initial.place.depth (arm_stmts (arms_of l.initial.arms));
+  depth : depth_after l.place.depth (arm_stmts (arms_of (drop l.i l.arms)))
+      ≡ depth_after l.initial.place.depth (arm_stmts (arms_of l.initial.arms));
 }

@@ -20,7 +20,7 @@ loop-i-preserved c =
     let new = c.number_function.new.f in
     let next = c.in_ok-next.next in
     let at = c.loop-i.next in
-    let behind : map function_of (drop (i + 1) (set functions i new)) ≡ rest = ap (map function_of) (drop-set-lt (i + 1) functions i new (omega arith)) in
+    let following : map function_of (drop (i + 1) (set functions i new)) ≡ rest = ap (map function_of) (drop-set-lt (i + 1) functions i new (omega arith)) in
     let front : map function_of (take (i + 1) (set functions i new)) ≡ map function_of (take i functions) ++ function_of new ∷ [] =
     ap (map function_of) (take_more_set functions i new within) ∙ map-append function_of (take i functions) (new ∷ []) in
     let parts : list_all (λ g. are_unbroken (stmts_in g.body)) (map function_of c.args.functions.now) ≡ true
@@ -28,11 +28,11 @@ loop-i-preserved c =
     λ u. and_parts (are_unbroken (stmts_in (function_of f).body)) (list_all (λ g. are_unbroken (stmts_in g.body)) rest)
     (subst (λ gs. list_all (λ g. are_unbroken (stmts_in g.body)) gs ≡ true) is (c.loop-i.invariant.unbroken u)) in
     record {
-      unbroken = λ u. ap (list_all (λ g. are_unbroken (stmts_in g.body))) behind ∙ (parts u).1;
+      unbroken = λ u. ap (list_all (λ g. are_unbroken (stmts_in g.body))) following ∙ (parts u).1;
       numbered = λ u.
           let here : function_of new ≡ numbered_function at (function_of f) = c.in_ok-next.ensures.numbered (parts u).0 in
           let line : next ≡ (numbered_function at (function_of f)).last + 1 = c.in_ok-next.ensures.line ∙ ap (λ (g : Function). g.last + 1) here in
-          ap₂ (λ a b. a ++ numbered_functions next b) front behind
+          ap₂ (λ a b. a ++ numbered_functions next b) front following
           ∙ append_assoc (map function_of (take i functions)) (function_of new ∷ []) (numbered_functions next rest)
           ∙ ap₂ (λ g n. map function_of (take i functions) ++ g ∷ numbered_functions n rest) here line
           ∙ ap (λ gs. map function_of (take i functions) ++ numbered_functions at gs) (sym is)

@@ -13,7 +13,7 @@ use Rattle.dcc_prepare.specs.declared.emit.Behind.{Behind}
 use Rattle.dcc_prepare.specs.Emission.{Emits, EmitsArms, Leads}
 use Rattle.dcc_prepare.proofs.PointLaws.{stay_push, stay_all, goes_stay, goes_alike}
 use Rattle.dcc_prepare.proofs.EmissionLaws.{emits_none, emits_found, emits_alike, first_of-none, emits_after_ok, pushed_ok}
-use Rattle.dcc_prepare.proofs.StatementLaws.{stmt_at, lines_step, leads_stay, leads_behind, loop_test, stands_here, emits_push, goes_push, if_test, while_test, switch_test, loop_made, first_arm, arms_step}
+use Rattle.dcc_prepare.proofs.StatementLaws.{stmt_at, lines_step, leads_stay, leads_after, loop_test, stands_here, emits_push, goes_push, if_test, while_test, switch_test, loop_made, first_arm, arms_step}
 use Rattle.dcc_c.proofs.RowLaws.{arm-parts, if-tree, while-tree, do_while-tree, forever-tree, switch-tree}
 use Rattle.dcc_prepare.proofs.emit.+emit.Goals as goal
 
@@ -50,8 +50,8 @@ emit_lines-loop-i-init t c =
       on_break = refl;
       on_continue = refl;
       made = λ tree f is_open points rest context are leads.
-          subst (λ ls. Emits tree f is_open points c.args.code.now c.args.code.now (λ word. from_label word (lines_of ls) rest) c.args.behind.next (runs (lines_of ls) rest)) (sym none)
-          (emits_none tree f is_open points c.args.code.now c.args.behind.next (runs no_lines rest) are
+          subst (λ ls. Emits tree f is_open points c.args.code.now c.args.code.now (λ word. from_label word (lines_of ls) rest) c.args.following.next (runs (lines_of ls) rest)) (sym none)
+          (emits_none tree f is_open points c.args.code.now c.args.following.next (runs no_lines rest) are
           (record { own = leads.next.own; here = leads.next.here; alike = leads.next.alike }));
     }
 
@@ -65,16 +65,16 @@ emit_lines-loop-i-preserved t c = record {
       let left = lines_of (drop c.loop-i.i lines) in
       let had = c.loop-i.invariant.made tree f is_open points rest context are leads in
       lines_step tree f is_open points c.args.code.now c.loop-i.code c.emit_stmt.new.code lines (c.loop-i.i - 1) c.loop-i.i
-      c.index-lines-i.result c.in_ok-behind.field-0 c.loop-i.behind.next rest (omega arith) (omega arith) c.index-lines-i.is had
-      (c.in_ok-behind.ensures tree f is_open had.grows.grown left rest context had.grows.rows
-      (leads_behind tree had.grows.grown c.args.behind c.loop-i.behind left rest c.loop-i.invariant.on_break c.loop-i.invariant.on_continue
-      (leads_stay tree points had.grows.grown c.args.behind rest had.grows.stay leads) had.goes));
+      c.index-lines-i.result c.in_ok-following.field-0 c.loop-i.following.next rest (omega arith) (omega arith) c.index-lines-i.is had
+      (c.in_ok-following.ensures tree f is_open had.grows.grown left rest context had.grows.rows
+      (leads_after tree had.grows.grown c.args.following c.loop-i.following left rest c.loop-i.invariant.on_break c.loop-i.invariant.on_continue
+      (leads_stay tree points had.grows.grown c.args.following rest had.grows.stay leads) had.goes));
 }
 
 pub emit_lines-returns : goal.emit_lines-returns
 emit_lines-returns t c tree f is_open points rest context are leads =
     let none : c.loop-i.i ≡ 0 = omega arith in
-    subst (λ n. Emits tree f is_open points c.args.code.now c.loop-i.code (λ word. from_label word (lines_of (drop n c.args.lines.now)) rest) c.loop-i.behind.next (runs (lines_of (drop n c.args.lines.now)) rest)) none
+    subst (λ n. Emits tree f is_open points c.args.code.now c.loop-i.code (λ word. from_label word (lines_of (drop n c.args.lines.now)) rest) c.loop-i.following.next (runs (lines_of (drop n c.args.lines.now)) rest)) none
     (c.loop-i.invariant.made tree f is_open points rest context are leads)
 
 pub emit_stmt-returns-in_ok-row-in-Call : goal.emit_stmt-returns-in_ok-row-in-Call
@@ -102,7 +102,7 @@ emit_stmt-returns-in_ok-row-in-Call t c tree f is_open points lines rest context
       callee = made.callee tree context.functions;
       stand = subst (λ (n : Names). StandAll n arguments row.arguments.items) context.names made.arguments;
       goes = subst (λ n. Goes tree (points ++ own ∷ []) n (runs lines rest)) (sym made.next)
-          (goes_stay tree points (points ++ own ∷ []) c.args.behind.next (runs lines rest) (stay_push points own) leads.next);
+          (goes_stay tree points (points ++ own ∷ []) c.args.following.next (runs lines rest) (stay_push points own) leads.next);
       does = λ s. refl;
     })
     c.push.ensures.point c.push.ensures.rows c.push.ensures.labels)
@@ -114,32 +114,32 @@ emit_stmt-returns-in_ok-no-in-If t c tree f is_open points lines rest context ar
     let otherwise = lines_of c.deref-in-If.result.now in
     let st = If e body otherwise in
     let own = runs (line st c.args.line lines) rest in
-    let behind = runs lines rest in
+    let following = runs lines rest in
     let named =
     ap (λ (ls : List Line). If e (lines_of ls) otherwise) c.deref-in-If-2.ensures.value
     ∙ ap (λ (ls : List Line). If e (lines_of c.in-If.body.items) (lines_of ls)) c.deref-in-If.ensures.value
     ∙ sym (if-tree c.in-If.e c.in-If.body c.in-If.otherwise)
     ∙ sym (ap stmt_of c.in-If.is) in
-    let first = c.in_ok-no-in-If.ensures tree f is_open points behind context are leads in
+    let first = c.in_ok-no-in-If.ensures tree f is_open points following context are leads in
     stmt_at tree f is_open points c.args.code.now c.emit_if.new.code c.args.line lines rest c.emit_if.result st (stmt_of c.args.stmt.now) named
     (emits_after_ok tree f is_open points c.args.code.now c.emit_lines.new.code c.emit_if.new.code
-    (λ word. from_label word otherwise behind) (λ word. from_label word body behind) c.emit_if.result own first.grows
+    (λ word. from_label word otherwise following) (λ word. from_label word body following) c.emit_if.result own first.grows
     (c.emit_if.ensures tree f is_open first.grows.grown otherwise lines rest context first.grows.rows
-    (leads_stay tree points first.grows.grown c.args.behind behind first.grows.stay leads) first.goes))
+    (leads_stay tree points first.grows.grown c.args.following following first.grows.stay leads) first.goes))
 
 pub emit_if-returns : goal.emit_if-returns
 emit_if-returns t c tree f is_open points otherwise lines rest context are leads goes =
     let e = expr_of c.args.e.now in
     let body = lines_of c.args.body.now in
     let own = runs (line (If e body otherwise) c.args.line lines) rest in
-    let behind = runs lines rest in
-    let one = c.in_ok-yes.ensures tree f is_open points behind context are leads in
+    let following = runs lines rest in
+    let one = c.in_ok-yes.ensures tree f is_open points following context are leads in
     let grown = one.grows.grown in
     emits_push tree f is_open points c.args.code.now c.emit_lines.new.code c.push.new.self _ own c.args.line _ c.push.result one.grows
     (if_test tree f (grown ++ own ∷ []) e body otherwise lines c.args.line rest c.in_ok-value.value c.in_ok-yes.yes c.args.no
     (stands_here _ _ _ _ context.names c.in_ok-value.ensures)
-    (goes_push tree grown grown own c.in_ok-yes.yes (runs body behind) (stay_all grown) one.goes)
-    (goes_push tree points grown own c.args.no (runs otherwise behind) one.grows.stay goes))
+    (goes_push tree grown grown own c.in_ok-yes.yes (runs body following) (stay_all grown) one.goes)
+    (goes_push tree points grown own c.args.no (runs otherwise following) one.grows.stay goes))
     c.push.ensures.point c.push.ensures.rows c.push.ensures.labels
 
 pub emit_stmt-returns-in-While : goal.emit_stmt-returns-in-While
@@ -158,14 +158,14 @@ emit_while-returns t c tree f is_open points lines rest context are goes =
     let e = expr_of c.args.e.now in
     let body = lines_of c.args.body.now in
     let own = runs (line (While e body) c.args.line lines) rest in
-    let behind = runs lines rest in
-    let one = c.in_ok-yes.ensures tree f is_open points behind context are goes in
+    let following = runs lines rest in
+    let one = c.in_ok-yes.ensures tree f is_open points following context are goes in
     let grown = one.grows.grown in
     emits_push tree f is_open points c.args.code.now c.emit_repeated.new.code c.push.new.self _ own c.args.line _ c.push.result one.grows
     (while_test tree f (grown ++ own ∷ []) e body lines c.args.line rest c.in_ok-value.value c.in_ok-yes.yes c.args.next
     (stands_here _ _ _ _ context.names c.in_ok-value.ensures)
-    (goes_push tree grown grown own c.in_ok-yes.yes (runs body (tests e body c.args.line behind)) (stay_all grown) one.goes)
-    (goes_push tree points grown own c.args.next behind one.grows.stay goes))
+    (goes_push tree grown grown own c.in_ok-yes.yes (runs body (tests e body c.args.line following)) (stay_all grown) one.goes)
+    (goes_push tree points grown own c.args.next following one.grows.stay goes))
     c.push.ensures.point c.push.ensures.rows c.push.ensures.labels
 
 pub emit_stmt-returns-in-DoWhile : goal.emit_stmt-returns-in-DoWhile
@@ -184,13 +184,13 @@ emit_do_while-returns t c tree f is_open points lines rest context are goes =
     let e = expr_of c.args.e.now in
     let body = lines_of c.args.body.now in
     let own = runs (line (DoWhile body e) c.args.line lines) rest in
-    let behind = runs lines rest in
-    let one = c.in_ok-yes.ensures tree f is_open points behind context are goes in
+    let following = runs lines rest in
+    let one = c.in_ok-yes.ensures tree f is_open points following context are goes in
     let grown = one.grows.grown in
     emits_push tree f is_open points c.args.code.now c.emit_repeated.new.code c.push.new.self _ own c.args.line _ c.push.result one.grows
     (record {
-      to = runs body (tests e body c.args.line behind);
-      goes = goes_push tree grown grown own c.in_ok-yes.yes (runs body (tests e body c.args.line behind)) (stay_all grown) one.goes;
+      to = runs body (tests e body c.args.line following);
+      goes = goes_push tree grown grown own c.in_ok-yes.yes (runs body (tests e body c.args.line following)) (stay_all grown) one.goes;
       does = λ s. refl;
     })
     c.push.ensures.point c.push.ensures.rows c.push.ensures.labels
@@ -200,15 +200,15 @@ emit_stmt-returns-in-Forever t c tree f is_open points lines rest context are le
     let body = lines_of c.deref-in-Forever.result.now in
     let st = Forever body in
     let own = runs (line st c.args.line lines) rest in
-    let behind = runs lines rest in
+    let following = runs lines rest in
     let named =
     ap (λ (ls : List Line). Forever (lines_of ls)) c.deref-in-Forever.ensures.value
     ∙ sym (forever-tree c.in-Forever.body)
     ∙ sym (ap stmt_of c.in-Forever.is) in
     stmt_at tree f is_open points c.args.code.now c.emit_forever.new.code c.args.line lines rest c.emit_forever.result st (stmt_of c.args.stmt.now) named
-    (emits_alike tree f is_open points c.args.code.now c.emit_forever.new.code (λ word. from_label word body (turns body behind)) c.emit_forever.result (turns body behind) own
+    (emits_alike tree f is_open points c.args.code.now c.emit_forever.new.code (λ word. from_label word body (turns body following)) c.emit_forever.result (turns body following) own
     (λ s. refl)
-    (c.emit_forever.ensures tree f is_open points behind context are leads.next))
+    (c.emit_forever.ensures tree f is_open points following context are leads.next))
 
 pub emit_stmt-returns-in_ok-otherwise-in-Switch : goal.emit_stmt-returns-in_ok-otherwise-in-Switch
 emit_stmt-returns-in_ok-otherwise-in-Switch t c tree f is_open points lines rest context are leads =
@@ -224,7 +224,7 @@ emit_stmt-returns-in_ok-otherwise-in-Switch t c tree f is_open points lines rest
     ∙ sym (ap stmt_of c.in-Switch.is) in
     let leads_inside : Leads tree points c.inside_switch-inside.result inside =
     subst (λ (b : Behind). Leads tree points b inside) (sym c.inside_switch-inside.ensures)
-    (record { next = goes_alike tree points c.args.behind.next (runs lines rest) inside (λ s. refl) leads.next; on_break = leads.next; on_continue = leads.on_continue }) in
+    (record { next = goes_alike tree points c.args.following.next (runs lines rest) inside (λ s. refl) leads.next; on_break = leads.next; on_continue = leads.on_continue }) in
     let first = c.in_ok-otherwise-in-Switch.ensures tree f is_open points inside context are leads_inside in
     stmt_at tree f is_open points c.args.code.now c.emit_switch.new.code c.args.line lines rest c.emit_switch.result st (stmt_of c.args.stmt.now) named
     (emits_after_ok tree f is_open points c.args.code.now c.emit_default.new.code c.emit_switch.new.code
@@ -283,7 +283,7 @@ emit_stmt-returns-in-Empty t c tree f is_open points lines rest context are lead
     (pushed_ok tree f is_open points c.args.code.now c.push-in-Empty.new.self own c.args.line _ c.push-in-Empty.result are
     (record {
       to = runs lines rest;
-      goes = goes_stay tree points (points ++ own ∷ []) c.args.behind.next (runs lines rest) (stay_push points own) leads.next;
+      goes = goes_stay tree points (points ++ own ∷ []) c.args.following.next (runs lines rest) (stay_push points own) leads.next;
       does = λ s. refl;
     })
     c.push-in-Empty.ensures.point c.push-in-Empty.ensures.rows c.push-in-Empty.ensures.labels)
@@ -323,9 +323,9 @@ emit_default-returns-in-Some t c tree f is_open points rest context are leads =
 
 pub emit_default-returns-in-None : goal.emit_default-returns-in-None
 emit_default-returns-in-None t c tree f is_open points rest context are leads =
-    subst (λ (a : Arms). Emits tree f is_open points c.args.code.now c.args.code.now (λ word. from_label_in_arms word a rest) c.args.behind.next (runs (default_body a) rest))
+    subst (λ (a : Arms). Emits tree f is_open points c.args.code.now c.args.code.now (λ word. from_label_in_arms word a rest) c.args.following.next (runs (default_body a) rest))
     (ap arms_if (sym c.in-None.is))
-    (emits_none tree f is_open points c.args.code.now c.args.behind.next (runs no_lines rest) are
+    (emits_none tree f is_open points c.args.code.now c.args.following.next (runs no_lines rest) are
     (record { own = leads.next.own; here = leads.next.here; alike = leads.next.alike }))
 
 pub emit_arms-loop-i-preserved : goal.emit_arms-loop-i-preserved
@@ -346,7 +346,7 @@ emit_arms-loop-i-preserved t c = record {
       (c.in_ok-values.ensures.items_if_clones_equal (λ x y same. same) ∙ c.deref-in-loop-i.ensures.value)
       refl c.in_ok-push.ensures.items had
       (c.in_ok-point.ensures tree f is_open had.grows.grown rest context had.grows.rows
-      (leads_stay tree points had.grows.grown c.args.behind rest had.grows.stay leads));
+      (leads_stay tree points had.grows.grown c.args.following rest had.grows.stay leads));
 }
 
 pub emit_arms-returns : goal.emit_arms-returns

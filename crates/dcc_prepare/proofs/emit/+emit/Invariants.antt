@@ -10,13 +10,13 @@ use Rattle.dcc_prepare.proofs.emit.+emit.Given as goal
 abbrev pub invariant-emit_lines-loop-i : goal.invariant-emit_lines-loop-i
 invariant-emit_lines-loop-i l = record {
   within : l.i ≤ length l.lines;
-  on_break : l.behind.on_break ≡ l.initial.behind.on_break;
-  on_continue : l.behind.on_continue ≡ l.initial.behind.on_continue;
+  on_break : l.following.on_break ≡ l.initial.following.on_break;
+  on_continue : l.following.on_continue ≡ l.initial.following.on_continue;
   made : (tree : Tree) (f : Function) (is_open : ℕ → Bool) (points : List Continuation) (rest : Continuation) →
       IsContext l.context tree f → AreRows tree f is_open points l.initial.code.rows.items l.initial.code.labels.items →
-      Leads tree points l.initial.behind rest →
+      Leads tree points l.initial.following rest →
       Emits tree f is_open points l.initial.code l.code (λ word. from_label word (lines_of (drop l.i l.lines)) rest)
-      l.behind.next (runs (lines_of (drop l.i l.lines)) rest);
+      l.following.next (runs (lines_of (drop l.i l.lines)) rest);
 }
 
 abbrev pub decreases-emit_lines-loop-i : goal.decreases-emit_lines-loop-i
@@ -28,7 +28,7 @@ invariant-emit_arms-loop-i l = record {
   within : l.i ≤ length l.arms;
   made : (tree : Tree) (f : Function) (is_open : ℕ → Bool) (points : List Continuation) (rest : Continuation) →
       IsContext l.context tree f → AreRows tree f is_open points l.initial.code.rows.items l.initial.code.labels.items →
-      Leads tree points l.behind rest →
+      Leads tree points l.following rest →
       EmitsArms tree f is_open points l.initial.code l.code (λ word. from_label_in_arms word (arms_of (drop l.i l.arms)) rest)
       l.cases.items (arms_of (drop l.i l.arms)) rest;
 }

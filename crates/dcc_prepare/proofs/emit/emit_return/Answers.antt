@@ -15,7 +15,7 @@ returns c tree f is_open points lines rest context are =
     pushed_ok tree f is_open points c.args.code.now c.push.new.self own c.args.line _ c.push.result are
     (record {
       expr = e;
-      behind = runs lines rest;
+      following = runs lines rest;
       stands = subst (λ (n : Names). StandsIf n e c.in_ok-value.value) context.names c.in_ok-value.ensures;
       does = λ s. refl;
     })

@@ -4,10 +4,10 @@ use Rattle.dcc_c.specs.declared.syntax.Line.{Line}
 use Rattle.dcc_c.specs.declared.syntax.Arm.{Arm, out-Arm}
 use Rattle.dcc_c.specs.Tree.{If, While, DoWhile, Forever, Switch, line, arm, no_arms, Word}
 use Rattle.dcc_c.specs.Parts.{stmts_in, inner_stmts, arm_stmts}
-use Rattle.dcc_c.specs.Written.{indentation, depth_behind, next_depth, written_depth, written_test, written_stmt, written_else, written_lines, written_arms, written_default}
+use Rattle.dcc_c.specs.Written.{indentation, depth_after, next_depth, written_depth, written_test, written_stmt, written_else, written_lines, written_arms, written_default}
 use Rattle.dcc_c.specs.Views.{expr_of, stmt_of, lines_of, arms_of, arm_before, arms_if}
 use Rattle.dcc_print.proofs.BlockLaws.{append-on_ok, depth-on_ok, else-some, default-written, lines-step, depth-step, label-step, arms-step, arm_depth-step}
-use Rattle.dcc_print.proofs.DepthLaws.{depth_behind-append}
+use Rattle.dcc_print.proofs.DepthLaws.{depth_after-append}
 use Rattle.dcc_print.proofs.IndentLaws.{lines-counted, arms-counted, default-counted}
 use Rattle.dcc_c.proofs.RowLaws.{arm-parts, if-tree, while-tree, do_while-tree, forever-tree, switch-tree}
 use Rattle.dcc_print.proofs.block.+block.Goals as goal
@@ -73,8 +73,8 @@ push_default-returns-in_ok-push_line-in-Some-3-clause-depth t c =
     ∙ sym (arm-parts c.in-Some.arm no_arms)
     ∙ ap arms_if (sym c.in-Some.is) in
     c.in_ok-in_force-in-Some.ensures.depth
-    ∙ ap (depth_behind c.args.depth) (sym (append-nil (stmts_in (lines_of c.deref.result.now))))
-    ∙ ap (λ l. depth_behind c.args.depth (arm_stmts l)) arms
+    ∙ ap (depth_after c.args.depth) (sym (append-nil (stmts_in (lines_of c.deref.result.now))))
+    ∙ ap (λ l. depth_after c.args.depth (arm_stmts l)) arms
 
 pub push_else-returns-clause-text : goal.push_else-returns-clause-text
 push_else-returns-clause-text t c =
@@ -151,9 +151,9 @@ push_stmt-returns-in-If-clause-depth t c =
     ∙ sym (if-tree c.in-If.e c.in-If.body c.in-If.otherwise)
     ∙ ap stmt_of (sym c.in-If.is) in
     depth-on_ok c.push_else.result _ _
-    (ap (λ n. depth_behind n (stmts_in otherwise)) c.in_ok-middle-in-If.ensures.depth
-    ∙ sym (depth_behind-append depth (stmts_in body) (stmts_in otherwise))
-    ∙ ap (λ s. depth_behind depth (s ∷ inner_stmts s)) tree)
+    (ap (λ n. depth_after n (stmts_in otherwise)) c.in_ok-middle-in-If.ensures.depth
+    ∙ sym (depth_after-append depth (stmts_in body) (stmts_in otherwise))
+    ∙ ap (λ s. depth_after depth (s ∷ inner_stmts s)) tree)
     c.push_else.ensures.depth
 
 pub push_stmt-returns-in-While-clause-text : goal.push_stmt-returns-in-While-clause-text
@@ -170,7 +170,7 @@ push_stmt-returns-in-While-clause-depth t c =
     ap (λ l. While (expr_of c.in-While.e) (lines_of l)) c.deref-in-While.ensures.value
     ∙ sym (while-tree c.in-While.e c.in-While.body)
     ∙ ap stmt_of (sym c.in-While.is) in
-    depth-on_ok c.push_block.result _ _ (ap (λ s. depth_behind c.args.depth (s ∷ inner_stmts s)) tree) c.push_block.ensures.depth
+    depth-on_ok c.push_block.result _ _ (ap (λ s. depth_after c.args.depth (s ∷ inner_stmts s)) tree) c.push_block.ensures.depth
 
 pub push_stmt-returns-in-DoWhile-clause-text : goal.push_stmt-returns-in-DoWhile-clause-text
 push_stmt-returns-in-DoWhile-clause-text t c =
@@ -186,7 +186,7 @@ push_stmt-returns-in-DoWhile-clause-depth t c =
     ap (λ l. DoWhile (lines_of l) (expr_of c.in-DoWhile.e)) c.deref-in-DoWhile.ensures.value
     ∙ sym (do_while-tree c.in-DoWhile.e c.in-DoWhile.body)
     ∙ ap stmt_of (sym c.in-DoWhile.is) in
-    depth-on_ok c.push_do_while.result _ _ (ap (λ s. depth_behind c.args.depth (s ∷ inner_stmts s)) tree) c.push_do_while.ensures.depth
+    depth-on_ok c.push_do_while.result _ _ (ap (λ s. depth_after c.args.depth (s ∷ inner_stmts s)) tree) c.push_do_while.ensures.depth
 
 pub push_stmt-returns-in-Forever-clause-text : goal.push_stmt-returns-in-Forever-clause-text
 push_stmt-returns-in-Forever-clause-text t c =
@@ -202,7 +202,7 @@ push_stmt-returns-in-Forever-clause-depth t c =
     ap (λ l. Forever (lines_of l)) c.deref-in-Forever.ensures.value
     ∙ sym (forever-tree c.in-Forever.body)
     ∙ ap stmt_of (sym c.in-Forever.is) in
-    depth-on_ok c.push_block-in-Forever.result _ _ (ap (λ s. depth_behind c.args.depth (s ∷ inner_stmts s)) tree) c.push_block-in-Forever.ensures.depth
+    depth-on_ok c.push_block-in-Forever.result _ _ (ap (λ s. depth_after c.args.depth (s ∷ inner_stmts s)) tree) c.push_block-in-Forever.ensures.depth
 
 pub push_stmt-returns-in-Switch-clause-text : goal.push_stmt-returns-in-Switch-clause-text
 push_stmt-returns-in-Switch-clause-text t c =
@@ -214,7 +214,7 @@ push_stmt-returns-in-Switch-clause-text t c =
     let head = indentation braces ++ written_test (codes "switch") (expr_of c.in-Switch.e) in
     let inner = written_arms c.inside.result depth arms in
     let end = indentation braces ++ codes "}\n" in
-    let middle = c.in_ok-middle-in-Switch.ensures.depth ∙ ap (depth_behind depth) (sym (append-nil (arm_stmts arms))) in
+    let middle = c.in_ok-middle-in-Switch.ensures.depth ∙ ap (depth_after depth) (sym (append-nil (arm_stmts arms))) in
     let tree =
     ap (λ l. Switch (expr_of c.in-Switch.e) (arms_of l) last) c.deref-in-Switch.ensures.value
     ∙ sym (switch-tree c.in-Switch.e c.in-Switch.arms c.in-Switch.last)
@@ -223,7 +223,7 @@ push_stmt-returns-in-Switch-clause-text t c =
     (c.in_ok-middle-in-Switch.ensures.text ∙ ap (λ l. l ++ inner) c.in_ok-push_test-in-Switch.ensures ∙ append_assoc old head inner)
     (append_assoc head inner _
     ∙ ap (λ n. head ++ (inner ++ (written_default (1 + braces) n last ++ end))) middle
-    ∙ ap (λ l. head ++ (l ++ (written_default (1 + braces) (depth_behind depth (arm_stmts arms ++ [])) last ++ end))) (arms-counted c.inside.result (1 + braces) c.inside.ensures depth arms)
+    ∙ ap (λ l. head ++ (l ++ (written_default (1 + braces) (depth_after depth (arm_stmts arms ++ [])) last ++ end))) (arms-counted c.inside.result (1 + braces) c.inside.ensures depth arms)
     ∙ ap (written_stmt braces depth) tree)
     c.push_default.ensures.text
 
@@ -237,7 +237,7 @@ push_stmt-returns-in-Switch-clause-depth t c =
     ∙ sym (switch-tree c.in-Switch.e c.in-Switch.arms c.in-Switch.last)
     ∙ ap stmt_of (sym c.in-Switch.is) in
     depth-on_ok c.push_default.result _ _
-    (ap (λ n. depth_behind n (arm_stmts last)) c.in_ok-middle-in-Switch.ensures.depth
-    ∙ sym (depth_behind-append depth (arm_stmts arms) (arm_stmts last))
-    ∙ ap (λ s. depth_behind depth (s ∷ inner_stmts s)) tree)
+    (ap (λ n. depth_after n (arm_stmts last)) c.in_ok-middle-in-Switch.ensures.depth
+    ∙ sym (depth_after-append depth (arm_stmts arms) (arm_stmts last))
+    ∙ ap (λ s. depth_after depth (s ∷ inner_stmts s)) tree)
     c.push_default.ensures.depth

@@ -109,7 +109,7 @@ read_more-loop-fewer-preserved t c =
     let operator = c.in-Some-operator_of.operator in
     let left = reading.got (expr_of c.loop-fewer.left.expr) (reader_of c.loop-fewer.r) in
     let right = reading.got (expr_of c.in_ok-right.right.expr) (reader_of c.read_binary.new.r) in
-    let read : right ≡ reading.read_binary c.in-Some.fewer (reading.in_operator inside) (grammar.strength operator + 1) (reading.skip left.behind) =
+    let read : right ≡ reading.read_binary c.in-Some.fewer (reading.in_operator inside) (grammar.strength operator + 1) (reading.skip left.following) =
     c.in_ok-right.ensures
     ∙ both (λ i s. reading.read_binary c.in-Some.fewer i (s + 1) (reader_of c.skip.new.self)) c.in_operator.ensures c.strength.ensures
     ∙ ap (reading.read_binary c.in-Some.fewer (reading.in_operator inside) (grammar.strength operator + 1)) c.skip.ensures in
@@ -128,7 +128,7 @@ pub read_more-returns-in_default-operator_of : goal.read_more-returns-in_default
 read_more-returns-in_default-operator_of t c =
     let is : c.loop-fewer.calls ≡ c.in-Some.fewer + 1 = omega (arith, c.in-Some.ensures) in
     let left = reading.got (expr_of c.loop-fewer.left.expr) (reader_of c.loop-fewer.r) in
-    let ends : None ≡ strong_enough c.args.weakest (reading.binary_of (reading.next_token left.behind)) =
+    let ends : None ≡ strong_enough c.args.weakest (reading.binary_of (reading.next_token left.following)) =
     sym (not-some c.operator_of.result c.in_default-operator_of.not-Some) ∙ c.operator_of.ensures in
     steps.more-ends c.loop-fewer.calls c.in-Some.fewer (inside_of c.args.inside) c.args.weakest
     (reading.got (expr_of c.loop-fewer.left.expr) (reader_of c.loop-fewer.r)) is ends
@@ -151,10 +151,10 @@ read_rest-returns t c =
     let test = reading.got (expr_of c.args.test.expr) (reader_of c.args.r.now) in
     let first = reading.got (expr_of c.in_ok-first.first.expr) (reader_of c.measured_expr.new.r) in
     let second = reading.got (expr_of c.in_ok-second.second.expr) (reader_of c.measured_expr-2.new.r) in
-    let sees : reading.sees_mark (codes "?") test.behind ≡ true = sym c.sees_mark.ensures ∙ c.if-not-sees_mark.false in
-    let first_is : first ≡ reading.read_expr c.in-Some.calls (reading.in_operator inside) (reading.skip test.behind) =
+    let sees : reading.sees_mark (codes "?") test.following ≡ true = sym c.sees_mark.ensures ∙ c.if-not-sees_mark.false in
+    let first_is : first ≡ reading.read_expr c.in-Some.calls (reading.in_operator inside) (reading.skip test.following) =
     c.in_ok-first.ensures ∙ both (reading.read_expr c.in-Some.calls) c.in_operator.ensures c.skip.ensures in
-    let second_is : second ≡ reading.read_expr c.in-Some.calls (reading.in_operator inside) (reading.take_mark (codes ":") first.behind) =
+    let second_is : second ≡ reading.read_expr c.in-Some.calls (reading.in_operator inside) (reading.take_mark (codes ":") first.following) =
     c.in_ok-second.ensures ∙ both (reading.read_expr c.in-Some.calls) c.in_operator-2.ensures c.take_mark.ensures in
     ap (reading.got (expr_of c.in_ok-whole.whole.expr)) c.stop_if_deep.ensures
     ∙ ap (λ w. reading.got w (reading.stop_if_deep inside w (reader_of c.measured_expr-2.new.r))) c.in_ok-whole.ensures

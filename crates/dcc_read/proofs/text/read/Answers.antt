@@ -6,5 +6,5 @@ use Rattle.dcc_read.proofs.text.read.Goals as goal
 pub returns : goal.returns
 returns c =
     c.in_ok-text.ensures
-    ∙ ap (texts.read_text c.enough_calls.result) c.reader_at-behind.ensures
+    ∙ ap (texts.read_text c.enough_calls.result) c.reader_at-following.ensures
     ∙ ap (λ n. texts.read_text n (texts.reader_of (pieces_of c.args.pieces.now))) c.enough_calls.ensures
