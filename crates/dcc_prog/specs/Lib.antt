@@ -19,3 +19,4 @@ pub mod Limit
 pub mod Wanted
 pub mod Built
 pub mod Found
+pub mod Watch

@@ -6,15 +6,16 @@ use Rattle.std.proofs.lemmas.Bool.{cases_lt}
 use Rattle.std.proofs.lemmas.List.{append-nil, length-append}
 use Rattle.std.proofs.lemmas.List.Elements.{All-append, All-nil, All-cons, All-head, All-tail}
 use Rattle.dcc_run.specs.End.{is_over}
+use Rattle.dcc_run.specs.Event.{Event}
 use Rattle.dcc_run.specs.Prefix.{IsPrefix}
-use Rattle.dcc_run.specs.System.{out_after, end_after}
+use Rattle.dcc_run.specs.System.{events_after, end_after}
 use Rattle.dcc_run.specs.Visits.{Visit, visit_at, visit_of, visits, EndsAlike}
+use Rattle.dcc_run.specs.Agreement.{KeepsUp}
 use Rattle.dcc_run.specs.Watched.{Watched, IsWatchable, state, is_shown}
 use Rattle.dcc_run.specs.Shadows.{ShowsAt, Shadows, IsMarked, is_marked, has_ended, is_foul, KeepsPace}
 use Rattle.dcc_run.proofs.PrefixLaws.{prefix_refl, prefix_trans}
-use Rattle.dcc_run.proofs.RunLaws.{out_grows, grows_by, over_stays}
-use Rattle.dcc_run.proofs.VisitLaws.{visits-add}
-use Rattle.dcc_run.proofs.GatherLaws.{visits-over}
+use Rattle.dcc_run.proofs.RunLaws.{events_grow, grows_by, over_stays}
+use Rattle.dcc_run.proofs.VisitLaws.{visits-add, visits-over}
 use Rattle.dcc_run.proofs.ShadowLaws.{clean_before}
 
 module _ {S P : Type 0} (w : Watched S P) where
@@ -45,7 +46,7 @@ module _ {S P : Type 0} (w : Watched S P) where
       omega (arith, whole)
 
   -- a marked state visits its place
-  pub marked_visit : (s : S) (m : IsMarked w s) → visit_of w.system w.mark s ≡ record { place = m.place; out = w.system.out s } ∷ []
+  pub marked_visit : (s : S) (m : IsMarked w s) → visit_of w.system w.mark s ≡ record { place = m.place; events = w.system.events s } ∷ []
   marked_visit s m = ap₂ (λ b place. cond b [] (visit_at w.system s place)) m.running m.mark
 
   -- the visit of a marked state is one more
@@ -116,36 +117,36 @@ module _ {S P : Type 0} (w : Watched S P) where
 
 module _ {S P : Type 0} (w : Watched S P) (law : IsWatchable w) where
   -- each visit of the first n steps has put out no more than is out after them
-  pub visits_until : (n : ℕ) (s : S) (whole : List ℕ) → IsPrefix (out_after w.system n s) whole → All (λ v. IsPrefix v.out whole) (visits w.system w.mark n s)
-  visits_until zero s whole less = All-nil (λ v. IsPrefix v.out whole)
+  pub visits_until : (n : ℕ) (s : S) (whole : List Event) → IsPrefix (events_after w.system n s) whole → All (λ v. IsPrefix v.events whole) (visits w.system w.mark n s)
+  visits_until zero s whole less = All-nil (λ v. IsPrefix v.events whole)
   visits_until (suc n) s whole less =
-      All-append (λ v. IsPrefix v.out whole) (visit_of w.system w.mark s) (visits w.system w.mark n (w.system.step s))
+      All-append (λ v. IsPrefix v.events whole) (visit_of w.system w.mark s) (visits w.system w.mark n (w.system.step s))
       (here (is_over (w.system.end s)) (w.mark s) (prefix_trans (grows_by w.system law.lawful (suc n) s) less))
       (visits_until n (w.system.step s) whole less)
     where
-      here : (b : Bool) (place : Option P) → IsPrefix (w.system.out s) whole → All (λ v. IsPrefix v.out whole) (cond b [] (visit_at w.system s place))
-      here true place less' = All-nil (λ v. IsPrefix v.out whole)
-      here false None less' = All-nil (λ v. IsPrefix v.out whole)
-      here false (Some place) less' = All-cons (λ v. IsPrefix v.out whole) (record { place = place; out = w.system.out s }) [] less' (All-nil (λ v. IsPrefix v.out whole))
+      here : (b : Bool) (place : Option P) → IsPrefix (w.system.events s) whole → All (λ v. IsPrefix v.events whole) (cond b [] (visit_at w.system s place))
+      here true place less' = All-nil (λ v. IsPrefix v.events whole)
+      here false None less' = All-nil (λ v. IsPrefix v.events whole)
+      here false (Some place) less' = All-cons (λ v. IsPrefix v.events whole) (record { place = place; events = w.system.events s }) [] less' (All-nil (λ v. IsPrefix v.events whole))
 
   -- and at least as much as was out before
-  pub visits_since : (n : ℕ) (s : S) (front : List ℕ) → IsPrefix front (w.system.out s) → All (λ v. IsPrefix front v.out) (visits w.system w.mark n s)
-  visits_since zero s front less = All-nil (λ v. IsPrefix front v.out)
+  pub visits_since : (n : ℕ) (s : S) (front : List Event) → IsPrefix front (w.system.events s) → All (λ v. IsPrefix front v.events) (visits w.system w.mark n s)
+  visits_since zero s front less = All-nil (λ v. IsPrefix front v.events)
   visits_since (suc n) s front less =
-      All-append (λ v. IsPrefix front v.out) (visit_of w.system w.mark s) (visits w.system w.mark n (w.system.step s))
+      All-append (λ v. IsPrefix front v.events) (visit_of w.system w.mark s) (visits w.system w.mark n (w.system.step s))
       (here (is_over (w.system.end s)) (w.mark s))
       (visits_since n (w.system.step s) front (prefix_trans less (law.lawful.grows s)))
     where
-      here : (b : Bool) (place : Option P) → All (λ v. IsPrefix front v.out) (cond b [] (visit_at w.system s place))
-      here true place = All-nil (λ v. IsPrefix front v.out)
-      here false None = All-nil (λ v. IsPrefix front v.out)
-      here false (Some place) = All-cons (λ v. IsPrefix front v.out) (record { place = place; out = w.system.out s }) [] less (All-nil (λ v. IsPrefix front v.out))
+      here : (b : Bool) (place : Option P) → All (λ v. IsPrefix front v.events) (cond b [] (visit_at w.system s place))
+      here true place = All-nil (λ v. IsPrefix front v.events)
+      here false None = All-nil (λ v. IsPrefix front v.events)
+      here false (Some place) = All-cons (λ v. IsPrefix front v.events) (record { place = place; events = w.system.events s }) [] less (All-nil (λ v. IsPrefix front v.events))
 
   -- Where more than k of the first m states are at marked places, what is out after k steps is no more than what each
   -- number of bytes holds that none of these visits passes.
-  pub out_before_visits : (k m : ℕ) (s : S) (whole : List ℕ) → k < length (visits w.system w.mark m s) → All (λ v. IsPrefix v.out whole) (visits w.system w.mark m s) → IsPrefix
-      (out_after w.system k s) whole
-  out_before_visits k m s whole many all =
+  pub events_before_visits : (k m : ℕ) (s : S) (whole : List Event) → k < length (visits w.system w.mark m s) → All (λ v. IsPrefix v.events whole) (visits w.system w.mark m s) → IsPrefix
+      (events_after w.system k s) whole
+  events_before_visits k m s whole many all =
       let few = few_visits w m s in
       let e : m ≡ k + (m - k) = omega (arith, few, many) in
       let split = ap (λ i. visits w.system w.mark i s) e ∙ visits-add w.system w.mark k (m - k) s in
@@ -153,17 +154,17 @@ module _ {S P : Type 0} (w : Watched S P) (law : IsWatchable w) where
       let low = few_visits w k s in
       let some : 0 < length (visits w.system w.mark (m - k) (state w k s)) = omega (arith, count, low, many) in
       between (visits w.system w.mark (m - k) (state w k s)) some
-      (visits_since (m - k) (state w k s) (out_after w.system k s) (prefix_refl _))
-      (right (visits w.system w.mark k s) (visits w.system w.mark (m - k) (state w k s)) (subst (All (λ v. IsPrefix v.out whole)) split all))
+      (visits_since (m - k) (state w k s) (events_after w.system k s) (prefix_refl _))
+      (right (visits w.system w.mark k s) (visits w.system w.mark (m - k) (state w k s)) (subst (All (λ v. IsPrefix v.events whole)) split all))
     where
-      right : (vs us : List (Visit P)) → All (λ v. IsPrefix v.out whole) (vs ++ us) → All (λ v. IsPrefix v.out whole) us
+      right : (vs us : List (Visit P)) → All (λ v. IsPrefix v.events whole) (vs ++ us) → All (λ v. IsPrefix v.events whole) us
       right [] us h = h
-      right (v ∷ vs) us h = right vs us (All-tail (λ u. IsPrefix u.out whole) v (vs ++ us) h)
+      right (v ∷ vs) us h = right vs us (All-tail (λ u. IsPrefix u.events whole) v (vs ++ us) h)
 
-      between : (vs : List (Visit P)) → 0 < length vs → All (λ v. IsPrefix (out_after w.system k s) v.out) vs → All (λ v. IsPrefix v.out whole) vs → IsPrefix (out_after w.system k s) whole
+      between : (vs : List (Visit P)) → 0 < length vs → All (λ v. IsPrefix (events_after w.system k s) v.events) vs → All (λ v. IsPrefix v.events whole) vs → IsPrefix (events_after w.system k s) whole
       between [] some low high = absurd (omega (arith, some))
       between (v ∷ vs) some low high =
-          prefix_trans (All-head (λ u. IsPrefix (out_after w.system k s) u.out) v vs low) (All-head (λ u. IsPrefix u.out whole) v vs high)
+          prefix_trans (All-head (λ u. IsPrefix (events_after w.system k s) u.events) v vs low) (All-head (λ u. IsPrefix u.events whole) v vs high)
 
   -- no visit comes after the end
   pub visits_stop : (k m : ℕ) (s : S) → is_over (end_after w.system k s) ≡ true → length (visits w.system w.mark m s) ≤ k
@@ -187,17 +188,11 @@ module _ {S P : Type 0} (w : Watched S P) (law : IsWatchable w) where
         | inr ge ↦ sym (over_stays w.system law.lawful n m s ge other)
       ]
 
--- What two runs owe each other at numbers of steps: the second has put out at least what the first has, and where the
--- first is over, the second is over alike.
-pub record KeepsUp {S T P : Type 0} (first : Watched S P) (s : S) (n : ℕ) (second : Watched T P) (t : T) (m : ℕ) : Type 0 where
-  pub out : IsPrefix (out_after first.system n s) (out_after second.system m t)
-  pub end : is_over (end_after first.system n s) ≡ true → EndsAlike first.system s n second.system t m
-
 module _ {S T P : Type 0} (first : Watched S P) (second : Watched T P) (law : IsWatchable first) (other_law : IsWatchable second) (s : S) (t : T) (shadows : Shadows first s second t) where
   -- A run that shadows another and keeps pace has caught up with n clean steps of it, each of which visits at most one
   -- place.
   pub second_keeps_up : (begin within : ℕ) → KeepsPace second t begin within → ((u : T) → second.foul u ≡ false) →
-      (n : ℕ) → first.foul (state first n s) ≡ false → KeepsUp first s n second t (begin + n * within)
+      (n : ℕ) → first.foul (state first n s) ≡ false → KeepsUp first.system s n second.system t (begin + n * within)
   second_keeps_up begin within pace never n clean =
       let x = shadows n clean in
       let m = x.0 in
@@ -209,11 +204,11 @@ module _ {S T P : Type 0} (first : Watched S P) (second : Watched T P) (law : Is
             let there = over_stays second.system other_law.lawful y.0 last t y.1 over in
             let over' : is_over (end_after second.system last t) ≡ true = ap (λ u. is_over (second.system.end u)) there ∙ over in
             record {
-              out = caught m last x.1 over';
-              end = λ o.
+              events = caught m last x.1 over';
+              alike = λ o.
                   let z = x.1.alike o in
                   let same = over_same second other_law m last t (ap is_over z.end ∙ o) over' in
-                  record { end = ap second.system.end same ∙ z.end; out = ap second.system.out same ∙ z.out };
+                  record { end = ap second.system.end same ∙ z.end; events = ap second.system.events same ∙ z.events };
             }
         | at_mark mark many ↦
             let equal = ap length x.1.visits_are in
@@ -228,15 +223,15 @@ module _ {S T P : Type 0} (first : Watched S P) (second : Watched T P) (law : Is
             ]
             in
             record {
-              out = prefix_trans (x.1.ahead y.0 reached (marked_shows second (state second y.0 t) mark)) (out_grows second.system other_law.lawful y.0 last t y.1);
-              end = λ o.
+              events = prefix_trans (x.1.ahead y.0 reached (marked_shows second (state second y.0 t) mark)) (events_grow second.system other_law.lawful y.0 last t y.1);
+              alike = λ o.
                   let z = x.1.alike o in
                   let same = over_stays second.system other_law.lawful m y.0 t reached (ap is_over z.end ∙ o) in
                   absurd (true≢false (sym (ap is_over z.end ∙ o) ∙ sym (ap (λ u. is_over (second.system.end u)) same) ∙ mark.running));
             }
       ]
     where
-      caught : (m last : ℕ) → ShowsAt first s n second t m → is_over (end_after second.system last t) ≡ true → IsPrefix (out_after first.system n s) (out_after second.system last t)
+      caught : (m last : ℕ) → ShowsAt first s n second t m → is_over (end_after second.system last t) ≡ true → IsPrefix (events_after first.system n s) (events_after second.system last t)
       caught m last x over =
           elim (cases_lt last m) [
             | inl lt ↦
@@ -244,14 +239,14 @@ module _ {S T P : Type 0} (first : Watched S P) (second : Watched T P) (law : Is
                 let low : m ≤ m = omega arith in
                 let same = over_stays second.system other_law.lawful last m t le over in
                 let there : is_over (end_after second.system m t) ≡ true = ap (λ u. is_over (second.system.end u)) same ∙ over in
-                subst (λ u. IsPrefix (out_after first.system n s) (second.system.out u)) same (x.ahead m low (over_shows second (state second m t) there))
+                subst (λ u. IsPrefix (events_after first.system n s) (second.system.events u)) same (x.ahead m low (over_shows second (state second m t) there))
             | inr ge ↦ x.ahead last ge (over_shows second (state second last t) over)
           ]
 
   -- The first run, which keeps pace, has caught up with k steps of its shadow after clean steps that come to its visit
   -- k + 1.
   pub first_keeps_up : (begin within : ℕ) → KeepsPace first s begin within →
-      (k n : ℕ) → begin + k * within < n → first.foul (state first n s) ≡ false → KeepsUp second t k first s n
+      (k n : ℕ) → begin + k * within < n → first.foul (state first n s) ≡ false → KeepsUp second.system t k first.system s n
   first_keeps_up begin within pace k n lt clean =
       let x = shadows n clean in
       let m = x.0 in
@@ -265,16 +260,16 @@ module _ {S T P : Type 0} (first : Watched S P) (second : Watched T P) (law : Is
             let z = x.1.alike over' in
             let other_over = ap is_over z.end ∙ over' in
             record {
-              out = elim (cases_lt m k) [
+              events = elim (cases_lt m k) [
                 | inl lt' ↦
                     let less : m ≤ k = omega (arith, lt') in
                     let same = over_stays second.system other_law.lawful m k t less other_over in
-                    subst (λ l. IsPrefix l (out_after first.system n s)) (sym (ap second.system.out same ∙ z.out)) (prefix_refl _)
-                | inr ge ↦ subst (λ l. IsPrefix (out_after second.system k t) l) z.out (out_grows second.system other_law.lawful k m t ge)
+                    subst (λ l. IsPrefix l (events_after first.system n s)) (sym (ap second.system.events same ∙ z.events)) (prefix_refl _)
+                | inr ge ↦ subst (λ l. IsPrefix (events_after second.system k t) l) z.events (events_grow second.system other_law.lawful k m t ge)
               ];
-              end = λ o.
+              alike = λ o.
                   let same = over_same second other_law m k t other_over o in
-                  record { end = sym (ap second.system.end same ∙ z.end); out = sym (ap second.system.out same ∙ z.out) };
+                  record { end = sym (ap second.system.end same ∙ z.end); events = sym (ap second.system.events same ∙ z.events) };
             }
         | at_mark mark many ↦
             let up : suc y.0 ≤ n = omega (arith, y.1, lt) in
@@ -282,8 +277,8 @@ module _ {S T P : Type 0} (first : Watched S P) (second : Watched T P) (law : Is
             let equal = ap length x.1.visits_are in
             let many' : k < length (visits second.system second.mark m t) = omega (arith, many, more, equal) in
             record {
-              out = out_before_visits second other_law k m t (out_after first.system n s) many'
-                  (subst (All (λ v. IsPrefix v.out (out_after first.system n s))) (sym x.1.visits_are) (visits_until first law n s (out_after first.system n s) (prefix_refl _)));
-              end = λ o. let stop = visits_stop second other_law k m t o in absurd (omega (arith, stop, many'));
+              events = events_before_visits second other_law k m t (events_after first.system n s) many'
+                  (subst (All (λ v. IsPrefix v.events (events_after first.system n s))) (sym x.1.visits_are) (visits_until first law n s (events_after first.system n s) (prefix_refl _)));
+              alike = λ o. let stop = visits_stop second other_law k m t o in absurd (omega (arith, stop, many'));
             }
       ]

@@ -6,8 +6,9 @@ use Rattle.std.proofs.lemmas.Bool.{cases_lt}
 use Rattle.std.proofs.lemmas.List.{append_cancel_left, append-nil, length-append}
 use Rattle.std.proofs.lemmas.List.Elements.{All-append, All-nil, All-cons, All-head, All-tail, All-filter}
 use Rattle.dcc_run.specs.End.{is_over}
+use Rattle.dcc_run.specs.Event.{Event}
 use Rattle.dcc_run.specs.Prefix.{IsPrefix}
-use Rattle.dcc_run.specs.System.{out_after, end_after}
+use Rattle.dcc_run.specs.System.{events_after, end_after}
 use Rattle.dcc_run.specs.Visits.{Visit, visit_at, visit_of, visits, visits_of, VisitsKept}
 use Rattle.dcc_run.specs.Watched.{Watched, IsWatchable, state, is_shown}
 use Rattle.dcc_run.specs.Shadows.{Shadows, IsMarked, kept_mark, only}
@@ -24,7 +25,7 @@ module _ {S P : Type 0} (kept : P → Bool) (w : Watched S P) where
       ap₂ (λ a b. a ++ b) (here (is_over (w.system.end s)) (w.mark s)) (only_visits n (w.system.step s))
       ∙ sym (visits_of-append kept (visit_of w.system w.mark s) (visits w.system w.mark n (w.system.step s)))
     where
-      at : (place : P) (b : Bool) → cond false [] (visit_at w.system s (cond b (Some place) None)) ≡ cond b (record { place = place; out = w.system.out s } ∷ []) []
+      at : (place : P) (b : Bool) → cond false [] (visit_at w.system s (cond b (Some place) None)) ≡ cond b (record { place = place; events = w.system.events s } ∷ []) []
       at place true = refl
       at place false = refl
 
@@ -35,18 +36,18 @@ module _ {S P : Type 0} (kept : P → Bool) (w : Watched S P) where
 
 module _ {S P : Type 0} (w : Watched S P) where
   -- what holds of the output of each marked state holds of each visit
-  pub visits_hold : (F : List ℕ → Type 0) (n : ℕ) (s : S) → ((k : ℕ) → IsMarked w (state w k s) → F (out_after w.system k s)) → All (λ v. F v.out) (visits w.system w.mark n s)
-  visits_hold F zero s h = All-nil (λ v. F v.out)
+  pub visits_hold : (F : List Event → Type 0) (n : ℕ) (s : S) → ((k : ℕ) → IsMarked w (state w k s) → F (events_after w.system k s)) → All (λ v. F v.events) (visits w.system w.mark n s)
+  visits_hold F zero s h = All-nil (λ v. F v.events)
   visits_hold F (suc n) s h =
-      All-append (λ v. F v.out) (visit_of w.system w.mark s) (visits w.system w.mark n (w.system.step s))
+      All-append (λ v. F v.events) (visit_of w.system w.mark s) (visits w.system w.mark n (w.system.step s))
       (here (is_over (w.system.end s)) (w.mark s) refl refl)
       (visits_hold F n (w.system.step s) (λ k. h (suc k)))
     where
-      here : (b : Bool) (place : Option P) → is_over (w.system.end s) ≡ b → w.mark s ≡ place → All (λ v. F v.out) (cond b [] (visit_at w.system s place))
-      here true place e e' = All-nil (λ v. F v.out)
-      here false None e e' = All-nil (λ v. F v.out)
+      here : (b : Bool) (place : Option P) → is_over (w.system.end s) ≡ b → w.mark s ≡ place → All (λ v. F v.events) (cond b [] (visit_at w.system s place))
+      here true place e e' = All-nil (λ v. F v.events)
+      here false None e e' = All-nil (λ v. F v.events)
       here false (Some place) e e' =
-          All-cons (λ v. F v.out) (record { place = place; out = w.system.out s }) [] (h 0 (record { place = place; mark = e'; running = e })) (All-nil (λ v. F v.out))
+          All-cons (λ v. F v.events) (record { place = place; events = w.system.events s }) [] (h 0 (record { place = place; mark = e'; running = e })) (All-nil (λ v. F v.events))
 
 -- what holds of all of two lists joined holds of the second
 pub right_part : {A : Type 0} (F : A → Type 0) (xs ys : List A) → All F (xs ++ ys) → All F ys
@@ -56,34 +57,34 @@ right_part F (x ∷ xs) ys h = right_part F xs ys (All-tail F x (xs ++ ys) h)
 module _ {S T U P : Type 0} (kept : P → Bool) (first : Watched S P) (second : Watched T P) (third : Watched U P) (other_law : IsWatchable second) (s : S) (t : T) (u : U)
     (shadows : Shadows first s second t) (keeps : VisitsKept kept second.system second.mark t third.system third.mark u) where
   -- where the third run is over
-  ahead_over : (n m k : ℕ) → ((i : ℕ) → m ≤ i → is_shown second (state second i t) ≡ true → IsPrefix (out_after first.system n s) (out_after second.system i t)) →
-      is_over (end_after third.system k u) ≡ true → IsPrefix (out_after first.system n s) (out_after third.system k u)
+  ahead_over : (n m k : ℕ) → ((i : ℕ) → m ≤ i → is_shown second (state second i t) ≡ true → IsPrefix (events_after first.system n s) (events_after second.system i t)) →
+      is_over (end_after third.system k u) ≡ true → IsPrefix (events_after first.system n s) (events_after third.system k u)
   ahead_over n m k ahead over =
       let b = keeps.back k in
       let z = b.2 over in
       let there : is_over (end_after second.system b.0 t) ≡ true = sym (ap is_over z.end) ∙ over in
-      subst (λ l. IsPrefix (out_after first.system n s) l) (sym z.out)
+      subst (λ l. IsPrefix (events_after first.system n s) l) (sym z.events)
       (elim (cases_lt b.0 m) [
         | inl lt ↦
             let le : b.0 ≤ m = omega (arith, lt) in
             let low : m ≤ m = omega arith in
             let same = over_stays second.system other_law.lawful b.0 m t le there in
             let shown = over_shows second (state second m t) (ap (λ x. is_over (second.system.end x)) same ∙ there) in
-            subst (λ x. IsPrefix (out_after first.system n s) (second.system.out x)) same (ahead m low shown)
+            subst (λ x. IsPrefix (events_after first.system n s) (second.system.events x)) same (ahead m low shown)
         | inr ge ↦ ahead b.0 ge (over_shows second (state second b.0 t) there)
       ])
 
   -- where the third run is at a marked place
-  ahead_marked : (n m m' k : ℕ) → ((i : ℕ) → m ≤ i → is_shown second (state second i t) ≡ true → IsPrefix (out_after first.system n s) (out_after second.system i t)) →
+  ahead_marked : (n m m' k : ℕ) → ((i : ℕ) → m ≤ i → is_shown second (state second i t) ≡ true → IsPrefix (events_after first.system n s) (events_after second.system i t)) →
       visits third.system third.mark m' u ≡ visits_of kept (visits second.system second.mark m t) → m' ≤ k → (x : IsMarked third (state third k u)) →
-      IsPrefix (out_after first.system n s) (out_after third.system k u)
+      IsPrefix (events_after first.system n s) (events_after third.system k u)
   ahead_marked n m m' k ahead same le x =
-      let F : Visit P → Type 0 = λ v. IsPrefix (out_after first.system n s) v.out in
+      let F : Visit P → Type 0 = λ v. IsPrefix (events_after first.system n s) v.events in
       let b = keeps.back (suc k) in
       let i = b.0 in
       let front = visits third.system third.mark m' u in
       let middle = visits third.system third.mark (k - m') (state third m' u) in
-      let last : Visit P = record { place = x.place; out = out_after third.system k u } in
+      let last : Visit P = record { place = x.place; events = events_after third.system k u } in
       let to_k : visits third.system third.mark k u ≡ front ++ middle =
       let e : k ≡ m' + (k - m') = omega (arith, le) in
       ap (λ j. visits third.system third.mark j u) e ∙ visits-add third.system third.mark m' (k - m') u
@@ -123,11 +124,11 @@ module _ {S T U P : Type 0} (kept : P → Bool) (first : Watched S P) (second : 
       ∙ ap (λ vs. vs ++ visits_of kept rest) (sym same)
       in
       let all : All F rest =
-      visits_hold second (λ out. IsPrefix (out_after first.system n s) out) (i - m) (state second m t) (λ j y.
+      visits_hold second (λ events. IsPrefix (events_after first.system n s) events) (i - m) (state second m t) (λ j y.
       let e : m + j ≡ m + j = refl in
       let low : m ≤ m + j = omega arith in
       let at = state-add second m j (m + j) t e in
-      subst (λ z. IsPrefix (out_after first.system n s) (second.system.out z)) at
+      subst (λ z. IsPrefix (events_after first.system n s) (second.system.events z)) at
       (ahead (m + j) low (ap (λ z. is_shown second z) at ∙ marked_shows second (state second j (state second m t)) y)))
       in
       let kept_all = All-filter (λ v. kept v.place) F rest all in
@@ -145,7 +146,7 @@ module _ {S T U P : Type 0} (kept : P → Bool) (first : Watched S P) (second : 
           alike = λ over.
               let z = x.1.alike over in
               let z' = y.2 (ap is_over z.end ∙ over) in
-              record { end = z'.end ∙ z.end; out = z'.out ∙ z.out };
+              record { end = z'.end ∙ z.end; events = z'.events ∙ z.events };
           ahead = λ k le shown.
               elim (shown_is third (state third k u) shown) [
                 | inl over ↦ ahead_over n m k x.1.ahead over

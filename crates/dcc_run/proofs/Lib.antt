@@ -1,7 +1,7 @@
 pub mod PrefixLaws
+pub mod EventLaws
 pub mod RunLaws
 pub mod VisitLaws
-pub mod GatherLaws
 pub mod ShadowLaws
 pub mod AgreementLaws
 pub mod KeptLaws

@@ -11,7 +11,7 @@ module _ {S T P : Type 0} (first : Watched S P) (second : Watched T P) (related 
   -- the same with the two runs exchanged
   exchanged : (s : S) (t : T) → ComesTo first second related s t → ComesTo second first (λ u v. related v u) t s
   exchanged s t (still_related r) = still_related r
-  exchanged s t (both_over over end out) = both_over (ap is_over end ∙ over) (sym end) (sym out)
+  exchanged s t (both_over over end events) = both_over (ap is_over end ∙ over) (sym end) (sym events)
   exchanged s t (first_foul foul shown less) = absurd (true≢false (sym foul ∙ never s))
 
   pub matches_back : Matches first second related → Matches second first (λ u v. related v u)
@@ -20,7 +20,7 @@ module _ {S T P : Type 0} (first : Watched S P) (second : Watched T P) (related 
       record {
         alike = record {
           mark = sym x.alike.mark;
-          out = sym x.alike.out;
+          events = sym x.alike.events;
           running = x.alike.other_running;
           other_running = x.alike.running;
           clean = other_never t;
@@ -48,6 +48,6 @@ visits_kept_from_matches kept first second related law other_law never other_nev
       (matches_back (only kept first) second related never other_never matches) t s r m (other_never (state second m t)) in (
         x.0,
         sym x.1.visits_are ∙ only_visits kept first x.0 s,
-        λ over. let z = x.1.alike over in record { end = sym z.end; out = sym z.out },
+        λ over. let z = x.1.alike over in record { end = sym z.end; events = sym z.events },
       );
 }

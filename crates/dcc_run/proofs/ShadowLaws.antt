@@ -5,13 +5,13 @@ use Rattle.std.proofs.lemmas.Bool.{cases_lt}
 use Rattle.std.proofs.lemmas.List.{append-nil}
 use Rattle.dcc_run.specs.End.{is_over}
 use Rattle.dcc_run.specs.Prefix.{IsPrefix}
-use Rattle.dcc_run.specs.System.{out_after}
+use Rattle.dcc_run.specs.System.{events_after}
 use Rattle.dcc_run.specs.Visits.{Visit, visit_at, visit_of, visits}
 use Rattle.dcc_run.specs.Watched.{Watched, IsWatchable, state, is_shown, IsQuiet, IsQuietUntil}
 use Rattle.dcc_run.specs.Shadows.{still_related, both_over, first_foul, AreMatched, Matches, ShowsAt, Shadows}
-use Rattle.dcc_run.proofs.GatherLaws.{visits-over}
+use Rattle.dcc_run.proofs.VisitLaws.{visits-over}
 use Rattle.dcc_run.proofs.PrefixLaws.{prefix_refl, prefix_trans}
-use Rattle.dcc_run.proofs.RunLaws.{after-add, out_grows, grows_by, over_stays}
+use Rattle.dcc_run.proofs.RunLaws.{after-add, events_grow, grows_by, over_stays}
 use Rattle.dcc_run.proofs.VisitLaws.{visits-add}
 
 -- one of two truth values
@@ -82,18 +82,18 @@ module _ {S T P : Type 0} (first : Watched S P) (second : Watched T P) (law : Is
   visit-same s t r =
       let a = (matches s t r).alike in
       ap₂ (λ b l. cond b [] l) (a.other_running ∙ sym a.running)
-      (ap (λ place. visit_at second.system t place) a.mark ∙ at (first.mark s) a.out)
+      (ap (λ place. visit_at second.system t place) a.mark ∙ at (first.mark s) a.events)
     where
-      at : (place : Option P) → second.system.out t ≡ first.system.out s → visit_at second.system t place ≡ visit_at first.system s place
+      at : (place : Option P) → second.system.events t ≡ first.system.events s → visit_at second.system t place ≡ visit_at first.system s place
       at None e = refl
-      at (Some place) e = ap (λ out. record { place = place; out = out } ∷ []) e
+      at (Some place) e = ap (λ events. record { place = place; events = events } ∷ []) e
 
-  -- at the ends of the stretches the second run has put out as much
-  out_at_ends : (s : S) (t : T) (x : AreMatched first second related s t) → IsPrefix (out_after first.system x.steps s) (out_after second.system x.other_steps t)
-  out_at_ends s t x =
+  -- at the ends of the stretches the second run's events begin with the first one's
+  events_at_ends : (s : S) (t : T) (x : AreMatched first second related s t) → IsPrefix (events_after first.system x.steps s) (events_after second.system x.other_steps t)
+  events_at_ends s t x =
       elim x.comes [
-        | still_related r ↦ subst (λ l. IsPrefix (out_after first.system x.steps s) l) (sym (matches _ _ r).alike.out) (prefix_refl _)
-        | both_over over end out ↦ subst (λ l. IsPrefix (out_after first.system x.steps s) l) (sym out) (prefix_refl _)
+        | still_related r ↦ subst (λ l. IsPrefix (events_after first.system x.steps s) l) (sym (matches _ _ r).alike.events) (prefix_refl _)
+        | both_over over end events ↦ subst (λ l. IsPrefix (events_after first.system x.steps s) l) (sym events) (prefix_refl _)
         | first_foul foul shown less ↦ less
       ]
 
@@ -120,9 +120,9 @@ module _ {S T P : Type 0} (first : Watched S P) (second : Watched T P) (law : Is
     ahead = λ k le shown.
         let positive : 0 < k = omega (arith, le) in
         let le' : n ≤ x.steps = omega (arith, lt) in
-        prefix_trans (out_grows first.system law.lawful n x.steps s le')
-        (prefix_trans (out_at_ends s t x)
-        (out_grows second.system other_law.lawful x.other_steps k t (at_end t x.other_steps k x.other_quiet positive shown)));
+        prefix_trans (events_grow first.system law.lawful n x.steps s le')
+        (prefix_trans (events_at_ends s t x)
+        (events_grow second.system other_law.lawful x.other_steps k t (at_end t x.other_steps k x.other_quiet positive shown)));
   }
 
   -- beyond a stretch: what is shown of the runs from its ends on
@@ -147,28 +147,28 @@ module _ {S T P : Type 0} (first : Watched S P) (second : Watched T P) (law : Is
             let z = y.alike (ap (λ u. is_over (first.system.end u)) (sym there) ∙ over) in
             record {
               end = ap second.system.end other_there ∙ z.end ∙ sym (ap first.system.end there);
-              out = ap second.system.out other_there ∙ z.out ∙ sym (ap first.system.out there);
+              events = ap second.system.events other_there ∙ z.events ∙ sym (ap first.system.events there);
             };
         ahead = λ k le shown.
             let up : m ≤ k - j = omega (arith, le) in
             let parts : k ≡ j + (k - j) = omega (arith, le) in
             let at = state-add second j (k - j) k t parts in
             let z = y.ahead (k - j) up (ap (λ u. is_shown second u) (sym at) ∙ shown) in
-            subst (λ l. IsPrefix l (out_after second.system k t)) (sym (ap first.system.out there))
-            (subst (λ l. IsPrefix (first.system.out (state first d (state first i s))) l) (sym (ap second.system.out at)) z);
+            subst (λ l. IsPrefix l (events_after second.system k t)) (sym (ap first.system.events there))
+            (subst (λ l. IsPrefix (first.system.events (state first d (state first i s))) l) (sym (ap second.system.events at)) z);
       }
 
   -- what is shown where both runs are over
-  over_shows : (s : S) (t : T) (d : ℕ) → is_over (first.system.end s) ≡ true → second.system.end t ≡ first.system.end s → second.system.out t ≡ first.system.out s →
+  over_shows : (s : S) (t : T) (d : ℕ) → is_over (first.system.end s) ≡ true → second.system.end t ≡ first.system.end s → second.system.events t ≡ first.system.events s →
       ShowsAt first s d second t 0
-  over_shows s t d over end out =
+  over_shows s t d over end events =
       let zero_first : 0 ≤ d = omega arith in
       let same = over_stays first.system law.lawful 0 d s zero_first over in
       record {
         visits_are = sym (visits-over first.system first.mark law.lawful d s over);
-        alike = λ _. record { end = end ∙ sym (ap first.system.end same); out = out ∙ sym (ap first.system.out same) };
+        alike = λ _. record { end = end ∙ sym (ap first.system.end same); events = events ∙ sym (ap first.system.events same) };
         ahead = λ k le shown.
-            subst (λ l. IsPrefix l (out_after second.system k t)) (out ∙ sym (ap first.system.out same))
+            subst (λ l. IsPrefix l (events_after second.system k t)) (events ∙ sym (ap first.system.events same))
             (grows_by second.system other_law.lawful k t);
       }
 
@@ -180,7 +180,7 @@ module _ {S T P : Type 0} (first : Watched S P) (second : Watched T P) (law : Is
         record {
           visits_are = refl;
           alike = λ over. absurd (true≢false (sym over ∙ a.running));
-          ahead = λ k low shown. subst (λ l. IsPrefix l (out_after second.system k t)) a.out (grows_by second.system other_law.lawful k t);
+          ahead = λ k low shown. subst (λ l. IsPrefix l (events_after second.system k t)) a.events (grows_by second.system other_law.lawful k t);
         },
       )
   shows zero (suc n) s t le r clean = absurd (omega (arith, le))
@@ -197,8 +197,8 @@ module _ {S T P : Type 0} (first : Watched S P) (second : Watched T P) (law : Is
               | still_related r' ↦
                   let y = shows fuel d (state first x.steps s) (state second x.other_steps t) less r' clean_then in
                   (x.other_steps + y.0, after_stretch s t r x (suc n) d y.0 e y.1)
-              | both_over over end out ↦
-                  (x.other_steps + 0, after_stretch s t r x (suc n) d 0 e (over_shows (state first x.steps s) (state second x.other_steps t) d over end out))
+              | both_over over end events ↦
+                  (x.other_steps + 0, after_stretch s t r x (suc n) d 0 e (over_shows (state first x.steps s) (state second x.other_steps t) d over end events))
               | first_foul foul shown less ↦
                   absurd (true≢false (sym foul ∙ clean_before first law x.steps (suc n) s ge clean))
             ]

@@ -2,7 +2,7 @@
 use Rattle.std.proofs.Common.{◌≡◌, ℕ, zero, suc, ◌+◌, Bool, true, false, cond, List, [], ◌∷◌, ◌++◌, Option, Some, None, refl, sym, ap, ap₂, ◌∙◌, append_assoc, true≢false, arith}
 use Rattle.std.specs.Prelude.{if◌then◌else◌}
 use Rattle.dcc_run.specs.End.{is_over}
-use Rattle.dcc_run.specs.System.{System, after}
+use Rattle.dcc_run.specs.System.{System, after, IsLawful}
 use Rattle.dcc_run.specs.Visits.{Visit, visit_at, visit_of, visits, visits_of, EndsAlike, VisitsKept}
 
 -- the visits of m + n steps are those of m steps and those of n more
@@ -49,15 +49,15 @@ all_kept kept system mark holds steps marked (suc n) s h =
         visits_of kept (if over then [] else visit_at system s place) ≡ (if over then [] else visit_at system s place)
     here true place m = refl
     here false None m = refl
-    here false (Some p) m = ap (λ b. cond b (record { place = p; out = system.out s } ∷ []) []) (m p refl)
+    here false (Some p) m = ap (λ b. cond b (record { place = p; events = system.events s } ∷ []) []) (m p refl)
 
 -- A run keeps its own visits, where all its marked places are kept.
 pub visits_kept_refl : {S P : Type 0} (kept : P → Bool) (system : System S) (mark : S → Option P) (holds : S → Type 0) →
     ((s : S) → holds s → holds (system.step s)) → ((s : S) → holds s → (place : P) → mark s ≡ Some place → kept place ≡ true) →
     (s : S) → holds s → VisitsKept kept system mark s system mark s
 visits_kept_refl kept system mark holds steps marked s h = record {
-  forth = λ n. (n, sym (all_kept kept system mark holds steps marked n s h), λ over. record { end = refl; out = refl });
-  back = λ n. (n, sym (all_kept kept system mark holds steps marked n s h), λ over. record { end = refl; out = refl });
+  forth = λ n. (n, sym (all_kept kept system mark holds steps marked n s h), λ over. record { end = refl; events = refl });
+  back = λ n. (n, sym (all_kept kept system mark holds steps marked n s h), λ over. record { end = refl; events = refl });
 }
 
 -- What a third run keeps of a second one's visits it keeps of those of the first, where it keeps no other places.
@@ -74,7 +74,7 @@ visits_kept_trans kept fewer less first mark s second second_mark t third third_
         λ over.
             let e = x.2 over in
             let e' = y.2 (ap is_over e.end ∙ over) in
-            record { end = e'.end ∙ e.end; out = e'.out ∙ e.out },
+            record { end = e'.end ∙ e.end; events = e'.events ∙ e.events },
       );
   back = λ k.
       let y = b.back k in
@@ -84,7 +84,7 @@ visits_kept_trans kept fewer less first mark s second second_mark t third third_
         λ over.
             let e' = y.2 over in
             let e = x.2 (sym (ap is_over e'.end) ∙ over) in
-            record { end = e'.end ∙ e.end; out = e'.out ∙ e.out },
+            record { end = e'.end ∙ e.end; events = e'.events ∙ e.events },
       );
 }
 
@@ -93,7 +93,7 @@ pub record StepsTogether {S T P : Type 0} (kept : P → Bool) (first : System S)
   pub steps : (s : S) (t : T) → related s t → related (first.step s) (second.step t)
   pub visit : (s : S) (t : T) → related s t → visit_of second other_mark t ≡ visits_of kept (visit_of first mark s)
   pub end : (s : S) (t : T) → related s t → second.end t ≡ first.end s
-  pub out : (s : S) (t : T) → related s t → second.out t ≡ first.out s
+  pub events : (s : S) (t : T) → related s t → second.events t ≡ first.events s
 
 module _ {S T P : Type 0} (kept : P → Bool) (first : System S) (mark : S → Option P) (second : System T) (other_mark : T → Option P) (related : S → T → Type 0)
     (together : StepsTogether kept first mark second other_mark related) where
@@ -110,7 +110,7 @@ module _ {S T P : Type 0} (kept : P → Bool) (first : System S) (mark : S → O
   alike : (n : ℕ) (s : S) (t : T) → related s t → EndsAlike first s n second t n
   alike n s t r =
       let r' = related_after n s t r in
-      record { end = together.end _ _ r'; out = together.out _ _ r' }
+      record { end = together.end _ _ r'; events = together.events _ _ r' }
 
   -- Where related states step to related ones, the second run visits what is kept of the first one's visits.
   pub visits_kept_from_steps : (s : S) (t : T) → related s t → VisitsKept kept first mark s second other_mark t
@@ -118,3 +118,11 @@ module _ {S T P : Type 0} (kept : P → Bool) (first : System S) (mark : S → O
     forth = λ n. (n, visits_together n s t r, λ over. alike n s t r);
     back = λ n. (n, visits_together n s t r, λ over. alike n s t r);
   }
+
+module _ {S P : Type 0} (system : System S) (mark : S → Option P) (law : IsLawful system) where
+  -- a run that is over visits nothing
+  pub visits-over : (n : ℕ) (s : S) → is_over (system.end s) ≡ true → visits system mark n s ≡ []
+  visits-over zero s over = refl
+  visits-over (suc n) s over =
+      ap₂ (λ b vs. cond b [] (visit_at system s (mark s)) ++ vs) over
+      (ap (λ t. visits system mark n t) (law.stays s over) ∙ visits-over n s over)

@@ -1,8 +1,9 @@
 pub mod End
+pub mod Event
+pub mod Place
 pub mod Prefix
 pub mod System
-pub mod Follows
 pub mod Visits
-pub mod Gathers
+pub mod Agreement
 pub mod Watched
 pub mod Shadows

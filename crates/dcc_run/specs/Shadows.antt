@@ -1,32 +1,32 @@
--- One run shadows another: it comes to the same marked places with the same output, and ends alike, as long as nothing
+-- One run shadows another: it comes to the same marked places with the same events, and ends alike, as long as nothing
 -- foul has happened.
 use Rattle.std.specs.Prelude.{◌≡◌, ℕ, ◌+◌, ◌*◌, ◌<◌, ◌≤◌, Bool, true, false, length, if◌then◌else◌, Option, Some, None}
 use Rattle.dcc_run.specs.End.{is_over}
 use Rattle.dcc_run.specs.Prefix.{IsPrefix}
-use Rattle.dcc_run.specs.System.{end_after, out_after}
+use Rattle.dcc_run.specs.System.{end_after, events_after}
 use Rattle.dcc_run.specs.Visits.{visits, visits_of, EndsAlike}
 use Rattle.dcc_run.specs.Watched.{Watched, state, is_shown, IsQuietUntil}
 
--- Two states from which the runs are seen alike: neither is over or foul, they have one mark and the same output.
+-- Two states from which the runs are seen alike: neither is over or foul, they have one mark and the same events.
 pub record AreAlike {S T P : Type 0} (first : Watched S P) (second : Watched T P) (s : S) (t : T) : Type 0 where
   pub mark : second.mark t ≡ first.mark s
-  pub out : second.system.out t ≡ first.system.out s
+  pub events : second.system.events t ≡ first.system.events s
   pub running : is_over (first.system.end s) ≡ false
   pub other_running : is_over (second.system.end t) ≡ false
   pub clean : first.foul s ≡ false
 
--- How two stretches of runs may end: in states that are related again; both over, with the same end and output; or the
--- first one foul, where the second comes to something that is seen and has put out as much.
+-- How two stretches of runs may end: in states that are related again; both over, with the same end and events; or the
+-- first one foul, where the second comes to something that is seen and whose events begin with its.
 pub data ComesTo {S T P : Type 0} (first : Watched S P) (second : Watched T P) (related : S → T → Type 0) (s : S)
     (t : T) : Type 0 where
   still_related : related s t → ComesTo first second related s t
   both_over : is_over (first.system.end s) ≡ true
       → second.system.end t ≡ first.system.end s
-      → second.system.out t ≡ first.system.out s
+      → second.system.events t ≡ first.system.events s
       → ComesTo first second related s t
   first_foul : first.foul s ≡ true
       → is_shown second t ≡ true
-      → IsPrefix (first.system.out s) (second.system.out t)
+      → IsPrefix (first.system.events s) (second.system.events t)
       → ComesTo first second related s t
 
 -- From two states that are seen alike the runs go on, each at least one step and through quiet states, to where they
@@ -47,13 +47,13 @@ abbrev pub Matches : {S T P : Type 0} → Watched S P → Watched T P → (S →
 Matches first second related = (s : _) (t : _) → related s t → AreMatched first second related s t
 
 -- The second run, within m steps, has shown what the first one has within n: the same visits; where the first is over,
--- the second is over alike; and wherever the second is seen from then on, it has put out at least as much.
+-- the second is over alike; and wherever the second is seen from then on, its events begin with the first one's.
 pub record ShowsAt {S T P : Type 0} (first : Watched S P) (s : S) (n : ℕ) (second : Watched T P) (t : T)
     (m : ℕ) : Type 0 where
   pub visits_are : visits second.system second.mark m t ≡ visits first.system first.mark n s
   pub alike : is_over (end_after first.system n s) ≡ true → EndsAlike first.system s n second.system t m
   pub ahead : (k : ℕ) → m ≤ k → is_shown second (state second k t) ≡ true
-      → IsPrefix (out_after first.system n s) (out_after second.system k t)
+      → IsPrefix (events_after first.system n s) (events_after second.system k t)
 
 -- The second run shadows the first: so it is for each number of steps after which the first isn't foul.
 abbrev pub Shadows : {S T P : Type 0} → Watched S P → S → Watched T P → T → Type 0

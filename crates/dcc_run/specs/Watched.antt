@@ -4,13 +4,13 @@ use Rattle.dcc_run.specs.End.{is_over}
 use Rattle.dcc_run.specs.System.{System, IsLawful, after}
 
 -- A system whose marked places are told: a state's mark is the place that it is about to execute, where this is marked.
--- A foul state is one where the run has stopped because its next step is none of which anything is claimed.
+-- A foul state is one where the run was stopped at a step of which nothing is claimed.
 pub record Watched (S P : Type 0) : Type 0 where
   pub system : System S
   pub mark : S → Option P
   pub foul : S → Bool
 
--- a run that has ended or is foul stays, output only grows, and a foul state has no mark
+-- a run that has ended or is foul stays, events only join, and a foul state has no mark
 pub record IsWatchable {S P : Type 0} (w : Watched S P) : Type 0 where
   pub lawful : IsLawful w.system
   pub stays : (s : S) → w.foul s ≡ true → w.system.step s ≡ s
