@@ -2,6 +2,7 @@
 use Rattle.std.proofs.Common.{◌≡◌, ℕ, List, [], ◌∷◌, ◌++◌, Some, None, refl}
 use Rattle.std.specs.Prelude.{codes, replicate}
 use Rattle.dcc_run.specs.End.{Running, Exit, Stuck}
+use Rattle.dcc_run.specs.Event.{Wrote, Took, MetEnd, writes}
 use Rattle.dcc_run.specs.System.{after}
 use Rattle.dcc_c.specs.declared.syntax.Base.TheVariants.{Schar, Uchar, Int, Uint, Long, Ulong}
 use Rattle.dcc_c.specs.declared.syntax.CUn.TheVariants.{Minus, Deref, AddressOf}
@@ -85,7 +86,7 @@ begins start input = record {
   fill = 0;
   memory = replicate 64 0;
   input = input;
-  out = [];
+  events = [];
   end = Running;
 }
 
@@ -103,8 +104,8 @@ loop-before = refl
 loop-ends : (after (step (text_of loop [])) 12 (begins loop [])).end ≡ Exit 0
 loop-ends = refl
 
-loop-out : (after (step (text_of loop [])) 12 (begins loop [])).out ≡ codes "CBA"
-loop-out = refl
+loop-events : (after (step (text_of loop [])) 12 (begins loop [])).events ≡ writes (codes "CBA")
+loop-events = refl
 
 -- f(p) { *&p = p * 5U; return p; }, where p is placed
 abbrev five : Function
@@ -123,8 +124,8 @@ calls = start_of (single (codes "v") ∷ [])
     (Call (Some (Name (codes "v"))) (codes "f") (int 13 ∷ []) 8
     ∷ Call None (codes "dos_putc") (Name (codes "v") ∷ []) 2 ∷ [])
 
-call-out : (after (step (text_of calls (five ∷ []))) 4 (begins calls [])).out ≡ codes "A"
-call-out = refl
+call-events : (after (step (text_of calls (five ∷ []))) 4 (begins calls [])).events ≡ writes (codes "A")
+call-events = refl
 
 -- the argument stands at the callee's base, 8 below the caller's
 call-memory : (after (step (text_of calls (five ∷ []))) 2 (begins calls [])).memory
@@ -147,8 +148,10 @@ keys = start_of (single (codes "v") ∷ [])
 keys-end : (after (step (text_of keys [])) 9 (begins keys (66 ∷ []))).end ≡ Exit 7
 keys-end = refl
 
-keys-out : (after (step (text_of keys [])) 9 (begins keys (66 ∷ []))).out ≡ codes "B1"
-keys-out = refl
+-- a key is taken, then echoed; the answer to it is written; and the second key meets the end of the input
+keys-events : (after (step (text_of keys [])) 9 (begins keys (66 ∷ []))).events
+    ≡ Took 66 ∷ Wrote 66 ∷ Wrote 49 ∷ MetEnd ∷ []
+keys-events = refl
 
 -- for (;;) { for (;;) { break; } while (1) { v = v + 1U; if (v < 3) { continue; } break; } dos_exit(v); }
 abbrev nested : Function

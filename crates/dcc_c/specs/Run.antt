@@ -2,6 +2,7 @@
 use Rattle.std.specs.Prelude.{ℕ, ◌+◌, ◌%◌, Bool, true, false, ◌&&◌, ◌||◌, nat_le, nat_lt, ◌==◌, if◌then◌else◌, List, [], ◌∷◌, ◌++◌, map, codes, Option, Some, None, is_some}
 use Rattle.std.specs.List.{range_with_len, list_any}
 use Rattle.dcc_run.specs.End.{End, Running, Exit, Divide, Stuck, is_over}
+use Rattle.dcc_run.specs.Event.{Event, Took, MetEnd, writes}
 use Rattle.dcc_run.specs.System.{System}
 use Rattle.dcc_c.specs.declared.syntax.Base.TheVariants.{Uchar, Int, Uint}
 use Rattle.dcc_c.specs.declared.syntax.CType.{CType}
@@ -48,9 +49,9 @@ pub record State : Type 0 where
   pub fill : ℕ
   -- 65,536 bytes
   pub memory : List ℕ
-  -- the input bytes that are not yet read, and the output so far
+  -- the input bytes that are not yet read, and what has happened at the console, the oldest first
   pub input : List ℕ
-  pub out : List ℕ
+  pub events : List Event
   pub end : End
 
 abbrev pub with_end : End → State → State
@@ -238,17 +239,23 @@ give_step (Some type) v at s =
     if is_start s.frame.function then with_end (Stuck at) s
     else on v at s (λ v. back_step s.waiting (Some (converted type v)) at s)
 
--- the target takes the next of these input bytes, which is put out too where it is echoed; where there is none, 1Ah
+-- these events happen at the console
+abbrev pub with_events : List Event → State → State
+with_events events s = record s { events = s.events ++ events }
+
+-- The target takes the next of these input bytes, which is written after that where it is echoed. Where there is none,
+-- the run meets the end of the input, and the target takes 1Ah.
 abbrev pub key_step : Bool → List ℕ → Option Target → ℕ → State → State
-key_step echo [] target at s = result_step target (Some (number Uchar 0x1A)) at s
+key_step echo [] target at s =
+    result_step target (Some (number Uchar 0x1A)) at (with_events (MetEnd ∷ []) s)
 key_step echo (byte ∷ rest) target at s =
     result_step target (Some (number Uchar byte)) at
-    (record s { input = rest; out = s.out ++ (if echo then byte ∷ [] else []) })
+    (with_events (Took byte ∷ writes (if echo then byte ∷ [] else [])) (record s { input = rest }))
 
 -- a DOS call, whole
 abbrev pub dos_step : Dos → Option Target → List Value → ℕ → State → State
-dos_step Putc None (v ∷ []) at s = record s { out = s.out ++ v.bits ∷ [] }
-dos_step Puts None (v ∷ []) at s = record s { out = s.out ++ string_at s.memory v.bits }
+dos_step Putc None (v ∷ []) at s = with_events (writes (v.bits ∷ [])) s
+dos_step Puts None (v ∷ []) at s = with_events (writes (string_at s.memory v.bits)) s
 dos_step Leave None (v ∷ []) at s = with_end (Exit v.bits) s
 dos_step Getche target [] at s = key_step true s.input target at s
 dos_step Getch target [] at s = key_step false s.input target at s
@@ -365,10 +372,10 @@ first_state tree start fill input = record {
   fill = fill;
   memory = first_memory tree fill;
   input = input;
-  out = [];
+  events = [];
   end = Running;
 }
 
 -- the runs of a text
 abbrev pub text_system : Tree → System State
-text_system tree = record { step = step tree; out = λ s. s.out; end = λ s. s.end }
+text_system tree = record { step = step tree; events = λ s. s.events; end = λ s. s.end }

@@ -1,6 +1,6 @@
 -- Functions of the grammar are read.
-use Rattle.std.proofs.Common.{◌≡◌, ℕ, suc, ◌≤◌, ◌<◌, length, List, [], ◌∷◌, map, true, false, Bool, Option, Some, None, refl, ap, ap₂, ◌∙◌, arith, subst, inl, inr, ◌⊎◌}
-use Rattle.std.specs.Prelude.{codes, not, ◌||◌, if◌then◌else◌}
+use Rattle.std.proofs.Common.{◌≡◌, ℕ, suc, ◌≤◌, ◌<◌, length, List, ◌∷◌, map, true, false, Bool, Option, Some, None, refl, ap, ap₂, ◌∙◌, arith, subst, inl, inr, ◌⊎◌}
+use Rattle.std.specs.Prelude.{codes, ◌||◌}
 use Rattle.std.proofs.lemmas.Bool.{or_from}
 use Rattle.dcc_c.specs.declared.syntax.CType.{CType}
 use Rattle.dcc_c.specs.Token.{Token, WordToken}
@@ -8,8 +8,8 @@ use Rattle.dcc_c.specs.Lexing.{Placed}
 use Rattle.dcc_c.specs.Tree.{Word, Variable, Lines, Function}
 use Rattle.dcc_c.specs.Grammar.{mark, word, is_name, type_tokens, Begins, HasResult, no_result, result, IsFunction, outermost, AreLines}
 use Rattle.dcc_c.specs.Rules.{most_open}
-use Rattle.dcc_c.specs.Partial.{no_rows, PartialVariable, PartialFunction}
-use Rattle.dcc_c.specs.Reading.{Reader, Got, got, is_stopped, line_of, is_the_word, sees_word, take_mark, take_name, begins_type}
+use Rattle.dcc_c.specs.Partial.{PartialVariable, PartialFunction}
+use Rattle.dcc_c.specs.Reading.{Got, got, line_of, is_the_word, take_mark, take_name, begins_type}
 use Rattle.dcc_c.specs.ReadingStatements.{begins_stmt, Block, block_of, read_lines}
 use Rattle.dcc_c.specs.ReadingText.{head_with, Begun, begun_by, read_begun, read_body, read_function}
 use Rattle.dcc_c.specs.Stripped.{plain_variable, plain_lines, plain_function}
