@@ -1,15 +1,16 @@
 -- States in which a run is stuck only at the end of a function: what is left to be executed, the variables and the
 -- calls that wait are those of functions of the text.
-use Rattle.std.proofs.Common.{◌≡◌, ℕ, Bool, true, false, ◌||◌, List, [], ◌∷◌, ◌++◌, Option, Some, None, refl, sym, ◌∙◌, subst}
+use Rattle.std.proofs.Common.{◌≡◌, ℕ, Bool, true, false, ◌||◌, List, [], ◌∷◌, Option, Some, None, refl, sym, ◌∙◌, subst}
 use Rattle.std.specs.Prelude.{is_some, if◌then◌else◌}
 use Rattle.dcc_run.specs.End.{Running, Exit, Divide, Stuck}
+use Rattle.dcc_run.specs.Event.{Took, MetEnd, writes}
 use Rattle.dcc_c.specs.declared.syntax.Base.TheVariants.{Uchar}
 use Rattle.dcc_c.specs.declared.syntax.CType.{CType}
 use Rattle.dcc_c.specs.Tree.{Function, Tree}
 use Rattle.dcc_c.specs.Dos.{Dos, Putc, Getche, Getch, Puts, Leave, dos_signature}
 use Rattle.dcc_c.specs.Value.{Value, number, Outcome, Gives, Divides, Undefined, converted, Target, ToVariable, ToMemory}
 use Rattle.dcc_c.specs.Placement.{below}
-use Rattle.dcc_c.specs.Run.{Continuation, Waiting, State, with_end, goes_on, on, takes, result_step, back_step, is_start, close_step, return_step, give_step, key_step, dos_step, enter_step}
+use Rattle.dcc_c.specs.Run.{Continuation, Waiting, State, with_end, goes_on, on, takes, result_step, back_step, is_start, close_step, return_step, give_step, with_events, key_step, dos_step, enter_step}
 use Rattle.dcc_laws.proofs.Declarations.{AreAs}
 use Rattle.dcc_laws.proofs.Known.{IsKnown}
 use Rattle.dcc_laws.proofs.Rests.{IsRest}
@@ -95,9 +96,10 @@ module _ (tree : Tree) (ways : ℕ → Type 0) where
 
   key-step : (echo : Bool) (bytes : List ℕ) (target : Option Target) (at : ℕ) (s : State) → s.end ≡ Running → IsSound tree s → IfLands s.frame.variables target → IsStep tree ways (key_step echo bytes target at s)
   key-step echo [] target at s runs_on is lands =
-      result-step target (Some (number Uchar 0x1A)) at s runs_on is lands (λ some. refl)
+      result-step target (Some (number Uchar 0x1A)) at (with_events (MetEnd ∷ []) s) runs_on (record { frame = is.frame; rest = is.rest; calls = is.calls }) lands (λ some. refl)
   key-step echo (byte ∷ rest) target at s runs_on is lands =
-      result-step target (Some (number Uchar byte)) at (record s { input = rest; out = s.out ++ (if echo then byte ∷ [] else []) }) runs_on (record { frame = is.frame; rest = is.rest; calls = is.calls }) lands (λ some. refl)
+      let events = Took byte ∷ writes (if echo then byte ∷ [] else []) in
+      result-step target (Some (number Uchar byte)) at (with_events events (record s { input = rest })) runs_on (record { frame = is.frame; rest = is.rest; calls = is.calls }) lands (λ some. refl)
 
   pub dos-step : (dos : Dos) (target : Option Target) (arguments : List Value) (at : ℕ) (s : State) → s.end ≡ Running → IsSound tree s → IfLands s.frame.variables target → (is_some target ≡ true → is_some (dos_signature dos).result ≡ true) → SameLength (dos_signature dos).params arguments →
       IsStep tree ways (dos_step dos target arguments at s)
