@@ -9,7 +9,7 @@ use Rattle.dcc_run.specs.End.{is_over}
 use Rattle.dcc_run.specs.Event.{Event}
 use Rattle.dcc_run.specs.Prefix.{IsPrefix}
 use Rattle.dcc_run.specs.System.{events_after, end_after}
-use Rattle.dcc_run.specs.Visits.{Visit, visit_at, visit_of, visits, EndsAlike}
+use Rattle.dcc_run.specs.Visits.{Visit, visit_at, visit_of, visits}
 use Rattle.dcc_run.specs.Agreement.{KeepsUp}
 use Rattle.dcc_run.specs.Watched.{Watched, IsWatchable, state, is_shown}
 use Rattle.dcc_run.specs.Shadows.{ShowsAt, Shadows, IsMarked, is_marked, has_ended, is_foul, KeepsPace}
@@ -102,7 +102,7 @@ module _ {S P : Type 0} (w : Watched S P) where
         | at_foul f ↦ (x.0, le, at_foul f)
         | at_mark m many ↦
             let y = pace.next x.0 m in
-            let le' : y.0 ≤ begin + suc k * within = omega (arith, x.1, y.2, product) in
+            let le' : y.0 ≤ begin + suc k * within = elim y.2 [ inl early ↦ omega (arith, early) | inr near ↦ omega (arith, x.1, near, product) ] in
             elim y.3 [
               | has_ended o ↦ (y.0, le', at_end o)
               | is_foul f ↦ (y.0, le', at_foul f)

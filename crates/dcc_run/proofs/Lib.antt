@@ -7,3 +7,4 @@ pub mod AgreementLaws
 pub mod KeptLaws
 pub mod CountLaws
 pub mod MatchLaws
+pub mod PaceLaws

@@ -8,7 +8,7 @@ use Rattle.dcc_run.specs.Prefix.{IsPrefix}
 use Rattle.dcc_run.specs.System.{events_after}
 use Rattle.dcc_run.specs.Visits.{Visit, visit_at, visit_of, visits}
 use Rattle.dcc_run.specs.Watched.{Watched, IsWatchable, state, is_shown, IsQuiet, IsQuietUntil}
-use Rattle.dcc_run.specs.Shadows.{still_related, both_over, first_foul, AreMatched, Matches, ShowsAt, Shadows}
+use Rattle.dcc_run.specs.Shadows.{AreAlike, still_related, both_over, first_foul, AreMatched, Matches, ShowsAt, Shadows}
 use Rattle.dcc_run.proofs.VisitLaws.{visits-over}
 use Rattle.dcc_run.proofs.PrefixLaws.{prefix_refl, prefix_trans}
 use Rattle.dcc_run.proofs.RunLaws.{after-add, events_grow, grows_by, over_stays}
@@ -78,9 +78,8 @@ module _ {S P : Type 0} (w : Watched S P) (law : IsWatchable w) where
 module _ {S T P : Type 0} (first : Watched S P) (second : Watched T P) (law : IsWatchable first) (other_law : IsWatchable second) (related : S → T → Type 0)
     (matches : Matches first second related) where
   -- the second run's visit is the first one's
-  visit-same : (s : S) (t : T) → related s t → visit_of second.system second.mark t ≡ visit_of first.system first.mark s
-  visit-same s t r =
-      let a = (matches s t r).alike in
+  visit-same : (s : S) (t : T) → AreAlike first second s t → visit_of second.system second.mark t ≡ visit_of first.system first.mark s
+  visit-same s t a =
       ap₂ (λ b l. cond b [] l) (a.other_running ∙ sym a.running)
       (ap (λ place. visit_at second.system t place) a.mark ∙ at (first.mark s) a.events)
     where
@@ -106,15 +105,15 @@ module _ {S T P : Type 0} (first : Watched S P) (second : Watched T P) (law : Is
       ]
 
   -- within a stretch of the first run one step of the second shows what it shows
-  within_stretch : (s : S) (t : T) → related s t → (x : AreMatched first second related s t) → (n : ℕ) → 0 < n → n < x.steps →
+  within_stretch : (s : S) (t : T) (x : AreMatched first second related s t) → (n : ℕ) → 0 < n → n < x.steps →
       ShowsAt first s n second t 1
-  within_stretch s t r x n some lt = record {
+  within_stretch s t x n some lt = record {
     visits_are =
         let one : 0 < 1 = omega arith in
         let le : n ≤ x.steps = omega (arith, lt) in
         let other : 1 ≤ x.other_steps = omega (arith, x.others) in
         stretch_visits second x.other_steps 1 t x.other_quiet one other
-        ∙ visit-same s t r
+        ∙ visit-same s t x.alike
         ∙ sym (stretch_visits first x.steps n s x.quiet some le);
     alike = λ over. absurd (true≢false (sym over ∙ (x.quiet n some lt).running));
     ahead = λ k le shown.
@@ -126,9 +125,9 @@ module _ {S T P : Type 0} (first : Watched S P) (second : Watched T P) (law : Is
   }
 
   -- beyond a stretch: what is shown of the runs from its ends on
-  after_stretch : (s : S) (t : T) → related s t → (x : AreMatched first second related s t) → (n d m : ℕ) → n ≡ x.steps + d →
+  after_stretch : (s : S) (t : T) (x : AreMatched first second related s t) → (n d m : ℕ) → n ≡ x.steps + d →
       ShowsAt first (state first x.steps s) d second (state second x.other_steps t) m → ShowsAt first s n second t (x.other_steps + m)
-  after_stretch s t r x n d m e y =
+  after_stretch s t x n d m e y =
       let i = x.steps in
       let j = x.other_steps in
       let low : i ≤ i = omega arith in
@@ -140,7 +139,7 @@ module _ {S T P : Type 0} (first : Watched S P) (second : Watched T P) (law : Is
         visits_are =
             visits-add second.system second.mark j m t
             ∙ ap₂ (λ a b. a ++ b)
-            (stretch_visits second j j t x.other_quiet x.others other_low ∙ visit-same s t r ∙ sym (stretch_visits first i i s x.quiet x.some low))
+            (stretch_visits second j j t x.other_quiet x.others other_low ∙ visit-same s t x.alike ∙ sym (stretch_visits first i i s x.quiet x.some low))
             y.visits_are
             ∙ sym (ap (λ k. visits first.system first.mark k s) e ∙ visits-add first.system first.mark i d s);
         alike = λ over.
@@ -172,10 +171,10 @@ module _ {S T P : Type 0} (first : Watched S P) (second : Watched T P) (law : Is
             (grows_by second.system other_law.lawful k t);
       }
 
-  -- from related states, for each number of steps at most as many as the fuel
-  shows : (fuel n : ℕ) (s : S) (t : T) → n ≤ fuel → related s t → first.foul (state first n s) ≡ false → (m : ℕ) × ShowsAt first s n second t m
-  shows fuel zero s t le r clean =
-      let a = (matches s t r).alike in (
+  -- from states that are matched, for each number of steps at most as many as the fuel
+  shows : (fuel n : ℕ) (s : S) (t : T) → n ≤ fuel → AreMatched first second related s t → first.foul (state first n s) ≡ false → (m : ℕ) × ShowsAt first s n second t m
+  shows fuel zero s t le x clean =
+      let a = x.alike in (
         0,
         record {
           visits_are = refl;
@@ -183,27 +182,29 @@ module _ {S T P : Type 0} (first : Watched S P) (second : Watched T P) (law : Is
           ahead = λ k low shown. subst (λ l. IsPrefix l (events_after second.system k t)) a.events (grows_by second.system other_law.lawful k t);
         },
       )
-  shows zero (suc n) s t le r clean = absurd (omega (arith, le))
-  shows (suc fuel) (suc n) s t le r clean =
-      let x = matches s t r in
+  shows zero (suc n) s t le x clean = absurd (omega (arith, le))
+  shows (suc fuel) (suc n) s t le x clean =
       elim (cases_lt (suc n) x.steps) [
-        | inl lt ↦ let some : 0 < suc n = omega arith in (1, within_stretch s t r x (suc n) some lt)
+        | inl lt ↦ let some : 0 < suc n = omega arith in (1, within_stretch s t x (suc n) some lt)
         | inr ge ↦
             let d : ℕ = suc n - x.steps in
             let e : suc n ≡ x.steps + d = omega (arith, ge) in
             let less : d ≤ fuel = omega (arith, x.some, ge, le) in
             let clean_then = ap first.foul (sym (state-add first x.steps d (suc n) s e)) ∙ clean in
             elim x.comes [
-              | still_related r' ↦
-                  let y = shows fuel d (state first x.steps s) (state second x.other_steps t) less r' clean_then in
-                  (x.other_steps + y.0, after_stretch s t r x (suc n) d y.0 e y.1)
+              | still_related r ↦
+                  let y = shows fuel d (state first x.steps s) (state second x.other_steps t) less (matches _ _ r) clean_then in
+                  (x.other_steps + y.0, after_stretch s t x (suc n) d y.0 e y.1)
               | both_over over end events ↦
-                  (x.other_steps + 0, after_stretch s t r x (suc n) d 0 e (over_shows (state first x.steps s) (state second x.other_steps t) d over end events))
+                  (x.other_steps + 0, after_stretch s t x (suc n) d 0 e (over_shows (state first x.steps s) (state second x.other_steps t) d over end events))
               | first_foul foul shown less ↦
                   absurd (true≢false (sym foul ∙ clean_before first law x.steps (suc n) s ge clean))
             ]
       ]
 
-  -- Where stretches match, the second run shadows the first.
+  -- From states that are matched the second run shadows the first; so it does from related ones.
+  pub shadows_from_matched : (s : S) (t : T) → AreMatched first second related s t → Shadows first s second t
+  shadows_from_matched s t x n clean = let le : n ≤ n = omega arith in shows n n s t le x clean
+
   pub shadows_from_matches : (s : S) (t : T) → related s t → Shadows first s second t
-  shadows_from_matches s t r n clean = let le : n ≤ n = omega arith in shows n n s t le r clean
+  shadows_from_matches s t r = shadows_from_matched s t (matches s t r)

@@ -1,6 +1,6 @@
 -- One run shadows another: it comes to the same marked places with the same events, and ends alike, as long as nothing
 -- foul has happened.
-use Rattle.std.specs.Prelude.{◌≡◌, ℕ, ◌+◌, ◌*◌, ◌<◌, ◌≤◌, Bool, true, false, length, if◌then◌else◌, Option, Some, None}
+use Rattle.std.specs.Prelude.{◌≡◌, ℕ, ◌+◌, ◌*◌, ◌<◌, ◌≤◌, ◌⊎◌, Bool, true, false, length, if◌then◌else◌, Option, Some, None}
 use Rattle.dcc_run.specs.End.{is_over}
 use Rattle.dcc_run.specs.Prefix.{IsPrefix}
 use Rattle.dcc_run.specs.System.{end_after, events_after}
@@ -72,11 +72,12 @@ pub data IsSeen {S P : Type 0} (w : Watched S P) (s : S) : Type 0 where
   has_ended : is_over (w.system.end s) ≡ true → IsSeen w s
   is_foul : w.foul s ≡ true → IsSeen w s
 
--- The run keeps pace: within the first so many steps it is seen, and so it is again within so many steps after each
--- marked place.
+-- The run keeps pace: within the first so many steps it is seen, and so it is again after each marked place, within so
+-- many steps or still within the first ones.
 pub record KeepsPace {S P : Type 0} (w : Watched S P) (s : S) (begin within : ℕ) : Type 0 where
   pub first : (i : ℕ) × (i ≤ begin) × IsSeen w (state w i s)
-  pub next : (i : ℕ) → IsMarked w (state w i s) → (j : ℕ) × (i < j) × (j ≤ i + within) × IsSeen w (state w j s)
+  pub next : (i : ℕ) → IsMarked w (state w i s) →
+      (j : ℕ) × (i < j) × ((j ≤ begin) ⊎ (j ≤ i + within)) × IsSeen w (state w j s)
 
 -- the marks of the kept places alone
 abbrev pub kept_mark : {P : Type 0} → (P → Bool) → Option P → Option P
