@@ -1,5 +1,6 @@
 -- Every operation but a DOS call leaves the console as it is, whatever stands on it.
 use Rattle.std.proofs.Common.{◌≡◌, ◌≢◌, ℕ, ◌+◌, ◌%◌, Bool, List, Option, Some, None, refl, ap, ◌∙◌}
+use Rattle.dcc_run.specs.Event.{Event}
 use Rattle.dcc_num.specs.declared.Width.{Width}
 use Rattle.dcc_num.specs.declared.Width.TheVariants.{Byte as byte_width, Word as word_width}
 use Rattle.dcc_num.specs.declared.Reg.{Reg}
@@ -23,149 +24,149 @@ use Rattle.dcc_prog.specs.Operations.{with_flags, with_result, alu_step, accumul
 use Rattle.dcc_prog.specs.Step.{op_step}
 
 -- a state with another console
-abbrev pub with_console_of : List ℕ → List ℕ → State → State
-with_console_of input out s = record s { input = input; out = out }
+abbrev pub with_console_of : List ℕ → List Event → State → State
+with_console_of input events s = record s { input = input; events = events }
 
 -- it does the same to the rest of the state beside any console, and leaves that
 abbrev pub KeepsConsole : (State → State) → Type 0
-KeepsConsole f = (input out : List ℕ) (s : State) → f (with_console_of input out s) ≡ with_console_of input out (f s)
+KeepsConsole f = (input : List ℕ) (events : List Event) (s : State) → f (with_console_of input events s) ≡ with_console_of input events (f s)
 
-part-keeps : (input out : List ℕ) (s : State) (part : Option Reg) → part_of (with_console_of input out s) part ≡ part_of s part
-part-keeps input out s None = refl
-part-keeps input out s (Some r) = refl
+part-keeps : (input : List ℕ) (events : List Event) (s : State) (part : Option Reg) → part_of (with_console_of input events s) part ≡ part_of s part
+part-keeps input events s None = refl
+part-keeps input events s (Some r) = refl
 
-offset-keeps : (input out : List ℕ) (s : State) (ea : Ea) → offset_of (with_console_of input out s) ea ≡ offset_of s ea
-offset-keeps input out s ea =
-    ap (λ n. (n + part_of (with_console_of input out s) ea.index + ea.disp) % 65536) (part-keeps input out s ea.base)
-    ∙ ap (λ n. (part_of s ea.base + n + ea.disp) % 65536) (part-keeps input out s ea.index)
+offset-keeps : (input : List ℕ) (events : List Event) (s : State) (ea : Ea) → offset_of (with_console_of input events s) ea ≡ offset_of s ea
+offset-keeps input events s ea =
+    ap (λ n. (n + part_of (with_console_of input events s) ea.index + ea.disp) % 65536) (part-keeps input events s ea.base)
+    ∙ ap (λ n. (part_of s ea.base + n + ea.disp) % 65536) (part-keeps input events s ea.index)
 
 -- what an operand holds
-pub value-keeps : (input out : List ℕ) (s : State) (x : Operand) → operand_value (with_console_of input out s) x ≡ operand_value s x
-value-keeps input out s (Word r) = refl
-value-keeps input out s (Byte r half) = refl
-value-keeps input out s (Seg number) = refl
-value-keeps input out s (Mem byte_width ea) = ap (λ n. byte_in s (segment_of s ea) n) (offset-keeps input out s ea)
-value-keeps input out s (Mem word_width ea) =
-    ap (λ n. word_at_offset s (segment_of s ea) n) (offset-keeps input out s ea)
-value-keeps input out s (Const width c) = refl
+pub value-keeps : (input : List ℕ) (events : List Event) (s : State) (x : Operand) → operand_value (with_console_of input events s) x ≡ operand_value s x
+value-keeps input events s (Word r) = refl
+value-keeps input events s (Byte r half) = refl
+value-keeps input events s (Seg number) = refl
+value-keeps input events s (Mem byte_width ea) = ap (λ n. byte_in s (segment_of s ea) n) (offset-keeps input events s ea)
+value-keeps input events s (Mem word_width ea) =
+    ap (λ n. word_at_offset s (segment_of s ea) n) (offset-keeps input events s ea)
+value-keeps input events s (Const width c) = refl
 
 -- an operand takes a value
 pub operand-keeps : (x : Operand) (v : ℕ) → KeepsConsole (λ s. with_operand s x v)
-operand-keeps (Word r) v input out s = refl
-operand-keeps (Byte r half) v input out s = refl
-operand-keeps (Seg number) v input out s = refl
-operand-keeps (Mem byte_width ea) v input out s =
-    ap (λ n. with_console_of input out (with_byte_in s (segment_of s ea) n v)) (offset-keeps input out s ea)
-operand-keeps (Mem word_width ea) v input out s =
-    ap (λ n. with_console_of input out (with_word_at_offset s (segment_of s ea) n v)) (offset-keeps input out s ea)
-operand-keeps (Const width c) v input out s = refl
+operand-keeps (Word r) v input events s = refl
+operand-keeps (Byte r half) v input events s = refl
+operand-keeps (Seg number) v input events s = refl
+operand-keeps (Mem byte_width ea) v input events s =
+    ap (λ n. with_console_of input events (with_byte_in s (segment_of s ea) n v)) (offset-keeps input events s ea)
+operand-keeps (Mem word_width ea) v input events s =
+    ap (λ n. with_console_of input events (with_word_at_offset s (segment_of s ea) n v)) (offset-keeps input events s ea)
+operand-keeps (Const width c) v input events s = refl
 
 result-keeps : (x : Operand) (result : ℕ × Flags) → KeepsConsole (with_result x result)
-result-keeps x result input out s = operand-keeps x result.0 input out (with_flags result.1 s)
+result-keeps x result input events s = operand-keeps x result.0 input events (with_flags result.1 s)
 
 alu-keeps : (operation : AluKind) (w : Width) (x : Operand) (a b : ℕ) → KeepsConsole (alu_step operation w x a b)
-alu-keeps Add w x a b input out s = result-keeps x _ input out s
-alu-keeps Or w x a b input out s = result-keeps x _ input out s
-alu-keeps Adc w x a b input out s = result-keeps x _ input out s
-alu-keeps Sbb w x a b input out s = result-keeps x _ input out s
-alu-keeps And w x a b input out s = result-keeps x _ input out s
-alu-keeps Sub w x a b input out s = result-keeps x _ input out s
-alu-keeps Xor w x a b input out s = result-keeps x _ input out s
-alu-keeps Cmp w x a b input out s = refl
-alu-keeps Test w x a b input out s = refl
+alu-keeps Add w x a b input events s = result-keeps x _ input events s
+alu-keeps Or w x a b input events s = result-keeps x _ input events s
+alu-keeps Adc w x a b input events s = result-keeps x _ input events s
+alu-keeps Sbb w x a b input events s = result-keeps x _ input events s
+alu-keeps And w x a b input events s = result-keeps x _ input events s
+alu-keeps Sub w x a b input events s = result-keeps x _ input events s
+alu-keeps Xor w x a b input events s = result-keeps x _ input events s
+alu-keeps Cmp w x a b input events s = refl
+alu-keeps Test w x a b input events s = refl
 
 product-keeps : (w : Width) (product : ℕ × ℕ × Flags) → KeepsConsole (with_product w product)
-product-keeps byte_width product input out s = refl
-product-keeps word_width product input out s = refl
+product-keeps byte_width product input events s = refl
+product-keeps word_width product input events s = refl
 
 division-keeps : (w : Width) (at : ℕ) (division : Option (ℕ × ℕ)) → KeepsConsole (with_division w at division)
-division-keeps w at None input out s = refl
-division-keeps byte_width at (Some division) input out s = refl
-division-keeps word_width at (Some division) input out s = refl
+division-keeps w at None input events s = refl
+division-keeps byte_width at (Some division) input events s = refl
+division-keeps word_width at (Some division) input events s = refl
 
-accumulator-keeps : (w : Width) (input out : List ℕ) (s : State) → accumulator_in w (with_console_of input out s) ≡ accumulator_in w s
-accumulator-keeps byte_width input out s = refl
-accumulator-keeps word_width input out s = refl
+accumulator-keeps : (w : Width) (input : List ℕ) (events : List Event) (s : State) → accumulator_in w (with_console_of input events s) ≡ accumulator_in w s
+accumulator-keeps byte_width input events s = refl
+accumulator-keeps word_width input events s = refl
 
-upper-keeps : (w : Width) (input out : List ℕ) (s : State) → upper_in w (with_console_of input out s) ≡ upper_in w s
-upper-keeps byte_width input out s = refl
-upper-keeps word_width input out s = refl
+upper-keeps : (w : Width) (input : List ℕ) (events : List Event) (s : State) → upper_in w (with_console_of input events s) ≡ upper_in w s
+upper-keeps byte_width input events s = refl
+upper-keeps word_width input events s = refl
 
 unary-keeps : (operation : UnaryKind) (w : Width) (x : Operand) (a at : ℕ) → KeepsConsole (unary_step operation w x a at)
-unary-keeps Inc w x a at input out s = result-keeps x _ input out s
-unary-keeps Dec w x a at input out s = result-keeps x _ input out s
-unary-keeps Neg w x a at input out s = result-keeps x _ input out s
-unary-keeps Not w x a at input out s = operand-keeps x _ input out s
-unary-keeps Mul w x a at input out s =
-    product-keeps w _ input out s
-    ∙ ap (λ n. with_console_of input out (with_product w (product_of w n a) s)) (accumulator-keeps w input out s)
-unary-keeps Imul w x a at input out s =
-    product-keeps w _ input out s
-    ∙ ap (λ n. with_console_of input out (with_product w (signed_product_of w n a) s)) (accumulator-keeps w input out s)
-unary-keeps Div w x a at input out s =
-    let t = with_console_of input out s in
-    division-keeps w at (division_of w (upper_in w t) (accumulator_in w t) a) input out s
-    ∙ ap (λ n. with_console_of input out (with_division w at (division_of w n (accumulator_in w t) a) s)) (upper-keeps w input out s)
-    ∙ ap (λ n. with_console_of input out (with_division w at (division_of w (upper_in w s) n a) s)) (accumulator-keeps w input out s)
-unary-keeps Idiv w x a at input out s =
-    let t = with_console_of input out s in
-    division-keeps w at (signed_division_of w (upper_in w t) (accumulator_in w t) a) input out s
-    ∙ ap (λ n. with_console_of input out (with_division w at (signed_division_of w n (accumulator_in w t) a) s)) (upper-keeps w input out s)
-    ∙ ap (λ n. with_console_of input out (with_division w at (signed_division_of w (upper_in w s) n a) s)) (accumulator-keeps w input out s)
+unary-keeps Inc w x a at input events s = result-keeps x _ input events s
+unary-keeps Dec w x a at input events s = result-keeps x _ input events s
+unary-keeps Neg w x a at input events s = result-keeps x _ input events s
+unary-keeps Not w x a at input events s = operand-keeps x _ input events s
+unary-keeps Mul w x a at input events s =
+    product-keeps w _ input events s
+    ∙ ap (λ n. with_console_of input events (with_product w (product_of w n a) s)) (accumulator-keeps w input events s)
+unary-keeps Imul w x a at input events s =
+    product-keeps w _ input events s
+    ∙ ap (λ n. with_console_of input events (with_product w (signed_product_of w n a) s)) (accumulator-keeps w input events s)
+unary-keeps Div w x a at input events s =
+    let t = with_console_of input events s in
+    division-keeps w at (division_of w (upper_in w t) (accumulator_in w t) a) input events s
+    ∙ ap (λ n. with_console_of input events (with_division w at (division_of w n (accumulator_in w t) a) s)) (upper-keeps w input events s)
+    ∙ ap (λ n. with_console_of input events (with_division w at (division_of w (upper_in w s) n a) s)) (accumulator-keeps w input events s)
+unary-keeps Idiv w x a at input events s =
+    let t = with_console_of input events s in
+    division-keeps w at (signed_division_of w (upper_in w t) (accumulator_in w t) a) input events s
+    ∙ ap (λ n. with_console_of input events (with_division w at (signed_division_of w n (accumulator_in w t) a) s)) (upper-keeps w input events s)
+    ∙ ap (λ n. with_console_of input events (with_division w at (signed_division_of w (upper_in w s) n a) s)) (accumulator-keeps w input events s)
 
 shift-keeps : (shift : ShiftKind) (x : Operand) (by_cl : Bool) → KeepsConsole (shift_step shift x by_cl)
-shift-keeps shift x by_cl input out s =
-    result-keeps x _ input out s
-    ∙ ap (λ n. with_console_of input out (with_result x (shift_result shift (operand_width x) n (count_in by_cl s) s.flags) s)) (value-keeps input out s x)
+shift-keeps shift x by_cl input events s =
+    result-keeps x _ input events s
+    ∙ ap (λ n. with_console_of input events (with_result x (shift_result shift (operand_width x) n (count_in by_cl s) s.flags) s)) (value-keeps input events s x)
 
 plain-keeps : (operation : PlainKind) → KeepsConsole (plain_step operation)
-plain-keeps Nop input out s = refl
-plain-keeps Cbw input out s = refl
-plain-keeps Cwd input out s = refl
-plain-keeps Xlat input out s = refl
-plain-keeps Clc input out s = refl
-plain-keeps Stc input out s = refl
-plain-keeps Cmc input out s = refl
-plain-keeps Cli input out s = refl
-plain-keeps Sti input out s = refl
-plain-keeps Cld input out s = refl
+plain-keeps Nop input events s = refl
+plain-keeps Cbw input events s = refl
+plain-keeps Cwd input events s = refl
+plain-keeps Xlat input events s = refl
+plain-keeps Clc input events s = refl
+plain-keeps Stc input events s = refl
+plain-keeps Cmc input events s = refl
+plain-keeps Cli input events s = refl
+plain-keeps Sti input events s = refl
+plain-keeps Cld input events s = refl
 
 -- every operation but INT 21h
 pub op-keeps : (op : Op) (at : ℕ) → op ≢ Int21 → KeepsConsole (op_step op at)
-op-keeps (Alu operation a b) at other input out s =
-    alu-keeps operation (operand_width a) a _ _ input out s
-    ∙ ap (λ n. with_console_of input out (alu_step operation (operand_width a) a n (operand_value (with_console_of input out s) b) s)) (value-keeps input out s a)
-    ∙ ap (λ n. with_console_of input out (alu_step operation (operand_width a) a (operand_value s a) n s)) (value-keeps input out s b)
-op-keeps (Unary operation a) at other input out s =
-    unary-keeps operation (operand_width a) a _ at input out s
-    ∙ ap (λ n. with_console_of input out (unary_step operation (operand_width a) a n at s)) (value-keeps input out s a)
-op-keeps (Shift shift a by_cl) at other input out s = shift-keeps shift a by_cl input out s
-op-keeps (Mov to from) at other input out s =
-    operand-keeps to _ input out s
-    ∙ ap (λ n. with_console_of input out (with_operand s to n)) (value-keeps input out s from)
-op-keeps (Xchg a b) at other input out s =
-    let t = with_console_of input out s in
-    ap (λ u. with_operand u b (operand_value t a)) (operand-keeps a (operand_value t b) input out s)
-    ∙ operand-keeps b (operand_value t a) input out (with_operand s a (operand_value t b))
-    ∙ ap (λ n. with_console_of input out (with_operand (with_operand s a n) b (operand_value t a))) (value-keeps input out s b)
-    ∙ ap (λ n. with_console_of input out (with_operand (with_operand s a (operand_value s b)) b n)) (value-keeps input out s a)
-op-keeps (Lea r ea) at other input out s =
-    ap (λ n. with_console_of input out (with_word_in s r n)) (offset-keeps input out s ea)
-op-keeps (Push a) at other input out s =
-    ap (λ n. with_console_of input out (after_push n s)) (value-keeps input out s a)
-op-keeps (Pop a) at other input out s = operand-keeps a (top_word s) input out (with_sp_raised 2 s)
-op-keeps (Plain operation) at other input out s = plain-keeps operation input out s
-op-keeps (Jump target) at other input out s = refl
-op-keeps (Branch condition target) at other input out s = refl
-op-keeps (Loop target) at other input out s = refl
-op-keeps (LoopE target) at other input out s = refl
-op-keeps (LoopNe target) at other input out s = refl
-op-keeps (Jcxz target) at other input out s = refl
-op-keeps (Table r offset) at other input out s = refl
-op-keeps (Call target) at other input out s = refl
-op-keeps (Ret count) at other input out s = refl
-op-keeps Int21 at other input out s = absurd (other refl)
+op-keeps (Alu operation a b) at other input events s =
+    alu-keeps operation (operand_width a) a _ _ input events s
+    ∙ ap (λ n. with_console_of input events (alu_step operation (operand_width a) a n (operand_value (with_console_of input events s) b) s)) (value-keeps input events s a)
+    ∙ ap (λ n. with_console_of input events (alu_step operation (operand_width a) a (operand_value s a) n s)) (value-keeps input events s b)
+op-keeps (Unary operation a) at other input events s =
+    unary-keeps operation (operand_width a) a _ at input events s
+    ∙ ap (λ n. with_console_of input events (unary_step operation (operand_width a) a n at s)) (value-keeps input events s a)
+op-keeps (Shift shift a by_cl) at other input events s = shift-keeps shift a by_cl input events s
+op-keeps (Mov to from) at other input events s =
+    operand-keeps to _ input events s
+    ∙ ap (λ n. with_console_of input events (with_operand s to n)) (value-keeps input events s from)
+op-keeps (Xchg a b) at other input events s =
+    let t = with_console_of input events s in
+    ap (λ u. with_operand u b (operand_value t a)) (operand-keeps a (operand_value t b) input events s)
+    ∙ operand-keeps b (operand_value t a) input events (with_operand s a (operand_value t b))
+    ∙ ap (λ n. with_console_of input events (with_operand (with_operand s a n) b (operand_value t a))) (value-keeps input events s b)
+    ∙ ap (λ n. with_console_of input events (with_operand (with_operand s a (operand_value s b)) b n)) (value-keeps input events s a)
+op-keeps (Lea r ea) at other input events s =
+    ap (λ n. with_console_of input events (with_word_in s r n)) (offset-keeps input events s ea)
+op-keeps (Push a) at other input events s =
+    ap (λ n. with_console_of input events (after_push n s)) (value-keeps input events s a)
+op-keeps (Pop a) at other input events s = operand-keeps a (top_word s) input events (with_sp_raised 2 s)
+op-keeps (Plain operation) at other input events s = plain-keeps operation input events s
+op-keeps (Jump target) at other input events s = refl
+op-keeps (Branch condition target) at other input events s = refl
+op-keeps (Loop target) at other input events s = refl
+op-keeps (LoopE target) at other input events s = refl
+op-keeps (LoopNe target) at other input events s = refl
+op-keeps (Jcxz target) at other input events s = refl
+op-keeps (Table r offset) at other input events s = refl
+op-keeps (Call target) at other input events s = refl
+op-keeps (Ret count) at other input events s = refl
+op-keeps Int21 at other input events s = absurd (other refl)
 
--- so the output stays too
-pub op-keeps_out : (op : Op) (at : ℕ) → op ≢ Int21 → (s : State) → (op_step op at s).out ≡ s.out
-op-keeps_out op at other s = ap (λ (t : State). t.out) (op-keeps op at other s.input s.out s)
+-- so nothing happens at the console
+pub op-keeps_events : (op : Op) (at : ℕ) → op ≢ Int21 → (s : State) → (op_step op at s).events ≡ s.events
+op-keeps_events op at other s = ap (λ (t : State). t.events) (op-keeps op at other s.input s.events s)

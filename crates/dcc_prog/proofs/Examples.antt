@@ -1,8 +1,8 @@
 -- Small codes, tried against the definitions that no body meets yet: jumps through a table, prepared divisions, frame
 -- forms, and the constructs and counts that are told of them. Numbers stand here as they are printed.
-use Rattle.std.proofs.Common.{◌≡◌, ◌⊎◌, inl, inr, ◌<◌, ◌≤◌, ◌^◌, ◌+◌, ℕ, zero, suc, Bool, true, false, List, [], ◌∷◌, ◌++◌, length, map, Contains, Option, Some, None, refl, sym, ◌∙◌, subst, arith}
+use Rattle.std.proofs.Common.{◌≡◌, ◌⊎◌, inl, inr, ◌<◌, ◌≤◌, ◌^◌, ◌+◌, ℕ, zero, suc, Bool, true, false, List, [], ◌∷◌, length, map, Contains, Some, None, refl, sym, subst, arith}
 use Rattle.std.specs.List.{slice_index_or}
-use Rattle.dcc_num.specs.declared.Width.TheVariants.{Byte as byte_width, Word as word_width}
+use Rattle.dcc_num.specs.declared.Width.TheVariants.{Word as word_width}
 use Rattle.dcc_num.specs.declared.Reg.TheVariants.{Ax, Bx, Sp, Bp}
 use Rattle.dcc_num.specs.declared.dos.TheConstants.{GETCHE, PUTC, GETCH, PUTS, EXIT}
 use Rattle.dcc_num.specs.Numbers.{no_flags, sign_extension_of, signed_of}
@@ -20,10 +20,10 @@ use Rattle.dcc_prog.specs.declared.instr.Op.TheVariants.{Alu as AluOp, Unary as 
 use Rattle.dcc_prog.specs.Bytes.{word_at}
 use Rattle.dcc_prog.specs.Code.{code_of}
 use Rattle.dcc_prog.specs.Table.{table, instruction_at}
-use Rattle.dcc_prog.specs.Trail.{StandsAt, known_ah, table_number, successors, IsTrail, IsEdge, IsSolePredecessor, start}
+use Rattle.dcc_prog.specs.Trail.{StandsAt, table_number, successors, IsTrail, IsEdge, start}
 use Rattle.dcc_prog.specs.FrameForm.{is_framed, is_frame_form}
 use Rattle.dcc_prog.specs.Prepared.{prepares, keeps_dividend, IsPrepared, nearest, further}
-use Rattle.dcc_prog.specs.Construct.{HasNumber, HasAh, IsOfTrails, foreign, indirect_jump, formless, no_number, no_table, indirect_call, dos_number, not_known, other_number, entry_return, returns, calls, division}
+use Rattle.dcc_prog.specs.Construct.{IsOfTrails, foreign, indirect_jump, formless, no_number, no_table, indirect_call, dos_number, not_known, other_number, entry_return, returns, calls, division}
 use Rattle.dcc_prog.specs.Limit.{IsAbove, entries}
 use Rattle.dcc_prog.proofs.MzImageLaws.{vec_of}
 

@@ -3,6 +3,7 @@
 use Rattle.std.specs.Prelude.{ℕ, ◌+◌, ◌/◌, ◌%◌, ◌==◌, Bool, true, false, not, if◌then◌else◌, List, [], ◌∷◌, ◌++◌, map}
 use Rattle.std.specs.List.{range_with_len, take_while}
 use Rattle.dcc_run.specs.End.{Exit, Outside}
+use Rattle.dcc_run.specs.Event.{Event, Wrote, Took, MetEnd, writes}
 use Rattle.dcc_num.specs.declared.Reg.TheVariants.{Ax, Dx}
 use Rattle.dcc_num.specs.declared.dos.TheConstants.{GETCHE, PUTC, GETCH, PUTS, EXIT, END_OF_INPUT, STRING_END, STRING_MOST}
 use Rattle.dcc_prog.specs.Machine.{State, word_in, data_segment, byte_in}
@@ -21,15 +22,22 @@ is_not_dollar byte = not (byte == STRING_END)
 unfoldable pub dos_string : State → List ℕ
 dos_string s = take_while is_not_dollar (bytes_from s (data_segment s) (word_in s Dx) STRING_MOST)
 
+-- these things have happened at the console
+abbrev pub after_events : List Event → State → State
+after_events happened s = record s { events = s.events ++ happened }
+
 -- the bytes are written
 abbrev pub after_write : List ℕ → State → State
-after_write bytes s = record s { out = s.out ++ bytes }
+after_write bytes s = after_events (writes bytes) s
 
--- AL takes the next of these input bytes, which is written too where it is echoed; where there is none, AL takes 1Ah
+-- a byte is taken, and where it is echoed, it is written after that
+abbrev pub key_events : Bool → ℕ → List Event
+key_events echo byte = Took byte ∷ (if echo then Wrote byte ∷ [] else [])
+
+-- AL takes the next of these input bytes; where there is none, the input's end is met, and AL takes 1Ah
 abbrev pub with_key : Bool → List ℕ → State → State
-with_key echo [] s = with_al END_OF_INPUT s
-with_key echo (byte ∷ rest) s =
-    after_write (if echo then byte ∷ [] else []) (with_al byte (record s { input = rest }))
+with_key echo [] s = after_events (MetEnd ∷ []) (with_al END_OF_INPUT s)
+with_key echo (byte ∷ rest) s = after_events (key_events echo byte) (with_al byte (record s { input = rest }))
 
 abbrev pub key_step : Bool → State → State
 key_step echo s = with_key echo s.input s

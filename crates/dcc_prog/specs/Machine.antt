@@ -1,6 +1,7 @@
 -- The machine: its registers, flags, memory and console (8086 Family User's Manual, chapter 2).
 use Rattle.std.specs.Prelude.{ℕ, ◌+◌, ◌-◌, ◌*◌, ◌/◌, ◌%◌, Bool, true, false, ◌||◌, if◌then◌else◌, List, [], ◌∷◌, ◌++◌, length, replicate, slice_index, slice_set, Option, Some, None}
 use Rattle.dcc_run.specs.End.{End, Running}
+use Rattle.dcc_run.specs.Event.{Event}
 use Rattle.dcc_num.specs.declared.Width.{Width}
 use Rattle.dcc_num.specs.declared.Width.TheVariants.{Byte as byte_width, Word as word_width}
 use Rattle.dcc_num.specs.declared.Reg.{Reg}
@@ -25,9 +26,9 @@ pub record State : Type 0 where
   pub ip : ℕ
   -- 1,048,576 bytes by physical address
   pub memory : List ℕ
-  -- the input bytes that are not yet read, and the output so far
+  -- the input bytes that are not yet taken, and what has happened at the console, the oldest first
   pub input : List ℕ
-  pub out : List ℕ
+  pub events : List Event
   pub end : End
 
 -- Registers.
@@ -144,6 +145,6 @@ start_state image input = record {
   ip = image.ip;
   memory = loaded_memory image.bytes.items;
   input = input;
-  out = [];
+  events = [];
   end = Running;
 }

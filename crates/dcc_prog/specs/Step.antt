@@ -55,4 +55,4 @@ step s = if is_over s.end then s else instruction_step (instruction_at s.ip (cod
 
 -- the runs of the machine
 abbrev pub machine_system : System State
-machine_system = record { step = step; out = λ s. s.out; end = λ s. s.end }
+machine_system = record { step = step; events = λ s. s.events; end = λ s. s.end }

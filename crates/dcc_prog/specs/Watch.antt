@@ -1,7 +1,6 @@
 -- The machine's run with its procedures, and how far it is clean.
 use Rattle.std.specs.Prelude.{◌≡◌, ℕ, ◌==◌, Bool, true, false, ◌||◌, if◌then◌else◌, List, [], ◌∷◌, drop, Option, Some, None}
 use Rattle.dcc_run.specs.End.{is_over}
-use Rattle.dcc_run.specs.System.{System}
 use Rattle.dcc_run.specs.Place.{Place}
 use Rattle.dcc_run.specs.Watched.{Watched, state}
 use Rattle.dcc_prog.specs.declared.image.Image.{Image}
