@@ -9,5 +9,6 @@ pub mod PreludeSteps
 pub mod LayoutLaws
 pub mod TrailLaws
 pub mod ConstructLaws
+pub mod RefusedLaws
 pub mod MachineEnds
 mod Examples

@@ -19,4 +19,5 @@ pub mod Limit
 pub mod Wanted
 pub mod Built
 pub mod Found
+pub mod Refused
 pub mod Watch
