@@ -1,14 +1,14 @@
--- A machine whose memory holds the loaded image reads its instructions from the image's code.
-use Rattle.std.proofs.Common.{◌≡◌, ℕ, zero, suc, ◌+◌, ◌-◌, ◌*◌, ◌%◌, ◌<◌, ◌≤◌, List, [], ◌∷◌, ◌++◌, length, take, drop, get_or, replicate, Some, refl, sym, ap, ◌∙◌, arith, length-drop, length-take}
+-- A machine that holds the code of an image reads its instructions from there.
+use Rattle.std.proofs.Common.{◌≡◌, ℕ, zero, suc, ◌+◌, ◌-◌, ◌*◌, ◌<◌, ◌≤◌, List, [], ◌∷◌, ◌++◌, length, take, drop, get_or, replicate, Some, refl, sym, ap, ◌∙◌, arith, length-drop, length-take}
 use Rattle.std.proofs.Math.Nat.{mod-eq_of_lt}
-use Rattle.std.proofs.lemmas.List.{get_or-append-add, get_or_append_left, get_or-take, get_or-drop, length-replicate}
+use Rattle.std.proofs.lemmas.List.{get_or-append-add, get_or_append_left, get_or-take, get_or-drop, take_all, length-replicate}
 use Rattle.dcc_prog.specs.declared.image.Image.{Image}
 use Rattle.dcc_prog.specs.declared.instr.Instr.{Instr}
 use Rattle.dcc_prog.specs.Load.{load_segment, image_address}
 use Rattle.dcc_prog.specs.MzImage.{IsImageOf, header_cs, header_ip, image_length, image_end, relocation_count}
 use Rattle.dcc_prog.specs.Table.{instruction_at}
-use Rattle.dcc_prog.specs.Machine.{State, loaded_memory, code_segment, physical, byte_in}
-use Rattle.dcc_prog.specs.Code.{code_of}
+use Rattle.dcc_prog.specs.Machine.{State, loaded_memory, code_segment, physical, byte_in, start_state}
+use Rattle.dcc_prog.specs.Code.{code_of, HoldsCode}
 use Rattle.dcc_prog.specs.Step.{code_byte, code_bytes}
 use Rattle.dcc_prog.proofs.MzImageLaws.{length-relocated_image}
 use Rattle.dcc_prog.proofs.TableLaws.{instruction-length, instruction-prefix}
@@ -67,28 +67,40 @@ code-at image off within =
     get_or-take image.code_len (drop ((image.cs - load_segment) * 16) image.bytes.items) off 0 within
     ∙ get_or-drop ((image.cs - load_segment) * 16) image.bytes.items off 0
 
--- memory holds the image, and the code segment is the image's
-pub record HoldsImage (image : Image) (s : State) : Type 0 where
-  pub memory : s.memory ≡ loaded_memory image.bytes.items
-  pub code : code_segment s ≡ image.cs
+-- a machine as it is started holds the whole code
+pub start-holds : (image : Image) (input : List ℕ) → IsPlaced image → HoldsCode image image.code_len (start_state image input)
+start-holds image input placed = record {
+  segment = refl;
+  bytes = λ off within.
+      let j = (image.cs - load_segment) * 16 + off in
+      let at : physical image.cs off ≡ image_address + j =
+      let le : image.cs * 16 + off < 1048576 = omega (arith, placed.short, within, placed.high) in
+      mod-eq_of_lt le ∙ omega (arith, placed.low) in
+      let inside : j < length image.bytes.items = omega (arith, within, placed.within) in
+      ap (λ a. get_or (loaded_memory image.bytes.items) a 0) at
+      ∙ loaded-at image.bytes.items j inside
+      ∙ sym (code-at image off within);
+}
+
+-- where memory and the code segment stay, so does the code
+pub code-kept : (image : Image) (end : ℕ) (s t : State) → HoldsCode image end s → t.memory ≡ s.memory → code_segment t ≡ code_segment s → HoldsCode image end t
+code-kept image end s t holds memory code = record {
+  segment = code ∙ holds.segment;
+  bytes = λ off within. ap (λ (m : List ℕ). get_or m (physical image.cs off) 0) memory ∙ holds.bytes off within;
+}
+
+-- what holds code holds a part of it
+pub code-part : (image : Image) (end less : ℕ) (s : State) → HoldsCode image end s → less ≤ end → HoldsCode image less s
+code-part image end less s holds le =
+    record { segment = holds.segment; bytes = λ off within. holds.bytes off (omega arith) }
 
 -- the byte after the instruction pointer is that of the code
-code_byte-is : (image : Image) (s : State) (k : ℕ) → IsPlaced image → HoldsImage image s → s.ip + k < image.code_len → code_byte s k ≡ get_or (code_of image) (s.ip + k) 0
-code_byte-is image s k placed holds within =
+code_byte-is : (image : Image) (end : ℕ) (s : State) (k : ℕ) → HoldsCode image end s → s.ip + k < end → s.ip + k < 65536 → code_byte s k ≡ get_or (code_of image) (s.ip + k) 0
+code_byte-is image end s k holds within low =
     let off = s.ip + k in
-    let j = (image.cs - load_segment) * 16 + off in
-    let short = placed.short in
-    let low : off % 65536 ≡ off = let le : off < 65536 = omega (arith, short, within) in mod-eq_of_lt le in
-    let at : physical image.cs off ≡ image_address + j =
-    let le : image.cs * 16 + off < 1048576 = omega (arith, short, within, placed.high) in
-    mod-eq_of_lt le ∙ omega (arith, placed.low) in
-    let inside : j < length image.bytes.items = omega (arith, within, placed.within) in
-    ap (λ o. byte_in s (code_segment s) o) low
-    ∙ ap (λ seg. byte_in s seg off) holds.code
-    ∙ ap (λ m. get_or m (physical image.cs off) 0) holds.memory
-    ∙ ap (λ a. get_or (loaded_memory image.bytes.items) a 0) at
-    ∙ loaded-at image.bytes.items j inside
-    ∙ sym (code-at image off within)
+    ap (λ o. byte_in s (code_segment s) o) (mod-eq_of_lt low)
+    ∙ ap (λ seg. byte_in s seg off) holds.segment
+    ∙ holds.bytes off within
 
 -- a function's values at 0, 1 and so on
 tabulated : (ℕ → ℕ) → ℕ → List ℕ
@@ -106,16 +118,28 @@ take-tabulated (suc len) (suc n) f (x ∷ xs) a b same =
     take-tabulated len n (λ k. f (suc k)) xs (omega arith) (omega arith) (λ k h. same (suc k) (omega arith)) in
     cc
 
--- the instruction at the instruction pointer is the one that stands in the code
-pub fetched-instruction : (image : Image) (s : State) (instr : Instr) → IsPlaced image → HoldsImage image s → instruction_at s.ip (drop s.ip (code_of image)) ≡ Some instr → instruction_at s.ip (code_bytes s) ≡ Some instr
+-- the instruction at the instruction pointer is the one that stands in the code below the end
+pub fetched-instruction : (image : Image) (end : ℕ) (s : State) (instr : Instr) → IsPlaced image → HoldsCode image end s → instruction_at s.ip (drop s.ip (take end (code_of image))) ≡ Some instr → instruction_at s.ip (code_bytes s) ≡ Some instr
 unfolding tabulated
-fetched-instruction image s instr placed holds found =
-    let code = code_of image in
+fetched-instruction image end s instr placed holds found =
+    let code = take end (code_of image) in
     let bounds = instruction-length s.ip (drop s.ip code) instr found in
     let len = length-drop s.ip code in
+    let some = length-take end (code_of image) in
     let all = length-code_of image placed in
+    let short = placed.short in
     let same : take instr.len (tabulated (code_byte s) 6) ≡ take instr.len (drop s.ip code) =
     take-tabulated instr.len 6 (code_byte s) (drop s.ip code) bounds.2 bounds.1 (λ k h.
-    let within : s.ip + k < image.code_len = omega (arith, bounds.1, len, all, h) in
-    code_byte-is image s k placed holds within ∙ sym (get_or-drop s.ip code k 0)) in
+    let within : s.ip + k < end = omega (arith, bounds.1, len, some, h) in
+    let low : s.ip + k < 65536 = omega (arith, bounds.1, len, some, all, short, h) in
+    code_byte-is image end s k holds within low
+    ∙ sym (get_or-take end (code_of image) (s.ip + k) 0 within)
+    ∙ sym (get_or-drop s.ip code k 0)) in
     instruction-prefix s.ip (drop s.ip code) (code_bytes s) instr found same
+
+-- the same of the whole code
+pub fetched-whole : (image : Image) (s : State) (instr : Instr) → IsPlaced image → HoldsCode image image.code_len s → instruction_at s.ip (drop s.ip (code_of image)) ≡ Some instr → instruction_at s.ip (code_bytes s) ≡ Some instr
+fetched-whole image s instr placed holds found =
+    let all : take image.code_len (code_of image) ≡ code_of image =
+    take_all image.code_len (code_of image) (let e = length-code_of image placed in omega (arith, e)) in
+    fetched-instruction image image.code_len s instr placed holds (ap (λ l. instruction_at s.ip (drop s.ip l)) all ∙ found)

@@ -20,7 +20,7 @@ use Rattle.dcc_prog.specs.Table.{instruction_at}
 use Rattle.dcc_prog.specs.Machine.{State, word_in, code_segment, data_segment, start_state}
 use Rattle.dcc_prog.specs.Step.{op_step, instruction_step, step}
 use Rattle.dcc_prog.specs.Layout.{is_data_segment, is_prelude_form, writes_ds, IsFormAt, IsRun, end_of, state_after}
-use Rattle.dcc_prog.proofs.FetchLaws.{IsPlaced, image-placed, length-code_of, fetched-instruction}
+use Rattle.dcc_prog.proofs.FetchLaws.{IsPlaced, image-placed, length-code_of, start-holds, code-kept, fetched-whole}
 use Rattle.dcc_prog.proofs.MzImageLaws.{ip-loaded}
 use Rattle.dcc_prog.proofs.PreludeLaws.{form-inside}
 
@@ -123,7 +123,8 @@ step-at image input r at instr placed cs is =
     let le : at < 65536 = omega (arith, inside.0, inside.1, length-code_of image placed, placed.short) in mod-eq_of_lt le in
     let found : instruction_at s.ip (drop s.ip (code_of image)) ≡ Some instr =
     ap (λ a. instruction_at a (drop a (code_of image))) low ∙ is.found in
-    let fetched = fetched-instruction image s instr placed (record { memory = refl; code = cs }) found in
+    let holds = code-kept image image.code_len (start_state image input) s (start-holds image input placed) refl cs in
+    let fetched = fetched-whole image s instr placed holds found in
     ap (λ o. instruction_step o s) fetched
     ∙ form-step instr.op s.ip 0 r (record (start_state image input) { ip = (s.ip + instr.len) % 65536 }) is.form
     ∙ ap (λ a. at_offset image input (op_step instr.op 0 r) (a + instr.len)) low
