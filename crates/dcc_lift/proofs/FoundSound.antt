@@ -185,44 +185,6 @@ module _ (image : Image) (layout : Layout) (procs : List Proc) (are : AreFound i
   places-unreached at (instr ∷ second ∷ rest) (suc k) is within small ends inside =
       places-unreached (at + instr.len) (second ∷ rest) k is.1 within small ends (omega arith)
 
--- Bounds of a layout.
-
-module _ (image : Image) (layout : Layout) (loaded : IsLoaded image) (has : HasLayout image layout) where
-  -- the prelude's end, and with it the procedure's entry, lies below the code's end, which is below offset 65536
-  pub prelude-within : end_of image.ip has.prelude ≤ layout.code_end
-  prelude-within = omega (arith, has.left.start_ip, has.small.has_code)
-
-  pub prelude-short : end_of image.ip has.prelude < 65536
-  prelude-short =
-      let placed = loaded-placed image loaded in
-      omega (arith, has.left.start_ip, has.small.has_code, has.left.code_end, placed.short)
-
-  pub start-below : layout.start_ip < 65536
-  start-below = omega (arith, has.left.start_ip, prelude-short)
-
-  -- there is an instruction in the prelude, that which writes DS
-  pub prelude-some : 0 < length has.prelude
-  prelude-some = go has.prelude has.ds_written
-    where
-      go : (prelude : List Instr) → list_any (λ (i : Instr). writes_ds i.op) prelude ≡ true → 0 < length prelude
-      go [] e = absurd (true≢false (sym e))
-      go (i ∷ rest) e = omega arith
-
-  pub prelude-before_start : (k : ℕ) → k < length has.prelude → offset_in k has.prelude image.ip < layout.start_ip
-  prelude-before_start k inside =
-      let before = offset-before_end (code_of image) k has.prelude image.ip has.is_prelude.run inside in
-      omega (arith, before, has.left.start_ip)
-
-  pub prelude-below : (k : ℕ) → k < length has.prelude → offset_in k has.prelude image.ip < 65536
-  prelude-below k inside = omega (arith, prelude-before_start k inside, start-below)
-
-  -- the first instruction of the prelude alone stands where the program begins
-  pub prelude-first : (k : ℕ) → k < length has.prelude → offset_in k has.prelude image.ip ≡ image.ip → k ≡ 0
-  prelude-first k inside same = offset-first (code_of image) k has.prelude image.ip has.is_prelude.run inside same
-
-  pub start-apart : image.ip ≢ layout.start_ip
-  start-apart same = let before : image.ip < layout.start_ip = prelude-before_start 0 prelude-some in absurd (omega (arith, before, same))
-
 -- What is found.
 
 module _ (image : Image) (layout : Layout) (procs : List Proc) (loaded : IsLoaded image) (has : HasLayout image layout) (are : AreFound image layout procs) where

@@ -26,7 +26,6 @@ pub mod Totals
 pub mod Members
 pub mod FlagCounts
 pub mod CodeBounds
-pub mod PreludeOffsets
 pub mod PreludeWords
 pub mod FoundSound
 pub mod TrailFlow

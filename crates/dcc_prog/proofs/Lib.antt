@@ -6,9 +6,11 @@ pub mod ConsoleLaws
 pub mod WellFormedLaws
 pub mod PreludeLaws
 pub mod PreludeSteps
+pub mod PreludeOffsets
 pub mod LayoutLaws
 pub mod TrailLaws
 pub mod ConstructLaws
 pub mod RefusedLaws
 pub mod MachineEnds
+pub mod WatchLaws
 mod Examples

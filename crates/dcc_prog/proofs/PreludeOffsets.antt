@@ -1,8 +1,13 @@
--- Where the instructions of a prelude stand: in ascending order from its first one, and where no instruction of the procedure
--- stands.
-use Rattle.std.proofs.Common.{◌≡◌, ℕ, zero, suc, ◌+◌, ◌<◌, ◌≤◌, List, [], ◌∷◌, length, take, Some, slice_get, refl, subst, arith}
+-- Where the instructions of a prelude stand: in ascending order from its first one, below the procedure's entry.
+use Rattle.std.proofs.Common.{◌≡◌, ◌≢◌, ℕ, zero, suc, ◌+◌, ◌<◌, ◌≤◌, true, List, [], ◌∷◌, length, take, Some, slice_get, refl, sym, subst, true≢false, arith}
+use Rattle.std.specs.List.{list_any}
+use Rattle.dcc_prog.specs.declared.image.Image.{Image}
+use Rattle.dcc_prog.specs.declared.procedure.Layout.{Layout}
 use Rattle.dcc_prog.specs.declared.instr.Instr.{Instr}
-use Rattle.dcc_prog.specs.Layout.{IsFormAt, IsRun, end_of}
+use Rattle.dcc_prog.specs.MzImage.{IsLoaded}
+use Rattle.dcc_prog.specs.Code.{code_of}
+use Rattle.dcc_prog.specs.Layout.{writes_ds, IsFormAt, IsRun, end_of, HasLayout}
+use Rattle.dcc_prog.proofs.FetchLaws.{image-placed}
 use Rattle.dcc_prog.proofs.PreludeLaws.{form-inside}
 
 -- the offset of an instruction of a run, by its place, where the run begins at an offset; after the last one, the run's end
@@ -79,3 +84,41 @@ offset-first code zero run at r inside same = refl
 offset-first code (suc k) run at r inside same =
     let up = offset-ascends code 0 (suc k) run at r (omega arith) (omega arith) in
     absurd (omega (arith, up, same))
+
+-- Bounds of a layout.
+
+module _ (image : Image) (layout : Layout) (loaded : IsLoaded image) (has : HasLayout image layout) where
+  -- the prelude's end, and with it the procedure's entry, lies below the code's end, which is below offset 65536
+  pub prelude-within : end_of image.ip has.prelude ≤ layout.code_end
+  prelude-within = omega (arith, has.left.start_ip, has.small.has_code)
+
+  pub prelude-short : end_of image.ip has.prelude < 65536
+  prelude-short =
+      let placed = image-placed loaded.file image loaded.is_image in
+      omega (arith, has.left.start_ip, has.small.has_code, has.left.code_end, placed.short)
+
+  pub start-below : layout.start_ip < 65536
+  start-below = omega (arith, has.left.start_ip, prelude-short)
+
+  -- there is an instruction in the prelude, that which writes DS
+  pub prelude-some : 0 < length has.prelude
+  prelude-some = go has.prelude has.ds_written
+    where
+      go : (prelude : List Instr) → list_any (λ (i : Instr). writes_ds i.op) prelude ≡ true → 0 < length prelude
+      go [] e = absurd (true≢false (sym e))
+      go (i ∷ rest) e = omega arith
+
+  pub prelude-before_start : (k : ℕ) → k < length has.prelude → offset_in k has.prelude image.ip < layout.start_ip
+  prelude-before_start k inside =
+      let before = offset-before_end (code_of image) k has.prelude image.ip has.is_prelude.run inside in
+      omega (arith, before, has.left.start_ip)
+
+  pub prelude-below : (k : ℕ) → k < length has.prelude → offset_in k has.prelude image.ip < 65536
+  prelude-below k inside = omega (arith, prelude-before_start k inside, start-below)
+
+  -- the first instruction of the prelude alone stands where the program begins
+  pub prelude-first : (k : ℕ) → k < length has.prelude → offset_in k has.prelude image.ip ≡ image.ip → k ≡ 0
+  prelude-first k inside same = offset-first (code_of image) k has.prelude image.ip has.is_prelude.run inside same
+
+  pub start-apart : image.ip ≢ layout.start_ip
+  start-apart same = let before : image.ip < layout.start_ip = prelude-before_start 0 prelude-some in absurd (omega (arith, before, same))
