@@ -1,6 +1,6 @@
--- Small codes, tried against the definitions that no body meets yet: jumps through a table, prepared divisions, frame
--- forms, and the constructs and counts that are told of them. Numbers stand here as they are printed.
-use Rattle.std.proofs.Common.{◌≡◌, ◌⊎◌, inl, inr, ◌<◌, ◌≤◌, ◌^◌, ◌+◌, ℕ, zero, suc, Bool, true, false, List, [], ◌∷◌, length, map, Contains, Some, None, refl, sym, subst, arith}
+-- Small codes, tried against the definitions that no body meets yet: jumps through a table, frame forms, and the
+-- constructs and counts that are told of them. Numbers stand here as they are printed.
+use Rattle.std.proofs.Common.{◌≡◌, inl, ◌<◌, ◌≤◌, ◌^◌, ◌+◌, ℕ, zero, suc, Bool, true, false, List, [], ◌∷◌, length, map, Contains, Some, None, refl, sym, arith}
 use Rattle.std.specs.List.{slice_index_or}
 use Rattle.dcc_num.specs.declared.Width.TheVariants.{Word as word_width}
 use Rattle.dcc_num.specs.declared.Reg.TheVariants.{Ax, Bx, Sp, Bp}
@@ -12,18 +12,15 @@ use Rattle.dcc_prog.specs.declared.refusal.LimitName.TheVariants.{Entries}
 use Rattle.dcc_prog.specs.declared.image.Image.{Image}
 use Rattle.dcc_prog.specs.declared.procedure.Layout.{Layout}
 use Rattle.dcc_prog.specs.declared.instr.Alu.TheVariants.{Add}
-use Rattle.dcc_prog.specs.declared.instr.Unary.TheVariants.{Idiv}
-use Rattle.dcc_prog.specs.declared.instr.Plain.TheVariants.{Cwd}
 use Rattle.dcc_prog.specs.declared.instr.Operand.TheVariants.{Word, Mem, Const}
 use Rattle.dcc_prog.specs.declared.instr.Op.{Op}
-use Rattle.dcc_prog.specs.declared.instr.Op.TheVariants.{Alu as AluOp, Unary as UnaryOp, Mov, Push, Pop, Plain as PlainOp, Table, Call, Ret, Int21}
+use Rattle.dcc_prog.specs.declared.instr.Op.TheVariants.{Alu as AluOp, Mov, Push, Pop, Table, Call, Ret, Int21}
 use Rattle.dcc_prog.specs.Bytes.{word_at}
 use Rattle.dcc_prog.specs.Code.{code_of}
 use Rattle.dcc_prog.specs.Table.{table, instruction_at}
-use Rattle.dcc_prog.specs.Trail.{StandsAt, table_number, successors, IsTrail, IsEdge, start}
+use Rattle.dcc_prog.specs.Trail.{StandsAt, table_number, successors, IsTrail, start}
 use Rattle.dcc_prog.specs.FrameForm.{is_framed, is_frame_form}
-use Rattle.dcc_prog.specs.Prepared.{prepares, keeps_dividend, IsPrepared, nearest, further}
-use Rattle.dcc_prog.specs.Construct.{IsOfTrails, foreign, indirect_jump, formless, no_number, no_table, indirect_call, dos_number, not_known, other_number, entry_return, returns, calls, division}
+use Rattle.dcc_prog.specs.Construct.{IsOfTrails, foreign, indirect_jump, formless, no_number, no_table, indirect_call, dos_number, not_known, other_number, entry_return, returns, calls}
 use Rattle.dcc_prog.specs.Limit.{IsAbove, entries}
 use Rattle.dcc_prog.proofs.MzImageLaws.{vec_of}
 
@@ -43,7 +40,7 @@ dos-numbers = refl
 
 -- Images: a prelude of five bytes, which loads DS, then the code, which begins at offset 5.
 
-abbrev image_of : (code : List ℕ) → length code < 2 ^ 62 → Image
+abbrev pub image_of : (code : List ℕ) → length code < 2 ^ 62 → Image
 image_of code few = record {
   bytes = vec_of (0xB8 ∷ 0x11 ∷ 0x01 ∷ 0x8E ∷ 0xD8 ∷ code) (omega (arith, few));
   code_len = 5 + length code;
@@ -53,7 +50,7 @@ image_of code few = record {
   sp = 0x0100;
 }
 
-abbrev layout_of : List ℕ → Layout
+abbrev pub layout_of : List ℕ → Layout
 layout_of code = record {
   ds = 0x0111;
   delta = 0;
@@ -67,7 +64,7 @@ layout_of code = record {
 
 -- Places in lists.
 
-first : (x : ℕ) (xs : List ℕ) → Contains (x ∷ xs) x
+pub first : (x : ℕ) (xs : List ℕ) → Contains (x ∷ xs) x
 first x xs = (0, omega arith, refl)
 
 second : (x y : ℕ) (xs : List ℕ) → Contains (x ∷ y ∷ xs) y
@@ -77,7 +74,7 @@ only-at : (x y k : ℕ) → k < 1 → slice_index_or (x ∷ []) k y ≡ y → y 
 only-at x y zero few is = sym is
 only-at x y (suc k) few is = absurd (omega (arith, few))
 
-only : (x y : ℕ) → Contains (x ∷ []) y → y ≡ x
+pub only : (x y : ℕ) → Contains (x ∷ []) y → y ≡ x
 only x y has = only-at x y has.0 has.1 has.2
 
 same : (n : ℕ) → n ≤ n
@@ -189,10 +186,10 @@ many-limit = entries {at = 0x0D} start (record {
 -- Indirect jumps and calls.
 
 -- 0005 call [bx]
-abbrev call_through : List ℕ
+abbrev pub call_through : List ℕ
 call_through = 0xFF ∷ 0x17 ∷ []
 
-call_through-construct : IsOfTrails 4 (image_of call_through (omega arith)) (layout_of call_through) 0x0005
+pub call_through-construct : IsOfTrails 4 (image_of call_through (omega arith)) (layout_of call_through) 0x0005
 unfolding code_of vec_of
 call_through-construct = record {
   entry = 5;
@@ -202,10 +199,10 @@ call_through-construct = record {
 }
 
 -- 0005 jmp [bx]
-abbrev jump_through : List ℕ
+abbrev pub jump_through : List ℕ
 jump_through = 0xFF ∷ 0x27 ∷ []
 
-jump_through-construct : IsOfTrails 3 (image_of jump_through (omega arith)) (layout_of jump_through) 0x0005
+pub jump_through-construct : IsOfTrails 3 (image_of jump_through (omega arith)) (layout_of jump_through) 0x0005
 unfolding code_of vec_of
 jump_through-construct = record {
   entry = 5;
@@ -217,13 +214,13 @@ jump_through-construct = record {
 -- Numbers of DOS calls.
 
 -- 0005 mov ah,[0000]; 0009 int 21h
-abbrev unknown_number : List ℕ
+abbrev pub unknown_number : List ℕ
 unknown_number = 0x8A ∷ 0x26 ∷ 0x00 ∷ 0x00 ∷ 0xCD ∷ 0x21 ∷ []
 
 abbrev unknown_image : Image
 unknown_image = image_of unknown_number (omega arith)
 
-unknown_number-construct : IsOfTrails 5 unknown_image (layout_of unknown_number) 0x0009
+pub unknown_number-construct : IsOfTrails 5 unknown_image (layout_of unknown_number) 0x0009
 unfolding instruction_at table code_of word_at sign_extension_of signed_of vec_of
 unknown_number-construct =
     let trail : IsTrail unknown_image (layout_of unknown_number) 5 (0x09 ∷ 0x05 ∷ []) = (first 0x09 [], refl) in
@@ -273,10 +270,10 @@ exit-ends = refl
 -- Returns from the entry procedure, and calls of it.
 
 -- 0005 ret
-abbrev ret : List ℕ
+abbrev pub ret : List ℕ
 ret = 0xC3 ∷ []
 
-ret-construct : IsOfTrails 11 (image_of ret (omega arith)) (layout_of ret) 0x0005
+pub ret-construct : IsOfTrails 11 (image_of ret (omega arith)) (layout_of ret) 0x0005
 unfolding instruction_at table code_of word_at sign_extension_of signed_of vec_of
 ret-construct = record {
   entry = 5;
@@ -305,7 +302,7 @@ abbrev framed : List ℕ
 framed = 0x55 ∷ 0x8B ∷ 0xEC ∷ []
 
 -- 0005 mov bp,5
-abbrev bare : List ℕ
+abbrev pub bare : List ℕ
 bare = 0xBD ∷ 0x05 ∷ 0x00 ∷ []
 
 -- in a procedure that begins so, at an offset
@@ -353,7 +350,7 @@ frame-begins : allowed framed (omega arith) 5 (Push (Word Bp)) ≡ true
 unfolding instruction_at table code_of word_at sign_extension_of signed_of vec_of
 frame-begins = refl
 
-bare-construct : IsOfTrails 2 (image_of bare (omega arith)) (layout_of bare) 0x0005
+pub bare-construct : IsOfTrails 2 (image_of bare (omega arith)) (layout_of bare) 0x0005
 unfolding instruction_at table code_of word_at sign_extension_of signed_of vec_of
 bare-construct = record {
   entry = 5;
@@ -365,127 +362,3 @@ bare-construct = record {
     foreign = refl;
   });
 }
-
--- Divisions.
-
--- 0005 mov ax,1; 0008 mov bx,0; 000B idiv bx
-abbrev divides : List ℕ
-divides = 0xB8 ∷ 0x01 ∷ 0x00 ∷ 0xBB ∷ 0x00 ∷ 0x00 ∷ 0xF7 ∷ 0xFB ∷ []
-
-abbrev divides_image : Image
-divides_image = image_of divides (omega arith)
-
-first_edge : IsEdge divides_image (layout_of divides) 5 0x05 0x08
-unfolding instruction_at table code_of word_at sign_extension_of signed_of vec_of
-first_edge = record { before = []; trail = (first 0x08 [], refl) }
-
-second_edge : IsEdge divides_image (layout_of divides) 5 0x08 0x0B
-unfolding instruction_at table code_of word_at sign_extension_of signed_of vec_of
-second_edge = record { before = 0x05 ∷ []; trail = (first 0x0B [], (first 0x08 [], refl)) }
-
-move-of_ax : (op : Op) → StandsAt divides_image (layout_of divides) 0x05 op → op ≡ Mov (Word Ax) (Const word_width 1)
-unfolding instruction_at table code_of word_at sign_extension_of signed_of vec_of
-move-of_ax op stands = let found = stands.1 in let is = stands.2 in cc
-
-move-of_bx : (op : Op) → StandsAt divides_image (layout_of divides) 0x08 op → op ≡ Mov (Word Bx) (Const word_width 0)
-unfolding instruction_at table code_of word_at sign_extension_of signed_of vec_of
-move-of_bx op stands = let found = stands.1 in let is = stands.2 in cc
-
-prepared-not :
-    {at : ℕ} → IsPrepared divides_image (layout_of divides) 5 Idiv word_width at → (at ≡ 0x0B) ⊎ (at ≡ 0x08) → ⊥
-prepared-not (nearest {at} {from} {op} edge stands prepared) (inl e) =
-    let from_bx = edge.sole 0x08 (subst (λ n. IsEdge divides_image (layout_of divides) 5 0x08 n) (sym e) second_edge) in
-    let op_is = move-of_bx op (subst (λ n. StandsAt divides_image (layout_of divides) n op) (sym from_bx) stands) in
-    let clash : false ≡ true = subst (λ o. prepares Idiv word_width o ≡ true) op_is prepared in cc
-prepared-not (nearest {at} {from} {op} edge stands prepared) (inr e) =
-    let from_ax = edge.sole 0x05 (subst (λ n. IsEdge divides_image (layout_of divides) 5 0x05 n) (sym e) first_edge) in
-    let op_is = move-of_ax op (subst (λ n. StandsAt divides_image (layout_of divides) n op) (sym from_ax) stands) in
-    let clash : false ≡ true = subst (λ o. prepares Idiv word_width o ≡ true) op_is prepared in cc
-prepared-not (further {at} {from} {op} edge stands keeps prepared) (inl e) =
-    let from_bx = edge.sole 0x08 (subst (λ n. IsEdge divides_image (layout_of divides) 5 0x08 n) (sym e) second_edge) in
-    prepared-not prepared (inr (sym from_bx))
-prepared-not (further {at} {from} {op} edge stands keeps prepared) (inr e) =
-    let from_ax = edge.sole 0x05 (subst (λ n. IsEdge divides_image (layout_of divides) 5 0x05 n) (sym e) first_edge) in
-    let op_is = move-of_ax op (subst (λ n. StandsAt divides_image (layout_of divides) n op) (sym from_ax) stands) in
-    let clash : false ≡ true = subst (λ o. keeps_dividend Idiv word_width o ≡ true) op_is keeps in cc
-
-divides-construct : IsOfTrails 12 divides_image (layout_of divides) 0x000B
-unfolding instruction_at table code_of word_at sign_extension_of signed_of vec_of second_edge
-divides-construct = record {
-  entry = 5;
-  is_entry = start;
-  node = record { before = 0x08 ∷ 0x05 ∷ []; trail = second_edge.trail };
-  stands = division (record {
-    division = Idiv;
-    operand = Word Bx;
-    stands = (record { op = UnaryOp Idiv (Word Bx); len = 2 }, refl, refl);
-    divides = refl;
-    unprepared = λ p. prepared-not p (inl refl);
-  });
-}
-
--- 0005 cwd; 0006 idiv bx; 0008 jmp 0008
-abbrev extends : List ℕ
-extends = 0x99 ∷ 0xF7 ∷ 0xFB ∷ 0xEB ∷ 0xFE ∷ []
-
-abbrev extends_image : Image
-extends_image = image_of extends (omega arith)
-
-abbrev onward : List ℕ → List ℕ
-onward trail = successors extends_image (layout_of extends) trail
-
--- the three nodes
-abbrev IsPlace : ℕ → Type 0
-IsPlace at = (at ≡ 5) ⊎ ((at ≡ 6) ⊎ (at ≡ 8))
-
-after-five : (rest : List ℕ) → onward (5 ∷ rest) ≡ 6 ∷ []
-unfolding instruction_at table code_of word_at sign_extension_of signed_of vec_of
-after-five rest = refl
-
-after-six : (rest : List ℕ) → onward (6 ∷ rest) ≡ 8 ∷ []
-unfolding instruction_at table code_of word_at sign_extension_of signed_of vec_of
-after-six rest = refl
-
-after-eight : (rest : List ℕ) → onward (8 ∷ rest) ≡ 8 ∷ []
-unfolding instruction_at table code_of word_at sign_extension_of signed_of vec_of
-after-eight rest = refl
-
--- where an offset goes on, by its place
-goes-by :
-    (from place at to : ℕ) (rest : List ℕ) → onward (place ∷ rest) ≡ to ∷ [] → from ≡ place
-    → Contains (onward (from ∷ rest)) at → at ≡ to
-goes-by from place at to rest after_is is has =
-    only to at (subst (λ xs. Contains xs at) after_is (subst (λ n. Contains (onward (n ∷ rest)) at) is has))
-
-place-next : (from at : ℕ) (rest : List ℕ) → IsPlace from → Contains (onward (from ∷ rest)) at → IsPlace at
-place-next from at rest place has =
-    elim place [
-      | inl a ↦ inr (inl (goes-by from 5 at 6 rest (after-five rest) a has))
-      | inr p ↦ elim p [
-        | inl b ↦ inr (inr (goes-by from 6 at 8 rest (after-six rest) b has))
-        | inr c ↦ inr (inr (goes-by from 8 at 8 rest (after-eight rest) c has))
-      ]
-    ]
-
-place-of : (before : List ℕ) (at : ℕ) → IsTrail extends_image (layout_of extends) 5 (at ∷ before) → IsPlace at
-place-of [] at trail = inl trail
-place-of (from ∷ rest) at trail = place-next from at rest (place-of rest from trail.1) trail.0
-
-sole-from : (other : ℕ) → IsEdge extends_image (layout_of extends) 5 other 6 → other ≡ 5
-sole-from other edge =
-    elim (place-of edge.before other edge.trail.1) [
-      | inl a ↦ a
-      | inr p ↦ elim p [
-        | inl b ↦ (let clash = goes-by other 6 6 8 edge.before (after-six edge.before) b edge.trail.0 in absurd (omega (arith, clash)))
-        | inr c ↦ (let clash = goes-by other 8 6 8 edge.before (after-eight edge.before) c edge.trail.0 in absurd (omega (arith, clash)))
-      ]
-    ]
-
-extends-prepared : IsPrepared extends_image (layout_of extends) 5 Idiv word_width 6
-unfolding instruction_at table code_of word_at sign_extension_of signed_of vec_of
-extends-prepared =
-    nearest (record {
-      edge = record { before = []; trail = (first 6 [], refl) };
-      sole = sole-from;
-      inner = λ e. omega (arith, e);
-    }) (record { op = PlainOp Cwd; len = 1 }, refl, refl) refl

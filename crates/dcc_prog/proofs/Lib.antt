@@ -14,3 +14,5 @@ pub mod RefusedLaws
 pub mod MachineEnds
 pub mod WatchLaws
 mod Examples
+mod DivisionExamples
+mod LayoutExamples

@@ -130,7 +130,7 @@ step-at image input r at instr placed cs is =
     ∙ ap (λ a. at_offset image input (op_step instr.op 0 r) (a + instr.len)) low
 
 -- as many steps as a run has instructions
-run-steps : (image : Image) (input : List ℕ) (r : State) (at : ℕ) (run : List Instr) → IsPlaced image → code_segment r ≡ image.cs → IsRun (code_of image) at run → after step (length run) (at_offset image input r at) ≡ at_offset image input (executed r run) (end_of at run)
+pub run-steps : (image : Image) (input : List ℕ) (r : State) (at : ℕ) (run : List Instr) → IsPlaced image → code_segment r ≡ image.cs → IsRun (code_of image) at run → after step (length run) (at_offset image input r at) ≡ at_offset image input (executed r run) (end_of at run)
 run-steps image input r at [] placed cs is = refl
 run-steps image input r at (i ∷ rest) placed cs is =
     ap (λ s. after step (length rest) s) (step-at image input r at i placed cs is.0)
