@@ -373,7 +373,7 @@ begun = setting b 1 (setting a 0xFFFF (setting b' 2 (setting a' 3 (record {
   waiting = [];
   memory = [];
   input = [];
-  out = [];
+  events = [];
   end = Running;
 }))))
 

@@ -3,10 +3,11 @@ use Rattle.std.proofs.Common.{◌≡◌, ℕ, ◌%◌, ◌+◌, Bool, true, fals
 use Rattle.std.specs.Prelude.{if◌then◌else◌, ◌==◌}
 use Rattle.std.specs.List.{list_any}
 use Rattle.dcc_run.specs.End.{Running, is_over}
+use Rattle.dcc_run.specs.Place.{Place}
 use Rattle.dcc_ir.specs.declared.syntax.Loc.{Loc}
 use Rattle.dcc_ir.specs.Tree.{Stmt, Call, Exit, Goto, If, Switch, Ret, Stop, Block, Graph, Program}
 use Rattle.dcc_ir.specs.Location.{filled}
-use Rattle.dcc_ir.specs.Run.{State, Waiting, activation, value_in, stmt_step, entering, going_to, passing, callee_base, calling, graph_at, giving, returning, switching, exit_step, block_step, step, no_graph, first_memory, first_state, Place, block_mark}
+use Rattle.dcc_ir.specs.Run.{State, Waiting, activation, value_in, stmt_step, entering, going_to, passing, callee_base, calling, graph_at, giving, returning, switching, exit_step, block_step, step, no_graph, first_memory, first_state, block_mark}
 use Rattle.dcc_ir.specs.Flow.{graph_or_none}
 use Rattle.dcc_ir.specs.Keeps.{has_block}
 use Rattle.dcc_ir.proofs.StepLaws.{stmt-within, passing-alike, giving-alike}
@@ -107,7 +108,7 @@ opening graphs p fill input =
       waiting = [];
       memory = first_memory p fill;
       input = input;
-      out = [];
+      events = [];
       end = Running;
     })
 

@@ -26,11 +26,11 @@ performed (stmt ∷ stmts) s =
     let next = stmt_step stmt s in
     if is_over next.end then next else performed stmts next
 
--- The two end alike, with the same output and the same input left; and where the run goes on, they have the same
+-- The two end alike, with the same events and the same input left; and where the run goes on, they have the same
 -- memory, and the same values at all but these locations.
 pub record SameBut (locations : List Loc) (s t : State) : Type 0 where
   pub end : t.end ≡ s.end
-  pub out : t.out ≡ s.out
+  pub events : t.events ≡ s.events
   pub input : t.input ≡ s.input
   pub memory : s.end ≡ Running → t.memory ≡ s.memory
   pub values : s.end ≡ Running → (location : Loc) → is_among locations location ≡ false

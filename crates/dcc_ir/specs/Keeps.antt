@@ -1,9 +1,10 @@
 -- What a pass keeps of a program.
 use Rattle.std.specs.Prelude.{◌≡◌, ◌≢◌, ℕ, ◌<◌, ◌==◌, Bool, true, List, [], ◌∷◌, map, filter, find, flat_map, All, Option, Some, None}
+use Rattle.dcc_run.specs.Place.{Place}
 use Rattle.dcc_run.specs.Visits.{VisitsKept}
 use Rattle.dcc_ir.specs.Tree.{Stmt, Call, Block, Graph, Program}
 use Rattle.dcc_ir.specs.WellFormed.{is_memory}
-use Rattle.dcc_ir.specs.Run.{graph_at, no_block, inner_system, first_state, block_mark, Place}
+use Rattle.dcc_ir.specs.Run.{graph_at, no_block, inner_system, first_state, block_mark}
 use Rattle.dcc_ir.specs.Flow.{graph_or_none, flow_at, Reached, IsContraction, HaveOneEdge}
 
 -- the program has the block
@@ -37,7 +38,7 @@ pub record KeepsCalls (p q : Program) (entry : ℕ) : Type 0 where
       → (flow_at q entry).has b ≡ true
 
 -- The second program has the first one's graphs, each with a part of its blocks. For every fill and input its run
--- visits those blocks as the first one's run does, with the same outputs, and the two end alike.
+-- visits those blocks as the first one's run does, with the same events, and the two end alike.
 pub record Keeps (p q : Program) : Type 0 where
   pub entries : map (λ g. g.entry) q.graphs ≡ map (λ g. g.entry) p.graphs
   pub runs : (fill : ℕ) (input : List ℕ) → fill < 65536 → All (λ byte. byte < 256) input →

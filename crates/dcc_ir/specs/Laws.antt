@@ -1,16 +1,16 @@
 -- Laws of the inner language's definitions.
 use Rattle.std.specs.Prelude.{◌≡◌, ℕ, true, false, ◌^◌, ◌<◌}
-use Rattle.dcc_run.specs.System.{IsLawful}
+use Rattle.dcc_run.specs.Watched.{IsWatchable}
 use Rattle.dcc_ir.specs.Tree.{Expr, Program}
 use Rattle.dcc_ir.specs.Value.{width_of, Scene, value_of, Fits}
 use Rattle.dcc_ir.specs.WellFormed.{is_expr}
-use Rattle.dcc_ir.specs.Run.{inner_system}
+use Rattle.dcc_ir.specs.Run.{watched_inner}
 use Rattle.dcc_ir.specs.Flow.{Flow, Reached, Leads, HaveOneEdge}
 use Rattle.dcc_ir.specs.Keeps.{Keeps}
 
--- a state that has ended stays, and no step takes output back
-abbrev pub RunsAreLawful : Type 0
-RunsAreLawful = (p : Program) (fill : ℕ) → IsLawful (inner_system p fill)
+-- a state that has ended stays, no step takes events back, and no step is foul
+abbrev pub RunsAreWatchable : Type 0
+RunsAreWatchable = (p : Program) (fill : ℕ) → IsWatchable (watched_inner p fill)
 
 abbrev pub ProgramsKeepThemselves : Type 0
 ProgramsKeepThemselves = (p : Program) → Keeps p p

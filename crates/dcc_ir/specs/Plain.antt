@@ -2,11 +2,14 @@
 use Rattle.std.specs.Prelude.{◌%◌, ◌&&◌, nat_le, nat_lt, if◌then◌else◌, slice_index, ℕ, List, fold, map, reverse, drop, Option, Some, None}
 use denote.Ref.{Bor}
 use Rattle.dcc_run.specs.End.{End, Running, Exit as ExitWith, Divide, Stuck}
+use Rattle.dcc_run.specs.Event.{Event, Wrote, Took, MetEnd}
 use Rattle.dcc_ir.specs.declared.syntax.Block.{Block as BlockOf}
 use Rattle.dcc_ir.specs.declared.plain.scene.Held.{Held}
 use Rattle.dcc_ir.specs.declared.plain.scene.View.{View}
 use Rattle.dcc_ir.specs.declared.plain.state.End.{End as Ending}
 use Rattle.dcc_ir.specs.declared.plain.state.End.TheVariants.{Running as StillRunning, Exit as Exits, Divide as Divides, Stuck as IsStuck}
+use Rattle.dcc_ir.specs.declared.plain.state.Event.{Event as Happening}
+use Rattle.dcc_ir.specs.declared.plain.state.Event.TheVariants.{Wrote as Writes, Took as Takes, MetEnd as MeetsEnd}
 use Rattle.dcc_ir.specs.declared.plain.state.Activation.{Activation as Called}
 use Rattle.dcc_ir.specs.declared.plain.state.Waiting.{Waiting as Waits}
 use Rattle.dcc_ir.specs.declared.plain.state.PlainRun.{PlainRun}
@@ -16,6 +19,12 @@ use Rattle.dcc_ir.specs.Views.{stmt_of, block_of, graph_of}
 use Rattle.dcc_ir.specs.Location.{Values, with_value, filled}
 use Rattle.dcc_ir.specs.Value.{Scene}
 use Rattle.dcc_ir.specs.Run.{Activation, Waiting, State, no_block}
+
+-- what happens at the console
+abbrev pub event_of : Happening → Event
+event_of (Writes byte) = Wrote byte
+event_of (Takes byte) = Took byte
+event_of MeetsEnd = MetEnd
 
 -- the values after locations have taken these, one after another, from the fill on
 abbrev pub values_of : List ℕ → ℕ → List Held → Values
@@ -72,7 +81,7 @@ state_of run = record {
   waiting = reverse (map (waiting_of run.fill) run.waiting.items);
   memory = run.memory.items;
   input = drop run.taken run.input.items;
-  out = run.out.items;
+  events = map event_of run.events.items;
   end = end_of run.end;
 }
 

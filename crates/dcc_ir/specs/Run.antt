@@ -2,7 +2,10 @@
 use Rattle.std.specs.Prelude.{ℕ, ◌+◌, ◌-◌, ◌*◌, ◌/◌, ◌%◌, ◌==◌, ◌&&◌, nat_le, nat_lt, Bool, true, false, if◌then◌else◌, List, [], ◌∷◌, ◌++◌, map, find, get_or, slice_get, slice_index, Option, Some, None}
 use Rattle.std.specs.List.{range_with_len}
 use Rattle.dcc_run.specs.End.{End, Running, Exit as ExitWith, Divide, Stuck, is_over}
+use Rattle.dcc_run.specs.Event.{Event, Wrote, Took, MetEnd, writes}
+use Rattle.dcc_run.specs.Place.{Place}
 use Rattle.dcc_run.specs.System.{System}
+use Rattle.dcc_run.specs.Watched.{Watched}
 use Rattle.dcc_ir.specs.declared.syntax.Loc.{Loc}
 use Rattle.dcc_ir.specs.declared.syntax.Put.{Put}
 use Rattle.dcc_ir.specs.declared.syntax.Put.TheVariants.{Memory, One, Two}
@@ -36,9 +39,9 @@ pub record State : Type 0 where
   pub waiting : List Waiting
   -- 65,536 bytes
   pub memory : List ℕ
-  -- the input bytes that are not yet read, and the output so far
+  -- the input bytes that are not yet read, and what has happened at the console so far, the oldest first
   pub input : List ℕ
-  pub out : List ℕ
+  pub events : List Event
   pub end : End
 
 -- what the expressions of the running activation read
@@ -69,19 +72,23 @@ abbrev pub dividing : Loc → Option ℕ → State → State
 dividing location (Some n) s = setting location n s
 dividing location None s = ended Divide s
 
+-- these events happen at the console
+abbrev pub happening : List Event → State → State
+happening events s = record s { events = s.events ++ events }
+
 abbrev pub writing : List ℕ → State → State
-writing bytes s = record s { out = s.out ++ bytes }
+writing bytes s = happening (writes bytes) s
 
 -- the place takes a byte, where there is one
 abbrev pub taking : Option Loc → ℕ → State → State
 taking (Some location) byte s = setting location byte s
 taking None byte s = s
 
--- the next of these input bytes is taken, and written too where it is echoed; where there is none, 1Ah is taken
+-- the next of these input bytes is taken, and then written too where it is echoed; where there is none, 1Ah is taken
 abbrev pub keyed : Bool → Option Loc → List ℕ → State → State
-keyed echo place [] s = taking place 0x1A s
+keyed echo place [] s = happening (MetEnd ∷ []) (taking place 0x1A s)
 keyed echo place (byte ∷ input) s =
-    writing (if echo then byte ∷ [] else []) (taking place byte (record s { input = input }))
+    happening (Took byte ∷ (if echo then Wrote byte ∷ [] else [])) (taking place byte (record s { input = input }))
 
 -- the value of an argument, where there is one
 abbrev pub argument_in : State → Option Expr → ℕ
@@ -220,20 +227,19 @@ first_state p fill input =
       waiting = [];
       memory = first_memory p fill;
       input = input;
-      out = [];
+      events = [];
       end = Running;
     })
 
 -- the runs of a program, with this fill
 abbrev pub inner_system : Program → ℕ → System State
-inner_system p fill = record { step = step p fill; out = λ s. s.out; end = λ s. s.end }
+inner_system p fill = record { step = step p fill; events = λ s. s.events; end = λ s. s.end }
 
--- a block by the entry of its graph and its own address
-pub record Place : Type 0 where
-  pub entry : ℕ
-  pub at : ℕ
-
--- the block that is about to begin
+-- the block that is about to begin, by the entry of its graph and its own address
 abbrev pub block_mark : State → Option Place
 block_mark s =
     if s.running.begins then Some (record { entry = s.running.graph.entry; at = s.running.block.at }) else None
+
+-- the same runs, of which the blocks are marked; no step is foul
+abbrev pub watched_inner : Program → ℕ → Watched State Place
+watched_inner p fill = record { system = inner_system p fill; mark = block_mark; foul = λ s. false }

@@ -1,10 +1,10 @@
 //! Laws of the inner language's definitions. Each function only states a law by its contract, and does nothing.
 
-ghost use Rattle.dcc_ir.specs.Laws.{RunsAreLawful, ProgramsKeepThemselves, KeepsComposes, OneEdgeLiesBehindOne, ValuesFit};
+ghost use Rattle.dcc_ir.specs.Laws.{RunsAreWatchable, ProgramsKeepThemselves, KeepsComposes, OneEdgeLiesBehindOne, ValuesFit};
 
-/// A run that has ended stays, and no step takes output back.
-pub fn runs_are_lawful()
-    ensures { RunsAreLawful }
+/// A run that has ended stays, no step takes events back, and no step is foul.
+pub fn runs_are_watchable()
+    ensures { RunsAreWatchable }
 {}
 
 /// A program keeps itself.

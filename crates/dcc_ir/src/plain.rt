@@ -2,10 +2,10 @@
 
 ghost use Rattle.std.specs.List.{range_with_len};
 ghost use Rattle.std.specs.Prelude.{◌≡◌, OnOk, IfOk, map, option_map};
-ghost use Rattle.dcc_run.specs.System.{out_after, end_after};
+ghost use Rattle.dcc_run.specs.System.{events_after, end_after};
 ghost use Rattle.dcc_run.specs.End.{is_over};
 ghost use Rattle.dcc_ir.specs.Views.{stmt_of, graph_of, program_of};
-ghost use Rattle.dcc_ir.specs.Plain.{first_byte, end_of, state_of, shared_graph_of};
+ghost use Rattle.dcc_ir.specs.Plain.{first_byte, end_of, event_of, state_of, shared_graph_of};
 ghost use Rattle.dcc_ir.specs.Run as inner;
 
 mod calls;
@@ -15,7 +15,7 @@ pub mod values;
 
 use crate::syntax::{Graph, IrProgram, Stmt};
 pub use scene::{Held, View};
-pub use state::{Activation, End, PlainRun, Refused, Waiting};
+pub use state::{Activation, End, Event, PlainRun, Refused, Waiting};
 use std::alloc::{AllocError, Global};
 
 // The graph with that entry.
@@ -30,10 +30,10 @@ fn graph_at(graphs: &[Graph], entry: u16) -> Option<&Graph>
     None
 }
 
-/// The output of a run so far, and its end.
+/// What has happened at the console, the oldest first, and how the run has ended.
 #[derive(Drop)]
 pub struct Outcome {
-    pub out: Vec<u8>,
+    pub events: Vec<Event>,
     pub end: End,
 }
 
@@ -93,7 +93,7 @@ impl<'p> PlainRun<'p> {
             memory: first_memory(alloc, program, fill)?,
             input: input.to_vec(alloc)?,
             taken: 0,
-            out: Vec::new(alloc),
+            events: Vec::new(alloc),
             end: End::Running,
             fill,
         };
@@ -169,8 +169,8 @@ pub fn run(
     fill: u16,
     steps: u64,
 ) -> Result<Outcome, Refused>
-    ensures out { IfOk result (λ outcome. outcome.out.items
-        ≡ out_after (inner.inner_system (program_of program.now) fill) steps
+    ensures events { IfOk result (λ outcome. map event_of outcome.events.items
+        ≡ events_after (inner.inner_system (program_of program.now) fill) steps
         (inner.first_state (program_of program.now) fill input.now)) }
     ensures end { IfOk result (λ outcome. end_of outcome.end
         ≡ end_after (inner.inner_system (program_of program.now) fill) steps
@@ -183,7 +183,7 @@ pub fn run(
         done += 1;
     }
     Ok(Outcome {
-        out: run.out,
+        events: run.events,
         end: run.end,
     })
 }

@@ -1,10 +1,11 @@
 //! States of a run, and what single statements do.
 
-ghost use Rattle.std.specs.Prelude.{◌≡◌, ℕ, ◌/◌, ◌%◌, ◌^◌, ◌-◌, ◌<◌, OnOk, IfOk, slice_set};
+ghost use Rattle.std.specs.Prelude.{◌≡◌, ℕ, ◌/◌, ◌%◌, ◌^◌, ◌-◌, ◌<◌, OnOk, IfOk, map, slice_set};
+ghost use Rattle.dcc_run.specs.Event.{writes};
 ghost use Rattle.dcc_ir.specs.Value.{with_bytes_at, division_of};
 ghost use Rattle.dcc_ir.specs.Dos.{dos_string};
 ghost use Rattle.dcc_ir.specs.Views.{expr_of, stmt_of};
-ghost use Rattle.dcc_ir.specs.Plain.{scene_of, state_of};
+ghost use Rattle.dcc_ir.specs.Plain.{event_of, scene_of, state_of};
 ghost use Rattle.dcc_ir.specs.Run as inner;
 
 use super::scene::{Held, View, bits_at, byte_at, value_of};
@@ -23,6 +24,17 @@ pub enum End {
     Divide,
     /// In the graph with this entry, where the program has no further step.
     Stuck(u16),
+}
+
+/// What happens at the console.
+#[derive(Clone, Copy, PartialEq, Eq, Debug)]
+pub enum Event {
+    /// This byte is written.
+    Wrote(u8),
+    /// This byte of the input is taken.
+    Took(u8),
+    /// A byte is asked for, and the input has ended.
+    MetEnd,
 }
 
 /// Why a step is not made.
@@ -81,7 +93,8 @@ pub struct PlainRun<'p> {
     pub input: Vec<u8>,
     /// How many bytes of the input are read.
     pub taken: usize,
-    pub out: Vec<u8>,
+    /// The oldest first.
+    pub events: Vec<Event>,
     pub end: End,
     /// What locations hold that have taken no value.
     pub fill: u16,
@@ -138,6 +151,17 @@ fn string_at(alloc: Global, memory: &[u8], address: u32) -> Result<Vec<u8>, Refu
         .take_while(|byte| *byte != dos::STRING_END)
         .collect(alloc)?;
     Ok(string)
+}
+
+// These bytes, written.
+fn written(alloc: Global, bytes: &[u8]) -> Result<Vec<Event>, Refused>
+    ensures { IfOk result (λ events. map event_of events.items ≡ writes bytes.now) }
+{
+    let mut events = Vec::new(alloc);
+    for byte in bytes {
+        events.push(Event::Wrote(*byte))?;
+    }
+    Ok(events)
 }
 
 impl<'p> PlainRun<'p> {
@@ -200,19 +224,25 @@ impl<'p> PlainRun<'p> {
         }
     }
 
-    // The next byte of the input is taken, and written too where it is echoed; where there is none, 1Ah is taken.
+    // The next byte of the input is taken, and then written too where it is echoed; where there is none, 1Ah is
+    // taken.
     fn key(&mut self, echo: bool, place: Option<Loc>) -> Result<(), Refused>
         ensures after { OnOk result (state_of self.new
             ≡ inner.keyed echo place (state_of self.old).input (state_of self.old)) }
         ensures fill { self.new.fill ≡ self.old.fill }
     {
         match self.input.get(self.taken).copied() {
-            None => self.take(place, u32::from(dos::END_OF_INPUT)),
+            None => {
+                self.take(place, u32::from(dos::END_OF_INPUT))?;
+                self.events.push(Event::MetEnd)?;
+                Ok(())
+            }
             Some(byte) => {
                 self.taken += 1;
                 self.take(place, u32::from(byte))?;
+                self.events.push(Event::Took(byte))?;
                 if echo {
-                    self.out.push(byte)?;
+                    self.events.push(Event::Wrote(byte))?;
                 }
                 Ok(())
             }
@@ -227,14 +257,14 @@ impl<'p> PlainRun<'p> {
         match number {
             dos::PUTC => {
                 let byte = u8::try_from(n).map_err(|_| Refused::Wide)?;
-                self.out.push(byte)?;
+                self.events.push(Event::Wrote(byte))?;
             }
             dos::EXIT => self.end = End::Exit(n),
             dos::GETCHE => self.key(true, place)?,
             dos::GETCH => self.key(false, place)?,
             dos::PUTS => {
                 let string = string_at(alloc, &self.memory, n)?;
-                self.out.extend_from_slice(&string)?;
+                self.events.extend_from_slice(&written(alloc, &string)?)?;
             }
             _ => self.stop(),
         }
