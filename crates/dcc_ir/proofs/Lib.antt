@@ -10,3 +10,5 @@ pub mod ShiftLaws
 pub mod PassLaws
 mod Examples
 pub mod FitLaws
+pub mod ExecuteLaws
+mod PassingExamples

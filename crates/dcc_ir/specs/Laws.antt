@@ -1,16 +1,24 @@
 -- Laws of the inner language's definitions.
-use Rattle.std.specs.Prelude.{◌≡◌, ℕ, true, false, ◌^◌, ◌<◌}
+use Rattle.std.specs.Prelude.{◌≡◌, ℕ, true, false, ◌^◌, ◌<◌, List, ◌++◌, if◌then◌else◌}
+use Rattle.std.specs.List.{list_any}
+use Rattle.dcc_run.specs.End.{is_over}
 use Rattle.dcc_run.specs.Watched.{IsWatchable}
-use Rattle.dcc_ir.specs.Tree.{Expr, Program}
+use Rattle.dcc_ir.specs.Tree.{Expr, Stmt, Graph, Program}
 use Rattle.dcc_ir.specs.Value.{width_of, Scene, value_of, Fits}
 use Rattle.dcc_ir.specs.WellFormed.{is_expr}
-use Rattle.dcc_ir.specs.Run.{watched_inner}
+use Rattle.dcc_ir.specs.Run.{State, execute, is_call, block_step, watched_inner}
 use Rattle.dcc_ir.specs.Flow.{Flow, Reached, Leads, HaveOneEdge}
 use Rattle.dcc_ir.specs.Keeps.{Keeps}
 
 -- a state that has ended stays, no step takes events back, and no step is foul
 abbrev pub RunsAreWatchable : Type 0
 RunsAreWatchable = (p : Program) (fill : ℕ) → IsWatchable (watched_inner p fill)
+
+-- Statements without a Call are executed one after another; where the run isn't over after them, the block goes on.
+abbrev pub StatementsAreExecuted : Type 0
+StatementsAreExecuted = (graphs : List Graph) (fill : ℕ) (stmts rest : List Stmt) (s : State) → list_any is_call stmts ≡ false
+    → is_over s.end ≡ false → block_step graphs fill (stmts ++ rest) s
+    ≡ (if is_over (execute stmts s).end then execute stmts s else block_step graphs fill rest (execute stmts s))
 
 abbrev pub ProgramsKeepThemselves : Type 0
 ProgramsKeepThemselves = (p : Program) → Keeps p p

@@ -1,14 +1,16 @@
--- The form in which procedures pass halves and flags to each other, before it is known which are wanted.
-use Rattle.std.specs.Prelude.{◌≡◌, true, false, List, [], ◌∷◌, ◌++◌, map, drop, All}
+-- The form in which procedures pass words, halves and flags to each other, before it is known which are wanted.
+use Rattle.std.specs.Prelude.{◌≡◌, ℕ, ◌+◌, ◌*◌, ◌<◌, ◌&&◌, Bool, true, false, List, [], ◌∷◌, ◌++◌, length, map, drop, flat_map, slice_get, All, Option, Some, None}
 use Rattle.std.specs.List.{list_all}
+use Rattle.std.specs.List.Sorted.{IsStrictlyIncreasing}
 use Rattle.dcc_num.specs.declared.Reg.TheVariants.{Ax, Cx, Dx, Bx, Si, Di}
 use Rattle.dcc_num.specs.declared.Half.TheVariants.{Low, High}
 use Rattle.dcc_num.specs.declared.FlagName.TheVariants.{Cf, Zf, Sf, Of}
 use Rattle.dcc_ir.specs.declared.syntax.Loc.{Loc}
 use Rattle.dcc_ir.specs.declared.syntax.Loc.TheVariants.{Half, Flag}
-use Rattle.dcc_ir.specs.declared.syntax.Put.TheVariants.{One}
+use Rattle.dcc_ir.specs.declared.syntax.Put.{Put}
+use Rattle.dcc_ir.specs.declared.syntax.Put.TheVariants.{Memory, One, Two}
 use Rattle.dcc_ir.specs.declared.syntax.Param.{Param}
-use Rattle.dcc_ir.specs.Tree.{Expr, Get, Stmt, Call, Exit, Ret, Graph, Program}
+use Rattle.dcc_ir.specs.Tree.{Expr, Get, Load, Address, Stmt, Call, Exit, Ret, Graph, Program}
 
 -- the halves and flags that pass, in their order
 abbrev pub passed : List Loc
@@ -16,38 +18,74 @@ passed =
     Half Ax Low ∷ Half Ax High ∷ Half Cx Low ∷ Half Cx High ∷ Half Dx Low ∷ Half Dx High ∷ Half Bx Low ∷ Half Bx High
     ∷ Half Si Low ∷ Half Si High ∷ Half Di Low ∷ Half Di High ∷ Flag Cf ∷ Flag Zf ∷ Flag Sf ∷ Flag Of ∷ []
 
+-- Params.
+
 -- the param of a half or a flag
 abbrev pub param_of : Loc → Param
 param_of location = record { stack = false; put = One location }
 
--- the params are the words of the stack, then the halves and flags
-pub record PassesIn (graph : Graph) : Type 0 where
-  pub words : List Param
-  pub stack : list_all (λ p. p.stack) words ≡ true
+-- an argument word stands in memory, or its two bytes in locations
+abbrev pub is_word_put : Put → Bool
+is_word_put (One location) = false
+is_word_put _ = true
+
+-- the params are the argument words of the stack, then the halves and flags
+pub record PassesIn (words : List Param) (graph : Graph) : Type 0 where
+  pub stack : list_all (λ p. p.stack && is_word_put p.put) words ≡ true
   pub params : graph.params ≡ words ++ map param_of passed
 
--- a Ret gives the halves and flags, then bytes of the words of the stack
-pub record PassesOut (values : List Expr) : Type 0 where
-  pub bytes : List Expr
-  pub all : values ≡ map Get passed ++ bytes
+-- Values that are given back.
 
-abbrev pub RetPasses : Exit → Type 0
-RetPasses (Ret values) = PassesOut values
-RetPasses _ = Unit {0}
+-- the two bytes of argument word j, low before high, from where its param has put it
+abbrev pub bytes_at_put : ℕ → Put → List Expr
+bytes_at_put j Memory = Load 8 (Address (2 * j)) ∷ Load 8 (Address (2 * j + 1)) ∷ []
+bytes_at_put j (Two low high) = Get low ∷ Get high ∷ []
+bytes_at_put j (One location) = []
 
--- a Call takes words, then the caller's halves and flags, and sets these and places for bytes
-pub record CallPasses (results : List Loc) (arguments : List Expr) : Type 0 where
+abbrev pub bytes_of_param : ℕ → Option Param → List Expr
+bytes_of_param j (Some p) = bytes_at_put j p.put
+bytes_of_param j None = []
+
+-- the bytes of the argument words of these numbers
+abbrev pub bytes_of : List Param → List ℕ → List Expr
+bytes_of words numbers = flat_map (λ j. bytes_of_param j (slice_get words j)) numbers
+
+-- numbers of argument words, ascending
+pub record AreNumbers (params : List Param) (numbers : List ℕ) : Type 0 where
+  pub ascending : IsStrictlyIncreasing numbers
+  pub words : All (λ j. j < length params) numbers
+
+-- a Ret gives the halves and flags, then the bytes of the argument words of these numbers
+abbrev pub RetPasses : List Param → List ℕ → Exit → Type 0
+RetPasses words numbers (Ret values) = values ≡ map Get passed ++ bytes_of words numbers
+RetPasses words numbers _ = Unit {0}
+
+-- the graph takes argument words, halves and flags, and gives back the halves, the flags and the words of these numbers
+pub record GraphPasses (numbers : List ℕ) (graph : Graph) : Type 0 where
+  pub words : List Param
+  pub params : PassesIn words graph
+  pub known : AreNumbers words numbers
+  pub rets : All (λ b. RetPasses words numbers b.exit) graph.blocks
+
+-- Calls.
+
+-- a Call takes words, then the caller's halves and flags, and sets these and then two places for each word of these
+-- numbers
+pub record CallPasses (numbers : List ℕ) (results : List Loc) (arguments : List Expr) : Type 0 where
   pub words : List Expr
   pub taken : arguments ≡ words ++ map Get passed
   pub bytes : List Loc
   pub given : results ≡ passed ++ bytes
+  pub two : length bytes ≡ 2 * length numbers
 
-abbrev pub StmtPasses : Stmt → Type 0
-StmtPasses (Call results entry arguments depth) = CallPasses results arguments
-StmtPasses _ = Unit {0}
+-- the callee gives back what the entries tell
+abbrev pub StmtPasses : (ℕ → List ℕ) → Stmt → Type 0
+StmtPasses back (Call results entry arguments depth) = CallPasses (back entry) results arguments
+StmtPasses back _ = Unit {0}
 
--- all halves and flags pass in and out of each graph but the first, and through each Call
+-- All halves and flags pass in and out of each graph but the first, and through each Call. Each graph, by its entry,
+-- has its numbers of words that are given back.
 pub record PassesAll (p : Program) : Type 0 where
-  pub params : All PassesIn (drop 1 p.graphs)
-  pub rets : All (λ g. All (λ b. RetPasses b.exit) g.blocks) (drop 1 p.graphs)
-  pub calls : All (λ g. All (λ b. All StmtPasses b.stmts) g.blocks) p.graphs
+  pub back : ℕ → List ℕ
+  pub graphs : All (λ g. GraphPasses (back g.entry) g) (drop 1 p.graphs)
+  pub calls : All (λ g. All (λ b. All (StmtPasses back) b.stmts) g.blocks) p.graphs

@@ -114,7 +114,16 @@ stmt_step (Div location e) s = dividing location (division_of (scene_of s) e) s
 stmt_step (Dos number place argument) s = dos_step number place (argument_in s argument) s
 stmt_step (Call results entry arguments depth) s = stuck s
 
+-- the statements are executed in their order, up to the first that ends the run
+abbrev pub execute : List Stmt → State → State
+execute [] s = s
+execute (stmt ∷ stmts) s = if is_over s.end then s else execute stmts (stmt_step stmt s)
+
 -- Calls and returns.
+
+abbrev pub is_call : Stmt → Bool
+is_call (Call results entry arguments depth) = true
+is_call _ = false
 
 abbrev pub no_block : Block
 no_block = record { at = 0; stmts = []; exit = Stop }

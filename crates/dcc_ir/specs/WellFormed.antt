@@ -11,14 +11,14 @@ use Rattle.dcc_ir.specs.declared.syntax.Param.{Param}
 use Rattle.dcc_ir.specs.Tree.{Expr, Const, Get, Load, Unary, Binary, Widen, Part, Join, Choose, Address, Stmt, Set, Fetch, Store, Div, Call, Dos, Exit, Goto, If, Switch, Ret, Stop, Block, Graph, Program}
 use Rattle.dcc_ir.specs.Location.{location_width}
 use Rattle.dcc_ir.specs.Value.{width_of}
-use Rattle.dcc_ir.specs.Run.{graph_at}
+use Rattle.dcc_ir.specs.Run.{is_call, graph_at}
 
 -- Expressions.
 
 abbrev pub is_width : ℕ → Bool
 is_width width = width == 1 || width == 8 || width == 16 || width == 32
 
--- the width of a load or a store
+-- the width of a load, a store or a Div
 abbrev pub is_stored_width : ℕ → Bool
 is_stored_width width = width == 8 || width == 16 || width == 32
 
@@ -72,7 +72,7 @@ is_expr_of bits width e = is_expr bits e && (width_of bits e == width)
 -- the division of a Div: it may fault
 abbrev pub is_dividing : List ℕ → ℕ → Expr → Bool
 is_dividing bits width (Binary operator w a b) =
-    is_division operator && (w == width) && is_width width && is_expr_of bits width a && is_expr_of bits width b
+    is_division operator && (w == width) && is_stored_width width && is_expr_of bits width a && is_expr_of bits width b
 is_dividing bits width _ = false
 
 -- the place of a byte that a DOS call takes, where there is one
@@ -110,6 +110,19 @@ is_exit bits count Stop = true
 abbrev pub is_block : List ℕ → ℕ → Block → Bool
 is_block bits count block = list_all (is_stmt bits) block.stmts && is_exit bits count block.exit
 
+-- the end of a block that leads to a block
+abbrev pub is_jump : Exit → Bool
+is_jump (Goto place) = true
+is_jump (If test one other) = true
+is_jump (Switch e places) = true
+is_jump _ = false
+
+-- after a Call these statements have no further Call, and the block ends in a jump
+abbrev pub jumps_after_call : List Stmt → Exit → Bool
+jumps_after_call [] exit = true
+jumps_after_call (stmt ∷ stmts) exit =
+    if is_call stmt then not (list_any is_call stmts) && is_jump exit else jumps_after_call stmts exit
+
 -- Graphs.
 
 abbrev pub is_put : List ℕ → Put → Bool
@@ -129,9 +142,13 @@ abbrev pub all_differ : List ℕ → Bool
 all_differ [] = true
 all_differ (n ∷ ns) = not (list_any (λ m. n == m) ns) && all_differ ns
 
--- the graph has a block, its blocks have addresses of their own, and all widths and numbers agree
+-- The graph has a block, its blocks have addresses of their own, and all widths and numbers agree. Its entry and the
+-- addresses are offsets, and after a Call a block jumps.
 pub record IsGraph (graph : Graph) : Type 0 where
   pub begins : 0 < length graph.blocks
+  pub entry : graph.entry < 65536
+  pub offsets : All (λ b. b.at < 65536) graph.blocks
+  pub jumps : All (λ b. jumps_after_call b.stmts b.exit ≡ true) graph.blocks
   pub addresses : all_differ (map (λ b. b.at) graph.blocks) ≡ true
   pub bits : list_all is_width graph.bits ≡ true
   pub params : list_all (λ p. is_put graph.bits p.put) graph.params ≡ true
@@ -149,6 +166,12 @@ is_param_list bits [] = true
 is_param_list bits (p ∷ ps) =
     (if p.stack then put_width bits p.put == 16 else (not (is_memory p.put) && list_all (λ q. not q.stack) ps))
     && is_param_list bits ps
+
+-- from the first param in memory on, each stack param is in memory
+abbrev pub memory_params_last : List Param → Bool
+memory_params_last [] = true
+memory_params_last (p ∷ ps) =
+    (not (is_memory p.put) || list_all (λ q. not q.stack || is_memory q.put) ps) && memory_params_last ps
 
 -- the widths of the values that a block's end gives back, where it is a Ret
 abbrev pub ret_widths : List ℕ → Exit → List (List ℕ)
@@ -171,13 +194,18 @@ abbrev pub IsCalling : Program → Graph → Stmt → Type 0
 IsCalling p caller (Call results entry arguments depth) = IsCall p caller results entry arguments
 IsCalling p caller _ = Unit {0}
 
--- The program has a graph, its graphs are well formed and have entries of their own; the first has no params and gives
--- nothing back; all Rets of a graph give the same widths; each call agrees with its graph.
+-- The image has bytes, and the stack lies between addresses. The program has a graph, its graphs are well formed and
+-- have entries of their own; the first has no params and gives nothing back; the params in memory are the last ones on
+-- the stack; all Rets of a graph give the same widths; each call agrees with its graph.
 pub record IsProgram (p : Program) : Type 0 where
+  pub image : All (λ byte. byte < 256) p.image
+  pub lo : p.lo < 65536
+  pub hi : p.hi < 65536
   pub begins : 0 < length p.graphs
   pub entries : all_differ (map (λ g. g.entry) p.graphs) ≡ true
   pub graphs : All IsGraph p.graphs
   pub params : All (λ g. is_param_list g.bits g.params ≡ true) p.graphs
+  pub memory_last : All (λ g. memory_params_last g.params ≡ true) p.graphs
   pub start : All (λ g. g.params ≡ []) (take 1 p.graphs)
   pub start_rets : All (λ g. All (λ widths. widths ≡ []) (all_ret_widths g)) (take 1 p.graphs)
   pub rets : All (λ g. (a b : List ℕ) → Contains (all_ret_widths g) a → Contains (all_ret_widths g) b → a ≡ b) p.graphs

@@ -1,10 +1,15 @@
 //! Laws of the inner language's definitions. Each function only states a law by its contract, and does nothing.
 
-ghost use Rattle.dcc_ir.specs.Laws.{RunsAreWatchable, ProgramsKeepThemselves, KeepsComposes, OneEdgeLiesBehindOne, ValuesFit};
+ghost use Rattle.dcc_ir.specs.Laws.{RunsAreWatchable, StatementsAreExecuted, ProgramsKeepThemselves, KeepsComposes, OneEdgeLiesBehindOne, ValuesFit};
 
 /// A run that has ended stays, no step takes events back, and no step is foul.
 pub fn runs_are_watchable()
     ensures { RunsAreWatchable }
+{}
+
+/// Statements without a call are executed one after another; where the run isn't over after them, the block goes on.
+pub fn statements_are_executed()
+    ensures { StatementsAreExecuted }
 {}
 
 /// A program keeps itself.

@@ -1,0 +1,57 @@
+-- Laws of statements that are executed one after another.
+use Rattle.std.proofs.Common.{◌≡◌, ℕ, Bool, true, false, ◌||◌, List, [], ◌∷◌, ◌++◌, refl, sym, ap, ◌∙◌, true≢false}
+use Rattle.std.specs.Prelude.{if◌then◌else◌}
+use Rattle.std.specs.List.{list_any}
+use Rattle.dcc_run.specs.End.{is_over}
+use Rattle.dcc_ir.specs.Tree.{Stmt, Call, Graph}
+use Rattle.dcc_ir.specs.Run.{State, stmt_step, execute, is_call, block_step}
+
+-- nothing is executed where the run is over
+pub execute_over : (stmts : List Stmt) (s : State) → is_over s.end ≡ true → execute stmts s ≡ s
+execute_over [] s over = refl
+execute_over (stmt ∷ stmts) s over = ap (λ b. if b then s else execute stmts (stmt_step stmt s)) over
+
+-- where it isn't, the first statement comes first; so a single statement is its step
+pub execute_first : (stmt : Stmt) (stmts : List Stmt) (s : State) → is_over s.end ≡ false → execute (stmt ∷ stmts) s ≡ execute stmts (stmt_step stmt s)
+execute_first stmt stmts s on = ap (λ b. if b then s else execute stmts (stmt_step stmt s)) on
+
+-- the statements of two lists are executed one list after the other
+pub execute-append : (stmts more : List Stmt) (s : State) → execute (stmts ++ more) s ≡ execute more (execute stmts s)
+execute-append [] more s = refl
+execute-append (stmt ∷ stmts) more s = go (is_over s.end) refl (execute-append stmts more (stmt_step stmt s))
+  where
+    go : (b : Bool) → is_over s.end ≡ b → execute (stmts ++ more) (stmt_step stmt s) ≡ execute more (execute stmts (stmt_step stmt s)) →
+        (if b then s else execute (stmts ++ more) (stmt_step stmt s)) ≡ execute more (if b then s else execute stmts (stmt_step stmt s))
+    go true over later = sym (execute_over more s over)
+    go false on later = later
+
+or_left : (a b : Bool) → (a || b) ≡ false → a ≡ false
+or_left true b e = e
+or_left false b e = refl
+
+or_right : (a b : Bool) → (a || b) ≡ false → b ≡ false
+or_right true b e = absurd (true≢false e)
+or_right false b e = e
+
+-- a block begins with the step of its first statement, where this is no Call
+pub block-first : (graphs : List Graph) (fill : ℕ) (stmt : Stmt) (rest : List Stmt) (s : State) → is_call stmt ≡ false →
+    block_step graphs fill (stmt ∷ rest) s ≡ (if is_over (stmt_step stmt s).end then stmt_step stmt s else block_step graphs fill rest (stmt_step stmt s))
+block-first graphs fill (Call results entry arguments depth) rest s none = absurd (true≢false none)
+block-first graphs fill stmt rest s none = refl
+
+-- Statements without a Call are executed one after another; where the run isn't over after them, the block goes on.
+pub block-executed : (graphs : List Graph) (fill : ℕ) (stmts rest : List Stmt) (s : State) → list_any is_call stmts ≡ false → is_over s.end ≡ false →
+    block_step graphs fill (stmts ++ rest) s ≡ (if is_over (execute stmts s).end then execute stmts s else block_step graphs fill rest (execute stmts s))
+block-executed graphs fill [] rest s none on = sym (ap (λ b. if b then s else block_step graphs fill rest s) on)
+block-executed graphs fill (stmt ∷ stmts) rest s none on =
+    block-first graphs fill stmt (stmts ++ rest) s (or_left (is_call stmt) (list_any is_call stmts) none)
+    ∙ go (is_over (stmt_step stmt s).end) refl (block-executed graphs fill stmts rest (stmt_step stmt s) (or_right (is_call stmt) (list_any is_call stmts) none))
+    ∙ sym (ap ends (execute_first stmt stmts s on))
+  where
+    ends : State → State
+    ends t = if is_over t.end then t else block_step graphs fill rest t
+
+    go : (b : Bool) → is_over (stmt_step stmt s).end ≡ b → (is_over (stmt_step stmt s).end ≡ false → block_step graphs fill (stmts ++ rest) (stmt_step stmt s) ≡ ends (execute stmts (stmt_step stmt s))) →
+        (if b then stmt_step stmt s else block_step graphs fill (stmts ++ rest) (stmt_step stmt s)) ≡ ends (execute stmts (stmt_step stmt s))
+    go true over later = sym (ap ends (execute_over stmts (stmt_step stmt s) over) ∙ ap (λ b. if b then stmt_step stmt s else block_step graphs fill rest (stmt_step stmt s)) over)
+    go false on later = later on

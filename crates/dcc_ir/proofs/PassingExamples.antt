@@ -1,0 +1,141 @@
+-- A small program that has the form of calls and returns, and near misses.
+use Rattle.std.proofs.Common.{arith, lit<, ◌≡◌, ℕ, zero, suc, ◌+◌, ◌<◌, refl, sym, ap, ◌∙◌, true, false, List, [], ◌∷◌, ◌++◌, map, length, Some, None}
+use Rattle.std.specs.Prelude.{All}
+use Rattle.std.specs.List.Sorted.{IsStrictlyIncreasing}
+use Rattle.std.proofs.lemmas.List.Elements.{All-nil, All-cons}
+use Rattle.dcc_num.specs.declared.Half.TheVariants.{Low, High}
+use Rattle.dcc_ir.specs.declared.syntax.Loc.{Loc}
+use Rattle.dcc_ir.specs.declared.syntax.Loc.TheVariants.{Cell, Temp}
+use Rattle.dcc_ir.specs.declared.syntax.Put.TheVariants.{Memory, Two}
+use Rattle.dcc_ir.specs.declared.syntax.Param.{Param}
+use Rattle.dcc_ir.specs.Tree.{Expr, Const, Get, Load, Address, Stmt, Call, Dos, Exit, Goto, Ret, Stop, Block, Graph, Program}
+use Rattle.dcc_ir.specs.WellFormed.{memory_params_last, jumps_after_call}
+use Rattle.dcc_ir.specs.Passing.{passed, param_of, RetPasses, GraphPasses, CallPasses, StmtPasses, PassesAll}
+
+-- The callee takes two words, the first in two locations, the second in memory, and gives both back.
+
+abbrev in_locations : Param
+in_locations = record { stack = true; put = Two (Cell 2 Low) (Cell 2 High) }
+
+abbrev in_memory : Param
+in_memory = record { stack = true; put = Memory }
+
+abbrev words : List Param
+words = in_locations ∷ in_memory ∷ []
+
+abbrev low : Expr
+low = Get (Cell 2 Low)
+
+abbrev high : Expr
+high = Get (Cell 2 High)
+
+abbrev in_order : List Expr
+in_order = low ∷ high ∷ Load 8 (Address 2) ∷ Load 8 (Address 3) ∷ []
+
+-- a Ret of the halves and flags and these values
+abbrev giving_back : List Expr → Exit
+giving_back values = Ret (map Get passed ++ values)
+
+abbrev callee_block : Block
+callee_block = record { at = 32; stmts = []; exit = giving_back in_order }
+
+abbrev callee : Graph
+callee = record { entry = 32; params = words ++ map param_of passed; local = 0; pushed = 0; blocks = callee_block ∷ []; bits = [] }
+
+abbrev arguments : List Expr
+arguments = Const 16 7 ∷ Const 16 9 ∷ []
+
+abbrev places : List Loc
+places = Temp 0 ∷ Temp 1 ∷ Temp 2 ∷ Temp 3 ∷ []
+
+abbrev call : Stmt
+call = Call (passed ++ places) 32 (arguments ++ map Get passed) 4
+
+abbrev exit_call : Stmt
+exit_call = Dos 0x4C None (Some (Const 8 0))
+
+abbrev calling_block : Block
+calling_block = record { at = 0; stmts = call ∷ []; exit = Goto 1 }
+
+abbrev last_block : Block
+last_block = record { at = 3; stmts = exit_call ∷ []; exit = Stop }
+
+abbrev caller : Graph
+caller = record { entry = 0; params = []; local = 0; pushed = 0; blocks = calling_block ∷ last_block ∷ []; bits = 8 ∷ 8 ∷ 8 ∷ 8 ∷ [] }
+
+abbrev program : Program
+program = record { graphs = caller ∷ callee ∷ []; image = []; lo = 16; hi = 256 }
+
+abbrev both_words : List ℕ
+both_words = 0 ∷ 1 ∷ []
+
+both_ascend : IsStrictlyIncreasing both_words
+both_ascend zero less = lit< tt
+both_ascend (suc k) less = let past : suc k + 1 < 2 = less in absurd (omega (arith, past))
+
+one : {X : Type 0} (P : X → Type 0) (x : X) → P x → All P (x ∷ [])
+one P x h = All-cons P x [] h (All-nil P)
+
+callee_passes : GraphPasses both_words callee
+callee_passes = record {
+  words = words;
+  params = record { stack = refl; params = refl };
+  known = record {
+    ascending = both_ascend;
+    words = All-cons (λ j. j < 2) 0 (1 ∷ []) (lit< tt) (one (λ j. j < 2) 1 (lit< tt));
+  };
+  rets = one (λ b. RetPasses words both_words b.exit) callee_block refl;
+}
+
+call_passes : CallPasses both_words (passed ++ places) (arguments ++ map Get passed)
+call_passes = record { words = arguments; taken = refl; bytes = places; given = refl; two = refl }
+
+back : ℕ → List ℕ
+back entry = both_words
+
+program_passes : PassesAll program
+unfolding back
+program_passes = record {
+  back = back;
+  graphs = one (λ g. GraphPasses (back g.entry) g) callee callee_passes;
+  calls = All-cons (λ g. All (λ b. All (StmtPasses back) b.stmts) g.blocks) caller (callee ∷ [])
+      (All-cons (λ b. All (StmtPasses back) b.stmts) calling_block (last_block ∷ []) (one (StmtPasses back) call call_passes)
+      (one (λ b. All (StmtPasses back) b.stmts) last_block (one (StmtPasses back) exit_call tt)))
+      (one (λ g. All (λ b. All (StmtPasses back) b.stmts) g.blocks) callee
+      (one (λ b. All (StmtPasses back) b.stmts) callee_block (All-nil (StmtPasses back))));
+}
+
+-- Near misses.
+
+first_alone_is_given : RetPasses words (0 ∷ []) (giving_back (low ∷ high ∷ []))
+first_alone_is_given = refl
+
+the_low_byte_comes_first : ¬ RetPasses words (0 ∷ []) (giving_back (high ∷ low ∷ []))
+the_low_byte_comes_first e = cc
+
+both_bytes_are_given : ¬ RetPasses words (0 ∷ []) (giving_back (low ∷ []))
+both_bytes_are_given e = cc
+
+only_told_words_are_given : ¬ RetPasses words [] (giving_back (low ∷ high ∷ []))
+only_told_words_are_given e = cc
+
+bytes_come_last : ¬ RetPasses words (0 ∷ []) (Ret (low ∷ high ∷ map Get passed))
+bytes_come_last e = cc
+
+a_byte_in_memory_is_loaded : ¬ RetPasses words (1 ∷ []) (giving_back (low ∷ high ∷ []))
+a_byte_in_memory_is_loaded e = cc
+
+each_byte_has_a_place : ¬ CallPasses (0 ∷ []) (passed ++ Temp 0 ∷ []) (arguments ++ map Get passed)
+each_byte_has_a_place p =
+    let places_are : p.bytes ≡ Temp 0 ∷ [] = let e = p.given in cc in
+    let two : 1 ≡ 2 = sym (ap length places_are) ∙ p.two in
+    omega (arith, two)
+
+memory_comes_last : (memory_params_last words ≡ true) × (memory_params_last (in_memory ∷ in_locations ∷ []) ≡ false)
+memory_comes_last = (refl, refl)
+
+a_call_is_followed_by_a_jump : (jumps_after_call (call ∷ exit_call ∷ []) (Goto 1) ≡ true) × (jumps_after_call (call ∷ exit_call ∷ []) Stop ≡ false)
+a_call_is_followed_by_a_jump = (refl, refl)
+
+a_call_is_the_only_one : jumps_after_call (call ∷ call ∷ []) (Goto 1) ≡ false
+a_call_is_the_only_one = refl
