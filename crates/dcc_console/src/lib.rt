@@ -6,6 +6,3 @@ mod key;
 
 pub use fault::Fault;
 pub use key::take_key;
-
-#[cfg(test)]
-mod tests;

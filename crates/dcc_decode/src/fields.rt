@@ -7,6 +7,7 @@ ghost use Rattle.dcc_prog.specs.Table.{word_constant, constant_size, destination
 ghost use Rattle.dcc_decode.specs.Reading.{form_of, parts_of, TellsModrm, TellsConstant, modrm_read, constant_read, ReadsHead, ReadsRows, FitsAsRead};
 
 use crate::operand;
+use byteorder::{ByteOrder, LittleEndian};
 use dcc_num::{Width, sign8};
 use dcc_prog::{Ea, Operand};
 
@@ -355,7 +356,5 @@ fn read_word(bytes: &[u8], index: usize) -> Option<u16>
     requires { index ≤ 4 }
     ensures { result ≡ constant_read word_constant bytes.now index }
 {
-    let low = *bytes.get(index)?;
-    let high = *bytes.get(index + 1)?;
-    Some(u16::from_le_bytes([low, high]))
+    Some(LittleEndian::read_u16(bytes.get(index..index + 2)?))
 }

@@ -10,6 +10,7 @@ ghost use Rattle.std.specs.Prelude.{◌≡◌, ◌≢◌, ◌<◌, ◌∷◌, �
 ghost use Rattle.dcc_prog.specs.Table.{instruction_at};
 ghost use Rattle.dcc_prog.specs.WellFormed.{IsOperation};
 
+use byteorder::{ByteOrder, LittleEndian};
 use dcc_num::Reg;
 use dcc_prog::{Instr, Op};
 use fields::Fields;
@@ -84,7 +85,7 @@ fn interrupt(rest: &[u8]) -> Option<Instr>
 fn table_jump(rest: &[u8]) -> Option<Instr>
     ensures { (at : ℕ) → result ≡ instruction_at at (0x2e ∷ rest.now) }
 {
-    let [0xff, modrm, low, high, ..] = rest else {
+    let [0xff, modrm, _, _, ..] = rest else {
         return None;
     };
     let register = match *modrm {
@@ -94,7 +95,7 @@ fn table_jump(rest: &[u8]) -> Option<Instr>
         _ => return None,
     };
     Some(Instr {
-        op: Op::Table(register, u16::from_le_bytes([*low, *high])),
+        op: Op::Table(register, LittleEndian::read_u16(&rest[2..])),
         len: 5,
     })
 }

@@ -8,6 +8,3 @@ pub mod system;
 pub use memory::{MemShelf, MemSink, MemSource};
 pub use outside::{Failed, Fetched, Shelf, ShelfFault, Sink, Source, put_all};
 pub use system::{DirShelf, StdSink, StdSource, Stream};
-
-#[cfg(test)]
-mod tests;

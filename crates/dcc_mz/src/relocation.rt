@@ -55,10 +55,9 @@ fn relocate(file: &[u8], header: &Header, image: &mut [u8]) -> Result<(), MzFaul
     ensures refused { IfErr result (IsRefusal file.now) }
 {
     for entry in 0..header.relocations {
-        match place(file, header, image.len(), entry) {
-            Some(place) => move_word(image, place),
-            None => return Err(MzFault::Reloc(entry as u32)),
-        }
+        let fault = MzFault::Reloc(u32::from(entry));
+        let place = place(file, header, image.len(), entry).ok_or(fault)?;
+        move_word(image, place);
     }
     Ok(())
 }

@@ -10,8 +10,6 @@ mod product;
 mod quotient;
 mod shift;
 mod sum;
-#[cfg(test)]
-mod tests;
 
 pub use logic::{and, or, xor};
 pub use operand::sign8;

@@ -7,3 +7,4 @@ mod files;
 mod lifted;
 mod runs;
 mod texts;
+mod words;

@@ -317,6 +317,3 @@ pub fn job_of(words: &[String]) -> Option<Job<'_>>
 pub fn words_ask_for_one_job()
     ensures { AskForOneJob }
 {}
-
-#[cfg(test)]
-mod tests;

@@ -1,12 +1,11 @@
 //! Rows of the operations at the corners of their widths.
 
-ghost use Rattle.std.specs.Prelude.{◌<◌};
+ghost use Rattle.std.specs.Prelude.{◌<◌, ◌↔◌, IsTrue};
 ghost use Rattle.dcc_num.specs.Numbers.{limit_of};
 
-use crate::operand::limit;
-use crate::*;
 use Operation::*;
-use Width::{Byte, Word};
+use dcc_num::Width::{Byte, Word};
+use dcc_num::{Flags, Width, add, and, dec, div, idiv, imul, inc, mul, neg, or, rcl1, rcr1, rol, ror, sar, shl, shr, sign8, sub, xor};
 
 // An operation on one or two operands that gives a result and flags.
 #[derive(Clone, Copy)]
@@ -323,6 +322,16 @@ fn before(carry: bool) -> Flags {
     }
 }
 
+// Whether an operand has that width.
+fn fits(w: Width, a: u16) -> bool
+    ensures { IsTrue result ↔ a < limit_of w }
+{
+    match w {
+        Byte => a < 0x100,
+        Word => true,
+    }
+}
+
 fn done(operation: Operation, w: Width, a: u16, b: u16, carry: bool) -> (u16, Flags)
     requires first { a < limit_of w }
     requires second { b < limit_of w }
@@ -360,7 +369,7 @@ fn letters(flags: Flags) -> [u8; 4] {
 #[test]
 fn results_and_flags_at_the_corners(rt: HostRuntime) {
     for &(operation, w, a, b, carry, result, flags) in rows() {
-        assert!(rt; u32::from(a) < limit(w) && u32::from(b) < limit(w));
+        assert!(rt; fits(w, a) && fits(w, b));
         let (given, set) = done(operation, w, a, b, carry);
         assert_eq!(rt; given, result);
         assert_eq!(rt; letters(set), *flags);
@@ -370,7 +379,7 @@ fn results_and_flags_at_the_corners(rt: HostRuntime) {
 #[test]
 fn products_at_the_corners(rt: HostRuntime) {
     for &(w, a, b, unsigned, signed) in products() {
-        assert!(rt; u32::from(a) < limit(w) && u32::from(b) < limit(w));
+        assert!(rt; fits(w, a) && fits(w, b));
         let (low, high, flags) = mul(w, a, b);
         assert_eq!(rt; (low, high, flags.cf), unsigned);
         assert_eq!(rt; letters(flags), *if unsigned.2 { b"c--o" } else { b"----" });
@@ -383,8 +392,8 @@ fn products_at_the_corners(rt: HostRuntime) {
 #[test]
 fn quotients_and_faults_at_the_corners(rt: HostRuntime) {
     for &(w, high, low, by, unsigned, signed) in quotients() {
-        assert!(rt; u32::from(high) < limit(w) && u32::from(low) < limit(w));
-        assert!(rt; u32::from(by) < limit(w));
+        assert!(rt; fits(w, high) && fits(w, low));
+        assert!(rt; fits(w, by));
         assert_eq!(rt; div(w, high, low, by), unsigned);
         assert_eq!(rt; idiv(w, high, low, by), signed);
     }

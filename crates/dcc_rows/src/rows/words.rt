@@ -1,6 +1,6 @@
 //! Words and their jobs. The values come from a reference reader apart from this one.
 
-use super::{Job, job_of};
+use dcc_top::words::{Job, job_of};
 use std::alloc::{AllocError, Global};
 use std::test::Fail;
 

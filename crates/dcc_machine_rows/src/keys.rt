@@ -1,6 +1,6 @@
 //! Keys from memory, echoed to memory.
 
-use crate::{Fault, take_key};
+use dcc_console::{Fault, take_key};
 use dcc_io::{MemSink, MemSource};
 use std::test::Fail;
 
