@@ -1,7 +1,7 @@
 //! The fields of an instruction: opcode, ModRM byte, displacement and constant.
 
 ghost use Rattle.std.specs.Prelude.{◌≡◌, ℕ, ◌+◌, ◌<◌, ◌≤◌, ◌%◌, ◌/◌, ◌&&◌, ◌==◌, length, IfSome, None};
-ghost use Rattle.dcc_prog.specs.Bytes.{byte_at};
+ghost use Rattle.dcc_prog.specs.Bytes.{byte_at, word_at};
 ghost use Rattle.dcc_prog.specs.Operands.{mod_field, reg_field, rm_field, register, rm_operand, address, width_of, displacement_size};
 ghost use Rattle.dcc_prog.specs.Table.{word_constant, constant_size, destination, source, reg, direct, target};
 ghost use Rattle.dcc_decode.specs.Reading.{form_of, parts_of, TellsModrm, TellsConstant, modrm_read, constant_read, ReadsHead, ReadsRows, FitsAsRead};
@@ -350,11 +350,23 @@ fn read_constant(form: Constant, bytes: &[u8], index: usize) -> Option<u16>
     }
 }
 
-// The word at an index, low byte first.
-#[tactic(auto, unfolding(dcc_prog::specs::Bytes::word_at))]
+// The word at an index, low byte first; None where the bytes end within it.
 fn read_word(bytes: &[u8], index: usize) -> Option<u16>
     requires { index ≤ 4 }
     ensures { result ≡ constant_read word_constant bytes.now index }
 {
-    Some(LittleEndian::read_u16(bytes.get(index..index + 2)?))
+    if index + 2 <= bytes.len() {
+        Some(word(bytes, index))
+    } else {
+        None
+    }
+}
+
+/// The word at an index, low byte first.
+#[tactic(auto, unfolding(dcc_prog::specs::Bytes::word_at))]
+pub fn word(bytes: &[u8], index: usize) -> u16
+    requires { index + 2 ≤ length bytes.now }
+    ensures { result ≡ word_at bytes.now index }
+{
+    LittleEndian::read_u16(&bytes[index..])
 }

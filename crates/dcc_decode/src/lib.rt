@@ -10,7 +10,6 @@ ghost use Rattle.std.specs.Prelude.{◌≡◌, ◌≢◌, ◌<◌, ◌∷◌, �
 ghost use Rattle.dcc_prog.specs.Table.{instruction_at};
 ghost use Rattle.dcc_prog.specs.WellFormed.{IsOperation};
 
-use byteorder::{ByteOrder, LittleEndian};
 use dcc_num::Reg;
 use dcc_prog::{Instr, Op};
 use fields::Fields;
@@ -81,7 +80,7 @@ fn interrupt(rest: &[u8]) -> Option<Instr>
 }
 
 // A jump to the word at CS:[SI+iw], CS:[DI+iw] or CS:[BX+iw], by the bytes after its CS prefix.
-#[tactic(auto, using(crate::proofs::Decoding::table_jump_rules))]
+#[tactic(auto, using(crate::proofs::Decoding::table_jump_rules), unfolding(dcc_prog::specs::Bytes::word_at))]
 fn table_jump(rest: &[u8]) -> Option<Instr>
     ensures { (at : ℕ) → result ≡ instruction_at at (0x2e ∷ rest.now) }
 {
@@ -95,7 +94,7 @@ fn table_jump(rest: &[u8]) -> Option<Instr>
         _ => return None,
     };
     Some(Instr {
-        op: Op::Table(register, LittleEndian::read_u16(&rest[2..])),
+        op: Op::Table(register, fields::word(rest, 2)),
         len: 5,
     })
 }
