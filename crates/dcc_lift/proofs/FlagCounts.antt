@@ -1,11 +1,14 @@
--- How many statements on flags an operation's statements have: no more that set a flag than the operation may write flags, and
--- others only where CF goes into the result.
+-- How many statements on flags an operation's statements have: one at most that sets a flag, where the operation may write
+-- it, and one at most that sets none, where CF goes into the result.
 use Rattle.std.proofs.Common.{◌≡◌, ◌≤◌, ℕ, Bool, true, false, cond, ◌&&◌, ◌||◌, ◌==◌, if◌then◌else◌, List, [], ◌∷◌, ◌++◌, All, Option, Some, None, refl, sym, ◌∙◌, subst, true≢false, leb-true, arith}
 use Rattle.std.specs.Prelude.{nat_le, count_by, flat_map}
+use Rattle.std.specs.List.{list_all}
 use Rattle.dcc_num.specs.declared.Width.{Width}
 use Rattle.dcc_num.specs.declared.Width.TheVariants.{Byte as byte_width, Word as word_width}
 use Rattle.dcc_num.specs.declared.Reg.{Reg}
 use Rattle.dcc_num.specs.declared.Reg.TheVariants.{Ax, Dx}
+use Rattle.dcc_num.specs.declared.FlagName.{FlagName}
+use Rattle.dcc_num.specs.declared.FlagName.TheVariants.{Cf, Zf, Sf, Of}
 use Rattle.dcc_num.specs.declared.Half.{Half as HalfName}
 use Rattle.dcc_num.specs.declared.Half.TheVariants.{Low}
 use Rattle.dcc_prog.specs.declared.image.Image.{Image}
@@ -25,11 +28,12 @@ use Rattle.dcc_prog.specs.declared.instr.Operand.TheVariants.{Word, Byte, Seg, M
 use Rattle.dcc_prog.specs.declared.instr.Op.{Op}
 use Rattle.dcc_prog.specs.declared.instr.Op.TheVariants.{Alu as AluOp, Unary as UnaryOp, Shift as ShiftOp, Mov, Xchg, Lea, Push, Pop, Plain as PlainOp, Jump, Branch, Loop, LoopE, LoopNe, Jcxz, Table, Call, Ret, Int21}
 use Rattle.dcc_prog.specs.Machine.{operand_width}
+use Rattle.dcc_prog.specs.Writes.{writes_flag}
 use Rattle.dcc_ir.specs.declared.syntax.Loc.TheVariants.{Half}
 use Rattle.dcc_ir.specs.Tree.{Expr, Get, Stmt, Dos, Block, Program}
 use Rattle.dcc_lift.specs.Expressions.{operand_expr}
 use Rattle.dcc_lift.specs.Statements.{taking, alu_working, alu_storing, alu_stmts, unary_stmts, shift_stmts, mov_stmts, xchg_stmts, plain_stmts, dos_stmts, op_stmts}
-use Rattle.dcc_lift.specs.Form.{is_on_flags, is_flag_setter, is_other_flag_stmt, flags_written, has_carry_in, graph_stmts, HasFewFlagStmts}
+use Rattle.dcc_lift.specs.Form.{is_on_flags, is_setter_of, is_other_flag_stmt, has_carry_in, graph_stmts, HasFewFlagStmts}
 use Rattle.dcc_lift.specs.Liftable.{is_register, is_source, is_lifted_unary, is_liftable}
 use Rattle.dcc_lift.specs.Blocks.{Nodes}
 use Rattle.dcc_lift.specs.Translation.{prelude_block, IsTranslation}
@@ -40,9 +44,13 @@ use Rattle.dcc_lift.proofs.TranslationLaws.{the_graph, graphs_are}
 use Rattle.dcc_lift.proofs.Totals.{total, total-is, total-append}
 use Rattle.dcc_lift.proofs.Members.{blocks-counted}
 
+-- no more than one of the statements sets the flag, and none where the operation leaves it
+abbrev pub set_few : Op → List Stmt → FlagName → Bool
+set_few op stmts flag = nat_le (count_by (is_setter_of flag) stmts) (cond (writes_flag op flag) 1 0)
+
 -- the statements have no more on flags than is claimed of the operation
 abbrev pub are_few : Op → List Stmt → Bool
-are_few op stmts = nat_le (count_by is_flag_setter stmts) (flags_written op) && nat_le (count_by is_other_flag_stmt stmts) (cond (has_carry_in op) 1 0)
+are_few op stmts = list_all (set_few op stmts) (Cf ∷ Zf ∷ Sf ∷ Of ∷ []) && nat_le (count_by is_other_flag_stmt stmts) (cond (has_carry_in op) 1 0)
 
 -- Pieces that stand whatever the operands are.
 
@@ -228,48 +236,60 @@ op-few Int21 number lifted = dos-few number
 abbrev counted : (Stmt → Bool) → Stmt → ℕ
 counted test stmt = cond (test stmt) 1 0
 
-op-setters : (op : Op) (number : Option ℕ) → is_liftable op ≡ true → total (counted is_flag_setter) (op_stmts op number) ≤ flags_written op
-op-setters op number lifted =
-    let setters = count_by is_flag_setter (op_stmts op number) in
-    let within = and_left (nat_le setters (flags_written op)) (nat_le (count_by is_other_flag_stmt (op_stmts op number)) (cond (has_carry_in op) 1 0)) (op-few op number lifted) in
-    subst (λ n. n ≤ flags_written op) (total-is (counted is_flag_setter) (op_stmts op number)) (leb-true setters (flags_written op) within)
+-- a test of all flags holds of each
+of-flag : (test : FlagName → Bool) (flag : FlagName) → list_all test (Cf ∷ Zf ∷ Sf ∷ Of ∷ []) ≡ true → test flag ≡ true
+of-flag test Cf all = and_left (test Cf) (test Zf && (test Sf && (test Of && true))) all
+of-flag test Zf all = and_left (test Zf) (test Sf && (test Of && true)) (and_right (test Cf) (test Zf && (test Sf && (test Of && true))) all)
+of-flag test Sf all =
+    and_left (test Sf) (test Of && true) (and_right (test Zf) (test Sf && (test Of && true)) (and_right (test Cf) (test Zf && (test Sf && (test Of && true))) all))
+of-flag test Of all =
+    and_left (test Of) true (and_right (test Sf) (test Of && true)
+    (and_right (test Zf) (test Sf && (test Of && true)) (and_right (test Cf) (test Zf && (test Sf && (test Of && true))) all)))
 
-op-others : (op : Op) (number : Option ℕ) → is_liftable op ≡ true → total (counted is_other_flag_stmt) (op_stmts op number) ≤ cond (has_carry_in op) 1 0
-op-others op number lifted =
-    let others = count_by is_other_flag_stmt (op_stmts op number) in
-    let within = and_right (nat_le (count_by is_flag_setter (op_stmts op number)) (flags_written op)) (nat_le others (cond (has_carry_in op) 1 0)) (op-few op number lifted) in
-    subst (λ n. n ≤ cond (has_carry_in op) 1 0) (total-is (counted is_other_flag_stmt) (op_stmts op number)) (leb-true others (cond (has_carry_in op) 1 0) within)
+module _ (op : Op) (number : Option ℕ) (lifted : is_liftable op ≡ true) where
+  abbrev stmts : List Stmt
+  stmts = op_stmts op number
+
+  op-setters : (flag : FlagName) → total (counted (is_setter_of flag)) stmts ≤ cond (writes_flag op flag) 1 0
+  op-setters flag =
+      let few = and_left (list_all (set_few op stmts) (Cf ∷ Zf ∷ Sf ∷ Of ∷ [])) (nat_le (count_by is_other_flag_stmt stmts) (cond (has_carry_in op) 1 0)) (op-few op number lifted) in
+      subst (λ n. n ≤ cond (writes_flag op flag) 1 0) (total-is (counted (is_setter_of flag)) stmts)
+      (leb-true (count_by (is_setter_of flag) stmts) (cond (writes_flag op flag) 1 0) (of-flag (set_few op stmts) flag few))
+
+  op-others : total (counted is_other_flag_stmt) stmts ≤ cond (has_carry_in op) 1 0
+  op-others =
+      let others = count_by is_other_flag_stmt stmts in
+      let few = and_right (list_all (set_few op stmts) (Cf ∷ Zf ∷ Sf ∷ Of ∷ [])) (nat_le others (cond (has_carry_in op) 1 0)) (op-few op number lifted) in
+      subst (λ n. n ≤ cond (has_carry_in op) 1 0) (total-is (counted is_other_flag_stmt) stmts) (leb-true others (cond (has_carry_in op) 1 0) few)
 
 -- the block of the prelude has none
-prelude-setters : (image : Image) (layout : Layout) (nodes : Nodes) → total (counted is_flag_setter) (prelude_block image layout nodes).stmts ≡ 0
-prelude-setters image layout nodes = refl
+prelude-setters : (image : Image) (layout : Layout) (nodes : Nodes) (flag : FlagName) → total (counted (is_setter_of flag)) (prelude_block image layout nodes).stmts ≡ 0
+prelude-setters image layout nodes flag = refl
 
 prelude-others : (image : Image) (layout : Layout) (nodes : Nodes) → total (counted is_other_flag_stmt) (prelude_block image layout nodes).stmts ≡ 0
 prelude-others image layout nodes = refl
 
 module _ (image : Image) (layout : Layout) (start : Proc) (p : Program) (given : IsLiftableProcedure image layout start) (is : IsTranslation image layout start p) where
-  -- a count of the graph's statements
-  graph-counted : (test : Stmt → Bool) (f : Node → ℕ) → total (counted test) (prelude_block image layout start.nodes.entries).stmts ≡ 0
-      → ((found : ℕ × Node) → IsLiftableNode found → total (counted test) (op_stmts found.1.instr.op found.1.number) ≤ f found.1)
-      → count_by test (graph_stmts (the_graph image layout start p is)) ≤ total (λ (found : ℕ × Node). f found.1) start.nodes.entries
-  graph-counted test f none few =
-      let first = (prelude_block image layout start.nodes.entries).stmts in
+  -- a count of the graph's statements is no more than one of the instructions
+  graph-counted : (test : Stmt → Bool) (does : Op → Bool) → total (counted test) (prelude_block image layout start.nodes.entries).stmts ≡ 0
+      → ((op : Op) (number : Option ℕ) → is_liftable op ≡ true → total (counted test) (op_stmts op number) ≤ cond (does op) 1 0)
+      → count_by test (graph_stmts (the_graph image layout start p is)) ≤ count_by (λ (found : ℕ × Node). does found.1.instr.op) start.nodes.entries
+  graph-counted test does none few =
+      let nodes = start.nodes.entries in
+      let first = (prelude_block image layout nodes).stmts in
       let rest = flat_map (λ (b : Block). b.stmts) is.blocks in
       let whole = total-is (counted test) (first ++ rest) ∙ total-append (counted test) first rest in
-      let later = blocks-counted f start.nodes.entries layout.start_ip image.ip given.sound given.nodes (counted test) few is.blocks is.blocks_are in
-      subst (λ n. n ≤ total (λ (found : ℕ × Node). f found.1) start.nodes.entries) (sym whole) (omega (arith, none, later))
+      let later = blocks-counted (λ node. cond (does node.instr.op) 1 0) nodes layout.start_ip image.ip given.sound given.nodes (counted test)
+      (λ found one. few found.1.instr.op found.1.number one.lifted) is.blocks is.blocks_are in
+      subst (λ n. count_by test (graph_stmts (the_graph image layout start p is)) ≤ n) (sym (total-is (λ (found : ℕ × Node). cond (does found.1.instr.op) 1 0) nodes))
+      (subst (λ n. n ≤ total (λ (found : ℕ × Node). cond (does found.1.instr.op) 1 0) nodes) (sym whole) (omega (arith, none, later)))
 
   graph-few : HasFewFlagStmts start (the_graph image layout start p is)
-  graph-few =
-      let nodes = start.nodes.entries in
-      let setters = graph-counted is_flag_setter (λ node. flags_written node.instr.op) (prelude-setters image layout nodes) (λ found one. op-setters found.1.instr.op found.1.number one.lifted) in
-      let others = graph-counted is_other_flag_stmt (λ node. cond (has_carry_in node.instr.op) 1 0) (prelude-others image layout nodes)
-      (λ found one. op-others found.1.instr.op found.1.number one.lifted) in
-      record {
-        setters = subst (λ n. count_by is_flag_setter (graph_stmts (the_graph image layout start p is)) ≤ n) (sym (total-is (λ (found : ℕ × Node). flags_written found.1.instr.op) nodes)) setters;
-        others = subst (λ n. count_by is_other_flag_stmt (graph_stmts (the_graph image layout start p is)) ≤ n)
-            (sym (total-is (λ (found : ℕ × Node). cond (has_carry_in found.1.instr.op) 1 0) nodes)) others;
-      }
+  graph-few = record {
+    setters = λ flag. graph-counted (is_setter_of flag) (λ op. writes_flag op flag) (prelude-setters image layout start.nodes.entries flag)
+        (λ op number lifted. op-setters op number lifted flag);
+    others = graph-counted is_other_flag_stmt has_carry_in (prelude-others image layout start.nodes.entries) op-others;
+  }
 
   -- the program has few statements on flags
   pub translation-few : All (HasFewFlagStmts start) p.graphs

@@ -2,11 +2,11 @@
 -- nor writes memory, and it neither divides nor writes strings. Each statement sets a location or is a DOS call that
 -- writes a byte, takes a key into a half, or ends the run. Each block goes on, parts by a test, or stops. Few of the
 -- statements are on flags.
-use Rattle.std.specs.Prelude.{◌≡◌, ◌≤◌, ℕ, ◌==◌, Bool, true, false, ◌&&◌, ◌||◌, not, List, [], ◌∷◌, Option, Some, None, flat_map, sum_by, count_by}
+use Rattle.std.specs.Prelude.{◌≡◌, ◌≤◌, ℕ, ◌==◌, Bool, true, false, ◌&&◌, ◌||◌, not, List, [], ◌∷◌, Option, Some, None, flat_map, count_by}
 use Rattle.std.specs.List.{list_any, list_all}
 use Rattle.dcc_num.specs.declared.Reg.{Reg}
 use Rattle.dcc_num.specs.declared.Reg.TheVariants.{Sp, Bp}
-use Rattle.dcc_num.specs.declared.FlagName.TheVariants.{Cf, Zf, Sf, Of}
+use Rattle.dcc_num.specs.declared.FlagName.{FlagName}
 use Rattle.dcc_prog.specs.declared.procedure.Node.{Node}
 use Rattle.dcc_prog.specs.declared.procedure.Proc.{Proc}
 use Rattle.dcc_prog.specs.declared.instr.Op.{Op}
@@ -15,6 +15,7 @@ use Rattle.dcc_prog.specs.Writes.{writes_flag}
 use Rattle.dcc_prog.specs.Wanted.{takes_carry, is_turn}
 use Rattle.dcc_ir.specs.declared.syntax.Loc.{Loc}
 use Rattle.dcc_ir.specs.declared.syntax.Loc.TheVariants.{Half, Flag, Cell}
+use Rattle.dcc_ir.specs.Location.{same_location}
 use Rattle.dcc_ir.specs.Tree.{Expr, Get, Load, Binary, Address, Stmt, Set, Fetch, Div, Dos, Exit, Goto, If, Stop, Block, Graph}
 use Rattle.dcc_ir.specs.Use.{parts_of, writes_of}
 use Rattle.dcc_ir.specs.Measure.{is_truth}
@@ -97,19 +98,12 @@ abbrev pub is_flag_location : Loc → Bool
 is_flag_location (Flag flag) = true
 is_flag_location location = false
 
-abbrev pub sets_flag : Stmt → Bool
-sets_flag stmt = list_any is_flag_location (writes_of stmt)
-
--- a statement on flags that sets one, and one that sets none
-abbrev pub is_flag_setter : Stmt → Bool
-is_flag_setter stmt = sets_flag stmt && is_flag_stmt stmt
+-- a statement on flags that sets this flag, and one that sets none
+abbrev pub is_setter_of : FlagName → Stmt → Bool
+is_setter_of flag stmt = is_flag_stmt stmt && list_any (same_location (Flag flag)) (writes_of stmt)
 
 abbrev pub is_other_flag_stmt : Stmt → Bool
-is_other_flag_stmt stmt = not (sets_flag stmt) && is_flag_stmt stmt
-
--- how many flags the operation may write
-abbrev pub flags_written : Op → ℕ
-flags_written op = count_by (writes_flag op) (Cf ∷ Zf ∷ Sf ∷ Of ∷ [])
+is_other_flag_stmt stmt = is_flag_stmt stmt && not (list_any is_flag_location (writes_of stmt))
 
 -- ADC, SBB, RCL and RCR: CF goes into their result
 abbrev pub has_carry_in : Op → Bool
@@ -120,12 +114,13 @@ has_carry_in op = false
 abbrev pub graph_stmts : Graph → List Stmt
 graph_stmts graph = flat_map (λ block. block.stmts) graph.blocks
 
--- Statements on flags that set one are no more than the flags that the procedure's operations may write, added up over
--- its instructions; the others are no more than its ADCs, SBBs, RCLs and RCRs.
+-- Of each flag, the statements on flags that set it are no more than the procedure's instructions that may write it;
+-- those that set none are no more than its ADCs, SBBs, RCLs and RCRs.
 pub record HasFewFlagStmts (proc : Proc) (graph : Graph) : Type 0 where
   pub setters :
-      count_by is_flag_setter (graph_stmts graph)
-      ≤ sum_by (λ (found : ℕ × Node). flags_written found.1.instr.op) proc.nodes.entries
+      (flag : FlagName)
+      → count_by (is_setter_of flag) (graph_stmts graph)
+      ≤ count_by (λ (found : ℕ × Node). writes_flag found.1.instr.op flag) proc.nodes.entries
   pub others :
       count_by is_other_flag_stmt (graph_stmts graph)
       ≤ count_by (λ (found : ℕ × Node). has_carry_in found.1.instr.op) proc.nodes.entries
