@@ -1,10 +1,11 @@
 -- What is run: systems with a console, and code that executes them.
 use Rattle.std.specs.Prelude.{ℕ, List}
 use Rattle.dcc_run.specs.End.{End}
+use Rattle.dcc_run.specs.Event.{Event}
 use Rattle.dcc_run.specs.System.{System, after, out_after, end_after}
 
--- A system with a console. What a state has put out is the system's; what it has left of the input stands here, and a
--- state that is the same but for the input that it has left.
+-- A system with a console. What has happened there by a state is the system's; what the state has left of the input
+-- stands here, and a state that is the same but for the input that it has left.
 pub record Console (S : Type 0) : Type 0 where
   pub system : System S
   pub left : S → List ℕ
@@ -28,20 +29,20 @@ abbrev pub ending_after : {S : Type 0} → Subject S → ℕ → List ℕ → En
 ending_after subject steps input = end_after subject.console.system steps (subject.start input)
 
 -- Code that executes systems with a console. There is a system for each W: the texts, say, or one machine alone. What
--- the code keeps, a C, stands for states of them, whatever these have left to read and have put out.
+-- the code keeps, a C, stands for states of them, whatever these have left to read and has happened at their consoles.
 pub record Executor (W C S : Type 0) : Type 1 where
   pub console : W → Console S
   pub stands : W → C → S → Type 0
 
--- the step of one of the systems; what its states have left and have put out, and how they have ended
+-- the step of one of the systems; what its states have left, what has happened by them, and how they have ended
 abbrev pub step_in : {W C S : Type 0} → Executor W C S → W → S → S
 step_in executor w = (executor.console w).system.step
 
 abbrev pub left_in : {W C S : Type 0} → Executor W C S → W → S → List ℕ
 left_in executor w = (executor.console w).left
 
-abbrev pub out_in : {W C S : Type 0} → Executor W C S → W → S → List ℕ
-out_in executor w = (executor.console w).system.out
+abbrev pub events_in : {W C S : Type 0} → Executor W C S → W → S → List Event
+events_in executor w = (executor.console w).system.events
 
 abbrev pub end_in : {W C S : Type 0} → Executor W C S → W → S → End
 end_in executor w = (executor.console w).system.end

@@ -1,5 +1,7 @@
 -- A key that is taken, and written where it is echoed.
 use Rattle.std.specs.Prelude.{◌≡◌, ℕ, Bool, List, [], ◌∷◌, if◌then◌else◌, Option}
+use Rattle.dcc_run.specs.Event.{Event, Took, MetEnd, written_by, taken_by, writes}
+use Rattle.dcc_num.specs.declared.dos.TheConstants.{END_OF_INPUT}
 use Rattle.dcc_io.specs.Told.{append_told, prepend_told, AppendsProperPrefix}
 use Rattle.dcc_console.specs.Scene.{told_bytes}
 use Rattle.dcc_console.specs.declared.fault.Fault.{Fault}
@@ -9,18 +11,24 @@ use Rattle.dcc_console.specs.declared.fault.Fault.TheVariants.{Input, Output}
 abbrev pub echoed : Bool → ℕ → List ℕ
 echoed echo byte = if echo then byte ∷ [] else []
 
+-- what happens where this byte is the next key: it is taken, and what is written of it comes after that
+abbrev pub key_events : Bool → ℕ → List Event
+key_events echo byte = Took byte ∷ writes (echoed echo byte)
+
 -- This key was taken: the next input byte, which was written where it is echoed; or 1Ah where the input has ended.
 pub data TakesKey (echo : Bool) (left taken left_now taken_now : Option (List ℕ)) : ℕ → Type 0 where
-  next_byte : {byte : ℕ} → left ≡ prepend_told (byte ∷ []) left_now → taken_now ≡ append_told taken (echoed echo byte) →
+  next_byte : {byte : ℕ} → left ≡ prepend_told (taken_by (key_events echo byte)) left_now →
+      taken_now ≡ append_told taken (written_by (key_events echo byte)) →
       TakesKey echo left taken left_now taken_now byte
-  no_byte : left ≡ prepend_told [] left_now → told_bytes left_now ≡ [] → taken_now ≡ taken →
-      TakesKey echo left taken left_now taken_now 0x1A
+  no_byte : told_bytes left_now ≡ [] → left ≡ prepend_told (taken_by (MetEnd ∷ [])) left_now →
+      taken_now ≡ append_told taken (written_by (MetEnd ∷ [])) →
+      TakesKey echo left taken left_now taken_now END_OF_INPUT
 
 -- a byte was taken, and a part of what is written of it, and not all of that
 pub record IsCutKey (echo : Bool) (left taken left_now taken_now : Option (List ℕ)) : Type 0 where
   pub byte : ℕ
-  pub took : left ≡ prepend_told (byte ∷ []) left_now
-  pub part : AppendsProperPrefix taken taken_now (echoed echo byte)
+  pub took : left ≡ prepend_told (taken_by (key_events echo byte)) left_now
+  pub part : AppendsProperPrefix taken taken_now (written_by (key_events echo byte))
 
 -- nothing was read or written
 pub record IsUntaken (left taken left_now taken_now : Option (List ℕ)) : Type 0 where

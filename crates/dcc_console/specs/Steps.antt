@@ -1,9 +1,10 @@
 -- What steps do to what code keeps and to what its input and output tell, and when they are refused.
 use Rattle.std.specs.Prelude.{◌≡◌, ◌<◌, ℕ, zero, suc, List, ◌∷◌, ◌++◌, Some}
 use Rattle.dcc_run.specs.End.{End}
+use Rattle.dcc_run.specs.Event.{Event, written_by, taken_by}
 use Rattle.dcc_run.specs.System.{after}
 use Rattle.dcc_io.specs.Told.{append_told, prepend_told, AppendsProperPrefix}
-use Rattle.dcc_console.specs.Console.{Executor, step_in, left_in, out_in, end_in}
+use Rattle.dcc_console.specs.Console.{Executor, step_in, left_in, events_in, end_in}
 use Rattle.dcc_console.specs.Scene.{Scene, told_bytes}
 use Rattle.dcc_console.specs.declared.fault.Fault.{Fault}
 use Rattle.dcc_console.specs.declared.fault.Fault.TheVariants.{Input, Output}
@@ -21,11 +22,11 @@ refusal_of Input = read_failed
 refusal_of Output = write_failed
 
 module _ {W C S : Type 0} (executor : Executor W C S) where
-  -- the code stands for this state, which has these bytes left and has put out these
-  pub record Comes (w : W) (code : C) (rest written : List ℕ) (s : S) : Type 0 where
+  -- the code stands for this state, which has these bytes left, and these are the events at its console
+  pub record Comes (w : W) (code : C) (rest : List ℕ) (happened : List Event) (s : S) : Type 0 where
     pub stands : executor.stands w code s
     pub left : left_in executor w s ≡ rest
-    pub out : out_in executor w s ≡ written
+    pub events : events_in executor w s ≡ happened
 
   -- each state that the code stands for has ended so
   abbrev pub HasEnded : C → End → Type 0
@@ -33,17 +34,17 @@ module _ {W C S : Type 0} (executor : Executor W C S) where
 
   -- One step.
 
-  -- A step was made. The input gave some bytes and the output took some; and from each state that the code stood for,
-  -- with just these bytes to read, the step leads to a state that the code stands for now, which has put out just these
-  -- bytes more. An input that does not tell what is left counts as one that ends here.
+  -- A step was made, and this has happened: the input gave what these events take, and the output took what they write;
+  -- and from each state that the code stood for, with just those bytes to read, the step leads to a state that the code
+  -- stands for now, at whose console just these events have joined. An input that does not tell what is left counts as
+  -- one that ends here.
   pub record Makes (before now : Scene C) : Type 0 where
-    pub given : List ℕ
-    pub written : List ℕ
-    pub took : before.left ≡ prepend_told given now.left
-    pub wrote : now.taken ≡ append_told before.taken written
+    pub happened : List Event
+    pub took : before.left ≡ prepend_told (taken_by happened) now.left
+    pub wrote : now.taken ≡ append_told before.taken (written_by happened)
     pub made : (w : W) (s : S) → executor.stands w before.code s →
-        left_in executor w s ≡ given ++ told_bytes now.left →
-        Comes w now.code (told_bytes now.left) (out_in executor w s ++ written) (step_in executor w s)
+        left_in executor w s ≡ taken_by happened ++ told_bytes now.left →
+        Comes w now.code (told_bytes now.left) (events_in executor w s ++ happened) (step_in executor w s)
 
   -- A read failed: the step is one that takes the next input byte, and nothing has changed.
   pub record IsRefusedRead (before now : Scene C) : Type 0 where
@@ -51,18 +52,18 @@ module _ {W C S : Type 0} (executor : Executor W C S) where
         left_in executor w s ≡ byte ∷ rest → left_in executor w (step_in executor w s) ≡ rest
     pub unchanged : now ≡ before
 
-  -- A write failed: the code has not changed, the input gave what the step takes, and the output took a part of what the
-  -- step writes, and not all of it.
+  -- A write failed: the code has not changed, and of what happens in the step the input gave what is taken, and the
+  -- output took a part of what is written, and not all of it.
   pub record IsRefusedWrite (before now : Scene C) : Type 0 where
-    pub given : List ℕ
-    pub written : List ℕ
+    pub happened : List Event
     pub takes : (w : W) (s : S) (rest : List ℕ) → executor.stands w before.code s →
-        left_in executor w s ≡ given ++ rest → left_in executor w (step_in executor w s) ≡ rest
-    pub writes : (w : W) (s : S) (rest : List ℕ) → executor.stands w before.code s →
-        left_in executor w s ≡ given ++ rest → out_in executor w (step_in executor w s) ≡ out_in executor w s ++ written
+        left_in executor w s ≡ taken_by happened ++ rest → left_in executor w (step_in executor w s) ≡ rest
+    pub happens : (w : W) (s : S) (rest : List ℕ) → executor.stands w before.code s →
+        left_in executor w s ≡ taken_by happened ++ rest →
+        events_in executor w (step_in executor w s) ≡ events_in executor w s ++ happened
     pub unchanged : now.code ≡ before.code
-    pub took : before.left ≡ prepend_told given now.left
-    pub part : AppendsProperPrefix before.taken now.taken written
+    pub took : before.left ≡ prepend_told (taken_by happened) now.left
+    pub part : AppendsProperPrefix before.taken now.taken (written_by happened)
 
   -- Memory was wanting: nothing was read or written, and the code stands for what it stood for.
   pub record IsSame (before now : Scene C) : Type 0 where
@@ -90,18 +91,17 @@ module _ {W C S : Type 0} (executor : Executor W C S) where
   MakesEach zero before now = now ≡ before
   MakesEach (suc count) before now = StepsFrom (MakesEach count before) now
 
-  -- So many steps were made, one after another. Where the input tells what is left, they are one run: from each state
-  -- that the code stood for, with just the bytes to read that the input gave, so many steps lead to a state that the
-  -- code stands for now, which has put out just the bytes more that the output took.
+  -- So many steps were made, one after another, and this has happened. Where the input tells what is left, they are one
+  -- run: from each state that the code stood for, with just the bytes to read that the input gave, so many steps lead to
+  -- a state that the code stands for now, at whose console just these events have joined.
   pub record MakesSteps (count : ℕ) (before now : Scene C) : Type 0 where
     pub each : MakesEach count before now
-    pub given : List ℕ
-    pub written : List ℕ
-    pub took : before.left ≡ prepend_told given now.left
-    pub wrote : now.taken ≡ append_told before.taken written
+    pub happened : List Event
+    pub took : before.left ≡ prepend_told (taken_by happened) now.left
+    pub wrote : now.taken ≡ append_told before.taken (written_by happened)
     pub made : (w : W) (s : S) (rest : List ℕ) → now.left ≡ Some rest → executor.stands w before.code s →
-        left_in executor w s ≡ given ++ rest →
-        Comes w now.code rest (out_in executor w s ++ written) (after (step_in executor w) count s)
+        left_in executor w s ≡ taken_by happened ++ rest →
+        Comes w now.code rest (events_in executor w s ++ happened) (after (step_in executor w) count s)
 
   -- fewer steps than these were made, and the next one came out so
   pub record StopsShort (outcome : Outcome) (most : ℕ) (before now : Scene C) : Type 0 where

@@ -9,9 +9,7 @@ ghost use Rattle.dcc_console.specs.Scene.{told_bytes};
 
 use crate::fault::Fault;
 use dcc_io::{Failed, Sink, Source, put_all};
-
-// The key that comes where the input has ended: Ctrl-Z, which ends a text under DOS.
-const END_OF_INPUT: u8 = 0x1A;
+use dcc_num::dos;
 
 // The next input byte, or `None` at the end of the input.
 fn next_byte<I: Source>(input: &mut I) -> Result<Option<u8>, Failed>
@@ -40,7 +38,7 @@ fn echo_byte<O: Sink>(echo: bool, byte: u8, out: &mut O) -> Result<(), Failed>
     if echo { put_all(out, &[byte]) } else { Ok(()) }
 }
 
-/// Takes the next key, and writes it where it is echoed. The key is the next input byte, or `END_OF_INPUT`, which is
+/// Takes the next key, and writes it where it is echoed. The key is the next input byte, or 1Ah, which is
 /// not written, where there is none. The error is `Input` where a read failed, and then nothing was read or written;
 /// `Output` where the write of the key failed, and then its byte stays taken.
 pub fn take_key<I: Source, O: Sink>(echo: bool, input: &mut I, out: &mut O) -> Result<u8, Fault>
@@ -59,7 +57,7 @@ pub fn take_key<I: Source, O: Sink>(echo: bool, input: &mut I, out: &mut O) -> R
         return Err(Fault::Input);
     };
     let Some(byte) = next else {
-        return Ok(END_OF_INPUT);
+        return Ok(dos::END_OF_INPUT);
     };
     let Ok(()) = echo_byte(echo, byte, out) else {
         return Err(Fault::Output);

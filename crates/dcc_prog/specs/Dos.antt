@@ -3,7 +3,7 @@
 use Rattle.std.specs.Prelude.{ℕ, ◌+◌, ◌/◌, ◌%◌, ◌==◌, Bool, true, false, not, if◌then◌else◌, List, [], ◌∷◌, ◌++◌, map}
 use Rattle.std.specs.List.{range_with_len, take_while}
 use Rattle.dcc_run.specs.End.{Exit, Outside}
-use Rattle.dcc_run.specs.Event.{Event, Wrote, Took, MetEnd, writes}
+use Rattle.dcc_run.specs.Event.{Event, Took, MetEnd, writes}
 use Rattle.dcc_num.specs.declared.Reg.TheVariants.{Ax, Dx}
 use Rattle.dcc_num.specs.declared.dos.TheConstants.{GETCHE, PUTC, GETCH, PUTS, EXIT, END_OF_INPUT, STRING_END, STRING_MOST}
 use Rattle.dcc_prog.specs.Machine.{State, word_in, data_segment, byte_in}
@@ -32,7 +32,7 @@ after_write bytes s = after_events (writes bytes) s
 
 -- a byte is taken, and where it is echoed, it is written after that
 abbrev pub key_events : Bool → ℕ → List Event
-key_events echo byte = Took byte ∷ (if echo then Wrote byte ∷ [] else [])
+key_events echo byte = Took byte ∷ writes (if echo then byte ∷ [] else [])
 
 -- AL takes the next of these input bytes; where there is none, the input's end is met, and AL takes 1Ah
 abbrev pub with_key : Bool → List ℕ → State → State
