@@ -14,7 +14,7 @@ use Rattle.dcc_run.specs.Agreement.{KeepsUp}
 use Rattle.dcc_run.specs.Watched.{Watched, IsWatchable, state, is_shown}
 use Rattle.dcc_run.specs.Shadows.{ShowsAt, Shadows, IsMarked, is_marked, has_ended, is_foul, KeepsPace}
 use Rattle.dcc_run.proofs.PrefixLaws.{prefix_refl, prefix_trans}
-use Rattle.dcc_run.proofs.RunLaws.{events_grow, grows_by, over_stays}
+use Rattle.dcc_run.proofs.RunLaws.{events_grow, grows_by, over_stays, over_same}
 use Rattle.dcc_run.proofs.VisitLaws.{visits-add, visits-over}
 use Rattle.dcc_run.proofs.ShadowLaws.{clean_before}
 
@@ -180,14 +180,6 @@ module _ {S P : Type 0} (w : Watched S P) (law : IsWatchable w) where
             omega (arith, count, few)
       ]
 
-  -- two states of one run that are both over are one
-  pub over_same : (m n : ℕ) (s : S) → is_over (end_after w.system m s) ≡ true → is_over (end_after w.system n s) ≡ true → state w n s ≡ state w m s
-  over_same m n s over other =
-      elim (cases_lt m n) [
-        | inl lt ↦ let le : m ≤ n = omega (arith, lt) in over_stays w.system law.lawful m n s le over
-        | inr ge ↦ sym (over_stays w.system law.lawful n m s ge other)
-      ]
-
 module _ {S T P : Type 0} (first : Watched S P) (second : Watched T P) (law : IsWatchable first) (other_law : IsWatchable second) (s : S) (t : T) (shadows : Shadows first s second t) where
   -- A run that shadows another and keeps pace has caught up with n clean steps of it, each of which visits at most one
   -- place.
@@ -207,7 +199,7 @@ module _ {S T P : Type 0} (first : Watched S P) (second : Watched T P) (law : Is
               events = caught m last x.1 over';
               alike = λ o.
                   let z = x.1.alike o in
-                  let same = over_same second other_law m last t (ap is_over z.end ∙ o) over' in
+                  let same = over_same second.system other_law.lawful m last t (ap is_over z.end ∙ o) over' in
                   record { end = ap second.system.end same ∙ z.end; events = ap second.system.events same ∙ z.events };
             }
         | at_mark mark many ↦
@@ -268,7 +260,7 @@ module _ {S T P : Type 0} (first : Watched S P) (second : Watched T P) (law : Is
                 | inr ge ↦ subst (λ l. IsPrefix (events_after second.system k t) l) z.events (events_grow second.system other_law.lawful k m t ge)
               ];
               alike = λ o.
-                  let same = over_same second other_law m k t other_over o in
+                  let same = over_same second.system other_law.lawful m k t other_over o in
                   record { end = sym (ap second.system.end same ∙ z.end); events = sym (ap second.system.events same ∙ z.events) };
             }
         | at_mark mark many ↦

@@ -8,15 +8,15 @@ use Rattle.std.proofs.lemmas.List.{append-nil, length-append}
 use Rattle.std.proofs.lemmas.List.Elements.{All-head}
 use Rattle.dcc_run.specs.End.{is_over, Stuck}
 use Rattle.dcc_run.specs.Prefix.{IsPrefix}
-use Rattle.dcc_run.specs.System.{events_after, end_after}
+use Rattle.dcc_run.specs.System.{System, IsLawful, events_after, end_after}
 use Rattle.dcc_run.specs.Visits.{Visit, visit_at, visit_of, visits, visits_of, EndsAlike}
 use Rattle.dcc_run.specs.Agreement.{KeepsUp}
 use Rattle.dcc_run.specs.Watched.{Watched, IsWatchable, state, is_shown}
 use Rattle.dcc_run.specs.Shadows.{Shadows, IsMarked, KeepsPace, only, Counts}
-use Rattle.dcc_run.proofs.AgreementLaws.{at_end, at_foul, at_mark, reaches, few_visits, more_visits, marked_visit, visits_until, over_same}
+use Rattle.dcc_run.proofs.AgreementLaws.{at_end, at_foul, at_mark, reaches, few_visits, more_visits, marked_visit, visits_until}
 use Rattle.dcc_run.proofs.KeptLaws.{only_visits, right_part}
 use Rattle.dcc_run.proofs.PrefixLaws.{prefix_refl, prefix_trans}
-use Rattle.dcc_run.proofs.RunLaws.{events_grow, over_stays}
+use Rattle.dcc_run.proofs.RunLaws.{events_grow, over_stays, over_same}
 use Rattle.dcc_run.proofs.ShadowLaws.{which, clean_before}
 use Rattle.dcc_run.proofs.VisitLaws.{visits-add, visits_of-append}
 
@@ -74,31 +74,31 @@ module _ {S P : Type 0} (kept : P → Bool) (w : Watched S P) where
             ]
       ]
 
-module _ {S T U P : Type 0} (kept : P → Bool) (first : Watched S P) (second : Watched T P) (third : Watched U P) (law : IsWatchable first) (other_law : IsWatchable second)
-    (third_law : IsWatchable third) (s : S) (t : T) (u : U) (within : ℕ) (counts : Counts kept second t third u within) where
+module _ {S T U P : Type 0} (kept : P → Bool) (first : Watched S P) (second : Watched T P) (third : System U) (law : IsWatchable first)
+    (third_law : IsLawful third) (s : S) (t : T) (u : U) (within : ℕ) (counts : Counts kept second t third u within) where
   -- where the second run is over, what the third has put out at any time is a part of that, and its end is the same
   over_alike : (m k : ℕ) → is_over (end_after second.system m t) ≡ true →
-      IsPrefix (events_after third.system k u) (events_after second.system m t) × (is_over (end_after third.system k u) ≡ true → EndsAlike second.system t m third.system u k)
+      IsPrefix (events_after third k u) (events_after second.system m t) × (is_over (end_after third k u) ≡ true → EndsAlike second.system t m third u k)
   over_alike m k over =
       let c = counts m in
       let j = c.0 in
-      let there : is_over (end_after third.system j u) ≡ true = ap is_over c.1.stands.end ∙ over in (
-        subst (λ l. IsPrefix (events_after third.system k u) l) c.1.stands.events
+      let there : is_over (end_after third j u) ≡ true = ap is_over c.1.stands.end ∙ over in (
+        subst (λ l. IsPrefix (events_after third k u) l) c.1.stands.events
             (elim (cases_lt j k) [
               | inl lt ↦
                   let le : j ≤ k = omega (arith, lt) in
-                  subst (λ z. IsPrefix (third.system.events z) (events_after third.system j u)) (sym (over_stays third.system third_law.lawful j k u le there)) (prefix_refl _)
-              | inr ge ↦ events_grow third.system third_law.lawful k j u ge
+                  subst (λ z. IsPrefix (third.events z) (events_after third j u)) (sym (over_stays third third_law j k u le there)) (prefix_refl _)
+              | inr ge ↦ events_grow third third_law k j u ge
             ]),
         λ o.
             let same = over_same third third_law j k u there o in
-            record { end = ap third.system.end same ∙ c.1.stands.end; events = ap third.system.events same ∙ c.1.stands.events },
+            record { end = ap third.end same ∙ c.1.stands.end; events = ap third.events same ∙ c.1.stands.events },
       )
 
   -- Where something is seen of the second run in each of its states, the third has caught up with n clean steps of the
   -- first.
   pub third_keeps_up : Shadows first s second t → ((m : ℕ) → is_shown second (state second m t) ≡ true) →
-      (n : ℕ) → first.foul (state first n s) ≡ false → KeepsUp first.system s n third.system u (within * (n + 1))
+      (n : ℕ) → first.foul (state first n s) ≡ false → KeepsUp first.system s n third u (within * (n + 1))
   third_keeps_up shadows seen n clean =
       let x = shadows n clean in
       let m = x.0 in
@@ -111,16 +111,16 @@ module _ {S T U P : Type 0} (kept : P → Bool) (first : Watched S P) (second : 
       let le : c.0 ≤ last = omega (arith, c.1.high, product) in
       let low : m ≤ m = omega arith in
       record {
-        events = prefix_trans (x.1.ahead m low (seen m)) (subst (λ l. IsPrefix l (events_after third.system last u)) c.1.stands.events (events_grow third.system third_law.lawful c.0 last u le));
+        events = prefix_trans (x.1.ahead m low (seen m)) (subst (λ l. IsPrefix l (events_after third last u)) c.1.stands.events (events_grow third third_law c.0 last u le));
         alike = λ o.
             let z = x.1.alike o in
-            let same = over_stays third.system third_law.lawful c.0 last u le (ap is_over (c.1.stands.end ∙ z.end) ∙ o) in
-            record { end = ap third.system.end same ∙ c.1.stands.end ∙ z.end; events = ap third.system.events same ∙ c.1.stands.events ∙ z.events };
+            let same = over_stays third third_law c.0 last u le (ap is_over (c.1.stands.end ∙ z.end) ∙ o) in
+            record { end = ap third.end same ∙ c.1.stands.end ∙ z.end; events = ap third.events same ∙ c.1.stands.events ∙ z.events };
       }
 
   -- The first run, which keeps pace in its kept places, has caught up with k steps of the third.
   pub first_keeps_up_with_third : Shadows first s second t → (begin near : ℕ) → KeepsPace (only kept first) s begin near →
-      (k n : ℕ) → begin + k * near < n → first.foul (state first n s) ≡ false → KeepsUp third.system u k first.system s n
+      (k n : ℕ) → begin + k * near < n → first.foul (state first n s) ≡ false → KeepsUp third u k first.system s n
   first_keeps_up_with_third shadows begin near pace k n lt clean =
       let x = shadows n clean in
       let m = x.0 in
@@ -134,7 +134,7 @@ module _ {S T U P : Type 0} (kept : P → Bool) (first : Watched S P) (second : 
             let z = x.1.alike over' in
             let a = over_alike m k (ap is_over z.end ∙ over') in
             record {
-              events = subst (λ l. IsPrefix (events_after third.system k u) l) z.events a.0;
+              events = subst (λ l. IsPrefix (events_after third k u) l) z.events a.0;
               alike = λ o. let e = a.1 o in record { end = sym (e.end ∙ z.end); events = sym (e.events ∙ z.events) };
             }
         | at_mark mark many ↦
@@ -146,7 +146,7 @@ module _ {S T U P : Type 0} (kept : P → Bool) (first : Watched S P) (second : 
       ]
     where
       visited : (m : ℕ) → visits second.system second.mark m t ≡ visits first.system first.mark n s → (k : ℕ) →
-          (i : ℕ) × (i < m) × (kept_count kept second i t ≡ k) × IsMarked second (state second i t) → KeepsUp third.system u k first.system s n
+          (i : ℕ) × (i < m) × (kept_count kept second i t ≡ k) × IsMarked second (state second i t) → KeepsUp third u k first.system s n
       visited m same k x =
           let i = x.0 in
           let F : Visit P → Type 0 = λ v. IsPrefix v.events (events_after first.system n s) in
@@ -163,26 +163,26 @@ module _ {S T U P : Type 0} (kept : P → Bool) (first : Watched S P) (second : 
           let from = right_part F (visits second.system second.mark i t) (visits second.system second.mark (suc d) (state second i t)) all in
           let at = All-head F last rest (subst (All F) (ap (λ vs. vs ++ rest) (marked_visit second (state second i t) x.3)) from) in
           record {
-            events = prefix_trans (events_grow third.system third_law.lawful k c.0 u le) (subst (λ l. IsPrefix l (events_after first.system n s)) (sym c.1.stands.events) at);
+            events = prefix_trans (events_grow third third_law k c.0 u le) (subst (λ l. IsPrefix l (events_after first.system n s)) (sym c.1.stands.events) at);
             alike = λ o.
-                let stays = over_stays third.system third_law.lawful k c.0 u le o in
-                let over = sym (ap is_over c.1.stands.end) ∙ ap (λ z. is_over (third.system.end z)) stays ∙ o in
+                let stays = over_stays third third_law k c.0 u le o in
+                let over = sym (ap is_over c.1.stands.end) ∙ ap (λ z. is_over (third.end z)) stays ∙ o in
                 absurd (true≢false (sym over ∙ x.3.running));
           }
 
   -- The third run is never stuck where the second is not, and the second is over or visits ever more kept places.
   pub never_stuck : ((m line : ℕ) → end_after second.system m t ≡ Stuck line → ⊥) →
       ((k : ℕ) → (m : ℕ) × ((k ≤ kept_count kept second m t) ⊎ (is_over (end_after second.system m t) ≡ true))) →
-      (k line : ℕ) → end_after third.system k u ≡ Stuck line → ⊥
+      (k line : ℕ) → end_after third k u ≡ Stuck line → ⊥
   never_stuck free endless k line stuck =
       let x = endless k in
       let m = x.0 in
-      let over : is_over (end_after third.system k u) ≡ true = ap is_over stuck in
+      let over : is_over (end_after third k u) ≡ true = ap is_over stuck in
       elim x.1 [
         | inl many ↦
             let c = counts m in
             let le : k ≤ c.0 = omega (arith, c.1.low, many) in
-            let stays = over_stays third.system third_law.lawful k c.0 u le over in
-            free m line (sym c.1.stands.end ∙ ap third.system.end stays ∙ stuck)
+            let stays = over_stays third third_law k c.0 u le over in
+            free m line (sym c.1.stands.end ∙ ap third.end stays ∙ stuck)
         | inr over' ↦ free m line (sym ((over_alike m k over').1 over).end ∙ stuck)
       ]

@@ -11,7 +11,7 @@ use Rattle.dcc_run.specs.Prefix.{IsPrefix}
 use Rattle.dcc_run.specs.System.{events_after, end_after}
 use Rattle.dcc_run.specs.Visits.{Visit, visit_at, visit_of, visits, visits_of, VisitsKept}
 use Rattle.dcc_run.specs.Watched.{Watched, IsWatchable, state, is_shown}
-use Rattle.dcc_run.specs.Shadows.{Shadows, IsMarked, kept_mark, only}
+use Rattle.dcc_run.specs.Shadows.{Shadows, IsMarked, IsSeen, is_marked, has_ended, is_foul, KeepsPace, kept_mark, only}
 use Rattle.dcc_run.proofs.AgreementLaws.{marked_visit, marked_shows, over_shows, shown_is}
 use Rattle.dcc_run.proofs.RunLaws.{over_stays}
 use Rattle.dcc_run.proofs.ShadowLaws.{state-add}
@@ -35,6 +35,25 @@ module _ {S P : Type 0} (kept : P → Bool) (w : Watched S P) where
       here false (Some place) = at place (kept place)
 
 module _ {S P : Type 0} (w : Watched S P) where
+  -- where all places are kept, the marks are as before
+  all_kept_mark : (place : Option P) → kept_mark (λ p. true) place ≡ place
+  all_kept_mark None = refl
+  all_kept_mark (Some place) = refl
+
+  all_kept_seen : (s : S) → IsSeen w s → IsSeen (only (λ place. true) w) s
+  all_kept_seen s (is_marked m) = is_marked (record { place = m.place; mark = all_kept_mark (w.mark s) ∙ m.mark; running = m.running })
+  all_kept_seen s (has_ended over) = has_ended over
+  all_kept_seen s (is_foul foul) = is_foul foul
+
+  -- and so is the pace
+  pub pace_of_all : (s : S) (begin within : ℕ) → KeepsPace w s begin within → KeepsPace (only (λ place. true) w) s begin within
+  pace_of_all s begin within pace = record {
+    first = (pace.first.0, pace.first.1, all_kept_seen (state w pace.first.0 s) pace.first.2);
+    next = λ i m.
+        let x = pace.next i (record { place = m.place; mark = sym (all_kept_mark (w.mark (state w i s))) ∙ m.mark; running = m.running }) in
+        (x.0, x.1, x.2, all_kept_seen (state w x.0 s) x.3);
+  }
+
   -- what holds of the output of each marked state holds of each visit
   pub visits_hold : (F : List Event → Type 0) (n : ℕ) (s : S) → ((k : ℕ) → IsMarked w (state w k s) → F (events_after w.system k s)) → All (λ v. F v.events) (visits w.system w.mark n s)
   visits_hold F zero s h = All-nil (λ v. F v.events)

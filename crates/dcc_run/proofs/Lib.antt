@@ -6,5 +6,6 @@ pub mod ShadowLaws
 pub mod AgreementLaws
 pub mod KeptLaws
 pub mod CountLaws
+pub mod LeapLaws
 pub mod MatchLaws
 pub mod PaceLaws

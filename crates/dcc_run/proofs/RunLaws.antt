@@ -1,5 +1,6 @@
 -- Laws of runs.
-use Rattle.std.proofs.Common.{◌≡◌, ℕ, zero, suc, ◌+◌, ◌-◌, ◌≤◌, true, refl, sym, ap, ◌∙◌, subst, arith}
+use Rattle.std.proofs.Common.{◌≡◌, ℕ, zero, suc, ◌+◌, ◌-◌, ◌≤◌, inl, inr, true, refl, sym, ap, ◌∙◌, subst, arith}
+use Rattle.std.proofs.lemmas.Bool.{cases_lt}
 use Rattle.dcc_run.specs.End.{is_over}
 use Rattle.dcc_run.specs.Prefix.{IsPrefix}
 use Rattle.dcc_run.specs.System.{System, after, IsLawful, events_after, end_after}
@@ -36,3 +37,11 @@ module _ {S : Type 0} (system : System S) (law : IsLawful system) where
   over_stays m n s le over =
       let e : n ≡ m + (n - m) = omega arith in
       ap (λ k. after system.step k s) e ∙ after-add system.step m (n - m) s ∙ after-over (n - m) (after system.step m s) over
+
+  -- two states of one run that are both over are one
+  pub over_same : (m n : ℕ) (s : S) → is_over (end_after system m s) ≡ true → is_over (end_after system n s) ≡ true → after system.step n s ≡ after system.step m s
+  over_same m n s over other =
+      elim (cases_lt m n) [
+        | inl lt ↦ let le : m ≤ n = omega (arith, lt) in over_stays m n s le over
+        | inr ge ↦ sym (over_stays n m s ge other)
+      ]

@@ -3,7 +3,7 @@
 use Rattle.std.specs.Prelude.{◌≡◌, ℕ, ◌+◌, ◌*◌, ◌<◌, ◌≤◌, ◌⊎◌, Bool, true, false, length, if◌then◌else◌, Option, Some, None}
 use Rattle.dcc_run.specs.End.{is_over}
 use Rattle.dcc_run.specs.Prefix.{IsPrefix}
-use Rattle.dcc_run.specs.System.{end_after, events_after}
+use Rattle.dcc_run.specs.System.{System, end_after, events_after}
 use Rattle.dcc_run.specs.Visits.{visits, visits_of, EndsAlike}
 use Rattle.dcc_run.specs.Watched.{Watched, state, is_shown, IsQuietUntil}
 
@@ -89,12 +89,12 @@ abbrev pub only : {S P : Type 0} → (P → Bool) → Watched S P → Watched S 
 only kept w = record w { mark = λ s. kept_mark kept (w.mark s) }
 
 -- The other run counts this one's visits: for each number of steps it stands, after at least as many steps as kept
--- places were visited and at most `within` for each visit and once more, where this one stands.
-pub record CountsAt {S T P : Type 0} (kept : P → Bool) (w : Watched S P) (s : S) (m : ℕ) (other : Watched T P) (t : T)
+-- places were visited and at most `within` for each visit and once more, where this one stands. It needs no marks.
+pub record CountsAt {S T P : Type 0} (kept : P → Bool) (w : Watched S P) (s : S) (m : ℕ) (other : System T) (t : T)
     (within j : ℕ) : Type 0 where
   pub low : length (visits_of kept (visits w.system w.mark m s)) ≤ j
   pub high : j ≤ within * (length (visits w.system w.mark m s) + 1)
-  pub stands : EndsAlike w.system s m other.system t j
+  pub stands : EndsAlike w.system s m other t j
 
-abbrev pub Counts : {S T P : Type 0} → (P → Bool) → Watched S P → S → Watched T P → T → ℕ → Type 0
+abbrev pub Counts : {S T P : Type 0} → (P → Bool) → Watched S P → S → System T → T → ℕ → Type 0
 Counts kept w s other t within = (m : ℕ) → (j : ℕ) × CountsAt kept w s m other t within j
