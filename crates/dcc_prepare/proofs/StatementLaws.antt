@@ -16,7 +16,7 @@ use Rattle.dcc_prepare.specs.declared.program.Row.{Row}
 use Rattle.dcc_prepare.specs.declared.program.Label.{Label}
 use Rattle.dcc_prepare.specs.declared.program.Case.{Case}
 use Rattle.dcc_prepare.specs.declared.code.Code.{Code}
-use Rattle.dcc_prepare.specs.declared.emit.Behind.{Behind}
+use Rattle.dcc_prepare.specs.declared.emit.Following.{Following}
 use Rattle.dcc_value.specs.Resolved.{Names, Stands}
 use Rattle.dcc_prepare.specs.Points.{names_in, Goes, MayGo, label_named, point_named, case_point, IsTest, IsSwitch, Acts, AreRows}
 use Rattle.dcc_prepare.specs.Emission.{Stay, Grows, Emits, EmitsArms, Leads}
@@ -57,7 +57,7 @@ lines_step tree f is_open points start mid now lines i n l at next rest more wit
 
 -- The points after a statement.
 
-pub leads_stay : (tree : Tree) (before now : List Continuation) (following : Behind) (rest : Continuation) →
+pub leads_stay : (tree : Tree) (before now : List Continuation) (following : Following) (rest : Continuation) →
     Stay before now → Leads tree before following rest → Leads tree now following rest
 leads_stay tree before now following rest stay leads = record {
   next = goes_stay tree before now following.next rest stay leads.next;
@@ -66,7 +66,7 @@ leads_stay tree before now following rest stay leads = record {
 }
 
 -- after another point, where the jumps lead to the same points
-pub leads_after : (tree : Tree) (points : List Continuation) (following now : Behind) (lines : Lines) (rest : Continuation) →
+pub leads_after : (tree : Tree) (points : List Continuation) (following now : Following) (lines : Lines) (rest : Continuation) →
     now.on_break ≡ following.on_break → now.on_continue ≡ following.on_continue → Leads tree points following rest →
     Goes tree points now.next (runs lines rest) → Leads tree points now (runs lines rest)
 leads_after tree points following now lines rest same_break same_continue leads goes = record {
@@ -74,6 +74,17 @@ leads_after tree points following now lines rest same_break same_continue leads 
   on_break = subst (λ to. MayGo tree points to (after_break rest)) (sym same_break) leads.on_break;
   on_continue = subst (λ to. MayGo tree points to (after_continue rest)) (sym same_continue) leads.on_continue;
 }
+
+-- in the body of a loop: the turn is the next, and goes on where it is left
+pub in_loop_leads : (tree : Tree) (points : List Continuation) (turn rest : Continuation) (at left : ℕ) (following : Following) →
+    following ≡ record { next = at; on_break = Some left; on_continue = Some at } → after_break turn ≡ Some rest → after_continue turn ≡ Some turn →
+    Goes tree points at turn → Goes tree points left rest → Leads tree points following turn
+in_loop_leads tree points turn rest at left following is breaks continues goes leaves =
+    subst (λ (b : Following). Leads tree points b turn) (sym is) (record {
+      next = goes;
+      on_break = subst (MayGo tree points (Some left)) (sym breaks) leaves;
+      on_continue = subst (MayGo tree points (Some at)) (sym continues) goes;
+    })
 
 -- Tests.
 

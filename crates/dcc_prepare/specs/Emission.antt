@@ -1,13 +1,13 @@
 -- How the points of a function grow while its statements are gone through.
-use Rattle.std.specs.Prelude.{◌≡◌, ℕ, Bool, List, map, Option, Some, None, slice_get}
-use Rattle.dcc_c.specs.Tree.{Word, Lines, Arms, Function, Tree}
-use Rattle.dcc_c.specs.Run.{Continuation, runs, arm_for, after_break, after_continue}
+use Rattle.std.specs.Prelude.{◌≡◌, ℕ, Bool, List, map, Option, Some, None, Result, IfOk, slice_get}
+use Rattle.dcc_c.specs.Tree.{Word, Stmt, Lines, line, Arms, Function, Tree}
+use Rattle.dcc_c.specs.Run.{Continuation, runs, arm_for, after_break, after_continue, from_label_inside}
 use Rattle.dcc_c.specs.Views.{function_of}
 use Rattle.dcc_prepare.specs.declared.program.Label.{Label}
 use Rattle.dcc_prepare.specs.declared.program.Case.{Case}
 use Rattle.dcc_prepare.specs.declared.code.Code.{Code}
 use Rattle.dcc_prepare.specs.declared.code.Context.{Context}
-use Rattle.dcc_prepare.specs.declared.emit.Behind.{Behind}
+use Rattle.dcc_prepare.specs.declared.emit.Following.{Following}
 use Rattle.dcc_value.specs.Resolved.{names_of}
 use Rattle.dcc_prepare.specs.Points.{names_in, Goes, MayGo, label_named, point_named, case_point, AreRows}
 
@@ -50,7 +50,7 @@ pub record EmitsArms (tree : Tree) (f : Function) (is_open : ℕ → Bool) (poin
       Goes tree later (case_point cases n at) (runs (arm_for n arms otherwise) rest)
 
 -- the points after a statement lead where the continuation does
-pub record Leads (tree : Tree) (points : List Continuation) (following : Behind) (rest : Continuation) : Type 0 where
+pub record Leads (tree : Tree) (points : List Continuation) (following : Following) (rest : Continuation) : Type 0 where
   pub next : Goes tree points following.next rest
   pub on_break : MayGo tree points following.on_break (after_break rest)
   pub on_continue : MayGo tree points following.on_continue (after_continue rest)
@@ -59,3 +59,25 @@ pub record Leads (tree : Tree) (points : List Continuation) (following : Behind)
 pub record IsContext (context : Context) (tree : Tree) (f : Function) : Type 0 where
   pub names : names_of context.names.now ≡ names_in tree f
   pub functions : map function_of context.functions.now ≡ tree.functions
+
+-- In each function of a text that has the context, and whose points so far are those of the code: where the points
+-- after lead as they have to, the text goes on so from the point of the answer, with these labels found.
+abbrev pub EmitsIn : {E : Type 0} → Context → Code → Code → Result ℕ E → (Tree → List Continuation → Type 0)
+    → (Word → Option Continuation) → Continuation → Type 0
+EmitsIn context before now result Leading found rest =
+    (tree : Tree) (f : Function) (is_open : ℕ → Bool) (points : List Continuation) →
+    IsContext context tree f → AreRows tree f is_open points before.rows.items before.labels.items →
+    Leading tree points → IfOk result (λ at. Emits tree f is_open points before now found at rest)
+
+-- where the points after are these, and lead where the other continuation does
+abbrev pub EmitsBefore : {E : Type 0} → Context → Code → Code → Result ℕ E → Following → Continuation
+    → (Word → Option Continuation) → Continuation → Type 0
+EmitsBefore context before now result following after found rest =
+    EmitsIn context before now result (λ tree points. Leads tree points following after) found rest
+
+-- the statement in its line, before others that begin at the point
+abbrev pub EmitsStmt : {E : Type 0} → Context → Code → Code → Result ℕ E → ℕ → Stmt → ℕ → Type 0
+EmitsStmt context before now result next stmt at =
+    (lines : Lines) (rest : Continuation) →
+    EmitsIn context before now result (λ tree points. Goes tree points next (runs lines rest))
+    (λ word. from_label_inside word stmt at lines rest) (runs (line stmt at lines) rest)

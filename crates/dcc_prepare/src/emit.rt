@@ -8,7 +8,7 @@ ghost use Rattle.dcc_c.specs.Dos.{dos_of};
 ghost use Rattle.dcc_c.specs.Views.{expr_of, stmt_of, lines_of, arms_of, function_of, arms_if};
 ghost use Rattle.dcc_prepare.specs.Points.{Goes, MayGo, AreRows, IsCallee, StandsIf, StandAll, dos_call};
 ghost use Rattle.dcc_value.specs.Resolved.{names_of};
-ghost use Rattle.dcc_prepare.specs.Emission.{Emits, EmitsArms, Leads, IsContext};
+ghost use Rattle.dcc_prepare.specs.Emission.{Emits, EmitsArms, EmitsIn, EmitsBefore, EmitsStmt, Leads, IsContext};
 
 use crate::code::{Code, Context, resolve_all, resolve_option};
 use crate::program::{Action, CallRow, Callee, Case, Dos};
@@ -18,7 +18,7 @@ use std::alloc::{AllocError, Global};
 
 /// The points after a statement.
 #[derive(Clone, Copy)]
-pub struct Behind {
+pub struct Following {
     /// Where the next statement begins.
     pub next: usize,
     /// Where `break` leads.
@@ -27,12 +27,30 @@ pub struct Behind {
     pub on_continue: Option<usize>,
 }
 
-impl Behind {
+/// What a statement tests, and the line of the statement.
+#[derive(Clone, Copy)]
+struct Tested<'a> {
+    e: &'a CExpr,
+    line: u32,
+}
+
+impl Following {
+    // The points after a statement in the body of a loop: where its next turn begins, and where it is left.
+    fn in_loop(turn: usize, left: usize) -> Following
+        ensures { result ≡ record { next = turn; on_break = Some left; on_continue = Some turn } }
+    {
+        Following {
+            next: turn,
+            on_break: Some(left),
+            on_continue: Some(turn),
+        }
+    }
+
     // The points after a statement in an arm of a `switch`: `break` leads past the `switch`.
-    fn inside_switch(self) -> Behind
+    fn inside_switch(self) -> Following
         ensures { result ≡ record { next = self.next; on_break = Some self.next; on_continue = self.on_continue } }
     {
-        Behind {
+        Following {
             on_break: Some(self.next),
             ..self
         }
@@ -44,16 +62,11 @@ impl Behind {
 pub fn emit_lines(
     context: &Context<'_>,
     lines: &[Line],
-    following: Behind,
+    following: Following,
     code: &mut Code,
 ) -> Result<usize, AllocError>
-    ensures { (tree : Tree) (f : Function) (is_open : ℕ → Bool) (points : List Continuation)
-        (rest : Continuation) →
-        IsContext context.now tree f →
-        AreRows tree f is_open points code.old.rows.items code.old.labels.items →
-        Leads tree points following rest →
-        IfOk result (λ at. Emits tree f is_open points code.old code.new
-        (λ word. from_label word (lines_of lines.now) rest) at (runs (lines_of lines.now) rest)) }
+    ensures { (rest : Continuation) → EmitsBefore context.now code.old code.new result following rest
+        (λ word. from_label word (lines_of lines.now) rest) (runs (lines_of lines.now) rest) }
 {
     let mut following = following;
     let mut i = lines.len();
@@ -71,17 +84,13 @@ fn emit_stmt(
     context: &Context<'_>,
     stmt: &CStmt,
     line: u32,
-    following: Behind,
+    following: Following,
     code: &mut Code,
 ) -> Result<usize, AllocError>
-    ensures { (tree : Tree) (f : Function) (is_open : ℕ → Bool) (points : List Continuation)
-        (lines : Lines) (rest : Continuation) →
-        IsContext context.now tree f →
-        AreRows tree f is_open points code.old.rows.items code.old.labels.items →
-        Leads tree points following (runs lines rest) →
-        IfOk result (λ at. Emits tree f is_open points code.old code.new
+    ensures { (lines : Lines) (rest : Continuation) →
+        EmitsBefore context.now code.old code.new result following (runs lines rest)
         (λ word. from_label_inside word (stmt_of stmt.now) line lines rest)
-        at (runs (before_lines (stmt_of stmt.now) line lines) rest)) }
+        (runs (before_lines (stmt_of stmt.now) line lines) rest) }
 {
     match stmt {
         CStmt::Assign(place, e) => emit_assign(context, place, e, line, following.next, code),
@@ -92,15 +101,19 @@ fn emit_stmt(
         }
         CStmt::If(e, body, otherwise) => {
             let no = emit_lines(context, otherwise, following, code)?;
-            emit_if(context, body, e, no, line, following, code)
+            emit_if(context, &Tested { e, line }, body, no, following, code)
         }
-        CStmt::While(e, body) => emit_while(context, body, e, line, following.next, code),
-        CStmt::DoWhile(body, e) => emit_do_while(context, body, e, line, following.next, code),
+        CStmt::While(e, body) => {
+            emit_while(context, &Tested { e, line }, body, following.next, code)
+        }
+        CStmt::DoWhile(body, e) => {
+            emit_do_while(context, &Tested { e, line }, body, following.next, code)
+        }
         CStmt::Forever(body) => emit_forever(context, body, line, following.next, code),
         CStmt::Switch(e, arms, last) => {
             let inside = following.inside_switch();
             let otherwise = emit_default(context, last, inside, code)?;
-            emit_switch(context, arms, e, otherwise, line, inside, code)
+            emit_switch(context, &Tested { e, line }, arms, otherwise, inside, code)
         }
         CStmt::Break => emit_jump(line, following.on_break, code),
         CStmt::Continue => emit_jump(line, following.on_continue, code),
@@ -120,13 +133,8 @@ fn emit_assign(
     next: usize,
     code: &mut Code,
 ) -> Result<usize, AllocError>
-    ensures { (tree : Tree) (f : Function) (is_open : ℕ → Bool) (points : List Continuation)
-        (lines : Lines) (rest : Continuation) →
-        IsContext context.now tree f →
-        AreRows tree f is_open points code.old.rows.items code.old.labels.items →
-        Goes tree points next (runs lines rest) →
-        IfOk result (λ at. Emits tree f is_open points code.old code.new
-        (λ word. None) at (runs (before_lines (Assign (expr_of place.now) (expr_of e.now)) line lines) rest)) }
+    ensures { EmitsStmt context.now code.old code.new result next
+        (Assign (expr_of place.now) (expr_of e.now)) line }
 {
     let place = resolve(context.alloc, context.names, place)?;
     let value = resolve(context.alloc, context.names, e)?;
@@ -165,73 +173,54 @@ fn call_row(
 #[cycle(emit)]
 fn emit_if(
     context: &Context<'_>,
+    test: &Tested<'_>,
     body: &[Line],
-    e: &CExpr,
     no: usize,
-    line: u32,
-    following: Behind,
+    following: Following,
     code: &mut Code,
 ) -> Result<usize, AllocError>
-    ensures { (tree : Tree) (f : Function) (is_open : ℕ → Bool) (points : List Continuation)
-        (otherwise lines : Lines) (rest : Continuation) →
-        IsContext context.now tree f →
-        AreRows tree f is_open points code.old.rows.items code.old.labels.items →
-        Leads tree points following (runs lines rest) →
-        Goes tree points no (runs otherwise (runs lines rest)) →
-        IfOk result (λ at. Emits tree f is_open points code.old code.new
-        (λ word. from_label word (lines_of body.now) (runs lines rest)) at
-        (runs (before_lines (If (expr_of e.now) (lines_of body.now) otherwise) line lines) rest)) }
+    ensures { (otherwise lines : Lines) (rest : Continuation) → EmitsIn context.now code.old code.new result
+        (λ tree points. Leads tree points following (runs lines rest)
+        × Goes tree points no (runs otherwise (runs lines rest)))
+        (λ word. from_label word (lines_of body.now) (runs lines rest))
+        (runs (before_lines (If (expr_of test.now.e.now) (lines_of body.now) otherwise) test.now.line lines) rest) }
 {
     let yes = emit_lines(context, body, following, code)?;
-    let value = resolve(context.alloc, context.names, e)?;
-    code.push(line, Action::Test(value, yes, no))
+    let value = resolve(context.alloc, context.names, test.e)?;
+    code.push(test.line, Action::Test(value, yes, no))
 }
 
 // Makes the points of a `while`. The answer is the point where it is tested first.
 #[cycle(emit)]
 fn emit_while(
     context: &Context<'_>,
+    test: &Tested<'_>,
     body: &[Line],
-    e: &CExpr,
-    line: u32,
     next: usize,
     code: &mut Code,
 ) -> Result<usize, AllocError>
-    ensures { (tree : Tree) (f : Function) (is_open : ℕ → Bool) (points : List Continuation)
-        (lines : Lines) (rest : Continuation) →
-        IsContext context.now tree f →
-        AreRows tree f is_open points code.old.rows.items code.old.labels.items →
-        Goes tree points next (runs lines rest) →
-        IfOk result (λ at. Emits tree f is_open points code.old code.new
-        (λ word. from_label_inside word (While (expr_of e.now) (lines_of body.now)) line lines rest) at
-        (runs (before_lines (While (expr_of e.now) (lines_of body.now)) line lines) rest)) }
+    ensures { EmitsStmt context.now code.old code.new result next
+        (While (expr_of test.now.e.now) (lines_of body.now)) test.now.line }
 {
-    let yes = emit_repeated(context, body, e, line, next, code)?;
-    let value = resolve(context.alloc, context.names, e)?;
-    code.push(line, Action::Test(value, yes, next))
+    let yes = emit_repeated(context, test, body, next, code)?;
+    let value = resolve(context.alloc, context.names, test.e)?;
+    code.push(test.line, Action::Test(value, yes, next))
 }
 
 // Makes the points of a `do`. The answer is the point where it begins.
 #[cycle(emit)]
 fn emit_do_while(
     context: &Context<'_>,
+    test: &Tested<'_>,
     body: &[Line],
-    e: &CExpr,
-    line: u32,
     next: usize,
     code: &mut Code,
 ) -> Result<usize, AllocError>
-    ensures { (tree : Tree) (f : Function) (is_open : ℕ → Bool) (points : List Continuation)
-        (lines : Lines) (rest : Continuation) →
-        IsContext context.now tree f →
-        AreRows tree f is_open points code.old.rows.items code.old.labels.items →
-        Goes tree points next (runs lines rest) →
-        IfOk result (λ at. Emits tree f is_open points code.old code.new
-        (λ word. from_label_inside word (DoWhile (lines_of body.now) (expr_of e.now)) line lines rest) at
-        (runs (before_lines (DoWhile (lines_of body.now) (expr_of e.now)) line lines) rest)) }
+    ensures { EmitsStmt context.now code.old code.new result next
+        (DoWhile (lines_of body.now) (expr_of test.now.e.now)) test.now.line }
 {
-    let yes = emit_repeated(context, body, e, line, next, code)?;
-    code.push(line, Action::Pass(yes))
+    let yes = emit_repeated(context, test, body, next, code)?;
+    code.push(test.line, Action::Pass(yes))
 }
 
 // Makes the points of the arms of a `switch`, where the point of its default arm is given, and then that of its value.
@@ -239,26 +228,21 @@ fn emit_do_while(
 #[cycle(emit)]
 fn emit_switch(
     context: &Context<'_>,
+    test: &Tested<'_>,
     arms: &[Arm],
-    e: &CExpr,
     otherwise: usize,
-    line: u32,
-    inside: Behind,
+    inside: Following,
     code: &mut Code,
 ) -> Result<usize, AllocError>
-    ensures { (tree : Tree) (f : Function) (is_open : ℕ → Bool) (points : List Continuation)
-        (last : Arms) (lines : Lines) (rest : Continuation) →
-        IsContext context.now tree f →
-        AreRows tree f is_open points code.old.rows.items code.old.labels.items →
-        Leads tree points inside (ends_switch (runs lines rest)) →
-        Goes tree points otherwise (runs (default_body last) (ends_switch (runs lines rest))) →
-        IfOk result (λ at. Emits tree f is_open points code.old code.new
-        (λ word. from_label_in_arms word (arms_of arms.now) (ends_switch (runs lines rest))) at
-        (runs (before_lines (Switch (expr_of e.now) (arms_of arms.now) last) line lines) rest)) }
+    ensures { (last : Arms) (lines : Lines) (rest : Continuation) → EmitsIn context.now code.old code.new result
+        (λ tree points. Leads tree points inside (ends_switch (runs lines rest))
+        × Goes tree points otherwise (runs (default_body last) (ends_switch (runs lines rest))))
+        (λ word. from_label_in_arms word (arms_of arms.now) (ends_switch (runs lines rest)))
+        (runs (before_lines (Switch (expr_of test.now.e.now) (arms_of arms.now) last) test.now.line lines) rest) }
 {
     let cases = emit_arms(context, arms, inside, code)?;
-    let value = resolve(context.alloc, context.names, e)?;
-    code.push(line, Action::Switch(value, cases, otherwise))
+    let value = resolve(context.alloc, context.names, test.e)?;
+    code.push(test.line, Action::Switch(value, cases, otherwise))
 }
 
 // Makes the point of a `goto`.
@@ -330,30 +314,20 @@ fn emit_jump(line: u32, to: Option<usize>, code: &mut Code) -> Result<usize, All
 #[cycle(emit)]
 fn emit_repeated(
     context: &Context<'_>,
+    test: &Tested<'_>,
     body: &[Line],
-    e: &CExpr,
-    line: u32,
     next: usize,
     code: &mut Code,
 ) -> Result<usize, AllocError>
-    ensures { (tree : Tree) (f : Function) (is_open : ℕ → Bool) (points : List Continuation)
-        (rest : Continuation) →
-        IsContext context.now tree f →
-        AreRows tree f is_open points code.old.rows.items code.old.labels.items →
-        Goes tree points next rest →
-        IfOk result (λ at. Emits tree f is_open points code.old code.new
-        (λ word. from_label word (lines_of body.now) (tests (expr_of e.now) (lines_of body.now) line rest))
-        at (runs (lines_of body.now) (tests (expr_of e.now) (lines_of body.now) line rest))) }
+    ensures { (rest : Continuation) →
+        let turn = tests (expr_of test.now.e.now) (lines_of body.now) test.now.line rest in
+        EmitsIn context.now code.old code.new result (λ tree points. Goes tree points next rest)
+        (λ word. from_label word (lines_of body.now) turn) (runs (lines_of body.now) turn) }
 {
-    let test = code.push(line, Action::Stuck)?;
-    let following = Behind {
-        next: test,
-        on_break: Some(next),
-        on_continue: Some(test),
-    };
-    let yes = emit_lines(context, body, following, code)?;
-    let value = resolve(context.alloc, context.names, e)?;
-    code.set(test, line, Action::Test(value, yes, next));
+    let turn = code.push(test.line, Action::Stuck)?;
+    let yes = emit_lines(context, body, Following::in_loop(turn, next), code)?;
+    let value = resolve(context.alloc, context.names, test.e)?;
+    code.set(turn, test.line, Action::Test(value, yes, next));
     Ok(yes)
 }
 
@@ -366,22 +340,13 @@ fn emit_forever(
     next: usize,
     code: &mut Code,
 ) -> Result<usize, AllocError>
-    ensures { (tree : Tree) (f : Function) (is_open : ℕ → Bool) (points : List Continuation)
-        (rest : Continuation) →
-        IsContext context.now tree f →
-        AreRows tree f is_open points code.old.rows.items code.old.labels.items →
-        Goes tree points next rest →
-        IfOk result (λ at. Emits tree f is_open points code.old code.new
-        (λ word. from_label word (lines_of body.now) (turns (lines_of body.now) rest))
-        at (turns (lines_of body.now) rest)) }
+    ensures { (rest : Continuation) →
+        let turn = turns (lines_of body.now) rest in
+        EmitsIn context.now code.old code.new result (λ tree points. Goes tree points next rest)
+        (λ word. from_label word (lines_of body.now) turn) turn }
 {
     let turn = code.push(line, Action::Stuck)?;
-    let following = Behind {
-        next: turn,
-        on_break: Some(next),
-        on_continue: Some(turn),
-    };
-    let first = emit_lines(context, body, following, code)?;
+    let first = emit_lines(context, body, Following::in_loop(turn, next), code)?;
     code.set(turn, line, Action::Pass(first));
     Ok(turn)
 }
@@ -391,7 +356,7 @@ fn emit_forever(
 fn emit_arms(
     context: &Context<'_>,
     arms: &[Arm],
-    following: Behind,
+    following: Following,
     code: &mut Code,
 ) -> Result<Vec<Case>, AllocError>
     ensures { (tree : Tree) (f : Function) (is_open : ℕ → Bool) (points : List Continuation)
@@ -419,17 +384,11 @@ fn emit_arms(
 fn emit_default(
     context: &Context<'_>,
     last: &Option<Arm>,
-    following: Behind,
+    following: Following,
     code: &mut Code,
 ) -> Result<usize, AllocError>
-    ensures { (tree : Tree) (f : Function) (is_open : ℕ → Bool) (points : List Continuation)
-        (rest : Continuation) →
-        IsContext context.now tree f →
-        AreRows tree f is_open points code.old.rows.items code.old.labels.items →
-        Leads tree points following rest →
-        IfOk result (λ at. Emits tree f is_open points code.old code.new
-        (λ word. from_label_in_arms word (arms_if last.now) rest)
-        at (runs (default_body (arms_if last.now)) rest)) }
+    ensures { (rest : Continuation) → EmitsBefore context.now code.old code.new result following rest
+        (λ word. from_label_in_arms word (arms_if last.now) rest) (runs (default_body (arms_if last.now)) rest) }
 {
     match last {
         Some(arm) => emit_lines(context, &arm.body, following, code),

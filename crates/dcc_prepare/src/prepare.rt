@@ -12,7 +12,7 @@ ghost use Rattle.dcc_prepare.specs.Programs.{none_open, place_in, AreVariables, 
 ghost use Rattle.dcc_prepare.specs.Prepared.{IsBody, HasPoints, name_declared, names_declared};
 
 use crate::code::{Code, Context};
-use crate::emit::{Behind, emit_lines};
+use crate::emit::{Following, emit_lines};
 use crate::placement::{locals_of, params_of};
 use crate::program::{Action, Procedure, Program, Variable};
 use dcc_c::{Func, Global_, Unit, Var};
@@ -82,7 +82,7 @@ fn body(context: &Context<'_>, function: &Func, code: &mut Code) -> Result<usize
         IfOk result (IsBody tree (function_of function.now) code.new) }
 {
     let close = code.push(function.last, Action::Close)?;
-    let following = Behind {
+    let following = Following {
         next: close,
         on_break: None,
         on_continue: None,

@@ -8,7 +8,7 @@ use Rattle.dcc_prepare.proofs.StatementLaws.{stands_here}
 use Rattle.dcc_prepare.proofs.emit.emit_assign.Goals as goal
 
 pub returns : goal.returns
-returns c tree f is_open points lines rest context are goes =
+returns c lines rest tree f is_open points context are goes =
     let own = runs (line (Assign (expr_of c.args.place.now) (expr_of c.args.e.now)) c.args.line lines) rest in
     pushed_ok tree f is_open points c.args.code.now c.push.new.self own c.args.line _ c.push.result are
     (record {

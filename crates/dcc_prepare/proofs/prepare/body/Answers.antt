@@ -14,7 +14,7 @@ returns c tree context rows labels =
     let f : Function = function_of c.args.function.now in
     let one = closes tree f c.args.code.now c.push.new.self c.in_ok-close.close c.args.function.now.last rows c.in_ok-close.ensures.point c.in_ok-close.ensures.rows c.in_ok-close.ensures.labels in
     let points = one.grows.grown in
-    let made = c.emit_lines.ensures tree f none_open points (ends_function c.args.function.now.last) context one.grows.rows (body_leads tree points c.in_ok-close.close c.args.function.now.last one.goes) in
+    let made = c.emit_lines.ensures (ends_function c.args.function.now.last) tree f none_open points context one.grows.rows (body_leads tree points c.in_ok-close.close c.args.function.now.last one.goes) in
     IfOk-weaker c.emit_lines.result _ (IsBody tree f c.emit_lines.new.code)
     (λ at emits.
     body_is tree f c.args.code.now c.push.new.self c.emit_lines.new.code at points labels c.in_ok-close.ensures.labels
