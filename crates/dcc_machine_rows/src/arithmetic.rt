@@ -5,7 +5,10 @@ ghost use Rattle.dcc_num.specs.Numbers.{limit_of};
 
 use Operation::*;
 use dcc_num::Width::{Byte, Word};
-use dcc_num::{Flags, Width, add, and, dec, div, idiv, imul, inc, mul, neg, or, rcl1, rcr1, rol, ror, sar, shl, shr, sign8, sub, xor};
+use dcc_num::{
+    Flags, Width, add, and, dec, div, idiv, imul, inc, mul, neg, or, rcl1, rcr1, rol, ror, sar,
+    shl, shr, sign8, sub, xor,
+};
 
 // An operation on one or two operands that gives a result and flags.
 #[derive(Clone, Copy)]

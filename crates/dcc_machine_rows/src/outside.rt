@@ -1,6 +1,9 @@
 //! Files, input and output: each object through its trait, and what only the system can show.
 
-use dcc_io::{DirShelf, Failed, Fetched, MemShelf, MemSink, MemSource, Shelf, ShelfFault, Sink, Source, StdSink, StdSource, Stream, put_all};
+use dcc_io::{
+    DirShelf, Failed, Fetched, MemShelf, MemSink, MemSource, Shelf, ShelfFault, Sink, Source,
+    StdSink, StdSource, Stream, put_all,
+};
 use std::alloc::{AllocError, Global};
 use std::fs;
 use std::test::Fail;

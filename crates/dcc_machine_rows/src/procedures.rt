@@ -9,7 +9,8 @@ use dcc_layout::layout;
 use dcc_mz::load;
 use dcc_procs::find;
 use dcc_procs::plain::{is_trail, known_ah, successors};
-use dcc_prog::{Image, Layout, Proc};
+use dcc_prog::refusal::construct::{DOS_NUMBER, INDIRECT_CALL, INDIRECT_JUMP, OUTSIDE};
+use dcc_prog::{Image, Layout, Proc, Refusal};
 use std::alloc::{AllocError, Global};
 use std::process::Abort;
 use std::test::Fail;
@@ -197,6 +198,43 @@ fn the_entry_procedure_has_what_trails_reach(rt: HostRuntime) -> Result<(), Fail
             assert_eq!(rt; node.number, *number);
         }
         check_plainly(&rt, alloc, &image, &layout, proc)?;
+    }
+    Ok(())
+}
+
+// The code, the number of the construct that is told, and its offset.
+type RefusedRow = (&'static [u8], u8, u16);
+
+static REFUSED: [RefusedRow; 10] = [
+    // FF with a reg field that no instruction has.
+    (b"\xFF\xF8", OUTSIDE, 0x0005),
+    // A jump and a call through a register, near and far.
+    (b"\xFF\xE0", INDIRECT_JUMP, 0x0005),
+    (b"\xFF\xE8", INDIRECT_JUMP, 0x0005),
+    (b"\xFF\xD0", INDIRECT_CALL, 0x0005),
+    (b"\xFF\xD8", INDIRECT_CALL, 0x0005),
+    // A jump past the end, and to the last byte, where an instruction begins that goes on past the end.
+    (b"\xEB\x39", OUTSIDE, 0x0040),
+    (b"\xEB\x38", OUTSIDE, 0x003F),
+    // A jump into the first instruction of the prelude, and below offset 0.
+    (b"\xEB\xFA", OUTSIDE, 0x0003),
+    (b"\xEB\xF8", OUTSIDE, 0xFFFF),
+    // CBW between MOV AH and INT 21h.
+    (b"\xB4\x02\x98\xCD\x21\xB4\x4C\xCD\x21", DOS_NUMBER, 0x0008),
+];
+
+fn refused() -> &'static [RefusedRow] {
+    &REFUSED
+}
+
+#[test]
+fn constructs_are_told_where_they_stand(rt: HostRuntime) -> Result<(), Fail> {
+    let alloc = rt.alloc();
+    for &(code, kind, at) in refused() {
+        let image = image_of(&rt, alloc, code)?;
+        let layout = layout(alloc, &image)?;
+        let told = find(alloc, &image, &layout).err();
+        assert_eq!(rt; told, Some(Refusal::Construct { kind, at }), "{code:?}");
     }
     Ok(())
 }
