@@ -4,18 +4,21 @@ use Rattle.std.specs.Prelude.{Option, Result, Ok, Err, OnOk, if◌then◌else◌
 use Rattle.std.proofs.lemmas.Bool.Decides.{nat_tests}
 use Rattle.std.proofs.lemmas.List.{append-nil}
 use Rattle.dcc_run.specs.End.{Outside}
+use Rattle.dcc_run.specs.Event.{Event, MetEnd, taken_by, writes}
+use Rattle.dcc_run.proofs.EventLaws.{written-writes, taken-writes}
 use Rattle.dcc_num.specs.declared.Reg.TheVariants.{Ax}
 use Rattle.dcc_num.specs.declared.Half.TheVariants.{High}
-use Rattle.dcc_io.specs.Told.{append_told, AppendsProperPrefix}
+use Rattle.dcc_io.specs.Told.{append_told, prepend_told, AppendsProperPrefix}
 use Rattle.dcc_io.proofs.ToldLemmas.{append_told-nil, prepend_told-nil}
 use Rattle.dcc_prog.specs.Machine.{State, word_in, half_of_word}
 use Rattle.dcc_prog.specs.Operations.{with_end, with_al}
 use Rattle.dcc_prog.specs.Dos.{bytes_from, dos_string, key_step, dos_step, dos_call}
 use Rattle.dcc_console.specs.declared.fault.Fault.{Fault}
 use Rattle.dcc_console.specs.declared.fault.Fault.TheVariants.{Input, Output}
-use Rattle.dcc_console.specs.Key.{echoed, TakesKey, next_byte, no_byte, IsRefusedKey}
+use Rattle.dcc_console.specs.Key.{key_events, TakesKey, next_byte, no_byte, IsRefusedKey}
 use Rattle.dcc_console.specs.Scene.{Scene, scene, told_bytes}
 use Rattle.dcc_console.specs.Steps.{Comes, Makes, IsRefusedWrite, Steps, refusal_of}
+use Rattle.dcc_console.proofs.KeyLaws.{key-taken}
 use Rattle.dcc_step.specs.Core.{Core, with_console, core_of, state_of}
 use Rattle.dcc_step.specs.Stepped.{machine_by}
 
@@ -26,73 +29,70 @@ on_ok (Err e) f p = p
 
 -- what an operation does to a state, from what it does to the machine beside the state's console
 done_beside : (operation : State → State) (old : Core) (s : State) (input : List ℕ) → core_of s ≡ old → s.input ≡ input
-    → operation s ≡ operation (with_console old input s.out)
+    → operation s ≡ operation (with_console old input s.events)
 done_beside operation old s input stands has =
-    ap (λ (c : Core). operation (with_console c s.input s.out)) stands ∙ ap (λ i. operation (with_console old i s.out)) has
+    ap (λ (c : Core). operation (with_console c s.input s.events)) stands ∙ ap (λ i. operation (with_console old i s.events)) has
 
 -- where that is one equation
-comes_by : (operation : State → State) (old new : Core) (given rest written : List ℕ)
-    → ((out : List ℕ) → operation (with_console old (given ++ rest) out) ≡ with_console new rest (out ++ written))
+comes_by : (operation : State → State) (old new : Core) (given rest : List ℕ) (happened : List Event)
+    → ((events : List Event) → operation (with_console old (given ++ rest) events) ≡ with_console new rest (events ++ happened))
     → (s : State) → core_of s ≡ old → s.input ≡ given ++ rest
-    → Comes (machine_by operation) tt new rest (s.out ++ written) (operation s)
-comes_by operation old new given rest written is s stands has =
-    let there : operation s ≡ with_console new rest (s.out ++ written) =
-    done_beside operation old s (given ++ rest) stands has ∙ is s.out in
-    record { stands = ap core_of there; left = ap (λ (t : State). t.input) there; out = ap (λ (t : State). t.out) there }
+    → Comes (machine_by operation) tt new rest (s.events ++ happened) (operation s)
+comes_by operation old new given rest happened is s stands has =
+    let there : operation s ≡ with_console new rest (s.events ++ happened) =
+    done_beside operation old s (given ++ rest) stands has ∙ is s.events in
+    record { stands = ap core_of there; left = ap (λ (t : State). t.input) there; events = ap (λ (t : State). t.events) there }
 
 -- an operation that does the same beside any console, and leaves that
 pub made_quiet : (operation : State → State) (old new : Core) (left taken : Option (List ℕ))
-    → ((input out : List ℕ) → operation (with_console old input out) ≡ with_console new input out)
+    → ((input : List ℕ) (events : List Event) → operation (with_console old input events) ≡ with_console new input events)
     → Makes (machine_by operation) (scene old left taken) (scene new left taken)
 made_quiet operation old new left taken is = record {
-  given = [];
-  written = [];
+  happened = [];
   took = sym (prepend_told-nil left);
   wrote = sym (append_told-nil taken);
   made = λ w s stands has.
       comes_by operation old new [] (told_bytes left) []
-      (λ out. is (told_bytes left) out ∙ ap (λ (o : List ℕ). with_console new (told_bytes left) o) (sym (append-nil out))) s stands has;
+      (λ events. is (told_bytes left) events ∙ ap (λ (e : List Event). with_console new (told_bytes left) e) (sym (append-nil events))) s stands has;
 }
 
 -- an operation that does, from one machine, what another does from another machine
 pub made_as : (f g : State → State) (from old : Core) (left taken : Option (List ℕ)) (now : Scene Core)
-    → ((input out : List ℕ) → g (with_console from input out) ≡ f (with_console old input out))
+    → ((input : List ℕ) (events : List Event) → g (with_console from input events) ≡ f (with_console old input events))
     → Makes (machine_by f) (scene old left taken) now → Makes (machine_by g) (scene from left taken) now
 made_as f g from old left taken now same made = record {
-  given = made.given;
-  written = made.written;
+  happened = made.happened;
   took = made.took;
   wrote = made.wrote;
   made = λ w s stands has.
-      let is : g s ≡ f (with_console old s.input s.out) = done_beside g from s s.input stands refl ∙ same s.input s.out in
-      let comes = made.made w (with_console old s.input s.out) refl has in
+      let is : g s ≡ f (with_console old s.input s.events) = done_beside g from s s.input stands refl ∙ same s.input s.events in
+      let comes = made.made w (with_console old s.input s.events) refl has in
       record {
         stands = ap core_of is ∙ comes.stands;
         left = ap (λ (t : State). t.input) is ∙ comes.left;
-        out = ap (λ (t : State). t.out) is ∙ comes.out;
+        events = ap (λ (t : State). t.events) is ∙ comes.events;
       };
 }
 
 -- the same where it is refused: the machine is then as it was before
 pub refused_as : (f g : State → State) (fault : Fault) (from old new : Core) (left taken left_now taken_now : Option (List ℕ))
-    → ((input out : List ℕ) → g (with_console from input out) ≡ f (with_console old input out))
+    → ((input : List ℕ) (events : List Event) → g (with_console from input events) ≡ f (with_console old input events))
     → Steps (machine_by f) (refusal_of fault) (scene old left taken) (scene new left_now taken_now)
     → Steps (machine_by g) (refusal_of fault) (scene from left taken) (scene from left_now taken_now)
 refused_as f g Input from old new left taken left_now taken_now same refused = record {
   takes = λ w s byte rest stands has.
-      ap (λ (t : State). t.input) (done_beside g from s s.input stands refl ∙ same s.input s.out)
-      ∙ refused.takes w (with_console old s.input s.out) byte rest refl has;
+      ap (λ (t : State). t.input) (done_beside g from s s.input stands refl ∙ same s.input s.events)
+      ∙ refused.takes w (with_console old s.input s.events) byte rest refl has;
   unchanged = ap (λ (v : Scene Core). scene from v.left v.taken) refused.unchanged;
 }
 refused_as f g Output from old new left taken left_now taken_now same refused = record {
-  given = refused.given;
-  written = refused.written;
+  happened = refused.happened;
   takes = λ w s rest stands has.
-      ap (λ (t : State). t.input) (done_beside g from s s.input stands refl ∙ same s.input s.out)
-      ∙ refused.takes w (with_console old s.input s.out) rest refl has;
-  writes = λ w s rest stands has.
-      ap (λ (t : State). t.out) (done_beside g from s s.input stands refl ∙ same s.input s.out)
-      ∙ refused.writes w (with_console old s.input s.out) rest refl has;
+      ap (λ (t : State). t.input) (done_beside g from s s.input stands refl ∙ same s.input s.events)
+      ∙ refused.takes w (with_console old s.input s.events) rest refl has;
+  happens = λ w s rest stands has.
+      ap (λ (t : State). t.events) (done_beside g from s s.input stands refl ∙ same s.input s.events)
+      ∙ refused.happens w (with_console old s.input s.events) rest refl has;
   unchanged = refl;
   took = refused.took;
   part = refused.part;
@@ -106,7 +106,7 @@ refused_core f Output old new left taken left_now taken_now refused = refused.un
 
 -- the same from one machine, where the other operation left it
 pub refused_here : (f g : State → State) (fault : Fault) (old new : Core) (left taken left_now taken_now : Option (List ℕ))
-    → ((input out : List ℕ) → g (with_console old input out) ≡ f (with_console old input out))
+    → ((input : List ℕ) (events : List Event) → g (with_console old input events) ≡ f (with_console old input events))
     → Steps (machine_by f) (refusal_of fault) (scene old left taken) (scene new left_now taken_now)
     → Steps (machine_by g) (refusal_of fault) (scene old left taken) (scene new left_now taken_now)
 refused_here f g fault old new left taken left_now taken_now same refused =
@@ -114,31 +114,36 @@ refused_here f g fault old new left taken left_now taken_now same refused =
     subst (λ k. Steps (machine_by g) (refusal_of fault) (scene old left taken) (scene k left_now taken_now)) (sym kept)
     (refused_as f g fault old old new left taken left_now taken_now same refused)
 
+-- bytes that are written take nothing
+untaken : (bytes : List ℕ) (left : Option (List ℕ)) → left ≡ prepend_told (taken_by (writes bytes)) left
+untaken bytes left = sym (prepend_told-nil left) ∙ ap (λ l. prepend_told l left) (sym (taken-writes bytes))
+
 -- an operation that only writes some bytes
 pub made_writing : (operation : State → State) (m : Core) (bytes : List ℕ) (left taken taken_now : Option (List ℕ))
-    → ((input out : List ℕ) → operation (with_console m input out) ≡ with_console m input (out ++ bytes))
+    → ((input : List ℕ) (events : List Event) → operation (with_console m input events) ≡ with_console m input (events ++ writes bytes))
     → taken_now ≡ append_told taken bytes
     → Makes (machine_by operation) (scene m left taken) (scene m left taken_now)
 made_writing operation m bytes left taken taken_now is wrote = record {
-  given = [];
-  written = bytes;
-  took = sym (prepend_told-nil left);
-  wrote = wrote;
-  made = λ w s stands has. comes_by operation m m [] (told_bytes left) bytes (is (told_bytes left)) s stands has;
+  happened = writes bytes;
+  took = untaken bytes left;
+  wrote = wrote ∙ ap (append_told taken) (sym (written-writes bytes));
+  made = λ w s stands has.
+      comes_by operation m m [] (told_bytes left) (writes bytes) (is (told_bytes left)) s stands (has ∙ ap (λ l. l ++ told_bytes left) (taken-writes bytes));
 }
 
 pub refused_writing : (operation : State → State) (m : Core) (bytes : List ℕ) (left taken taken_now : Option (List ℕ))
-    → ((input out : List ℕ) → operation (with_console m input out) ≡ with_console m input (out ++ bytes))
+    → ((input : List ℕ) (events : List Event) → operation (with_console m input events) ≡ with_console m input (events ++ writes bytes))
     → AppendsProperPrefix taken taken_now bytes
     → IsRefusedWrite (machine_by operation) (scene m left taken) (scene m left taken_now)
 refused_writing operation m bytes left taken taken_now is part = record {
-  given = [];
-  written = bytes;
-  takes = λ w s rest stands has. (comes_by operation m m [] rest bytes (is rest) s stands has).left;
-  writes = λ w s rest stands has. (comes_by operation m m [] rest bytes (is rest) s stands has).out;
+  happened = writes bytes;
+  takes = λ w s rest stands has.
+      (comes_by operation m m [] rest (writes bytes) (is rest) s stands (has ∙ ap (λ l. l ++ rest) (taken-writes bytes))).left;
+  happens = λ w s rest stands has.
+      (comes_by operation m m [] rest (writes bytes) (is rest) s stands (has ∙ ap (λ l. l ++ rest) (taken-writes bytes))).events;
   unchanged = refl;
-  took = sym (prepend_told-nil left);
-  part = part;
+  took = untaken bytes left;
+  part = subst (AppendsProperPrefix taken taken_now) (sym (written-writes bytes)) part;
 }
 
 -- a key was taken into AL
@@ -146,26 +151,24 @@ pub key_made : (echo : Bool) (m new : Core) (key : ℕ) (left taken left_now tak
     → TakesKey echo left taken left_now taken_now key → new ≡ core_of (with_al key (state_of m))
     → Makes (machine_by (key_step echo)) (scene m left taken) (scene new left_now taken_now)
 key_made echo m new key left taken left_now taken_now (next_byte took wrote) is = record {
-  given = key ∷ [];
-  written = echoed echo key;
+  happened = key_events echo key;
   took = took;
   wrote = wrote;
   made = λ w s stands has.
-      comes_by (key_step echo) m new (key ∷ []) (told_bytes left_now) (echoed echo key)
-      (λ out. ap (λ (c : Core). with_console c (told_bytes left_now) (out ++ echoed echo key)) (sym is)) s stands has;
+      comes_by (key_step echo) m new (key ∷ []) (told_bytes left_now) (key_events echo key)
+      (λ events. ap (λ (c : Core). with_console c (told_bytes left_now) (events ++ key_events echo key)) (sym is)) s stands
+      (has ∙ ap (λ l. l ++ told_bytes left_now) (key-taken echo key));
 }
-key_made echo m new key left taken left_now taken_now (no_byte took none same) is = record {
-  given = [];
-  written = [];
+key_made echo m new _ left taken left_now taken_now (no_byte none took wrote) is = record {
+  happened = MetEnd ∷ [];
   took = took;
-  wrote = same ∙ sym (append_told-nil taken);
+  wrote = wrote;
   made = λ w s stands has.
-      comes_by (key_step echo) m new [] (told_bytes left_now) []
-      (λ out.
-      ap (λ (l : List ℕ). key_step echo (with_console m l out)) none
-      ∙ ap (λ (c : Core). with_console c [] out) (sym is)
-      ∙ ap (λ (o : List ℕ). with_console new [] o) (sym (append-nil out))
-      ∙ ap (λ (l : List ℕ). with_console new l (out ++ [])) (sym none)) s stands has;
+      comes_by (key_step echo) m new [] (told_bytes left_now) (MetEnd ∷ [])
+      (λ events.
+      ap (λ (l : List ℕ). key_step echo (with_console m l events)) none
+      ∙ ap (λ (c : Core). with_console c [] (events ++ MetEnd ∷ [])) (sym is)
+      ∙ ap (λ (l : List ℕ). with_console new l (events ++ MetEnd ∷ [])) (sym none)) s stands has;
 }
 
 -- a key was not taken, or not wholly written
@@ -177,10 +180,13 @@ key_refused echo m Input left taken left_now taken_now refused = record {
   unchanged = ap (λ l. scene m l taken_now) refused.same_left ∙ ap (scene m left) refused.same_taken;
 }
 key_refused echo m Output left taken left_now taken_now refused = record {
-  given = refused.byte ∷ [];
-  written = echoed echo refused.byte;
-  takes = λ w s rest stands has. ap (λ (t : State). t.input) (done_beside (key_step echo) m s (refused.byte ∷ rest) stands has);
-  writes = λ w s rest stands has. ap (λ (t : State). t.out) (done_beside (key_step echo) m s (refused.byte ∷ rest) stands has);
+  happened = key_events echo refused.byte;
+  takes = λ w s rest stands has.
+      let first : s.input ≡ refused.byte ∷ rest = has ∙ ap (λ l. l ++ rest) (key-taken echo refused.byte) in
+      ap (λ (t : State). t.input) (done_beside (key_step echo) m s (refused.byte ∷ rest) stands first);
+  happens = λ w s rest stands has.
+      let first : s.input ≡ refused.byte ∷ rest = has ∙ ap (λ l. l ++ rest) (key-taken echo refused.byte) in
+      ap (λ (t : State). t.events) (done_beside (key_step echo) m s (refused.byte ∷ rest) stands first);
   unchanged = refl;
   took = refused.took;
   part = refused.part;
@@ -188,8 +194,8 @@ key_refused echo m Output left taken left_now taken_now refused = record {
 
 -- INT 21h with a number in AH
 pub numbered : (at number : ℕ) (m : Core) → number ≡ half_of_word High (word_in (state_of m) Ax)
-    → (input out : List ℕ) → dos_call at (with_console m input out) ≡ dos_step number at (with_console m input out)
-numbered at number m is input out = ap (λ n. dos_step n at (with_console m input out)) (sym is)
+    → (input : List ℕ) (events : List Event) → dos_call at (with_console m input events) ≡ dos_step number at (with_console m input events)
+numbered at number m is input events = ap (λ n. dos_step n at (with_console m input events)) (sym is)
 
 else_is : (b : Bool) (s t : State) → b ≡ false → (if b then s else t) ≡ t
 else_is b s t is_false = ap (λ c. if c then s else t) is_false
@@ -206,6 +212,6 @@ no_call number at s a b c d e =
     else_is _ _ _ two ∙ else_is _ _ _ exit ∙ else_is _ _ _ one ∙ else_is _ _ _ eight ∙ else_is _ _ _ nine
 
 -- the string is the same beside any console
-pub string-keeps : (m : Core) (input out : List ℕ) → dos_string (with_console m input out) ≡ dos_string (state_of m)
+pub string-keeps : (m : Core) (input : List ℕ) (events : List Event) → dos_string (with_console m input events) ≡ dos_string (state_of m)
 unfolding dos_string bytes_from
-string-keeps m input out = refl
+string-keeps m input events = refl

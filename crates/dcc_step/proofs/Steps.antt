@@ -2,10 +2,10 @@
 use Rattle.std.proofs.Common.{◌≡◌, ◌≢◌, ℕ, ◌+◌, ◌%◌, true, List, Option, Some, None, refl, sym, ap, ◌∙◌, subst}
 use Rattle.std.specs.Prelude.{if◌then◌else◌}
 use Rattle.dcc_run.specs.End.{End, Running as running, Outside as outside, is_over}
+use Rattle.dcc_run.specs.Event.{Event}
 use Rattle.dcc_prog.specs.declared.instr.Op.{Op}
 use Rattle.dcc_prog.specs.declared.instr.Op.TheVariants.{Int21}
 use Rattle.dcc_prog.specs.declared.instr.Instr.{Instr}
-use Rattle.dcc_prog.specs.Machine.{State}
 use Rattle.dcc_prog.specs.Operations.{with_end}
 use Rattle.dcc_prog.specs.Table.{instruction_at}
 use Rattle.dcc_prog.specs.Step.{code_bytes, op_step, instruction_step, step}
@@ -17,7 +17,7 @@ use Rattle.dcc_step.specs.declared.ending.Stepped.TheVariants.{Running as goes_o
 use Rattle.dcc_console.specs.declared.fault.Fault.{Fault}
 use Rattle.dcc_console.specs.declared.fault.Fault.TheVariants.{Input, Output}
 use Rattle.dcc_console.specs.Scene.{Scene, scene}
-use Rattle.dcc_console.specs.Steps.{HasEnded, Makes, MakesSteps, Outcome, made, Steps, Runs, refusal_of}
+use Rattle.dcc_console.specs.Steps.{HasEnded, Makes, MakesSteps, made, Steps, Runs, refusal_of}
 use Rattle.dcc_step.specs.Core.{Core, with_console, core_of, state_of}
 use Rattle.dcc_step.specs.Ending.{end_of, answer_of, fault_answer_of}
 use Rattle.dcc_step.specs.Stepped.{machine, machine_by, outcome_of, end_told}
@@ -29,7 +29,7 @@ pub operation_made : (op : Op) (at : ℕ) (m new : Core) (left taken : Option (L
     → Makes (machine_by (op_step op at)) (scene m left taken) (scene new left taken)
 operation_made op at m new left taken other is =
     made_quiet (op_step op at) m new left taken
-    (λ input out. op-keeps op at other input out (state_of m) ∙ ap (λ k. with_console k input out) (sym is))
+    (λ input events. op-keeps op at other input events (state_of m) ∙ ap (λ k. with_console k input events) (sym is))
 
 -- what a step answers
 
@@ -81,13 +81,13 @@ answer_over write_fails other is = cc
 pub stays_over : (m : Core) (left taken : Option (List ℕ)) → is_over m.end ≡ true → Makes machine (scene m left taken) (scene m left taken)
 stays_over m left taken over =
     made_quiet step m m left taken
-    (λ input out. ap (λ b. if b then with_console m input out else instruction_step (instruction_at m.ip (code_bytes (with_console m input out))) (with_console m input out)) over)
+    (λ input events. ap (λ b. if b then with_console m input events else instruction_step (instruction_at m.ip (code_bytes (with_console m input events))) (with_console m input events)) over)
 
 -- a machine that runs makes the instruction that is found
 pub step_is : (m : Core) (found : Option Instr) → m.end ≡ running → instruction_at m.ip (code_bytes (state_of m)) ≡ found
-    → (input out : List ℕ) → step (with_console m input out) ≡ instruction_step found (with_console m input out)
-step_is m found runs is input out =
-    let s = with_console m input out in
+    → (input : List ℕ) (events : List Event) → step (with_console m input events) ≡ instruction_step found (with_console m input events)
+step_is m found runs is input events =
+    let s = with_console m input events in
     ap (λ e. if is_over e then s else instruction_step (instruction_at m.ip (code_bytes s)) s) runs
     ∙ ap (λ f. instruction_step f s) is
 
@@ -96,7 +96,7 @@ pub step_outside : (m new : Core) (left taken : Option (List ℕ)) → m.end ≡
     → Makes machine (scene m left taken) (scene new left taken)
 step_outside m new left taken runs none is =
     made_quiet step m new left taken
-    (λ input out. step_is m None runs none input out ∙ ap (λ k. with_console k input out) (sym is))
+    (λ input events. step_is m None runs none input events ∙ ap (λ k. with_console k input events) (sym is))
 
 -- the machine with its instruction pointer past an instruction
 abbrev pub moved_past : Instr → Core → Core

@@ -1,6 +1,7 @@
 -- The machine without its console, which is what the code keeps.
 use Rattle.std.specs.Prelude.{ℕ, List, []}
 use Rattle.dcc_run.specs.End.{End}
+use Rattle.dcc_run.specs.Event.{Event}
 use Rattle.dcc_num.specs.declared.Flags.{Flags}
 use Rattle.dcc_prog.specs.Machine.{State}
 
@@ -14,15 +15,15 @@ pub record Core : Type 0 where
   pub end : End
 
 -- the machine with a console beside it
-abbrev pub with_console : Core → List ℕ → List ℕ → State
-with_console m input out = record {
+abbrev pub with_console : Core → List ℕ → List Event → State
+with_console m input events = record {
   regs = m.regs;
   segs = m.segs;
   flags = m.flags;
   ip = m.ip;
   memory = m.memory;
   input = input;
-  out = out;
+  events = events;
   end = m.end;
 }
 

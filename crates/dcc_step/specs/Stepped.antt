@@ -1,5 +1,5 @@
 -- What steps of the machine leave, and what they answer.
-use Rattle.std.specs.Prelude.{◌≡◌, List}
+use Rattle.std.specs.Prelude.{◌≡◌}
 use Rattle.dcc_run.specs.End.{End, Running as running, Exit as exited, Divide as divided, Outside as outside}
 use Rattle.dcc_prog.specs.Machine.{State}
 use Rattle.dcc_prog.specs.Step.{step}
@@ -12,7 +12,7 @@ use Rattle.dcc_step.specs.declared.ending.Stepped.TheVariants.{Running, Exit, Di
 -- the machine with its console, where its step is this operation
 abbrev pub console_by : (State → State) → Console State
 console_by operation = record {
-  system = record { step = operation; out = λ s. s.out; end = λ s. s.end };
+  system = record { step = operation; events = λ s. s.events; end = λ s. s.end };
   left = λ s. s.input;
   with_left = λ input s. record s { input = input };
 }

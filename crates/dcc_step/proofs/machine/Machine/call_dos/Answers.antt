@@ -1,6 +1,7 @@
 use Rattle.std.proofs.Common.{true, false, arith, ◌≡◌, ◌++◌, sym, ap, ◌∙◌, ◌∷◌, []}
 use Rattle.std.proofs.lemmas.Result.{IfErr-weaker}
 use Rattle.dcc_run.specs.End.{Exit}
+use Rattle.dcc_run.specs.Event.{writes}
 use Rattle.dcc_num.specs.declared.Half.TheVariants.{Low, High}
 use Rattle.dcc_num.specs.declared.Reg.TheVariants.{Ax, Dx}
 use Rattle.dcc_prog.specs.Machine.{half_of_word, word_in}
@@ -17,7 +18,7 @@ returns-in_default-put_all-clause-refused g c =
     let ah : 2 ≡ half_of_word High (word_in (state_of m) Ax) = sym c.in-2.is ∙ c.of.ensures ∙ ap (half_of_word High) c.reg-ax.ensures in
     let byte : c.of-byte.result ≡ half_of_word Low (word_in (state_of m) Dx) = c.of-byte.ensures ∙ ap (half_of_word Low) c.reg.ensures in
     refused_writing (dos_call c.args.at) m (c.of-byte.result ∷ []) _ _ _
-    (λ input out. numbered c.args.at 2 m ah input out ∙ ap (λ b. with_console m input (out ++ b ∷ [])) (sym byte))
+    (λ input events. numbered c.args.at 2 m ah input events ∙ ap (λ b. with_console m input (events ++ writes (b ∷ []))) (sym byte))
     c.in_default-put_all.ensures.part
 
 pub returns-in_default-write_string-clause-refused :
@@ -26,7 +27,7 @@ returns-in_default-write_string-clause-refused g c =
     let m = c.args.self.now in
     let ah : 9 ≡ half_of_word High (word_in (state_of m) Ax) = sym c.in-9.is ∙ c.of.ensures ∙ ap (half_of_word High) c.reg-ax.ensures in
     refused_writing (dos_call c.args.at) m (dos_string (state_of m)) _ _ _
-    (λ input out. numbered c.args.at 9 m ah input out ∙ ap (λ l. with_console m input (out ++ l)) (string-keeps m input out))
+    (λ input events. numbered c.args.at 9 m ah input events ∙ ap (λ l. with_console m input (events ++ writes l)) (string-keeps m input events))
     c.in_default-write_string.ensures.part
 
 pub returns-in-Ok-clause-made : goal.returns-in-Ok-clause-made
@@ -35,7 +36,7 @@ returns-in-Ok-clause-made g c =
     let ah : 2 ≡ half_of_word High (word_in (state_of m) Ax) = sym c.in-2.is ∙ c.of.ensures ∙ ap (half_of_word High) c.reg-ax.ensures in
     let byte : c.of-byte.result ≡ half_of_word Low (word_in (state_of m) Dx) = c.of-byte.ensures ∙ ap (half_of_word Low) c.reg.ensures in
     made_writing (dos_call c.args.at) m (c.of-byte.result ∷ []) _ _ _
-    (λ input out. numbered c.args.at 2 m ah input out ∙ ap (λ b. with_console m input (out ++ b ∷ [])) (sym byte))
+    (λ input events. numbered c.args.at 2 m ah input events ∙ ap (λ b. with_console m input (events ++ writes (b ∷ []))) (sym byte))
     c.in-Ok.ensures.whole
 
 pub returns-in-Ok-write_string-clause-made : goal.returns-in-Ok-write_string-clause-made
@@ -43,7 +44,7 @@ returns-in-Ok-write_string-clause-made g c =
     let m = c.args.self.now in
     let ah : 9 ≡ half_of_word High (word_in (state_of m) Ax) = sym c.in-9.is ∙ c.of.ensures ∙ ap (half_of_word High) c.reg-ax.ensures in
     made_writing (dos_call c.args.at) m (dos_string (state_of m)) _ _ _
-    (λ input out. numbered c.args.at 9 m ah input out ∙ ap (λ l. with_console m input (out ++ l)) (string-keeps m input out))
+    (λ input events. numbered c.args.at 9 m ah input events ∙ ap (λ l. with_console m input (events ++ writes l)) (string-keeps m input events))
     c.in-Ok-write_string.ensures.whole
 
 pub returns-in-76-clause-made : goal.returns-in-76-clause-made
@@ -52,18 +53,18 @@ returns-in-76-clause-made g c =
     let ah : 76 ≡ half_of_word High (word_in (state_of m) Ax) = sym c.in-76.is ∙ c.of.ensures ∙ ap (half_of_word High) c.reg-ax.ensures in
     let code : c.of-in-76.result ≡ half_of_word Low (word_in (state_of m) Ax) = c.of-in-76.ensures ∙ ap (half_of_word Low) c.reg-ax.ensures in
     made_quiet (dos_call c.args.at) m c.finish.new.self _ _
-    (λ input out. numbered c.args.at 76 m ah input out
-    ∙ ap (λ k. with_end (Exit k) c.args.at (with_console m input out)) (sym code)
-    ∙ ap (λ k. with_console k input out) (sym c.finish.ensures))
+    (λ input events. numbered c.args.at 76 m ah input events
+    ∙ ap (λ k. with_end (Exit k) c.args.at (with_console m input events)) (sym code)
+    ∙ ap (λ k. with_console k input events) (sym c.finish.ensures))
 
 pub returns-in_default-clause-made : goal.returns-in_default-clause-made
 returns-in_default-clause-made g c =
     let m = c.args.self.now in
     let number : c.of.result ≡ half_of_word High (word_in (state_of m) Ax) = c.of.ensures ∙ ap (half_of_word High) c.reg-ax.ensures in
     made_quiet (dos_call c.args.at) m c.finish-in_default.new.self _ _
-    (λ input out. numbered c.args.at c.of.result m number input out
-    ∙ no_call c.of.result c.args.at (with_console m input out) (omega arith) (omega arith) (omega arith) (omega arith) (omega arith)
-    ∙ ap (λ k. with_console k input out) (sym c.finish-in_default.ensures))
+    (λ input events. numbered c.args.at c.of.result m number input events
+    ∙ no_call c.of.result c.args.at (with_console m input events) (omega arith) (omega arith) (omega arith) (omega arith) (omega arith)
+    ∙ ap (λ k. with_console k input events) (sym c.finish-in_default.ensures))
 
 pub returns-in-1-clause-made : goal.returns-in-1-clause-made
 returns-in-1-clause-made g c =

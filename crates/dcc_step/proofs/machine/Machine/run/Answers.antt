@@ -1,4 +1,4 @@
-use Rattle.std.proofs.Common.{◌≡◌, arith, subst, sym, ap, ◌∙◌}
+use Rattle.std.proofs.Common.{◌≡◌, arith, subst, sym, ap}
 use Rattle.dcc_io.proofs.CountLemmas.{Rose-since}
 use Rattle.dcc_console.specs.Scene.{Scene, scene}
 use Rattle.dcc_console.specs.Steps.{MakesSteps}

@@ -1,4 +1,4 @@
-use Rattle.std.proofs.Common.{◌≡◌, ◌+◌, ◌%◌, ◌<◌, ◌≤◌, length, get_or, sym, ap, ◌∙◌, arith, subst, rules}
+use Rattle.std.proofs.Common.{◌≡◌, ◌+◌, ◌%◌, ◌<◌, ◌≤◌, length, sym, ap, ◌∙◌, arith, subst, rules}
 use Rattle.dcc_io.specs.Told.{append_told, AppendsProperPrefix}
 use Rattle.dcc_num.specs.declared.Reg.TheVariants.{Dx}
 use Rattle.dcc_prog.specs.Dos.{is_not_dollar, dos_string}
