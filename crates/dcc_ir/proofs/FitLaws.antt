@@ -13,11 +13,11 @@ use Rattle.dcc_ir.specs.Tree.{Expr, Const, Get, Load, Unary, Binary, Widen, Part
 use Rattle.dcc_ir.specs.Value.{is_comparison, is_test, width_of, signed_at, pattern_at, faults_signed, unary_value, binary_value, bytes_at, Scene, value_of, Fits}
 use Rattle.dcc_ir.specs.WellFormed.{is_width, is_stored_width, is_expr, is_division, divides_safely}
 
-both : (a b : Bool) → (a && b) ≡ true → (a ≡ true) × (b ≡ true)
+pub both : (a b : Bool) → (a && b) ≡ true → (a ≡ true) × (b ≡ true)
 both true b e = (refl, e)
 both false b e = absurd (true≢false (sym e))
 
-either : (a b : Bool) → (a || b) ≡ true → (a ≡ true) ⊎ (b ≡ true)
+pub either : (a b : Bool) → (a || b) ≡ true → (a ≡ true) ⊎ (b ≡ true)
 either true b e = inl refl
 either false b e = inr e
 
@@ -31,7 +31,7 @@ residue_below width (pos n) = mod_below n (2 ^ width) (pow_pos width)
 residue_below width (negsuc n) = let some : 0 < 2 ^ width = pow_pos width in omega arith
 
 -- so many bytes have 8 bits each
-bytes_below : (memory : List ℕ) → ((address : ℕ) → slice_index memory address < 256) → (count address : ℕ) → bytes_at memory count address < 2 ^ (8 * count)
+pub bytes_below : (memory : List ℕ) → ((address : ℕ) → slice_index memory address < 256) → (count address : ℕ) → bytes_at memory count address < 2 ^ (8 * count)
 bytes_below memory small zero address = pow_pos 0
 bytes_below memory small (suc count) address =
     let e : 8 * suc count ≡ 8 + 8 * count = omega arith in
@@ -40,7 +40,7 @@ bytes_below memory small (suc count) address =
     let rest = bytes_below memory small count (address + 1) in
     subst (λ n. bytes_at memory (suc count) address < n) (sym p) (omega (arith, here, rest))
 
-stored : (width : ℕ) → is_stored_width width ≡ true → 8 * (width / 8) ≡ width
+pub stored : (width : ℕ) → is_stored_width width ≡ true → 8 * (width / 8) ≡ width
 stored width e = elim (either (width == 8 || width == 16) (width == 32) e) [
   | inl f ↦ elim (either (width == 8) (width == 16) f) [
     | inl g ↦ let w : width ≡ 8 = eqb-true width 8 g in subst (λ n. 8 * (n / 8) ≡ n) (sym w) refl
@@ -63,7 +63,7 @@ signed_fits : (operation : ℤ → ℤ → ℤ) (width a b : ℕ) (faults : Bool
 signed_fits operation width a b true = pow_pos width
 signed_fits operation width a b false = residue_below width (operation (signed_at width a) (signed_at width b))
 
-binary_fits : (operator : BinOp) (width a b : ℕ) → a < 2 ^ width → b < 2 ^ width → binary_value operator width a b < 2 ^ (if is_comparison operator then 1 else width)
+pub binary_fits : (operator : BinOp) (width a b : ℕ) → a < 2 ^ width → b < 2 ^ width → binary_value operator width a b < 2 ^ (if is_comparison operator then 1 else width)
 binary_fits Add width a b x y = mod_below (a + b) (2 ^ width) (pow_pos width)
 binary_fits Sub width a b x y = mod_below (a + 2 ^ width - b) (2 ^ width) (pow_pos width)
 binary_fits Mul width a b x y = mod_below (a * b) (2 ^ width) (pow_pos width)
@@ -84,7 +84,7 @@ binary_fits LeS width a b x y = bool_below _
 binary_fits LeU width a b x y = bool_below _
 
 -- where the second number is the width that is meant
-at_width : (n w width : ℕ) → (w == width) ≡ true → n < 2 ^ w → n < 2 ^ width
+pub at_width : (n w width : ℕ) → (w == width) ≡ true → n < 2 ^ w → n < 2 ^ width
 at_width n w width e h = subst (λ k. n < 2 ^ k) (eqb-true w width e) h
 
 joined_fits : (h l a b : ℕ) → a < 2 ^ h → b < 2 ^ l → a * 2 ^ l + b < 2 ^ (h + l)

@@ -11,4 +11,7 @@ pub mod PassLaws
 mod Examples
 pub mod FitLaws
 pub mod ExecuteLaws
+mod FitStates
+pub mod ReachedLaws
+mod UnstuckLaws
 mod PassingExamples

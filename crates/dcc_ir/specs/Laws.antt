@@ -5,8 +5,10 @@ use Rattle.dcc_run.specs.End.{is_over}
 use Rattle.dcc_run.specs.Watched.{IsWatchable}
 use Rattle.dcc_ir.specs.Tree.{Expr, Stmt, Graph, Program}
 use Rattle.dcc_ir.specs.Value.{width_of, Scene, value_of, Fits}
-use Rattle.dcc_ir.specs.WellFormed.{is_expr}
-use Rattle.dcc_ir.specs.Run.{State, execute, is_call, block_step, watched_inner}
+use Rattle.dcc_ir.specs.WellFormed.{is_expr, IsProgram}
+use Rattle.dcc_ir.specs.Fitting.{AreBytes, StateFits}
+use Rattle.dcc_ir.specs.Ends.{is_stuck, HasNoSwitch, HasSoundEnds, SwitchesHavePlaces}
+use Rattle.dcc_ir.specs.Run.{State, execute, is_call, block_step, reached, watched_inner}
 use Rattle.dcc_ir.specs.Flow.{Flow, Reached, Leads, HaveOneEdge}
 use Rattle.dcc_ir.specs.Keeps.{Keeps}
 
@@ -16,8 +18,8 @@ RunsAreWatchable = (p : Program) (fill : ℕ) → IsWatchable (watched_inner p f
 
 -- Statements without a Call are executed one after another; where the run isn't over after them, the block goes on.
 abbrev pub StatementsAreExecuted : Type 0
-StatementsAreExecuted = (graphs : List Graph) (fill : ℕ) (stmts rest : List Stmt) (s : State) → list_any is_call stmts ≡ false
-    → is_over s.end ≡ false → block_step graphs fill (stmts ++ rest) s
+StatementsAreExecuted = (graphs : List Graph) (fill : ℕ) (stmts rest : List Stmt) (s : State)
+    → list_any is_call stmts ≡ false → is_over s.end ≡ false → block_step graphs fill (stmts ++ rest) s
     ≡ (if is_over (execute stmts s).end then execute stmts s else block_step graphs fill rest (execute stmts s))
 
 abbrev pub ProgramsKeepThemselves : Type 0
@@ -27,12 +29,26 @@ ProgramsKeepThemselves = (p : Program) → Keeps p p
 abbrev pub KeepsComposes : Type 0
 KeepsComposes = (p q r : Program) → Keeps p q → Keeps q r → Keeps p r
 
--- where each block that goes has one edge in, it lies behind one block alone that stays
-abbrev pub OneEdgeLiesBehindOne : Type 0
-OneEdgeLiesBehindOne = (p q : Flow) → HaveOneEdge p q → (a b c : ℕ) → Reached p a → Reached p b → q.has a ≡ true
+-- where each block that goes has one edge in, it lies after one block alone that stays
+abbrev pub OneEdgeLiesAfterOne : Type 0
+OneEdgeLiesAfterOne = (p q : Flow) → HaveOneEdge p q → (a b c : ℕ) → Reached p a → Reached p b → q.has a ≡ true
     → q.has b ≡ true → q.has c ≡ false → Leads p q a c → Leads p q b c → a ≡ b
 
 -- the value of a well-formed expression fits its width
 abbrev pub ValuesFit : Type 0
 ValuesFit = (scene : Scene) → Fits scene → (e : Expr) → is_expr scene.bits e ≡ true
     → value_of scene e < 2 ^ width_of scene.bits e
+
+-- each state that a well-formed program reaches fits its widths
+abbrev pub StatesFit : Type 0
+StatesFit = (p : Program) → IsProgram p → (fill : ℕ) (input : List ℕ) → AreBytes input → (n : ℕ)
+    → StateFits (reached p fill input n)
+
+-- no run of a well-formed program with sound ends is ever stuck
+abbrev pub RunsAreNeverStuck : Type 0
+RunsAreNeverStuck = (p : Program) → IsProgram p → HasSoundEnds p → (fill : ℕ) (input : List ℕ) → fill < 65536
+    → AreBytes input → (n : ℕ) → is_stuck (reached p fill input n).end ≡ false
+
+-- where no block of a well-formed program ends in a Switch, each Switch has its place
+abbrev pub NoSwitchHasPlaces : Type 0
+NoSwitchHasPlaces = (p : Program) → IsProgram p → HasNoSwitch p → SwitchesHavePlaces p

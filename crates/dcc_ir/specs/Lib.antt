@@ -5,6 +5,8 @@ pub mod Value
 pub mod Dos
 pub mod Run
 pub mod WellFormed
+pub mod Fitting
+pub mod Ends
 pub mod Flow
 pub mod Keeps
 pub mod Use

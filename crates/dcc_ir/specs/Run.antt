@@ -4,7 +4,7 @@ use Rattle.std.specs.List.{range_with_len}
 use Rattle.dcc_run.specs.End.{End, Running, Exit as ExitWith, Divide, Stuck, is_over}
 use Rattle.dcc_run.specs.Event.{Event, Wrote, Took, MetEnd, writes}
 use Rattle.dcc_run.specs.Place.{Place}
-use Rattle.dcc_run.specs.System.{System}
+use Rattle.dcc_run.specs.System.{System, after}
 use Rattle.dcc_run.specs.Watched.{Watched}
 use Rattle.dcc_ir.specs.declared.syntax.Loc.{Loc}
 use Rattle.dcc_ir.specs.declared.syntax.Put.{Put}
@@ -239,6 +239,10 @@ first_state p fill input =
       events = [];
       end = Running;
     })
+
+-- the state that a run has reached after n steps
+abbrev pub reached : Program → ℕ → List ℕ → ℕ → State
+reached p fill input n = after (step p fill) n (first_state p fill input)
 
 -- the runs of a program, with this fill
 abbrev pub inner_system : Program → ℕ → System State

@@ -1,6 +1,7 @@
 //! Laws of the inner language's definitions. Each function only states a law by its contract, and does nothing.
 
-ghost use Rattle.dcc_ir.specs.Laws.{RunsAreWatchable, StatementsAreExecuted, ProgramsKeepThemselves, KeepsComposes, OneEdgeLiesBehindOne, ValuesFit};
+ghost use Rattle.dcc_ir.specs.Laws.{RunsAreWatchable, StatementsAreExecuted, ProgramsKeepThemselves, KeepsComposes};
+ghost use Rattle.dcc_ir.specs.Laws.{OneEdgeLiesAfterOne, ValuesFit, StatesFit, RunsAreNeverStuck, NoSwitchHasPlaces};
 
 /// A run that has ended stays, no step takes events back, and no step is foul.
 pub fn runs_are_watchable()
@@ -22,12 +23,27 @@ pub fn keeps_composes()
     ensures { KeepsComposes }
 {}
 
-/// Where each block that a pass drops has one edge in, it lies behind one block alone that the pass leaves.
+/// Where each block that a pass drops has one edge in, it lies after one block alone that the pass leaves.
 pub fn one_edge_lies_after_one()
-    ensures { OneEdgeLiesBehindOne }
+    ensures { OneEdgeLiesAfterOne }
 {}
 
 /// The value of a well-formed expression fits its width.
 pub fn values_fit()
     ensures { ValuesFit }
+{}
+
+/// Each state that a well-formed program reaches fits its widths.
+pub fn states_fit()
+    ensures { StatesFit }
+{}
+
+/// No run of a well-formed program with sound ends is ever stuck.
+pub fn runs_are_never_stuck()
+    ensures { RunsAreNeverStuck }
+{}
+
+/// In a well-formed program without a switch, each switch has its place.
+pub fn no_switch_has_places()
+    ensures { NoSwitchHasPlaces }
 {}
