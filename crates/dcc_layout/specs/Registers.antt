@@ -24,6 +24,6 @@ state_of r = record {
   ip = 0;
   memory = [];
   input = [];
-  out = [];
+  events = [];
   end = Running;
 }
