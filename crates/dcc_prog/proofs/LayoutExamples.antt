@@ -102,14 +102,7 @@ has-layout code few more some short run stop none =
         start_ip = refl;
         code_end = omega arith;
       };
-      small = record {
-        code_below = omega arith;
-        ds_fits = omega arith;
-        delta_fits = omega arith;
-        hi_fits = omega arith;
-        has_stack = omega arith;
-        has_code = omega arith;
-      };
+      small = record { code_below = omega arith; ds_fits = omega arith; delta_fits = omega arith; hi_fits = omega arith; has_stack = omega arith; has_code = omega arith };
     }
 
 -- Constructs of whole programs.
