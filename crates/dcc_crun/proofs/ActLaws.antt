@@ -76,8 +76,8 @@ assigned program procedure line action m mid tree points s now place e next r ca
         stood_at tree points mid s step next kept.state
         (subst (λ k. Goes tree (points mid.call.procedure) next k) (sym kept.rest)
         (subst (λ p. Goes tree (points p) next to) (sym aside.procedure) goes))
-        (record { input = kept.quiet.input; out = kept.quiet.out })
-    finish (Err why) step to goes same kept = record { is = kept.is; quiet = record { input = kept.quiet.input; out = kept.quiet.out } }
+        (record { input = kept.quiet.input; events = kept.quiet.events })
+    finish (Err why) step to goes same kept = record { is = kept.is; quiet = record { input = kept.quiet.input; events = kept.quiet.events } }
 
 -- Jumps to a point.
 
@@ -108,23 +108,23 @@ choice_goes tree points false first second one other goes away = goes
 evaluated_to : (program : Program) (m : Moment) (tree : Tree) (points : ℕ → List Continuation) (s now before : State) (line : ℕ) (e : Resolved)
     (expr : Expr) (f : Value → ℕ) (to : Value → Continuation) (r : Result ℕ NoValue) →
     AreGlobals tree program.globals.items → IsRunning tree points m s → Stands (names_at tree s) expr e →
-    before.input ≡ s.input → before.out ≡ s.out →
+    before.input ≡ s.input → before.events ≡ s.events →
     ((v : Value) → Goes tree (points m.call.procedure) (f v) (to v)) →
     now ≡ on (value_of (scope_of tree s) expr) line before (λ v. goes_on (to v) s) →
     outcome_of itself r ≡ and_then (λ v. Gives (f v)) (evaluated (scene_in m program.globals.items) e) → Moves tree points line r m s now
-evaluated_to program m tree points s now before line e expr f to (Ok at) globals state stands input out goes is given =
+evaluated_to program m tree points s now before line e expr f to (Ok at) globals state stands input events goes is given =
     let found = gives_point (evaluated (scene_in m program.globals.items) e) f (Ok at) given in
     let value = sym (value_here tree points program.globals.items m s expr e globals state stands) ∙ found.1 in
     let after : State = goes_on (to found.0) s in
     let same : now ≡ after = is ∙ goes_further (value_of (scope_of tree s) expr) found.0 line before _ value in
     subst (λ (u : State). IsStood tree points (moved m at) s u) (sym same)
     (stood_at tree points m s after at (running_on tree points m s (to found.0) state)
-    (subst (λ p. Goes tree (points m.call.procedure) p (to found.0)) (sym found.2) (goes found.0)) (record { input = refl; out = refl }))
-evaluated_to program m tree points s now before line e expr f to (Err why) globals state stands input out goes is given =
+    (subst (λ p. Goes tree (points m.call.procedure) p (to found.0)) (sym found.2) (goes found.0)) (record { input = refl; events = refl }))
+evaluated_to program m tree points s now before line e expr f to (Err why) globals state stands input events goes is given =
     let none = gives_point (evaluated (scene_in m program.globals.items) e) f (Err why) given in
     let one = ended (value_of (scope_of tree s) expr) why line before (λ v. goes_on (to v) s) (sym (value_here tree points program.globals.items m s expr e globals state stands) ∙ none) in
     subst (λ (u : State). IsEnded s u (end_at line why)) (sym is)
-    (record { is = one.is; quiet = record { input = one.quiet.input ∙ input; out = one.quiet.out ∙ out } })
+    (record { is = one.is; quiet = record { input = one.quiet.input ∙ input; events = one.quiet.events ∙ events } })
 
 pub tested : (program : Program) (procedure : Procedure) (line : ℕ) (action : Action) (m : Moment) (tree : Tree)
     (points : ℕ → List Continuation) (s now : State) (e : Resolved) (first second : ℕ) (r : Result ℕ NoValue) →
@@ -159,7 +159,7 @@ jumped tree points m s now line following (Some p) (Some k) (Ok at) may state is
     let here : at ≡ p = cc in
     subst (λ (u : State). IsStood tree points (moved m at) s u) (sym same)
     (stood_at tree points m s (goes_on k s) at (running_on tree points m s k state)
-    (subst (λ q. Goes tree (points m.call.procedure) q k) (sym here) may) (record { input = refl; out = refl }))
+    (subst (λ q. Goes tree (points m.call.procedure) q k) (sym here) may) (record { input = refl; events = refl }))
 jumped tree points m s now line following (Some p) (Some k) (Err Faults) may state is same = cc
 jumped tree points m s now line following (Some p) (Some k) (Err Meaningless) may state is same = cc
 jumped tree points m s now line following (Some p) None r may state is same = absurd may
@@ -167,7 +167,7 @@ jumped tree points m s now line following None (Some k) r may state is same = ab
 jumped tree points m s now line following None None (Ok at) may state is same = cc
 jumped tree points m s now line following None None (Err Faults) may state is same = cc
 jumped tree points m s now line following None None (Err Meaningless) may state is same =
-    subst (λ (u : State). IsEnded s u (stuck line)) (sym same) (record { is = refl; quiet = record { input = refl; out = refl } })
+    subst (λ (u : State). IsEnded s u (stuck line)) (sym same) (record { is = refl; quiet = record { input = refl; events = refl } })
 
 pub went : (program : Program) (procedure : Procedure) (line : ℕ) (action : Action) (m : Moment) (tree : Tree)
     (points : ℕ → List Continuation) (s now : State) (number : ℕ) (r : Result ℕ NoValue) →
@@ -195,4 +195,4 @@ returned program procedure line action m mid tree points s now e call is made =
     let t : State = goes_on acts.following s in
     let led = made t acts.expr call.program_is.globals (running_on tree points m s acts.following call.state) call.procedure_is acts.stands in
     subst (λ (u : State). IsStood tree points mid s u) (sym (call.is ∙ acts.does s))
-    (record { stood = record { end = led.going.state.end; going = λ runs. led.going }; quiet = record { input = led.quiet.input; out = led.quiet.out } })
+    (record { stood = record { end = led.going.state.end; going = λ runs. led.going }; quiet = record { input = led.quiet.input; events = led.quiet.events } })

@@ -154,7 +154,7 @@ nothing_called m program row target line left taken callee place = record {
       let same = calls_on m program row line tree points s now call to (place tree points s now call)
       ∙ ap (λ (o : Option Dos). dos_or_call_step tree o call.word to call.exprs row.depth line s) is.0
       ∙ ap (λ (o : Option Function). call_step o (scope_of tree s) to call.exprs row.depth line s) is.1 in
-      subst (λ (t : State). IsEnded s t (stuck line)) (sym same) (record { is = refl; quiet = record { input = refl; out = refl } });
+      subst (λ (t : State). IsEnded s t (stuck line)) (sym same) (record { is = refl; quiet = record { input = refl; events = refl } });
   same_left = refl;
   same_taken = refl;
 }

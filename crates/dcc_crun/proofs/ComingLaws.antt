@@ -32,19 +32,18 @@ use Rattle.dcc_crun.proofs.Scenes.{does_quiet}
 -- what one operation does from a state another does from a state with the same input and output
 abbrev pub From : Operation → Operation → Operation → Operation → Type 0
 From op done other after = (tree : Tree) (points : ℕ → List Continuation) (s now : State) → other tree points s now →
-    (t : State) × op tree points t now × (t.input ≡ s.input) × (t.out ≡ s.out) × (done tree points t now → after tree points s now)
+    (t : State) × op tree points t now × (t.input ≡ s.input) × (t.events ≡ s.events) × (done tree points t now → after tree points s now)
 
 pub does_from : (op done other after : Operation) (left taken left_now taken_now : Option (List ℕ)) → From op done other after →
     Does op done left taken left_now taken_now → Does other after left taken left_now taken_now
 does_from op done other after left taken left_now taken_now from does = record {
-  given = does.given;
-  written = does.written;
+  happened = does.happened;
   took = does.took;
   wrote = does.wrote;
   made = λ tree points s now is has.
       let one = from tree points s now is in
       let all = does.made tree points one.0 now one.1 (one.2 ∙ has) in
-      (one.4 all.0, all.1, all.2 ∙ ap (λ l. l ++ does.written) one.3);
+      (one.4 all.0, all.1, all.2 ∙ ap (λ l. l ++ does.happened) one.3);
 }
 
 pub halts_from : (op done other after : Operation) (end : End) (left taken left_now taken_now : Option (List ℕ)) → From op done other after →
@@ -53,7 +52,7 @@ halts_from op done other after end left taken left_now taken_now from halts = re
   ends = λ tree points s now is.
       let one = from tree points s now is in
       let all = halts.ends tree points one.0 now one.1 in
-      record { is = all.is; quiet = record { input = all.quiet.input ∙ one.2; out = all.quiet.out ∙ one.3 } };
+      record { is = all.is; quiet = record { input = all.quiet.input ∙ one.2; events = all.quiet.events ∙ one.3 } };
   same_left = halts.same_left;
   same_taken = halts.same_taken;
 }
@@ -68,12 +67,11 @@ refuses_from Input op done other after left taken left_now taken_now from refuse
   same_taken = refused.same_taken;
 }
 refuses_from Output op done other after left taken left_now taken_now from refused = record {
-  given = refused.given;
-  written = refused.written;
+  happened = refused.happened;
   makes = λ tree points s now rest is has.
       let one = from tree points s now is in
       let all = refused.makes tree points one.0 now rest one.1 (one.2 ∙ has) in
-      (all.0, all.1 ∙ ap (λ l. l ++ refused.written) one.3);
+      (all.0, all.1 ∙ ap (λ l. l ++ refused.happened) one.3);
   took = refused.took;
   part = refused.part;
 }
@@ -119,7 +117,7 @@ getche_halts m globals target arguments line left taken other = record {
       let some = some_exprs (names_at tree s) call.exprs arguments call.stand other in
       let to = option_map (target_named (locals_declared s.frame.function)) target in
       let is = call.is ∙ ap (λ es. on (arguments_of (scope_of tree s) [] es) line s (λ vs. dos_step Getche to vs line s)) some.2 in
-      subst (λ (t : State). IsEnded s t (stuck line)) (sym is) (record { is = refl; quiet = record { input = refl; out = refl } });
+      subst (λ (t : State). IsEnded s t (stuck line)) (sym is) (record { is = refl; quiet = record { input = refl; events = refl } });
   same_left = refl;
   same_taken = refl;
 }
@@ -131,7 +129,7 @@ getch_halts m globals target arguments line left taken other = record {
       let some = some_exprs (names_at tree s) call.exprs arguments call.stand other in
       let to = option_map (target_named (locals_declared s.frame.function)) target in
       let is = call.is ∙ ap (λ es. on (arguments_of (scope_of tree s) [] es) line s (λ vs. dos_step Getch to vs line s)) some.2 in
-      subst (λ (t : State). IsEnded s t (stuck line)) (sym is) (record { is = refl; quiet = record { input = refl; out = refl } });
+      subst (λ (t : State). IsEnded s t (stuck line)) (sym is) (record { is = refl; quiet = record { input = refl; events = refl } });
   same_left = refl;
   same_taken = refl;
 }

@@ -1,179 +1,35 @@
 -- What DOS calls do.
 use Rattle.std.proofs.Common.{◌≡◌, ℕ, ◌%◌, Bool, true, false, List, [], ◌∷◌, ◌++◌, Option, Some, None, refl, sym, ap, ◌∙◌, subst, arith}
-use Rattle.std.specs.Prelude.{if◌then◌else◌, is_some, option_map, Result}
-use Rattle.std.proofs.lemmas.List.{append-nil}
+use Rattle.std.specs.Prelude.{is_some, option_map, Result, Ok, Err}
+use Rattle.dcc_run.specs.End.{Exit, Stuck}
+use Rattle.dcc_run.specs.Event.{Event, MetEnd, taken_by, writes}
+use Rattle.dcc_run.proofs.EventLaws.{written-writes, taken-writes}
 use Rattle.dcc_io.specs.Told.{append_told, prepend_told, AppendsProperPrefix}
-use Rattle.dcc_io.proofs.ToldLemmas.{append_told-nil, prepend_told-nil}
+use Rattle.dcc_io.proofs.ToldLemmas.{prepend_told-nil}
 use Rattle.dcc_c.specs.declared.syntax.CType.{CType}
 use Rattle.dcc_c.specs.declared.syntax.Base.TheVariants.{Uchar}
 use Rattle.dcc_c.specs.Types.{plain}
 use Rattle.dcc_c.specs.Tree.{Expr, Tree}
 use Rattle.dcc_c.specs.Value.{Value, number, converted, Outcome, Gives, Divides, Undefined, and_then, Target, Scope, value_of}
-use Rattle.dcc_c.specs.Dos.{dos_signature}
-use Rattle.dcc_c.specs.Run.{Continuation, State, scope_of, result_step, key_step, dos_step, arguments_of}
+use Rattle.dcc_c.specs.Dos.{dos_signature, string_at}
+use Rattle.dcc_c.specs.Run.{Continuation, State, scope_of, result_step, with_end, with_events, key_step, dos_step, arguments_of}
 use Rattle.dcc_value.specs.declared.value.Value.{Value as Held}
 use Rattle.dcc_value.specs.declared.value.NoValue.{NoValue}
 use Rattle.dcc_value.specs.declared.variable.Binding.{Binding as Bound}
 use Rattle.dcc_value.specs.declared.expression.Resolved.{Resolved}
 use Rattle.dcc_value.specs.declared.expression.Target.{Target as Place}
 use Rattle.dcc_prepare.specs.declared.program.Dos.{Dos as DosCall}
+use Rattle.dcc_prepare.specs.declared.program.Dos.TheVariants.{Putc as calls_putc, Getche as calls_getche, Getch as calls_getch, Puts as calls_puts, Leave as calls_leave}
 use Rattle.dcc_crun.specs.declared.moment.Moment.{Moment}
-use Rattle.dcc_value.specs.Evaluation.{nothing_of, outcome_of}
+use Rattle.dcc_value.specs.Evaluation.{outcome_of, typed}
 use Rattle.dcc_value.specs.Resolved.{Names, Scene, Fits, scope_over, target_named}
 use Rattle.dcc_prepare.specs.Points.{locals_declared, StandAll, dos_call}
 use Rattle.dcc_crun.specs.Standing.{IsTargetIf, IsRunning}
-use Rattle.dcc_console.specs.Key.{echoed, TakesKey, next_byte, no_byte, IsUntaken, IsCutKey}
+use Rattle.dcc_console.specs.Key.{key_events, TakesKey, next_byte, no_byte, IsUntaken, IsCutKey}
 use Rattle.dcc_console.specs.Scene.{told_bytes}
-use Rattle.dcc_crun.specs.Doing.{scene_in, names_at, IsEnded, end_at, single, Kept, CallsForKey, CallsDos, Does, CannotRead, CannotWrite}
+use Rattle.dcc_console.proofs.KeyLaws.{key-taken}
+use Rattle.dcc_crun.specs.Doing.{scene_in, AreGlobals, names_at, IsEnded, end_at, single, Kept, CallsForKey, CallsDos, Does, Halts, CannotRead, CannotWrite}
 use Rattle.dcc_crun.proofs.MomentLaws.{fits_here, scope_here, ended, goes_further, takes-quiet, takes-rest}
-
--- The argument of a call.
-
-pub not_some : {A : Type 0} (o : Option A) → is_some o ≡ false → o ≡ None
-not_some None is = refl
-not_some (Some a) is = cc
-
-pub some_of : {A : Type 0} (o : Option A) → is_some o ≡ true → (a : A) × (o ≡ Some a)
-some_of None is = cc
-some_of (Some a) is = (a, refl)
-
--- what an only argument comes to, in the state
-pub argument_is : {points : ℕ → List Continuation} (globals : List Bound) (m : Moment) (dos : DosCall) (target : Option Place) (arguments : List Resolved) (line : ℕ)
-    (tree : Tree) (s now : State) (type : CType) (scene : Scene) (r : Result Held NoValue) →
-    (call : CallsDos m globals dos target arguments line tree points s now) → scene ≡ scene_in m globals →
-    ((names : Names) (es : List Expr) → StandAll names es arguments → Fits names scene →
-    outcome_of single r ≡ arguments_of (scope_over names scene) (type ∷ []) es) →
-    outcome_of single r ≡ arguments_of (scope_of tree s) (type ∷ []) call.exprs
-argument_is {points} globals m dos target arguments line tree s now type scene r call same is =
-    is (names_at tree s) call.exprs call.stand (subst (Fits (names_at tree s)) (sym same) (fits_here tree points globals m s call.globals_are call.state))
-    ∙ ap (λ sc. arguments_of (scope_over (names_at tree s) sc) (type ∷ []) call.exprs) same
-    ∙ ap (λ sc. arguments_of sc (type ∷ []) call.exprs) (scope_here tree points globals m s call.globals_are call.state)
-
--- a call whose argument gives nothing
-pub call_ended : {points : ℕ → List Continuation} (globals : List Bound) (m : Moment) (dos : DosCall) (target : Option Place) (arguments : List Resolved) (line : ℕ)
-    (tree : Tree) (s now : State) (why : NoValue) → (call : CallsDos m globals dos target arguments line tree points s now) →
-    arguments_of (scope_of tree s) (dos_signature (dos_call dos)).params call.exprs ≡ nothing_of why → IsEnded s now (end_at line why)
-call_ended {points} globals m dos target arguments line tree s now why call none =
-    subst (λ t. IsEnded s t (end_at line why)) (sym call.is)
-    (ended (arguments_of (scope_of tree s) (dos_signature (dos_call dos)).params call.exprs) why line s _ none)
-
--- a call whose arguments are these
-pub call_goes : {points : ℕ → List Continuation} (globals : List Bound) (m : Moment) (dos : DosCall) (target : Option Place) (arguments : List Resolved) (line : ℕ)
-    (tree : Tree) (s now : State) (vs : List Value) → (call : CallsDos m globals dos target arguments line tree points s now) →
-    arguments_of (scope_of tree s) (dos_signature (dos_call dos)).params call.exprs ≡ Gives vs →
-    now ≡ dos_step (dos_call dos) (option_map (target_named (locals_declared s.frame.function)) target) vs line s
-call_goes {points} globals m dos target arguments line tree s now vs call is =
-    call.is ∙ goes_further (arguments_of (scope_of tree s) (dos_signature (dos_call dos)).params call.exprs) vs line s _ is
-
--- Writes.
-
--- a call that only writes some bytes
-pub dos_writes : (globals : List Bound) (m : Moment) (dos : DosCall) (target : Option Place) (arguments : List Resolved) (line : ℕ)
-    (bytes : List ℕ) (left taken taken_now : Option (List ℕ)) →
-    ((tree : Tree) (points : ℕ → List Continuation) (s now : State) → CallsDos m globals dos target arguments line tree points s now →
-    now ≡ record s { out = s.out ++ bytes }) →
-    taken_now ≡ append_told taken bytes →
-    Does (CallsDos m globals dos target arguments line) (Kept m) left taken left taken_now
-dos_writes globals m dos target arguments line bytes left taken taken_now is wrote = record {
-  given = [];
-  written = bytes;
-  took = sym (prepend_told-nil left);
-  wrote = wrote;
-  made = λ tree points s now call has.
-      let same = is tree points s now call in
-      subst (λ t. (IsRunning tree points m t × (t.rest ≡ s.rest)) × (t.input ≡ told_bytes left) × (t.out ≡ s.out ++ bytes)) (sym same)
-      ((record { call = call.state.call; waiting = call.state.waiting; fill = call.state.fill; memory = call.state.memory; end = call.state.end }, refl), has, refl);
-}
-
-pub dos_unwritten : (globals : List Bound) (m : Moment) (dos : DosCall) (target : Option Place) (arguments : List Resolved) (line : ℕ)
-    (bytes : List ℕ) (left taken taken_now : Option (List ℕ)) →
-    ((tree : Tree) (points : ℕ → List Continuation) (s now : State) → CallsDos m globals dos target arguments line tree points s now →
-    now ≡ record s { out = s.out ++ bytes }) →
-    AppendsProperPrefix taken taken_now bytes →
-    CannotWrite (CallsDos m globals dos target arguments line) left taken left taken_now
-dos_unwritten globals m dos target arguments line bytes left taken taken_now is part = record {
-  given = [];
-  written = bytes;
-  makes = λ tree points s now rest call has.
-      let same = is tree points s now call in
-      (ap (λ t. t.input) same ∙ has, ap (λ t. t.out) same);
-  took = sym (prepend_told-nil left);
-  part = part;
-}
-
--- Keys.
-
-result-input : (target : Option Target) (v : Value) (line : ℕ) (s : State) → (result_step target (Some v) line s).input ≡ s.input
-result-input None v line s = refl
-result-input (Some t) v line s = (takes-quiet t v s).input
-
-result-out : (target : Option Target) (v : Value) (line : ℕ) (s : State) → (result_step target (Some v) line s).out ≡ s.out
-result-out None v line s = refl
-result-out (Some t) v line s = (takes-quiet t v s).out
-
-result-rest : (target : Option Target) (v : Value) (line : ℕ) (s : State) → (result_step target (Some v) line s).rest ≡ s.rest
-result-rest None v line s = refl
-result-rest (Some t) v line s = takes-rest t v s
-
--- a key was taken, and written where it is echoed
-pub key_made : (m now : Moment) (echo : Bool) (target : Option Place) (line key : ℕ) (left taken left_now taken_now : Option (List ℕ)) →
-    TakesKey echo left taken left_now taken_now key →
-    ((tree : Tree) (points : ℕ → List Continuation) (s : State) → IsRunning tree points m s → IsTargetIf (locals_declared s.frame.function) target →
-    IsRunning tree points now (result_step (option_map (target_named (locals_declared s.frame.function)) target) (Some (number Uchar key)) line s)) →
-    Does (CallsForKey m echo target line) (Kept now) left taken left_now taken_now
-key_made m now echo target line key left taken left_now taken_now (next_byte took wrote) made = record {
-  given = key ∷ [];
-  written = echoed echo key;
-  took = took;
-  wrote = wrote;
-  made = λ tree points s after call has.
-      let to = option_map (target_named (locals_declared s.frame.function)) target in
-      let t : State = record s { input = told_bytes left_now; out = s.out ++ echoed echo key } in
-      let step : State = result_step to (Some (number Uchar key)) line t in
-      let is : after ≡ step = call.is ∙ ap (λ l. key_step echo l to line s) has in
-      let there : IsRunning tree points m t = record { call = call.state.call; waiting = call.state.waiting; fill = call.state.fill; memory = call.state.memory; end = call.state.end } in
-      subst (λ (u : State). (IsRunning tree points now u × (u.rest ≡ s.rest)) × (u.input ≡ told_bytes left_now) × (u.out ≡ s.out ++ echoed echo key)) (sym is)
-      ((made tree points t there call.lands, result-rest to (number Uchar key) line t), result-input to (number Uchar key) line t, result-out to (number Uchar key) line t);
-}
-key_made m now echo target line key left taken left_now taken_now (no_byte took none same) made = record {
-  given = [];
-  written = [];
-  took = took;
-  wrote = same ∙ sym (append_told-nil taken);
-  made = λ tree points s after call has.
-      let to = option_map (target_named (locals_declared s.frame.function)) target in
-      let step : State = result_step to (Some (number Uchar 0x1A)) line s in
-      let is : after ≡ step = call.is ∙ ap (λ l. key_step echo l to line s) (has ∙ none) in
-      subst (λ (t : State). (IsRunning tree points now t × (t.rest ≡ s.rest)) × (t.input ≡ told_bytes left_now) × (t.out ≡ s.out ++ [])) (sym is)
-      ((made tree points s call.state call.lands, result-rest to (number Uchar 0x1A) line s), result-input to (number Uchar 0x1A) line s ∙ has, result-out to (number Uchar 0x1A) line s ∙ sym (append-nil s.out));
-}
-
--- a key was not taken
-pub key_unread : (m : Moment) (echo : Bool) (target : Option Place) (line : ℕ) (left taken left_now taken_now : Option (List ℕ)) →
-    IsUntaken left taken left_now taken_now → CannotRead (CallsForKey m echo target line) left taken left_now taken_now
-key_unread m echo target line left taken left_now taken_now untaken = record {
-  takes = λ tree points s now byte rest call has.
-      let to = option_map (target_named (locals_declared s.frame.function)) target in
-      let t : State = record s { input = rest; out = s.out ++ echoed echo byte } in
-      ap (λ u. u.input) (call.is ∙ ap (λ l. key_step echo l to line s) has) ∙ result-input to (number Uchar byte) line t;
-  same_left = untaken.same_left;
-  same_taken = untaken.same_taken;
-}
-
--- a key was taken, and not wholly written
-pub key_unwritten : (m : Moment) (echo : Bool) (target : Option Place) (line : ℕ) (left taken left_now taken_now : Option (List ℕ)) →
-    IsCutKey echo left taken left_now taken_now → CannotWrite (CallsForKey m echo target line) left taken left_now taken_now
-key_unwritten m echo target line left taken left_now taken_now cut = record {
-  given = cut.byte ∷ [];
-  written = echoed echo cut.byte;
-  makes = λ tree points s now rest call has.
-      let to = option_map (target_named (locals_declared s.frame.function)) target in
-      let is = call.is ∙ ap (λ l. key_step echo l to line s) has in
-      let t : State = record s { input = rest; out = s.out ++ echoed echo cut.byte } in
-      (ap (λ u. u.input) is ∙ result-input to (number Uchar cut.byte) line t, ap (λ u. u.out) is ∙ result-out to (number Uchar cut.byte) line t);
-  took = cut.took;
-  part = cut.part;
-}
 
 -- Bytes.
 
@@ -200,3 +56,223 @@ pub byte_argument : (scope : Scope) (es : List Expr) (w : Value) → arguments_o
 byte_argument scope [] w is = cc
 byte_argument scope (e ∷ []) w is = byte_of (value_of scope e) w is
 byte_argument scope (e ∷ f ∷ es) w is = absurd (none_given (λ v. Undefined) (value_of scope e) (w ∷ []) (λ v h. gives_not h) is)
+
+-- The argument of a call.
+
+-- this is what the arguments of a call come to that takes one
+abbrev pub IsArgument : List Bound → Moment → DosCall → List Resolved → Result Held NoValue → Type 0
+IsArgument globals m dos arguments r =
+    (tree : Tree) (points : ℕ → List Continuation) (s : State) (es : List Expr) → AreGlobals tree globals → IsRunning tree points m s → StandAll (names_at tree s) es arguments →
+    arguments_of (scope_of tree s) (dos_signature (dos_call dos)).params es ≡ outcome_of single r
+
+-- so it is where it is in each scene
+pub argument_is : (globals : List Bound) (m : Moment) (dos : DosCall) (arguments : List Resolved) (r : Result Held NoValue) (type : CType) (scene : Scene) → scene ≡ scene_in m globals →
+    type ∷ [] ≡ (dos_signature (dos_call dos)).params →
+    ((names : Names) (es : List Expr) → StandAll names es arguments → Fits names scene → outcome_of single r ≡ arguments_of (scope_over names scene) (type ∷ []) es) →
+    IsArgument globals m dos arguments r
+argument_is globals m dos arguments r type scene same takes is tree points s es are state stand =
+    ap (λ types. arguments_of (scope_of tree s) types es) (sym takes)
+    ∙ ap (λ sc. arguments_of sc (type ∷ []) es) (sym (scope_here tree points globals m s are state))
+    ∙ ap (λ sc. arguments_of (scope_over (names_at tree s) sc) (type ∷ []) es) (sym same)
+    ∙ sym (is (names_at tree s) es stand (subst (Fits (names_at tree s)) (sym same) (fits_here tree points globals m s are state)))
+
+-- a DOS function that takes an argument gives nothing
+no_result : (dos : DosCall) (target : Target) (v : Value) (line : ℕ) (s : State) → dos_step (dos_call dos) (Some target) (v ∷ []) line s ≡ with_end (Stuck line) s
+no_result calls_putc target v line s = refl
+no_result calls_getche target v line s = refl
+no_result calls_getch target v line s = refl
+no_result calls_puts target v line s = refl
+no_result calls_leave target v line s = refl
+
+module _ (globals : List Bound) (m : Moment) (dos : DosCall) (target : Option Place) (arguments : List Resolved) (line : ℕ)
+    (tree : Tree) (points : ℕ → List Continuation) (s now : State) (call : CallsDos m globals dos target arguments line tree points s now) where
+  -- a call whose argument gives nothing
+  pub call_ended : (why : NoValue) → IsArgument globals m dos arguments (Err why) → IsEnded s now (end_at line why)
+  call_ended why is =
+      subst (λ t. IsEnded s t (end_at line why)) (sym call.is)
+      (ended (arguments_of (scope_of tree s) (dos_signature (dos_call dos)).params call.exprs) why line s _ (is tree points s call.exprs call.globals_are call.state call.stand))
+
+  -- a call whose argument has this value
+  call_goes : (v : Held) → IsArgument globals m dos arguments (Ok v) →
+      now ≡ dos_step (dos_call dos) (option_map (target_named (locals_declared s.frame.function)) target) (typed v ∷ []) line s
+  call_goes v is =
+      call.is ∙ goes_further (arguments_of (scope_of tree s) (dos_signature (dos_call dos)).params call.exprs) (typed v ∷ []) line s _ (is tree points s call.exprs call.globals_are call.state call.stand)
+
+  -- its result is wanted, and there is none
+  pub result_missed : (v : Held) → IsArgument globals m dos arguments (Ok v) → is_some target ≡ true → IsEnded s now (Stuck line)
+  result_missed v is some = by target some (call_goes v is)
+    where
+      by : (to : Option Place) → is_some to ≡ true → now ≡ dos_step (dos_call dos) (option_map (target_named (locals_declared s.frame.function)) to) (typed v ∷ []) line s → IsEnded s now (Stuck line)
+      by None some step = cc
+      by (Some to) some step =
+          subst (λ (t : State). IsEnded s t (Stuck line)) (sym (step ∙ no_result dos _ (typed v) line s)) (record { is = refl; quiet = record { input = refl; events = refl } })
+
+  -- its result is not wanted
+  pub call_made : (v : Held) → IsArgument globals m dos arguments (Ok v) → is_some target ≡ false → now ≡ dos_step (dos_call dos) None (typed v ∷ []) line s
+  call_made v is none = by target none (call_goes v is)
+    where
+      by : (to : Option Place) → is_some to ≡ false → now ≡ dos_step (dos_call dos) (option_map (target_named (locals_declared s.frame.function)) to) (typed v ∷ []) line s →
+          now ≡ dos_step (dos_call dos) None (typed v ∷ []) line s
+      by None none step = step
+      by (Some to) none step = cc
+
+-- a call of which something wants a result that it does not give halts
+pub result_halts : (globals : List Bound) (m : Moment) (dos : DosCall) (target : Option Place) (arguments : List Resolved) (line : ℕ) (v : Held) → IsArgument globals m dos arguments (Ok v) →
+    is_some target ≡ true → (left taken : Option (List ℕ)) → Halts (CallsDos m globals dos target arguments line) (Stuck line) left taken left taken
+result_halts globals m dos target arguments line v is some left taken = record {
+  ends = λ tree points s now call. result_missed globals m dos target arguments line tree points s now call v is some;
+  same_left = refl;
+  same_taken = refl;
+}
+
+-- Writes.
+
+-- the call only writes these bytes
+abbrev pub WritesOnly : List Bound → Moment → DosCall → Option Place → List Resolved → ℕ → List ℕ → Type 0
+WritesOnly globals m dos target arguments line bytes =
+    (tree : Tree) (points : ℕ → List Continuation) (s now : State) → CallsDos m globals dos target arguments line tree points s now → now ≡ with_events (writes bytes) s
+
+pub putc_writes : (globals : List Bound) (m : Moment) (target : Option Place) (arguments : List Resolved) (line : ℕ) (v : Held) → IsArgument globals m calls_putc arguments (Ok v) →
+    is_some target ≡ false → WritesOnly globals m calls_putc target arguments line (v.bits % 256 ∷ [])
+putc_writes globals m target arguments line v is none tree points s now call =
+    let byte = byte_argument (scope_of tree s) call.exprs (typed v) (is tree points s call.exprs call.globals_are call.state call.stand) in
+    call_made globals m calls_putc target arguments line tree points s now call v is none ∙ ap (λ (b : ℕ). with_events (writes (b ∷ [])) s) (sym byte)
+
+pub puts_writes : (globals : List Bound) (m : Moment) (target : Option Place) (arguments : List Resolved) (line : ℕ) (v : Held) (memory : List ℕ) → memory ≡ m.memory.items →
+    IsArgument globals m calls_puts arguments (Ok v) → is_some target ≡ false → WritesOnly globals m calls_puts target arguments line (string_at memory v.bits)
+puts_writes globals m target arguments line v memory same is none tree points s now call =
+    call_made globals m calls_puts target arguments line tree points s now call v is none
+    ∙ ap (λ (l : List ℕ). with_events (writes (string_at l v.bits)) s) (sym call.state.memory ∙ sym same)
+
+-- the call that ends the run
+pub leave_exits : (globals : List Bound) (m : Moment) (target : Option Place) (arguments : List Resolved) (line : ℕ) (tree : Tree) (points : ℕ → List Continuation) (s now : State) →
+    (call : CallsDos m globals calls_leave target arguments line tree points s now) (v : Held) → IsArgument globals m calls_leave arguments (Ok v) → is_some target ≡ false →
+    now ≡ with_end (Exit (v.bits % 256)) s
+leave_exits globals m target arguments line tree points s now call v is none =
+    let byte = byte_argument (scope_of tree s) call.exprs (typed v) (is tree points s call.exprs call.globals_are call.state call.stand) in
+    call_made globals m calls_leave target arguments line tree points s now call v is none ∙ ap (λ (b : ℕ). with_end (Exit b) s) (sym byte)
+
+-- writes take nothing of the input
+nothing-taken : (left : Option (List ℕ)) (bytes : List ℕ) → left ≡ prepend_told (taken_by (writes bytes)) left
+nothing-taken left bytes = sym (prepend_told-nil left) ∙ ap (λ l. prepend_told l left) (sym (taken-writes bytes))
+
+-- a call that only writes some bytes
+pub dos_writes : (globals : List Bound) (m : Moment) (dos : DosCall) (target : Option Place) (arguments : List Resolved) (line : ℕ)
+    (bytes : List ℕ) (left taken taken_now : Option (List ℕ)) →
+    WritesOnly globals m dos target arguments line bytes →
+    taken_now ≡ append_told taken bytes →
+    Does (CallsDos m globals dos target arguments line) (Kept m) left taken left taken_now
+dos_writes globals m dos target arguments line bytes left taken taken_now is wrote = record {
+  happened = writes bytes;
+  took = nothing-taken left bytes;
+  wrote = wrote ∙ ap (append_told taken) (sym (written-writes bytes));
+  made = λ tree points s now call has.
+      let same = is tree points s now call in
+      subst (λ t. (IsRunning tree points m t × (t.rest ≡ s.rest)) × (t.input ≡ told_bytes left) × (t.events ≡ s.events ++ writes bytes)) (sym same)
+      ((record { call = call.state.call; waiting = call.state.waiting; fill = call.state.fill; memory = call.state.memory; end = call.state.end }, refl), has ∙ ap (λ l. l ++ told_bytes left) (taken-writes bytes), refl);
+}
+
+pub dos_unwritten : (globals : List Bound) (m : Moment) (dos : DosCall) (target : Option Place) (arguments : List Resolved) (line : ℕ)
+    (bytes : List ℕ) (left taken taken_now : Option (List ℕ)) →
+    WritesOnly globals m dos target arguments line bytes →
+    AppendsProperPrefix taken taken_now bytes →
+    CannotWrite (CallsDos m globals dos target arguments line) left taken left taken_now
+dos_unwritten globals m dos target arguments line bytes left taken taken_now is part = record {
+  happened = writes bytes;
+  makes = λ tree points s now rest call has.
+      let same = is tree points s now call in
+      (ap (λ t. t.input) same ∙ has ∙ ap (λ l. l ++ rest) (taken-writes bytes), ap (λ t. t.events) same);
+  took = nothing-taken left bytes;
+  part = subst (AppendsProperPrefix taken taken_now) (sym (written-writes bytes)) part;
+}
+
+-- Keys.
+
+result-input : (target : Option Target) (v : Value) (line : ℕ) (s : State) → (result_step target (Some v) line s).input ≡ s.input
+result-input None v line s = refl
+result-input (Some t) v line s = (takes-quiet t v s).input
+
+result-events : (target : Option Target) (v : Value) (line : ℕ) (s : State) → (result_step target (Some v) line s).events ≡ s.events
+result-events None v line s = refl
+result-events (Some t) v line s = (takes-quiet t v s).events
+
+result-rest : (target : Option Target) (v : Value) (line : ℕ) (s : State) → (result_step target (Some v) line s).rest ≡ s.rest
+result-rest None v line s = refl
+result-rest (Some t) v line s = takes-rest t v s
+
+-- the state in which the target takes the next key
+abbrev after_key : Bool → ℕ → List ℕ → State → State
+after_key echo byte rest s = with_events (key_events echo byte) (record s { input = rest })
+
+-- what is read and written besides changes nothing that a moment stands for
+running-with : (tree : Tree) (points : ℕ → List Continuation) (m : Moment) (s : State) (input : List ℕ) (events : List Event) → IsRunning tree points m s →
+    IsRunning tree points m (record s { input = input; events = events })
+running-with tree points m s input events is =
+    record { call = is.call; waiting = is.waiting; fill = is.fill; memory = is.memory; end = is.end }
+
+-- what a call for a key leads to where there is a byte
+next-key : (m : Moment) (echo : Bool) (target : Option Place) (line : ℕ) (tree : Tree) (points : ℕ → List Continuation) (s now : State) (byte : ℕ) (rest : List ℕ) →
+    CallsForKey m echo target line tree points s now → s.input ≡ taken_by (key_events echo byte) ++ rest →
+    now ≡ result_step (option_map (target_named (locals_declared s.frame.function)) target) (Some (number Uchar byte)) line (after_key echo byte rest s)
+next-key m echo target line tree points s now byte rest call has =
+    let to = option_map (target_named (locals_declared s.frame.function)) target in
+    call.is ∙ ap (λ l. key_step echo l to line s) (has ∙ ap (λ l. l ++ rest) (key-taken echo byte))
+
+-- a key was taken, and written where it is echoed
+pub key_made : (m now : Moment) (echo : Bool) (target : Option Place) (line key : ℕ) (left taken left_now taken_now : Option (List ℕ)) →
+    TakesKey echo left taken left_now taken_now key →
+    ((tree : Tree) (points : ℕ → List Continuation) (s : State) → IsRunning tree points m s → IsTargetIf (locals_declared s.frame.function) target →
+    IsRunning tree points now (result_step (option_map (target_named (locals_declared s.frame.function)) target) (Some (number Uchar key)) line s)) →
+    Does (CallsForKey m echo target line) (Kept now) left taken left_now taken_now
+key_made m now echo target line key left taken left_now taken_now (next_byte took wrote) made = record {
+  happened = key_events echo key;
+  took = took;
+  wrote = wrote;
+  made = λ tree points s after call has.
+      let to = option_map (target_named (locals_declared s.frame.function)) target in
+      let t : State = after_key echo key (told_bytes left_now) s in
+      let is = next-key m echo target line tree points s after key (told_bytes left_now) call has in
+      let there : IsRunning tree points m t = running-with tree points m s (told_bytes left_now) (s.events ++ key_events echo key) call.state in
+      subst (λ (u : State). (IsRunning tree points now u × (u.rest ≡ s.rest)) × (u.input ≡ told_bytes left_now) × (u.events ≡ s.events ++ key_events echo key)) (sym is)
+      ((made tree points t there call.lands, result-rest to (number Uchar key) line t), result-input to (number Uchar key) line t, result-events to (number Uchar key) line t);
+}
+key_made m now echo target line key left taken left_now taken_now (no_byte none took wrote) made = record {
+  happened = MetEnd ∷ [];
+  took = took;
+  wrote = wrote;
+  made = λ tree points s after call has.
+      let to = option_map (target_named (locals_declared s.frame.function)) target in
+      let t : State = with_events (MetEnd ∷ []) s in
+      let step : State = result_step to (Some (number Uchar 0x1A)) line t in
+      let is : after ≡ step = call.is ∙ ap (λ l. key_step echo l to line s) (has ∙ none) in
+      let there : IsRunning tree points m t = running-with tree points m s s.input (s.events ++ MetEnd ∷ []) call.state in
+      subst (λ (u : State). (IsRunning tree points now u × (u.rest ≡ s.rest)) × (u.input ≡ told_bytes left_now) × (u.events ≡ s.events ++ MetEnd ∷ [])) (sym is)
+      ((made tree points t there call.lands, result-rest to (number Uchar 0x1A) line t), result-input to (number Uchar 0x1A) line t ∙ has, result-events to (number Uchar 0x1A) line t);
+}
+
+-- a key was not taken
+pub key_unread : (m : Moment) (echo : Bool) (target : Option Place) (line : ℕ) (left taken left_now taken_now : Option (List ℕ)) →
+    IsUntaken left taken left_now taken_now → CannotRead (CallsForKey m echo target line) left taken left_now taken_now
+key_unread m echo target line left taken left_now taken_now untaken = record {
+  takes = λ tree points s now byte rest call has.
+      let to = option_map (target_named (locals_declared s.frame.function)) target in
+      let here = has ∙ ap (λ l. l ++ rest) (sym (key-taken echo byte)) in
+      ap (λ u. u.input) (next-key m echo target line tree points s now byte rest call here)
+      ∙ result-input to (number Uchar byte) line (after_key echo byte rest s);
+  same_left = untaken.same_left;
+  same_taken = untaken.same_taken;
+}
+
+-- a key was taken, and not wholly written
+pub key_unwritten : (m : Moment) (echo : Bool) (target : Option Place) (line : ℕ) (left taken left_now taken_now : Option (List ℕ)) →
+    IsCutKey echo left taken left_now taken_now → CannotWrite (CallsForKey m echo target line) left taken left_now taken_now
+key_unwritten m echo target line left taken left_now taken_now cut = record {
+  happened = key_events echo cut.byte;
+  makes = λ tree points s now rest call has.
+      let to = option_map (target_named (locals_declared s.frame.function)) target in
+      let is = next-key m echo target line tree points s now cut.byte rest call has in
+      let t : State = after_key echo cut.byte rest s in
+      (ap (λ u. u.input) is ∙ result-input to (number Uchar cut.byte) line t, ap (λ u. u.events) is ∙ result-events to (number Uchar cut.byte) line t);
+  took = cut.took;
+  part = cut.part;
+}

@@ -84,5 +84,5 @@ entered tree points m now s number next base depth f procedure target arguments 
             subst (λ p. Goes tree (points now.call.procedure) p (runs f.body (ends_function f.last))) (sym enters.at)
             (subst (λ n. Goes tree (points n) procedure.entry (runs f.body (ends_function f.last))) (sym enters.procedure_is) is.entry);
       };
-      quiet = record { input = refl; out = refl };
+      quiet = record { input = refl; events = refl };
     }

@@ -96,14 +96,14 @@ values_stop line (Err y) op done left taken stop o is are ends =
     stops HaltsDividing are = record {
       ends = λ tree points s now made.
           let one = ends tree points s now made in
-          subst (λ (t : State). IsEnded s t divided) (sym (one.1 ∙ ap (λ p. on p line s one.0) are)) (record { is = refl; quiet = record { input = refl; out = refl } });
+          subst (λ (t : State). IsEnded s t divided) (sym (one.1 ∙ ap (λ p. on p line s one.0) are)) (record { is = refl; quiet = record { input = refl; events = refl } });
       same_left = refl;
       same_taken = refl;
     }
     stops HaltsUndefined are = record {
       ends = λ tree points s now made.
           let one = ends tree points s now made in
-          subst (λ (t : State). IsEnded s t (stuck line)) (sym (one.1 ∙ ap (λ p. on p line s one.0) are)) (record { is = refl; quiet = record { input = refl; out = refl } });
+          subst (λ (t : State). IsEnded s t (stuck line)) (sym (one.1 ∙ ap (λ p. on p line s one.0) are)) (record { is = refl; quiet = record { input = refl; events = refl } });
       same_left = refl;
       same_taken = refl;
     }

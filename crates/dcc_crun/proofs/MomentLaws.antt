@@ -68,17 +68,17 @@ target_here tree points globals m s e r are state stands =
 pub ended : {A : Type 0} (o : Outcome A) (why : NoValue) (line : ℕ) (s : State) (next : A → State) → o ≡ nothing_of why →
     IsEnded s (on o line s next) (end_at line why)
 ended o Faults line s next is =
-    subst (λ o. IsEnded s (on o line s next) (end_at line Faults)) (sym is) (record { is = refl; quiet = record { input = refl; out = refl } })
+    subst (λ o. IsEnded s (on o line s next) (end_at line Faults)) (sym is) (record { is = refl; quiet = record { input = refl; events = refl } })
 ended o Meaningless line s next is =
-    subst (λ o. IsEnded s (on o line s next) (end_at line Meaningless)) (sym is) (record { is = refl; quiet = record { input = refl; out = refl } })
+    subst (λ o. IsEnded s (on o line s next) (end_at line Meaningless)) (sym is) (record { is = refl; quiet = record { input = refl; events = refl } })
 
 pub goes_further : {A : Type 0} (o : Outcome A) (a : A) (line : ℕ) (s : State) (next : A → State) → o ≡ Gives a →
     on o line s next ≡ next a
 goes_further o a line s next is = ap (λ o. on o line s next) is
 
 -- the state before an ended one may be one that goes on otherwise
-pub ended_from : (s t now : State) (end : End) → t.input ≡ s.input → t.out ≡ s.out → IsEnded t now end → IsEnded s now end
-ended_from s t now end input out is = record { is = is.is; quiet = record { input = is.quiet.input ∙ input; out = is.quiet.out ∙ out } }
+pub ended_from : (s t now : State) (end : End) → t.input ≡ s.input → t.events ≡ s.events → IsEnded t now end → IsEnded s now end
+ended_from s t now end input events is = record { is = is.is; quiet = record { input = is.quiet.input ∙ input; events = is.quiet.events ∙ events } }
 
 -- Variables and memory after an assignment.
 
@@ -118,8 +118,8 @@ taken tree points m now s (Into type at) v state variables memory declared proce
 
 -- an assignment reads and writes nothing, and leaves how the text goes on
 pub takes-quiet : (target : Target) (v : Value) (s : State) → IsQuiet s (takes target v s)
-takes-quiet (ToVariable word) v s = record { input = refl; out = refl }
-takes-quiet (ToMemory type at) v s = record { input = refl; out = refl }
+takes-quiet (ToVariable word) v s = record { input = refl; events = refl }
+takes-quiet (ToMemory type at) v s = record { input = refl; events = refl }
 
 pub takes-rest : (target : Target) (v : Value) (s : State) → (takes target v s).rest ≡ s.rest
 takes-rest (ToVariable word) v s = refl

@@ -12,11 +12,10 @@ pub does_quiet : (op done : Operation) (left taken : Option (List ℕ)) →
     ((tree : Tree) (points : ℕ → List Continuation) (s now : State) → op tree points s now → done tree points s now × IsQuiet s now) →
     Does op done left taken left taken
 does_quiet op done left taken made = record {
-  given = [];
-  written = [];
+  happened = [];
   took = sym (prepend_told-nil left);
   wrote = sym (append_told-nil taken);
   made = λ tree points s now is has.
       let one = made tree points s now is in
-      (one.0, one.1.input ∙ has, one.1.out ∙ sym (append-nil s.out));
+      (one.0, one.1.input ∙ has, one.1.events ∙ sym (append-nil s.events));
 }

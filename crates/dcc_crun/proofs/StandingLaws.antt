@@ -35,8 +35,7 @@ pub step_made : (run : CRun) (now : Moment) (left taken left_now taken_now : Opt
     Does (Steps run.program run.moment) (Stood now) left taken left_now taken_now →
     Makes texts (scene run left taken) (scene (record { program = run.program; moment = now }) left_now taken_now)
 step_made run now left taken left_now taken_now runs does = record {
-  given = does.given;
-  written = does.written;
+  happened = does.happened;
   took = does.took;
   wrote = does.wrote;
   made = λ tree s stands has.
@@ -44,7 +43,7 @@ step_made run now left taken left_now taken_now runs does = record {
       record {
         stands = record { points = stands.points; program = stands.program; moment = one.0 };
         left = one.1;
-        out = one.2;
+        events = one.2;
       };
 }
 
@@ -94,10 +93,9 @@ step_refused Input run now left taken left_now taken_now runs refused stays = re
       ∙ ap (λ t. scene run left t) refused.same_taken;
 }
 step_refused Output run now left taken left_now taken_now runs refused stays = record {
-  given = refused.given;
-  written = refused.written;
+  happened = refused.happened;
   takes = λ tree s rest stands has. (refused.makes tree stands.points s (step tree s) rest (steps_of run tree s stands runs) has).0;
-  writes = λ tree s rest stands has. (refused.makes tree stands.points s (step tree s) rest (steps_of run tree s stands runs) has).1;
+  happens = λ tree s rest stands has. (refused.makes tree stands.points s (step tree s) rest (steps_of run tree s stands runs) has).1;
   unchanged = ap (λ (m : Moment). record { program = run.program; moment = m }) stays;
   took = refused.took;
   part = refused.part;

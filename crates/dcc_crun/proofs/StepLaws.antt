@@ -91,11 +91,11 @@ led_from_kept tree points line (Ok a) mid now s after goes aside kept = record {
 led_from_kept tree points line (Err why) mid now s after goes aside kept = kept
 
 led_before : {A : Type 0} (tree : Tree) (points : ℕ → List Continuation) (line : ℕ) (r : Result A NoValue) (now : Moment) (s t after : State) →
-    t.input ≡ s.input → t.out ≡ s.out → Led tree points line r now t after → Led tree points line r now s after
-led_before tree points line (Ok a) now s t after input out led =
-    record { going = led.going; quiet = record { input = led.quiet.input ∙ input; out = led.quiet.out ∙ out } }
-led_before tree points line (Err why) now s t after input out led =
-    record { is = led.is; quiet = record { input = led.quiet.input ∙ input; out = led.quiet.out ∙ out } }
+    t.input ≡ s.input → t.events ≡ s.events → Led tree points line r now t after → Led tree points line r now s after
+led_before tree points line (Ok a) now s t after input events led =
+    record { going = led.going; quiet = record { input = led.quiet.input ∙ input; events = led.quiet.events ∙ events } }
+led_before tree points line (Err why) now s t after input events led =
+    record { is = led.is; quiet = record { input = led.quiet.input ∙ input; events = led.quiet.events ∙ events } }
 
 pub no_push : {X : Type 0} (xs : List X) (x : X) → xs ++ x ∷ [] ≡ [] → ⊥
 no_push [] x is = cc

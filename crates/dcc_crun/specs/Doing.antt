@@ -2,6 +2,7 @@
 use Rattle.std.specs.Prelude.{◌≡◌, ℕ, Bool, List, [], ◌∷◌, ◌++◌, map, Option, Some, Result, Ok, Err, Vec, option_map, slice_get}
 use Rattle.std.specs.Global.{Global}
 use Rattle.dcc_run.specs.End.{End, Running as running, Divide as divided, Stuck as stuck}
+use Rattle.dcc_run.specs.Event.{Event, written_by, taken_by}
 use Rattle.dcc_io.specs.Told.{append_told, prepend_told, AppendsProperPrefix}
 use Rattle.dcc_c.specs.declared.syntax.CType.{CType}
 use Rattle.dcc_c.specs.Tree.{Word, Expr, Call as CallOf, Function, Tree}
@@ -48,7 +49,7 @@ names_at tree s = names_in tree s.frame.function
 -- nothing was read or written
 pub record IsQuiet (s now : State) : Type 0 where
   pub input : now.input ≡ s.input
-  pub out : now.out ≡ s.out
+  pub events : now.events ≡ s.events
 
 -- the end of a run where an evaluation gives nothing
 abbrev pub end_at : ℕ → NoValue → End
@@ -121,16 +122,16 @@ ArgumentsAre (Err (Refused fault)) o = fault ≡ Memory
 abbrev pub Operation : Type 1
 Operation = Tree → (ℕ → List Continuation) → State → State → Type 0
 
--- The operation was made. The input gave some bytes and the output took some; and with just these bytes to read the
--- state that the operation leads to is one of these, and has put out just these bytes more.
+-- The operation was made, and this has happened: the input gave what these events take, and the output took what they
+-- write; and with just those bytes to read the state that the operation leads to is one of these, and just these events
+-- have joined the others.
 pub record Does (op done : Operation) (left taken left_now taken_now : Option (List ℕ)) : Type 0 where
-  pub given : List ℕ
-  pub written : List ℕ
-  pub took : left ≡ prepend_told given left_now
-  pub wrote : taken_now ≡ append_told taken written
+  pub happened : List Event
+  pub took : left ≡ prepend_told (taken_by happened) left_now
+  pub wrote : taken_now ≡ append_told taken (written_by happened)
   pub made : (tree : Tree) (points : ℕ → List Continuation) (s now : State) → op tree points s now →
-      s.input ≡ given ++ told_bytes left_now →
-      done tree points s now × (now.input ≡ told_bytes left_now) × (now.out ≡ s.out ++ written)
+      s.input ≡ taken_by happened ++ told_bytes left_now →
+      done tree points s now × (now.input ≡ told_bytes left_now) × (now.events ≡ s.events ++ happened)
 
 -- a read failed: the operation is one that takes the next input byte
 pub record CannotRead (op : Operation) (left taken left_now taken_now : Option (List ℕ)) : Type 0 where
@@ -139,15 +140,14 @@ pub record CannotRead (op : Operation) (left taken left_now taken_now : Option (
   pub same_left : left_now ≡ left
   pub same_taken : taken_now ≡ taken
 
--- a write failed: the input gave what the operation takes, and the output took a part of what it writes, and not all of
--- it
+-- a write failed: of what happens in the operation the input gave what is taken, and the output took a part of what is
+-- written, and not all of it
 pub record CannotWrite (op : Operation) (left taken left_now taken_now : Option (List ℕ)) : Type 0 where
-  pub given : List ℕ
-  pub written : List ℕ
+  pub happened : List Event
   pub makes : (tree : Tree) (points : ℕ → List Continuation) (s now : State) (rest : List ℕ) → op tree points s now →
-      s.input ≡ given ++ rest → (now.input ≡ rest) × (now.out ≡ s.out ++ written)
-  pub took : left ≡ prepend_told given left_now
-  pub part : AppendsProperPrefix taken taken_now written
+      s.input ≡ taken_by happened ++ rest → (now.input ≡ rest) × (now.events ≡ s.events ++ happened)
+  pub took : left ≡ prepend_told (taken_by happened) left_now
+  pub part : AppendsProperPrefix taken taken_now (written_by happened)
 
 -- memory was wanting: nothing was read or written
 pub record CannotGrow (left taken left_now taken_now : Option (List ℕ)) : Type 0 where

@@ -295,20 +295,19 @@ impl Moment {
         alloc: Global,
         number: usize,
         procedure: &Procedure,
-        depth: u32,
-        next: usize,
+        row: &CallRow,
         target: Option<Target>,
         arguments: &[Value],
     ) -> Result<(), AllocError>
         ensures state { (tree : Tree) (points : ℕ → List Continuation) (s : State) (f : Function) →
-            IsRunning tree points self.old s → Goes tree (points self.old.call.procedure) next s.rest →
+            IsRunning tree points self.old s → Goes tree (points self.old.call.procedure) row.now.next s.rest →
             slice_get tree.functions number ≡ Some f → IsProcedure tree f (points number) procedure.now →
             IsTargetIf (locals_declared s.frame.function) target → length arguments.now ≡ length f.params →
-            OnOk result (IsLed tree points self.new s (enter_step f depth
+            OnOk result (IsLed tree points self.new s (enter_step f row.now.depth
             (option_map (target_named (locals_declared s.frame.function)) target) (map typed arguments.now) s)) }
         ensures same { OnErr result (IsSame self.old self.new) }
     {
-        let base = base_below(self.call.base, depth);
+        let base = base_below(self.call.base, row.depth);
         let callee = Call {
             procedure: number,
             at: procedure.entry,
@@ -316,7 +315,7 @@ impl Moment {
             variables: procedure.variables(alloc, base, self.fill, arguments)?,
         };
         let at = self.call.at;
-        self.call.at = next;
+        self.call.at = row.next;
         let caller = Waiting {
             call: mem::replace(&mut self.call, callee),
             target,
@@ -514,9 +513,7 @@ impl Moment {
             procedure,
             &row.arguments,
         )?;
-        self.enter(
-            alloc, number, procedure, row.depth, row.next, target, &values,
-        )?;
+        self.enter(alloc, number, procedure, row, target, &values)?;
         Ok(())
     }
 

@@ -23,7 +23,7 @@ returns-clause-state c tree points s f state goes here is lands same =
     let now = record c.args.self.now { call = c.replace.new.dest; waiting = c.push.new.self; memory = with_items c.args.self.now.memory c.put_arguments.new.memory } in
     let long : length c.put_arguments.new.memory ≡ c.args.self.now.memory.len =
     omega (arith, c.put_arguments.auto.memory, c.deref_mut.ensures.len, ap length c.deref_mut.ensures.value, c.args.self.now.memory.ok.0) in
-    entered tree points c.args.self.now now s c.args.number c.args.next c.base_below-base.result c.args.depth f c.args.procedure.now c.args.target c.args.arguments.now
+    entered tree points c.args.self.now now s c.args.number c.args.row.now.next c.base_below-base.result c.args.row.now.depth f c.args.procedure.now c.args.target c.args.arguments.now
     (record {
       procedure_is = ap (λ (k : Call). k.procedure) c.replace.ensures.after;
       at = ap (λ (k : Call). k.at) c.replace.ensures.after;
