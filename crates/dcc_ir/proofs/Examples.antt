@@ -1,6 +1,9 @@
 -- Small expressions, graphs and statements under the definitions that no pass meets yet: forms, live locations,
 -- temporaries that may be joined, windows.
-use Rattle.std.proofs.Common.{arith, ◌≡◌, refl, ℕ, zero, suc, true, false, List, [], ◌∷◌, Some, None}
+use Rattle.std.proofs.Common.{arith, ◌≡◌, ◌<◌, ◌+◌, ◌∙◌, refl, sym, subst, ℕ, zero, suc, true, false, List, [], ◌∷◌, Contains, Some, None}
+use Rattle.std.proofs.Math.Nat.{mod-eq_of_lt}
+use Rattle.std.proofs.lemmas.List.Elements.{All-nil, All-contains_itself}
+use Rattle.std.specs.List.{slice_index_or}
 use Rattle.std.proofs.lemmas.Bool.Decides.{nat_tests}
 use Rattle.dcc_run.specs.End.{Running}
 use Rattle.dcc_num.specs.declared.Reg.TheVariants.{Ax, Cx, Dx, Bx}
@@ -14,7 +17,7 @@ use Rattle.dcc_ir.specs.Tree.{Expr, Const, Get, Load, Unary, Binary, Widen, Part
 use Rattle.dcc_ir.specs.Location.{filled}
 use Rattle.dcc_ir.specs.Run.{State, activation, setting}
 use Rattle.dcc_ir.specs.Forms.{has_form}
-use Rattle.dcc_ir.specs.Rules.{RuleAnswers, is_normal}
+use Rattle.dcc_ir.specs.Rules.{IsSimpler, RuleAnswers, is_normal}
 use Rattle.dcc_ir.specs.Flow.{IsPath}
 use Rattle.dcc_ir.specs.Live.{reads_first, block_in, follows, Passes, IsLiveAfter}
 use Rattle.dcc_ir.specs.Joinable.{IsJoinable, lets_pass}
@@ -382,3 +385,49 @@ halves_carry = (refl, refl)
 
 long_carries : ((performed as_long begun).running.values high ≡ 4) × ((performed as_long begun).running.values low ≡ 2)
 long_carries = (refl, refl)
+
+-- Simpler expressions: what the first rule makes of a sum with 0, and what just isn't simpler.
+
+abbrev sum_with_zero : Expr
+sum_with_zero = Binary Add 8 x (byte 0)
+
+sum_with_zero_is_simpler : IsSimpler sum_with_zero x
+sum_with_zero_is_simpler = record {
+  formed = λ bits widths given. refl;
+  width = λ bits widths given. refl;
+  value = λ scene widths fits given.
+      let few : scene.values al + 0 < 256 = omega (arith, fits.values al) in
+      let same : scene.values al + 0 ≡ scene.values al = omega arith in
+      sym (mod-eq_of_lt few ∙ same);
+  nodes = omega arith;
+  depth = omega arith;
+  truths = omega arith;
+  reads = All-contains_itself (al ∷ []);
+  addresses = All-nil (Contains []);
+}
+
+first_rule_answers : RuleAnswers 1 sum_with_zero (Some x)
+first_rule_answers = record {
+  simpler = λ other e. let same : x ≡ other = cc in subst (λ it. IsSimpler sum_with_zero it) same sum_with_zero_is_simpler;
+  form = λ _ _. ((λ e. cc), (λ e. cc));
+}
+
+-- it has to answer where the expression has the form, and may not where it hasn't
+first_rule_answers_each : ¬ RuleAnswers 1 sum_with_zero None
+first_rule_answers_each p = let e = (p.form (omega arith) (omega arith)).0 refl in cc
+
+second_rule_is_silent : ¬ RuleAnswers 2 sum_with_zero (Some x)
+second_rule_is_silent p = let e = (p.form (omega arith) (omega arith)).1 refl in cc
+
+-- as many nodes, and another location
+nothing_is_simpler_than_itself : ¬ IsSimpler x x
+nothing_is_simpler_than_itself p = absurd (omega (arith, p.nodes))
+
+only_at : (k : ℕ) → k < 1 → slice_index_or (al ∷ []) k cl ≡ cl → al ≡ cl
+only_at zero few is = is
+only_at (suc k) few is = absurd (omega (arith, few))
+
+other_location_is_not_simpler : ¬ IsSimpler sum_with_zero y
+other_location_is_not_simpler p =
+    let has : Contains (al ∷ []) cl = p.reads 0 cl (omega arith) in
+    let same = only_at has.0 has.1 has.2 in cc
