@@ -1,10 +1,12 @@
 -- Why a program has no layout.
+use Rattle.std.specs.Prelude.{◌≡◌}
 use Rattle.dcc_prog.specs.declared.image.Image.{Image}
+use Rattle.dcc_prog.specs.declared.refusal.construct.TheConstants.{NO_LAYOUT}
 use Rattle.dcc_prog.specs.declared.refusal.Refusal.{Refusal}
 use Rattle.dcc_prog.specs.declared.refusal.Refusal.TheVariants.{Construct}
-use Rattle.dcc_prog.specs.Construct.{IsConstruct}
+use Rattle.dcc_prog.specs.Construct.{LacksLayout}
 
--- the refusal names a construct, which stands there
+-- the refusal names the construct of no layout, at the entry, and no layout holds of the image
 abbrev pub IsRefusal : Image → Refusal → Type 0
-IsRefusal image (Construct kind at) = IsConstruct kind image at
+IsRefusal image (Construct kind at) = (kind ≡ NO_LAYOUT) × LacksLayout image at
 IsRefusal image _ = ⊥

@@ -4,7 +4,6 @@ use Rattle.std.specs.Option.{ok_or}
 use Rattle.dcc_prog.specs.declared.procedure.Layout.{Layout}
 use Rattle.dcc_prog.specs.declared.refusal.Refusal.TheVariants.{Construct}
 use Rattle.dcc_prog.specs.Layout.{HasLayout}
-use Rattle.dcc_prog.specs.Construct.{lacks_layout}
 use Rattle.dcc_prog.proofs.LayoutLaws.{layout-once}
 use Rattle.dcc_prog.proofs.ConstructLaws.{lacks-layout}
 use Rattle.dcc_layout.specs.Refusal.{IsRefusal}
@@ -14,7 +13,7 @@ pub returns-clause-refused : goal.returns-clause-refused
 returns-clause-refused c =
     let image = c.args.image.now in
     let P : Option Layout → Type 0 = λ o. (o ≡ None → (layout : Layout) → ¬ HasLayout image layout) → IfErr (ok_or o (Construct 1 image.ip)) (IsRefusal image) in
-    let both : (o : Option Layout) → P o = λ o. elim o as P [ Some layout ↦ λ none. tt | None ↦ λ none. lacks_layout (record { entry = refl; none = none refl }) ] in
+    let both : (o : Option Layout) → P o = λ o. elim o as P [ Some layout ↦ λ none. tt | None ↦ λ none. (refl, record { entry = refl; none = none refl }) ] in
     subst (λ r. IfErr r (IsRefusal image)) (sym c.ok_or.ensures.value) (both c.layout_after.result c.layout_after.ensures.none)
 
 pub returns-clause-lays_out : goal.returns-clause-lays_out
