@@ -25,7 +25,7 @@ pub head_small : {at : ℕ} {token : Token} {tokens : List Placed} → AreSmall 
 head_small (small_token first others) = first
 
 -- the greatest value of so many hexadecimal digits after a value
-abbrev greatest : ℕ → ℕ → ℕ
+abbrev pub greatest : ℕ → ℕ → ℕ
 greatest zero n = n
 greatest (suc k) n = greatest k (16 * n + 15)
 
@@ -38,7 +38,7 @@ greatest-from zero n = omega arith
 greatest-from (suc k) n = let more = greatest-from k (16 * n + 15) in omega arith
 
 -- digits after a value are at most so many
-hex_fits : (digits : List ℕ) (room n : ℕ) → list_all (λ b. nat_le (hex_value b) 15) digits ≡ true → length digits ≤ room → hex_from n digits ≤ greatest room n
+pub hex_fits : (digits : List ℕ) (room n : ℕ) → list_all (λ b. nat_le (hex_value b) 15) digits ≡ true → length digits ≤ room → hex_from n digits ≤ greatest room n
 hex_fits [] room n good few = greatest-from room n
 hex_fits (b ∷ digits) zero n good few = absurd (omega (arith, few))
 hex_fits (b ∷ digits) (suc room) n good few =

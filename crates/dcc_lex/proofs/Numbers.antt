@@ -1,5 +1,5 @@
 -- The values of digits, and that digits without a needless zero are what is written of their value.
-use Rattle.std.proofs.Common.{◌≡◌, ℕ, zero, suc, ◌+◌, ◌-◌, ◌*◌, ◌≤◌, ◌<◌, Bool, true, false, ◌&&◌, ◌==◌, cond, List, [], ◌∷◌, length, get_or, drop, Option, Some, None, refl, sym, ap, subst, ◌∙◌, arith, ⊎_elim}
+use Rattle.std.proofs.Common.{◌≡◌, ℕ, ◌+◌, ◌-◌, ◌*◌, ◌≤◌, ◌<◌, Bool, true, false, ◌&&◌, ◌==◌, cond, List, [], ◌∷◌, length, get_or, drop, Option, Some, None, refl, sym, ap, subst, ◌∙◌, arith, ⊎_elim}
 use Rattle.std.specs.Prelude.{nat_le, not, option_map}
 use Rattle.std.specs.List.{list_all, take_while}
 use Rattle.std.specs.Fmt.{decimal}
@@ -7,6 +7,7 @@ use Rattle.std.proofs.lemmas.Bool.{and_parts, and_from, and_right, or_left, or_r
 use Rattle.std.proofs.lemmas.Str.Parse.{IsDigitsTest, FoldsDigits, IsNumeralModel, numerals_by_fold, digits_value_short}
 use Rattle.std.proofs.lemmas.Fmt.{decimal-digits_value, decimal_nonempty, decimal_digit, first_decimal, length-decimal-le}
 use Rattle.dcc_c.specs.Token.{Token, Decimal, is_digit, hex_value, hex_from, same_bytes}
+use Rattle.dcc_c.proofs.SmallTokens.{hex_fits}
 use Rattle.dcc_c.specs.Pieces.{decimal_from, is_hex_digit, decimal_of, suffix_of, after_while}
 use Rattle.std.proofs.lemmas.List.{at_drop_more}
 use Rattle.dcc_c.proofs.NameLaws.{same_bytes-equal}
@@ -116,29 +117,6 @@ short_few digits short = (short_parts digits short).1
 pub hex_from-le : (n : ℕ) (digits : List ℕ) → n ≤ hex_from n digits
 hex_from-le n [] = omega arith
 hex_from-le n (b ∷ bytes) = let more = hex_from-le (16 * n + hex_value b) bytes in omega arith
-
--- the greatest value of so many digits after a value
-abbrev greatest : ℕ → ℕ → ℕ
-greatest zero n = n
-greatest (suc k) n = greatest k (16 * n + 15)
-
-greatest-le : (k : ℕ) {n m : ℕ} → n ≤ m → greatest k n ≤ greatest k m
-greatest-le zero below = below
-greatest-le (suc k) below = greatest-le k (omega arith)
-
-greatest-from : (k n : ℕ) → n ≤ greatest k n
-greatest-from zero n = omega arith
-greatest-from (suc k) n = let more = greatest-from k (16 * n + 15) in omega arith
-
-hex_fits : (digits : List ℕ) (room n : ℕ) → list_all is_hex_digit digits ≡ true → length digits ≤ room → hex_from n digits ≤ greatest room n
-hex_fits [] room n are few = greatest-from room n
-hex_fits (b ∷ digits) zero n are few = absurd (omega (arith, few))
-hex_fits (b ∷ digits) (suc room) n are few =
-    let (first, others) = and_parts (is_hex_digit b) (list_all is_hex_digit digits) are in
-    let digit : hex_value b ≤ 15 = leb-true (hex_value b) 15 first in
-    let more : hex_from (16 * n + hex_value b) digits ≤ greatest room (16 * n + hex_value b) = hex_fits digits room (16 * n + hex_value b) others (omega arith) in
-    let grows : greatest room (16 * n + hex_value b) ≤ greatest room (16 * n + 15) = greatest-le room (omega arith) in
-    omega arith
 
 -- eight digits have 32 bits
 pub hex_small : (digits : List ℕ) → list_all is_hex_digit digits ≡ true → length digits ≤ 8 → hex_from 0 digits ≤ 4294967295

@@ -9,12 +9,13 @@ use Rattle.dcc_c.specs.Tree.{Function}
 use Rattle.dcc_c.specs.Pieces.{Piece}
 use Rattle.dcc_c.specs.Grammar.{mark, word, is_name, type_tokens, Begins, HasResult, no_result, result, AreParams, IsFunction, AreFunctions, last_function, more_functions, outermost, AreLines}
 use Rattle.dcc_c.specs.Rules.{most_open}
-use Rattle.dcc_c.specs.Partial.{PartialFunction}
+use Rattle.dcc_c.specs.Token.{Mark}
+use Rattle.dcc_c.specs.Partial.{PartialVariable, PartialFunction}
 use Rattle.dcc_c.specs.Reading.{Reader, Got, got, is_stopped, next_token, skip, sees_word, take_mark, take_name, take_type, begins_type}
-use Rattle.dcc_c.specs.ReadingStatements.{read_lines, read_locals, read_params}
+use Rattle.dcc_c.specs.ReadingStatements.{Block, read_lines, read_locals, read_params}
 use Rattle.dcc_c.specs.ReadingText.{Begun, begun_by, read_begun, with_first_depth, read_function, read_functions}
 use Rattle.dcc_c.specs.Stripped.{plain_name, plain_type, plain_function}
-use Rattle.dcc_c.proofs.reading.Passing.{tokens_of, are_tokens, if-cases, sees_word-took, take_mark-took}
+use Rattle.dcc_c.proofs.reading.Passing.{tokens_of, are_tokens, Took, if-cases, sees_word-took, take_mark-took}
 use Rattle.dcc_c.proofs.reading.Words.{type-sound}
 use Rattle.dcc_c.proofs.reading.Statements.{IsEnough, is_shallow}
 use Rattle.dcc_c.proofs.reading.Stopping.{GoesOn}
@@ -22,7 +23,7 @@ use Rattle.dcc_c.proofs.reading.StmtStopping.{keeps_stmts}
 use Rattle.dcc_c.proofs.reading.Steps.{Steps, then_steps, token_steps, opening_steps, closing_steps, with_depth, TookName, name-sound}
 use Rattle.dcc_c.proofs.reading.LineSound.{begins_here}
 use Rattle.dcc_c.proofs.reading.StmtRules.{sound_stmts}
-use Rattle.dcc_c.proofs.reading.DeclSound.{type_steps, locals-sound, params-sound}
+use Rattle.dcc_c.proofs.reading.DeclSound.{ReadsLocals, ReadsParams, type_steps, locals-sound, params-sound}
 
 -- Beginnings.
 
@@ -73,6 +74,48 @@ begun-sound r =
 
 -- Functions.
 
+-- The parts of a function, as they are read after its name.
+module _ (calls : ℕ) (begun : Got Begun) where
+  abbrev pub params_from : Reader
+  params_from = take_mark (codes "(") begun.following
+
+  abbrev pub params_read : Got (List PartialVariable)
+  params_read = read_params calls params_from
+
+  abbrev pub head_end : Reader
+  head_end = with_first_depth (take_mark (codes ")") params_read.following)
+
+  abbrev pub locals_from : Reader
+  locals_from = take_mark (codes "{") head_end
+
+  abbrev pub locals_read : Got (List PartialVariable)
+  locals_read = read_locals calls locals_from
+
+  abbrev pub body_read : Got Block
+  body_read = read_lines calls outermost false false locals_read.following
+
+  abbrev pub function_end : Reader
+  function_end = take_mark (codes "}") body_read.following
+
+  -- where its end is passed, so are its marks and its parts
+  pub record PassesFunction : Type 0 where
+    pub last : Took (Mark (codes "}")) body_read.following function_end
+    pub locals : ReadsLocals locals_from locals_read
+    pub opened : Took (Mark (codes "{")) head_end locals_from
+    pub closed : Took (Mark (codes ")")) params_read.following (take_mark (codes ")") params_read.following)
+    pub params : ReadsParams params_from params_read
+    pub open_mark : Took (Mark (codes "(")) begun.following params_from
+
+  pub passes-function : function_end.stop ≡ None → PassesFunction
+  passes-function going =
+      let last = take_mark-took (codes "}") body_read.following going in
+      let locals = locals-sound calls locals_from ((keeps_stmts calls).lines outermost false false locals_read.following last.passed.going) in
+      let opened = take_mark-took (codes "{") head_end locals.steps.passed.going in
+      let closed = take_mark-took (codes ")") params_read.following opened.passed.going in
+      let params = params-sound calls params_from closed.passed.going in
+      let open_mark = take_mark-took (codes "(") begun.following params.steps.passed.going in
+      record { last = last; locals = locals; opened = opened; closed = closed; params = params; open_mark = open_mark }
+
 -- The reader passed a function.
 pub record ReadsFunction (r : Reader) (g : Got PartialFunction) : Type 0 where
   pub steps : Steps 0 0 r g.following
@@ -83,43 +126,39 @@ pub record ReadsFunction (r : Reader) (g : Got PartialFunction) : Type 0 where
 pub function-sound : (calls : ℕ) (r : Reader) (begun : Got Begun) → (begun.following.stop ≡ None → ReadsBegun r begun) → IsEnough calls 0 r.left →
     (read_function calls begun).following.stop ≡ None → ReadsFunction r (read_function calls begun)
 function-sound calls r begun begins enough going =
-    let inside = take_mark (codes "(") begun.following in
-    let params = read_params calls inside in
-    let end = take_mark (codes ")") params.following in
-    let brace = take_mark (codes "{") (with_first_depth end) in
-    let locals = read_locals calls brace in
-    let body = read_lines calls outermost false false locals.following in
-    let last = take_mark-took (codes "}") body.following going in
-    let placed_locals = locals-sound calls brace ((keeps_stmts calls).lines outermost false false locals.following last.passed.going) in
-    let opened = take_mark-took (codes "{") (with_first_depth end) placed_locals.steps.passed.going in
-    let closed = take_mark-took (codes ")") params.following opened.passed.going in
-    let given = params-sound calls inside closed.passed.going in
-    let open_mark = take_mark-took (codes "(") begun.following given.steps.passed.going in
-    let head = begins open_mark.passed.going in
-    let before : length locals.following.left < length r.left = omega (arith, head.shorter, open_mark.one_less, given.steps.passed.fewer, closed.one_less, opened.one_less, placed_locals.steps.passed.fewer) in
-    let lines = (sound_stmts calls).lines outermost false false locals.following (omega arith) last.passed.going in
-    let first_depth : locals.following.depth ≡ 2 = placed_locals.steady ∙ opened.steady in
-    let inner : Steps 0 0 (with_first_depth end) (take_mark (codes "}") body.following) = then_steps (token_steps 0 refl opened) (then_steps placed_locals.steps (then_steps lines.steps (token_steps 0 refl last))) in
-    let outer : Steps 0 0 r (with_first_depth end) = with_depth 2 (then_steps head.steps (then_steps (opening_steps 0 open_mark) (then_steps given.steps (closing_steps 0 (omega arith) closed)))) in
+    let passed = passes-function calls begun going in
+    let opened = passed.opened in
+    let closed = passed.closed in
+    let brace = locals_from calls begun in
+    let locals = locals_read calls begun in
+    let body = body_read calls begun in
+    let end = function_end calls begun in
+    let head = begins passed.open_mark.passed.going in
+    let before : length locals.following.left < length r.left = omega (arith, head.shorter, passed.open_mark.one_less, passed.params.steps.passed.fewer, closed.one_less, opened.one_less, passed.locals.steps.passed.fewer) in
+    let lines = (sound_stmts calls).lines outermost false false locals.following (omega arith) passed.last.passed.going in
+    let first_depth : locals.following.depth ≡ 2 = passed.locals.steady ∙ opened.steady in
+    let inner : Steps 0 0 (head_end calls begun) end = then_steps (token_steps 0 refl opened) (then_steps passed.locals.steps (then_steps lines.steps (token_steps 0 refl passed.last))) in
+    let outer : Steps 0 0 r (head_end calls begun) = with_depth 2 (then_steps head.steps (then_steps (opening_steps 0 passed.open_mark) (then_steps passed.params.steps (closing_steps 0 (omega arith) closed)))) in
     let f = plain_function (read_function calls begun).value in
     record {
       steps = then_steps outer inner;
-      shorter = omega (arith, lines.steps.passed.fewer, last.one_less);
+      shorter = omega (arith, lines.steps.passed.fewer, passed.last.one_less);
       derived = record {
         name_at = head.name_at;
-        open_at = open_mark.line;
+        open_at = passed.open_mark.line;
         close_at = closed.line;
         brace_at = opened.line;
         depth = body.following.depth;
-        params = tokens_of inside.left;
+        params = tokens_of (params_from calls begun).left;
         locals = tokens_of brace.left;
         body = tokens_of locals.following.left;
-        result_is = subst (λ ts. HasResult (tokens_of r.left) f.result (word head.name_at f.name ∷ ts)) open_mark.begins head.result_is;
+        result_is = subst (λ ts. HasResult (tokens_of r.left) f.result (word head.name_at f.name ∷ ts)) passed.open_mark.begins head.result_is;
         name_is = head.good;
-        params_are = subst (λ ts. AreParams (tokens_of inside.left) f.params ts) (closed.begins ∙ ap (λ ts. mark closed.line (codes ")") ∷ ts) opened.begins) given.derived;
-        locals_are = placed_locals.derived;
-        body_is = subst (λ d. AreLines 200 outermost false d (tokens_of locals.following.left) f.body body.following.depth (mark f.last (codes "}") ∷ tokens_of (take_mark (codes "}") body.following).left)) first_depth
-            (subst (λ ts. AreLines 200 outermost false locals.following.depth (tokens_of locals.following.left) f.body body.following.depth ts) (begins_here last) lines.derived);
+        params_are =
+            subst (λ ts. AreParams (tokens_of (params_from calls begun).left) f.params ts) (closed.begins ∙ ap (λ ts. mark closed.line (codes ")") ∷ ts) opened.begins) passed.params.derived;
+        locals_are = passed.locals.derived;
+        body_is = subst (λ d. AreLines 200 outermost false d (tokens_of locals.following.left) f.body body.following.depth (mark f.last (codes "}") ∷ tokens_of end.left)) first_depth
+            (subst (λ ts. AreLines 200 outermost false locals.following.depth (tokens_of locals.following.left) f.body body.following.depth ts) (begins_here passed.last) lines.derived);
       };
       shallow = lines.shallow;
     }
@@ -135,18 +174,7 @@ pub record ReadsRest (r : Reader) (g : Got (List PartialFunction)) : Type 0 wher
   pub ends : g.following.left ≡ []
 
 pub function-keeps : (calls : ℕ) (begun : Got Begun) → GoesOn begun.following (read_function calls begun).following
-function-keeps calls begun going =
-    let inside = take_mark (codes "(") begun.following in
-    let params = read_params calls inside in
-    let end = take_mark (codes ")") params.following in
-    let brace = take_mark (codes "{") (with_first_depth end) in
-    let locals = read_locals calls brace in
-    let body = read_lines calls outermost false false locals.following in
-    let last = take_mark-took (codes "}") body.following going in
-    let placed_locals = locals-sound calls brace ((keeps_stmts calls).lines outermost false false locals.following last.passed.going) in
-    let opened = take_mark-took (codes "{") (with_first_depth end) placed_locals.steps.passed.going in
-    let closed = take_mark-took (codes ")") params.following opened.passed.going in
-    (take_mark-took (codes "(") begun.following (params-sound calls inside closed.passed.going).steps.passed.going).passed.going
+function-keeps calls begun going = (passes-function calls begun going).open_mark.passed.going
 
 pub functions-keep : (calls : ℕ) (r : Reader) → GoesOn r (read_functions calls r).following
 functions-keep zero r = λ going. going

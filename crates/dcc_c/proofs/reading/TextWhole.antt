@@ -9,16 +9,15 @@ use Rattle.dcc_c.specs.Pieces.{Piece}
 use Rattle.dcc_c.specs.Grammar.{outermost}
 use Rattle.dcc_c.specs.Partial.{PartialVariable, PartialFunction, PartialText}
 use Rattle.dcc_c.specs.Reading.{Reader, Got, is_stopped, line_of, skip, sees_mark, take_mark}
-use Rattle.dcc_c.specs.ReadingStatements.{sees_head, take_head, take_number_of_line, read_lines, read_locals, read_params}
-use Rattle.dcc_c.specs.ReadingText.{Begun, read_begun, with_first_depth, read_function, read_functions, with_functions, read_global, size_in_bytes, address_of, Declared, declared, before_declared, read_declared, read_text, reader_of, enough_calls, reading_of}
+use Rattle.dcc_c.specs.ReadingStatements.{sees_head, take_head, take_number_of_line}
+use Rattle.dcc_c.specs.ReadingText.{Begun, read_begun, read_function, read_functions, with_functions, read_global, size_in_bytes, address_of, Declared, declared, before_declared, read_declared, read_text, reader_of, enough_calls, reading_of}
 use Rattle.dcc_c.specs.Stripped.{plain_function}
 use Rattle.dcc_c.specs.Complete.{is_complete_variable, is_complete_function, is_complete_text, agree}
-use Rattle.dcc_c.proofs.reading.Passing.{if-cases, take_mark-took}
+use Rattle.dcc_c.proofs.reading.Passing.{if-cases}
 use Rattle.dcc_c.proofs.reading.Statements.{IsEnough, is_shallow}
-use Rattle.dcc_c.proofs.reading.StmtStopping.{keeps_stmts, mark-keeps}
+use Rattle.dcc_c.proofs.reading.StmtStopping.{keeps_stmts}
 use Rattle.dcc_c.proofs.reading.Steps.{number-sound, head-sound, sees_head-took}
-use Rattle.dcc_c.proofs.reading.DeclSound.{locals-sound, params-sound}
-use Rattle.dcc_c.proofs.reading.TextSound.{ReadsBegun, begun-sound, function-sound, functions-keep}
+use Rattle.dcc_c.proofs.reading.TextSound.{ReadsBegun, begun-sound, params_from, params_read, locals_from, locals_read, passes-function, function-sound, functions-keep}
 use Rattle.dcc_c.proofs.reading.UnitSound.{here_declared, declared-keeps, global-sound, sound_text}
 use Rattle.dcc_c.proofs.reading.SimpleWhole.{going-done}
 use Rattle.dcc_c.proofs.reading.BlockWhole.{AreEntire, entire_stmts}
@@ -36,25 +35,16 @@ function-whole f named opened headed typed empty params locals body =
 function-entire : (calls : ℕ) (r : Reader) (begun : Got Begun) → (begun.following.stop ≡ None → ReadsBegun r begun) → (begun.following.stop ≡ None → EntireBegun begun.value) → IsEnough calls 0 r.left →
     (read_function calls begun).following.stop ≡ None → is_complete_function (read_function calls begun).value ≡ true
 function-entire calls r begun begins there enough going =
-    let inside = take_mark (codes "(") begun.following in
-    let params = read_params calls inside in
-    let end = take_mark (codes ")") params.following in
-    let brace = take_mark (codes "{") (with_first_depth end) in
-    let locals = read_locals calls brace in
-    let body = read_lines calls outermost false false locals.following in
-    let ended = mark-keeps (codes "}") body.following going in
-    let located = (keeps_stmts calls).lines outermost false false locals.following ended in
-    let placed_locals = locals-sound calls brace located in
-    let opened = take_mark-took (codes "{") (with_first_depth end) placed_locals.steps.passed.going in
-    let closed = take_mark-took (codes ")") params.following opened.passed.going in
-    let given = params-sound calls inside closed.passed.going in
-    let open_mark = take_mark-took (codes "(") begun.following given.steps.passed.going in
-    let head = begins open_mark.passed.going in
-    let begin = there open_mark.passed.going in
-    let lines = (entire_stmts calls).lines outermost false false locals.following (omega (arith, head.shorter, open_mark.one_less, given.steps.passed.fewer, closed.one_less, opened.one_less, placed_locals.steps.passed.fewer)) ended in
-    let place : is_some (if is_stopped inside then None else Some inside.at) ≡ true = ap (λ stop. is_some (if is_some stop then None else Some inside.at)) given.steps.passed.going in
-    function-whole (read_function calls begun).value begin.named place (going-done end opened.passed.going) begin.typed (params-agree calls inside)
-    (params-entire calls inside closed.passed.going) (locals-entire calls brace located) lines
+    let passed = passes-function calls begun going in
+    let inside = params_from calls begun in
+    let following = (locals_read calls begun).following in
+    let head = begins passed.open_mark.passed.going in
+    let begin = there passed.open_mark.passed.going in
+    let lines = (entire_stmts calls).lines outermost false false following (omega (arith, head.shorter, passed.open_mark.one_less, passed.params.steps.passed.fewer, passed.closed.one_less, passed.opened.one_less, passed.locals.steps.passed.fewer)) passed.last.passed.going in
+    let located = (keeps_stmts calls).lines outermost false false following passed.last.passed.going in
+    let place : is_some (if is_stopped inside then None else Some inside.at) ≡ true = ap (λ stop. is_some (if is_some stop then None else Some inside.at)) passed.params.steps.passed.going in
+    function-whole (read_function calls begun).value begin.named place (going-done (take_mark (codes ")") (params_read calls begun).following) passed.opened.passed.going) begin.typed (params-agree calls inside)
+    (params-entire calls inside passed.closed.passed.going) (locals-entire calls (locals_from calls begun) located) lines
 
 abbrev EntireFunctions : Got (List PartialFunction) → Type 0
 EntireFunctions g = g.following.stop ≡ None → list_all is_complete_function g.value ≡ true
