@@ -3,8 +3,10 @@ use Rattle.std.proofs.Common.{◌≡◌, ℕ, Bool, true, false, ◌||◌, List,
 use Rattle.std.specs.Prelude.{if◌then◌else◌}
 use Rattle.std.specs.List.{list_any}
 use Rattle.dcc_run.specs.End.{is_over}
+use Rattle.dcc_run.proofs.PrefixLaws.{prefix_refl, prefix_trans}
 use Rattle.dcc_ir.specs.Tree.{Stmt, Call, Graph}
 use Rattle.dcc_ir.specs.Run.{State, stmt_step, execute, is_call, block_step}
+use Rattle.dcc_ir.proofs.StepLaws.{Within, stmt-within}
 
 -- nothing is executed where the run is over
 pub execute_over : (stmts : List Stmt) (s : State) → is_over s.end ≡ true → execute stmts s ≡ s
@@ -24,6 +26,27 @@ execute-append (stmt ∷ stmts) more s = go (is_over s.end) refl (execute-append
         (if b then s else execute (stmts ++ more) (stmt_step stmt s)) ≡ execute more (if b then s else execute stmts (stmt_step stmt s))
     go true over later = sym (execute_over more s over)
     go false on later = later
+
+within_refl : (s : State) → Within s s
+within_refl s = record { graph = refl; block = refl; begins = refl; rest = refl; base = refl; waiting = refl; events = prefix_refl s.events }
+
+within_trans : {s t u : State} → Within s t → Within t u → Within s u
+within_trans h k = record {
+  graph = k.graph ∙ h.graph;
+  block = k.block ∙ h.block;
+  begins = k.begins ∙ h.begins;
+  rest = k.rest ∙ h.rest;
+  base = k.base ∙ h.base;
+  waiting = k.waiting ∙ h.waiting;
+  events = prefix_trans h.events k.events;
+}
+
+-- statements stay in their block
+pub execute-within : (stmts : List Stmt) (s : State) → Within s (execute stmts s)
+execute-within [] s = within_refl s
+execute-within (stmt ∷ stmts) s =
+    let later = within_trans (stmt-within stmt s) (execute-within stmts (stmt_step stmt s)) in
+    elim (is_over s.end) as (λ b. Within s (if b then s else execute stmts (stmt_step stmt s))) [ true ↦ within_refl s | false ↦ later ]
 
 or_left : (a b : Bool) → (a || b) ≡ false → a ≡ false
 or_left true b e = e
@@ -51,7 +74,9 @@ block-executed graphs fill (stmt ∷ stmts) rest s none on =
     ends : State → State
     ends t = if is_over t.end then t else block_step graphs fill rest t
 
-    go : (b : Bool) → is_over (stmt_step stmt s).end ≡ b → (is_over (stmt_step stmt s).end ≡ false → block_step graphs fill (stmts ++ rest) (stmt_step stmt s) ≡ ends (execute stmts (stmt_step stmt s))) →
+    go : (b : Bool) → is_over (stmt_step stmt s).end ≡ b → (is_over (stmt_step stmt s).end ≡ false → block_step graphs fill (stmts ++ rest) (stmt_step stmt s) ≡ ends
+        (execute stmts (stmt_step stmt s))) →
         (if b then stmt_step stmt s else block_step graphs fill (stmts ++ rest) (stmt_step stmt s)) ≡ ends (execute stmts (stmt_step stmt s))
-    go true over later = sym (ap ends (execute_over stmts (stmt_step stmt s) over) ∙ ap (λ b. if b then stmt_step stmt s else block_step graphs fill rest (stmt_step stmt s)) over)
+    go true over later =
+        sym (ap ends (execute_over stmts (stmt_step stmt s) over) ∙ ap (λ b. if b then stmt_step stmt s else block_step graphs fill rest (stmt_step stmt s)) over)
     go false on later = later on

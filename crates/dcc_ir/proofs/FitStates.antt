@@ -132,7 +132,8 @@ set-fit : (location : Loc) (e : Expr) (s : State) → is_stmt s.running.graph.bi
 set-fit location e s ok h =
     setting-fit location (value_in s e) s (value-of s (location_width s.running.graph.bits location) e h (both (is_location s.running.graph.bits location) _ ok).1) h
 
-fetch-fit : (location : Loc) (width : ℕ) (address : Expr) (s : State) → is_stmt s.running.graph.bits (Fetch location width address) ≡ true → IsFit s → IsFit (stmt_step (Fetch location width address) s)
+fetch-fit : (location : Loc) (width : ℕ) (address : Expr) (s : State) → is_stmt s.running.graph.bits (Fetch location width address) ≡ true → IsFit s →
+    IsFit (stmt_step (Fetch location width address) s)
 fetch-fit location width address s ok h =
     let bits = s.running.graph.bits in
     let three = both (is_location bits location && is_stored_width width && (location_width bits location == width)) (is_expr_of bits 16 address) ok in
@@ -154,7 +155,8 @@ dividing-fit : (location : Loc) (o : Option ℕ) (s : State) → ((n : ℕ) → 
 dividing-fit location (Some n) s small h = setting-fit location n s (small n refl) h
 dividing-fit location None s small h = record { values = h.values; memory = h.memory; console = h.console }
 
-div-fit : (location : Loc) (e : Expr) (s : State) → is_dividing s.running.graph.bits (location_width s.running.graph.bits location) e ≡ true → IsFit s → IsFit (dividing location (division_of (scene_of s) e) s)
+div-fit : (location : Loc) (e : Expr) (s : State) → is_dividing s.running.graph.bits (location_width s.running.graph.bits location) e ≡ true → IsFit s →
+    IsFit (dividing location (division_of (scene_of s) e) s)
 div-fit location (Binary operator w a b) s ok h =
     let bits = s.running.graph.bits in
     let width = location_width bits location in
@@ -209,7 +211,8 @@ dos-place bits number None argument ok = refl
 dos-place bits number (Some location) None ok = (both (number == 0x01 || number == 0x08) (is_byte_place bits (Some location)) ok).1
 dos-place bits number (Some location) (Some e) ok = absurd (true≢false (sym ok))
 
-dos-byte : (s : State) (number : ℕ) (place : Option Loc) (argument : Option Expr) → is_dos s.running.graph.bits number place argument ≡ true → IsFit s → number ≡ 0x02 → argument_in s argument < 256
+dos-byte : (s : State) (number : ℕ) (place : Option Loc) (argument : Option Expr) → is_dos s.running.graph.bits number place argument ≡ true → IsFit s → number ≡ 0x02
+    → argument_in s argument < 256
 dos-byte s number place None ok h e = lit< tt
 dos-byte s number (Some location) (Some a) ok h e = absurd (true≢false (sym ok))
 dos-byte s number None (Some a) ok h e =
@@ -226,7 +229,8 @@ fit_if : (b : Bool) (t u : State) → (b ≡ true → IsFit t) → IsFit u → I
 fit_if true t u h k = h refl
 fit_if false t u h k = k
 
-dos-fit : (number : ℕ) (place : Option Loc) (argument : Option Expr) (s : State) → is_dos s.running.graph.bits number place argument ≡ true → IsFit s → IsFit (dos_step number place (argument_in s argument) s)
+dos-fit : (number : ℕ) (place : Option Loc) (argument : Option Expr) (s : State) → is_dos s.running.graph.bits number place argument ≡ true → IsFit s →
+    IsFit (dos_step number place (argument_in s argument) s)
 dos-fit number place argument s ok h =
     let n = argument_in s argument in
     let at = dos-place s.running.graph.bits number place argument ok in

@@ -81,15 +81,18 @@ any_entry entry (g ∷ graphs) callee e = go (g.entry == entry) refl (any_entry 
     go true same later o = let e : entry ≡ g.entry = sym (eqb-true g.entry entry same) in ap (λ b. b || list_any (λ m. entry == m) (map (λ x. x.entry) graphs)) (eq-eqb entry g.entry e)
     go false other later o = or_later (entry == g.entry) (list_any (λ m. entry == m) (map (λ x. x.entry) graphs)) (later o)
 
-pub named_again : (graphs : List Graph) (entry : ℕ) (callee : Graph) → all_differ (map (λ g. g.entry) graphs) ≡ true → graph_at (drop 1 graphs) entry ≡ Some callee → graph_at graphs entry ≡ Some callee
+pub named_again : (graphs : List Graph) (entry : ℕ) (callee : Graph) → all_differ (map (λ g. g.entry) graphs) ≡ true → graph_at (drop 1 graphs) entry ≡ Some callee
+    → graph_at graphs entry ≡ Some callee
 named_again [] entry callee differ e = e
 named_again (g ∷ graphs) entry callee differ e = go (g.entry == entry) refl
   where
     go : (b : Bool) → (g.entry == entry) ≡ b → cond b (Some g) (graph_at graphs entry) ≡ Some callee
     go false other = e
     go true same =
-        let there : list_any (λ m. g.entry == m) (map (λ x. x.entry) graphs) ≡ true = any_entry g.entry graphs callee (subst (λ n. graph_at graphs n ≡ Some callee) (sym (eqb-true g.entry entry same)) e) in
-        let none : not (list_any (λ m. g.entry == m) (map (λ x. x.entry) graphs)) ≡ true = (both (not (list_any (λ m. g.entry == m) (map (λ x. x.entry) graphs))) (all_differ (map (λ x. x.entry) graphs)) differ).0 in
+        let there : list_any (λ m. g.entry == m) (map (λ x. x.entry) graphs) ≡ true =
+        any_entry g.entry graphs callee (subst (λ n. graph_at graphs n ≡ Some callee) (sym (eqb-true g.entry entry same)) e) in
+        let none : not (list_any (λ m. g.entry == m) (map (λ x. x.entry) graphs)) ≡ true =
+        (both (not (list_any (λ m. g.entry == m) (map (λ x. x.entry) graphs))) (all_differ (map (λ x. x.entry) graphs)) differ).0 in
         absurd (true≢false (sym none ∙ ap not there))
 
 -- Where a state stands.
@@ -142,7 +145,8 @@ pub record IsWithin (p : Program) (coming : List Stmt) (graph : Graph) (block : 
 abbrev pub IsWithinAt : Program → List Stmt → State → Type 0
 IsWithinAt p stmts s = IsWithin p stmts s.running.graph s.running.block s.waiting
 
-same_within : (p : Program) (stmts : List Stmt) (s t : State) → t.running.graph ≡ s.running.graph → t.running.block ≡ s.running.block → t.waiting ≡ s.waiting → IsWithinAt p stmts s → IsWithinAt p stmts t
+same_within : (p : Program) (stmts : List Stmt) (s t : State) → t.running.graph ≡ s.running.graph → t.running.block ≡ s.running.block → t.waiting ≡ s.waiting → IsWithinAt p stmts s
+    → IsWithinAt p stmts t
 same_within p stmts s t g b w h =
     subst (λ x. IsWithin p stmts x t.running.block t.waiting) (sym g)
     (subst (λ x. IsWithin p stmts s.running.graph x t.waiting) (sym b)
@@ -178,7 +182,8 @@ module _ (p : Program) (well : IsProgram p) where
     stmts = a.stmts;
     calls = a.calls;
     jumps = elim a.whole [
-      | inl e ↦ inl (subst (λ l. jumps_after_call l s.running.block.exit ≡ true) (sym e) (All-contains (λ b. jumps_after_call b.stmts b.exit ≡ true) s.running.graph.blocks s.running.block (graph_of s.running.graph a.known).jumps a.stands))
+      | inl e ↦ inl (subst (λ l. jumps_after_call l s.running.block.exit ≡ true) (sym e)
+          (All-contains (λ b. jumps_after_call b.stmts b.exit ≡ true) s.running.graph.blocks s.running.block (graph_of s.running.graph a.known).jumps a.stands))
       | inr j ↦ inr j
     ];
     callers = h.callers;
@@ -254,13 +259,16 @@ module _ (p : Program) (well : IsProgram p) where
       giving-good s results es (setting location (value_in s e) t) fit first.1 later a (setting-safe location (value_in s e) t (subst (λ k. value_in s e < 2 ^ k) width small) h)
 
   returning-good : (s : State) (es : List Expr) (waiting : List Waiting) → IsFit s → list_all (is_expr s.running.graph.bits) es ≡ true
-      → Contains s.running.graph.blocks s.running.block → s.running.block.exit ≡ Ret es → waiting ≡ s.waiting → AreCallers p s.running.graph waiting → IsGood p (returning (map (value_in s) es) waiting s)
+      → Contains s.running.graph.blocks s.running.block → s.running.block.exit ≡ Ret es → waiting ≡ s.waiting → AreCallers p s.running.graph waiting →
+      IsGood p (returning (map (value_in s) es) waiting s)
   returning-good s es [] fit ok b e same callers =
       over-good _ refl (record { fit = record { values = fit.values; memory = fit.memory; console = fit.console }; callers = subst (AreCallers p s.running.graph) same callers })
   returning-good s es (w ∷ waiting) fit ok b e same callers =
       let back : State = record s { running = w.caller; waiting = waiting } in
-      let given = of_flat_at (λ widths. widths ≡ map (location_width w.caller.graph.bits) w.results) (λ x. ret_widths s.running.graph.bits x.exit) s.running.graph.blocks s.running.block b.0 b.1 b.2 callers.0.results in
-      let one : All (λ widths. widths ≡ map (location_width w.caller.graph.bits) w.results) (map (width_of s.running.graph.bits) es ∷ []) = subst (λ x. All (λ widths. widths ≡ map (location_width w.caller.graph.bits) w.results) (ret_widths s.running.graph.bits x)) e given in
+      let given = of_flat_at (λ widths. widths ≡ map (location_width w.caller.graph.bits) w.results)
+      (λ x. ret_widths s.running.graph.bits x.exit) s.running.graph.blocks s.running.block b.0 b.1 b.2 callers.0.results in
+      let one : All (λ widths. widths ≡ map (location_width w.caller.graph.bits) w.results) (map (width_of s.running.graph.bits) es ∷ []) =
+      subst (λ x. All (λ widths. widths ≡ map (location_width w.caller.graph.bits) w.results) (ret_widths s.running.graph.bits x)) e given in
       let widths = All-head (λ l. l ≡ map (location_width w.caller.graph.bits) w.results) (map (width_of s.running.graph.bits) es) [] one in
       giving-good s w.results es back fit ok widths callers.0.active (record { fit = record { values = callers.0.values; memory = fit.memory; console = fit.console }; callers = callers.1 })
 
@@ -275,7 +283,8 @@ module _ (p : Program) (well : IsProgram p) where
       switching-good (Some place) = going-good place s w.known (record { fit = h; callers = w.callers })
       switching-good None = over-good _ refl (record { fit = record { values = h.values; memory = h.memory; console = h.console }; callers = w.callers })
   exit-good (Ret es) s e w h =
-      let ok : list_all (is_expr s.running.graph.bits) es ≡ true = subst (λ x. is_exit s.running.graph.bits (length s.running.graph.blocks) x ≡ true) e (exit_of s.running.graph s.running.block w.known w.stands) in
+      let ok : list_all (is_expr s.running.graph.bits) es ≡ true =
+      subst (λ x. is_exit s.running.graph.bits (length s.running.graph.blocks) x ≡ true) e (exit_of s.running.graph s.running.block w.known w.stands) in
       returning-good s es s.waiting h ok w.stands e refl w.callers
   exit-good Stop s e w h = over-good _ refl (record { fit = record { values = h.values; memory = h.memory; console = h.console }; callers = w.callers })
 
@@ -325,7 +334,8 @@ module _ (p : Program) (well : IsProgram p) where
 
   -- Blocks and steps.
 
-  jumps_later : (stmt : Stmt) (rest : List Stmt) (exit : Exit) → is_call stmt ≡ false → (jumps_after_call (stmt ∷ rest) exit ≡ true) ⊎ (is_jump exit ≡ true) → (jumps_after_call rest exit ≡ true) ⊎ (is_jump exit ≡ true)
+  jumps_later : (stmt : Stmt) (rest : List Stmt) (exit : Exit) → is_call stmt ≡ false → (jumps_after_call (stmt ∷ rest) exit ≡ true) ⊎ (is_jump exit ≡ true) →
+      (jumps_after_call rest exit ≡ true) ⊎ (is_jump exit ≡ true)
   jumps_later stmt rest exit none (inr j) = inr j
   jumps_later stmt rest exit none (inl j) = inl (sym (ap (λ b. if b then not (list_any is_call rest) && is_jump exit else jumps_after_call rest exit) none) ∙ j)
 
@@ -384,12 +394,14 @@ module _ (p : Program) (well : IsProgram p) where
 
   first_byte-is : (fill at : ℕ) → first_byte fill at < 256
   unfolding first_byte
-  first_byte-is fill at = elim (nat_le p.lo at && nat_lt at p.hi) as (λ b. (if b then fill % 256 else slice_index p.image at) < 256) [ true ↦ mod_below fill 256 (lit< tt) | false ↦ bytes_everywhere p.image well.image at ]
+  first_byte-is fill at = elim (nat_le p.lo at && nat_lt at p.hi) as
+      (λ b. (if b then fill % 256 else slice_index p.image at) < 256) [ true ↦ mod_below fill 256 (lit< tt) | false ↦ bytes_everywhere p.image well.image at ]
 
   first_memory-is : (fill : ℕ) → IsMemory (first_memory p fill)
   unfolding first_memory first_byte
   first_memory-is fill =
-      let all : AreBytes (map (first_byte fill) (range_with_len 0 65536)) = All-map (λ n. n < 256) (first_byte fill) (range_with_len 0 65536) (λ k d less. first_byte-is fill (slice_index_or (range_with_len 0 65536) k d)) in
+      let all : AreBytes (map (first_byte fill) (range_with_len 0 65536)) =
+      All-map (λ n. n < 256) (first_byte fill) (range_with_len 0 65536) (λ k d less. first_byte-is fill (slice_index_or (range_with_len 0 65536) k d)) in
       record { len = length-map-range_with_len (first_byte fill) 0 65536; bytes = bytes_everywhere (map (first_byte fill) (range_with_len 0 65536)) all }
 
   first_contained : (graphs : List Graph) → 0 < length graphs → Contains graphs (get_or graphs 0 no_graph) × Contains (take 1 graphs) (get_or graphs 0 no_graph)
@@ -417,7 +429,8 @@ module _ (p : Program) (well : IsProgram p) where
 
   callers-fit : (memory : List ℕ) (graph : Graph) (waiting : List Waiting) → IsMemory memory → AreCallers p graph waiting → All (λ w. Fits (scene_in w.caller memory)) waiting
   callers-fit memory graph [] m h = All-nil (λ w. Fits (scene_in w.caller memory))
-  callers-fit memory graph (w ∷ waiting) m h = All-cons (λ x. Fits (scene_in x.caller memory)) w waiting (record { values = h.0.values; len = m.len; bytes = m.bytes }) (callers-fit memory w.caller.graph waiting m h.1)
+  callers-fit memory graph (w ∷ waiting) m h = All-cons (λ x. Fits (scene_in x.caller memory)) w waiting (record { values = h.0.values; len = m.len; bytes = m.bytes })
+      (callers-fit memory w.caller.graph waiting m h.1)
 
 -- each state that a well-formed program reaches fits its widths
 pub states-fit : (p : Program) → IsProgram p → (fill : ℕ) (input : List ℕ) → AreBytes input → (n : ℕ) → StateFits (reached p fill input n)

@@ -18,6 +18,8 @@ pub record Within (s t : State) : Type 0 where
   pub graph : t.running.graph ≡ s.running.graph
   pub block : t.running.block ≡ s.running.block
   pub begins : t.running.begins ≡ s.running.begins
+  pub rest : t.running.rest ≡ s.running.rest
+  pub base : t.running.base ≡ s.running.base
   pub waiting : t.waiting ≡ s.waiting
   pub events : IsPrefix s.events t.events
 
@@ -26,34 +28,34 @@ within_if true s t u h k = h
 within_if false s t u h k = k
 
 dividing-within : (location : Loc) (n : Option ℕ) (s : State) → Within s (dividing location n s)
-dividing-within location (Some n) s = record { graph = refl; block = refl; begins = refl; waiting = refl; events = prefix_refl s.events }
-dividing-within location None s = record { graph = refl; block = refl; begins = refl; waiting = refl; events = prefix_refl s.events }
+dividing-within location (Some n) s = record { graph = refl; block = refl; begins = refl; rest = refl; base = refl; waiting = refl; events = prefix_refl s.events }
+dividing-within location None s = record { graph = refl; block = refl; begins = refl; rest = refl; base = refl; waiting = refl; events = prefix_refl s.events }
 
 written-within : (bytes : List ℕ) (s : State) → Within s (writing bytes s)
-written-within bytes s = record { graph = refl; block = refl; begins = refl; waiting = refl; events = prefix_append s.events (writes bytes) }
+written-within bytes s = record { graph = refl; block = refl; begins = refl; rest = refl; base = refl; waiting = refl; events = prefix_append s.events (writes bytes) }
 
 stuck-within : (s : State) → Within s (stuck s)
-stuck-within s = record { graph = refl; block = refl; begins = refl; waiting = refl; events = prefix_refl s.events }
+stuck-within s = record { graph = refl; block = refl; begins = refl; rest = refl; base = refl; waiting = refl; events = prefix_refl s.events }
 
 keyed-within : (echo : Bool) (place : Option Loc) (input : List ℕ) (s : State) → Within s (keyed echo place input s)
-keyed-within echo None [] s = record { graph = refl; block = refl; begins = refl; waiting = refl; events = prefix_append s.events _ }
-keyed-within echo (Some location) [] s = record { graph = refl; block = refl; begins = refl; waiting = refl; events = prefix_append s.events _ }
-keyed-within echo None (byte ∷ input) s = record { graph = refl; block = refl; begins = refl; waiting = refl; events = prefix_append s.events _ }
-keyed-within echo (Some location) (byte ∷ input) s = record { graph = refl; block = refl; begins = refl; waiting = refl; events = prefix_append s.events _ }
+keyed-within echo None [] s = record { graph = refl; block = refl; begins = refl; rest = refl; base = refl; waiting = refl; events = prefix_append s.events _ }
+keyed-within echo (Some location) [] s = record { graph = refl; block = refl; begins = refl; rest = refl; base = refl; waiting = refl; events = prefix_append s.events _ }
+keyed-within echo None (byte ∷ input) s = record { graph = refl; block = refl; begins = refl; rest = refl; base = refl; waiting = refl; events = prefix_append s.events _ }
+keyed-within echo (Some location) (byte ∷ input) s = record { graph = refl; block = refl; begins = refl; rest = refl; base = refl; waiting = refl; events = prefix_append s.events _ }
 
 dos-within : (number : ℕ) (place : Option Loc) (n : ℕ) (s : State) → Within s (dos_step number place n s)
 dos-within number place n s =
     within_if (number == 0x02) s _ _ (written-within (n ∷ []) s)
-    (within_if (number == 0x4C) s _ _ (record { graph = refl; block = refl; begins = refl; waiting = refl; events = prefix_refl s.events })
+    (within_if (number == 0x4C) s _ _ (record { graph = refl; block = refl; begins = refl; rest = refl; base = refl; waiting = refl; events = prefix_refl s.events })
     (within_if (number == 0x01) s _ _ (keyed-within true place s.input s)
     (within_if (number == 0x08) s _ _ (keyed-within false place s.input s)
     (within_if (number == 0x09) s _ _ (written-within (dos_string s.memory n) s) (stuck-within s)))))
 
 -- a statement stays in its block
 pub stmt-within : (stmt : Stmt) (s : State) → Within s (stmt_step stmt s)
-stmt-within (Set location e) s = record { graph = refl; block = refl; begins = refl; waiting = refl; events = prefix_refl s.events }
-stmt-within (Fetch location width address) s = record { graph = refl; block = refl; begins = refl; waiting = refl; events = prefix_refl s.events }
-stmt-within (Store width address e) s = record { graph = refl; block = refl; begins = refl; waiting = refl; events = prefix_refl s.events }
+stmt-within (Set location e) s = record { graph = refl; block = refl; begins = refl; rest = refl; base = refl; waiting = refl; events = prefix_refl s.events }
+stmt-within (Fetch location width address) s = record { graph = refl; block = refl; begins = refl; rest = refl; base = refl; waiting = refl; events = prefix_refl s.events }
+stmt-within (Store width address e) s = record { graph = refl; block = refl; begins = refl; rest = refl; base = refl; waiting = refl; events = prefix_refl s.events }
 stmt-within (Div location e) s = dividing-within location (division_of (scene_of s) e) s
 stmt-within (Call results entry arguments depth) s = stuck-within s
 stmt-within (Dos number place argument) s = dos-within number place (argument_in s argument) s

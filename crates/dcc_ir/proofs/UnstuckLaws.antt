@@ -90,7 +90,8 @@ unstuck_if : (test : Bool) (t u : State) → IsNotStuck t → (test ≡ false �
 unstuck_if true t u h k = h
 unstuck_if false t u h k = k refl
 
-dos-unstuck : (number : ℕ) (place : Option Loc) (argument : Option Expr) (s : State) → is_dos s.running.graph.bits number place argument ≡ true → is_over s.end ≡ false → IsNotStuck (dos_step number place (argument_in s argument) s)
+dos-unstuck : (number : ℕ) (place : Option Loc) (argument : Option Expr) (s : State) → is_dos s.running.graph.bits number place argument ≡ true → is_over s.end ≡ false →
+    IsNotStuck (dos_step number place (argument_in s argument) s)
 unfolding IsNotStuck
 dos-unstuck number place argument s ok on =
     let same = goes_on s.end on in
@@ -138,7 +139,8 @@ module _ (p : Program) (well : IsProgram p) (sound : HasSoundEnds p) where
       → AreCallers p s.running.graph waiting → is_over s.end ≡ false → IsNotStuck (returning values waiting s)
   unfolding IsNotStuck
   returning-unstuck values [] s stands ret callers on =
-      let none = All-contains (λ b. is_ret b.exit ≡ false) s.running.graph.blocks s.running.block (All-contains (λ g. All (λ b. is_ret b.exit ≡ false) g.blocks) _ s.running.graph sound.returns callers) stands in
+      let none = All-contains (λ b. is_ret b.exit ≡ false) s.running.graph.blocks s.running.block
+      (All-contains (λ g. All (λ b. is_ret b.exit ≡ false) g.blocks) _ s.running.graph sound.returns callers) stands in
       absurd (true≢false (sym ret ∙ none))
   returning-unstuck values (w ∷ waiting) s stands ret callers on =
       ap is_stuck (giving_end w.results values (record s { running = w.caller; waiting = waiting })) ∙ goes_on s.end on
@@ -221,7 +223,8 @@ module _ (p : Program) (well : IsProgram p) (sound : HasSoundEnds p) where
   left-sound s a = elim a.whole [
     | inl e ↦
         subst (λ l. stops_soundly l s.running.block.exit ≡ true) (sym e)
-        (All-contains (λ b. stops_soundly b.stmts b.exit ≡ true) s.running.graph.blocks s.running.block (All-contains (λ g. All (λ b. stops_soundly b.stmts b.exit ≡ true) g.blocks) p.graphs s.running.graph sound.stops a.known) a.stands)
+        (All-contains (λ b. stops_soundly b.stmts b.exit ≡ true) s.running.graph.blocks s.running.block
+        (All-contains (λ g. All (λ b. stops_soundly b.stmts b.exit ≡ true) g.blocks) p.graphs s.running.graph sound.stops a.known) a.stands)
     | inr j ↦ no_stop s.running.block.exit s.running.rest j
   ]
     where
@@ -249,7 +252,8 @@ module _ (p : Program) (well : IsProgram p) (sound : HasSoundEnds p) where
   all-unstuck fill input small bytes (suc n) =
       let e : suc n ≡ n + 1 = omega arith in
       let last : reached p fill input (suc n) ≡ step p fill (reached p fill input n) = ap (reached p fill input) e ∙ after-add (step p fill) n 1 (first_state p fill input) in
-      ap (λ s. is_stuck s.end) last ∙ step-unstuck fill (reached p fill input n) (reached-good p well fill input bytes n) (sound.switches fill input small bytes n) (all-unstuck fill input small bytes n)
+      ap (λ s. is_stuck s.end) last ∙ step-unstuck fill (reached p fill input n) (reached-good p well fill input bytes n) (sound.switches fill input small bytes n)
+      (all-unstuck fill input small bytes n)
 
 pub never_stuck : (p : Program) → IsProgram p → HasSoundEnds p → (fill : ℕ) (input : List ℕ) → fill < 65536 → AreBytes input → (n : ℕ) → is_stuck (reached p fill input n).end ≡ false
 unfolding IsNotStuck
@@ -261,7 +265,8 @@ no_switch_places p well none fill input small bytes n e places exit no_call on =
     let s = reached p fill input n in
     let running : is_over s.end ≡ false = not_over (is_over s.end) refl in
     let a : IsActive p s.running = (reached-good p well fill input bytes n).active running in
-    let no = All-contains (λ b. is_switch b.exit ≡ false) s.running.graph.blocks s.running.block (All-contains (λ g. All (λ b. is_switch b.exit ≡ false) g.blocks) p.graphs s.running.graph none a.known) a.stands in
+    let no = All-contains (λ b. is_switch b.exit ≡ false) s.running.graph.blocks s.running.block
+    (All-contains (λ g. All (λ b. is_switch b.exit ≡ false) g.blocks) p.graphs s.running.graph none a.known) a.stands in
     absurd (true≢false (sym (ap is_switch exit) ∙ no))
   where
     not_over : (b : Bool) → is_over (reached p fill input n).end ≡ b → is_over (reached p fill input n).end ≡ false
