@@ -1,20 +1,14 @@
-//! Tests of what reads, analyses and runs executables: arithmetic, files and streams, keys, the loader, the decoder, layouts, procedures, the machine, and the plain run of the inner language. Expected values come from references apart from this code.
+//! Tests of what reads, analyses and runs executables: the loader, the decoder, layouts, procedures, the machine, and the plain run of the inner language. Expected values come from references apart from this code.
 #![tactic(auto)]
 
-#[cfg(test)]
-mod arithmetic;
 #[cfg(test)]
 mod decoding;
 #[cfg(test)]
 mod inner_runs;
 #[cfg(test)]
-mod keys;
-#[cfg(test)]
 mod layouts;
 #[cfg(test)]
 mod loading;
-#[cfg(test)]
-mod outside;
 #[cfg(test)]
 mod procedures;
 #[cfg(test)]

@@ -1,0 +1,9 @@
+//! Tests of the foundation: arithmetic at the corners of its widths, files and streams, and keys. Expected values come from references apart from this code.
+#![tactic(auto)]
+
+#[cfg(test)]
+mod arithmetic;
+#[cfg(test)]
+mod keys;
+#[cfg(test)]
+mod outside;
