@@ -13,5 +13,5 @@ pub mod FitLaws
 pub mod ExecuteLaws
 mod FitStates
 pub mod ReachedLaws
-mod UnstuckLaws
+pub mod UnstuckLaws
 mod PassingExamples

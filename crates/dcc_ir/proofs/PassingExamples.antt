@@ -12,9 +12,9 @@ use Rattle.dcc_ir.specs.declared.syntax.BinOp.TheVariants.{DivU}
 use Rattle.dcc_ir.specs.Tree.{Expr, Const, Get, Load, Binary, Address, Stmt, Div, Call, Dos, Exit, Goto, Ret, Stop, Block, Graph, Program}
 use Rattle.dcc_ir.specs.Location.{location_width}
 use Rattle.dcc_ir.specs.WellFormed.{is_stmt, is_param_list, memory_params_last, jumps_after_call, all_ret_widths, IsGraph, IsCalling, IsProgram}
-use Rattle.dcc_ir.specs.Ends.{is_ret, is_switch, stops_soundly, HasSoundEnds}
+use Rattle.dcc_ir.specs.Ends.{IsNeverStuck, is_ret, is_switch, stops_soundly, HasSoundEnds}
 use Rattle.dcc_ir.specs.Passing.{passed, param_of, RetPasses, GraphPasses, CallPasses, StmtPasses, PassesAll}
-use Rattle.dcc_ir.proofs.UnstuckLaws.{no_switch_places}
+use Rattle.dcc_ir.proofs.UnstuckLaws.{never_stuck, no_switch_places}
 
 -- The callee takes two words, the first in two locations, the second in memory, and gives both back.
 
@@ -180,6 +180,9 @@ ends_are_sound = record {
   returns = one (λ g. All (λ b. is_ret b.exit ≡ false) g.blocks) caller (All-cons (λ b. is_ret b.exit ≡ false) calling_block (last_block ∷ []) refl (one (λ b. is_ret b.exit ≡ false) last_block refl));
   switches = no_switch_places program program_formed (of_blocks (λ b. is_switch b.exit ≡ false) refl refl refl);
 }
+
+never_stuck_at_all : IsNeverStuck program
+never_stuck_at_all = never_stuck program program_formed ends_are_sound
 
 -- Near misses.
 

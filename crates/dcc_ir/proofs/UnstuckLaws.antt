@@ -16,11 +16,15 @@ use Rattle.dcc_ir.specs.Value.{division_of}
 use Rattle.dcc_ir.specs.WellFormed.{is_expr_of, is_dos, is_stmt, is_exit, is_jump, IsCall, IsCalling, IsGraph, IsProgram}
 use Rattle.dcc_ir.specs.Run.{State, Waiting, scene_of, value_in, keyed, dividing, argument_in, dos_step, stmt_step, is_call, activation, entering, going_to, putting, passing, callee_base, calling, graph_at, giving, returning, switching, exit_step, block_step, step, no_graph, first_state, reached}
 use Rattle.dcc_ir.specs.Fitting.{AreBytes}
-use Rattle.dcc_ir.specs.Ends.{is_stuck, is_ret, is_switch, is_stop, is_exit_call, stops_soundly, HasPlace, SwitchesHavePlaces, HasNoSwitch, HasSoundEnds}
+use Rattle.dcc_ir.specs.Ends.{IsNeverStuck, is_ret, is_switch, is_stop, is_exit_call, stops_soundly, HasPlace, SwitchesHavePlaces, HasNoSwitch, HasSoundEnds}
 use Rattle.dcc_ir.proofs.FitLaws.{both, either}
 use Rattle.dcc_ir.proofs.StepLaws.{stmt-within, passing-alike}
 use Rattle.dcc_ir.proofs.ExecuteLaws.{execute_over, execute_first}
 use Rattle.dcc_ir.proofs.ReachedLaws.{contained, found_contained, all_at, named_again, IsActive, AreCallers, IsGood, IsWithinAt, graph_of, exit_of, within-of, within-next, reached-good}
+
+abbrev is_stuck : End → Bool
+is_stuck (Stuck entry) = true
+is_stuck _ = false
 
 goes_on : (e : End) → is_over e ≡ false → is_stuck e ≡ false
 goes_on Running on = refl
@@ -255,9 +259,9 @@ module _ (p : Program) (well : IsProgram p) (sound : HasSoundEnds p) where
       ap (λ s. is_stuck s.end) last ∙ step-unstuck fill (reached p fill input n) (reached-good p well fill input bytes n) (sound.switches fill input small bytes n)
       (all-unstuck fill input small bytes n)
 
-pub never_stuck : (p : Program) → IsProgram p → HasSoundEnds p → (fill : ℕ) (input : List ℕ) → fill < 65536 → AreBytes input → (n : ℕ) → is_stuck (reached p fill input n).end ≡ false
+pub never_stuck : (p : Program) → IsProgram p → HasSoundEnds p → IsNeverStuck p
 unfolding IsNotStuck
-never_stuck p well sound fill input small bytes n = all-unstuck p well sound fill input small bytes n
+never_stuck p well sound fill input n entry small bytes stuck = absurd (true≢false (sym (ap is_stuck stuck) ∙ all-unstuck p well sound fill input small bytes n))
 
 -- A state stands in a block of its program; so where no block ends in a Switch, it comes to none.
 pub no_switch_places : (p : Program) → IsProgram p → HasNoSwitch p → SwitchesHavePlaces p

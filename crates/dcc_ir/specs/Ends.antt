@@ -1,14 +1,16 @@
--- The ends of blocks at which no run is stuck.
-use Rattle.std.specs.Prelude.{◌≡◌, ℕ, ◌<◌, ◌==◌, Bool, true, false, ◌||◌, not, List, length, take, All}
+-- Programs that are never stuck, and the ends of blocks that make them so.
+use Rattle.std.specs.Prelude.{◌≡◌, ◌≢◌, ℕ, ◌<◌, ◌==◌, Bool, true, false, ◌||◌, not, List, length, take, All}
 use Rattle.std.specs.List.{list_any}
-use Rattle.dcc_run.specs.End.{End, Stuck, is_over}
+use Rattle.dcc_run.specs.End.{Stuck, is_over}
 use Rattle.dcc_ir.specs.Tree.{Expr, Stmt, Dos, Exit, Switch, Ret, Stop, Program}
 use Rattle.dcc_ir.specs.Run.{State, value_in, execute, is_call, reached}
 use Rattle.dcc_ir.specs.Fitting.{AreBytes}
 
-abbrev pub is_stuck : End → Bool
-is_stuck (Stuck entry) = true
-is_stuck _ = false
+-- no run of the program comes to a Switch that has no block for its value, to a Stop, or to a Ret of the first graph
+abbrev pub IsNeverStuck : Program → Type 0
+IsNeverStuck p =
+    (fill : ℕ) (input : List ℕ) (n entry : ℕ) → fill < 65536 → AreBytes input
+    → (reached p fill input n).end ≢ Stuck entry
 
 abbrev pub is_ret : Exit → Bool
 is_ret (Ret values) = true

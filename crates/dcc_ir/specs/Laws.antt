@@ -7,7 +7,7 @@ use Rattle.dcc_ir.specs.Tree.{Expr, Stmt, Graph, Program}
 use Rattle.dcc_ir.specs.Value.{width_of, Scene, value_of, Fits}
 use Rattle.dcc_ir.specs.WellFormed.{is_expr, IsProgram}
 use Rattle.dcc_ir.specs.Fitting.{AreBytes, StateFits}
-use Rattle.dcc_ir.specs.Ends.{is_stuck, HasNoSwitch, HasSoundEnds, SwitchesHavePlaces}
+use Rattle.dcc_ir.specs.Ends.{IsNeverStuck, HasNoSwitch, HasSoundEnds, SwitchesHavePlaces}
 use Rattle.dcc_ir.specs.Run.{State, execute, is_call, block_step, reached, watched_inner}
 use Rattle.dcc_ir.specs.Flow.{Flow, Reached, Leads, HaveOneEdge}
 use Rattle.dcc_ir.specs.Keeps.{Keeps}
@@ -46,8 +46,7 @@ StatesFit = (p : Program) → IsProgram p → (fill : ℕ) (input : List ℕ) �
 
 -- no run of a well-formed program with sound ends is ever stuck
 abbrev pub RunsAreNeverStuck : Type 0
-RunsAreNeverStuck = (p : Program) → IsProgram p → HasSoundEnds p → (fill : ℕ) (input : List ℕ) → fill < 65536
-    → AreBytes input → (n : ℕ) → is_stuck (reached p fill input n).end ≡ false
+RunsAreNeverStuck = (p : Program) → IsProgram p → HasSoundEnds p → IsNeverStuck p
 
 -- where no block of a well-formed program ends in a Switch, each Switch has its place
 abbrev pub NoSwitchHasPlaces : Type 0
