@@ -5,7 +5,8 @@ use Rattle.std.proofs.lemmas.Nat.{pow_pos, mod_below}
 use Rattle.std.proofs.lemmas.List.{length-set}
 use Rattle.std.proofs.lemmas.List.Elements.{All-nil, All-cons, All-head, All-tail, All-append, All-map}
 use Rattle.std.proofs.lemmas.List.Sums.{take_while-cons}
-use Rattle.std.specs.List.{range_with_len}
+use Rattle.std.specs.List.{list_all, range_with_len}
+use Rattle.dcc_run.specs.End.{is_over}
 use Rattle.dcc_run.specs.Event.{Event, Wrote, Took, MetEnd, written_by, taken_by, writes}
 use Rattle.dcc_run.proofs.EventLaws.{written-append, taken-append, written-writes, taken-writes}
 use Rattle.dcc_ir.specs.declared.syntax.Loc.{Loc}
@@ -17,9 +18,10 @@ use Rattle.dcc_ir.specs.Location.{same_location, location_width, Values, with_va
 use Rattle.dcc_ir.specs.Value.{width_of, division_at, bytes_at, with_bytes_at, byte_at, division_of, Fits}
 use Rattle.dcc_ir.specs.Dos.{is_not_dollar, dos_string}
 use Rattle.dcc_ir.specs.WellFormed.{is_location, is_stored_width, is_division, is_expr, is_expr_of, is_dividing, is_byte_place, is_dos, is_stmt}
-use Rattle.dcc_ir.specs.Run.{State, scene_of, value_in, setting, storing, dividing, happening, writing, taking, keyed, argument_in, dos_step, stmt_step}
+use Rattle.dcc_ir.specs.Run.{State, scene_of, value_in, setting, storing, dividing, happening, writing, taking, keyed, argument_in, dos_step, stmt_step, execute}
 use Rattle.dcc_ir.specs.Fitting.{AreBytes}
 use Rattle.dcc_ir.proofs.FitLaws.{both, either, stored, bytes_below, binary_fits, at_width, value_fits}
+use Rattle.dcc_ir.proofs.StepLaws.{stmt-within}
 
 -- Values.
 
@@ -249,3 +251,12 @@ stmt-fit (Store width address e) s ok h = storing-fit width (value_in s address)
 stmt-fit (Div location e) s ok h = div-fit location e s (both (is_location s.running.graph.bits location) _ ok).1 h
 stmt-fit (Dos number place argument) s ok h = dos-fit number place argument s ok h
 stmt-fit (Call results entry arguments depth) s ok h = record { values = h.values; memory = h.memory; console = h.console }
+
+-- so do statements one after another
+pub execute-fit : (stmts : List Stmt) (s : State) → list_all (is_stmt s.running.graph.bits) stmts ≡ true → IsFit s → IsFit (execute stmts s)
+execute-fit [] s ok h = h
+execute-fit (stmt ∷ stmts) s ok h =
+    let parts = both (is_stmt s.running.graph.bits stmt) (list_all (is_stmt s.running.graph.bits) stmts) ok in
+    let later : list_all (is_stmt (stmt_step stmt s).running.graph.bits) stmts ≡ true = subst (λ g. list_all (is_stmt g.bits) stmts ≡ true) (sym (stmt-within stmt s).graph) parts.1 in
+    let last = execute-fit stmts (stmt_step stmt s) later (stmt-fit stmt s parts.0 h) in
+    elim (is_over s.end) as (λ b. IsFit (if b then s else execute stmts (stmt_step stmt s))) [ true ↦ h | false ↦ last ]

@@ -11,7 +11,7 @@ pub mod PassLaws
 mod Examples
 pub mod FitLaws
 pub mod ExecuteLaws
-mod FitStates
+pub mod FitStates
 pub mod ReachedLaws
 pub mod UnstuckLaws
 mod PassingExamples

@@ -177,7 +177,8 @@ of_blocks P h k l = of_both (λ g. All P g.blocks) (All-cons P calling_block (la
 ends_are_sound : HasSoundEnds program
 ends_are_sound = record {
   stops = of_blocks (λ b. stops_soundly b.stmts b.exit ≡ true) refl refl refl;
-  returns = one (λ g. All (λ b. is_ret b.exit ≡ false) g.blocks) caller (All-cons (λ b. is_ret b.exit ≡ false) calling_block (last_block ∷ []) refl (one (λ b. is_ret b.exit ≡ false) last_block refl));
+  returns = one (λ g. All (λ b. is_ret b.exit ≡ false) g.blocks) caller
+      (All-cons (λ b. is_ret b.exit ≡ false) calling_block (last_block ∷ []) refl (one (λ b. is_ret b.exit ≡ false) last_block refl));
   switches = no_switch_places program program_formed (of_blocks (λ b. is_switch b.exit ≡ false) refl refl refl);
 }
 
