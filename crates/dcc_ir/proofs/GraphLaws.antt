@@ -18,7 +18,7 @@ and_right false b e = absurd (true≢false (sym e))
 or_here : (a b : Bool) → a ≡ true → (a || b) ≡ true
 or_here a b e = ap (λ c. c || b) e
 
-or_there : (a b : Bool) → b ≡ true → (a || b) ≡ true
+pub or_there : (a b : Bool) → b ≡ true → (a || b) ≡ true
 or_there true b e = refl
 or_there false b e = e
 
