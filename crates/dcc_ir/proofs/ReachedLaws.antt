@@ -22,6 +22,7 @@ use Rattle.dcc_ir.specs.Run.{Activation, Waiting, State, scene_of, value_in, set
 use Rattle.dcc_ir.specs.Fitting.{scene_in, AreBytes, StateFits}
 use Rattle.dcc_ir.proofs.FitLaws.{both, value_fits}
 use Rattle.dcc_ir.proofs.StepLaws.{stmt-within, passing-alike}
+use Rattle.dcc_ir.proofs.GraphLaws.{or_there}
 use Rattle.dcc_ir.proofs.FitStates.{AreValues, filled-are, IsMemory, IsFit, scene-fits, setting-fit, storing-fit, stmt-fit}
 
 -- Elements of lists.
@@ -67,10 +68,6 @@ of_flat_at P f [] x k less same h = absurd (omega (arith, less))
 of_flat_at P f (y ∷ ys) x zero less same h = subst (λ z. All P (f z)) same (all_left P (f y) (flat_map f ys) (subst (All P) (flat_map-cons f y ys) h))
 of_flat_at P f (y ∷ ys) x (suc k) less same h = of_flat_at P f ys x k (omega (arith, less)) same (all_right P (f y) (flat_map f ys) (subst (All P) (flat_map-cons f y ys) h))
 
-or_later : (a b : Bool) → b ≡ true → (a || b) ≡ true
-or_later true b e = refl
-or_later false b e = e
-
 -- the graph that a call names is the one that the run finds
 any_entry : (entry : ℕ) (graphs : List Graph) (callee : Graph) → graph_at graphs entry ≡ Some callee → list_any (λ m. entry == m) (map (λ g. g.entry) graphs) ≡ true
 any_entry entry [] callee e = absurd (cc)
@@ -79,7 +76,7 @@ any_entry entry (g ∷ graphs) callee e = go (g.entry == entry) refl (any_entry 
     go : (b : Bool) → (g.entry == entry) ≡ b → (graph_at graphs entry ≡ Some callee → list_any (λ m. entry == m) (map (λ x. x.entry) graphs) ≡ true) →
         cond b (Some g) (graph_at graphs entry) ≡ Some callee → ((entry == g.entry) || list_any (λ m. entry == m) (map (λ x. x.entry) graphs)) ≡ true
     go true same later o = let e : entry ≡ g.entry = sym (eqb-true g.entry entry same) in ap (λ b. b || list_any (λ m. entry == m) (map (λ x. x.entry) graphs)) (eq-eqb entry g.entry e)
-    go false other later o = or_later (entry == g.entry) (list_any (λ m. entry == m) (map (λ x. x.entry) graphs)) (later o)
+    go false other later o = or_there (entry == g.entry) (list_any (λ m. entry == m) (map (λ x. x.entry) graphs)) (later o)
 
 pub named_again : (graphs : List Graph) (entry : ℕ) (callee : Graph) → all_differ (map (λ g. g.entry) graphs) ≡ true → graph_at (drop 1 graphs) entry ≡ Some callee
     → graph_at graphs entry ≡ Some callee
