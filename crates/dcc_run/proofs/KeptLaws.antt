@@ -35,6 +35,10 @@ module _ {S P : Type 0} (kept : P → Bool) (w : Watched S P) where
       here false (Some place) = at place (kept place)
 
 module _ {S P : Type 0} (w : Watched S P) where
+  -- in its kept places alone a run is as watchable
+  pub only_watchable : (kept : P → Bool) → IsWatchable w → IsWatchable (only kept w)
+  only_watchable kept law = record { lawful = law.lawful; stays = law.stays; unmarked = λ s foul. ap (kept_mark kept) (law.unmarked s foul) }
+
   -- where all places are kept, the marks are as before
   all_kept_mark : (place : Option P) → kept_mark (λ p. true) place ≡ place
   all_kept_mark None = refl
