@@ -1,12 +1,14 @@
 -- One step of a lifted program, a block, stands for the steps of its text through the block's lines.
 use Rattle.std.proofs.Common.{◌≡◌, ◌≢◌, ℕ, zero, suc, ◌+◌, ◌^◌, ◌<◌, ◌≤◌, inl, inr, Bool, true, false, ◌==◌, List, [], ◌∷◌, ◌++◌, length, map, Some, None, refl, sym, ap, ◌∙◌, subst, true≢false, arith, append_assoc}
-use Rattle.std.specs.Prelude.{◌&&◌, ◌||◌, nat_lt, if◌then◌else◌, codes, slice_get}
+use Rattle.std.specs.Prelude.{◌&&◌, ◌||◌, ◌⊎◌, nat_lt, if◌then◌else◌, codes, slice_get}
 use Rattle.std.specs.List.{list_all}
 use Rattle.std.proofs.lemmas.Bool.{and_parts, or_cases, eqb-true, ltb-true}
-use Rattle.std.proofs.lemmas.List.{append-nil}
 use Rattle.dcc_run.specs.End.{Running, Stuck, is_over}
 use Rattle.dcc_run.specs.System.{after, end_after}
-use Rattle.dcc_run.specs.Gathers.{GoOn, still_related, both_over}
+use Rattle.dcc_run.specs.Event.{Event, Wrote}
+use Rattle.dcc_run.specs.Place.{Place}
+use Rattle.dcc_run.specs.Watched.{Watched}
+use Rattle.dcc_run.proofs.LeapLaws.{IsLeap}
 use Rattle.dcc_ir.specs.declared.syntax.Loc.{Loc}
 use Rattle.dcc_ir.specs.declared.syntax.Loc.TheVariants.{Half, Flag, Cell, Temp}
 use Rattle.dcc_ir.specs.declared.syntax.Param.{Param}
@@ -26,10 +28,9 @@ use Rattle.dcc_pipe.proofs.Sizes.{bit, byte, bits}
 use Rattle.dcc_pipe.proofs.Meanings.{Means}
 use Rattle.dcc_pipe.proofs.Places.{IsPlace, scope_with}
 use Rattle.dcc_pipe.proofs.ExprMeanings.{AreHeld, scene_with, expr-stands, same-size}
-use Rattle.dcc_pipe.proofs.TextSteps.{text, text_state, key_of, left_of, echo_of, assign-step, putc-step, exit-step, label-step, goto-step, if-step, if-running, getche-step, getch-step}
+use Rattle.dcc_pipe.proofs.TextSteps.{text, text_state, key_of, left_of, key_events, assign-step, putc-step, exit-step, label-step, goto-step, if-step, getche-step, getch-step}
 use Rattle.dcc_pipe.proofs.HeldLaws.{held-after, AreBytes, key-fits, left-bytes, at-within}
 use Rattle.dcc_pipe.proofs.Lined.{IsCounted, unchanged, branches, AreLined, one_more, Lands}
-use Rattle.dcc_pipe.proofs.LeapLaws.{IsLeap, AreAlike}
 
 -- Expressions of a size that is known.
 
@@ -69,18 +70,18 @@ module _ (image : List ℕ) (lo hi entry local pushed : ℕ) (params : List Para
   program = record { graphs = graph ∷ []; image = image; lo = lo; hi = hi }
 
   -- the program is about to execute a block
-  abbrev pub inner_state : inner.Block → Values → ℕ → List ℕ → List ℕ → List ℕ → run.State
-  inner_state block values base memory input out = record {
+  abbrev pub inner_state : inner.Block → Values → ℕ → List ℕ → List ℕ → List Event → run.State
+  inner_state block values base memory input events = record {
     running = record { graph = graph; block = block; rest = block.stmts; begins = true; values = values; base = base };
     waiting = [];
     memory = memory;
     input = input;
-    out = out;
+    events = events;
     end = Running;
   }
 
-  abbrev state : Lines → Values → List ℕ → List ℕ → List ℕ → c.State
-  state lines values cells input out = text_state lo hi functions f frame fill lines values cells input out
+  abbrev state : Lines → Values → List ℕ → List ℕ → List Event → c.State
+  state lines values cells input events = text_state lo hi functions f frame fill lines values cells input events
 
   abbrev c_step : c.State → c.State
   c_step t = c.step (text lo hi functions f frame fill) t
@@ -98,42 +99,44 @@ module _ (image : List ℕ) (lo hi entry local pushed : ℕ) (params : List Para
     pub memory : List ℕ
     pub cells : List ℕ
     pub input : List ℕ
-    pub out : List ℕ
+    pub events : List Event
     pub held : AreHeld values
     pub bytes : AreBytes input
     pub lines : Lines
     pub others : List Stmt
     pub lined : AreLined (text_block blocks block ++ others) lines
-    pub inner_is : s ≡ inner_state block values base memory input out
-    pub text_is : t ≡ state lines values cells input out
+    pub inner_is : s ≡ inner_state block values base memory input events
+    pub text_is : t ≡ state lines values cells input events
     pub unstuck : IsUnstuck s
+
+  -- both runs are over alike
+  record Ends (s' : run.State) (t' : c.State) : Type 0 where
+    over : is_over s'.end ≡ true
+    end : t'.end ≡ s'.end
+    events : t'.events ≡ s'.events
 
   -- after so many steps at most the text is where the program's step leads
   record Comes (s' : run.State) (few : ℕ) (t : c.State) : Type 0 where
-    further : ℕ
-    within : suc further ≤ few
-    running : (j : ℕ) → j ≤ further → is_over (end_after (text_system (text lo hi functions f frame fill)) j t) ≡ false
-    goes_on : GoOn (run.inner_system program fill) (text_system (text lo hi functions f frame fill)) IsAt s' (after c_step (suc further) t)
+    steps : ℕ
+    some : 0 < steps
+    within : steps ≤ few
+    leads : IsAt s' (after c_step steps t) ⊎ Ends s' (after c_step steps t)
 
   -- with one step more before
-  one_before : (s' : run.State) (few : ℕ) (t u : c.State) → t.end ≡ Running → c_step t ≡ u → Comes s' few u → Comes s' (suc few) t
-  one_before s' few t u runs to x = record {
-    further = suc x.further;
+  one_before : (s' : run.State) (few : ℕ) (t u : c.State) → c_step t ≡ u → Comes s' few u → Comes s' (suc few) t
+  one_before s' few t u to x = record {
+    steps = suc x.steps;
+    some = omega arith;
     within = omega (arith, x.within);
-    running = each;
-    goes_on = subst (λ v. GoOn (run.inner_system program fill) (text_system (text lo hi functions f frame fill)) IsAt s' (after c_step (suc x.further) v)) (sym to) x.goes_on;
+    leads = subst (λ v. IsAt s' (after c_step x.steps v) ⊎ Ends s' (after c_step x.steps v)) (sym to) x.leads;
   }
-    where
-      each : (j : ℕ) → j ≤ suc x.further → is_over (end_after (text_system (text lo hi functions f frame fill)) j t) ≡ false
-      each zero low = ap is_over runs
-      each (suc j) low = subst (λ v. is_over (end_after (text_system (text lo hi functions f frame fill)) j v) ≡ false) (sym to) (x.running j (omega (arith, low)))
 
   -- Ends.
 
-  module _ (values : Values) (base : ℕ) (memory cells input out : List ℕ) (held : AreHeld values) (bytes : AreBytes input) where
+  module _ (values : Values) (base : ℕ) (memory cells input : List ℕ) (events : List Event) (held : AreHeld values) (bytes : AreBytes input) where
     -- the place to which a block goes
-    arrives : (block : inner.Block) (place : ℕ) (next : inner.Block) (is : slice_get blocks place ≡ Some next) → IsUnstuck (run.going_to place (inner_state block values base memory input out))
-        → IsAt (run.going_to place (inner_state block values base memory input out)) (state (jumps place next is).to values cells input out)
+    arrives : (block : inner.Block) (place : ℕ) (next : inner.Block) (is : slice_get blocks place ≡ Some next) → IsUnstuck (run.going_to place (inner_state block values base memory input events))
+        → IsAt (run.going_to place (inner_state block values base memory input events)) (state (jumps place next is).to values cells input events)
     arrives block place next is unstuck = record {
       block = next;
       good_block = good place next is;
@@ -142,13 +145,13 @@ module _ (image : List ℕ) (lo hi entry local pushed : ℕ) (params : List Para
       memory = memory;
       cells = cells;
       input = input;
-      out = out;
+      events = events;
       held = held;
       bytes = bytes;
       lines = (jumps place next is).to;
       others = (jumps place next is).others;
       lined = (jumps place next is).lined;
-      inner_is = ap (λ o. run.entering o (inner_state block values base memory input out)) is;
+      inner_is = ap (λ o. run.entering o (inner_state block values base memory input events)) is;
       text_is = refl;
       unstuck = unstuck;
     }
@@ -160,35 +163,35 @@ module _ (image : List ℕ) (lo hi entry local pushed : ℕ) (params : List Para
     jump-found : (place : ℕ) (next : inner.Block) (is : slice_get blocks place ≡ Some next) → c.after_goto f (label_at blocks place) ≡ Some (c.runs (jumps place next is).to (ends_function f.last))
     jump-found place next is = ap (c.after_goto f) (label-is place next is) ∙ (jumps place next is).found
 
-    goto-comes : (block : inner.Block) (place at : ℕ) (lines : Lines) → place < length blocks → IsUnstuck (run.going_to place (inner_state block values base memory input out))
-        → Comes (run.going_to place (inner_state block values base memory input out)) 2 (state (line (Goto (label_at blocks place)) at lines) values cells input out)
+    goto-comes : (block : inner.Block) (place at : ℕ) (lines : Lines) → place < length blocks → IsUnstuck (run.going_to place (inner_state block values base memory input events))
+        → Comes (run.going_to place (inner_state block values base memory input events)) 2 (state (line (Goto (label_at blocks place)) at lines) values cells input events)
     goto-comes block place at lines within unstuck =
         let (next, is) = at-within blocks place within in
-        let to = goto-step lo hi functions f frame fill at lines values cells input out (label_at blocks place) (jumps place next is).to (jump-found place next is) in
+        let to = goto-step lo hi functions f frame fill at lines values cells input events (label_at blocks place) (jumps place next is).to (jump-found place next is) in
         record {
-          further = 0;
+          steps = 1;
+          some = omega arith;
           within = omega arith;
-          running = λ j low. let zero_is : j ≡ 0 = omega (arith, low) in rw zero_is refl;
-          goes_on = still_related (subst (IsAt (run.going_to place (inner_state block values base memory input out))) (sym to) (arrives block place next is unstuck));
+          leads = inl (subst (IsAt (run.going_to place (inner_state block values base memory input events))) (sym to) (arrives block place next is unstuck));
         }
 
     if-comes : (block : inner.Block) (test : inner.Expr) (one other i j at : ℕ) (lines : Lines) → is_expr_of temporary_bits 1 test ≡ true → is_lifted_expr test
         ≡ true → one < length blocks → other < length blocks
-        → IsUnstuck (run.exit_step (inner.If test one other) (inner_state block values base memory input out))
-        → Comes (run.exit_step (inner.If test one other) (inner_state block values base memory input out)) 2
-        (state (line (If (text_expr test) (line (Goto (label_at blocks one)) i no_lines) (line (Goto (label_at blocks other)) j no_lines)) at lines) values cells input out)
+        → IsUnstuck (run.exit_step (inner.If test one other) (inner_state block values base memory input events))
+        → Comes (run.exit_step (inner.If test one other) (inner_state block values base memory input events)) 2
+        (state (line (If (text_expr test) (line (Goto (label_at blocks one)) i no_lines) (line (Goto (label_at blocks other)) j no_lines)) at lines) values cells input events)
     if-comes block test one other i j at lines formed lifted first second unstuck =
         let n = value_of (scene_with values base memory) test in
         let x = bit-means values base memory cells held test formed lifted in
         let place : ℕ = if n == 1 then one else other in
         let (next, is) = at-within blocks place (either (n == 1)) in
-        let to = if-step lo hi functions f frame fill at lines values cells input out (text_expr test) n i j (label_at blocks one) (label_at blocks other) (jumps place next is).to x
+        let to = if-step lo hi functions f frame fill at lines values cells input events (text_expr test) n i j (label_at blocks one) (label_at blocks other) (jumps place next is).to x
         (ap (c.after_goto f) (chosen (value_of (scene_with values base memory) test) x.fits) ∙ jump-found place next is) in
         record {
-          further = 1;
+          steps = 2;
+          some = omega arith;
           within = omega arith;
-          running = each x;
-          goes_on = still_related (subst (IsAt (run.going_to place (inner_state block values base memory input out))) (sym to) (arrives block place next is unstuck));
+          leads = inl (subst (IsAt (run.going_to place (inner_state block values base memory input events))) (sym to) (arrives block place next is unstuck));
         }
       where
         either : (b : Bool) → (if b then one else other) < length blocks
@@ -200,19 +203,9 @@ module _ (image : List ℕ) (lo hi entry local pushed : ℕ) (params : List Para
         chosen (suc zero) low = refl
         chosen (suc (suc n)) low = absurd (omega (arith, low))
 
-        each : Means (scope_with values cells) bit (value_of (scene_with values base memory) test) (text_expr test) → (k : ℕ) → k ≤ 1
-            → is_over (end_after (text_system (text lo hi functions f frame fill)) k
-            (state (line (If (text_expr test) (line (Goto (label_at blocks one)) i no_lines) (line (Goto (label_at blocks other)) j no_lines)) at lines)
-            values cells input out)) ≡ false
-        each x zero low = refl
-        each x (suc zero) low = ap is_over
-            (if-running lo hi functions f frame fill at lines values cells input out (text_expr test) (value_of (scene_with values base memory) test)
-            (line (Goto (label_at blocks one)) i no_lines) (line (Goto (label_at blocks other)) j no_lines) x)
-        each x (suc (suc k)) low = absurd (omega (arith, low))
-
     exit-comes : (block : inner.Block) (exit : inner.Exit) (others : List Stmt) (lines : Lines) → is_exit temporary_bits (length blocks) exit ≡ true → is_lifted_exit exit ≡ true
-        → AreLined (text_exit blocks exit ∷ others) lines → IsUnstuck (run.exit_step exit (inner_state block values base memory input out))
-        → Comes (run.exit_step exit (inner_state block values base memory input out)) 2 (state lines values cells input out)
+        → AreLined (text_exit blocks exit ∷ others) lines → IsUnstuck (run.exit_step exit (inner_state block values base memory input events))
+        → Comes (run.exit_step exit (inner_state block values base memory input events)) 2 (state lines values cells input events)
     exit-comes block exit others no_lines formed lifted lined unstuck = elim lined [ ]
     exit-comes block (inner.Goto place) others (line counted at lines) formed lifted (one_more unchanged rest) unstuck = goto-comes block place at lines (ltb-true place (length blocks) formed) unstuck
     exit-comes block (inner.If test one other) others (line counted at lines) formed lifted (one_more kept rest) unstuck =
@@ -221,7 +214,7 @@ module _ (image : List ℕ) (lo hi entry local pushed : ℕ) (params : List Para
         by counted kept tested (ltb-true one (length blocks) first) (ltb-true other (length blocks) second)
       where
         by : (counted : Stmt) → IsCounted (text_exit blocks (inner.If test one other)) counted → is_expr_of temporary_bits 1 test ≡ true → one < length blocks → other < length blocks
-            → Comes (run.exit_step (inner.If test one other) (inner_state block values base memory input out)) 2 (state (line counted at lines) values cells input out)
+            → Comes (run.exit_step (inner.If test one other) (inner_state block values base memory input events)) 2 (state (line counted at lines) values cells input events)
         by counted unchanged tested first second = if-comes block test one other 0 0 at lines tested lifted first second unstuck
         by counted branches tested first second = if-comes block test one other _ _ at lines tested lifted first second unstuck
     exit-comes block (inner.Switch e places) others (line counted at lines) formed lifted lined unstuck = absurd (true≢false (sym lifted))
@@ -237,12 +230,12 @@ module _ (image : List ℕ) (lo hi entry local pushed : ℕ) (params : List Para
   half-place (Temp n) half there = absurd (true≢false (sym half))
 
   -- a byte that the program takes from the input
-  keyed-is : (block : inner.Block) (values : Values) (base : ℕ) (memory input out : List ℕ) (echo : Bool) (location : Loc)
-      → run.keyed echo (Some location) input (inner_state block values base memory input out)
-      ≡ inner_state block (with_value values location (key_of input)) base memory (left_of input) (out ++ echo_of echo input)
-  keyed-is block values base memory [] out echo location =
-      ap (inner_state block (with_value values location 26) base memory []) (sym (append-nil out))
-  keyed-is block values base memory (b ∷ rest) out echo location = refl
+  keyed-is : (block : inner.Block) (values : Values) (base : ℕ) (memory input : List ℕ) (events : List Event) (echo : Bool) (location : Loc)
+      → run.keyed echo (Some location) input (inner_state block values base memory input events)
+      ≡ inner_state block (with_value values location (key_of input)) base memory (left_of input) (events ++ key_events echo input)
+  keyed-is block values base memory [] events echo location = refl
+  keyed-is block values base memory (b ∷ rest) events true location = refl
+  keyed-is block values base memory (b ∷ rest) events false location = refl
 
   -- what a block does from these statements on, and the most steps of the text that stand for it
   abbrev block_from : List inner.Stmt → run.State → run.State
@@ -259,20 +252,20 @@ module _ (image : List ℕ) (lo hi entry local pushed : ℕ) (params : List Para
   -- the statements after a statement, which the text has in these lines, from all states with an input of bytes
   abbrev Later : List inner.Stmt → inner.Block → List Stmt → Lines → Type 0
   Later stmts block others lines =
-      (values : Values) (base : ℕ) (memory cells input out : List ℕ) → AreHeld values → AreBytes input
-      → IsUnstuck (block_from stmts (inner_state block values base memory input out))
-      → Comes (block_from stmts (inner_state block values base memory input out)) (steps_for stmts) (state lines values cells input out)
+      (values : Values) (base : ℕ) (memory cells input : List ℕ) (events : List Event) → AreHeld values → AreBytes input
+      → IsUnstuck (block_from stmts (inner_state block values base memory input events))
+      → Comes (block_from stmts (inner_state block values base memory input events)) (steps_for stmts) (state lines values cells input events)
 
   only : (b : Bool) → (b || false) ≡ true → b ≡ true
   only true e = refl
   only false e = absurd (true≢false (sym e))
 
   module _ (block : inner.Block) (stmts : List inner.Stmt) (others : List Stmt) (at : ℕ) (lines : Lines) (later : Later stmts block others lines)
-      (values : Values) (base : ℕ) (memory cells input out : List ℕ) (held : AreHeld values) (bytes : AreBytes input) where
+      (values : Values) (base : ℕ) (memory cells input : List ℕ) (events : List Event) (held : AreHeld values) (bytes : AreBytes input) where
     set-comes : (location : Loc) (e : inner.Expr) → is_stmt temporary_bits (inner.Set location e) ≡ true → is_lifted_stmt (inner.Set location e) ≡ true
-        → IsUnstuck (block_from (inner.Set location e ∷ stmts) (inner_state block values base memory input out))
-        → Comes (block_from (inner.Set location e ∷ stmts) (inner_state block values base memory input out)) (suc (steps_for stmts))
-        (state (line (text_stmt (inner.Set location e)) at lines) values cells input out)
+        → IsUnstuck (block_from (inner.Set location e ∷ stmts) (inner_state block values base memory input events))
+        → Comes (block_from (inner.Set location e ∷ stmts) (inner_state block values base memory input events)) (suc (steps_for stmts))
+        (state (line (text_stmt (inner.Set location e)) at lines) values cells input events)
     set-comes location e formed lifted unstuck =
         let (there, fits) = and_parts (is_location temporary_bits location) (is_expr_of temporary_bits (location_width temporary_bits location) e) formed in
         let (place, read) = and_parts (is_lifted_location location) (is_lifted_expr e) lifted in
@@ -280,62 +273,62 @@ module _ (image : List ℕ) (lo hi entry local pushed : ℕ) (params : List Para
         let n = value_of (scene_with values base memory) e in
         let x = expr-means values base memory cells held (location_width temporary_bits location) e fits read in
         let small : n < 2 ^ location_width temporary_bits location = subst (λ w. n < 2 ^ w) (sym x.1) x.2.fits in
-        one_before (block_from stmts (inner_state block (with_value values location n) base memory input out)) (steps_for stmts)
-        (state (line (text_stmt (inner.Set location e)) at lines) values cells input out) (state lines (with_value values location n) cells input out) refl
-        (assign-step lo hi functions f frame fill at lines values cells input out location (text_expr e) x.0 n is x.1 x.2)
-        (later (with_value values location n) base memory cells input out (held-after values location n held small) bytes unstuck)
+        one_before (block_from stmts (inner_state block (with_value values location n) base memory input events)) (steps_for stmts)
+        (state (line (text_stmt (inner.Set location e)) at lines) values cells input events) (state lines (with_value values location n) cells input events)
+        (assign-step lo hi functions f frame fill at lines values cells input events location (text_expr e) x.0 n is x.1 x.2)
+        (later (with_value values location n) base memory cells input events (held-after values location n held small) bytes unstuck)
 
     putc-comes : (e : inner.Expr) → is_stmt temporary_bits (inner.Dos 2 None (Some e)) ≡ true → is_lifted_expr e ≡ true
-        → IsUnstuck (block_from (inner.Dos 2 None (Some e) ∷ stmts) (inner_state block values base memory input out))
-        → Comes (block_from (inner.Dos 2 None (Some e) ∷ stmts) (inner_state block values base memory input out)) (suc (steps_for stmts))
-        (state (line (text_stmt (inner.Dos 2 None (Some e))) at lines) values cells input out)
+        → IsUnstuck (block_from (inner.Dos 2 None (Some e) ∷ stmts) (inner_state block values base memory input events))
+        → Comes (block_from (inner.Dos 2 None (Some e) ∷ stmts) (inner_state block values base memory input events)) (suc (steps_for stmts))
+        (state (line (text_stmt (inner.Dos 2 None (Some e))) at lines) values cells input events)
     putc-comes e formed read unstuck =
         let n = value_of (scene_with values base memory) e in
         let x = byte-means values base memory cells held e (only (is_expr_of temporary_bits 8 e) formed) read in
-        one_before (block_from stmts (inner_state block values base memory input (out ++ n ∷ []))) (steps_for stmts)
-        (state (line (text_stmt (inner.Dos 2 None (Some e))) at lines) values cells input out) (state lines values cells input (out ++ n ∷ [])) refl
-        (putc-step lo hi functions f frame fill at lines values cells input out (text_expr e) n x)
-        (later values base memory cells input (out ++ n ∷ []) held bytes unstuck)
+        one_before (block_from stmts (inner_state block values base memory input (events ++ Wrote n ∷ []))) (steps_for stmts)
+        (state (line (text_stmt (inner.Dos 2 None (Some e))) at lines) values cells input events) (state lines values cells input (events ++ Wrote n ∷ []))
+        (putc-step lo hi functions f frame fill at lines values cells input events (text_expr e) n x)
+        (later values base memory cells input (events ++ Wrote n ∷ []) held bytes unstuck)
 
     leave-comes : (e : inner.Expr) → is_stmt temporary_bits (inner.Dos 76 None (Some e)) ≡ true → is_lifted_expr e ≡ true
-        → Comes (block_from (inner.Dos 76 None (Some e) ∷ stmts) (inner_state block values base memory input out)) (suc (steps_for stmts))
-        (state (line (text_stmt (inner.Dos 76 None (Some e))) at lines) values cells input out)
+        → Comes (block_from (inner.Dos 76 None (Some e) ∷ stmts) (inner_state block values base memory input events)) (suc (steps_for stmts))
+        (state (line (text_stmt (inner.Dos 76 None (Some e))) at lines) values cells input events)
     leave-comes e formed read =
         let n = value_of (scene_with values base memory) e in
         let x = byte-means values base memory cells held e (only (is_expr_of temporary_bits 8 e) formed) read in
-        let to = exit-step lo hi functions f frame fill at lines values cells input out (text_expr e) n x in
+        let to = exit-step lo hi functions f frame fill at lines values cells input events (text_expr e) n x in
         record {
-          further = 0;
+          steps = 1;
+          some = omega arith;
           within = omega arith;
-          running = λ j low. let zero_is : j ≡ 0 = omega (arith, low) in rw zero_is refl;
-          goes_on = both_over (record { over = refl; end = ap (λ u. u.end) to; out = ap (λ u. u.out) to });
+          leads = inr (record { over = refl; end = ap (λ u. u.end) to; events = ap (λ u. u.events) to });
         }
 
     -- a key that goes to a half
     key-comes : (number : ℕ) (echo : Bool) (location : Loc) → IsPlace location → location_width temporary_bits location ≡ 8
         → ((s : run.State) → run.dos_step number (Some location) 0 s ≡ run.keyed echo (Some location) s.input s)
-        → c_step (state (line (text_stmt (inner.Dos number (Some location) None)) at lines) values cells input out)
-        ≡ state lines (with_value values location (key_of input)) cells (left_of input) (out ++ echo_of echo input)
-        → IsUnstuck (block_from (inner.Dos number (Some location) None ∷ stmts) (inner_state block values base memory input out))
-        → Comes (block_from (inner.Dos number (Some location) None ∷ stmts) (inner_state block values base memory input out)) (suc (steps_for stmts))
-        (state (line (text_stmt (inner.Dos number (Some location) None)) at lines) values cells input out)
+        → c_step (state (line (text_stmt (inner.Dos number (Some location) None)) at lines) values cells input events)
+        ≡ state lines (with_value values location (key_of input)) cells (left_of input) (events ++ key_events echo input)
+        → IsUnstuck (block_from (inner.Dos number (Some location) None ∷ stmts) (inner_state block values base memory input events))
+        → Comes (block_from (inner.Dos number (Some location) None ∷ stmts) (inner_state block values base memory input events)) (suc (steps_for stmts))
+        (state (line (text_stmt (inner.Dos number (Some location) None)) at lines) values cells input events)
     key-comes number echo location is width does to unstuck =
-        let next = inner_state block (with_value values location (key_of input)) base memory (left_of input) (out ++ echo_of echo input) in
-        let same : block_from (inner.Dos number (Some location) None ∷ stmts) (inner_state block values base memory input out) ≡ block_from stmts next =
-        ap (λ u. if is_over u.end then u else block_from stmts u) (does (inner_state block values base memory input out) ∙ keyed-is block values base memory input out echo location) in
+        let next = inner_state block (with_value values location (key_of input)) base memory (left_of input) (events ++ key_events echo input) in
+        let same : block_from (inner.Dos number (Some location) None ∷ stmts) (inner_state block values base memory input events) ≡ block_from stmts next =
+        ap (λ u. if is_over u.end then u else block_from stmts u) (does (inner_state block values base memory input events) ∙ keyed-is block values base memory input events echo location) in
         let small : key_of input < 2 ^ location_width temporary_bits location = subst (λ w. key_of input < 2 ^ w) (sym width) (key-fits input bytes) in
-        one_before (block_from (inner.Dos number (Some location) None ∷ stmts) (inner_state block values base memory input out)) (steps_for stmts)
-        (state (line (text_stmt (inner.Dos number (Some location) None)) at lines) values cells input out)
-        (state lines (with_value values location (key_of input)) cells (left_of input) (out ++ echo_of echo input)) refl to
-        (subst (λ u. Comes u (steps_for stmts) (state lines (with_value values location (key_of input)) cells (left_of input) (out ++ echo_of echo input))) (sym same)
-        (later (with_value values location (key_of input)) base memory cells (left_of input) (out ++ echo_of echo input) (held-after values location (key_of input) held small) (left-bytes input bytes)
+        one_before (block_from (inner.Dos number (Some location) None ∷ stmts) (inner_state block values base memory input events)) (steps_for stmts)
+        (state (line (text_stmt (inner.Dos number (Some location) None)) at lines) values cells input events)
+        (state lines (with_value values location (key_of input)) cells (left_of input) (events ++ key_events echo input)) to
+        (subst (λ u. Comes u (steps_for stmts) (state lines (with_value values location (key_of input)) cells (left_of input) (events ++ key_events echo input))) (sym same)
+        (later (with_value values location (key_of input)) base memory cells (left_of input) (events ++ key_events echo input) (held-after values location (key_of input) held small) (left-bytes input bytes)
         (subst IsUnstuck same unstuck)))
 
     -- a DOS call with an argument
     argument-comes : (number : ℕ) (e : inner.Expr) → is_stmt temporary_bits (inner.Dos number None (Some e)) ≡ true → is_lifted_stmt (inner.Dos number None (Some e)) ≡ true
-        → IsUnstuck (block_from (inner.Dos number None (Some e) ∷ stmts) (inner_state block values base memory input out))
-        → Comes (block_from (inner.Dos number None (Some e) ∷ stmts) (inner_state block values base memory input out)) (suc (steps_for stmts))
-        (state (line (text_stmt (inner.Dos number None (Some e))) at lines) values cells input out)
+        → IsUnstuck (block_from (inner.Dos number None (Some e) ∷ stmts) (inner_state block values base memory input events))
+        → Comes (block_from (inner.Dos number None (Some e) ∷ stmts) (inner_state block values base memory input events)) (suc (steps_for stmts))
+        (state (line (text_stmt (inner.Dos number None (Some e))) at lines) values cells input events)
     argument-comes number e formed lifted unstuck =
         let (which, read) = and_parts (number == 2 || number == 76) (is_lifted_expr e) lifted in
         elim (or_cases (number == 2) (number == 76) which) [
@@ -344,32 +337,32 @@ module _ (image : List ℕ) (lo hi entry local pushed : ℕ) (params : List Para
         ]
       where
         writes : (n : ℕ) → n ≡ 2 → is_lifted_expr e ≡ true → is_stmt temporary_bits (inner.Dos n None (Some e)) ≡ true
-            → IsUnstuck (block_from (inner.Dos n None (Some e) ∷ stmts) (inner_state block values base memory input out))
-            → Comes (block_from (inner.Dos n None (Some e) ∷ stmts) (inner_state block values base memory input out)) (suc (steps_for stmts))
-            (state (line (text_stmt (inner.Dos n None (Some e))) at lines) values cells input out)
+            → IsUnstuck (block_from (inner.Dos n None (Some e) ∷ stmts) (inner_state block values base memory input events))
+            → Comes (block_from (inner.Dos n None (Some e) ∷ stmts) (inner_state block values base memory input events)) (suc (steps_for stmts))
+            (state (line (text_stmt (inner.Dos n None (Some e))) at lines) values cells input events)
         writes n is read =
             subst (λ k. is_stmt temporary_bits (inner.Dos k None (Some e)) ≡ true
-            → IsUnstuck (block_from (inner.Dos k None (Some e) ∷ stmts) (inner_state block values base memory input out))
-            → Comes (block_from (inner.Dos k None (Some e) ∷ stmts) (inner_state block values base memory input out)) (suc (steps_for stmts))
-            (state (line (text_stmt (inner.Dos k None (Some e))) at lines) values cells input out))
+            → IsUnstuck (block_from (inner.Dos k None (Some e) ∷ stmts) (inner_state block values base memory input events))
+            → Comes (block_from (inner.Dos k None (Some e) ∷ stmts) (inner_state block values base memory input events)) (suc (steps_for stmts))
+            (state (line (text_stmt (inner.Dos k None (Some e))) at lines) values cells input events))
             (sym is) (λ formed unstuck. putc-comes e formed read unstuck)
 
         leaves : (n : ℕ) → n ≡ 76 → is_lifted_expr e ≡ true → is_stmt temporary_bits (inner.Dos n None (Some e)) ≡ true
-            → IsUnstuck (block_from (inner.Dos n None (Some e) ∷ stmts) (inner_state block values base memory input out))
-            → Comes (block_from (inner.Dos n None (Some e) ∷ stmts) (inner_state block values base memory input out)) (suc (steps_for stmts))
-            (state (line (text_stmt (inner.Dos n None (Some e))) at lines) values cells input out)
+            → IsUnstuck (block_from (inner.Dos n None (Some e) ∷ stmts) (inner_state block values base memory input events))
+            → Comes (block_from (inner.Dos n None (Some e) ∷ stmts) (inner_state block values base memory input events)) (suc (steps_for stmts))
+            (state (line (text_stmt (inner.Dos n None (Some e))) at lines) values cells input events)
         leaves n is read =
             subst (λ k. is_stmt temporary_bits (inner.Dos k None (Some e)) ≡ true
-            → IsUnstuck (block_from (inner.Dos k None (Some e) ∷ stmts) (inner_state block values base memory input out))
-            → Comes (block_from (inner.Dos k None (Some e) ∷ stmts) (inner_state block values base memory input out)) (suc (steps_for stmts))
-            (state (line (text_stmt (inner.Dos k None (Some e))) at lines) values cells input out))
+            → IsUnstuck (block_from (inner.Dos k None (Some e) ∷ stmts) (inner_state block values base memory input events))
+            → Comes (block_from (inner.Dos k None (Some e) ∷ stmts) (inner_state block values base memory input events)) (suc (steps_for stmts))
+            (state (line (text_stmt (inner.Dos k None (Some e))) at lines) values cells input events))
             (sym is) (λ formed unstuck. leave-comes e formed read)
 
     -- a DOS call that gives a byte
     byte-comes : (number : ℕ) (location : Loc) → is_stmt temporary_bits (inner.Dos number (Some location) None) ≡ true → is_lifted_stmt (inner.Dos number (Some location) None) ≡ true
-        → IsUnstuck (block_from (inner.Dos number (Some location) None ∷ stmts) (inner_state block values base memory input out))
-        → Comes (block_from (inner.Dos number (Some location) None ∷ stmts) (inner_state block values base memory input out)) (suc (steps_for stmts))
-        (state (line (text_stmt (inner.Dos number (Some location) None)) at lines) values cells input out)
+        → IsUnstuck (block_from (inner.Dos number (Some location) None ∷ stmts) (inner_state block values base memory input events))
+        → Comes (block_from (inner.Dos number (Some location) None ∷ stmts) (inner_state block values base memory input events)) (suc (steps_for stmts))
+        (state (line (text_stmt (inner.Dos number (Some location) None)) at lines) values cells input events)
     byte-comes number location formed lifted unstuck =
         let (which, half) = and_parts (number == 1 || number == 8) (is_lifted_half location) lifted in
         let (also, place) = and_parts (number == 1 || number == 8) (is_byte_place temporary_bits (Some location)) formed in
@@ -378,27 +371,27 @@ module _ (image : List ℕ) (lo hi entry local pushed : ℕ) (params : List Para
         let width = eqb-true (location_width temporary_bits location) 8 wide in
         elim (or_cases (number == 1) (number == 8) which) [
           | inl one ↦ by 1 number true (eqb-true number 1 one) is width (λ s. refl)
-              (getche-step lo hi functions f frame fill at lines values cells input out location is width (key-fits input bytes)) unstuck
+              (getche-step lo hi functions f frame fill at lines values cells input events location is width (key-fits input bytes)) unstuck
           | inr eight ↦ by 8 number false (eqb-true number 8 eight) is width (λ s. refl)
-              (getch-step lo hi functions f frame fill at lines values cells input out location is width (key-fits input bytes)) unstuck
+              (getch-step lo hi functions f frame fill at lines values cells input events location is width (key-fits input bytes)) unstuck
         ]
       where
         by : (known n : ℕ) (echo : Bool) → n ≡ known → IsPlace location → location_width temporary_bits location ≡ 8
             → ((s : run.State) → run.dos_step known (Some location) 0 s ≡ run.keyed echo (Some location) s.input s)
-            → c_step (state (line (text_stmt (inner.Dos known (Some location) None)) at lines) values cells input out)
-            ≡ state lines (with_value values location (key_of input)) cells (left_of input) (out ++ echo_of echo input)
-            → IsUnstuck (block_from (inner.Dos n (Some location) None ∷ stmts) (inner_state block values base memory input out))
-            → Comes (block_from (inner.Dos n (Some location) None ∷ stmts) (inner_state block values base memory input out)) (suc (steps_for stmts))
-            (state (line (text_stmt (inner.Dos n (Some location) None)) at lines) values cells input out)
+            → c_step (state (line (text_stmt (inner.Dos known (Some location) None)) at lines) values cells input events)
+            ≡ state lines (with_value values location (key_of input)) cells (left_of input) (events ++ key_events echo input)
+            → IsUnstuck (block_from (inner.Dos n (Some location) None ∷ stmts) (inner_state block values base memory input events))
+            → Comes (block_from (inner.Dos n (Some location) None ∷ stmts) (inner_state block values base memory input events)) (suc (steps_for stmts))
+            (state (line (text_stmt (inner.Dos n (Some location) None)) at lines) values cells input events)
         by known n echo same is width does to =
-            subst (λ k. IsUnstuck (block_from (inner.Dos k (Some location) None ∷ stmts) (inner_state block values base memory input out))
-            → Comes (block_from (inner.Dos k (Some location) None ∷ stmts) (inner_state block values base memory input out)) (suc (steps_for stmts))
-            (state (line (text_stmt (inner.Dos k (Some location) None)) at lines) values cells input out))
+            subst (λ k. IsUnstuck (block_from (inner.Dos k (Some location) None ∷ stmts) (inner_state block values base memory input events))
+            → Comes (block_from (inner.Dos k (Some location) None ∷ stmts) (inner_state block values base memory input events)) (suc (steps_for stmts))
+            (state (line (text_stmt (inner.Dos k (Some location) None)) at lines) values cells input events))
             (sym same) (λ unstuck. key-comes known echo location is width does to unstuck)
 
     stmt-comes : (stmt : inner.Stmt) → is_stmt temporary_bits stmt ≡ true → is_lifted_stmt stmt ≡ true → (counted : Stmt) → IsCounted (text_stmt stmt) counted
-        → IsUnstuck (block_from (stmt ∷ stmts) (inner_state block values base memory input out))
-        → Comes (block_from (stmt ∷ stmts) (inner_state block values base memory input out)) (suc (steps_for stmts)) (state (line counted at lines) values cells input out)
+        → IsUnstuck (block_from (stmt ∷ stmts) (inner_state block values base memory input events))
+        → Comes (block_from (stmt ∷ stmts) (inner_state block values base memory input events)) (suc (steps_for stmts)) (state (line counted at lines) values cells input events)
     stmt-comes (inner.Set location e) formed lifted counted unchanged unstuck = set-comes location e formed lifted unstuck
     stmt-comes (inner.Dos number None (Some e)) formed lifted counted unchanged unstuck = argument-comes number e formed lifted unstuck
     stmt-comes (inner.Dos number (Some location) None) formed lifted counted unchanged unstuck = byte-comes number location formed lifted unstuck
@@ -412,14 +405,14 @@ module _ (image : List ℕ) (lo hi entry local pushed : ℕ) (params : List Para
   stmts-come : (stmts : List inner.Stmt) (block : inner.Block) → list_all (is_stmt temporary_bits) stmts ≡ true → list_all is_lifted_stmt stmts ≡ true
       → is_exit temporary_bits (length blocks) block.exit ≡ true → is_lifted_exit block.exit ≡ true
       → (others : List Stmt) (lines : Lines) → AreLined (map text_stmt stmts ++ text_exit blocks block.exit ∷ others) lines → Later stmts block others lines
-  stmts-come [] block formed lifted end_formed end_lifted others lines lined values base memory cells input out held bytes unstuck =
-      exit-comes values base memory cells input out held bytes block block.exit others lines end_formed end_lifted lined unstuck
-  stmts-come (stmt ∷ stmts) block formed lifted end_formed end_lifted others no_lines lined values base memory cells input out held bytes unstuck = elim lined [ ]
-  stmts-come (stmt ∷ stmts) block formed lifted end_formed end_lifted others (line counted at lines) (one_more kept lined) values base memory cells input out held bytes unstuck =
+  stmts-come [] block formed lifted end_formed end_lifted others lines lined values base memory cells input events held bytes unstuck =
+      exit-comes values base memory cells input events held bytes block block.exit others lines end_formed end_lifted lined unstuck
+  stmts-come (stmt ∷ stmts) block formed lifted end_formed end_lifted others no_lines lined values base memory cells input events held bytes unstuck = elim lined [ ]
+  stmts-come (stmt ∷ stmts) block formed lifted end_formed end_lifted others (line counted at lines) (one_more kept lined) values base memory cells input events held bytes unstuck =
       let (here, rest) = and_parts (is_stmt temporary_bits stmt) (list_all (is_stmt temporary_bits) stmts) formed in
       let (mine, theirs) = and_parts (is_lifted_stmt stmt) (list_all is_lifted_stmt stmts) lifted in
       stmt-comes block stmts others at lines
-      (stmts-come stmts block rest theirs end_formed end_lifted others lines lined) values base memory cells input out held bytes stmt here mine counted
+      (stmts-come stmts block rest theirs end_formed end_lifted others lines lined) values base memory cells input events held bytes stmt here mine counted
       kept unstuck
 
   -- Blocks.
@@ -434,30 +427,29 @@ module _ (image : List ℕ) (lo hi entry local pushed : ℕ) (params : List Para
   unstuck-later : (s : run.State) → IsUnstuck s → IsUnstuck (run.step program fill s)
   unstuck-later s unstuck n = unstuck (suc n)
 
-  pub at-leaps : (s : run.State) (t : c.State) → IsAt s t → IsLeap (run.inner_system program fill) (text_system (text lo hi functions f frame fill)) IsAt most s t
+  -- the program's run, whose blocks are marked
+  abbrev pub watched : Watched run.State Place
+  watched = run.watched_inner program fill
+
+  pub at-leaps : (s : run.State) (t : c.State) → IsAt s t → IsLeap watched (text_system (text lo hi functions f frame fill)) IsAt most s t
   at-leaps s t x =
       let (stmts_formed, end_formed) = and_parts (list_all (is_stmt temporary_bits) x.block.stmts) (is_exit temporary_bits (length blocks) x.block.exit) x.good_block.formed in
       let (stmts_lifted, end_lifted) = and_parts (list_all is_lifted_stmt x.block.stmts) (is_lifted_exit x.block.exit) x.good_block.lifted in
       let label = label-following x.block x.others x.lines x.lined in
-      let start = inner_state x.block x.values x.base x.memory x.input x.out in
+      let start = inner_state x.block x.values x.base x.memory x.input x.events in
+      let first = state (line (Label (label_name x.block.at)) label.0 label.1) x.values x.cells x.input x.events in
       let next : IsUnstuck (run.step program fill start) = subst (λ u. IsUnstuck (run.step program fill u)) x.inner_is (unstuck-later s x.unstuck) in
-      let come = stmts-come x.block.stmts x.block stmts_formed stmts_lifted end_formed end_lifted x.others label.1 label.3 x.values x.base x.memory x.cells x.input x.out x.held x.bytes next in
-      let whole = one_before (run.step program fill start) (steps_for x.block.stmts)
-      (state (line (Label (label_name x.block.at)) label.0 label.1) x.values x.cells x.input x.out) (state label.1 x.values x.cells x.input x.out) refl
-      (label-step lo hi functions f frame fill label.0 label.1 x.values x.cells x.input x.out (label_name x.block.at)) come in
-      let text_is = x.text_is ∙ ap (λ l. state l x.values x.cells x.input x.out) label.2 in
-      let made : IsLeap (run.inner_system program fill) (text_system (text lo hi functions f frame fill)) IsAt most start
-      (state (line (Label (label_name x.block.at)) label.0 label.1) x.values x.cells x.input x.out) = record {
-        further = whole.further;
+      let come = stmts-come x.block.stmts x.block stmts_formed stmts_lifted end_formed end_lifted x.others label.1 label.3 x.values x.base x.memory x.cells x.input x.events x.held x.bytes next in
+      let whole = one_before (run.step program fill start) (steps_for x.block.stmts) first (state label.1 x.values x.cells x.input x.events)
+      (label-step lo hi functions f frame fill label.0 label.1 x.values x.cells x.input x.events (label_name x.block.at)) come in
+      let text_is = x.text_is ∙ ap (λ l. state l x.values x.cells x.input x.events) label.2 in
+      let made : IsLeap watched (text_system (text lo hi functions f frame fill)) IsAt most start first = record {
+        marked = record { place = record { entry = entry; at = x.block.at }; mark = refl; running = refl };
+        stands = record { end = refl; events = refl };
+        steps = whole.steps;
+        some = whole.some;
         few = omega (arith, whole.within, steps-are x.block.stmts, x.good_block.few);
-        running = whole.running;
-        goes_on = whole.goes_on;
+        leads = elim whole.leads [ inl at ↦ inl at | inr ends ↦ inr (ends.over, record { end = ends.end; events = ends.events }) ];
       } in
-      subst (λ u. IsLeap (run.inner_system program fill) (text_system (text lo hi functions f frame fill)) IsAt most u t) (sym x.inner_is)
-      (subst (λ v. IsLeap (run.inner_system program fill) (text_system (text lo hi functions f frame fill)) IsAt most start v) (sym text_is) made)
-
-  pub at-alike : (s : run.State) (t : c.State) → IsAt s t → AreAlike (run.inner_system program fill) (text_system (text lo hi functions f frame fill)) s t
-  at-alike s t x = record {
-    out = ap (λ u. u.out) x.text_is ∙ ap (λ u. u.out) (sym x.inner_is);
-    end = ap (λ u. u.end) x.text_is ∙ ap (λ u. u.end) (sym x.inner_is);
-  }
+      subst (λ u. IsLeap watched (text_system (text lo hi functions f frame fill)) IsAt most u t) (sym x.inner_is)
+      (subst (λ v. IsLeap watched (text_system (text lo hi functions f frame fill)) IsAt most start v) (sym text_is) made)

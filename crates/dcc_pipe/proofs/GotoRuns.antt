@@ -1,13 +1,16 @@
--- The run of a lifted program and that of its text follow each other.
-use Rattle.std.proofs.Common.{◌≡◌, ◌≢◌, ℕ, zero, suc, ◌+◌, ◌*◌, ◌%◌, ◌<◌, ◌≤◌, Bool, true, false, List, [], ◌∷◌, ◌++◌, length, map, Some, None, refl, sym, ap, ap₂, ◌∙◌, subst, arith, mod-lt}
-use Rattle.std.specs.Prelude.{nat_le, slice_get, All, if◌then◌else◌}
+-- Each step of a lifted program's run is a leap of its text's.
+use Rattle.std.proofs.Common.{◌≡◌, ◌≢◌, ℕ, zero, suc, ◌+◌, ◌%◌, ◌<◌, ◌≤◌, Bool, true, false, List, [], ◌∷◌, ◌++◌, length, map, Some, None, refl, sym, ap, ap₂, ◌∙◌, subst, arith, mod-lt}
+use Rattle.std.specs.Prelude.{◌⊎◌, nat_le, slice_get, All, if◌then◌else◌}
 use Rattle.std.specs.List.{flat_map, list_all}
 use Rattle.std.proofs.lemmas.Nat.{pow_pos}
 use Rattle.std.proofs.lemmas.List.{length-append, length-map}
 use Rattle.std.proofs.lemmas.Bool.{and_parts}
 use Rattle.dcc_run.specs.End.{Running, Stuck, is_over}
 use Rattle.dcc_run.specs.System.{after, end_after}
-use Rattle.dcc_run.specs.Follows.{Follows}
+use Rattle.dcc_run.specs.Watched.{is_shown}
+use Rattle.dcc_run.specs.Shadows.{Counts}
+use Rattle.dcc_run.proofs.CountLaws.{kept_count}
+use Rattle.dcc_run.proofs.LeapLaws.{IsLeap, leaps_count, leaps_show, leaps_go_on}
 use Rattle.dcc_num.specs.declared.FlagName.TheVariants.{Cf, Zf, Sf, Of}
 use Rattle.dcc_ir.specs.declared.syntax.Loc.{Loc}
 use Rattle.dcc_ir.specs.declared.syntax.Loc.TheVariants.{Flag}
@@ -16,27 +19,23 @@ use Rattle.dcc_ir.specs.Location.{location_width, Values, with_value, filled}
 use Rattle.dcc_ir.specs.Tree as inner
 use Rattle.dcc_ir.specs.WellFormed.{all_differ, is_block}
 use Rattle.dcc_ir.specs.Run as run
-use Rattle.dcc_ir.proofs.RunLaws.{inner_lawful}
+use Rattle.dcc_ir.proofs.RunLaws.{inner_watchable}
 use Rattle.dcc_lift.specs.Temporaries.{temporary_bits}
 use Rattle.dcc_lift.specs.Form.{is_lifted_block}
-use Rattle.dcc_lift.specs.Lifted.{offset_mark}
 use Rattle.dcc_c.specs.declared.syntax.Base.TheVariants.{Int}
 use Rattle.dcc_c.specs.Types.{convert}
 use Rattle.dcc_c.specs.Tree.{Stmt, Lines, no_lines, line, Function, Tree}
 use Rattle.dcc_c.specs.Placement.{param_places, local_places}
 use Rattle.dcc_c.specs.Run as c
 use Rattle.dcc_c.specs.Run.{ends_function, text_system}
-use Rattle.dcc_c.proofs.RunLaws.{text_lawful}
 use Rattle.dcc_pipe.specs.Variables.{locations, variable, flags, unsigned_type}
 use Rattle.dcc_pipe.specs.GotoText.{label_name, text_stmt, text_block, flag_cut}
-use Rattle.dcc_pipe.proofs.FollowLaws.{Always}
-use Rattle.dcc_pipe.proofs.LeapLaws.{leap-follows, leap-leads, related-after}
 use Rattle.dcc_pipe.proofs.Places.{IsPlace, bound, bindings_of}
 use Rattle.dcc_pipe.proofs.ExprMeanings.{AreHeld}
 use Rattle.dcc_pipe.proofs.TextSteps.{text, text_state, flag-step}
 use Rattle.dcc_pipe.proofs.HeldLaws.{bytes-of}
 use Rattle.dcc_pipe.proofs.Lined.{IsCounted, unchanged, AreLined, one_more, IsFlat, flat, AreFlat, none_flat, more_flat, flat-append, blocks-flat, Passes, passed, passes, following, Lands, AreBelow, land}
-use Rattle.dcc_pipe.proofs.BlockRuns.{IsGood, IsAt, at-leaps, at-alike}
+use Rattle.dcc_pipe.proofs.BlockRuns.{IsGood, IsAt, at-leaps}
 
 -- The variables at the start.
 
@@ -207,14 +206,6 @@ module _ (lo hi : ℕ) (functions : List Function) (f : Function) (frame fill : 
       (flag-place Of) refl (byte-room (Flag Of) (flag-place Of) refl)
       ∙ ap (λ bs. record (text_state lo hi functions f frame fill lines (cut_values fill) cells input []) { frame = record { function = f; base = frame; variables = bs } }) (cut-filled fill)
 
-  first-quiet : (j : ℕ) → j ≤ 4 → is_over (end_after (text_system (text lo hi functions f frame fill)) j first_text) ≡ false
-  first-quiet zero low = refl
-  first-quiet (suc zero) low = ap (λ u. is_over u.end) one-is
-  first-quiet (suc (suc zero)) low = ap (λ u. is_over u.end) two-is
-  first-quiet (suc (suc (suc zero))) low = ap (λ u. is_over u.end) three-is
-  first-quiet (suc (suc (suc (suc zero)))) low = ap (λ u. is_over u.end) four-is
-  first-quiet (suc (suc (suc (suc (suc j))))) low = absurd (omega (arith, low))
-
 -- The text's first state.
 
 locals-first : (fill base used : ℕ) (ls : List Loc) → c.local_bindings fill (map variable ls) (local_places base used (map variable ls))
@@ -241,7 +232,7 @@ first-state-is lo hi fill functions start input no_params are =
       fill = fill;
       memory = c.stack_memory lo hi fill;
       input = input;
-      out = [];
+      events = [];
       end = Running;
     }) (first-variables fill ((hi + 2) % 65536) start locations no_params are)
 
@@ -343,7 +334,7 @@ module _ (image : List ℕ) (lo hi entry local pushed : ℕ) (params : List Para
           memory = run.first_memory goto_program fill;
           cells = cells;
           input = input;
-          out = [];
+          events = [];
           held = filled-held fill;
           bytes = bytes-of input bytes;
           lines = lines_of.after_flags;
@@ -354,41 +345,31 @@ module _ (image : List ℕ) (lo hi entry local pushed : ℕ) (params : List Para
             waiting = [];
             memory = run.first_memory goto_program fill;
             input = input;
-            out = [];
+            events = [];
             end = Running;
           })) is.begins;
           text_is = ap (after (c.step goto_text) 4) first-is ∙ four-is lo hi functions start frame fill lines_of.after_flags lines_of.a lines_of.b lines_of.c lines_of.d cells input;
           unstuck = unstuck;
         }
 
-    first-quiet-text : (j : ℕ) → j ≤ 4 → is_over (end_after (text_system goto_text) j (c.first_state goto_text start fill input)) ≡ false
-    first-quiet-text j low =
-        ap (λ t. is_over (end_after (text_system goto_text) j t)) first-is
-        ∙ first-quiet lo hi functions start frame fill lines_of.after_flags lines_of.a lines_of.b lines_of.c lines_of.d cells input j low
+    goto-leaps : (s : run.State) (t : c.State) → related s t → IsLeap (run.watched_inner goto_program fill) (text_system goto_text) related statements s t
+    goto-leaps = at-leaps image lo hi entry local pushed params blocks functions start frame fill statements goto-good goto-jumps
 
-    -- the text follows the program
-    pub text-follows : Follows Always (run.inner_system goto_program fill) (run.first_state goto_program fill input) (text_system goto_text)
-        (c.first_state goto_text start fill input) (λ n. n * statements + 4)
-    text-follows =
-        leap-follows (run.inner_system goto_program fill) (text_system goto_text) related statements (inner_lawful goto_program fill) (text_lawful goto_text)
-        (at-alike image lo hi entry local pushed params blocks functions start frame fill statements goto-good goto-jumps)
-        (at-leaps image lo hi entry local pushed params blocks functions start frame fill statements goto-good goto-jumps)
-        (run.first_state goto_program fill input) (c.first_state goto_text start fill input) 4 first-quiet-text first-related
+    -- The text counts the program's visits; the program is seen in each state, and it visits ever more blocks or ends.
+    pub text-counts : (within : ℕ) → 4 ≤ within → statements ≤ within
+        → Counts (λ place. true) (run.watched_inner goto_program fill) (run.first_state goto_program fill input) (text_system goto_text) (c.first_state goto_text start fill input) within
+    text-counts =
+        leaps_count (run.watched_inner goto_program fill) (text_system goto_text) (inner_watchable goto_program fill) related statements goto-leaps
+        (run.first_state goto_program fill input) (c.first_state goto_text start fill input) 4 first-related
 
-    -- and the program the text
-    pub text-leads : Follows Always (text_system goto_text) (c.first_state goto_text start fill input) (run.inner_system goto_program fill) (run.first_state goto_program fill input) (λ k. k)
-    text-leads =
-        leap-leads (run.inner_system goto_program fill) (text_system goto_text) related statements (inner_lawful goto_program fill) (text_lawful goto_text)
-        (at-alike image lo hi entry local pushed params blocks functions start frame fill statements goto-good goto-jumps)
-        (at-leaps image lo hi entry local pushed params blocks functions start frame fill statements goto-good goto-jumps)
-        (run.first_state goto_program fill input) (c.first_state goto_text start fill input) 4 first-quiet-text first-related
+    pub goto-shows : (m : ℕ) → is_shown (run.watched_inner goto_program fill) (after (run.step goto_program fill) m (run.first_state goto_program fill input)) ≡ true
+    goto-shows =
+        leaps_show (run.watched_inner goto_program fill) (text_system goto_text) (inner_watchable goto_program fill) related statements goto-leaps
+        (run.first_state goto_program fill input) (c.first_state goto_text start fill input) 4 first-related
 
-    -- each step of the program begins a block
-    pub goto-marked : (m : ℕ) → is_over (end_after (run.inner_system goto_program fill) m (run.first_state goto_program fill input)) ≡ false
-        → (place : ℕ) × (offset_mark (after (run.step goto_program fill) m (run.first_state goto_program fill input)) ≡ Some place)
-    goto-marked m runs =
-        let x = related-after (run.inner_system goto_program fill) (text_system goto_text) related statements (inner_lawful goto_program fill) (text_lawful goto_text)
-        (at-alike image lo hi entry local pushed params blocks functions start frame fill statements goto-good goto-jumps)
-        (at-leaps image lo hi entry local pushed params blocks functions start frame fill statements goto-good goto-jumps)
-        m (run.first_state goto_program fill input) _ first-related runs in
-        (x.1.block.at, ap offset_mark x.1.inner_is)
+    pub goto-goes_on : (k : ℕ) → (m : ℕ)
+        × ((k ≤ kept_count (λ place. true) (run.watched_inner goto_program fill) m (run.first_state goto_program fill input))
+        ⊎ (is_over (end_after (run.inner_system goto_program fill) m (run.first_state goto_program fill input)) ≡ true))
+    goto-goes_on =
+        leaps_go_on (run.watched_inner goto_program fill) (text_system goto_text) (inner_watchable goto_program fill) related statements goto-leaps
+        (run.first_state goto_program fill input) (c.first_state goto_text start fill input) 4 first-related

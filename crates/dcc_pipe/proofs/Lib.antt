@@ -1,6 +1,3 @@
-pub mod FollowLaws
-pub mod LeapLaws
-pub mod VisitFollows
 pub mod Sizes
 pub mod Meanings
 pub mod Reckoning
@@ -31,3 +28,4 @@ pub mod CountedRows
 pub mod CountedTrees
 pub mod UnbrokenText
 pub mod CountedSimple
+pub mod RefusedLaws

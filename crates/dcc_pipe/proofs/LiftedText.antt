@@ -1,25 +1,31 @@
 -- The text of what is lifted from an image agrees with the image.
-use Rattle.std.proofs.Common.{◌≡◌, ◌≢◌, ℕ, suc, ◌+◌, ◌*◌, ◌^◌, ◌<◌, ◌≤◌, true, false, List, [], ◌∷◌, ◌++◌, length, map, Some, refl, sym, ap, ◌∙◌, subst, arith, add-one, mul-le-mul_left, mul-add}
-use Rattle.std.specs.Prelude.{All}
+use Rattle.std.proofs.Common.{◌≡◌, ◌≢◌, ℕ, zero, suc, ◌+◌, ◌*◌, ◌^◌, ◌<◌, ◌≤◌, true, false, List, [], ◌∷◌, ◌++◌, length, map, refl, sym, ap, ◌∙◌, subst, true≢false, arith}
+use Rattle.std.specs.Prelude.{◌⊎◌, All}
 use Rattle.std.specs.List.{flat_map}
+use Rattle.std.proofs.Math.Nat.{mul_comm}
 use Rattle.std.proofs.lemmas.List.{append-nil}
 use Rattle.dcc_run.specs.End.{Stuck, is_over}
-use Rattle.dcc_run.specs.System.{after, end_after}
-use Rattle.dcc_run.specs.Follows.{Follows}
+use Rattle.dcc_run.specs.Place.{Place}
+use Rattle.dcc_run.specs.Prefix.{IsPrefix}
+use Rattle.dcc_run.specs.System.{System, after, events_after, end_after}
+use Rattle.dcc_run.specs.Agreement.{KeepsUp}
+use Rattle.dcc_run.specs.Watched.{Watched, IsWatchable, is_shown}
+use Rattle.dcc_run.specs.Shadows.{only, Counts}
+use Rattle.dcc_run.proofs.KeptLaws.{only_watchable, pace_of_all}
+use Rattle.dcc_run.proofs.CountLaws.{kept_count, third_keeps_up, first_keeps_up_with_third, never_stuck}
 use Rattle.dcc_prog.specs.declared.image.Image.{Image}
 use Rattle.dcc_prog.specs.declared.procedure.Layout.{Layout}
 use Rattle.dcc_prog.specs.declared.procedure.Proc.{Proc}
-use Rattle.dcc_prog.specs.MzImage.{IsLoaded}
 use Rattle.dcc_prog.specs.Layout.{HasLayout}
-use Rattle.dcc_prog.specs.Found.{AreFound}
-use Rattle.dcc_prog.specs.Machine.{start_state}
+use Rattle.dcc_prog.specs.Machine.{State as Machine, start_state}
 use Rattle.dcc_prog.specs.Step.{machine_system}
-use Rattle.dcc_prog.proofs.StepLaws.{machine_lawful}
+use Rattle.dcc_prog.specs.Watch.{Watch, is_foul, watched_machine, first_watch, IsClean}
+use Rattle.dcc_prog.proofs.WatchLaws.{machine_watchable, machine_after}
 use Rattle.dcc_ir.specs.Tree as inner
 use Rattle.dcc_ir.specs.Run as run
-use Rattle.dcc_ir.proofs.RunLaws.{inner_lawful}
+use Rattle.dcc_ir.specs.Keeps.{has_block}
 use Rattle.dcc_lift.specs.Temporaries.{temporary_bits}
-use Rattle.dcc_lift.specs.Lifted.{IsLifted, IsLiftOf, has_block_at, instruction_mark, offset_mark}
+use Rattle.dcc_lift.specs.Lifted.{IsLifted, steps_between, steps_at_start}
 use Rattle.dcc_c.specs.Tree.{Stmt, Lines, Function, Tree}
 use Rattle.dcc_c.specs.Numbered.{numbered, numbered_function}
 use Rattle.dcc_c.specs.Run as c
@@ -29,11 +35,9 @@ use Rattle.dcc_c.proofs.RunLaws.{text_lawful}
 use Rattle.dcc_pipe.specs.Variables.{flags}
 use Rattle.dcc_pipe.specs.GotoText.{flag_cut, text_block, text_graph, text_stmts, goto_start, goto_tree}
 use Rattle.dcc_pipe.specs.Agreement.{RunsAgree}
-use Rattle.dcc_pipe.proofs.FollowLaws.{Always, follows_trans, follows_wider}
-use Rattle.dcc_pipe.proofs.VisitFollows.{visits-follow}
 use Rattle.dcc_pipe.proofs.Lined.{AreLined, no_more, one_more, AreFlat, none_flat, flat-append, counted-lined, blocks-flat}
 use Rattle.dcc_pipe.proofs.TokenCounts.{count_of, unit-count}
-use Rattle.dcc_pipe.proofs.GotoRuns.{flags-flat, goto_stmts, IsGotoStart, text-follows, text-leads, goto-marked}
+use Rattle.dcc_pipe.proofs.GotoRuns.{flags-flat, goto_stmts, IsGotoStart, text-counts, goto-shows, goto-goes_on}
 use Rattle.dcc_pipe.proofs.LiftedGraph.{lifted-goto}
 
 -- as many lines as statements
@@ -60,14 +64,6 @@ goto-starts at graphs g is = record {
   lined = subst (λ stmts. AreLined stmts (numbered_function at (goto_start graphs)).body) (one-graph graphs g is) (counted-start at graphs);
 }
 
--- the bound of the steps
-bound-wide : (n st tokens : ℕ) → st + 4 ≤ tokens → suc n * st + 4 ≤ (n + 1) * tokens
-bound-wide n st tokens enough =
-    let whole : (n + 1) * (st + 4) ≤ (n + 1) * tokens = mul-le-mul_left (n + 1) enough in
-    let parts : (n + 1) * (st + 4) ≡ (n + 1) * st + (n + 1) * 4 = mul-add (n + 1) st 4 in
-    let same : suc n * st ≡ (n + 1) * st = ap (λ k. k * st) (sym (add-one n)) in
-    omega (arith, whole, parts, same)
-
 -- A program with its one graph, taken apart.
 abbrev with_graph : List inner.Graph → inner.Program → inner.Program
 with_graph graphs p = record { graphs = graphs; image = p.image; lo = p.lo; hi = p.hi }
@@ -81,12 +77,34 @@ program-is p g one bits = ap (λ graphs. with_graph graphs p) one ∙ ap (λ ws.
 head-equal : {A : Type 0} {a b : A} {xs ys : List A} → a ∷ xs ≡ b ∷ ys → a ≡ b
 head-equal e = cc
 
-module _ (image : Image) (layout : Layout) (procs : List Proc) (p : inner.Program) (loaded : IsLoaded image) (has : HasLayout image layout)
-    (are : AreFound image layout procs) (of : IsLiftOf image layout procs p) (text : List ℕ) (stands : StandsFor text (numbered (goto_tree p)))
-    (input : List ℕ) (fill : ℕ) (bytes : All (λ b. b < 256) input) (fits : fill < 2 ^ 16) where
-  abbrev lifted : IsLifted image layout of.start p
-  lifted = of.lifted
+-- What keeps up with the machine watched keeps up with the machine, and the other way.
+module _ {T : Type 0} (layout : Layout) (w : Watch) (clean : is_foul w ≡ false) (other : System T) (t : T) where
+  abbrev watched : System Watch
+  watched = (watched_machine layout).system
 
+  pub machine-first : (n m : ℕ) → KeepsUp watched w n other t m → KeepsUp machine_system w.machine n other t m
+  machine-first n m up =
+      let same = machine_after layout n w clean in
+      record {
+        events = subst (λ (s : Machine). IsPrefix s.events (events_after other m t)) same up.events;
+        alike = λ over.
+            let z = up.alike (ap (λ (s : Machine). is_over s.end) same ∙ over) in
+            record { end = z.end ∙ ap (λ (s : Machine). s.end) same; events = z.events ∙ ap (λ (s : Machine). s.events) same };
+      }
+
+  pub machine-second : (n m : ℕ) → KeepsUp other t n watched w m → KeepsUp other t n machine_system w.machine m
+  machine-second n m up =
+      let same = machine_after layout m w clean in
+      record {
+        events = subst (λ (s : Machine). IsPrefix (events_after other n t) s.events) same up.events;
+        alike = λ over.
+            let z = up.alike over in
+            record { end = ap (λ (s : Machine). s.end) (sym same) ∙ z.end; events = ap (λ (s : Machine). s.events) (sym same) ∙ z.events };
+      }
+
+module _ (image : Image) (layout : Layout) (start_proc : Proc) (p : inner.Program) (has : HasLayout image layout)
+    (lifted : IsLifted image layout start_proc p) (text : List ℕ) (stands : StandsFor text (numbered (goto_tree p)))
+    (input : List ℕ) (fill : ℕ) (bytes : All (λ b. b < 256) input) (fits : fill < 2 ^ 16) where
   abbrev g : inner.Graph
   g = lifted.framed.graph
 
@@ -95,6 +113,9 @@ module _ (image : Image) (layout : Layout) (procs : List Proc) (p : inner.Progra
 
   abbrev start : Function
   start = stands.allowed.start
+
+  abbrev tokens : ℕ
+  tokens = length stands.tokens
 
   starts : IsGotoStart g.blocks start
   starts = subst (IsGotoStart g.blocks) (head-equal stands.allowed.first) (goto-starts 3 p.graphs g lifted.framed.one)
@@ -109,40 +130,66 @@ module _ (image : Image) (layout : Layout) (procs : List Proc) (p : inner.Progra
       (run.first_state (with_graph (with_bits temporary_bits g ∷ []) p) fill input) ≢ Stuck at
   unstuck-there = subst (λ q. (n at : ℕ) → end_after (run.inner_system q fill) n (run.first_state q fill input) ≢ Stuck at) same unstuck
 
+  enough : length (goto_stmts g.blocks) + 4 ≤ tokens
+  enough = omega (arith, lined-count starts.lined, unit-count 200 stands.tokens tree start stands.allowed.others stands.formed refl stands.allowed.first)
+
   -- what is known of the program and the text
   record Together (q : inner.Program) (t : Tree) : Type 0 where
-    follows : Follows Always (run.inner_system q fill) (run.first_state q fill input) (text_system t) (c.first_state t start fill input) (λ n. n * length (goto_stmts g.blocks) + 4)
-    leads : Follows Always (text_system t) (c.first_state t start fill input) (run.inner_system q fill) (run.first_state q fill input) (λ k. k)
-    marked : (m : ℕ) → is_over (end_after (run.inner_system q fill) m (run.first_state q fill input)) ≡ false → (place : ℕ)
-        × (offset_mark (after (run.step q fill) m (run.first_state q fill input)) ≡ Some place)
+    counts : Counts (λ place. true) (run.watched_inner q fill) (run.first_state q fill input) (text_system t) (c.first_state t start fill input) tokens
+    shows : (m : ℕ) → is_shown (run.watched_inner q fill) (after (run.step q fill) m (run.first_state q fill input)) ≡ true
+    goes_on : (k : ℕ) → (m : ℕ) × ((k ≤ kept_count (λ place. true) (run.watched_inner q fill) m (run.first_state q fill input))
+        ⊎ (is_over (end_after (run.inner_system q fill) m (run.first_state q fill input)) ≡ true))
 
   together-there : (functions : List Function) → Together (with_graph (with_bits temporary_bits g ∷ []) p) (record { version = 1; lo = p.lo; hi = p.hi; globals = []; functions = functions })
   together-there functions =
-      let is = lifted-goto image layout procs p loaded has are of in record {
-        follows = text-follows p.image p.lo p.hi g.entry g.local g.pushed g.params g.blocks is functions start starts fill input bytes unstuck-there;
-        leads = text-leads p.image p.lo p.hi g.entry g.local g.pushed g.params g.blocks is functions start starts fill input bytes unstuck-there;
-        marked = goto-marked p.image p.lo p.hi g.entry g.local g.pushed g.params g.blocks is functions start starts fill input bytes unstuck-there;
+      let is = lifted-goto image layout start_proc p lifted in record {
+        counts = text-counts p.image p.lo p.hi g.entry g.local g.pushed g.params g.blocks is functions start starts fill input bytes unstuck-there
+            tokens (omega (arith, enough)) (omega (arith, enough));
+        shows = goto-shows p.image p.lo p.hi g.entry g.local g.pushed g.params g.blocks is functions start starts fill input bytes unstuck-there;
+        goes_on = goto-goes_on p.image p.lo p.hi g.entry g.local g.pushed g.params g.blocks is functions start starts fill input bytes unstuck-there;
       }
 
   together : Together p tree
   together = subst (λ q. Together q tree) (sym same) (together-there tree.functions)
 
-  enough : length (goto_stmts g.blocks) + 4 ≤ length stands.tokens
-  enough = omega (arith, lined-count starts.lined, unit-count 200 stands.tokens tree start stands.allowed.others stands.formed refl stands.allowed.first)
+  -- The machine watched, in the places of blocks.
+  abbrev machine : Watched Watch Place
+  machine = only (has_block p) (watched_machine layout)
 
-  pub text-agrees : RunsAgree image tree start (length stands.tokens) input fill
-  text-agrees =
-      let s = start_state image input in
-      let i = run.first_state p fill input in
-      let t = c.first_state tree start fill input in
-      let there = visits-follow (has_block_at p) machine_system instruction_mark s (run.inner_system p fill) offset_mark i machine_lawful (inner_lawful p fill)
-      (lifted.runs fill input fits bytes) together.marked in
-      let whole = follows_trans Always machine_system s (run.inner_system p fill) i (text_system tree) t suc (λ n. n * length (goto_stmts g.blocks) + 4) there together.follows in
-      record {
-        text_follows = follows_wider Always machine_system s (text_system tree) t (λ n. suc n * length (goto_stmts g.blocks) + 4)
-            (λ n. (n + 1) * length stands.tokens) (text_lawful tree) (λ n. bound-wide n (length (goto_stmts g.blocks)) (length stands.tokens) enough) whole;
-        machine_follows = follows_trans Always (text_system tree) t (run.inner_system p fill) i machine_system s (λ k. k) (λ m. (m + 1) * 65536) together.leads (lifted.pace fill input fits bytes);
-        never_stuck = λ k line ends.
-            let over : is_over (end_after (text_system tree) k t) ≡ true = ap is_over ends in
-            unstuck k line (together.leads.end k tt over ∙ ends);
-      }
+  machine-law : IsWatchable machine
+  machine-law = only_watchable (watched_machine layout) (has_block p) (machine_watchable layout)
+
+  abbrev w : Watch
+  w = first_watch image input
+
+  abbrev i : run.State
+  i = run.first_state p fill input
+
+  abbrev t : c.State
+  t = c.first_state tree start fill input
+
+  text-keeps_up : (n : ℕ) → IsClean image input n → KeepsUp machine_system (start_state image input) n (text_system tree) t ((n + 1) * tokens)
+  text-keeps_up n clean =
+      subst (λ m. KeepsUp machine_system (start_state image input) n (text_system tree) t m) (mul_comm tokens (n + 1))
+      (machine-first layout w refl (text_system tree) t n (tokens * (n + 1))
+      (third_keeps_up (λ place. true) machine (run.watched_inner p fill) (text_system tree) machine-law (text_lawful tree) w i t tokens together.counts
+      (lifted.runs fill input fits bytes) together.shows n (clean layout has)))
+
+  machine-keeps_up : (k : ℕ) → IsClean image input ((k + 1) * 65536) → KeepsUp (text_system tree) t k machine_system (start_state image input) ((k + 1) * 65536)
+  machine-keeps_up zero clean = record {
+    events = record { rest = events_after machine_system ((0 + 1) * 65536) (start_state image input); joins = refl };
+    alike = λ over. absurd (true≢false (sym over));
+  }
+  machine-keeps_up (suc k) clean =
+      let enough_steps : steps_at_start + suc k * steps_between < (suc k + 1) * 65536 = omega arith in
+      machine-second layout w refl (text_system tree) t (suc k) ((suc k + 1) * 65536)
+      (first_keeps_up_with_third (λ place. true) machine (run.watched_inner p fill) (text_system tree) machine-law (text_lawful tree) w i t tokens together.counts
+      (lifted.runs fill input fits bytes) steps_at_start steps_between (pace_of_all machine w steps_at_start steps_between (lifted.pace input bytes))
+      (suc k) ((suc k + 1) * 65536) enough_steps (clean layout has))
+
+  pub text-agrees : RunsAgree image tree start tokens input fill
+  text-agrees = record {
+    text_keeps_up = text-keeps_up;
+    machine_keeps_up = machine-keeps_up;
+    never_stuck = never_stuck (λ place. true) machine (run.watched_inner p fill) (text_system tree) machine-law (text_lawful tree) w i t tokens together.counts unstuck together.goes_on;
+  }

@@ -6,9 +6,7 @@ use Rattle.std.proofs.lemmas.List.Elements.{All-head}
 use Rattle.dcc_prog.specs.declared.image.Image.{Image}
 use Rattle.dcc_prog.specs.declared.procedure.Layout.{Layout}
 use Rattle.dcc_prog.specs.declared.procedure.Proc.{Proc}
-use Rattle.dcc_prog.specs.MzImage.{IsLoaded}
 use Rattle.dcc_prog.specs.Layout.{HasLayout}
-use Rattle.dcc_prog.specs.Found.{AreFound}
 use Rattle.dcc_ir.specs.Tree as inner
 use Rattle.dcc_ir.specs.Use.{graph_exprs}
 use Rattle.dcc_lift.specs.Lifted.{IsLifted, IsLiftOf, IsShallow}
@@ -27,8 +25,7 @@ use Rattle.dcc_pipe.proofs.WritableText.{goto-writable}
 use Rattle.dcc_pipe.proofs.LiftedGraph.{lifted-goto}
 use Rattle.dcc_pipe.proofs.LiftedText.{text-agrees}
 
-module _ (image : Image) (layout : Layout) (procs : List Proc) (p : inner.Program) (loaded : IsLoaded image) (has : HasLayout image layout)
-    (are : AreFound image layout procs) (of : IsLiftOf image layout procs p) where
+module _ (image : Image) (layout : Layout) (procs : List Proc) (p : inner.Program) (has : HasLayout image layout) (of : IsLiftOf image layout procs p) where
   abbrev lifted : IsLifted image layout of.start p
   lifted = of.lifted
 
@@ -37,7 +34,7 @@ module _ (image : Image) (layout : Layout) (procs : List Proc) (p : inner.Progra
   lifted-writable =
       let g = lifted.framed.graph in
       let low : IsShallow 7 g = All-head (IsShallow 7) g [] (subst (All (IsShallow 7)) lifted.framed.one lifted.shallow) in
-      goto-writable p g lifted.framed.one (lifted-goto image layout procs p loaded has are of) (shallow-of (graph_exprs g) low)
+      goto-writable p g lifted.framed.one (lifted-goto image layout of.start p lifted) (shallow-of (graph_exprs g) low)
       (omega (arith, lifted.framed.lo, has.small.has_stack, has.small.hi_fits)) (omega (arith, lifted.framed.hi, has.small.hi_fits))
 
   lifted-stands : StandsFor (written_form (goto_tree p)) (numbered (goto_tree p))
@@ -47,14 +44,12 @@ module _ (image : Image) (layout : Layout) (procs : List Proc) (p : inner.Progra
   pub lifted-text : IsTextOf image (written_form (goto_tree p)) (numbered (goto_tree p))
   lifted-text = record {
     stands = lifted-stands;
-    runs = λ input fill bytes fits. text-agrees image layout procs p loaded has are of (written_form (goto_tree p)) lifted-stands input fill bytes fits;
+    runs = λ input fill bytes fits. text-agrees image layout of.start p has lifted (written_form (goto_tree p)) lifted-stands input fill bytes fits;
   }
 
--- what is told of a unit whose tree is that text's, with its lines counted
-pub text-is : (image : Image) (layout : Layout) (procs : List Proc) (p : inner.Program) → IsLoaded image → HasLayout image layout → AreFound image layout procs → IsLiftOf image layout procs p
-    → (result : Result TextUnit AllocError) → IfOk result (λ unit. tree_of unit ≡ numbered (goto_tree p)) → IfOk result (λ unit. IsTextOf image (written_form (tree_of unit)) (tree_of unit))
-text-is image layout procs p loaded has are of (Ok unit) is =
-    let tree = numbered (goto_tree p) in
-    subst (λ t. IsTextOf image (written_form t) t) (sym is)
-    (subst (λ text. IsTextOf image text tree) (sym (written_numbered (goto_tree p))) (lifted-text image layout procs p loaded has are of))
-text-is image layout procs p loaded has are of (Err fault) is = tt
+  -- what is told of a unit whose tree is that text's, with its lines counted
+  pub text-is : (result : Result TextUnit AllocError) → IfOk result (λ unit. tree_of unit ≡ numbered (goto_tree p)) → IfOk result (λ unit. IsTextOf image (written_form (tree_of unit)) (tree_of unit))
+  text-is (Ok unit) is =
+      let tree = numbered (goto_tree p) in
+      subst (λ t. IsTextOf image (written_form t) t) (sym is) (subst (λ text. IsTextOf image text tree) (sym (written_numbered (goto_tree p))) lifted-text)
+  text-is (Err fault) is = tt

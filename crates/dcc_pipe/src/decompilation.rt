@@ -4,10 +4,10 @@ ghost use Rattle.std.specs.Prelude.{IfOk, IfErr};
 ghost use Rattle.dcc_prog.specs.MzImage.{IsLoaded};
 ghost use Rattle.dcc_prog.specs.Layout.{HasLayout};
 ghost use Rattle.dcc_prog.specs.Found.{AreFound};
+ghost use Rattle.dcc_prog.specs.Refused.{IsAcceptedProgram, IsRefusedFor};
 ghost use Rattle.dcc_c.specs.Views.{tree_of};
 ghost use Rattle.dcc_c.specs.Written.{written_form};
 ghost use Rattle.dcc_pipe.specs.Agreement.{IsTextOf};
-ghost use Rattle.dcc_pipe.specs.Answer.{IsAccepted, IsRefusal};
 
 use crate::goto_text::goto_text;
 use crate::number::number;
@@ -39,12 +39,14 @@ fn text_of(
 /// before each block, and jumps, with the lines where statements stand in the written form. The written form stands for
 /// the unit's tree, whose run on every input and from every fill agrees with that of the program.
 ///
-/// A program is refused where it has no layout, and where its procedures are refused.
+/// A program that is accepted has no construct, passes no limit, and reaches no instruction that is not built. One that
+/// is refused is told why, in this order: that it has no layout; or, of its layout, what stands on its trails. Want of
+/// memory may refuse any program.
 pub fn decompile(alloc: Global, image: &Image) -> Result<Unit, Refusal>
     requires { IsLoaded image.now }
     ensures text { IfOk result (λ unit. IsTextOf image.now (written_form (tree_of unit)) (tree_of unit)) }
-    ensures accepted { IfOk result (λ unit. IsAccepted image.now) }
-    ensures refused { IfErr result (IsRefusal image.now) }
+    ensures accepted { IfOk result (λ unit. IsAcceptedProgram image.now) }
+    ensures refused { IfErr result (IsRefusedFor image.now) }
 {
     let layout = layout(alloc, image)?;
     let procs = find(alloc, image, &layout)?;

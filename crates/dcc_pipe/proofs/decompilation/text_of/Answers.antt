@@ -12,6 +12,6 @@ pub returns : goal.returns
 returns c =
     let p = program_of c.in_ok-program.program in
     let unbroken = ap is_unbroken_tree c.in_ok-unit.ensures
-    ∙ tree-unbroken (goto_tree p) (lifted-writable c.args.image.now c.args.layout.now c.args.procs.now.items p c.requires.loaded c.requires.layout c.requires.found c.in_ok-program.ensures.lifted) in
-    text-is c.args.image.now c.args.layout.now c.args.procs.now.items p c.requires.loaded c.requires.layout c.requires.found c.in_ok-program.ensures.lifted c.number.result
+    ∙ tree-unbroken (goto_tree p) (lifted-writable c.args.image.now c.args.layout.now c.args.procs.now.items p c.requires.layout c.in_ok-program.ensures.lifted) in
+    text-is c.args.image.now c.args.layout.now c.args.procs.now.items p c.requires.layout c.in_ok-program.ensures.lifted c.number.result
     (IfOk-weaker c.number.result _ _ (λ unit is. is ∙ ap numbered c.in_ok-unit.ensures) (c.number.ensures unbroken))
