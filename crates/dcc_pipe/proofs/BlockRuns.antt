@@ -321,8 +321,8 @@ module _ (image : List ℕ) (lo hi entry local pushed : ℕ) (params : List Para
         (state (line (text_stmt (inner.Dos number (Some location) None)) at lines) values cells input events)
         (state lines (with_value values location (key_of input)) cells (left_of input) (events ++ key_events echo input)) to
         (subst (λ u. Comes u (steps_for stmts) (state lines (with_value values location (key_of input)) cells (left_of input) (events ++ key_events echo input))) (sym same)
-        (later (with_value values location (key_of input)) base memory cells (left_of input) (events ++ key_events echo input) (held-after values location (key_of input) held small) (left-bytes input bytes)
-        (subst IsUnstuck same unstuck)))
+        (later (with_value values location (key_of input)) base memory cells (left_of input) (events ++ key_events echo input)
+        (held-after values location (key_of input) held small) (left-bytes input bytes) (subst IsUnstuck same unstuck)))
 
     -- a DOS call with an argument
     argument-comes : (number : ℕ) (e : inner.Expr) → is_stmt temporary_bits (inner.Dos number None (Some e)) ≡ true → is_lifted_stmt (inner.Dos number None (Some e)) ≡ true

@@ -116,7 +116,7 @@ module _ {S P : Type 0} (w : Watched S P) where
       ]
 
 module _ {S P : Type 0} (w : Watched S P) (law : IsWatchable w) where
-  -- each visit of the first n steps has put out no more than is out after them
+  -- the events after the first n steps begin with those of each visit in them
   pub visits_until : (n : ℕ) (s : S) (whole : List Event) → IsPrefix (events_after w.system n s) whole → All (λ v. IsPrefix v.events whole) (visits w.system w.mark n s)
   visits_until zero s whole less = All-nil (λ v. IsPrefix v.events whole)
   visits_until (suc n) s whole less =
@@ -142,8 +142,8 @@ module _ {S P : Type 0} (w : Watched S P) (law : IsWatchable w) where
       here false None = All-nil (λ v. IsPrefix front v.events)
       here false (Some place) = All-cons (λ v. IsPrefix front v.events) (record { place = place; events = w.system.events s }) [] less (All-nil (λ v. IsPrefix front v.events))
 
-  -- Where more than k of the first m states are at marked places, what is out after k steps is no more than what each
-  -- number of bytes holds that none of these visits passes.
+  -- Where more than k of the first m states are at marked places, the events after k steps are a part of each list that
+  -- begins with those of all these visits.
   pub events_before_visits : (k m : ℕ) (s : S) (whole : List Event) → k < length (visits w.system w.mark m s) → All (λ v. IsPrefix v.events whole) (visits w.system w.mark m s) → IsPrefix
       (events_after w.system k s) whole
   events_before_visits k m s whole many all =

@@ -76,7 +76,7 @@ module _ {S P : Type 0} (kept : P → Bool) (w : Watched S P) where
 
 module _ {S T U P : Type 0} (kept : P → Bool) (first : Watched S P) (second : Watched T P) (third : System U) (law : IsWatchable first)
     (third_law : IsLawful third) (s : S) (t : T) (u : U) (within : ℕ) (counts : Counts kept second t third u within) where
-  -- where the second run is over, what the third has put out at any time is a part of that, and its end is the same
+  -- where the second run is over, its events begin with those of the third at any time, and the third's end is the same
   over_alike : (m k : ℕ) → is_over (end_after second.system m t) ≡ true →
       IsPrefix (events_after third k u) (events_after second.system m t) × (is_over (end_after third k u) ≡ true → EndsAlike second.system t m third u k)
   over_alike m k over =
