@@ -71,6 +71,8 @@ found_passes f (y ∷ ys) x e = go (f y) refl (found_passes f ys x) e
     go true t later o = let same : y ≡ x = cc in subst (λ z. f z ≡ true) same t
     go false n later o = later o
 
+pub found_entry : (graphs : List Graph) (entry : ℕ) (graph : Graph) → graph_at graphs entry ≡ Some graph → graph.entry ≡ entry
+found_entry graphs entry graph e = eqb-true graph.entry entry (found_passes (λ g. g.entry == entry) graphs graph e)
+
 pub found_again : (graphs : List Graph) (entry : ℕ) (graph : Graph) → graph_at graphs entry ≡ Some graph → graph_at graphs graph.entry ≡ Some graph
-found_again graphs entry graph e =
-    subst (λ n. graph_at graphs n ≡ Some graph) (sym (eqb-true graph.entry entry (found_passes (λ g. g.entry == entry) graphs graph e))) e
+found_again graphs entry graph e = subst (λ n. graph_at graphs n ≡ Some graph) (sym (found_entry graphs entry graph e)) e

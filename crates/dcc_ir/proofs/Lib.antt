@@ -1,4 +1,5 @@
 pub mod StepLaws
+pub mod passes
 pub mod RunLaws
 pub mod PathLaws
 pub mod FlowLaws

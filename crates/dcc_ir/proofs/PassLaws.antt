@@ -9,7 +9,7 @@ giving_nothing : (results : List Loc) (s : State) → giving results [] s ≡ s
 giving_nothing [] s = refl
 giving_nothing (location ∷ results) s = refl
 
-passing_nothing : (j : ℕ) (params : List Param) (s : State) → passing j params [] s ≡ s
+pub passing_nothing : (j : ℕ) (params : List Param) (s : State) → passing j params [] s ≡ s
 passing_nothing j [] s = refl
 passing_nothing j (param ∷ params) s = refl
 

@@ -429,15 +429,15 @@ module _ (p : Program) (well : IsProgram p) where
   callers-fit memory graph (w ∷ waiting) m h = All-cons (λ x. Fits (scene_in x.caller memory)) w waiting (record { values = h.0.values; len = m.len; bytes = m.bytes })
       (callers-fit memory w.caller.graph waiting m h.1)
 
+  pub good-fits : (s : State) → IsGood p s → StateFits s
+  good-fits s good = record {
+    running = scene-fits s good.safe.fit;
+    waiting = callers-fit s.memory s.running.graph s.waiting good.safe.fit.memory good.safe.callers;
+    input = good.safe.fit.console.left;
+    written = good.safe.fit.console.written;
+    taken = good.safe.fit.console.taken;
+  }
+
 -- each state that a well-formed program reaches fits its widths
 pub states-fit : (p : Program) → IsProgram p → (fill : ℕ) (input : List ℕ) → AreBytes input → (n : ℕ) → StateFits (reached p fill input n)
-states-fit p well fill input bytes n =
-    let s = reached p fill input n in
-    let h = (reached-good p well fill input bytes n).safe in
-    record {
-      running = scene-fits s h.fit;
-      waiting = callers-fit p well s.memory s.running.graph s.waiting h.fit.memory h.callers;
-      input = h.fit.console.left;
-      written = h.fit.console.written;
-      taken = h.fit.console.taken;
-    }
+states-fit p well fill input bytes n = good-fits p well (reached p fill input n) (reached-good p well fill input bytes n)

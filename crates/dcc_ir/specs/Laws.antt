@@ -1,5 +1,5 @@
 -- Laws of the inner language's definitions.
-use Rattle.std.specs.Prelude.{◌≡◌, ℕ, true, false, ◌^◌, ◌<◌, List, ◌++◌, if◌then◌else◌}
+use Rattle.std.specs.Prelude.{◌≡◌, ℕ, true, false, ◌^◌, ◌<◌, List, ◌++◌, if◌then◌else◌, All}
 use Rattle.std.specs.List.{list_any}
 use Rattle.dcc_run.specs.End.{is_over}
 use Rattle.dcc_run.specs.Watched.{IsWatchable}
@@ -11,6 +11,8 @@ use Rattle.dcc_ir.specs.Ends.{IsNeverStuck, HasNoSwitch, HasSoundEnds, SwitchesH
 use Rattle.dcc_ir.specs.Run.{State, execute, is_call, block_step, reached, watched_inner}
 use Rattle.dcc_ir.specs.Flow.{Flow, Reached, Leads, HaveOneEdge}
 use Rattle.dcc_ir.specs.Keeps.{Keeps}
+use Rattle.dcc_ir.specs.Passes.{KeepsRuns}
+use Rattle.dcc_ir.specs.Trimmed.{Trim, trimmed, IsTrimmable}
 
 -- a state that has ended stays, no step takes events back, and no step is foul
 abbrev pub RunsAreWatchable : Type 0
@@ -51,3 +53,12 @@ RunsAreNeverStuck = (p : Program) → IsProgram p → HasSoundEnds p → IsNever
 -- where no block of a well-formed program ends in a Switch, each Switch has its place
 abbrev pub NoSwitchHasPlaces : Type 0
 NoSwitchHasPlaces = (p : Program) → IsProgram p → HasNoSwitch p → SwitchesHavePlaces p
+
+-- a well-formed program keeps its own runs, by the theorem on passes
+abbrev pub ProgramsKeepTheirRuns : Type 0
+ProgramsKeepTheirRuns = (p : Program) → IsProgram p → KeepsRuns p p
+
+-- arguments and values given back that nothing reads may go
+abbrev pub UnreadMayGo : Type 0
+UnreadMayGo = (trim : Trim) (p : Program) → IsProgram p → IsProgram (trimmed trim p) → All (IsTrimmable trim) p.graphs
+    → KeepsRuns p (trimmed trim p)

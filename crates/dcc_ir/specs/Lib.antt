@@ -17,6 +17,9 @@ pub mod Forms
 pub mod Rules
 pub mod Idioms
 pub mod Joinable
+pub mod Local
+pub mod Passes
+pub mod Trimmed
 pub mod Laws
 pub mod Plain
 pub mod Demand

@@ -1,7 +1,10 @@
 //! Laws of the inner language's definitions. Each function only states a law by its contract, and does nothing.
 
+ghost use Rattle.dcc_ir.specs.Tree.{Program};
+ghost use Rattle.dcc_ir.specs.Passes.{Pass, IsPass, KeepsRuns};
 ghost use Rattle.dcc_ir.specs.Laws.{RunsAreWatchable, StatementsAreExecuted, ProgramsKeepThemselves, KeepsComposes};
 ghost use Rattle.dcc_ir.specs.Laws.{OneEdgeLiesAfterOne, ValuesFit, StatesFit, RunsAreNeverStuck, NoSwitchHasPlaces};
+ghost use Rattle.dcc_ir.specs.Laws.{ProgramsKeepTheirRuns, UnreadMayGo};
 
 /// A run that has ended stays, no step takes events back, and no step is foul.
 pub fn runs_are_watchable()
@@ -46,4 +49,28 @@ pub fn runs_are_never_stuck()
 /// In a well-formed program without a switch, each switch has its place.
 pub fn no_switch_has_places()
     ensures { NoSwitchHasPlaces }
+{}
+
+/// A pass from one program to another.
+pub trait SomePass {
+    ghost before: { Program };
+    ghost after: { Program };
+    ghost pass: { Pass };
+}
+
+/// Where a pass meets what it owes, the runs of the second program visit its blocks as those of the first one do, and
+/// end alike.
+pub fn passes_keep_runs<P: SomePass>()
+    requires { IsPass P.before P.after P.pass }
+    ensures { KeepsRuns P.before P.after }
+{}
+
+/// A well-formed program keeps its own runs, by the theorem on passes.
+pub fn programs_keep_their_runs()
+    ensures { ProgramsKeepTheirRuns }
+{}
+
+/// Arguments and values given back that nothing reads may go.
+pub fn unread_may_go()
+    ensures { UnreadMayGo }
 {}

@@ -1,0 +1,6 @@
+pub mod ListLaws
+pub mod LocalLaws
+pub mod CallLaws
+pub mod Theorem
+pub mod AgreeLaws
+pub mod TrimLaws
