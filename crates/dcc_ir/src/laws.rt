@@ -54,7 +54,9 @@ pub fn no_switch_has_places()
 /// A pass from one program to another.
 pub trait SomePass {
     ghost before: { Program };
+
     ghost after: { Program };
+
     ghost pass: { Pass };
 }
 

@@ -118,8 +118,7 @@ module _ (p : Program) (well : IsProgram p) where
   exit-leaves after (Goto place) s running fit ok rets = (record { same = refl; running = running }, ltb-true _ _ ok)
   exit-leaves after (If test one other) s running fit ok rets =
       let two = both _ (nat_lt other (length s.running.graph.blocks)) ok in
-      let first = both (is_expr_of s.running.graph.bits 1 test) _ two.0 in
-      (
+      let first = both (is_expr_of s.running.graph.bits 1 test) _ two.0 in (
         record { same = refl; running = running },
         elim (value_in s test == 1) as (λ b. (if b then one else other) < length s.running.graph.blocks) [ true ↦ ltb-true _ _ first.1 | false ↦ ltb-true _ _ two.1 ],
       )
@@ -147,8 +146,7 @@ module _ (p : Program) (well : IsProgram p) where
       let bits = s.running.graph.bits in
       let call : IsCall p s.running.graph results entry arguments = All-head (IsCalling p s.running.graph) (Call results entry arguments depth) rest within.calls in
       let formed = both (is_stmt bits (Call results entry arguments depth)) _ within.stmts in
-      let ok = (both (list_all (is_location bits) results) _ (both (list_all (is_location bits) results && list_all (is_expr bits) arguments) _ formed.0).0).1 in
-      (
+      let ok = (both (list_all (is_location bits) results) _ (both (list_all (is_location bits) results && list_all (is_expr bits) arguments) _ formed.0).0).1 in (
         record { same = refl; running = running },
         record {
           callee = call.callee;

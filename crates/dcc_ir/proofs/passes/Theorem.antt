@@ -164,8 +164,8 @@ pub record Halted (p q : Program) (pass : Pass) (arguments : List ℕ) (entry : 
 waits_at : (p : Program) (point : Point) (s u : State) → IsAt p point s.running → frame_of u ≡ record (frame_of s) { rest = after_call s.running.rest; begins = false } → IsAt p (next_of point) u.running
 waits_at p point s u at same =
     let moved : (graph_at p.graphs point.entry ≡ Some u.running.graph) × (slice_get u.running.graph.blocks point.place ≡ Some u.running.block) × (u.running.rest ≡ after_calls (suc point.calls) u.running.block.stmts) × (u.running.begins ≡ false) =
-        subst (λ (f : Frame). (graph_at p.graphs point.entry ≡ Some f.graph) × (slice_get f.graph.blocks point.place ≡ Some f.block) × (f.rest ≡ after_calls (suc point.calls) f.block.stmts) × (f.begins ≡ false))
-        (sym same) (at.graph, at.block, ap after_call at.rest, refl) in
+    subst (λ (f : Frame). (graph_at p.graphs point.entry ≡ Some f.graph) × (slice_get f.graph.blocks point.place ≡ Some f.block) × (f.rest ≡ after_calls (suc point.calls) f.block.stmts) × (f.begins ≡ false))
+    (sym same) (at.graph, at.block, ap after_call at.rest, refl) in
     record { graph = moved.0; block = moved.1; rest = moved.2; begins = moved.3 ∙ sym (eqb-suc-zero point.calls) }
 
 -- the first of some graphs
@@ -218,9 +218,9 @@ module _ (p q : Program) (pass : Pass) (is : IsPass p q pass) (fill : ℕ) (smal
       let back : State = record s { running = w.caller; waiting = ws } in
       let other_back : State = record t { running = v.caller; waiting = vs } in
       let goes : FitIn (map (location_width w.caller.graph.bits) w.results) r =
-          subst (λ widths. FitIn widths r) (All-contains (λ widths. widths ≡ map (location_width w.caller.graph.bits) w.results) (all_ret_widths s.running.graph) fit.widths callers.0.results fit.given) fit.fit in
+      subst (λ widths. FitIn widths r) (All-contains (λ widths. widths ≡ map (location_width w.caller.graph.bits) w.results) (all_ret_widths s.running.graph) fit.widths callers.0.results fit.given) fit.fit in
       let other_goes : FitIn (map (location_width v.caller.graph.bits) v.results) r' =
-          subst (λ widths. FitIn widths r') (All-contains (λ widths. widths ≡ map (location_width v.caller.graph.bits) v.results) (all_ret_widths t.running.graph) other_fit.widths other_callers.0.results other_fit.given) other_fit.fit in
+      subst (λ widths. FitIn widths r') (All-contains (λ widths. widths ≡ map (location_width v.caller.graph.bits) v.results) (all_ret_widths t.running.graph) other_fit.widths other_callers.0.results other_fit.given) other_fit.fit in
       still_related (subst (λ u. Related p q pass u (giving v.results r' other_back)) (sym (giving-is w.results r back))
       (subst (λ u. Related p q pass (holding (with_values w.caller.values w.results r) s.memory back) u) (sym (giving-is v.results r' other_back)) (record {
         arguments = x.arguments;
@@ -355,8 +355,8 @@ module _ (p q : Program) (pass : Pass) (is : IsPass p q pass) (fill : ℕ) (smal
       let same : old.0 ≡ s.running.block = cc (old.1, at.block) in
       let ats : s.running.block.at ≡ t.running.block.at = ap (λ (b : Block). b.at) (sym same) ∙ old.2 in
       let has : has_block q (place_of t) ≡ true =
-          ap (λ o. list_any (λ b. b.at == t.running.block.at) (graph_or_none o).blocks) (ap (graph_at q.graphs) (found_entry q.graphs point.entry t.running.graph other_at.graph) ∙ other_at.graph)
-          ∙ any_at (λ b. b.at == t.running.block.at) t.running.graph.blocks point.place t.running.block other_at.block (eq-eqb t.running.block.at t.running.block.at refl) in
+      ap (λ o. list_any (λ b. b.at == t.running.block.at) (graph_or_none o).blocks) (ap (graph_at q.graphs) (found_entry q.graphs point.entry t.running.graph other_at.graph) ∙ other_at.graph)
+      ∙ any_at (λ b. b.at == t.running.block.at) t.running.graph.blocks point.place t.running.block other_at.block (eq-eqb t.running.block.at t.running.block.at refl) in
       let places : place_of s ≡ place_of t = ap₂ (λ entry at. record { entry = entry; at = at }) entries ats in
       let kept : kept_mark (has_block q) (Some (place_of s)) ≡ Some (place_of t) = ap (λ x. kept_mark (has_block q) (Some x)) places ∙ ap (λ b. cond b (Some (place_of t)) None) has in
       ap (λ b. cond b (Some (place_of t)) None) (other_at.begins ∙ sym at.begins) ∙ both s.running.begins kept

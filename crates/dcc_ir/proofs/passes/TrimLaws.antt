@@ -352,19 +352,21 @@ module _ (trim : Trim) (p : Program) where
       stay old = record { first = refl; stays = λ n new found. here old n new (slice_get old.blocks n) refl found }
 
       begins : (entry : ℕ) (old : Graph) → graph_at p.graphs entry ≡ Some old → OwesBegin pass entry old (trim_graph trim old)
-      begins entry old found = record { begin = λ fill base a a' s t small fit fit' enters outside opened opened'.
-        let is = All-contains (IsTrimmable trim) p.graphs old trimmable (found_contained (λ x. x.entry == entry) p.graphs old found) in
-        let same : old.entry ≡ entry = found_entry p.graphs entry old found in
-        let there : graph_at (trimmed trim p).graphs entry ≡ Some (trim_graph trim old) = trimmed_at trim p.graphs entry ∙ ap (option_map (trim_graph trim)) found in
-        let reads : reads_in (trim_graph trim old) ≡ reads_at entry = ap (λ o. reads_in (graph_or_none o)) (sym there) in
-        let values = all_of (λ read. t.running.values read ≡ s.running.values read) (reads_in (trim_graph trim old)) (λ read. ap (λ (x : Activation). x.values read) opened' ∙ sym (ap (λ (x : Activation). x.values read) opened)) in
-        let o = taken_trimmed (reads_in (trim_graph trim old)) (param_widths old) (trim.takes old.entry) old.params a 0 0 s t (length-map old.params (λ q. put_width old.bits q.put)) fit (may is.memory) is.takes
+      begins entry old found = record {
+        begin = λ fill base a a' s t small fit fit' enters outside opened opened'.
+            let is = All-contains (IsTrimmable trim) p.graphs old trimmable (found_contained (λ x. x.entry == entry) p.graphs old found) in
+            let same : old.entry ≡ entry = found_entry p.graphs entry old found in
+            let there : graph_at (trimmed trim p).graphs entry ≡ Some (trim_graph trim old) = trimmed_at trim p.graphs entry ∙ ap (option_map (trim_graph trim)) found in
+            let reads : reads_in (trim_graph trim old) ≡ reads_at entry = ap (λ o. reads_in (graph_or_none o)) (sym there) in
+            let values = all_of (λ read. t.running.values read ≡ s.running.values read) (reads_in (trim_graph trim old)) (λ read. ap (λ (x : Activation). x.values read) opened' ∙ sym (ap (λ (x : Activation). x.values read) opened)) in
+            let o = taken_trimmed (reads_in (trim_graph trim old)) (param_widths old) (trim.takes old.entry) old.params a 0 0 s t (length-map old.params (λ q. put_width old.bits q.put)) fit (may is.memory) is.takes
             (record { values = values; memory = outside.memory; base = outside.base }) in
-        let taken : a' ≡ kept (trim.takes old.entry) a = enters ∙ ap (λ n. kept (trim.takes n) a) (sym same) in
-        subst (λ a'. BeginAlike pass entry a (passing 0 old.params a s) (passing 0 (trim_graph trim old).params a' t)) (sym taken) (record {
-          memory = o.memory;
-          holds = subst (All (λ read. (passing 0 (trim_graph trim old).params (kept (trim.takes old.entry) a) t).running.values read ≡ (passing 0 old.params a s).running.values read)) reads o.values;
-        }) }
+            let taken : a' ≡ kept (trim.takes old.entry) a = enters ∙ ap (λ n. kept (trim.takes n) a) (sym same) in
+            subst (λ a'. BeginAlike pass entry a (passing 0 old.params a s) (passing 0 (trim_graph trim old).params a' t)) (sym taken) (record {
+              memory = o.memory;
+              holds = subst (All (λ read. (passing 0 (trim_graph trim old).params (kept (trim.takes old.entry) a) t).running.values read ≡ (passing 0 old.params a s).running.values read)) reads o.values;
+            });
+      }
         where
           may : ((k : ℕ) → trim.takes old.entry k ≡ true) ⊎ All (λ q. is_memory q.put ≡ false) old.params → MayMove (reads_in (trim_graph trim old)) (trim.takes old.entry) old.params 0 0
           may (inl all) = inl (all, refl)
