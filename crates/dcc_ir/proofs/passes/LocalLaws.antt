@@ -127,7 +127,8 @@ module _ (p : Program) (well : IsProgram p) where
       go : (place : Option ℕ) → slice_get places (value_in s e) ≡ place → Leaves p after (frame_of s) (switch_halt place s)
       go (Some place) found = (
         record { same = refl; running = running },
-        ltb-true _ _ (all_at (λ x. nat_lt x (length s.running.graph.blocks)) places place (both (is_expr_of s.running.graph.bits 16 e && nat_le (length places) 65536) _ ok).1 (contained places (value_in s e) place found)),
+        ltb-true _ _ (all_at (λ x. nat_lt x (length s.running.graph.blocks)) places place (both (is_expr_of s.running.graph.bits 16 e && nat_le (length places) 65536) _ ok).1
+            (contained places (value_in s e) place found)),
       )
       go None found = refl
   exit-leaves after (Ret values) s running fit ok rets = (
@@ -140,7 +141,8 @@ module _ (p : Program) (well : IsProgram p) where
   local-leaves [] s running within fit =
       let graph = s.running.graph in
       let all = all_ret_widths graph in
-      let given = All-contains (λ b. All (Contains all) (ret_widths graph.bits b.exit)) graph.blocks s.running.block (all_parts (Contains all) (λ b. ret_widths graph.bits b.exit) graph.blocks (All-contains_itself all)) within.stands in
+      let given = All-contains (λ b. All (Contains all) (ret_widths graph.bits b.exit)) graph.blocks s.running.block
+      (all_parts (Contains all) (λ b. ret_widths graph.bits b.exit) graph.blocks (All-contains_itself all)) within.stands in
       exit-leaves [] s.running.block.exit s running fit (exit_of p well graph s.running.block within.known within.stands) given
   local-leaves (Call results entry arguments depth ∷ rest) s running within fit =
       let bits = s.running.graph.bits in

@@ -161,10 +161,13 @@ pub record Halted (p q : Program) (pass : Pass) (arguments : List ℕ) (entry : 
   pub waiting : AllAwait p q pass entry arguments s.waiting t.waiting
 
 -- a caller that waits stands after its call
-waits_at : (p : Program) (point : Point) (s u : State) → IsAt p point s.running → frame_of u ≡ record (frame_of s) { rest = after_call s.running.rest; begins = false } → IsAt p (next_of point) u.running
+waits_at : (p : Program) (point : Point) (s u : State) → IsAt p point s.running → frame_of u ≡ record (frame_of s) { rest = after_call s.running.rest; begins = false } →
+    IsAt p (next_of point) u.running
 waits_at p point s u at same =
-    let moved : (graph_at p.graphs point.entry ≡ Some u.running.graph) × (slice_get u.running.graph.blocks point.place ≡ Some u.running.block) × (u.running.rest ≡ after_calls (suc point.calls) u.running.block.stmts) × (u.running.begins ≡ false) =
-    subst (λ (f : Frame). (graph_at p.graphs point.entry ≡ Some f.graph) × (slice_get f.graph.blocks point.place ≡ Some f.block) × (f.rest ≡ after_calls (suc point.calls) f.block.stmts) × (f.begins ≡ false))
+    let moved : (graph_at p.graphs point.entry ≡ Some u.running.graph) × (slice_get u.running.graph.blocks point.place ≡ Some u.running.block) ×
+    (u.running.rest ≡ after_calls (suc point.calls) u.running.block.stmts) × (u.running.begins ≡ false) =
+    subst (λ (f : Frame). (graph_at p.graphs point.entry ≡ Some f.graph) × (slice_get f.graph.blocks point.place ≡ Some f.block) × (f.rest ≡ after_calls (suc point.calls) f.block.stmts) ×
+    (f.begins ≡ false))
     (sym same) (at.graph, at.block, ap after_call at.rest, refl) in
     record { graph = moved.0; block = moved.1; rest = moved.2; begins = moved.3 ∙ sym (eqb-suc-zero point.calls) }
 
@@ -208,7 +211,8 @@ module _ (p q : Program) (pass : Pass) (is : IsPass p q pass) (fill : ℕ) (smal
 
   -- Values are given back to callers that wait.
   both_return : (entry : ℕ) (taken r r' : List ℕ) (s t : State) → Halted p q pass taken entry s t → pass.Leave entry taken r r' → ReturnFits s.running.graph r → ReturnFits t.running.graph r' →
-      (ws vs : List Waiting) → AreCallers p s.running.graph ws → AreCallers q t.running.graph vs → AllAwait p q pass entry taken ws vs → ComesTo (first p q is.before fill) second (Related p q pass) (returning r ws s) (returning r' vs t)
+      (ws vs : List Waiting) → AreCallers p s.running.graph ws → AreCallers q t.running.graph vs → AllAwait p q pass entry taken ws vs → ComesTo (first p q is.before fill) second
+      (Related p q pass) (returning r ws s) (returning r' vs t)
   both_return entry taken r r' s t h leaves fit other_fit [] [] callers other_callers awaits =
       both_over refl (ap Stuck (found_entry q.graphs entry t.running.graph h.second ∙ sym (found_entry p.graphs entry s.running.graph h.first))) h.outside.events
   both_return entry taken r r' s t h leaves fit other_fit [] (v ∷ vs) callers other_callers awaits = absurd awaits
@@ -218,9 +222,11 @@ module _ (p q : Program) (pass : Pass) (is : IsPass p q pass) (fill : ℕ) (smal
       let back : State = record s { running = w.caller; waiting = ws } in
       let other_back : State = record t { running = v.caller; waiting = vs } in
       let goes : FitIn (map (location_width w.caller.graph.bits) w.results) r =
-      subst (λ widths. FitIn widths r) (All-contains (λ widths. widths ≡ map (location_width w.caller.graph.bits) w.results) (all_ret_widths s.running.graph) fit.widths callers.0.results fit.given) fit.fit in
+      subst (λ widths. FitIn widths r) (All-contains (λ widths. widths ≡ map (location_width w.caller.graph.bits) w.results)
+      (all_ret_widths s.running.graph) fit.widths callers.0.results fit.given) fit.fit in
       let other_goes : FitIn (map (location_width v.caller.graph.bits) v.results) r' =
-      subst (λ widths. FitIn widths r') (All-contains (λ widths. widths ≡ map (location_width v.caller.graph.bits) v.results) (all_ret_widths t.running.graph) other_fit.widths other_callers.0.results other_fit.given) other_fit.fit in
+      subst (λ widths. FitIn widths r') (All-contains (λ widths. widths ≡ map (location_width v.caller.graph.bits) v.results)
+      (all_ret_widths t.running.graph) other_fit.widths other_callers.0.results other_fit.given) other_fit.fit in
       still_related (subst (λ u. Related p q pass u (giving v.results r' other_back)) (sym (giving-is w.results r back))
       (subst (λ u. Related p q pass (holding (with_values w.caller.values w.results r) s.memory back) u) (sym (giving-is v.results r' other_back)) (record {
         arguments = x.arguments;
@@ -258,8 +264,10 @@ module _ (p q : Program) (pass : Pass) (is : IsPass p q pass) (fill : ℕ) (smal
       let inside : 0 < length g'.blocks = (graph_of q is.after g' (found_contained (λ h. h.entry == entry) q.graphs g' o.other_named)).begins in
       subst (λ k. Related p q pass (going_to k (passing 0 g.params a s)) (going_to 0 (passing 0 g'.params a' t))) (is.blocks entry g g' o.named o.other_named).first
       (subst (λ u. Related p q pass (going_to (pass.place entry 0) u) (going_to 0 (passing 0 g'.params a' t))) (sym (passing-is 0 g.params a s))
-      (subst (λ u. Related p q pass (going_to (pass.place entry 0) (holding (passing 0 g.params a s).running.values (passing 0 g.params a s).memory s)) (going_to 0 u)) (sym (passing-is 0 g'.params a' t))
-      (both_go a entry 0 (holding (passing 0 g.params a s).running.values (passing 0 g.params a s).memory s) (holding (passing 0 g'.params a' t).running.values (passing 0 g'.params a' t).memory t) (record {
+      (subst (λ u. Related p q pass (going_to (pass.place entry 0) (holding (passing 0 g.params a s).running.values (passing 0 g.params a s).memory s)) (going_to 0 u))
+      (sym (passing-is 0 g'.params a' t))
+      (both_go a entry 0 (holding (passing 0 g.params a s).running.values (passing 0 g.params a s).memory s)
+      (holding (passing 0 g'.params a' t).running.values (passing 0 g'.params a' t).memory t) (record {
         first = o.named ∙ ap Some (sym same);
         second = o.other_named ∙ ap Some (sym other_same);
         running = o.running;
@@ -270,7 +278,8 @@ module _ (p q : Program) (pass : Pass) (is : IsPass p q pass) (fill : ℕ) (smal
       }) (subst (λ (h : Graph). 0 < length h.blocks) (sym other_same) inside) begun.holds)))
 
   -- Both call.
-  both_call : (a : List ℕ) (point : Point) (n : ℕ) (call : Request) (s : State) (other : Request) (t : State) → Halted p q pass a point.entry s t → IsAt p (next_of (point_before pass point)) s.running → IsAt q (next_of point) t.running →
+  both_call : (a : List ℕ) (point : Point) (n : ℕ) (call : Request) (s : State) (other : Request) (t : State) → Halted p q pass a point.entry s t →
+      IsAt p (next_of (point_before pass point)) s.running → IsAt q (next_of point) t.running →
       CallFits p call → CallFits q other → CallAlike pass a point n call s other t →
       Related p q pass (led_to p.graphs fill (Calls call s)) (led_to q.graphs fill (Calls other t))
   both_call a point n call s other t h at other_at fits other_fits alike =
@@ -279,8 +288,16 @@ module _ (p q : Program) (pass : Pass) (is : IsPass p q pass) (fill : ℕ) (smal
       let named : graph_at p.graphs call.entry ≡ Some g = fits.named in
       let other_there : graph_at q.graphs other.entry ≡ Some g' = other_fits.named in
       let other_named : graph_at q.graphs call.entry ≡ Some g' = ap (graph_at q.graphs) (sym alike.entry) ∙ other_there in
-      let called : State = record s { running = activation g (filled g.bits fill) (callee_base s.running.base call.depth); waiting = record { caller = s.running; results = call.results } ∷ s.waiting } in
-      let other_called : State = record t { running = activation g' (filled g'.bits fill) (callee_base t.running.base other.depth); waiting = record { caller = t.running; results = other.results } ∷ t.waiting } in
+      let called : State = record s {
+        running = activation g (filled g.bits fill)
+            (callee_base s.running.base call.depth);
+        waiting = record { caller = s.running; results = call.results } ∷ s.waiting;
+      } in
+      let other_called : State = record t {
+        running = activation g' (filled g'.bits fill)
+            (callee_base t.running.base other.depth);
+        waiting = record { caller = t.running; results = other.results } ∷ t.waiting;
+      } in
       let same_base : callee_base t.running.base other.depth ≡ callee_base s.running.base call.depth = ap₂ callee_base h.outside.base alike.depth in
       subst (λ o. Related p q pass (calling fill call.results call.depth call.arguments o s) (led_to q.graphs fill (Calls other t))) (sym named)
       (subst (λ o. Related p q pass (calling fill call.results call.depth call.arguments (Some g) s) (calling fill other.results other.depth other.arguments o t)) (sym other_there)
@@ -310,8 +327,10 @@ module _ (p q : Program) (pass : Pass) (is : IsPass p q pass) (fill : ℕ) (smal
       })))
 
   -- where both halt after the first run went through dropped blocks
-  halted : {Kind : Halt → Type 0} (a : List ℕ) (point : Point) (n : ℕ) (s t last : State) → IsAt q point t.running → FitIn (param_widths s.running.graph) a → AllAwait p q pass point.entry a s.waiting t.waiting → Comes p n Kind (point_before pass point) s last →
-      (rest other_rest : List Stmt) (begins other_begins : Bool) (u u' : State) → Left (record (frame_of last) { rest = rest; begins = begins }) u → Left (record (frame_of t) { rest = other_rest; begins = other_begins }) u' → AgreeOutside u u' →
+  halted : {Kind : Halt → Type 0} (a : List ℕ) (point : Point) (n : ℕ) (s t last : State) → IsAt q point t.running → FitIn (param_widths s.running.graph) a →
+      AllAwait p q pass point.entry a s.waiting t.waiting → Comes p n Kind (point_before pass point) s last →
+      (rest other_rest : List Stmt) (begins other_begins : Bool) (u u' : State) → Left (record (frame_of last) { rest = rest; begins = begins }) u →
+      Left (record (frame_of t) { rest = other_rest; begins = other_begins }) u' → AgreeOutside u u' →
       Halted p q pass a point.entry u u'
   halted a point n s t last at arguments_fit awaits comes rest other_rest begins other_begins u u' left other_left outside =
       let graph : u.running.graph ≡ last.running.graph = ap (λ (f : Frame). f.graph) left.same in
@@ -329,7 +348,8 @@ module _ (p q : Program) (pass : Pass) (is : IsPass p q pass) (fill : ℕ) (smal
       }
 
   -- From where both halt they go on to related states, or have ended alike.
-  both_halt : {Kind : Halt → Type 0} (a : List ℕ) (point : Point) (n : ℕ) (s t last : State) → IsAt q point t.running → FitIn (param_widths s.running.graph) a → AllAwait p q pass point.entry a s.waiting t.waiting → Comes p n Kind (point_before pass point) s last → AreCallers q t.running.graph t.waiting →
+  both_halt : {Kind : Halt → Type 0} (a : List ℕ) (point : Point) (n : ℕ) (s t last : State) → IsAt q point t.running → FitIn (param_widths s.running.graph) a →
+      AllAwait p q pass point.entry a s.waiting t.waiting → Comes p n Kind (point_before pass point) s last → AreCallers q t.running.graph t.waiting →
       (h h' : Halt) → Leaves p (after_call last.running.rest) (frame_of last) h → Leaves q (after_call t.running.rest) (frame_of t) h' → Meet pass a point n h h' →
       ComesTo (first p q is.before fill) second (Related p q pass) (led_to p.graphs fill h) (led_to q.graphs fill h')
   both_halt a point n s t last at arguments_fit awaits comes other_callers (Over u) (Over u') left other_left meet = both_over left meet.end meet.events
@@ -443,7 +463,8 @@ module _ (p q : Program) (pass : Pass) (is : IsPass p q pass) (fill : ℕ) (smal
   unfolding opening
   opens input = record {
     named = first_named p.graphs is.before.begins;
-    other_named = ap (graph_at q.graphs) (sym (first_entry p.graphs is.before.begins) ∙ sym (ap (λ l. get_or l 0 0) is.entries) ∙ first_entry q.graphs is.after.begins) ∙ first_named q.graphs is.after.begins;
+    other_named = ap (graph_at q.graphs) (sym (first_entry p.graphs is.before.begins) ∙ sym (ap (λ l. get_or l 0 0) is.entries) ∙ first_entry q.graphs is.after.begins)
+        ∙ first_named q.graphs is.after.begins;
     fit = no_params p is.before;
     other_fit = no_params q is.after;
     enters = first_all (λ g. pass.Enter g.entry [] []) p.graphs is.before.begins is.start;

@@ -42,7 +42,8 @@ module _ {A : Type 0} where
   kept-map : {B : Type 0} (f : A → B) (stays : ℕ → Bool) (xs : List A) → map f (kept stays xs) ≡ kept stays (map f xs)
   kept-map f stays [] = refl
   kept-map f stays (x ∷ xs) =
-      elim (stays 0) as (λ b. map f (cond b (x ∷ kept (λ k. stays (suc k)) xs) (kept (λ k. stays (suc k)) xs)) ≡ cond b (f x ∷ kept (λ k. stays (suc k)) (map f xs)) (kept (λ k. stays (suc k)) (map f xs))) [
+      elim (stays 0) as (λ b. map f (cond b (x ∷ kept (λ k. stays (suc k)) xs) (kept (λ k. stays (suc k)) xs)) ≡ cond b (f x ∷ kept (λ k. stays (suc k)) (map f xs))
+      (kept (λ k. stays (suc k)) (map f xs))) [
         | true ↦ ap (λ l. f x ∷ l) (kept-map f (λ k. stays (suc k)) xs)
         | false ↦ kept-map f (λ k. stays (suc k)) xs
       ]
@@ -78,22 +79,26 @@ module _ (reads : List Loc) where
   Same v v' = All (λ read. v' read ≡ v read) reads
 
   -- a location that isn't read takes a value
-  unread : (v v' : Values) (location : Loc) (n : ℕ) (xs : List Loc) → All (λ read. same_location read location ≡ false) xs → All (λ read. v' read ≡ v read) xs → All (λ read. v' read ≡ with_value v location n read) xs
+  unread : (v v' : Values) (location : Loc) (n : ℕ) (xs : List Loc) → All (λ read. same_location read location ≡ false) xs → All (λ read. v' read ≡ v read) xs →
+      All (λ read. v' read ≡ with_value v location n read) xs
   unread v v' location n [] none same = All-nil (λ read. v' read ≡ with_value v location n read)
   unread v v' location n (l ∷ xs) none same =
       All-cons (λ read. v' read ≡ with_value v location n read) l xs
       (All-head (λ read. v' read ≡ v read) l xs same ∙ sym (ap (λ b. if b then n else v l) (All-head (λ read. same_location read location ≡ false) l xs none)))
       (unread v v' location n xs (All-tail (λ read. same_location read location ≡ false) l xs none) (All-tail (λ read. v' read ≡ v read) l xs same))
 
-  given_trimmed : (widths : List ℕ) (stays : ℕ → Bool) (results : List Loc) (r : List ℕ) (v v' : Values) → length widths ≡ length results → FitIn widths r → All (IsUnread reads) (dropped stays results) → Same v v' →
+  given_trimmed : (widths : List ℕ) (stays : ℕ → Bool) (results : List Loc) (r : List ℕ) (v v' : Values) → length widths ≡ length results → FitIn widths r →
+      All (IsUnread reads) (dropped stays results) → Same v v' →
       Same (with_values v results r) (with_values v' (kept stays results) (kept stays r))
   given_trimmed [] stays [] [] v v' len fit none same = same
   given_trimmed (w ∷ widths) stays (location ∷ results) (n ∷ r) v v' len fit none same =
       go (stays 0) none (λ u u' none' same'. given_trimmed widths (λ k. stays (suc k)) results r u u' (cc) fit.1 none' same')
     where
       go : (b : Bool) → All (IsUnread reads) (cond (not b) (location ∷ dropped (λ k. stays (suc k)) results) (dropped (λ k. stays (suc k)) results)) →
-          ((u u' : Values) → All (IsUnread reads) (dropped (λ k. stays (suc k)) results) → Same u u' → Same (with_values u results r) (with_values u' (kept (λ k. stays (suc k)) results) (kept (λ k. stays (suc k)) r))) →
-          Same (with_values (with_value v location n) results r) (with_values v' (cond b (location ∷ kept (λ k. stays (suc k)) results) (kept (λ k. stays (suc k)) results)) (cond b (n ∷ kept (λ k. stays (suc k)) r) (kept (λ k. stays (suc k)) r)))
+          ((u u' : Values) → All (IsUnread reads) (dropped (λ k. stays (suc k)) results) → Same u u' →
+          Same (with_values u results r) (with_values u' (kept (λ k. stays (suc k)) results) (kept (λ k. stays (suc k)) r))) →
+          Same (with_values (with_value v location n) results r) (with_values v' (cond b (location ∷ kept (λ k. stays (suc k)) results) (kept (λ k. stays (suc k)) results))
+          (cond b (n ∷ kept (λ k. stays (suc k)) r) (kept (λ k. stays (suc k)) r)))
       go true none later = later (with_value v location n) (with_value v' location n) none (with_value-agrees reads v v' location n reads same)
       go false none later =
           let rest = dropped (λ k. stays (suc k)) results in
@@ -122,7 +127,12 @@ module _ (reads : List Loc) where
 
   put_unread : (j : ℕ) (put : Put) (n : ℕ) (s t : State) → is_memory put ≡ false → All (IsUnread reads) (places_of put) → Open s t → Open (putting j put n s) t
   put_unread j Memory n s t f none o = absurd (true≢false f)
-  put_unread j (One location) n s t f none o = record { values = unread s.running.values t.running.values location n reads (All-head (IsUnread reads) location [] none) o.values; memory = o.memory; base = o.base }
+  put_unread j (One location) n s t f none o = record {
+    values = unread s.running.values t.running.values location n reads
+        (All-head (IsUnread reads) location [] none) o.values;
+    memory = o.memory;
+    base = o.base;
+  }
   put_unread j (Two low high) n s t f none o = record {
     values = unread (with_value s.running.values low (n % 256)) t.running.values high (n / 256) reads (All-head (IsUnread reads) high [] (All-tail (IsUnread reads) low (high ∷ []) none))
         (unread s.running.values t.running.values low (n % 256) reads (All-head (IsUnread reads) low (high ∷ []) none) o.values);
@@ -140,12 +150,15 @@ module _ (reads : List Loc) where
       go (stays 0) refl none (λ i u u' may' none' o'. taken_trimmed widths (λ k. stays (suc k)) params a (j + 1) i u u' (cc) fit.1 may' none' o') may
     where
       go : (b : Bool) → stays 0 ≡ b → All (IsUnread reads) (flat_map (λ q. places_of q.put) (cond (not b) (param ∷ dropped (λ k. stays (suc k)) params) (dropped (λ k. stays (suc k)) params))) →
-          ((i : ℕ) (u u' : State) → MayMove (λ k. stays (suc k)) params (j + 1) i → All (IsUnread reads) (flat_map (λ q. places_of q.put) (dropped (λ k. stays (suc k)) params)) → Open u u' → Open (passing (j + 1) params a u) (passing i (kept (λ k. stays (suc k)) params) (kept (λ k. stays (suc k)) a) u')) →
+          ((i : ℕ) (u u' : State) → MayMove (λ k. stays (suc k)) params (j + 1) i → All (IsUnread reads) (flat_map (λ q. places_of q.put) (dropped (λ k. stays (suc k)) params)) → Open u u' →
+          Open (passing (j + 1) params a u) (passing i (kept (λ k. stays (suc k)) params) (kept (λ k. stays (suc k)) a) u')) →
           MayMove stays (param ∷ params) j j' →
-          Open (passing (j + 1) params a (putting j param.put n s)) (passing j' (cond b (param ∷ kept (λ k. stays (suc k)) params) (kept (λ k. stays (suc k)) params)) (cond b (n ∷ kept (λ k. stays (suc k)) a) (kept (λ k. stays (suc k)) a)) t)
+          Open (passing (j + 1) params a (putting j param.put n s)) (passing j' (cond b (param ∷ kept (λ k. stays (suc k)) params) (kept (λ k. stays (suc k)) params))
+          (cond b (n ∷ kept (λ k. stays (suc k)) a) (kept (λ k. stays (suc k)) a)) t)
       go true e none later (inl all) = later (j' + 1) _ _ (inl (λ k. all.0 (suc k), ap (λ i. i + 1) all.1)) none (put_both j j' param.put n s t (inl all.1) o)
       go true e none later (inr none_in) =
-          later (j' + 1) _ _ (inr (All-tail (λ q. is_memory q.put ≡ false) param params none_in)) none (put_both j j' param.put n s t (inr (All-head (λ q. is_memory q.put ≡ false) param params none_in)) o)
+          later (j' + 1) _ _ (inr (All-tail (λ q. is_memory q.put ≡ false) param params none_in)) none
+          (put_both j j' param.put n s t (inr (All-head (λ q. is_memory q.put ≡ false) param params none_in)) o)
       go false e none later (inl all) = absurd (true≢false (sym (all.0 0) ∙ e))
       go false e none later (inr none_in) =
           let rest = flat_map (λ (q : Param). places_of q.put) (dropped (λ k. stays (suc k)) params) in
@@ -241,7 +254,8 @@ module _ (trim : Trim) (p : Program) where
           enters = agree-values R s t h (kept (trim.takes entry) arguments) read ∙ kept-map (value_in s) (trim.takes entry) arguments;
           resumes = λ r r' fit fit' leaves.
               subst (λ r'. All (λ read. with_values t.running.values (kept (trim.gives entry) results) r' read ≡ with_values s.running.values results r read) R) (sym leaves)
-              (given_trimmed R (map (location_width s.running.graph.bits) results) (trim.gives entry) results r s.running.values t.running.values (length-map results (location_width s.running.graph.bits)) fit
+              (given_trimmed R (map (location_width s.running.graph.bits) results) (trim.gives entry) results r s.running.values t.running.values
+              (length-map results (location_width s.running.graph.bits)) fit
               (All-head (GivesRead trim R) (Call results entry arguments depth) rest gives) h.values);
         }
     block-meets (stmt ∷ rest) s t h exits among gives last =
@@ -251,9 +265,11 @@ module _ (trim : Trim) (p : Program) where
         let other_same : (stmt_step stmt t).running.block ≡ t.running.block = ap (λ (f : Frame). f.block) (stmt-frame stmt t) in
         let exits' = ap (λ (b : Block). b.exit) other_same ∙ exits ∙ sym (ap (λ (b : Block). trim_exit trim point.entry b.exit) same) in
         let last' = subst (λ (b : Block). All (ReadsOf R) (exit_exprs (trim_exit trim point.entry b.exit))) (sym same) last in
-        subst (λ b. Meet pass a point 0 (if is_over (stmt_step stmt s).end then Over (stmt_step stmt s) else local_run rest (stmt_step stmt s)) (if b then Over (stmt_step stmt t) else local_run (map (trim_stmt trim) rest) (stmt_step stmt t)))
+        subst (λ b. Meet pass a point 0 (if is_over (stmt_step stmt s).end then Over (stmt_step stmt s) else local_run rest (stmt_step stmt s))
+        (if b then Over (stmt_step stmt t) else local_run (map (trim_stmt trim) rest) (stmt_step stmt t)))
         (sym (ap is_over next.end))
-        (elim (is_over (stmt_step stmt s).end) as (λ b. Meet pass a point 0 (if b then Over (stmt_step stmt s) else local_run rest (stmt_step stmt s)) (if b then Over (stmt_step stmt t) else local_run (map (trim_stmt trim) rest) (stmt_step stmt t))) [
+        (elim (is_over (stmt_step stmt s).end) as (λ b. Meet pass a point 0 (if b then Over (stmt_step stmt s) else local_run rest (stmt_step stmt s))
+        (if b then Over (stmt_step stmt t) else local_run (map (trim_stmt trim) rest) (stmt_step stmt t))) [
           | true ↦ record { end = next.end; events = next.outside.events }
           | false ↦ block-meets rest (stmt_step stmt s) (stmt_step stmt t) next exits'
               (All-tail (λ stmt. All (ReadsOf R) (exprs_of (trim_stmt trim stmt))) stmt rest among) (All-tail (GivesRead trim R) stmt rest gives) last'
@@ -310,8 +326,10 @@ module _ (trim : Trim) (p : Program) where
       read =
           let P = λ (stmt : Stmt). All (ReadsOf (reads_at point.entry)) (exprs_of stmt) in
           let stmts = map (trim_stmt trim) s.running.block.stmts in
-          let parts = all_parts (ReadsOf (reads_at point.entry)) exprs_of stmts (left_part (ReadsOf (reads_at point.entry)) (flat_map exprs_of stmts) (exit_exprs (trim_exit trim point.entry s.running.block.exit)) all_read) in
-          subst (All (λ stmt. P (trim_stmt trim stmt))) (sym together.first.at.rest) (after_calls-all (λ stmt. P (trim_stmt trim stmt)) point.calls s.running.block.stmts (all_mapped P (trim_stmt trim) s.running.block.stmts parts))
+          let parts = all_parts (ReadsOf (reads_at point.entry)) exprs_of stmts (left_part (ReadsOf (reads_at point.entry)) (flat_map exprs_of stmts)
+          (exit_exprs (trim_exit trim point.entry s.running.block.exit)) all_read) in
+          subst (All (λ stmt. P (trim_stmt trim stmt))) (sym together.first.at.rest)
+          (after_calls-all (λ stmt. P (trim_stmt trim stmt)) point.calls s.running.block.stmts (all_mapped P (trim_stmt trim) s.running.block.stmts parts))
 
       last : All (ReadsOf (reads_at point.entry)) (exit_exprs (trim_exit trim point.entry s.running.block.exit))
       last = right_part (ReadsOf (reads_at point.entry)) (flat_map exprs_of (map (trim_stmt trim) s.running.block.stmts)) (exit_exprs (trim_exit trim point.entry s.running.block.exit)) all_read
@@ -339,7 +357,8 @@ module _ (trim : Trim) (p : Program) where
     start = all_of (λ g. ◌≡◌ {A = List ℕ} [] (kept (trim.takes g.entry) [])) (take 1 p.graphs) (λ g. refl);
   })
     where
-      here : (old : Graph) (n : ℕ) (new : Block) (b : Option Block) → slice_get old.blocks n ≡ b → slice_get (trim_graph trim old).blocks n ≡ Some new → (b : Block) × (slice_get old.blocks n ≡ Some b) × (b.at ≡ new.at)
+      here : (old : Graph) (n : ℕ) (new : Block) (b : Option Block) → slice_get old.blocks n ≡ b → slice_get (trim_graph trim old).blocks n ≡ Some new →
+          (b : Block) × (slice_get old.blocks n ≡ Some b) × (b.at ≡ new.at)
       here old n new (Some b) found found' =
           let e = sym (slice_get-map (trim_block trim old.entry) old.blocks n) ∙ found' in
           (b, found, ap (λ (x : Block). x.at) (some_same (trim_block trim old.entry b) new (sym (ap (option_map (trim_block trim old.entry)) found) ∙ e)))
@@ -358,13 +377,16 @@ module _ (trim : Trim) (p : Program) where
             let same : old.entry ≡ entry = found_entry p.graphs entry old found in
             let there : graph_at (trimmed trim p).graphs entry ≡ Some (trim_graph trim old) = trimmed_at trim p.graphs entry ∙ ap (option_map (trim_graph trim)) found in
             let reads : reads_in (trim_graph trim old) ≡ reads_at entry = ap (λ o. reads_in (graph_or_none o)) (sym there) in
-            let values = all_of (λ read. t.running.values read ≡ s.running.values read) (reads_in (trim_graph trim old)) (λ read. ap (λ (x : Activation). x.values read) opened' ∙ sym (ap (λ (x : Activation). x.values read) opened)) in
-            let o = taken_trimmed (reads_in (trim_graph trim old)) (param_widths old) (trim.takes old.entry) old.params a 0 0 s t (length-map old.params (λ q. put_width old.bits q.put)) fit (may is.memory) is.takes
+            let values = all_of (λ read. t.running.values read ≡ s.running.values read) (reads_in (trim_graph trim old))
+            (λ read. ap (λ (x : Activation). x.values read) opened' ∙ sym (ap (λ (x : Activation). x.values read) opened)) in
+            let o = taken_trimmed (reads_in (trim_graph trim old)) (param_widths old) (trim.takes old.entry) old.params a 0 0 s t (length-map old.params (λ q. put_width old.bits q.put)) fit
+            (may is.memory) is.takes
             (record { values = values; memory = outside.memory; base = outside.base }) in
             let taken : a' ≡ kept (trim.takes old.entry) a = enters ∙ ap (λ n. kept (trim.takes n) a) (sym same) in
             subst (λ a'. BeginAlike pass entry a (passing 0 old.params a s) (passing 0 (trim_graph trim old).params a' t)) (sym taken) (record {
               memory = o.memory;
-              holds = subst (All (λ read. (passing 0 (trim_graph trim old).params (kept (trim.takes old.entry) a) t).running.values read ≡ (passing 0 old.params a s).running.values read)) reads o.values;
+              holds = subst (All (λ read. (passing 0 (trim_graph trim old).params (kept (trim.takes old.entry) a) t).running.values read ≡
+                  (passing 0 old.params a s).running.values read)) reads o.values;
             });
       }
         where
@@ -386,7 +408,8 @@ nothing-block : (entry : ℕ) (b : Block) → trim_block nothing_trimmed entry b
 nothing-block entry b = ap₂ (λ stmts exit. record { at = b.at; stmts = stmts; exit = exit }) (map_same (trim_stmt nothing_trimmed) b.stmts nothing-stmt) (nothing-exit entry b.exit)
 
 nothing-graph : (g : Graph) → trim_graph nothing_trimmed g ≡ g
-nothing-graph g = ap₂ (λ params blocks. record g { params = params; blocks = blocks }) (kept_all (λ k. true) g.params (λ k. refl)) (map_same (trim_block nothing_trimmed g.entry) g.blocks (nothing-block g.entry))
+nothing-graph g = ap₂ (λ params blocks. record g { params = params; blocks = blocks }) (kept_all (λ k. true) g.params (λ k. refl))
+    (map_same (trim_block nothing_trimmed g.entry) g.blocks (nothing-block g.entry))
 
 nothing_gives : (reads : List Loc) (stmt : Stmt) → GivesRead nothing_trimmed reads stmt
 nothing_gives reads (Call results entry arguments depth) = subst (All (IsUnread reads)) (sym (kept_none (λ k. false) results (λ k. refl))) (All-nil (IsUnread reads))
