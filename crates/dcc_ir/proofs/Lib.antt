@@ -1,3 +1,4 @@
+pub mod ListLaws
 pub mod StepLaws
 pub mod passes
 pub mod RunLaws

@@ -1,12 +1,11 @@
 -- What each state has that a run of a well-formed program reaches: all numbers fit, the activations stand in blocks of the
 -- program, and each caller that waits has places for what its callee gives back.
-use Rattle.std.proofs.Common.{◌≡◌, ℕ, zero, suc, ◌+◌, ◌*◌, ◌/◌, ◌%◌, ◌^◌, ◌<◌, Bool, true, false, cond, ◌&&◌, ◌||◌, not, ◌⊎◌, inl, inr, List, [], ◌∷◌, ◌++◌, length, map, drop, take, Option, Some, None, refl, sym, ap, ◌∙◌, subst, true≢false, eqb-true, eq-eqb, lit<, arith}
-use Rattle.std.specs.Prelude.{if◌then◌else◌, ◌==◌, slice_get, slice_index, slice_index_or, get_or, find, flat_map, nat_le, nat_lt, All, Contains}
+use Rattle.std.proofs.Common.{◌≡◌, ℕ, zero, suc, ◌+◌, ◌*◌, ◌/◌, ◌%◌, ◌^◌, ◌<◌, Bool, true, false, cond, ◌&&◌, ◌||◌, not, ◌⊎◌, inl, inr, List, [], ◌∷◌, length, map, drop, take, Option, Some, None, refl, sym, ap, ◌∙◌, subst, true≢false, eqb-true, eq-eqb, lit<, arith}
+use Rattle.std.specs.Prelude.{if◌then◌else◌, ◌==◌, slice_get, slice_index, slice_index_or, get_or, find, nat_le, nat_lt, All, Contains}
 use Rattle.std.specs.List.{list_any, list_all, range_with_len}
 use Rattle.std.proofs.lemmas.Nat.{mod_below}
 use Rattle.std.proofs.lemmas.List.FromFn.{length-map-range_with_len}
 use Rattle.std.proofs.lemmas.List.Elements.{All-nil, All-cons, All-head, All-tail, All-map, All-contains}
-use Rattle.std.proofs.lemmas.List.Concat.{flat_map-cons}
 use Rattle.std.proofs.lemmas.Option.{slice_get_within, get_or_from_slice_get}
 use Rattle.dcc_run.specs.End.{is_over}
 use Rattle.dcc_run.specs.System.{after}
@@ -21,6 +20,7 @@ use Rattle.dcc_ir.specs.WellFormed.{is_expr, is_stmt, is_exit, is_block, is_jump
 use Rattle.dcc_ir.specs.Run.{Activation, Waiting, State, scene_of, value_in, setting, stmt_step, is_call, activation, entering, going_to, putting, passing, callee_base, calling, graph_at, giving, returning, switching, exit_step, block_step, step, no_graph, first_memory, first_state, reached}
 use Rattle.dcc_ir.specs.Fitting.{scene_in, AreBytes, StateFits}
 use Rattle.dcc_ir.proofs.FitLaws.{both, value_fits}
+use Rattle.dcc_ir.proofs.ListLaws.{all_parts}
 use Rattle.dcc_ir.proofs.StepLaws.{stmt-within, passing-alike}
 use Rattle.dcc_ir.proofs.GraphLaws.{or_there}
 use Rattle.dcc_ir.proofs.FitStates.{AreValues, filled-are, IsMemory, IsFit, scene-fits, setting-fit, storing-fit, stmt-fit}
@@ -54,19 +54,6 @@ all_at_place f (y ∷ ys) x (suc k) less same e = all_at_place f ys x k (omega (
 
 pub all_at : {X : Type 0} (f : X → Bool) (xs : List X) (x : X) → list_all f xs ≡ true → Contains xs x → f x ≡ true
 all_at f xs x e c = all_at_place f xs x c.0 c.1 c.2 e
-
-all_left : {X : Type 0} (P : X → Type 0) (xs ys : List X) → All P (xs ++ ys) → All P xs
-all_left P [] ys h = All-nil P
-all_left P (x ∷ xs) ys h = All-cons P x xs (All-head P x (xs ++ ys) h) (all_left P xs ys (All-tail P x (xs ++ ys) h))
-
-all_right : {X : Type 0} (P : X → Type 0) (xs ys : List X) → All P (xs ++ ys) → All P ys
-all_right P [] ys h = h
-all_right P (x ∷ xs) ys h = all_right P xs ys (All-tail P x (xs ++ ys) h)
-
-of_flat_at : {X Y : Type 0} (P : Y → Type 0) (f : X → List Y) (xs : List X) (x : X) (k : ℕ) → k < length xs → slice_index_or xs k x ≡ x → All P (flat_map f xs) → All P (f x)
-of_flat_at P f [] x k less same h = absurd (omega (arith, less))
-of_flat_at P f (y ∷ ys) x zero less same h = subst (λ z. All P (f z)) same (all_left P (f y) (flat_map f ys) (subst (All P) (flat_map-cons f y ys) h))
-of_flat_at P f (y ∷ ys) x (suc k) less same h = of_flat_at P f ys x k (omega (arith, less)) same (all_right P (f y) (flat_map f ys) (subst (All P) (flat_map-cons f y ys) h))
 
 -- the graph that a call names is the one that the run finds
 any_entry : (entry : ℕ) (graphs : List Graph) (callee : Graph) → graph_at graphs entry ≡ Some callee → list_any (λ m. entry == m) (map (λ g. g.entry) graphs) ≡ true
@@ -262,8 +249,9 @@ module _ (p : Program) (well : IsProgram p) where
       over-good _ refl (record { fit = record { values = fit.values; memory = fit.memory; console = fit.console }; callers = subst (AreCallers p s.running.graph) same callers })
   returning-good s es (w ∷ waiting) fit ok b e same callers =
       let back : State = record s { running = w.caller; waiting = waiting } in
-      let given = of_flat_at (λ widths. widths ≡ map (location_width w.caller.graph.bits) w.results)
-      (λ x. ret_widths s.running.graph.bits x.exit) s.running.graph.blocks s.running.block b.0 b.1 b.2 callers.0.results in
+      let fits = λ (widths : List ℕ). widths ≡ map (location_width w.caller.graph.bits) w.results in
+      let rets = λ (x : Block). ret_widths s.running.graph.bits x.exit in
+      let given = All-contains (λ x. All fits (rets x)) s.running.graph.blocks s.running.block (all_parts fits rets s.running.graph.blocks callers.0.results) b in
       let one : All (λ widths. widths ≡ map (location_width w.caller.graph.bits) w.results) (map (width_of s.running.graph.bits) es ∷ []) =
       subst (λ x. All (λ widths. widths ≡ map (location_width w.caller.graph.bits) w.results) (ret_widths s.running.graph.bits x)) e given in
       let widths = All-head (λ l. l ≡ map (location_width w.caller.graph.bits) w.results) (map (width_of s.running.graph.bits) es) [] one in

@@ -1,4 +1,3 @@
-pub mod ListLaws
 pub mod LocalLaws
 pub mod CallLaws
 pub mod Theorem

@@ -1,6 +1,6 @@
 -- Passes: what makes one program's runs those of another, where the values that pass between procedures, and what the
 -- locations hold, may change.
-use Rattle.std.specs.Prelude.{◌≡◌, ℕ, zero, suc, ◌^◌, ◌<◌, ◌==◌, false, List, [], ◌∷◌, map, take, slice_get, Option, Some, All}
+use Rattle.std.specs.Prelude.{◌≡◌, ℕ, zero, suc, ◌^◌, ◌<◌, ◌==◌, false, List, [], ◌∷◌, map, take, slice_get, Some, All}
 use Rattle.dcc_run.specs.End.{is_over}
 use Rattle.dcc_run.specs.Visits.{VisitsKept}
 use Rattle.dcc_ir.specs.declared.syntax.Loc.{Loc}
@@ -9,7 +9,7 @@ use Rattle.dcc_ir.specs.Location.{location_width, Values, with_value, filled}
 use Rattle.dcc_ir.specs.Run.{Activation, State, activation, entering, passing, graph_at, inner_system, first_state, block_mark}
 use Rattle.dcc_ir.specs.WellFormed.{put_width, IsProgram}
 use Rattle.dcc_ir.specs.Fitting.{AreBytes, StateFits}
-use Rattle.dcc_ir.specs.Flow.{Flow, flow_at, graph_or_none}
+use Rattle.dcc_ir.specs.Flow.{Flow, flow_at}
 use Rattle.dcc_ir.specs.Keeps.{has_block}
 use Rattle.dcc_ir.specs.Local.{Point, start_of, next_of, after_calls, Request, Halt, Over, Calls, Jumps, Returns, halt_of}
 

@@ -1,10 +1,10 @@
 -- A pass that makes graphs take fewer arguments and give fewer values back: those that nothing reads go.
-use Rattle.std.specs.Prelude.{◌≡◌, ℕ, zero, suc, Bool, true, false, not, ◌⊎◌, if◌then◌else◌, List, [], ◌∷◌, map, flat_map, All}
+use Rattle.std.specs.Prelude.{◌≡◌, ℕ, suc, Bool, true, false, not, ◌⊎◌, if◌then◌else◌, List, [], ◌∷◌, map, flat_map, All}
 use Rattle.dcc_ir.specs.declared.syntax.Loc.{Loc}
 use Rattle.dcc_ir.specs.Tree.{Stmt, Call, Exit, Ret, Block, Graph, Program}
 use Rattle.dcc_ir.specs.Location.{same_location}
 use Rattle.dcc_ir.specs.Use.{reads_of, graph_exprs}
-use Rattle.dcc_ir.specs.WellFormed.{is_memory, IsProgram}
+use Rattle.dcc_ir.specs.WellFormed.{is_memory}
 use Rattle.dcc_ir.specs.Joinable.{places_of}
 use Rattle.dcc_ir.specs.Flow.{graph_or_none}
 use Rattle.dcc_ir.specs.Run.{graph_at}

@@ -1,5 +1,5 @@
 -- Two states that agree on the locations that are read agree after each statement.
-use Rattle.std.proofs.Common.{◌≡◌, ℕ, ◌+◌, Bool, true, false, cond, ◌⊎◌, inl, inr, List, [], ◌∷◌, ◌++◌, Option, Some, None, refl, sym, ap, ap₂, ◌∙◌, subst, map, flat_map}
+use Rattle.std.proofs.Common.{◌≡◌, ℕ, ◌+◌, Bool, true, false, List, [], ◌∷◌, ◌++◌, Option, Some, None, refl, sym, ap, ap₂, ◌∙◌, subst, map, flat_map}
 use Rattle.std.specs.Prelude.{if◌then◌else◌, ◌==◌, ◌/◌, ◌%◌, ◌^◌, All, Contains, option_to_list}
 use Rattle.std.proofs.lemmas.List.Elements.{All-nil, All-cons, All-head, All-tail, All-contains}
 use Rattle.std.proofs.lemmas.List.Concat.{flat_map-append}
@@ -7,14 +7,14 @@ use Rattle.dcc_run.specs.Event.{Event, Wrote, Took, MetEnd, writes}
 use Rattle.dcc_run.specs.End.{End, Exit, Divide, Stuck}
 use Rattle.dcc_run.proofs.KeptLaws.{right_part}
 use Rattle.dcc_ir.specs.declared.syntax.Loc.{Loc}
-use Rattle.dcc_ir.specs.Tree.{Expr, Const, Get, Load, Unary, Binary, Widen, Part, Join, Choose, Address, Stmt, Set, Fetch, Store, Div, Call, Dos, Block, Graph}
+use Rattle.dcc_ir.specs.Tree.{Expr, Const, Get, Load, Unary, Binary, Widen, Part, Join, Choose, Address, Stmt, Set, Fetch, Store, Div, Call, Dos}
 use Rattle.dcc_ir.specs.Location.{same_location, Values, with_value}
-use Rattle.dcc_ir.specs.Value.{Scene, value_of, unary_value, binary_value, bytes_at, with_bytes_at, division_of, division_at, width_of, pattern_at, signed_at}
+use Rattle.dcc_ir.specs.Value.{Scene, value_of, unary_value, binary_value, bytes_at, division_of, division_at, width_of, pattern_at, signed_at}
 use Rattle.dcc_ir.specs.Dos.{dos_string}
 use Rattle.dcc_ir.specs.Use.{parts_of, got_by, reads_of, exprs_of}
 use Rattle.dcc_ir.specs.Run.{State, scene_of, value_in, ended, stuck, setting, storing, dividing, happening, writing, taking, keyed, argument_in, dos_step, stmt_step}
 use Rattle.dcc_ir.specs.Passes.{AgreeOutside}
-use Rattle.dcc_ir.proofs.passes.ListLaws.{left_part}
+use Rattle.dcc_ir.proofs.ListLaws.{left_part}
 
 -- Expressions.
 

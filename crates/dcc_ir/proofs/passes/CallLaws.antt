@@ -1,5 +1,5 @@
 -- Arguments and values given back change values and memory alone.
-use Rattle.std.proofs.Common.{◌≡◌, ℕ, ◌+◌, List, [], ◌∷◌, refl, ap, ◌∙◌}
+use Rattle.std.proofs.Common.{◌≡◌, ℕ, ◌+◌, List, [], ◌∷◌, refl, ◌∙◌}
 use Rattle.dcc_ir.specs.declared.syntax.Loc.{Loc}
 use Rattle.dcc_ir.specs.declared.syntax.Put.{Put}
 use Rattle.dcc_ir.specs.declared.syntax.Put.TheVariants.{Memory, One, Two}

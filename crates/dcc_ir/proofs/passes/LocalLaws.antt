@@ -4,18 +4,17 @@ use Rattle.std.specs.Prelude.{if◌then◌else◌, ◌==◌, nat_lt, nat_le, All
 use Rattle.std.specs.List.{list_all}
 use Rattle.std.proofs.lemmas.List.Elements.{All-head, All-contains, All-contains_itself}
 use Rattle.dcc_run.specs.End.{is_over}
-use Rattle.dcc_ir.specs.declared.syntax.Loc.{Loc}
-use Rattle.dcc_ir.specs.Tree.{Expr, Stmt, Set, Fetch, Store, Div, Call, Dos, Exit, Goto, If, Switch, Ret, Stop, Block, Graph, Program}
-use Rattle.dcc_ir.specs.Value.{division_of, width_of}
-use Rattle.dcc_ir.specs.Dos.{dos_string}
+use Rattle.dcc_ir.specs.Tree.{Expr, Stmt, Call, Exit, Goto, If, Switch, Ret, Stop, Block, Graph, Program}
+use Rattle.dcc_ir.specs.Value.{width_of}
 use Rattle.dcc_ir.specs.WellFormed.{is_location, is_expr, is_expr_of, is_stmt, is_exit, ret_widths, all_ret_widths, IsCall, IsCalling, IsProgram}
-use Rattle.dcc_ir.specs.Run.{State, Waiting, scene_of, value_in, stuck, switching, dividing, writing, taking, keyed, argument_in, dos_step, stmt_step, graph_at, exit_step, block_step, step}
+use Rattle.dcc_ir.specs.Run.{State, Waiting, scene_of, value_in, switching, stmt_step, graph_at, exit_step, block_step, step}
 use Rattle.dcc_ir.specs.Local.{Request, Halt, Over, Calls, Jumps, Returns, after_call, switch_halt, exit_halt, local_run, halt_of, led_to}
 use Rattle.dcc_ir.specs.Passes.{FitIn, param_widths}
+use Rattle.dcc_ir.proofs.StepLaws.{stmt-within}
 use Rattle.dcc_ir.proofs.FitLaws.{both, value_fits}
 use Rattle.dcc_ir.proofs.FitStates.{IsFit, scene-fits}
 use Rattle.dcc_ir.proofs.ReachedLaws.{contained, all_at, named_again, IsWithinAt, exit_of, within-next, first-fit}
-use Rattle.dcc_ir.proofs.passes.ListLaws.{all_parts}
+use Rattle.dcc_ir.proofs.ListLaws.{all_parts}
 
 -- A step is a local run, and what it leads to.
 
@@ -53,35 +52,8 @@ pub record Frame : Type 0 where
 abbrev pub frame_of : State → Frame
 frame_of s = record { graph = s.running.graph; block = s.running.block; rest = s.running.rest; begins = s.running.begins; base = s.running.base; waiting = s.waiting }
 
-frame_if : (b : Bool) (f : Frame) (t u : State) → frame_of t ≡ f → frame_of u ≡ f → frame_of (if b then t else u) ≡ f
-frame_if true f t u h k = h
-frame_if false f t u h k = k
-
-dividing-frame : (location : Loc) (n : Option ℕ) (s : State) → frame_of (dividing location n s) ≡ frame_of s
-dividing-frame location (Some n) s = refl
-dividing-frame location None s = refl
-
-taking-frame : (place : Option Loc) (byte : ℕ) (s : State) → frame_of (taking place byte s) ≡ frame_of s
-taking-frame (Some location) byte s = refl
-taking-frame None byte s = refl
-
-keyed-frame : (echo : Bool) (place : Option Loc) (input : List ℕ) (s : State) → frame_of (keyed echo place input s) ≡ frame_of s
-keyed-frame echo place [] s = taking-frame place 0x1A s
-keyed-frame echo place (byte ∷ input) s = taking-frame place byte (record s { input = input })
-
-dos-frame : (number : ℕ) (place : Option Loc) (n : ℕ) (s : State) → frame_of (dos_step number place n s) ≡ frame_of s
-dos-frame number place n s =
-    frame_if (number == 0x02) _ _ _ refl (frame_if (number == 0x4C) _ _ _ refl
-    (frame_if (number == 0x01) _ _ _ (keyed-frame true place s.input s) (frame_if (number == 0x08) _ _ _ (keyed-frame false place s.input s)
-    (frame_if (number == 0x09) (frame_of s) (writing (dos_string s.memory n) s) (stuck s) refl refl))))
-
 pub stmt-frame : (stmt : Stmt) (s : State) → frame_of (stmt_step stmt s) ≡ frame_of s
-stmt-frame (Set location e) s = refl
-stmt-frame (Fetch location width address) s = refl
-stmt-frame (Store width address e) s = refl
-stmt-frame (Div location e) s = dividing-frame location (division_of (scene_of s) e) s
-stmt-frame (Call results entry arguments depth) s = refl
-stmt-frame (Dos number place argument) s = dos-frame number place (argument_in s argument) s
+stmt-frame stmt s = let same = stmt-within stmt s in cc
 
 -- What a local run leaves.
 

@@ -1,28 +1,27 @@
 -- The theorem on passes: where a pass meets what it owes, the runs of the second program visit its blocks as those of
 -- the first one do, and end alike.
-use Rattle.std.proofs.Common.{◌≡◌, ℕ, zero, suc, ◌+◌, ◌%◌, ◌<◌, ◌^◌, Bool, true, false, cond, ◌⊎◌, inl, inr, List, [], ◌∷◌, length, Option, Some, None, refl, sym, ap, ap₂, ◌∙◌, subst, true≢false, map, take, slice_get, eqb-true, eq-eqb, arith}
-use Rattle.std.specs.Prelude.{if◌then◌else◌, ◌==◌, All, Contains, get_or}
-use Rattle.std.specs.List.{list_any, list_all}
+use Rattle.std.proofs.Common.{◌≡◌, ℕ, zero, suc, ◌+◌, ◌%◌, ◌<◌, Bool, true, false, cond, List, [], ◌∷◌, length, Some, None, refl, sym, ap, ap₂, ◌∙◌, subst, map, take, slice_get, eq-eqb, arith}
+use Rattle.std.specs.Prelude.{◌==◌, All, get_or}
+use Rattle.std.specs.List.{list_any}
 use Rattle.std.proofs.lemmas.Option.{slice_get-get_or}
 use Rattle.std.proofs.lemmas.List.Elements.{All-head, All-contains}
 use Rattle.std.proofs.Math.Dec.{eqb-suc-zero}
 use Rattle.dcc_run.specs.End.{Running, Stuck, is_over}
 use Rattle.dcc_run.specs.Place.{Place}
 use Rattle.dcc_run.specs.System.{after}
-use Rattle.dcc_run.specs.Visits.{VisitsKept}
-use Rattle.dcc_run.specs.Watched.{Watched, IsWatchable, IsQuiet, IsQuietUntil}
-use Rattle.dcc_run.specs.Shadows.{ComesTo, still_related, both_over, first_foul, AreMatched, Matches, kept_mark, only}
+use Rattle.dcc_run.specs.Watched.{Watched, IsQuiet, IsQuietUntil}
+use Rattle.dcc_run.specs.Shadows.{ComesTo, still_related, both_over, first_foul, Matches, kept_mark, only}
 use Rattle.dcc_run.proofs.RunLaws.{after-add}
+use Rattle.dcc_run.proofs.KeptLaws.{only_watchable}
 use Rattle.dcc_run.proofs.MatchLaws.{visits_kept_from_matches}
-use Rattle.dcc_ir.specs.declared.syntax.Loc.{Loc}
 use Rattle.dcc_ir.specs.Tree.{Stmt, Block, Graph, Program}
 use Rattle.dcc_ir.specs.Location.{location_width, filled}
-use Rattle.dcc_ir.specs.WellFormed.{is_put, put_width, all_ret_widths, IsGraph, IsProgram}
+use Rattle.dcc_ir.specs.WellFormed.{put_width, all_ret_widths, IsProgram}
 use Rattle.dcc_ir.specs.Run.{State, Waiting, Activation, activation, no_block, entering, going_to, passing, callee_base, calling, graph_at, giving, returning, step, no_graph, first_memory, first_state, block_mark, watched_inner}
-use Rattle.dcc_ir.specs.Flow.{Flow, flow_at, graph_or_none}
+use Rattle.dcc_ir.specs.Flow.{flow_at, graph_or_none}
 use Rattle.dcc_ir.specs.Keeps.{has_block}
 use Rattle.dcc_ir.specs.Local.{Point, next_of, Request, Halt, Over, Calls, Jumps, Returns, after_call, after_calls, halt_of, led_to}
-use Rattle.dcc_ir.specs.Passes.{Pass, point_before, with_values, FitIn, param_widths, IsAt, AgreeOutside, AreTogether, CallAlike, JumpAlike, ReturnAlike, EndAlike, Meet, GoesOn, BlocksStay, IsPass, KeepsRuns}
+use Rattle.dcc_ir.specs.Passes.{Pass, point_before, with_values, FitIn, param_widths, IsAt, AgreeOutside, CallAlike, Meet, GoesOn, IsPass, KeepsRuns}
 use Rattle.dcc_ir.proofs.RunLaws.{inner_watchable}
 use Rattle.dcc_ir.proofs.GraphLaws.{any_at, found_entry}
 use Rattle.dcc_ir.proofs.PassLaws.{passing_nothing}
@@ -488,16 +487,10 @@ module _ (p q : Program) (pass : Pass) (is : IsPass p q pass) (fill : ℕ) (smal
 
 pub keeps_runs : (p q : Program) (pass : Pass) → IsPass p q pass → KeepsRuns p q
 keeps_runs p q pass is fill input small bytes =
-    visits_kept_from_matches (has_block q) (watched_inner p fill) (watched_inner q fill) (AreMatching p q pass) only_watchable (inner_watchable q fill) (λ s. refl) (λ t. refl)
+    visits_kept_from_matches (has_block q) (watched_inner p fill) (watched_inner q fill) (AreMatching p q pass)
+    (only_watchable (watched_inner p fill) (has_block q) (inner_watchable p fill)) (inner_watchable q fill) (λ s. refl) (λ t. refl)
     (matches p q pass is fill small) (first_state p fill input) (first_state q fill input) (record {
       related = related_first p q pass is fill small input;
       good = first-good p is.before fill input bytes;
       other_good = first-good q is.after fill input bytes;
     })
-  where
-    only_watchable : IsWatchable (only (has_block q) (watched_inner p fill))
-    only_watchable = record {
-      lawful = (inner_watchable p fill).lawful;
-      stays = (inner_watchable p fill).stays;
-      unmarked = λ s foul. absurd (true≢false (sym foul));
-    }

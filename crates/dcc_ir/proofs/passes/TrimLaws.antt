@@ -1,5 +1,5 @@
 -- What nothing reads may go: the pass meets what it owes.
-use Rattle.std.proofs.Common.{◌≡◌, ℕ, zero, suc, ◌+◌, ◌/◌, ◌%◌, ◌<◌, Bool, true, false, cond, not, ◌⊎◌, inl, inr, List, [], ◌∷◌, ◌++◌, length, Option, Some, None, refl, sym, ap, ap₂, ◌∙◌, subst, true≢false, map, take, find, slice_get, flat_map}
+use Rattle.std.proofs.Common.{◌≡◌, ℕ, zero, suc, ◌+◌, ◌/◌, ◌%◌, Bool, true, false, cond, not, ◌⊎◌, inl, inr, List, [], ◌∷◌, length, Option, Some, None, refl, sym, ap, ap₂, ◌∙◌, subst, true≢false, map, take, slice_get, flat_map}
 use Rattle.std.specs.Prelude.{if◌then◌else◌, ◌==◌, option_map, All, Contains}
 use Rattle.std.proofs.lemmas.Option.{slice_get-map}
 use Rattle.std.proofs.lemmas.List.{length-map}
@@ -12,18 +12,17 @@ use Rattle.dcc_ir.specs.declared.syntax.Put.TheVariants.{Memory, One, Two}
 use Rattle.dcc_ir.specs.declared.syntax.Param.{Param}
 use Rattle.dcc_ir.specs.Tree.{Stmt, Call, Exit, Goto, If, Switch, Ret, Stop, Block, Graph, Program}
 use Rattle.dcc_ir.specs.Location.{same_location, location_width, Values, with_value}
-use Rattle.dcc_ir.specs.Value.{with_bytes_at}
 use Rattle.dcc_ir.specs.Use.{reads_of, exprs_of, exit_exprs, block_exprs, graph_exprs}
 use Rattle.dcc_ir.specs.Joinable.{places_of}
 use Rattle.dcc_ir.specs.WellFormed.{is_memory, put_width, IsProgram}
 use Rattle.dcc_ir.specs.Flow.{graph_or_none}
-use Rattle.dcc_ir.specs.Run.{State, Activation, setting, putting, passing, stmt_step, value_in, graph_at}
-use Rattle.dcc_ir.specs.Local.{Point, Halt, Over, Calls, Jumps, Returns, after_call, after_calls, switch_halt, exit_halt, local_run, halt_of}
-use Rattle.dcc_ir.specs.Passes.{Pass, with_values, FitIn, param_widths, AgreeOutside, AreTogether, Meet, GoesOn, BlocksStay, BeginAlike, OwesBegin, OwesGo, IsPass, KeepsRuns}
+use Rattle.dcc_ir.specs.Run.{State, Activation, putting, passing, stmt_step, value_in, graph_at}
+use Rattle.dcc_ir.specs.Local.{Point, Over, Jumps, after_call, after_calls, switch_halt, exit_halt, local_run, halt_of}
+use Rattle.dcc_ir.specs.Passes.{Pass, with_values, FitIn, param_widths, Meet, BlocksStay, BeginAlike, OwesBegin, OwesGo, KeepsRuns}
 use Rattle.dcc_ir.specs.Trimmed.{Trim, nothing_trimmed, kept, dropped, trim_stmt, trim_exit, trim_block, trim_graph, trimmed, reads_in, IsUnread, GivesRead, IsTrimmable, trimming}
 use Rattle.dcc_ir.proofs.GraphLaws.{found_entry}
 use Rattle.dcc_ir.proofs.ReachedLaws.{contained, found_contained}
-use Rattle.dcc_ir.proofs.passes.ListLaws.{left_part, all_parts}
+use Rattle.dcc_ir.proofs.ListLaws.{left_part, all_parts}
 use Rattle.dcc_ir.proofs.passes.LocalLaws.{Frame, stmt-frame}
 use Rattle.dcc_ir.proofs.passes.AgreeLaws.{Agree, ReadsOf, agree-value, agree-values, with_value-agrees, stuck-agrees, stmt-agrees}
 use Rattle.dcc_ir.proofs.passes.Theorem.{keeps_runs}
