@@ -6,10 +6,13 @@ use Rattle.dcc_prepare.specs.declared.program.Variable.{Variable}
 use Rattle.dcc_prepare.specs.Frames.{params_holding, with_argument, arguments_put}
 
 -- one of two lists has ended
-pub min_end : (a b : ℕ) → (a ≤ min a b) ⊎ (b ≤ min a b)
+min_end : (a b : ℕ) → (a ≤ min a b) ⊎ (b ≤ min a b)
 min_end zero b = inl (omega arith)
 min_end (suc a) zero = inr (omega arith)
 min_end (suc a) (suc b) = elim (min_end a b) [ inl le ↦ inl (omega arith) | inr le ↦ inr (omega arith) ]
+
+pub past_min : (i a b : ℕ) → min a b ≤ i → (a ≤ i) ⊎ (b ≤ i)
+past_min i a b past = elim (min_end a b) [ inl le ↦ inl (omega (arith, past, le)) | inr le ↦ inr (omega (arith, past, le)) ]
 
 params-none : (base : ℕ) (params : List Variable) → params_holding base params [] ≡ []
 params-none base [] = refl

@@ -1,12 +1,14 @@
 -- How a function and a text are made ready to run.
 use Rattle.std.proofs.Common.{◌≡◌, ◌⊎◌, inl, inr, ℕ, ◌+◌, ◌%◌, ◌<◌, ◌≤◌, drop, get_or, string_bytes, Bool, List, [], ◌∷◌, ◌++◌, length, map, Option, None, Some, refl, sym, ap, ◌∙◌, subst}
-use Rattle.std.specs.Prelude.{is_some, option_map}
+use Rattle.std.specs.Prelude.{is_some, option_map, if◌then◌else◌}
 use Rattle.std.proofs.lemmas.List.{at_drop_more, drop_all}
+use Rattle.dcc_c.specs.declared.syntax.Func.{Func}
 use Rattle.dcc_c.specs.declared.syntax.Var.{Var}
-use Rattle.dcc_c.specs.Views.{variable_of}
+use Rattle.dcc_c.specs.Token.{same_bytes}
+use Rattle.dcc_c.specs.Views.{variable_of, function_of}
 use Rattle.dcc_c.specs.Typing.{Declared}
 use Rattle.dcc_c.specs.Tree.{Word, Function, Tree}
-use Rattle.dcc_c.specs.Run.{Continuation, runs, ends_function, from_label}
+use Rattle.dcc_c.specs.Run.{Continuation, runs, ends_function, from_label, function_in}
 use Rattle.dcc_prepare.specs.declared.program.Action.TheVariants.{Close}
 use Rattle.dcc_prepare.specs.declared.program.Variable.{Variable}
 use Rattle.dcc_prepare.specs.declared.program.Label.{Label}
@@ -103,3 +105,12 @@ declare-end vs xs i end = elim end [
   | inl le ↦ ap (λ l. names_declared l (drop i xs)) (drop_all i vs le)
   | inr le ↦ ap (λ l. names_declared (drop i vs) l) (drop_all i xs le) ∙ names-none (drop i vs)
 ]
+
+-- Names of functions: the next of those that are left has the name, or it is one of the others.
+pub next_named : (fs : List Func) (i : ℕ) (f : Func) (name : Word) (is : Bool) (found : Option Function) → i < length fs → f ≡ get_or fs i f →
+    same_bytes (function_of f).name name ≡ is → found ≡ function_in (map function_of (drop i fs)) name →
+    found ≡ (if is then Some (function_of f) else function_in (map function_of (drop (i + 1) fs)) name)
+next_named fs i f name is found within here named so =
+    so ∙ at_drop_more (λ l. function_in (map function_of l) name) fs i f within
+    ∙ ap (λ g. function_in (map function_of (g ∷ drop (i + 1) fs)) name) (sym here)
+    ∙ ap (λ b. if b then Some (function_of f) else function_in (map function_of (drop (i + 1) fs)) name) named

@@ -1,8 +1,8 @@
-use Rattle.std.proofs.Common.{◌⊎◌, ◌+◌, ◌<◌, ◌≤◌, ◌++◌, [], ◌∷◌, length, drop, map, inl, inr, refl, sym, ap, ◌∙◌, append_assoc, arith}
+use Rattle.std.proofs.Common.{◌+◌, ◌<◌, ◌++◌, [], ◌∷◌, length, drop, map, refl, sym, ap, ◌∙◌, append_assoc, arith}
 use Rattle.std.proofs.lemmas.List.{append-nil, map-append}
 use Rattle.dcc_value.specs.Evaluation.{declared_of}
 use Rattle.dcc_prepare.specs.Prepared.{names_declared}
-use Rattle.dcc_prepare.proofs.FrameLaws.{min_end}
+use Rattle.dcc_prepare.proofs.FrameLaws.{past_min}
 use Rattle.dcc_prepare.proofs.PrepareLaws.{declare-step, declare-end}
 use Rattle.dcc_prepare.proofs.prepare.declare.Goals as goal
 
@@ -25,10 +25,7 @@ pub returns : goal.returns
 returns c =
     let vs = c.args.declared.now in
     let xs = c.args.variables.now in
-    let end : (length vs ≤ c.loop-i.i) ⊎ (length xs ≤ c.loop-i.i) = elim (min_end (length vs) (length xs)) [
-      | inl le ↦ inl (omega arith)
-      | inr le ↦ inr (omega arith)
-    ] in
+    let end = past_min c.loop-i.i (length vs) (length xs) (omega arith) in
     sym (append-nil (map declared_of c.loop-i.names.items))
     ∙ ap (λ l. map declared_of c.loop-i.names.items ++ l) (sym (declare-end vs xs c.loop-i.i end))
     ∙ c.loop-i.invariant

@@ -1,6 +1,6 @@
-use Rattle.std.proofs.Common.{◌⊎◌, ◌+◌, ◌<◌, ◌≤◌, length, drop, inl, inr, refl, sym, ap, ◌∙◌, arith}
+use Rattle.std.proofs.Common.{◌+◌, ◌<◌, length, drop, refl, sym, ap, ◌∙◌, arith}
 use Rattle.dcc_prepare.specs.Frames.{arguments_put}
-use Rattle.dcc_prepare.proofs.FrameLaws.{min_end, put-end, put-step}
+use Rattle.dcc_prepare.proofs.FrameLaws.{past_min, put-end, put-step}
 use Rattle.dcc_prepare.proofs.program.Procedure.put_arguments.Goals as goal
 
 pub loop-i-preserved : goal.loop-i-preserved
@@ -18,8 +18,5 @@ pub returns : goal.returns
 returns c =
     let ps = c.args.self.now.params.items in
     let as_ = c.args.arguments.now in
-    let end : (length ps ≤ c.loop-i.i) ⊎ (length as_ ≤ c.loop-i.i) = elim (min_end (length ps) (length as_)) [
-      | inl le ↦ inl (omega (arith, c.args.self.now.params.ok.0, c.min-i-end.ensures, c.len.ensures))
-      | inr le ↦ inr (omega (arith, c.args.self.now.params.ok.0, c.min-i-end.ensures, c.len.ensures))
-    ] in
+    let end = past_min c.loop-i.i (length ps) (length as_) (omega (arith, c.args.self.now.params.ok.0, c.min-i-end.ensures, c.len.ensures)) in
     sym (put-end c.args.base c.loop-i.i ps as_ c.loop-i.memory end) ∙ c.loop-i.invariant
