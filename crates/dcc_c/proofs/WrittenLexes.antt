@@ -19,7 +19,7 @@ use Rattle.dcc_c.proofs.LexingLaws.{header_lexes}
 use Rattle.dcc_c.proofs.WrittenLaws.{is_word-name, is_free}
 use Rattle.dcc_c.proofs.Writable.{is_small, is_small_if, is_writable_global, is_writable_param, is_local_class, is_writable_local, are_writable_lines, is_writable_function, IsWritable}
 use Rattle.dcc_c.proofs.WrittenTokens.{size_tokens, class_tokens, local_tokens, locals_tokens, param_tokens, some_params_tokens, params_tokens, head_tokens, function_tokens, functions_tokens, numbers_tokens, initial_tokens, global_tokens, place_tokens, globals_tokens, tree_tokens}
-use Rattle.dcc_c.proofs.WrittenReads.{Ending, Inside, Behind, Reads, nothing, space_then, reads_then, line_feed, no_line, lines_then, counted_as}
+use Rattle.dcc_c.proofs.WrittenReads.{Ending, Inside, LineAfter, Reads, nothing, space_then, reads_then, line_feed, no_line, lines_then, counted_as}
 use Rattle.dcc_c.proofs.WrittenExprs.{word_then, mark_then, lone_then, opening_then, closing_then, number_then, word_reads, variable_reads}
 use Rattle.dcc_c.proofs.WrittenParts.{at_start, indented_then, after_rows, by_rows, semicolon_line, closing_line, pragma_reads, pragma_unless}
 use Rattle.dcc_c.proofs.WrittenStmts.{lines_read}
@@ -65,7 +65,7 @@ initial_free (Some len) (n ∷ ns) rest = refl
 -- Global variables.
 
 global_reads : {at : ℕ} (g : Global) → is_writable_global g ≡ true →
-    Reads true at (Behind (at + 1)) (written_global g) (global_tokens at g)
+    Reads true at (LineAfter (at + 1)) (written_global g) (global_tokens at g)
 global_reads g good =
     let (named, others) = and_parts (is_name g.name) _ good in
     let (placed, rest) = and_parts (is_small g.at) _ others in
@@ -73,12 +73,12 @@ global_reads g good =
     reads_then (variable_reads g.type g.name named) (λ rest fits. size_free g.len _ rest (initial_free g.len g.init rest)) (reads_then (size_reads g.len sized) (λ rest fits. initial_free g.len g.init rest) (reads_then (initial_reads g.len g.init valued) (λ rest fits. refl) semicolon_line))
 
 place_reads : {at : ℕ} (following : Option ℕ) (address : ℕ) → is_small address ≡ true →
-    Reads true at (Behind (at + rows (written_place following address))) (written_place following address) (place_tokens at following address)
+    Reads true at (LineAfter (at + rows (written_place following address))) (written_place following address) (place_tokens at following address)
 place_reads None address small = by_rows (pragma_reads place_line address (and_from _ _ small refl) small)
 place_reads (Some following) address small = pragma_unless (following == address) place_line address (λ differ. (and_from _ _ small refl, small))
 
 globals_read : (following : Option ℕ) (at : ℕ) (globals : List Global) → list_all is_writable_global globals ≡ true →
-    Reads true at (Behind (at + rows (written_globals following globals))) (written_globals following globals) (globals_tokens following at globals)
+    Reads true at (LineAfter (at + rows (written_globals following globals))) (written_globals following globals) (globals_tokens following at globals)
 globals_read following at [] good = after_rows 0 refl no_line
 globals_read following at (g ∷ globals) good =
     let (first, others) = and_parts (is_writable_global g) (list_all is_writable_global globals) good in
@@ -95,14 +95,14 @@ class_then Auto r = word_then (codes "auto") refl (λ rest fits. refl) (space_th
 class_then Register r = word_then (codes "register") refl (λ rest fits. refl) (space_then r)
 
 local_reads : {at : ℕ} (v : Variable) → is_writable_local v ≡ true →
-    Reads true at (Behind (at + 1)) (written_local v) (local_tokens at v)
+    Reads true at (LineAfter (at + 1)) (written_local v) (local_tokens at v)
 local_reads v good =
     let (named, others) = and_parts (is_name v.name) _ good in
     let (sized, class) = and_parts (is_small_if v.len) (is_local_class v.class v.len) others in
     indented_then 1 (class_then v.class (reads_then (variable_reads v.type v.name named) (λ rest fits. size_free v.len _ rest refl) (reads_then (size_reads v.len sized) (λ rest fits. refl) semicolon_line)))
 
 locals_read : (at : ℕ) (locals : List Variable) → list_all is_writable_local locals ≡ true →
-    Reads true at (Behind (at + length locals)) (flat_map written_local locals) (locals_tokens at locals)
+    Reads true at (LineAfter (at + length locals)) (flat_map written_local locals) (locals_tokens at locals)
 locals_read at [] good = after_rows 0 refl no_line
 locals_read at (v ∷ locals) good =
     let (first, others) = and_parts (is_writable_local v) (list_all is_writable_local locals) good in
@@ -134,11 +134,11 @@ head_reads (Some type) name is = variable_reads type name is
 
 -- the end of a line before others
 feed_then : {fresh : Bool} {at last : ℕ} {b : List ℕ} {g : List Placed → List Placed} (next : ℕ) → at + 1 ≡ next →
-    Reads true next (Behind last) b g → Reads fresh at (Behind last) (10 ∷ b) g
+    Reads true next (LineAfter last) b g → Reads fresh at (LineAfter last) (10 ∷ b) g
 feed_then next is r = lines_then (counted_as next is line_feed) r
 
 function_reads : (at : ℕ) (f : Function) → is_writable_function f ≡ true →
-    Reads true at (Behind ((numbered_function at f).last + 1)) (written_function f) (function_tokens at f)
+    Reads true at (LineAfter ((numbered_function at f).last + 1)) (written_function f) (function_tokens at f)
 function_reads at f good =
     let (named, others) = and_parts (is_name f.name) _ good in
     let (given, rest) = and_parts (list_all is_writable_param f.params) _ others in

@@ -10,22 +10,22 @@ use Rattle.dcc_c.proofs.WrittenLaws.{is_free}
 -- how a part ends: inside its line, or with a line feed, after which a line begins
 pub data Ending : Type 0 where
   Inside : Ending
-  Behind : ℕ → Ending
+  LineAfter : ℕ → Ending
 
 -- the bytes may follow a part that ends so
 abbrev pub Fits : Ending → List ℕ → Type 0
 Fits Inside rest = is_free rest ≡ true
-Fits (Behind n) rest = Unit {0}
+Fits (LineAfter n) rest = Unit {0}
 
 -- the bytes after a part of this line that ends so are read as the tokens
 abbrev pub Goes : Ending → ℕ → List ℕ → List Placed → Type 0
 Goes Inside at rest others = Lexes false at rest others
-Goes (Behind n) at rest others = Lexes true n rest others
+Goes (LineAfter n) at rest others = Lexes true n rest others
 
 -- a part of this line that ends so has so many line feeds
 abbrev pub Counts : Ending → ℕ → ℕ → Type 0
 Counts Inside at n = n ≡ 0
-Counts (Behind following) at n = following ≡ at + n
+Counts (LineAfter following) at n = following ≡ at + n
 
 -- The bytes, which begin in this line and end so, are read as the tokens, whatever may follow.
 pub record Reads (fresh : Bool) (at : ℕ) (ending : Ending) (bytes : List ℕ) (tokens : List Placed → List Placed) : Type 0 where
@@ -80,20 +80,20 @@ reads_then {fresh} {at} {ending} {a} {b} {f} {g} first free r = record {
 }
 
 -- the end of a line
-pub line_feed : {fresh : Bool} {at : ℕ} → Reads fresh at (Behind (at + 1)) (10 ∷ []) (λ others. others)
+pub line_feed : {fresh : Bool} {at : ℕ} → Reads fresh at (LineAfter (at + 1)) (10 ∷ []) (λ others. others)
 line_feed {fresh} {at} = record {
   lexed = λ rest others fits goes. feed (subst (λ n. Lexes true n rest others) (omega arith) goes);
   counted = refl;
 }
 
 -- no line
-pub no_line : {at : ℕ} → Reads true at (Behind at) [] (λ others. others)
+pub no_line : {at : ℕ} → Reads true at (LineAfter at) [] (λ others. others)
 no_line {at} = record { lexed = λ rest others fits goes. goes; counted = omega arith }
 
 -- lines before others
 pub lines_then : {fresh : Bool} {at following last : ℕ} {a b : List ℕ} {f g : List Placed → List Placed} →
-    Reads fresh at (Behind following) a f → Reads true following (Behind last) b g →
-    Reads fresh at (Behind last) (a ++ b) (λ others. f (g others))
+    Reads fresh at (LineAfter following) a f → Reads true following (LineAfter last) b g →
+    Reads fresh at (LineAfter last) (a ++ b) (λ others. f (g others))
 lines_then {fresh} {at} {following} {last} {a} {b} {f} {g} first r = record {
   lexed = λ rest others fits goes. subst (λ bytes. Lexes fresh at bytes (f (g others))) (sym (append_assoc a b rest)) (first.lexed (b ++ rest) (g others) tt (r.lexed rest others fits goes));
   counted =
@@ -104,5 +104,5 @@ lines_then {fresh} {at} {following} {last} {a} {b} {f} {g} first r = record {
 
 -- the line after a part, by another count
 pub counted_as : {fresh : Bool} {at following : ℕ} {bytes : List ℕ} {tokens : List Placed → List Placed} (other : ℕ) →
-    following ≡ other → Reads fresh at (Behind following) bytes tokens → Reads fresh at (Behind other) bytes tokens
-counted_as {fresh} {at} {bytes} {tokens} other same r = subst (λ n. Reads fresh at (Behind n) bytes tokens) same r
+    following ≡ other → Reads fresh at (LineAfter following) bytes tokens → Reads fresh at (LineAfter other) bytes tokens
+counted_as {fresh} {at} {bytes} {tokens} other same r = subst (λ n. Reads fresh at (LineAfter n) bytes tokens) same r

@@ -12,7 +12,7 @@ use Rattle.dcc_c.specs.Numbered.{rows}
 use Rattle.dcc_c.proofs.WrittenLaws.{is_word-name}
 use Rattle.dcc_c.proofs.Writable.{is_small, is_place, is_writable_expr, is_writable_place, is_place_if, is_label, are_cases, has_no_case, is_writable_stmt, are_writable_lines, are_writable_arms, is_writable_default}
 use Rattle.dcc_c.proofs.WrittenTokens.{expr_tokens, stmt_tokens, lines_tokens, arms_tokens, default_tokens}
-use Rattle.dcc_c.proofs.WrittenReads.{Behind, Reads, space_then, reads_then, no_line, lines_then, counted_as}
+use Rattle.dcc_c.proofs.WrittenReads.{LineAfter, Reads, space_then, reads_then, no_line, lines_then, counted_as}
 use Rattle.dcc_c.proofs.WrittenExprs.{word_then, mark_then, opening_then, closing_then, expr_reads}
 use Rattle.dcc_c.proofs.WrittenRows.{stmt_rows, lines_rows, arms_rows, default_rows}
 use Rattle.dcc_c.proofs.WrittenParts.{indented_then, after_rows, semicolon_line, colon_line, brace_line, closing_line, word_line, call_reads, return_reads, test_reads, depth_reads, cases_read}
@@ -55,63 +55,63 @@ place_is place good = (and_parts (is_place place) (is_writable_expr place) good)
 
 -- a place and what it takes
 assign_then : {at following : ℕ} {b : List ℕ} {g : List Placed → List Placed} (place : Expr) → is_writable_place place ≡ true →
-    Reads false at (Behind following) b g →
-    Reads false at (Behind following) (written_expr place ++ (codes " = " ++ b)) (λ others. expr_tokens at place (mark at (codes "=") ∷ g others))
+    Reads false at (LineAfter following) b g →
+    Reads false at (LineAfter following) (written_expr place ++ (codes " = " ++ b)) (λ others. expr_tokens at place (mark at (codes "=") ∷ g others))
 assign_then {at} place good r =
     reads_then (expr_reads place (place_is place good) at false) (λ rest fits. refl) (space_then (mark_then (codes "=") refl (λ rest fits. refl) (space_then r)))
 
 -- the line of a statement that has one
 whole : {at : ℕ} {bytes : Word} {tokens : List Placed → List Placed} (braces depth : ℕ) (stmt : Stmt) →
-    bytes ≡ written_stmt braces depth stmt → Reads true at (Behind (at + 1)) bytes tokens →
-    Reads true at (Behind (at + rows (written_stmt 1 depth stmt))) (written_stmt braces depth stmt) tokens
+    bytes ≡ written_stmt braces depth stmt → Reads true at (LineAfter (at + 1)) bytes tokens →
+    Reads true at (LineAfter (at + rows (written_stmt 1 depth stmt))) (written_stmt braces depth stmt) tokens
 whole {at} {bytes} {tokens} braces depth stmt is r =
-    after_rows _ (stmt_rows braces 1 depth stmt).same (subst (λ b. Reads true at (Behind (at + 1)) b tokens) is r)
+    after_rows _ (stmt_rows braces 1 depth stmt).same (subst (λ b. Reads true at (LineAfter (at + 1)) b tokens) is r)
 
 -- The lines of statements with blocks.
 
 else_line : {at : ℕ} →
-    Reads false at (Behind (at + 1)) (codes "} else {\n") (λ others. mark at (codes "}") ∷ word at (codes "else") ∷ mark at (codes "{") ∷ others)
+    Reads false at (LineAfter (at + 1)) (codes "} else {\n") (λ others. mark at (codes "}") ∷ word at (codes "else") ∷ mark at (codes "{") ∷ others)
 else_line =
     mark_then (codes "}") refl (λ rest fits. refl) (space_then (word_then (codes "else") refl (λ rest fits. refl) (space_then brace_line)))
 
 do_line : {at : ℕ} →
-    Reads false at (Behind (at + 1)) (codes "do {\n") (λ others. word at (codes "do") ∷ mark at (codes "{") ∷ others)
+    Reads false at (LineAfter (at + 1)) (codes "do {\n") (λ others. word at (codes "do") ∷ mark at (codes "{") ∷ others)
 do_line = word_then (codes "do") refl (λ rest fits. refl) (space_then brace_line)
 
 again_reads : {at : ℕ} (e : Expr) → is_writable_expr e ≡ true →
-    Reads false at (Behind (at + 1)) (codes "} while (" ++ (written_expr e ++ codes ");\n")) (λ others. mark at (codes "}") ∷ word at (codes "while") ∷ mark at (codes "(") ∷ expr_tokens at e (mark at (codes ")") ∷ mark at (codes ";") ∷ others))
+    Reads false at (LineAfter (at + 1)) (codes "} while (" ++ (written_expr e ++ codes ");\n")) (λ others. mark at (codes "}") ∷ word at (codes "while") ∷ mark at (codes "(") ∷ expr_tokens at e (mark at (codes ")") ∷ mark at (codes ";") ∷ others))
 again_reads {at} e good =
     mark_then (codes "}") refl (λ rest fits. refl) (space_then (word_then (codes "while") refl (λ rest fits. refl) (space_then (opening_then (reads_then (expr_reads e good at false) (λ rest fits. refl) (closing_then semicolon_line))))))
 
 for_line : {at : ℕ} →
-    Reads false at (Behind (at + 1)) (codes "for (;;) {\n") (λ others. word at (codes "for") ∷ mark at (codes "(") ∷ mark at (codes ";") ∷ mark at (codes ";") ∷ mark at (codes ")") ∷ mark at (codes "{") ∷ others)
+    Reads false at (LineAfter (at + 1)) (codes "for (;;) {\n") (λ others. word at (codes "for") ∷ mark at (codes "(") ∷ mark at (codes ";") ∷ mark at (codes ";") ∷ mark at (codes ")") ∷ mark at (codes "{") ∷ others)
 for_line =
     word_then (codes "for") refl (λ rest fits. refl) (space_then (opening_then (mark_then (codes ";") refl (λ rest fits. refl) (mark_then (codes ";") refl (λ rest fits. refl) (closing_then (space_then brace_line))))))
 
 default_line : {at : ℕ} →
-    Reads false at (Behind (at + 1)) (codes "default:\n") (λ others. word at (codes "default") ∷ mark at (codes ":") ∷ others)
+    Reads false at (LineAfter (at + 1)) (codes "default:\n") (λ others. word at (codes "default") ∷ mark at (codes ":") ∷ others)
 default_line = word_then (codes "default") refl (λ rest fits. refl) colon_line
 
 -- a statement is read, and statements and arms are
 abbrev StmtReads : Around → Stmt → Type 0
 StmtReads around stmt =
     is_writable_stmt around stmt ≡ true → (braces depth at : ℕ) →
-    Reads true at (Behind (at + rows (written_stmt 1 depth stmt))) (written_stmt braces depth stmt) (stmt_tokens depth at stmt)
+    Reads true at (LineAfter (at + rows (written_stmt 1 depth stmt))) (written_stmt braces depth stmt) (stmt_tokens depth at stmt)
 
 abbrev LinesRead : Around → Bool → Lines → Type 0
 LinesRead around labelled lines =
     are_writable_lines around labelled lines ≡ true → (braces depth at : ℕ) →
-    Reads true at (Behind (at + rows (written_lines 1 depth lines))) (written_lines braces depth lines) (lines_tokens depth at lines)
+    Reads true at (LineAfter (at + rows (written_lines 1 depth lines))) (written_lines braces depth lines) (lines_tokens depth at lines)
 
 abbrev ArmsRead : Around → Arms → Type 0
 ArmsRead around arms =
     are_writable_arms around arms ≡ true → (braces depth at : ℕ) →
-    Reads true at (Behind (at + rows (written_arms 1 depth arms))) (written_arms braces depth arms) (arms_tokens depth at arms)
+    Reads true at (LineAfter (at + rows (written_arms 1 depth arms))) (written_arms braces depth arms) (arms_tokens depth at arms)
 
 abbrev DefaultReads : Around → Arms → Type 0
 DefaultReads around last =
     is_writable_default around last ≡ true → (braces depth at second : ℕ) → at + 1 ≡ second →
-    Reads true at (Behind (at + rows (written_default 1 depth last))) (written_default braces depth last) (default_tokens depth at second last)
+    Reads true at (LineAfter (at + rows (written_default 1 depth last))) (written_default braces depth last) (default_tokens depth at second last)
 
 mutual
   pub stmt_reads : (stmt : Stmt) (around : Around) → StmtReads around stmt

@@ -265,7 +265,8 @@ abbrev pub while_of : Got PartialExpr → Got PartialLines → Got PartialStmt
 while_of test body = got (WhileOf test.value (not (is_stopped test.following)) body.value) body.following
 
 abbrev pub if_of : Got PartialExpr → PartialLines → Got PartialLines → Got PartialStmt
-if_of test body otherwise = got (IfOf test.value (not (is_stopped test.following)) body otherwise.value) otherwise.following
+if_of test body otherwise =
+    got (IfOf test.value (not (is_stopped test.following)) body otherwise.value) otherwise.following
 
 abbrev pub do_while_of : Got PartialLines → Got PartialExpr → Got PartialStmt
 do_while_of body test =

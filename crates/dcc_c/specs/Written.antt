@@ -257,7 +257,8 @@ written_global g =
 -- the line with the address of a global variable, where the one before does not end there
 abbrev pub written_place : Option ℕ → ℕ → Word
 written_place None at = codes "#pragma dcc at " ++ (decimal at ++ codes "\n")
-written_place (Some following) at = if following == at then [] else codes "#pragma dcc at " ++ (decimal at ++ codes "\n")
+written_place (Some following) at =
+    if following == at then [] else codes "#pragma dcc at " ++ (decimal at ++ codes "\n")
 
 -- global variables, the one before them ending here
 abbrev pub written_globals : Option ℕ → List Global → Word

@@ -23,12 +23,12 @@ tails : {A : Type 0} (x y : A) (xs ys : List A) → (x ∷ xs) ≡ (y ∷ ys) �
 tails x y xs ys e = cc
 
 -- a place in what follows the first
-record Behind (o : Option ℕ) (i : ℕ) : Type 0 where
+record After (o : Option ℕ) (i : ℕ) : Type 0 where
   j : ℕ
   there : o ≡ Some j
   is : suc j ≡ i
 
-following : (o : Option ℕ) (i : ℕ) → option_map suc o ≡ Some i → Behind o i
+following : (o : Option ℕ) (i : ℕ) → option_map suc o ≡ Some i → After o i
 following (Some j) i e = record { j = j; there = refl; is = same_Some (suc j) i e }
 following None i e = absurd cc
 

@@ -60,11 +60,11 @@ abbrev SoundCall : Option PartialExpr → Reader → Got PartialStmt → Type 0
 SoundCall place r g = g.following.stop ≡ None → ReadsCall place r g
 
 -- an opening parenthesis stands after the name
-abbrev OpensBehind : Reader → Type 0
-OpensBehind r = r.stop ≡ None → sees_mark (codes "(") r ≡ true
+abbrev OpensAfter : Reader → Type 0
+OpensAfter r = r.stop ≡ None → sees_mark (codes "(") r ≡ true
 
 call_of-sound : (calls : ℕ) (place : Option PartialExpr) (start : Reader) (function : WordAt) (r : Reader) → is_name function.word ≡ true →
-    Took (WordToken function.word) start r → OpensBehind r → IsEnough calls 0 r.left → SoundCall place start (call_of calls place function r)
+    Took (WordToken function.word) start r → OpensAfter r → IsEnough calls 0 r.left → SoundCall place start (call_of calls place function r)
 call_of-sound calls place start function r good took opens enough going =
     let arguments = read_arguments calls (skip r) in
     let between = take_mark (codes ")") arguments.following in
