@@ -1,4 +1,5 @@
 pub mod Console
+pub mod Counts
 pub mod Key
 pub mod Laws
 pub mod Ran

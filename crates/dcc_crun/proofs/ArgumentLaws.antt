@@ -40,17 +40,25 @@ gather (Gives vs) had v = ap Gives (sym (append_assoc had (v ∷ []) vs))
 gather Divides had v = refl
 gather Undefined had v = refl
 
-pub argument_step : (scene : Scene) (types : List CType) (rs : List Resolved) (i : ℕ) (type d : CType) (r : Resolved) (had : List Value) (v : Value) →
-    i < length types → i < length rs → type ≡ get_or types i d → r ≡ get_or rs i r → evaluated scene r ≡ Gives v →
+-- the argument that comes next has this outcome
+argument_next : (scene : Scene) (types : List CType) (rs : List Resolved) (i : ℕ) (type d : CType) (r : Resolved) (had : List Value) (o : Outcome Value) →
+    i < length types → i < length rs → type ≡ get_or types i d → r ≡ get_or rs i r → evaluated scene r ≡ o →
     and_then (λ vs. Gives (had ++ vs)) (resolved_arguments scene (drop i types) (drop i rs))
-    ≡ and_then (λ vs. Gives ((had ++ converted type v ∷ []) ++ vs)) (resolved_arguments scene (drop (i + 1) types) (drop (i + 1) rs))
-argument_step scene types rs i type d r had v within inside is has value =
+    ≡ and_then (λ vs. Gives (had ++ vs)) (and_then (λ v. and_then (λ vs. Gives (converted type v ∷ vs)) (resolved_arguments scene (drop (i + 1) types) (drop (i + 1) rs))) o)
+argument_next scene types rs i type d r had o within inside is has value =
     let all : Outcome (List Value) → Outcome (List Value) = and_then (λ vs. Gives (had ++ vs)) in
     at_drop_more (λ l. all (resolved_arguments scene l (drop i rs))) types i d within
     ∙ ap (λ t. all (resolved_arguments scene (t ∷ drop (i + 1) types) (drop i rs))) (sym is)
     ∙ at_drop_more (λ l. all (resolved_arguments scene (type ∷ drop (i + 1) types) l)) rs i r inside
     ∙ ap (λ x. all (resolved_arguments scene (type ∷ drop (i + 1) types) (x ∷ drop (i + 1) rs))) (sym has)
-    ∙ ap (λ o. all (and_then (λ w. and_then (λ vs. Gives (converted type w ∷ vs)) (resolved_arguments scene (drop (i + 1) types) (drop (i + 1) rs))) o)) value
+    ∙ ap (λ o. all (and_then (λ v. and_then (λ vs. Gives (converted type v ∷ vs)) (resolved_arguments scene (drop (i + 1) types) (drop (i + 1) rs))) o)) value
+
+pub argument_step : (scene : Scene) (types : List CType) (rs : List Resolved) (i : ℕ) (type d : CType) (r : Resolved) (had : List Value) (v : Value) →
+    i < length types → i < length rs → type ≡ get_or types i d → r ≡ get_or rs i r → evaluated scene r ≡ Gives v →
+    and_then (λ vs. Gives (had ++ vs)) (resolved_arguments scene (drop i types) (drop i rs))
+    ≡ and_then (λ vs. Gives ((had ++ converted type v ∷ []) ++ vs)) (resolved_arguments scene (drop (i + 1) types) (drop (i + 1) rs))
+argument_step scene types rs i type d r had v within inside is has value =
+    argument_next scene types rs i type d r had (Gives v) within inside is has value
     ∙ gather (resolved_arguments scene (drop (i + 1) types) (drop (i + 1) rs)) had (converted type v)
 
 -- an argument that gives nothing
@@ -58,13 +66,7 @@ pub argument_fails : (scene : Scene) (types : List CType) (rs : List Resolved) (
     i < length types → i < length rs → type ≡ get_or types i d → r ≡ get_or rs i r → evaluated scene r ≡ nothing_of why →
     and_then (λ vs. Gives (had ++ vs)) (resolved_arguments scene (drop i types) (drop i rs)) ≡ nothing_of why
 argument_fails scene types rs i type d r had why within inside is has value =
-    let all : Outcome (List Value) → Outcome (List Value) = and_then (λ vs. Gives (had ++ vs)) in
-    at_drop_more (λ l. all (resolved_arguments scene l (drop i rs))) types i d within
-    ∙ ap (λ t. all (resolved_arguments scene (t ∷ drop (i + 1) types) (drop i rs))) (sym is)
-    ∙ at_drop_more (λ l. all (resolved_arguments scene (type ∷ drop (i + 1) types) l)) rs i r inside
-    ∙ ap (λ x. all (resolved_arguments scene (type ∷ drop (i + 1) types) (x ∷ drop (i + 1) rs))) (sym has)
-    ∙ ap (λ o. all (and_then (λ w. and_then (λ vs. Gives (converted type w ∷ vs)) (resolved_arguments scene (drop (i + 1) types) (drop (i + 1) rs))) o)) value
-    ∙ fails why
+    argument_next scene types rs i type d r had (nothing_of why) within inside is has value ∙ fails why
   where
     fails : (why : NoValue) → and_then (λ vs. Gives (had ++ vs)) (and_then (λ w. and_then (λ vs. Gives (converted type w ∷ vs)) (resolved_arguments scene (drop (i + 1) types) (drop (i + 1) rs))) (nothing_of why)) ≡ nothing_of why
     fails Faults = refl

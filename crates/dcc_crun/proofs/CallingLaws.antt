@@ -77,7 +77,7 @@ pub calls_on : (m : Moment) (program : Program) (row : CallRow) (line : ℕ) (tr
 calls_on m program row line tree points s now call to is =
     call.is ∙ goes_further (result_target (scope_of tree s) call.place) to line s (λ t. dos_or_call_step tree (dos_of call.word) call.word t call.exprs row.depth line s) is
 
--- a DOS call, and the point behind it
+-- a DOS call, and the point after it
 pub dos_from : (m mid : Moment) (program : Program) (row : CallRow) (dos : DosCall) (target : Option Place) (line : ℕ) (globals : List Bound) (arguments : List Resolved) →
     globals ≡ program.globals.items → arguments ≡ row.arguments.items →
     row.callee ≡ CallsDosOf dos → StepsAside m mid →

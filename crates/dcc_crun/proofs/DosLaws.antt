@@ -1,9 +1,11 @@
 -- What DOS calls do.
-use Rattle.std.proofs.Common.{◌≡◌, ℕ, ◌%◌, Bool, true, false, List, [], ◌∷◌, ◌++◌, Option, Some, None, refl, sym, ap, ◌∙◌, subst, arith}
+use Rattle.std.proofs.Common.{◌≡◌, ℕ, ◌≤◌, ◌%◌, Bool, true, false, List, [], ◌∷◌, ◌++◌, Option, Some, None, refl, sym, ap, ◌∙◌, subst, arith}
 use Rattle.std.specs.Prelude.{is_some, option_map, Result, Ok, Err}
 use Rattle.dcc_run.specs.End.{Exit, Stuck}
 use Rattle.dcc_run.specs.Event.{Event, MetEnd, taken_by, writes}
 use Rattle.dcc_run.proofs.EventLaws.{written-writes, taken-writes}
+use Rattle.std.specs.Result.{IsErrAnd}
+use Rattle.dcc_io.specs.Count.{Rose}
 use Rattle.dcc_io.specs.Told.{append_told, prepend_told, AppendsProperPrefix}
 use Rattle.dcc_io.proofs.ToldLemmas.{prepend_told-nil}
 use Rattle.dcc_c.specs.declared.syntax.CType.{CType}
@@ -20,15 +22,20 @@ use Rattle.dcc_value.specs.declared.expression.Resolved.{Resolved}
 use Rattle.dcc_value.specs.declared.expression.Target.{Target as Place}
 use Rattle.dcc_prepare.specs.declared.program.Dos.{Dos as DosCall}
 use Rattle.dcc_prepare.specs.declared.program.Dos.TheVariants.{Putc as calls_putc, Getche as calls_getche, Getch as calls_getch, Puts as calls_puts, Leave as calls_leave}
+use Rattle.dcc_crun.specs.declared.ending.Stop.{Stop}
+use Rattle.dcc_crun.specs.declared.ending.Stop.TheVariants.{Refused}
 use Rattle.dcc_crun.specs.declared.moment.Moment.{Moment}
 use Rattle.dcc_value.specs.Evaluation.{outcome_of, typed}
 use Rattle.dcc_value.specs.Resolved.{Names, Scene, Fits, scope_over, target_named}
 use Rattle.dcc_prepare.specs.Points.{locals_declared, StandAll, dos_call}
+use Rattle.dcc_crun.specs.Ending.{refusal_of}
 use Rattle.dcc_crun.specs.Standing.{IsTargetIf, IsRunning}
-use Rattle.dcc_console.specs.Key.{key_events, TakesKey, next_byte, no_byte, IsUntaken, IsCutKey}
+use Rattle.dcc_console.specs.declared.fault.Fault.{Fault}
+use Rattle.dcc_console.specs.declared.fault.Fault.TheVariants.{Input as ReadFault, Output as WriteFault}
+use Rattle.dcc_console.specs.Key.{key_events, TakesKey, next_byte, no_byte, IsUntaken, IsCutKey, IsRefusedKey}
 use Rattle.dcc_console.specs.Scene.{told_bytes}
 use Rattle.dcc_console.proofs.KeyLaws.{key-taken}
-use Rattle.dcc_crun.specs.Doing.{scene_in, AreGlobals, names_at, IsEnded, end_at, single, Kept, CallsForKey, CallsDos, Does, Halts, CannotRead, CannotWrite}
+use Rattle.dcc_crun.specs.Doing.{scene_in, AreGlobals, names_at, IsEnded, end_at, single, Kept, CallsForKey, CallsDos, Does, Halts, CannotRead, CannotWrite, ComesTo, StaysIfRefused, Counts}
 use Rattle.dcc_crun.proofs.MomentLaws.{fits_here, scope_here, ended, goes_further, takes-quiet, takes-rest}
 
 -- Bytes.
@@ -276,3 +283,29 @@ key_unwritten m echo target line left taken left_now taken_now cut = record {
   took = cut.took;
   part = cut.part;
 }
+
+-- A key that is refused, for this fault of the console.
+
+pub key_refused : (m : Moment) (echo : Bool) (target : Option Place) (line : ℕ) (left taken left_now taken_now : Option (List ℕ)) (fault : Fault) (r : Result (Unit {0}) Stop) →
+    IsErrAnd r (λ y. y ≡ Refused (refusal_of fault)) → IsRefusedKey echo left taken left_now taken_now fault →
+    ComesTo line r (CallsForKey m echo target line) (Kept m) left taken left_now taken_now
+key_refused m echo target line left taken left_now taken_now fault (Ok a) is refused = absurd is
+key_refused m echo target line left taken left_now taken_now ReadFault (Err y) is refused =
+    subst (λ (x : Stop). let e : Result (Unit {0}) Stop = Err x in ComesTo line e (CallsForKey m echo target line) (Kept m) left taken left_now taken_now) (sym is)
+    (key_unread m echo target line left taken left_now taken_now refused)
+key_refused m echo target line left taken left_now taken_now WriteFault (Err y) is refused =
+    subst (λ (x : Stop). let e : Result (Unit {0}) Stop = Err x in ComesTo line e (CallsForKey m echo target line) (Kept m) left taken left_now taken_now) (sym is)
+    (key_unwritten m echo target line left taken left_now taken_now refused)
+
+pub key_stays : (m : Moment) (fault : Fault) (r : Result (Unit {0}) Stop) → IsErrAnd r (λ y. y ≡ Refused (refusal_of fault)) → StaysIfRefused r m m
+key_stays m fault (Ok a) is = absurd is
+key_stays m ReadFault (Err y) is = subst (λ (x : Stop). let e : Result (Unit {0}) Stop = Err x in StaysIfRefused e m m) (sym is) refl
+key_stays m WriteFault (Err y) is = subst (λ (x : Stop). let e : Result (Unit {0}) Stop = Err x in StaysIfRefused e m m) (sym is) refl
+
+pub key_faults : {reads reads_now writes writes_now : ℕ} (fault : Fault) (r : Result (Unit {0}) Stop) → IsErrAnd r (λ y. y ≡ Refused (refusal_of fault)) →
+    reads ≤ reads_now → writes ≤ writes_now → (fault ≡ ReadFault → Rose reads reads_now) → (fault ≡ WriteFault → Rose writes writes_now) → Counts r reads reads_now writes writes_now
+key_faults fault (Ok a) is read wrote unread unwritten = absurd is
+key_faults ReadFault (Err y) is read wrote unread unwritten =
+    record { input_faults = read; output_faults = wrote; read_failed = λ failed. unread refl; write_failed = λ failed. cc }
+key_faults WriteFault (Err y) is read wrote unread unwritten =
+    record { input_faults = read; output_faults = wrote; read_failed = λ failed. cc; write_failed = λ failed. unwritten refl }

@@ -1,9 +1,10 @@
 -- What statements do, from what their parts come to.
-use Rattle.std.proofs.Common.{◌≡◌, ℕ, false, List, [], ◌∷◌, ◌++◌, Option, Some, None, refl, sym, ap, ◌∙◌, subst}
+use Rattle.std.proofs.Common.{◌≡◌, ℕ, ◌≤◌, false, List, [], ◌∷◌, ◌++◌, Option, Some, None, refl, sym, ap, ◌∙◌, subst, arith}
 use Rattle.std.specs.Prelude.{if◌then◌else◌, Result, Ok, Err, option_map}
 use Rattle.std.specs.Result.{IsErrAnd, IsErrOf}
 use Rattle.std.proofs.lemmas.List.{same_from_push}
 use Rattle.dcc_run.specs.End.{Stuck as stuck}
+use Rattle.dcc_io.specs.Count.{Rose}
 use Rattle.dcc_c.specs.declared.syntax.CType.{CType}
 use Rattle.dcc_c.specs.Tree.{Expr, Assign, Return, Tree}
 use Rattle.dcc_c.specs.Value.{Value, Outcome, Gives, and_then, converted, value_of, target_of}
@@ -19,11 +20,13 @@ use Rattle.dcc_value.specs.Evaluation.{nothing_of}
 use Rattle.dcc_value.specs.Resolved.{Stands, evaluated, targeted, target_named, IsTargetIn, LandsIn}
 use Rattle.dcc_prepare.specs.Points.{locals_declared, Goes, StandsIf}
 use Rattle.dcc_crun.specs.declared.ending.Refusal.{Refusal}
+use Rattle.dcc_crun.specs.declared.ending.Refusal.TheVariants.{Input, Output}
 use Rattle.dcc_crun.specs.declared.ending.Stop.{Stop}
 use Rattle.dcc_crun.specs.declared.ending.Stop.TheVariants.{Refused}
+use Rattle.dcc_console.specs.Counts.{CountsFaults}
 use Rattle.dcc_crun.specs.Ending.{end_of, stop_of}
 use Rattle.dcc_crun.specs.Standing.{IsCallOf, IsTargetIf, IsWaiting, AreWaiting, IsRunning}
-use Rattle.dcc_crun.specs.Doing.{Operation, Stays, StaysIfRefused, ComesTo, scene_in, AreGlobals, names_at, end_at, IsKept, IsEnded, Keeps, Led, StepsAside}
+use Rattle.dcc_crun.specs.Doing.{Operation, Stays, StaysIfRefused, ComesTo, Counts, scene_in, AreGlobals, names_at, end_at, IsKept, IsEnded, Keeps, Led, StepsAside}
 use Rattle.dcc_crun.proofs.MomentLaws.{fits_here, value_here, target_here, ended, goes_further, takes-quiet, takes-rest}
 
 -- Assignments.
@@ -192,3 +195,48 @@ stays_unless (Err y) Faults before now is =
     subst (λ (x : Stop). let e : Result (Unit {0}) Stop = Err x in StaysIfRefused e before now) (sym is) tt
 stays_unless (Err y) Meaningless before now is =
     subst (λ (x : Stop). let e : Result (Unit {0}) Stop = Err x in StaysIfRefused e before now) (sym is) tt
+
+-- The counts of faults.
+
+-- nothing is told to have failed
+pub unfailed : {ReadFailed WriteFailed : Type 0} {reads reads_now writes writes_now : ℕ} → reads ≤ reads_now → writes ≤ writes_now →
+    (ReadFailed → ⊥) → (WriteFailed → ⊥) → CountsFaults ReadFailed WriteFailed reads reads_now writes writes_now
+unfailed read wrote no_read no_write = record {
+  input_faults = read;
+  output_faults = wrote;
+  read_failed = λ failed. absurd (no_read failed);
+  write_failed = λ failed. absurd (no_write failed);
+}
+
+-- a result that tells of no fault, where nothing was read or written
+pub no_faults : {reads writes : ℕ} (r : Result (Unit {0}) Stop) → (IsErrOf r (Refused Input) → ⊥) → (IsErrOf r (Refused Output) → ⊥) → Counts r reads reads writes writes
+no_faults r no_read no_write = unfailed (omega arith) (omega arith) no_read no_write
+
+-- where an evaluation gave nothing
+pub nothing_faults : {reads writes : ℕ} (r : Result (Unit {0}) Stop) (why : NoValue) → IsErrAnd r (λ y. y ≡ stop_of why) → Counts r reads reads writes writes
+nothing_faults r why is = no_faults r (not_refused r why Input is) (not_refused r why Output is)
+
+pub made_faults : {reads reads_now writes writes_now : ℕ} (r : Result (Unit {0}) Stop) → r ≡ Ok tt → reads ≤ reads_now → writes ≤ writes_now → Counts r reads reads_now writes writes_now
+made_faults r is read wrote = unfailed read wrote (λ failed. cc) (λ failed. cc)
+
+-- a write that failed
+pub write_faults : {reads writes writes_now : ℕ} (r : Result (Unit {0}) Stop) → r ≡ Err (Refused Output) → writes ≤ writes_now → Rose writes writes_now → Counts r reads reads writes writes_now
+write_faults r is wrote rose = record { input_faults = omega arith; output_faults = wrote; read_failed = λ failed. cc; write_failed = λ failed. rose }
+
+-- a stop that is passed on
+pub same_faults : {reads reads_now writes writes_now : ℕ} (r : Result (Unit {0}) Stop) (stop : Stop) → IsErrAnd r (λ y. y ≡ stop) →
+    Counts {A = Unit {0}} (Err stop) reads reads_now writes writes_now → Counts r reads reads_now writes writes_now
+same_faults (Ok a) stop is counts = absurd is
+same_faults {reads} {reads_now} {writes} {writes_now} (Err y) stop is counts =
+    subst (λ (x : Stop). let e : Result (Unit {0}) Stop = Err x in Counts e reads reads_now writes writes_now) (sym is) counts
+
+-- and as a refusal
+pub refused_faults : {reads reads_now writes writes_now : ℕ} (stop : Stop) (fault : Refusal) → stop ≡ Refused fault →
+    Counts {A = Unit {0}} (Err stop) reads reads_now writes writes_now →
+    CountsFaults (IsErrOf {T = Unit {0}} (Err fault) Input) (IsErrOf {T = Unit {0}} (Err fault) Output) reads reads_now writes writes_now
+refused_faults stop fault is counts = record {
+  input_faults = counts.input_faults;
+  output_faults = counts.output_faults;
+  read_failed = λ failed. let same : fault ≡ Input = cc in counts.read_failed (ap Err (is ∙ ap Refused same));
+  write_failed = λ failed. let same : fault ≡ Output = cc in counts.write_failed (ap Err (is ∙ ap Refused same));
+}

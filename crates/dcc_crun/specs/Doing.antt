@@ -1,5 +1,5 @@
 -- What statements do to the state of a run while they are executed.
-use Rattle.std.specs.Prelude.{◌≡◌, ℕ, Bool, List, [], ◌∷◌, ◌++◌, map, Option, Some, Result, Ok, Err, Vec, option_map, slice_get}
+use Rattle.std.specs.Prelude.{◌≡◌, ℕ, Bool, List, [], ◌∷◌, ◌++◌, map, Option, Some, Result, Ok, Err, IsErrOf, Vec, option_map, slice_get}
 use Rattle.std.specs.Global.{Global}
 use Rattle.dcc_run.specs.End.{End, Running as running, Divide as divided, Stuck as stuck}
 use Rattle.dcc_run.specs.Event.{Event, written_by, taken_by}
@@ -32,6 +32,7 @@ use Rattle.dcc_value.specs.Resolved.{Names, Scene, evaluated, target_named}
 use Rattle.dcc_prepare.specs.Points.{names_in, locals_declared, Goes, Acts, StandsIf, StandAll, IsCallee, dos_call}
 use Rattle.dcc_prepare.specs.Programs.{IsProgram, IsProcedure}
 use Rattle.dcc_crun.specs.Standing.{IsTargetIf, IsRunning, IsGoing, IsMoment}
+use Rattle.dcc_console.specs.Counts.{CountsFaults}
 use Rattle.dcc_console.specs.Scene.{told_bytes}
 
 -- what the expressions of the call are evaluated over
@@ -175,6 +176,11 @@ ComesTo line (Err HaltsUndefined) op done left taken left_now taken_now =
     Halts op (stuck line) left taken left_now taken_now
 ComesTo line (Err (Refused fault)) op done left taken left_now taken_now =
     Refuses fault op left taken left_now taken_now
+
+-- the counts of faults, where a refusal may be told
+abbrev pub Counts : {A : Type 0} → Result A Stop → ℕ → ℕ → ℕ → ℕ → Type 0
+Counts result reads reads_now writes writes_now =
+    CountsFaults (IsErrOf result (Refused Input)) (IsErrOf result (Refused Output)) reads reads_now writes writes_now
 
 -- nothing has changed but where a list stands in the interpreter's own memory
 pub record IsSame (before now : Moment) : Type 0 where

@@ -2,6 +2,8 @@
 use Rattle.dcc_run.specs.End.{End, Running as running, Exit as exited, Divide as divided, Stuck as stuck}
 use Rattle.dcc_value.specs.declared.value.NoValue.{NoValue}
 use Rattle.dcc_value.specs.declared.value.NoValue.TheVariants.{Divides as Faults, Undefined as Meaningless}
+use Rattle.dcc_console.specs.declared.fault.Fault.{Fault}
+use Rattle.dcc_console.specs.declared.fault.Fault.TheVariants.{Input as ReadFault, Output as WriteFault}
 use Rattle.dcc_crun.specs.declared.ending.CStepped.{CStepped}
 use Rattle.dcc_crun.specs.declared.ending.CStepped.TheVariants.{Running as still_running, Exit as exit_answered, Divide as divide_answered, Stuck as stuck_answered, InFault, OutFault, Memory as memory_answered}
 use Rattle.dcc_crun.specs.declared.ending.Ending.{Ending}
@@ -29,6 +31,11 @@ answer_of (Stuck line) = stuck_answered line
 abbrev pub stop_of : NoValue → Stop
 stop_of Faults = Divides
 stop_of Meaningless = Undefined
+
+-- why a step is refused where the console fails
+abbrev pub refusal_of : Fault → Refusal
+refusal_of ReadFault = Input
+refusal_of WriteFault = Output
 
 -- what a step answers that is refused
 abbrev pub fault_answer_of : Refusal → CStepped

@@ -3,6 +3,7 @@
 ghost use Rattle.std.specs.Prelude.{◌≡◌};
 ghost use Rattle.dcc_crun.specs.Ending.{answer_of, fault_answer_of};
 
+use dcc_console::Fault;
 use dcc_value::value::NoValue;
 use std::alloc::{AllocError, AllocFailed};
 
@@ -69,6 +70,20 @@ impl From<NoValue> for Stop {
         match why {
             NoValue::Divides => Stop::Divides,
             NoValue::Undefined => Stop::Undefined,
+        }
+    }
+}
+
+impl From<Fault> for Stop {
+    ghost use Rattle.dcc_crun.specs.declared.ending.Stop.TheVariants.{Refused};
+    ghost use Rattle.dcc_crun.specs.Ending.{refusal_of};
+
+    ghost from_gives = { λ fault stop. stop ≡ Refused (refusal_of fault) };
+
+    fn from(fault: Fault) -> Stop {
+        match fault {
+            Fault::Input => Stop::Refused(Refusal::Input),
+            Fault::Output => Stop::Refused(Refusal::Output),
         }
     }
 }

@@ -2,7 +2,6 @@
 
 ghost use Rattle.std.specs.Prelude.{◌≡◌, ◌≤◌, ◌==◌, ℕ, List, [], ◌∷◌, length, map, option_map, Option, Some, None, if◌then◌else◌, IfOk, OnOk, OnErr, IfErr, IsErrOf, slice_get};
 ghost use Rattle.std.specs.List.{list_any};
-ghost use Rattle.dcc_io.specs.Count.{Rose};
 ghost use Rattle.dcc_c.specs.declared.syntax.Base.TheVariants.{Uchar, Uint};
 ghost use Rattle.dcc_c.specs.Types.{plain};
 ghost use Rattle.dcc_c.specs.Tree.{Word, Expr, Assign, Return, Function, Tree};
@@ -13,14 +12,15 @@ ghost use Rattle.dcc_value.specs.Evaluation.{typed, itself, outcome_of};
 ghost use Rattle.dcc_value.specs.Resolved.{Names, Fits, Stands, IsTargetIn, scene_of, scope_over, evaluated, target_named};
 ghost use Rattle.dcc_prepare.specs.Points.{Goes, StandsIf, StandAll, case_point, label_point, locals_declared};
 ghost use Rattle.dcc_prepare.specs.Programs.{IsProgram, IsProcedure};
+ghost use Rattle.dcc_console.specs.Counts.{CountsFaults};
 ghost use Rattle.dcc_crun.specs.Standing.{IsTargetIf, IsRunning};
-ghost use Rattle.dcc_crun.specs.Doing.{scene_in, names_at, AreGlobals, single, ArgumentsAre, resolved_arguments, IsSame, StaysAt, StepsAside, Keeps, Led, IsLed, Kept, Stood, ComesTo, StaysIfRefused, CallsForKey, CallsDos, CallsFunction, CallsAny, IsNoCall, Stays, Performs, Steps, Does, Refuses};
+ghost use Rattle.dcc_crun.specs.Doing.{scene_in, names_at, AreGlobals, single, ArgumentsAre, resolved_arguments, IsSame, StaysAt, StepsAside, Keeps, Led, IsLed, Kept, Stood, ComesTo, StaysIfRefused, CallsForKey, CallsDos, CallsFunction, CallsAny, IsNoCall, Stays, Performs, Steps, Does, Refuses, Counts};
 
 use crate::call::{Call, Waiting};
 use crate::dos::put_string;
 use crate::ending::{Ending, Refusal, Stop};
 use dcc_c::{Base, CType};
-use dcc_console::{Fault, take_key};
+use dcc_console::take_key;
 use dcc_io::{Sink, Source, put_all};
 use dcc_prepare::program::{Action, CallRow, Callee, Case, Dos, Label, Procedure, Program, Row};
 use dcc_value::expression::{Resolved, Target, take};
@@ -357,23 +357,12 @@ impl Moment {
             (I.left input.old) (O.taken out.old) (I.left input.new) (O.taken out.new) }
         ensures stays { StaysIfRefused result self.old self.new }
         ensures at { StepsAside self.old self.new }
-
-        // The counts never fall, and a fault comes only where its count rose.
-        ensures input_faults { I.faults input.old ≤ I.faults input.new }
-        ensures output_faults { O.faults out.old ≤ O.faults out.new }
-        ensures read_failed { IsErrOf result (Stop.Refused Refusal.Input)
-            → Rose (I.faults input.old) (I.faults input.new) }
-        ensures write_failed { IsErrOf result (Stop.Refused Refusal.Output)
-            → Rose (O.faults out.old) (O.faults out.new) }
+        ensures faults { Counts result
+            (I.faults input.old) (I.faults input.new) (O.faults out.old) (O.faults out.new) }
     {
-        match take_key(echo, input, out) {
-            Ok(byte) => {
-                self.take_byte(target, byte);
-                Ok(())
-            }
-            Err(Fault::Input) => Err(Stop::Refused(Refusal::Input)),
-            Err(Fault::Output) => Err(Stop::Refused(Refusal::Output)),
-        }
+        let byte = take_key(echo, input, out)?;
+        self.take_byte(target, byte);
+        Ok(())
     }
 
     // The DOS call that writes a byte.
@@ -387,12 +376,7 @@ impl Moment {
         ensures comes { (line : ℕ) (left : Option (List ℕ)) →
             ComesTo line result (CallsDos self.now globals.now Dos.Putc target arguments.now line) (Kept self.now)
             left (O.taken out.old) left (O.taken out.new) }
-
-        // The count never falls, and a fault comes only where it rose.
-        ensures output_faults { O.faults out.old ≤ O.faults out.new }
-        ensures read_failed { IsErrOf result (Stop.Refused Refusal.Input) → ⊥ }
-        ensures write_failed { IsErrOf result (Stop.Refused Refusal.Output)
-            → Rose (O.faults out.old) (O.faults out.new) }
+        ensures faults { (count : ℕ) → Counts result count count (O.faults out.old) (O.faults out.new) }
     {
         let v = only_argument(&self.scene(globals), CType::plain(Base::Uchar), arguments)?;
         if target.is_some() {
@@ -416,12 +400,7 @@ impl Moment {
         ensures comes { (line : ℕ) (left : Option (List ℕ)) →
             ComesTo line result (CallsDos self.now globals.now Dos.Puts target arguments.now line) (Kept self.now)
             left (O.taken out.old) left (O.taken out.new) }
-
-        // The count never falls, and a fault comes only where it rose.
-        ensures output_faults { O.faults out.old ≤ O.faults out.new }
-        ensures read_failed { IsErrOf result (Stop.Refused Refusal.Input) → ⊥ }
-        ensures write_failed { IsErrOf result (Stop.Refused Refusal.Output)
-            → Rose (O.faults out.old) (O.faults out.new) }
+        ensures faults { (count : ℕ) → Counts result count count (O.faults out.old) (O.faults out.new) }
     {
         let v = only_argument(&self.scene(globals), CType::plain(Base::Uint), arguments)?;
         if target.is_some() {
@@ -468,14 +447,8 @@ impl Moment {
             (I.left input.old) (O.taken out.old) (I.left input.new) (O.taken out.new) }
         ensures stays { StaysIfRefused result self.old self.new }
         ensures at { StepsAside self.old self.new }
-
-        // The counts never fall, and a fault comes only where its count rose.
-        ensures input_faults { I.faults input.old ≤ I.faults input.new }
-        ensures output_faults { O.faults out.old ≤ O.faults out.new }
-        ensures read_failed { IsErrOf result (Stop.Refused Refusal.Input)
-            → Rose (I.faults input.old) (I.faults input.new) }
-        ensures write_failed { IsErrOf result (Stop.Refused Refusal.Output)
-            → Rose (O.faults out.old) (O.faults out.new) }
+        ensures faults { Counts result
+            (I.faults input.old) (I.faults input.new) (O.faults out.old) (O.faults out.new) }
     {
         match dos {
             Dos::Getche if arguments.is_empty() => self.key(true, target, input, out),
@@ -529,14 +502,8 @@ impl Moment {
         ensures comes { (line : ℕ) → ComesTo line result (CallsAny self.old program.now row.now line) (Stood self.new)
             (I.left input.old) (O.taken out.old) (I.left input.new) (O.taken out.new) }
         ensures stays { StaysIfRefused result self.old self.new }
-
-        // The counts never fall, and a fault comes only where its count rose.
-        ensures input_faults { I.faults input.old ≤ I.faults input.new }
-        ensures output_faults { O.faults out.old ≤ O.faults out.new }
-        ensures read_failed { IsErrOf result (Stop.Refused Refusal.Input)
-            → Rose (I.faults input.old) (I.faults input.new) }
-        ensures write_failed { IsErrOf result (Stop.Refused Refusal.Output)
-            → Rose (O.faults out.old) (O.faults out.new) }
+        ensures faults { Counts result
+            (I.faults input.old) (I.faults input.new) (O.faults out.old) (O.faults out.new) }
     {
         let target = result_target(&self.scene(&program.globals), &row.place)?;
         match row.callee {
@@ -595,14 +562,8 @@ impl Moment {
             ComesTo line result (Performs program.now procedure.now line action.now self.old) (Stood self.new)
             (I.left input.old) (O.taken out.old) (I.left input.new) (O.taken out.new) }
         ensures stays { StaysIfRefused result self.old self.new }
-
-        // The counts never fall, and a fault comes only where its count rose.
-        ensures input_faults { I.faults input.old ≤ I.faults input.new }
-        ensures output_faults { O.faults out.old ≤ O.faults out.new }
-        ensures read_failed { IsErrOf result (Stop.Refused Refusal.Input)
-            → Rose (I.faults input.old) (I.faults input.new) }
-        ensures write_failed { IsErrOf result (Stop.Refused Refusal.Output)
-            → Rose (O.faults out.old) (O.faults out.new) }
+        ensures faults { Counts result
+            (I.faults input.old) (I.faults input.new) (O.faults out.old) (O.faults out.new) }
     {
         match action {
             Action::Call(row) => self.call(alloc, program, row, input, out),
@@ -623,12 +584,8 @@ impl Moment {
         ensures refused { IfErr result (λ fault. Refuses fault (Steps program.now self.old)
             (I.left input.old) (O.taken out.old) (I.left input.new) (O.taken out.new)) }
         ensures stays { IfErr result (λ fault. StaysAt fault self.old self.new) }
-
-        // The counts never fall, and a fault comes only where its count rose.
-        ensures input_faults { I.faults input.old ≤ I.faults input.new }
-        ensures output_faults { O.faults out.old ≤ O.faults out.new }
-        ensures read_failed { IsErrOf result Refusal.Input → Rose (I.faults input.old) (I.faults input.new) }
-        ensures write_failed { IsErrOf result Refusal.Output → Rose (O.faults out.old) (O.faults out.new) }
+        ensures faults { CountsFaults (IsErrOf result Refusal.Input) (IsErrOf result Refusal.Output)
+            (I.faults input.old) (I.faults input.new) (O.faults out.old) (O.faults out.new) }
     {
         let number = self.call.procedure;
         if number >= program.procedures.len() {

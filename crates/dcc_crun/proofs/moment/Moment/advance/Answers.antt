@@ -5,6 +5,7 @@ use Rattle.dcc_crun.specs.declared.ending.Ending.TheVariants.{Divide as kept_div
 use Rattle.dcc_crun.specs.declared.ending.Stop.{Stop}
 use Rattle.dcc_crun.specs.declared.moment.Moment.{Moment}
 use Rattle.dcc_crun.specs.Doing.{Halts, Refuses, ComesTo, Stood, Performs, Steps}
+use Rattle.dcc_crun.proofs.StepLaws.{unfailed, refused_faults}
 use Rattle.dcc_crun.proofs.ComingLaws.{does_from, halts_from, refuses_from, does_never, does_halting, step_performs, no_procedure, no_row}
 use Rattle.dcc_crun.proofs.moment.Moment.advance.Goals as goal
 
@@ -96,3 +97,23 @@ returns-in-Err-Refused-clause-refused g c =
     (omega (arith, program.procedures.ok.0, c.len.ensures, c.if-number-len.false)) c.index-row.ensures
     (omega (arith, procedure.rows.ok.0, c.len-2.ensures, c.if-at-len.false)) (Stood m))
     comes
+
+pub returns-then-number-len-clause-faults : goal.returns-then-number-len-clause-faults
+returns-then-number-len-clause-faults g c = unfailed (omega arith) (omega arith) (λ failed. cc) (λ failed. cc)
+
+pub returns-then-at-len-clause-faults : goal.returns-then-at-len-clause-faults
+returns-then-at-len-clause-faults g c = unfailed (omega arith) (omega arith) (λ failed. cc) (λ failed. cc)
+
+pub returns-in-Ok-clause-faults : goal.returns-in-Ok-clause-faults
+returns-in-Ok-clause-faults g c = unfailed c.in-Ok.ensures.faults.input_faults c.in-Ok.ensures.faults.output_faults (λ failed. cc) (λ failed. cc)
+
+pub returns-in-Err-Divides-clause-faults : goal.returns-in-Err-Divides-clause-faults
+returns-in-Err-Divides-clause-faults g c =
+    unfailed c.in-Err-Divides.ensures.faults.input_faults c.in-Err-Divides.ensures.faults.output_faults (λ failed. cc) (λ failed. cc)
+
+pub returns-in-Err-Undefined-clause-faults : goal.returns-in-Err-Undefined-clause-faults
+returns-in-Err-Undefined-clause-faults g c =
+    unfailed c.in-Err-Undefined.ensures.faults.input_faults c.in-Err-Undefined.ensures.faults.output_faults (λ failed. cc) (λ failed. cc)
+
+pub returns-in-Err-Refused-clause-faults : goal.returns-in-Err-Refused-clause-faults
+returns-in-Err-Refused-clause-faults g c = refused_faults _ c.in-Err-Refused.fault c.in-Err-Refused.field-0-is c.in-Err-Refused.ensures.faults

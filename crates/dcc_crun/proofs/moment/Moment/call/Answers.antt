@@ -1,9 +1,9 @@
-use Rattle.std.proofs.Common.{Ok, Err, ap, ◌∙◌}
+use Rattle.std.proofs.Common.{Ok, Err, refl, ap, ◌∙◌}
 use Rattle.std.specs.Prelude.{Result}
 use Rattle.dcc_crun.specs.declared.ending.Stop.{Stop}
 use Rattle.dcc_value.specs.Resolved.{scene_of}
 use Rattle.dcc_crun.specs.Doing.{scene_in, Kept, Stood, CallsDos, CallsFunction, CallsAny}
-use Rattle.dcc_crun.proofs.StepLaws.{comes_err}
+use Rattle.dcc_crun.proofs.StepLaws.{comes_err, nothing_faults, no_faults, made_faults, same_faults}
 use Rattle.dcc_crun.proofs.ActLaws.{moved}
 use Rattle.dcc_crun.proofs.ComingLaws.{comes_from, does_from}
 use Rattle.dcc_crun.proofs.CallingLaws.{comes_on, target_place, target_lands, target_ended, dos_from, function_from, nothing_called}
@@ -67,3 +67,19 @@ returns-in-Unknown-clause-comes g c line =
     let scene = c.scene.ensures ∙ ap (scene_in m) c.deref.ensures.value in
     nothing_called m program row c.in_ok-target.target line _ _ c.in-Unknown.is
     (λ tree points s now call. target_place m program row line tree points s now call (scene_of c.scene.result) (Ok c.in_ok-target.target) scene c.in_ok-target.ensures.value)
+
+pub returns-in_err-target-clause-faults : goal.returns-in_err-target-clause-faults
+returns-in_err-target-clause-faults g c = nothing_faults c.from_residual.result c.in_err-target.field-0.0 c.from_residual.ensures.1
+
+pub returns-in_err-dos-in-Dos-clause-faults : goal.returns-in_err-dos-in-Dos-clause-faults
+returns-in_err-dos-in-Dos-clause-faults g c =
+    same_faults c.from_residual-in_err-dos-in-Dos.result c.in_err-dos-in-Dos.field-0.0 c.from_residual-in_err-dos-in-Dos.ensures.1 c.in_err-dos-in-Dos.ensures.faults
+
+pub returns-in_ok-dos-in-Dos-clause-faults : goal.returns-in_ok-dos-in-Dos-clause-faults
+returns-in_ok-dos-in-Dos-clause-faults g c = made_faults _ refl c.in_ok-dos-in-Dos.ensures.faults.input_faults c.in_ok-dos-in-Dos.ensures.faults.output_faults
+
+pub returns-in-Function-clause-faults : goal.returns-in-Function-clause-faults
+returns-in-Function-clause-faults g c = no_faults c.call_function.result c.call_function.ensures.no_fault c.call_function.ensures.no_write
+
+pub returns-in-Unknown-clause-faults : goal.returns-in-Unknown-clause-faults
+returns-in-Unknown-clause-faults g c = no_faults _ (λ failed. cc) (λ failed. cc)

@@ -1,16 +1,26 @@
-use Rattle.std.proofs.Common.{subst}
-use Rattle.dcc_console.specs.declared.fault.Fault.{Fault}
-use Rattle.dcc_console.specs.Key.{IsRefusedKey}
-use Rattle.dcc_crun.proofs.DosLaws.{key_made, key_unwritten}
+use Rattle.std.proofs.Common.{refl, ap, Err}
+use Rattle.dcc_crun.proofs.StepLaws.{made_faults}
+use Rattle.dcc_crun.proofs.DosLaws.{key_made, key_refused, key_stays, key_faults}
 use Rattle.dcc_crun.proofs.moment.Moment.key.Goals as goal
 
-pub returns-in-Ok-clause-comes : goal.returns-in-Ok-clause-comes
-returns-in-Ok-clause-comes g c line =
-    key_made c.args.self.now c.take_byte.new.self c.args.echo c.args.target line c.in-Ok.byte _ _ _ _ c.in-Ok.ensures.taken
-    (λ tree points s state lands. c.take_byte.ensures.state tree points s line state lands)
+pub returns-in_err-byte : goal.returns-in_err-byte
+returns-in_err-byte g c =
+    let fault = c.in_err-byte.field-0.0 in
+    let is = c.from_residual.ensures.1 in
+    record {
+      comes = λ line. key_refused c.args.self.now c.args.echo c.args.target line _ _ _ _ fault c.from_residual.result is c.in_err-byte.ensures.refused;
+      stays = key_stays c.args.self.now fault c.from_residual.result is;
+      at = record { procedure = refl; at = refl };
+      faults = key_faults fault c.from_residual.result is c.take_key.ensures.input_faults c.take_key.ensures.output_faults
+          (λ same. c.in_err-byte.ensures.read_failed (ap Err same)) (λ same. c.in_err-byte.ensures.write_failed (ap Err same));
+    }
 
-pub returns-in-Err-Output-clause-comes : goal.returns-in-Err-Output-clause-comes
-returns-in-Err-Output-clause-comes g c line =
-    key_unwritten c.args.self.now c.args.echo c.args.target line _ _ _ _
-    (subst (λ (f : Fault). IsRefusedKey c.args.echo (g.I.Source.left c.args.input.now) (g.O.Sink.taken c.args.out.now) (g.I.Source.left c.take_key.new.input) (g.O.Sink.taken c.take_key.new.out) f)
-    c.in-Err-Output.field-0-is c.in-Err-Output.ensures.refused)
+pub returns : goal.returns
+returns g c = record {
+  comes = λ line.
+      key_made c.args.self.now c.take_byte.new.self c.args.echo c.args.target line c.in_ok-byte.byte _ _ _ _ c.in_ok-byte.ensures.taken
+      (λ tree points s state lands. c.take_byte.ensures.state tree points s line state lands);
+  stays = tt;
+  at = c.take_byte.ensures.at;
+  faults = made_faults _ refl c.take_key.ensures.input_faults c.take_key.ensures.output_faults;
+}

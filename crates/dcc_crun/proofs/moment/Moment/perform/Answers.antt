@@ -1,6 +1,5 @@
-use Rattle.std.proofs.Common.{arith}
 use Rattle.dcc_crun.specs.Doing.{Stood, CallsAny, Performs}
-use Rattle.dcc_crun.proofs.StepLaws.{comes_err, not_refused, stays_unless}
+use Rattle.dcc_crun.proofs.StepLaws.{comes_err, stays_unless, nothing_faults, no_faults}
 use Rattle.dcc_crun.proofs.ComingLaws.{comes_from, does_stood, call_performs}
 use Rattle.dcc_crun.proofs.CallingLaws.{no_call}
 use Rattle.dcc_crun.proofs.moment.Moment.perform.Goals as goal
@@ -20,10 +19,7 @@ returns-in_err-act-in_default g c =
       comes = λ line. comes_err line c.from_residual.result _ _ _ _ why is
           (λ tree points s now call. c.in_err-act-in_default.ensures tree points s now line (no_call c.args.action.now c.in_default.not-Call) call);
       stays = stays_unless c.from_residual.result why c.args.self.now c.act.new.self is;
-      input_faults = omega arith;
-      output_faults = omega arith;
-      read_failed = λ refused. absurd (not_refused c.from_residual.result why _ is refused);
-      write_failed = λ refused. absurd (not_refused c.from_residual.result why _ is refused);
+      faults = nothing_faults c.from_residual.result why is;
     }
 
 pub returns-in_ok-act-in_default : goal.returns-in_ok-act-in_default
@@ -31,8 +27,8 @@ returns-in_ok-act-in_default g c = record {
   comes = λ line. does_stood _ c.act.new.self _ _
       (λ tree points s now call. c.in_ok-act-in_default.ensures tree points s now line (no_call c.args.action.now c.in_default.not-Call) call);
   stays = tt;
-  input_faults = omega arith;
-  output_faults = omega arith;
-  read_failed = λ refused. cc;
-  write_failed = λ refused. cc;
+  faults = no_faults _ (λ failed. cc) (λ failed. cc);
 }
+
+pub returns-in-Call-clause-faults : goal.returns-in-Call-clause-faults
+returns-in-Call-clause-faults g c = c.call.ensures.faults

@@ -1,8 +1,8 @@
-use Rattle.std.proofs.Common.{◌≡◌, [], ◌∷◌, Ok, Err, true, false, ap}
+use Rattle.std.proofs.Common.{◌≡◌, [], ◌∷◌, Ok, Err, true, false, refl, ap, arith}
 use Rattle.std.specs.Prelude.{is_some}
 use Rattle.dcc_c.specs.Dos.{string_at}
 use Rattle.dcc_prepare.specs.declared.program.Dos.TheVariants.{Puts}
-use Rattle.dcc_crun.proofs.StepLaws.{comes_err}
+use Rattle.dcc_crun.proofs.StepLaws.{comes_err, nothing_faults, no_faults, write_faults, made_faults}
 use Rattle.dcc_crun.proofs.DosLaws.{argument_is, call_ended, result_halts, puts_writes, dos_writes, dos_unwritten}
 use Rattle.dcc_crun.proofs.moment.Moment.puts.Goals as goal
 
@@ -32,3 +32,15 @@ returns-clause-comes g c line left =
     dos_writes c.args.globals.now c.args.self.now Puts c.args.target c.args.arguments.now line (string_at c.deref.result.now c.in_ok-v.v.bits) left _ _
     (puts_writes c.args.globals.now c.args.self.now c.args.target c.args.arguments.now line c.in_ok-v.v c.deref.result.now c.deref.ensures.value
     (argument_is c.args.globals.now c.args.self.now Puts c.args.arguments.now (Ok c.in_ok-v.v) _ _ c.scene.ensures (ap (λ t. t ∷ []) c.plain.ensures) c.in_ok-v.ensures.value) flag) c.in-Ok.ensures.whole
+
+pub returns-in_err-v-clause-faults : goal.returns-in_err-v-clause-faults
+returns-in_err-v-clause-faults g c count = nothing_faults c.from_residual.result c.in_err-v.field-0.0 c.from_residual.ensures.1
+
+pub returns-then-is_some-clause-faults : goal.returns-then-is_some-clause-faults
+returns-then-is_some-clause-faults g c count = no_faults _ (λ failed. cc) (λ failed. cc)
+
+pub returns-in_default-clause-faults : goal.returns-in_default-clause-faults
+returns-in_default-clause-faults g c count = write_faults _ refl c.put_string.ensures.faults c.in_default.ensures.failed
+
+pub returns-clause-faults : goal.returns-clause-faults
+returns-clause-faults g c count = made_faults _ refl (omega arith) c.put_string.ensures.faults
