@@ -1,19 +1,37 @@
 -- Laws of the blocks that stand for a procedure's instructions: where they stand, and where they go.
-use Rattle.std.proofs.Common.{◌≡◌, ℕ, zero, suc, Bool, true, false, ◌&&◌, ◌||◌, ◌==◌, if◌then◌else◌, ◌⊎◌, inl, inr, List, [], ◌∷◌, map, slice_get, Option, Some, None, refl, sym, ap, ◌∙◌, subst, true≢false, eqb-true, eq-eqb}
+use Rattle.std.proofs.Common.{◌≡◌, ℕ, zero, suc, Bool, true, false, ◌&&◌, ◌||◌, ◌==◌, if◌then◌else◌, ◌⊎◌, inl, inr, List, [], ◌∷◌, map, slice_get, Option, Some, None, All, refl, sym, ap, ap₂, ◌∙◌, subst, true≢false, eqb-true, eq-eqb}
 use Rattle.std.specs.List.{list_any}
+use Rattle.std.proofs.lemmas.List.Elements.{All-nil, All-cons}
 use Rattle.dcc_prog.specs.declared.procedure.Node.{Node}
 use Rattle.dcc_ir.specs.Tree.{Expr, Exit, Goto, If, Stop, Block}
 use Rattle.dcc_ir.specs.Flow.{targets, stands_at, has_edge}
 use Rattle.dcc_lift.specs.Statements.{op_test, exit_to}
 use Rattle.dcc_lift.specs.Blocks.{Nodes, node_in, successors_in, IsChain, leaders, place_in, block_place, node_exit, exit_at, last_of, IsBlockAt, AreBlocksAt}
 use Rattle.dcc_lift.specs.Sound.{AgreesWith, AreSound}
-use Rattle.dcc_lift.proofs.ListTests.{and_left, and_right, and_both, or_here, or_none, or_cases, same_number, any_agree, any_map, any_same, any_at, passing}
+use Rattle.dcc_lift.proofs.ListTests.{and_left, and_right, and_both, or_here, or_there, or_none, or_cases, same_number, any_agree, any_map, any_same, any_at, passing}
 use Rattle.dcc_lift.proofs.NodeLaws.{node_in_holds}
 use Rattle.dcc_lift.proofs.ChainLaws.{is_leader, has_successor, entry_is_leader, chain_once}
 
 -- Blocks by their places.
 
 module _ (nodes : Nodes) (entry : ℕ) where
+  -- the offsets of the blocks
+  pub blocks_at : (places : List ℕ) (blocks : List Block) → AreBlocksAt nodes entry places blocks → map (λ (b : Block). b.at) blocks ≡ places
+  blocks_at [] [] are = refl
+  blocks_at [] (block ∷ blocks) are = absurd are
+  blocks_at (at ∷ places) [] are = absurd are
+  blocks_at (at ∷ places) (block ∷ blocks) are = ap₂ (λ x xs. x ∷ xs) are.0.at_is (blocks_at places blocks are.1)
+
+  -- what each block has that begins at one of the offsets all have
+  pub blocks_all : (P : Block → Type 0) (places : List ℕ) (blocks : List Block) → AreBlocksAt nodes entry places blocks
+      → ((at : ℕ) (block : Block) → list_any (λ x. x == at) places ≡ true → IsBlockAt nodes entry at block → P block) → All P blocks
+  blocks_all P [] [] are each = All-nil P
+  blocks_all P [] (block ∷ blocks) are each = absurd are
+  blocks_all P (at ∷ places) [] are each = absurd are
+  blocks_all P (at ∷ places) (block ∷ blocks) are each =
+      All-cons P block blocks (each at block (or_here (at == at) (list_any (λ x. x == at) places) (same_number at)) are.0)
+      (blocks_all P places blocks are.1 (λ a b inside. each a b (or_there (at == a) (list_any (λ x. x == a) places) inside)))
+
   -- the blocks stand at the offsets, in their order
   pub blocks_stand : (places : List ℕ) (blocks : List Block) (a : ℕ) → AreBlocksAt nodes entry places blocks → list_any (λ block. block.at == a) blocks ≡ list_any (λ x. x == a) places
   blocks_stand [] [] a are = refl
@@ -101,25 +119,6 @@ module _ (nodes : Nodes) (entry prelude : ℕ) (sound : AreSound nodes entry pre
           targets_of_exit (op_test node.instr.op) (map (block_place nodes entry) node.succ.items)
           (agreeing_map (block_place nodes entry) (op_test node.instr.op) node.succ.items
           (node_in_holds (λ (found : ℕ × Node). AgreesWith (op_test found.1.instr.op) found.1.succ.items) nodes at node sound.agree e))
-
-  -- and it ends the run where that instruction goes on nowhere, and only there
-  pub stops_at_end : (at : ℕ) → successors_in (node_in nodes at) ≡ [] → exit_at nodes entry at ≡ Stop
-  stops_at_end at e = go (node_in nodes at) e
-    where
-      none : (test : Option Expr) → exit_to test [] ≡ Stop
-      none (Some test) = refl
-      none None = refl
-
-      go : (o : Option Node) → successors_in o ≡ [] → node_exit nodes entry o ≡ Stop
-      go None e = refl
-      go (Some node) e = ap (λ places. exit_to (op_test node.instr.op) (map (block_place nodes entry) places)) e ∙ none (op_test node.instr.op)
-
-  pub end_of_stops : (at : ℕ) → exit_at nodes entry at ≡ Stop → successors_in (node_in nodes at) ≡ []
-  end_of_stops at e = no_places (successors_in (node_in nodes at)) (sym (targets_at at) ∙ ap targets e)
-    where
-      no_places : (places : List ℕ) → map (block_place nodes entry) places ≡ [] → places ≡ []
-      no_places [] e = refl
-      no_places (place ∷ places) e = absurd (cc)
 
   -- the three ways in which the block ends whose last instruction is found at an offset
   pub exit_forms : (at : ℕ) (node : Node) → node_in nodes at ≡ Some node → IsExitOf nodes entry node (exit_at nodes entry at)

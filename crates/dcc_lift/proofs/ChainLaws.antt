@@ -1,5 +1,5 @@
 -- Laws of the instructions that join the block of the one before them, and of the chains that they make.
-use Rattle.std.proofs.Common.{◌≡◌, ◌≢◌, ◌<◌, ℕ, ◌+◌, length, Bool, true, false, not, ◌&&◌, ◌==◌, nat_lt, if◌then◌else◌, inl, inr, List, [], ◌∷◌, map, Some, None, All, AllPairs, refl, sym, ap, ◌∙◌, subst, true≢false, eqb-true, eq-eqb, ltb-true, lt-ltb, arith}
+use Rattle.std.proofs.Common.{◌≡◌, ◌≢◌, ◌<◌, ℕ, Bool, true, false, not, ◌&&◌, ◌==◌, nat_lt, if◌then◌else◌, inl, inr, List, [], ◌∷◌, map, Some, None, All, AllPairs, refl, sym, ap, ◌∙◌, subst, true≢false, eqb-true, eq-eqb, ltb-true, arith}
 use Rattle.std.specs.List.{list_any}
 use Rattle.std.proofs.lemmas.List.Elements.{All-nil, All-cons, All-weaker}
 use Rattle.std.proofs.lemmas.List.Kept.{AllPairs-cons}
@@ -43,11 +43,6 @@ pub joined : (nodes : Nodes) (entry at : ℕ) → joins nodes entry at ≡ true 
 joined nodes entry at t =
     let other = not_true (at == entry) (and_left (not (at == entry)) (comes_from_below nodes (edges_into nodes at) at) t) in
     joined_by nodes entry at (edges_into nodes at) refl (and_right (not (at == entry)) (comes_from_below nodes (edges_into nodes at) at) t) (λ same. clash (eq-eqb at entry same) other)
-
-pub joined_joins : (nodes : Nodes) (entry at : ℕ) → IsJoined nodes entry at → joins nodes entry at ≡ true
-joined_joins nodes entry at j = and_both (not (at == entry)) (comes_from_below nodes (edges_into nodes at) at)
-    (elim (decided (at == entry)) [ inl same ↦ absurd (j.inner (eqb-true at entry same)) | inr other ↦ ap not other ])
-    (ap (λ edges. comes_from_below nodes edges at) j.edges ∙ and_both (nat_lt j.from at) (is_one (successors_in (node_in nodes j.from))) (lt-ltb j.from at j.below) j.one)
 
 -- the first instruction of a procedure begins a block
 pub entry_begins : (nodes : Nodes) (entry : ℕ) → joins nodes entry entry ≡ false
@@ -182,13 +177,12 @@ module _ (nodes : Nodes) (entry prelude : ℕ) (sound : AreSound nodes entry pre
   chain_ascends [] at chain = λ i j d less inside. absurd (omega arith)
   chain_ascends (next ∷ rest) at chain = AllPairs-cons (λ a b. a < b) at (next ∷ rest) (chain_above (next ∷ rest) at chain) (chain_ascends rest next chain.1)
 
-  -- a chain from an instruction on is no longer than the offsets above it
-  pub chain_fits : (rest : List ℕ) (at : ℕ) → IsChain nodes entry at rest → at < 65536 → at + length rest < 65536
-  chain_fits [] at chain low = omega (arith, low)
-  chain_fits (next ∷ rest) at chain low =
-      let on = onward_tells at next chain.0 in
-      let fits = chain_fits rest next chain.1 (node_in_holds (λ (found : ℕ × Node). found.0 < 65536) nodes next on.node.0 sound.below on.node.1) in
-      omega (arith, on.below, fits)
+  -- the last instruction of a chain is one of the procedure
+  pub last_node : (rest : List ℕ) (at : ℕ) → IsChain nodes entry at rest → is_node nodes at ≡ true → is_node nodes (last_of at rest) ≡ true
+  last_node [] at chain here = here
+  last_node (next ∷ rest) at chain here =
+      let on = (onward_tells at next chain.0).node in
+      last_node rest next chain.1 (node_in_has nodes next on.0 on.1)
 
   -- a chain goes to its end
   pub chain_end : (rest : List ℕ) (at : ℕ) → IsChain nodes entry at rest → onward nodes entry (last_of at rest) ≡ None

@@ -43,10 +43,6 @@ module _ (nodes : Nodes) (entry prelude : ℕ) (sound : AreSound nodes entry pre
   q_goes : (a b : ℕ) → Q.goes a b ≡ goes_between (first ∷ blocks) a b
   q_goes a b = ap (λ all. goes_between all a b) graph_is
 
-  -- what begins no block
-  not_prelude : (c : ℕ) → Q.has c ≡ false → (prelude == c) ≡ false
-  not_prelude c none = or_left (prelude == c) (is_leader nodes entry c) (sym (q_has c) ∙ none)
-
   not_leader : (c : ℕ) → Q.has c ≡ false → is_leader nodes entry c ≡ false
   not_leader c none = or_right (prelude == c) (is_leader nodes entry c) (sym (q_has c) ∙ none)
 

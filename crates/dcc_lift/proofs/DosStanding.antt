@@ -3,6 +3,7 @@ use Rattle.std.proofs.Common.{◌≡◌, ℕ, ◌/◌, ◌%◌, ◌<◌, Bool, t
 use Rattle.std.proofs.lemmas.List.Elements.{All-head, All-tail}
 use Rattle.std.specs.Prelude.{if◌then◌else◌, ◌==◌, ◌||◌, slice_index}
 use Rattle.dcc_run.specs.End.{Running, Exit as ExitWith, is_over}
+use Rattle.dcc_run.specs.Event.{Wrote, Took, MetEnd}
 use Rattle.dcc_num.specs.declared.Reg.TheVariants.{Ax, Dx}
 use Rattle.dcc_num.specs.declared.Half.TheVariants.{Low, High}
 use Rattle.dcc_prog.specs.declared.image.Image.{Image}
@@ -11,10 +12,10 @@ use Rattle.dcc_prog.specs.declared.procedure.Node.{Node}
 use Rattle.dcc_prog.specs.declared.instr.Operand.TheVariants.{Byte}
 use Rattle.dcc_prog.specs.declared.instr.Op.TheVariants.{Int21}
 use Rattle.dcc_prog.specs.Machine.{State as Machine, word_in, with_operand}
-use Rattle.dcc_prog.specs.Dos.{with_key, dos_step}
+use Rattle.dcc_prog.specs.Dos.{key_events, with_key, dos_step}
 use Rattle.dcc_prog.specs.Step.{op_step, step}
 use Rattle.dcc_prog.specs.Trail.{next_of, known_ah, ah_after, op_successors}
-use Rattle.dcc_prog.proofs.FetchLaws.{IsPlaced}
+use Rattle.dcc_prog.proofs.FetchLaws.{IsPlaced, code-kept}
 use Rattle.dcc_ir.specs.declared.syntax.Loc.TheVariants.{Half}
 use Rattle.dcc_ir.specs.Location.{Values, with_value}
 use Rattle.dcc_ir.specs.Tree.{Get, Stmt, Graph}
@@ -50,6 +51,11 @@ lifted-number n h =
         ]
       ]
     ]
+
+-- what happens where a key is taken
+same-key : (echo : Bool) (byte : ℕ) → Took byte ∷ (if echo then Wrote byte ∷ [] else []) ≡ key_events echo byte
+same-key true byte = refl
+same-key false byte = refl
 
 -- what a run of an instruction of INT 21h leaves: it is passed, or both runs end
 pub data IsDone (image : Image) (layout : Layout) (graph : Graph) (graphs : List Graph) (fill : ℕ) (node : Node) (s : Machine) (t : Inner) (at : ℕ) (before : List ℕ) : Type 0 where
@@ -101,7 +107,7 @@ module _ (image : Image) (layout : Layout) (graph : Graph) (nodes : Nodes) (plac
     mirrors : Mirrors u v.running.values
     fits : Fits (scene_of v)
     input : v.input ≡ u.input
-    out : v.out ≡ u.out
+    events : v.events ≡ u.events
     bytes : All (λ byte. byte < 256) u.input
     ah : v.running.values (Half Ax High) ≡ t.running.values (Half Ax High)
 
@@ -120,10 +126,7 @@ module _ (image : Image) (layout : Layout) (graph : Graph) (nodes : Nodes) (plac
         single = λ _. one;
         tested = λ test e. absurd (no-some (sym untested ∙ e));
         stand = record {
-          holds = record {
-            memory = left.memory ∙ both.holds.memory;
-            code = ap (λ l. slice_index l 1) left.segs ∙ both.holds.code;
-          };
+          holds = code-kept image layout.code_end s (step s) both.holds left.memory (ap (λ l. slice_index l 1) left.segs);
           ip_is = left.ip;
           running = left.running;
           trail = (subst (λ l. Contains l to) (is.succ before both.trail) contained, both.trail);
@@ -132,7 +135,7 @@ module _ (image : Image) (layout : Layout) (graph : Graph) (nodes : Nodes) (plac
           mirrors = left.mirrors;
           fits = left.fits;
           input = left.input;
-          out = left.out;
+          events = left.events;
           bytes = left.bytes;
           ah = λ k e.
               left.ah ∙ both.ah k
@@ -164,7 +167,7 @@ module _ (image : Image) (layout : Layout) (graph : Graph) (nodes : Nodes) (plac
         mirrors = mirrors_state s (step s) t.running.values (ap (λ u. u.regs) st) (ap (λ u. u.flags) st) both.mirrors;
         fits = both.fits;
         input = both.input ∙ sym (ap (λ u. u.input) st);
-        out = ap₂ (λ l b. l ++ b ∷ []) both.out (sym low) ∙ sym (ap (λ u. u.out) st);
+        events = ap₂ (λ l b. l ++ Wrote b ∷ []) both.events (sym low) ∙ sym (ap (λ u. u.events) st);
         bytes = subst (All (λ byte. byte < 256)) (sym (ap (λ u. u.input) st)) both.bytes;
         ah = refl;
       })
@@ -180,9 +183,9 @@ module _ (image : Image) (layout : Layout) (graph : Graph) (nodes : Nodes) (plac
       record {
         code = code;
         machine = ap (λ u. u.end) st ∙ ap ExitWith low;
-        out = ap (λ u. u.out) st;
+        events = ap (λ u. u.events) st;
         ends = λ rest. ap (λ l. (block_step graphs fill (l ++ rest) t).end) stmts;
-        inner_out = λ rest. ap (λ l. (block_step graphs fill (l ++ rest) t).out) stmts;
+        inner_events = λ rest. ap (λ l. (block_step graphs fill (l ++ rest) t).events) stmts;
         none = goes 0x4C number;
       }
 
@@ -198,16 +201,16 @@ module _ (image : Image) (layout : Layout) (graph : Graph) (nodes : Nodes) (plac
     block_is = refl;
     going = both.going;
     mirrors = subst (λ u. Mirrors u (with_value t.running.values (Half Ax Low) 0x1A)) (sym st)
-        (taken-mirrors following t.running.values 0x1A small (mirrors_state s following t.running.values refl refl both.mirrors));
+        (mirrors_state (with_operand following (Byte Ax Low) 0x1A) (with_key echo [] following) (with_value t.running.values (Half Ax Low) 0x1A) refl refl
+        (taken-mirrors following t.running.values 0x1A small (mirrors_state s following t.running.values refl refl both.mirrors)));
     fits = fits_taking (scene_of t) (Half Ax Low) 0x1A (lit< tt) both.fits;
     input = both.input ∙ sym (ap (λ u. u.input) st);
-    out = both.out ∙ sym (ap (λ u. u.out) st);
+    events = ap (λ l. l ++ MetEnd ∷ []) both.events ∙ sym (ap (λ u. u.events) st);
     bytes = subst (All (λ byte. byte < 256)) (sym (ap (λ u. u.input) st)) both.bytes;
     ah = refl;
   }
   key-left echo (byte ∷ rest) e st =
       let bytes : All (λ b. b < 256) (byte ∷ rest) = subst (All (λ b. b < 256)) e both.bytes in
-      let echoed : List ℕ = if echo then byte ∷ [] else [] in
       record {
         memory = ap (λ u. u.memory) st;
         segs = ap (λ u. u.segs) st;
@@ -221,7 +224,7 @@ module _ (image : Image) (layout : Layout) (graph : Graph) (nodes : Nodes) (plac
             (taken-mirrors following t.running.values byte small (mirrors_state s following t.running.values refl refl both.mirrors)));
         fits = fits_taking (scene_of t) (Half Ax Low) byte (All-head (λ b. b < 256) byte rest bytes) both.fits;
         input = sym (ap (λ u. u.input) st);
-        out = ap (λ l. l ++ echoed) both.out ∙ sym (ap (λ u. u.out) st);
+        events = ap₂ (λ l happened. l ++ happened) both.events (same-key echo byte) ∙ sym (ap (λ u. u.events) st);
         bytes = subst (All (λ b. b < 256)) (sym (ap (λ u. u.input) st)) (All-tail (λ b. b < 256) byte rest bytes);
         ah = refl;
       }

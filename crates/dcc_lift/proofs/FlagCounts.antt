@@ -37,7 +37,7 @@ use Rattle.dcc_lift.specs.Form.{is_on_flags, is_setter_of, is_other_flag_stmt, h
 use Rattle.dcc_lift.specs.Liftable.{is_register, is_source, is_lifted_unary, is_liftable}
 use Rattle.dcc_lift.specs.Blocks.{Nodes}
 use Rattle.dcc_lift.specs.Translation.{prelude_block, IsTranslation}
-use Rattle.dcc_lift.specs.Lifting.{IsLiftableNode, IsLiftableProcedure}
+use Rattle.dcc_lift.specs.Lifting.{IsLiftableProcedure}
 use Rattle.dcc_lift.proofs.ListTests.{and_left, and_right}
 use Rattle.dcc_lift.proofs.ProgramLaws.{one_all}
 use Rattle.dcc_lift.proofs.TranslationLaws.{the_graph, graphs_are}

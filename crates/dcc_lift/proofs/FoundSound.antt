@@ -1,9 +1,10 @@
 -- What is found of a program is what its translation rests on: the instructions are lifted and sound, and none of them stands
 -- at an offset of the prelude.
-use Rattle.std.proofs.Common.{◌≡◌, ◌≢◌, ◌⊎◌, inl, inr, ℕ, zero, suc, ◌+◌, ◌<◌, ◌≤◌, Bool, true, false, not, ◌||◌, ◌==◌, if◌then◌else◌, List, [], ◌∷◌, length, drop, Option, Some, None, slice_get, All, Contains, refl, sym, ap, ◌∙◌, subst, true≢false, eqb-true, arith}
-use Rattle.std.proofs.lemmas.List.Elements.{All-weaker, All-contains_itself}
+use Rattle.std.proofs.Common.{◌≡◌, ◌⊎◌, inl, inr, ℕ, zero, suc, ◌+◌, ◌<◌, ◌≤◌, Bool, true, false, not, ◌||◌, ◌==◌, if◌then◌else◌, List, [], ◌∷◌, length, take, drop, Option, Some, None, slice_get, All, AllPairs, Contains, refl, sym, ap, ◌∙◌, subst, true≢false, eqb-true, arith}
+use Rattle.std.proofs.lemmas.List.Elements.{All-weaker, All-take, All-contains_itself}
+use Rattle.std.proofs.lemmas.List.{length-take-le, get_or-take}
+use Rattle.std.proofs.lemmas.Bool.{cases_lt}
 use Rattle.std.proofs.Math.Nat.{mod-eq_of_lt}
-use Rattle.std.specs.List.{list_any}
 use Rattle.dcc_num.specs.declared.Reg.TheVariants.{Sp}
 use Rattle.dcc_prog.specs.declared.image.Image.{Image}
 use Rattle.dcc_prog.specs.declared.procedure.Layout.{Layout}
@@ -18,13 +19,15 @@ use Rattle.dcc_prog.specs.declared.instr.Op.TheVariants.{Alu as AluOp, Shift as 
 use Rattle.dcc_prog.specs.declared.instr.Instr.{Instr}
 use Rattle.dcc_prog.specs.MzImage.{IsLoaded}
 use Rattle.dcc_prog.specs.Code.{code_of}
-use Rattle.dcc_prog.specs.Layout.{is_prelude_form, may_end_prelude, writes_ds, IsRun, end_of, ends_prelude, HasLayout}
+use Rattle.dcc_prog.specs.Layout.{is_prelude_form, may_end_prelude, IsRun, end_of, ends_prelude, HasLayout}
 use Rattle.dcc_prog.specs.Trail.{code_within, instruction_in, next_of, known_ah, is_exit, op_successors, targets_of, instr_successors, successors, IsTrail, IsNode, start}
 use Rattle.dcc_prog.specs.FrameForm.{is_frame_form}
 use Rattle.dcc_prog.specs.Construct.{is_system, is_dos_number, HasAh, HasNoNumber, not_known, other_number, foreign, dos_number}
 use Rattle.dcc_prog.proofs.TrailLaws.{node-entry, node-successor}
 use Rattle.dcc_prog.proofs.WellFormedLaws.{instruction-operation}
 use Rattle.dcc_prog.specs.Built.{is_unbuilt, operation, string}
+use Rattle.dcc_prog.specs.declared.refusal.LimitName.TheVariants.{Instructions}
+use Rattle.dcc_prog.specs.Limit.{instructions}
 use Rattle.dcc_prog.specs.Found.{IsNodeFound, IsListed, AreFound}
 use Rattle.dcc_lift.specs.Statements.{op_test}
 use Rattle.dcc_lift.specs.Blocks.{node_in}
@@ -35,7 +38,7 @@ use Rattle.dcc_lift.proofs.PreludeWords.{layout-words}
 use Rattle.dcc_lift.proofs.Standing.{is_lifted_number, IsInstruction}
 use Rattle.dcc_lift.proofs.TableLaws.{instruction-liftable}
 use Rattle.dcc_lift.proofs.CodeBounds.{loaded-placed, instruction-below, instruction-within, code-bytes, bytes-dropped, loaded-bytes}
-use Rattle.dcc_lift.proofs.PreludeOffsets.{offset_in, run-above, offset-before_end, offset-first}
+use Rattle.dcc_prog.proofs.PreludeOffsets.{offset_in, run-above, prelude-within, prelude-short, prelude-some}
 
 -- Tests.
 
@@ -220,11 +223,27 @@ module _ (image : Image) (layout : Layout) (procs : List Proc) (loaded : IsLoade
       let listed = node_in_some are.start.nodes.entries at (node_contained are.start.nodes.entries at h) in
       (listed-found at listed.0 listed.1).node
 
-  -- the offsets of the prelude are not listed
-  pub prelude-unlisted : (k : ℕ) → k < length has.prelude → is_node are.start.nodes.entries (offset_in k has.prelude image.ip) ≡ false
-  prelude-unlisted k inside =
-      let at = offset_in k has.prelude image.ip in
-      untrue (is_node are.start.nodes.entries at) (λ there. prelude-unreached k inside (contained-node at (contained_node are.start.nodes.entries at there)))
+  -- by the limit no more than 4,096 of them differ
+  pub few-nodes : (places : List ℕ) → All (λ at. is_node are.start.nodes.entries at ≡ true) places → AllPairs (λ a b. a < b) places → length places ≤ 4096
+  few-nodes places listed ascend = elim (cases_lt 4096 (length places)) [
+    | inr few ↦ few
+    | inl many ↦
+        let first : List ℕ = take 4097 places in
+        let count : length first ≡ 4097 = length-take-le 4097 places (omega (arith, many)) in
+        let nodes = All-weaker (λ at. is_node are.start.nodes.entries at ≡ true) (IsNode image layout layout.start_ip)
+        (λ at there. contained-node at (contained_node are.start.nodes.entries at there)) places listed in
+        absurd (are.no_limit Instructions 4097 (instructions start (record {
+          values = first;
+          hold = All-take (IsNode image layout layout.start_ip) 4097 places nodes;
+          distinct = λ i j d less inside same.
+              let low : j < 4097 = omega (arith, inside, count) in
+              let less' : i < 4097 = omega (arith, less, low) in
+              let up = ascend i j d less (omega (arith, low, many)) in
+              let e = sym (get_or-take 4097 places i d less') ∙ same ∙ get_or-take 4097 places j d low in
+              omega (arith, up, e);
+          count_is = count;
+        })))
+  ]
 
   found-below : (found : ℕ × Node) → IsNodeFound image layout layout.start_ip found → found.0 < 65536
   found-below found is =

@@ -1,14 +1,14 @@
 -- The edges to an offset, one instruction after another.
-use Rattle.std.proofs.Common.{◌≡◌, ◌≢◌, ◌⊎◌, inl, inr, ℕ, zero, suc, ◌+◌, ◌≤◌, ◌<◌, Bool, true, false, not, ◌==◌, nat_lt, ◌&&◌, if◌then◌else◌, List, [], ◌∷◌, ◌++◌, length, map, filter, take, set, replicate, get_or, Contains, Option, Some, None, refl, sym, ap, ◌∙◌, subst, append_assoc, arith}
+use Rattle.std.proofs.Common.{◌≡◌, ◌≢◌, inl, inr, ℕ, ◌+◌, ◌≤◌, ◌<◌, Bool, true, false, ◌==◌, ◌&&◌, if◌then◌else◌, List, [], ◌∷◌, ◌++◌, length, map, filter, take, set, replicate, get_or, Contains, Some, refl, sym, ap, ◌∙◌, subst, append_assoc, arith}
 use Rattle.std.proofs.lemmas.Bool.{eq-eqb, eqb-true, eqb-false, cases_lt}
 use Rattle.std.proofs.lemmas.Grind.{flat_map-append}
 use Rattle.std.proofs.lemmas.List.{take_more, map-append, append-nil, get_or-set_same, get_or-set_other, get_or-replicate, length-replicate, get_or_past}
 use Rattle.std.proofs.lemmas.List.Elements.{filter-append, Contains-append_left, Contains-append_right}
 use Rattle.dcc_prog.specs.declared.procedure.Node.{Node}
 use Rattle.dcc_lift.specs.declared.edges.Incoming.{Incoming}
-use Rattle.dcc_lift.specs.declared.edges.Incoming.TheVariants.{Nowhere, From, Several}
+use Rattle.dcc_lift.specs.declared.edges.Incoming.TheVariants.{Nowhere, From}
 use Rattle.dcc_lift.specs.Incoming.{incoming_of, AreIncoming}
-use Rattle.dcc_lift.specs.Blocks.{Nodes, node_in, successors_in, edges_into, is_one, comes_from_below, joins, if_joins, onward}
+use Rattle.dcc_lift.specs.Blocks.{Nodes, node_in, edges_into, comes_from_below, joins}
 
 -- from an offset to one of these
 abbrev pub noted : ℕ → ℕ → List ℕ → List ℕ
@@ -87,10 +87,6 @@ sole-edge : (edges : List ℕ) (from : ℕ) → incoming_of edges ≡ From from 
 sole-edge [] from e = let clash = e in cc
 sole-edge (other ∷ []) from e = let same = e in cc
 sole-edge (other ∷ more ∷ edges) from e = let clash = e in cc
-
-pub joins_from : (nodes : Nodes) (start at from : ℕ) → incoming_of (edges_into nodes at) ≡ From from → joins nodes start at ≡ not (at == start)
-    && (nat_lt from at && is_one (successors_in (node_in nodes from)))
-joins_from nodes start at from e = ap (λ edges. not (at == start) && comes_from_below nodes edges at) (sole-edge (edges_into nodes at) from e)
 
 -- an instruction that goes on at one place alone has an edge there
 edge-from : (nodes : Nodes) (at next : ℕ) (node : Node) → node_in nodes at ≡ Some node → node.succ.items ≡ next ∷ [] → Contains (edges_into nodes next) at

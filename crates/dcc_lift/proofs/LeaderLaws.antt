@@ -1,12 +1,12 @@
 -- The offsets at which blocks begin, and their places.
-use Rattle.std.proofs.Common.{◌≡◌, ◌≢◌, ◌⊎◌, inl, inr, ℕ, zero, suc, ◌+◌, ◌≤◌, ◌<◌, Bool, true, false, not, ◌==◌, if◌then◌else◌, cond, nat_eq, nat_cmp, List, [], ◌∷◌, length, map, filter, get_or, slice_index, AllPairs, Option, Some, None, Result, MatchResult, refl, sym, ap, ◌∙◌, subst, arith}
+use Rattle.std.proofs.Common.{◌≡◌, ◌≢◌, ◌⊎◌, inl, inr, ℕ, zero, suc, ◌+◌, ◌≤◌, ◌<◌, not, ◌==◌, if◌then◌else◌, cond, nat_eq, nat_cmp, List, [], ◌∷◌, length, map, get_or, AllPairs, Some, Result, MatchResult, refl, sym, ap, ◌∙◌, subst, arith}
 use Rattle.std.specs.List.Sorted.{IsStrictlyIncreasing, IsBinarySearchResult}
-use Rattle.std.proofs.lemmas.Bool.{eq-eqb, ne_eqb, eqb-true, cases_eq, cases_lt}
+use Rattle.std.proofs.lemmas.Bool.{eq-eqb, ne_eqb, cases_eq, cases_lt}
 use Rattle.std.proofs.lemmas.List.Kept.{IsStrictlyIncreasing-filter, AllPairs-from_increasing}
 use Rattle.std.proofs.lemmas.List.Sorted.{searched}
 use Rattle.std.specs.Map.{lookup}
 use Rattle.dcc_prog.specs.declared.procedure.Node.{Node}
-use Rattle.dcc_lift.specs.Blocks.{Nodes, node_in, joins, leaders, place_in, block_place}
+use Rattle.dcc_lift.specs.Blocks.{Nodes, node_in, joins, leaders, place_in}
 
 same-eqb : (a b : ℕ) → nat_eq a b ≡ (b == a)
 same-eqb a b = by (cases_eq b a)

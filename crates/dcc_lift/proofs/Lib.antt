@@ -41,10 +41,9 @@ pub mod WantedLaws
 pub mod WantedChains
 pub mod WantedFound
 pub mod DosStanding
-pub mod PaceLaws
-pub mod RunLaws
 pub mod StartLaws
-pub mod RunsLaws
+pub mod RunLaws
+pub mod EndsLaws
 pub mod LiftedLaws
 pub mod IncomingLaws
 pub mod LeaderLaws

@@ -1,7 +1,6 @@
 -- The lifted program is to the executable what the contract says.
-use Rattle.std.proofs.Common.{All, ◌≡◌, true, List, [], sym, ap, ◌∙◌, subst}
+use Rattle.std.proofs.Common.{All, ◌≡◌, true, List, [], sym, subst}
 use Rattle.std.specs.List.{list_all}
-use Rattle.dcc_run.specs.End.{is_over}
 use Rattle.dcc_prog.specs.declared.image.Image.{Image}
 use Rattle.dcc_prog.specs.declared.procedure.Layout.{Layout}
 use Rattle.dcc_prog.specs.declared.procedure.Proc.{Proc}
@@ -13,7 +12,7 @@ use Rattle.dcc_ir.specs.WellFormed.{is_stmt}
 use Rattle.dcc_lift.specs.Statements.{op_stmts}
 use Rattle.dcc_lift.specs.Translation.{IsTranslation}
 use Rattle.dcc_lift.specs.Lifting.{IsLiftableProcedure}
-use Rattle.dcc_lift.specs.Lifted.{RunsAsMachine, MachineFollows, IsNeverStuck, IsLifted, IsLiftOf}
+use Rattle.dcc_lift.specs.Lifted.{ShadowsMachine, MachineKeepsPace, IsLifted, IsLiftOf}
 use Rattle.dcc_lift.proofs.MirrorLaws.{values_fit}
 use Rattle.dcc_lift.proofs.OperationMirrors.{OthersMirror, op_mirrors, op_keeps, op_single, op_tested}
 use Rattle.dcc_lift.proofs.ShiftMirrors.{shift_op_mirrors}
@@ -26,11 +25,11 @@ use Rattle.dcc_lift.proofs.TranslationLaws.{translation_framed}
 use Rattle.dcc_lift.proofs.ContractionLaws.{translation_has_blocks}
 use Rattle.dcc_lift.proofs.FoundSound.{found-liftable}
 use Rattle.dcc_lift.proofs.Standing.{AreLifted}
-use Rattle.dcc_prog.proofs.MachineEnds.{machine-not_stuck}
 use Rattle.dcc_lift.specs.Demand.{WantsTheSame}
 use Rattle.dcc_lift.proofs.WantedFound.{found_wants}
 use Rattle.std.proofs.lemmas.List.Elements.{All-cons, All-nil}
-use Rattle.dcc_lift.proofs.RunsLaws.{runs-alike, machine-follows}
+use Rattle.dcc_lift.proofs.EndsLaws.{never-stuck}
+use Rattle.dcc_lift.proofs.RunLaws.{run-shadows, machine-paced}
 
 -- shifts, products and sign extensions
 others : OthersMirror
@@ -56,32 +55,26 @@ operations-lifted = record {
 
 module _ (image : Image) (layout : Layout) (procs : List Proc) (loaded : IsLoaded image) (has : HasLayout image layout) (are : AreFound image layout procs)
     (p : Program) (translation : IsTranslation image layout are.start p) where
-  pub runs-as_machine : RunsAsMachine image p
-  runs-as_machine fill input small bytes = runs-alike operations-lifted image layout procs loaded has are p translation fill input bytes
+  shadows-machine : ShadowsMachine image layout p
+  shadows-machine fill input small bytes = run-shadows operations-lifted image layout procs loaded has are p translation fill input bytes
 
-  pub machine-paced : MachineFollows image p
-  machine-paced fill input small bytes = machine-follows operations-lifted image layout procs loaded has are p translation fill input bytes
+  keeps-pace : MachineKeepsPace image layout p
+  keeps-pace input bytes = machine-paced operations-lifted image layout procs loaded has are p translation 0 input bytes
 
   liftable : IsLiftableProcedure image layout are.start
   liftable = found-liftable image layout procs loaded has are
-
-  never-stuck : IsNeverStuck p
-  never-stuck fill input n entry small bytes e =
-      let same = (runs-as_machine fill input small bytes).back n in
-      let alike = same.2 (ap is_over e) in
-      machine-not_stuck image input same.0 entry (sym alike.end ∙ e)
 
   -- what the contract says
   pub translation-lifted : IsLifted image layout are.start p
   translation-lifted = record {
     framed = translation_framed image layout are.start p translation;
-    well_formed = translation-well_formed image layout are.start p liftable translation;
+    well_formed = translation-well_formed image layout are.start p loaded has liftable translation;
     form = translation-form image layout are.start p liftable translation;
     flags = translation-few image layout are.start p liftable translation;
-    shallow = translation-shallow image layout are.start p liftable translation;
-    runs = runs-as_machine;
-    pace = machine-paced;
-    never_stuck = never-stuck;
+    shallow = translation-shallow image layout are.start p loaded has liftable translation;
+    runs = shadows-machine;
+    pace = keeps-pace;
+    never_stuck = never-stuck image layout procs loaded has are p translation;
     blocks = translation_has_blocks image layout are.start p translation are.entry liftable;
     wanted =
         let framed = translation_framed image layout are.start p translation in

@@ -182,15 +182,6 @@ mirrors_state s t values regs flags m = record {
 pub mirrors_cf : (s : State) (values : Values) (b : Bool) (v : ℕ) → v ≡ from_bool b → Mirrors s values → Mirrors (with_flags (record s.flags { cf = b }) s) (with_value values (Flag Cf) v)
 mirrors_cf s values b v e m = record { eight = m.eight; words = m.words; carry = e; zero = m.zero; negative = m.negative; overflow = m.overflow }
 
-pub mirrors_zf : (s : State) (values : Values) (b : Bool) (v : ℕ) → v ≡ from_bool b → Mirrors s values → Mirrors (with_flags (record s.flags { zf = b }) s) (with_value values (Flag Zf) v)
-mirrors_zf s values b v e m = record { eight = m.eight; words = m.words; carry = m.carry; zero = e; negative = m.negative; overflow = m.overflow }
-
-pub mirrors_sf : (s : State) (values : Values) (b : Bool) (v : ℕ) → v ≡ from_bool b → Mirrors s values → Mirrors (with_flags (record s.flags { sf = b }) s) (with_value values (Flag Sf) v)
-mirrors_sf s values b v e m = record { eight = m.eight; words = m.words; carry = m.carry; zero = m.zero; negative = e; overflow = m.overflow }
-
-pub mirrors_of : (s : State) (values : Values) (b : Bool) (v : ℕ) → v ≡ from_bool b → Mirrors s values → Mirrors (with_flags (record s.flags { of = b }) s) (with_value values (Flag Of) v)
-mirrors_of s values b v e m = record { eight = m.eight; words = m.words; carry = m.carry; zero = m.zero; negative = m.negative; overflow = e }
-
 -- OF, SF and ZF in the order of the statements; CF stays
 pub mirrors_three : (s : State) (values : Values) (f : Flags) (o n z : ℕ) → f.cf ≡ s.flags.cf → o ≡ from_bool f.of → n ≡ from_bool f.sf → z ≡ from_bool f.zf → Mirrors s values
     → Mirrors (with_flags f s) (with_value (with_value (with_value values (Flag Of) o) (Flag Sf) n) (Flag Zf) z)
@@ -284,34 +275,6 @@ executed_append (Store width address e ∷ first) rest scene = executed_append f
 executed_append (Div location e ∷ first) rest scene = executed_append first rest scene
 executed_append (Call results entry arguments depth ∷ first) rest scene = executed_append first rest scene
 executed_append (Dos number place argument ∷ first) rest scene = executed_append first rest scene
-
--- what they read stays but for the values
-pub executed_bits : (stmts : List Stmt) (scene : Scene) → (executed stmts scene).bits ≡ scene.bits
-executed_bits [] scene = refl
-executed_bits (Set location e ∷ rest) scene = executed_bits rest (record scene { values = with_value scene.values location (value_of scene e) })
-executed_bits (Fetch location width address ∷ rest) scene = executed_bits rest scene
-executed_bits (Store width address e ∷ rest) scene = executed_bits rest scene
-executed_bits (Div location e ∷ rest) scene = executed_bits rest scene
-executed_bits (Call results entry arguments depth ∷ rest) scene = executed_bits rest scene
-executed_bits (Dos number place argument ∷ rest) scene = executed_bits rest scene
-
-pub executed_base : (stmts : List Stmt) (scene : Scene) → (executed stmts scene).base ≡ scene.base
-executed_base [] scene = refl
-executed_base (Set location e ∷ rest) scene = executed_base rest (record scene { values = with_value scene.values location (value_of scene e) })
-executed_base (Fetch location width address ∷ rest) scene = executed_base rest scene
-executed_base (Store width address e ∷ rest) scene = executed_base rest scene
-executed_base (Div location e ∷ rest) scene = executed_base rest scene
-executed_base (Call results entry arguments depth ∷ rest) scene = executed_base rest scene
-executed_base (Dos number place argument ∷ rest) scene = executed_base rest scene
-
-pub executed_memory : (stmts : List Stmt) (scene : Scene) → (executed stmts scene).memory ≡ scene.memory
-executed_memory [] scene = refl
-executed_memory (Set location e ∷ rest) scene = executed_memory rest (record scene { values = with_value scene.values location (value_of scene e) })
-executed_memory (Fetch location width address ∷ rest) scene = executed_memory rest scene
-executed_memory (Store width address e ∷ rest) scene = executed_memory rest scene
-executed_memory (Div location e ∷ rest) scene = executed_memory rest scene
-executed_memory (Call results entry arguments depth ∷ rest) scene = executed_memory rest scene
-executed_memory (Dos number place argument ∷ rest) scene = executed_memory rest scene
 
 -- a location takes a value of its width
 pub fits_taking : (scene : Scene) (location : Loc) (v : ℕ) → v < 2 ^ location_width scene.bits location → Fits scene → Fits (record scene { values = with_value scene.values location v })

@@ -36,20 +36,6 @@ node_in_some (found ∷ nodes) at e = go (found.0 == at) e (λ f. node_in_some n
     go true e later = (found.1, refl)
     go false e later = later e
 
--- what is found at an offset stands in the list
-pub node_in_place : (nodes : Nodes) (at : ℕ) (node : Node) → node_in nodes at ≡ Some node → (place : ℕ) × (slice_get nodes place ≡ Some (at, node))
-node_in_place [] at node e = absurd (cc)
-node_in_place (found ∷ nodes) at node e = go (found.0 == at) refl e (λ f. node_in_place nodes at node f)
-  where
-    go : (b : Bool) → (found.0 == at) ≡ b → (if b then Some found.1 else node_in nodes at) ≡ Some node
-        → (node_in nodes at ≡ Some node → (place : ℕ) × (slice_get nodes place ≡ Some (at, node)))
-        → (place : ℕ) × (slice_get (found ∷ nodes) place ≡ Some (at, node))
-    go true t e later =
-        let there : found.0 ≡ at = eqb-true found.0 at t in
-        let same : found.1 ≡ node = cc in
-        (0, ap (λ n. Some (n, found.1)) there ∙ ap (λ n. Some (at, n)) same)
-    go false t e later = let place = later e in (suc place.0, place.1)
-
 pub node_in_has : (nodes : Nodes) (at : ℕ) (node : Node) → node_in nodes at ≡ Some node → is_node nodes at ≡ true
 node_in_has nodes at node e = elim (decided (is_node nodes at)) [
   | inl t ↦ t

@@ -52,32 +52,32 @@ stays_through h k = record {
     memory = k.rest.memory ∙ h.rest.memory;
     segs = k.rest.segs ∙ h.rest.segs;
     input = k.rest.input ∙ h.rest.input;
-    out = k.rest.out ∙ h.rest.out;
+    events = k.rest.events ∙ h.rest.events;
     end = k.rest.end ∙ h.rest.end;
   };
   ip = k.ip ∙ h.ip;
 }
 
 stays : (s : State) → StaysAt s s
-stays s = record { rest = record { memory = refl; segs = refl; input = refl; out = refl; end = refl }; ip = refl }
+stays s = record { rest = record { memory = refl; segs = refl; input = refl; events = refl; end = refl }; ip = refl }
 
 -- a register takes a value
 operand_stays : (x : Operand) (v : ℕ) (s : State) → is_register x ≡ true → StaysAt s (with_operand s x v)
-operand_stays (Word r) v s g = record { rest = record { memory = refl; segs = refl; input = refl; out = refl; end = refl }; ip = refl }
-operand_stays (Byte r half) v s g = record { rest = record { memory = refl; segs = refl; input = refl; out = refl; end = refl }; ip = refl }
+operand_stays (Word r) v s g = record { rest = record { memory = refl; segs = refl; input = refl; events = refl; end = refl }; ip = refl }
+operand_stays (Byte r half) v s g = record { rest = record { memory = refl; segs = refl; input = refl; events = refl; end = refl }; ip = refl }
 operand_stays (Seg number) v s g = absurd (true≢false (sym g))
 operand_stays (Mem width ea) v s g = absurd (true≢false (sym g))
 operand_stays (Constant width constant) v s g = absurd (true≢false (sym g))
 
 flags_stay : (f : Flags) (s : State) → StaysAt s (with_flags f s)
-flags_stay f s = record { rest = record { memory = refl; segs = refl; input = refl; out = refl; end = refl }; ip = refl }
+flags_stay f s = record { rest = record { memory = refl; segs = refl; input = refl; events = refl; end = refl }; ip = refl }
 
 result_stays : (x : Operand) (outcome : ℕ × Flags) (s : State) → is_register x ≡ true → StaysAt s (with_result x outcome s)
 result_stays x outcome s g = stays_through (flags_stay outcome.1 s) (operand_stays x outcome.0 (with_flags outcome.1 s) g)
 
 product_stays : (w : Width) (product : ℕ × ℕ × Flags) (s : State) → StaysAt s (with_product w product s)
-product_stays byte_width product s = record { rest = record { memory = refl; segs = refl; input = refl; out = refl; end = refl }; ip = refl }
-product_stays word_width product s = record { rest = record { memory = refl; segs = refl; input = refl; out = refl; end = refl }; ip = refl }
+product_stays byte_width product s = record { rest = record { memory = refl; segs = refl; input = refl; events = refl; end = refl }; ip = refl }
+product_stays word_width product s = record { rest = record { memory = refl; segs = refl; input = refl; events = refl; end = refl }; ip = refl }
 
 alu_stays : (operation : Alu) (w : Width) (x : Operand) (a b : ℕ) (s : State) → is_register x ≡ true → StaysAt s (alu_step operation w x a b s)
 alu_stays Add w x a b s g = result_stays x _ s g
@@ -102,12 +102,12 @@ unary_stays Idiv w x a at s l g = absurd (true≢false (sym l))
 
 plain_stays : (operation : Plain) (s : State) → is_liftable (PlainOp operation) ≡ true → StaysAt s (plain_step operation s)
 plain_stays Nop s l = stays s
-plain_stays Cbw s l = record { rest = record { memory = refl; segs = refl; input = refl; out = refl; end = refl }; ip = refl }
-plain_stays Cwd s l = record { rest = record { memory = refl; segs = refl; input = refl; out = refl; end = refl }; ip = refl }
+plain_stays Cbw s l = record { rest = record { memory = refl; segs = refl; input = refl; events = refl; end = refl }; ip = refl }
+plain_stays Cwd s l = record { rest = record { memory = refl; segs = refl; input = refl; events = refl; end = refl }; ip = refl }
 plain_stays Xlat s l = absurd (true≢false (sym l))
-plain_stays Clc s l = record { rest = record { memory = refl; segs = refl; input = refl; out = refl; end = refl }; ip = refl }
-plain_stays Stc s l = record { rest = record { memory = refl; segs = refl; input = refl; out = refl; end = refl }; ip = refl }
-plain_stays Cmc s l = record { rest = record { memory = refl; segs = refl; input = refl; out = refl; end = refl }; ip = refl }
+plain_stays Clc s l = record { rest = record { memory = refl; segs = refl; input = refl; events = refl; end = refl }; ip = refl }
+plain_stays Stc s l = record { rest = record { memory = refl; segs = refl; input = refl; events = refl; end = refl }; ip = refl }
+plain_stays Cmc s l = record { rest = record { memory = refl; segs = refl; input = refl; events = refl; end = refl }; ip = refl }
 plain_stays Cli s l = absurd (true≢false (sym l))
 plain_stays Sti s l = absurd (true≢false (sym l))
 plain_stays Cld s l = absurd (true≢false (sym l))
@@ -135,12 +135,12 @@ straight_stays _ at s l i = absurd (true≢false (sym i))
 
 -- memory, segments, input, output and end stay
 pub op_keeps : (op : Op) (at : ℕ) (s : State) → is_liftable op ≡ true → op ≢ Int21 → KeepsRest s (op_step op at s)
-op_keeps (Jump target) at s l n = record { memory = refl; segs = refl; input = refl; out = refl; end = refl }
-op_keeps (Branch tested target) at s l n = record { memory = refl; segs = refl; input = refl; out = refl; end = refl }
-op_keeps (Loop target) at s l n = record { memory = refl; segs = refl; input = refl; out = refl; end = refl }
-op_keeps (LoopE target) at s l n = record { memory = refl; segs = refl; input = refl; out = refl; end = refl }
-op_keeps (LoopNe target) at s l n = record { memory = refl; segs = refl; input = refl; out = refl; end = refl }
-op_keeps (Jcxz target) at s l n = record { memory = refl; segs = refl; input = refl; out = refl; end = refl }
+op_keeps (Jump target) at s l n = record { memory = refl; segs = refl; input = refl; events = refl; end = refl }
+op_keeps (Branch tested target) at s l n = record { memory = refl; segs = refl; input = refl; events = refl; end = refl }
+op_keeps (Loop target) at s l n = record { memory = refl; segs = refl; input = refl; events = refl; end = refl }
+op_keeps (LoopE target) at s l n = record { memory = refl; segs = refl; input = refl; events = refl; end = refl }
+op_keeps (LoopNe target) at s l n = record { memory = refl; segs = refl; input = refl; events = refl; end = refl }
+op_keeps (Jcxz target) at s l n = record { memory = refl; segs = refl; input = refl; events = refl; end = refl }
 op_keeps (AluOp operation a b) at s l n = (straight_stays (AluOp operation a b) at s l refl).rest
 op_keeps (UnaryOp operation a) at s l n = (straight_stays (UnaryOp operation a) at s l refl).rest
 op_keeps (ShiftOp operation a by_cl) at s l n = (straight_stays (ShiftOp operation a by_cl) at s l refl).rest

@@ -1,75 +1,102 @@
--- The run of the lifted program: one of its steps, a block, stands for the machine's steps through the block's instructions.
-use Rattle.std.proofs.Common.{◌≡◌, ◌≢◌, ℕ, zero, suc, ◌<◌, ◌≤◌, Bool, true, false, cond, List, [], ◌∷◌, ◌++◌, length, Some, None, Contains, refl, sym, ap, ap₂, ◌∙◌, subst, ◌⊎◌, inl, inr, arith, eqb-true}
-use Rattle.std.specs.Prelude.{if◌then◌else◌, ◌==◌, ◌||◌, flat_map, slice_get, option_map}
+-- The run of the lifted program shadows the machine's, which keeps pace: one step of the program, a block, stands for the
+-- machine's steps through the block's instructions, or at the start through the prelude.
+use Rattle.std.proofs.Common.{◌≡◌, ◌≢◌, ℕ, suc, ◌<◌, ◌≤◌, Bool, true, false, List, [], ◌∷◌, ◌++◌, length, Some, None, All, Contains, refl, sym, ap, ap₂, ◌∙◌, subst, ◌⊎◌, inl, inr, arith, eqb-true, true≢false}
+use Rattle.std.specs.Prelude.{if◌then◌else◌, ◌==◌, ◌||◌, flat_map, slice_get}
 use Rattle.std.specs.List.{list_any}
+use Rattle.std.proofs.lemmas.List.Elements.{All-cons, All-weaker}
 use Rattle.dcc_run.specs.End.{Running, is_over}
-use Rattle.dcc_run.specs.System.{after}
-use Rattle.dcc_run.specs.Visits.{visit_at, visit_of, visits, visits_of}
-use Rattle.dcc_run.specs.Gathers.{GoOn, still_related, both_over}
-use Rattle.dcc_run.proofs.VisitLaws.{visits_of-append}
+use Rattle.dcc_run.specs.Place.{Place}
+use Rattle.dcc_run.specs.Watched.{Watched, state, IsWatchable, IsQuiet, IsQuietUntil}
+use Rattle.dcc_run.specs.Shadows.{ComesTo, still_related, both_over, AreMatched, Matches, Shadows, IsMarked, KeepsPace, kept_mark, only}
+use Rattle.dcc_run.proofs.PaceLaws.{quiet_before, quiet_once, pace_from_matched}
+use Rattle.dcc_run.proofs.KeptLaws.{only_watchable}
+use Rattle.dcc_run.proofs.ShadowLaws.{shadows_from_matched}
 use Rattle.dcc_prog.specs.declared.image.Image.{Image}
 use Rattle.dcc_prog.specs.declared.procedure.Layout.{Layout}
 use Rattle.dcc_prog.specs.declared.procedure.Node.{Node}
 use Rattle.dcc_prog.specs.declared.procedure.Proc.{Proc}
 use Rattle.dcc_prog.specs.declared.instr.Op.{Op}
-use Rattle.dcc_prog.specs.declared.instr.Op.TheVariants.{Alu, Unary, Shift, Mov, Xchg, Lea, Push, Pop, Plain, Jump, Branch, Loop, LoopE, LoopNe, Jcxz, Table, Call, Ret, Int21}
+use Rattle.dcc_prog.specs.declared.instr.Op.TheVariants.{Call, Ret, Int21}
 use Rattle.dcc_prog.specs.Machine.{State as Machine}
-use Rattle.dcc_prog.specs.Step.{step as machine_step, machine_system}
-use Rattle.dcc_prog.specs.Trail.{IsNode}
+use Rattle.dcc_prog.specs.Step.{step as machine_step}
+use Rattle.dcc_prog.specs.MzImage.{IsLoaded}
+use Rattle.dcc_prog.specs.Code.{code_of}
+use Rattle.dcc_prog.specs.Layout.{HasLayout}
+use Rattle.dcc_prog.specs.Found.{AreFound}
+use Rattle.dcc_prog.specs.Watch.{InProcedures, Watch, procedures_after, stage_after, watch_step, place_of, watched_machine, first_watch}
 use Rattle.dcc_prog.proofs.FetchLaws.{IsPlaced}
+use Rattle.dcc_prog.proofs.PreludeOffsets.{offset-far, offset-end, prelude-short, prelude-some, start-below}
+use Rattle.dcc_prog.proofs.WatchLaws.{machine_watchable, watch_moves, clean_after, watch_at, machine_at, prelude_running, in_the_prelude, past_the_prelude}
 use Rattle.dcc_ir.specs.Tree.{Exit, Graph, Program}
-use Rattle.dcc_ir.specs.Run.{State as Inner, Place, value_in, block_step, exit_step, going_to, entering, inner_system, step as inner_step}
+use Rattle.dcc_ir.specs.Run.{State as Inner, value_in, block_step, exit_step, going_to, entering, watched_inner, first_state, step as inner_step}
+use Rattle.dcc_ir.specs.Keeps.{has_block}
 use Rattle.dcc_ir.proofs.PathLaws.{decided}
+use Rattle.dcc_ir.proofs.RunLaws.{inner_watchable}
 use Rattle.dcc_lift.specs.Statements.{op_test}
+use Rattle.dcc_lift.specs.Liftable.{is_liftable}
 use Rattle.dcc_lift.specs.Blocks.{Nodes, node_in, node_stmts, successors_in, IsChain, block_place, stmts_at, exit_at, last_of, IsBlockAt}
 use Rattle.dcc_lift.specs.Sound.{offsets_of, AreSound}
 use Rattle.dcc_lift.specs.Translation.{IsTranslation}
-use Rattle.dcc_lift.specs.Lifted.{instruction_mark, offset_mark, has_block_at}
-use Rattle.dcc_lift.proofs.ListTests.{any_contained}
-use Rattle.dcc_lift.proofs.NodeLaws.{node_in_has, contained_node}
-use Rattle.dcc_lift.proofs.ChainLaws.{is_leader, has_successor, IsOnward, onward_tells, joins_no_leader, last_goes_to_leaders, leader_below, chain_fits}
+use Rattle.dcc_lift.specs.Lifted.{steps_between, steps_at_start}
+use Rattle.dcc_lift.proofs.ListTests.{any_contained, same_number}
+use Rattle.dcc_lift.proofs.NodeLaws.{is_node, node_in_has, contained_node}
+use Rattle.dcc_lift.proofs.ChainLaws.{is_leader, has_successor, IsOnward, IsInner, onward_tells, joins_no_leader, leader_node, entry_is_leader, chain_inner, chain_ascends, last_goes_to_leaders}
 use Rattle.dcc_lift.proofs.BlockLaws.{IsExitOf, stops, goes, parts, exit_forms}
-use Rattle.dcc_lift.proofs.PaceLaws.{IsPaced}
 use Rattle.dcc_lift.proofs.TranslationLaws.{the_graph, block_at_leader, program_has_block}
-use Rattle.dcc_lift.proofs.Standing.{AreLifted, IsInstruction, BothStand, IsPassed, passed}
+use Rattle.dcc_lift.proofs.CodeBounds.{loaded-placed}
+use Rattle.dcc_lift.proofs.FoundSound.{found-sound, node-instruction, few-nodes}
+use Rattle.dcc_lift.proofs.Standing.{AreLifted, IsInstruction, BothStand, IsPassed, fetched, passed}
 use Rattle.dcc_lift.proofs.DosStanding.{IsDone, goes_on, ends, dos-done}
+use Rattle.dcc_lift.proofs.StartLaws.{begin, first-is, begin-step, set_up, after_prelude, prelude-steps, begun-stand}
 
 -- an operation is INT 21h or another one
 int-or-other : (op : Op) → (op ≡ Int21) ⊎ (op ≢ Int21)
 int-or-other Int21 = inl refl
-int-or-other (Alu o a b) = inr (λ e. cc)
-int-or-other (Unary o a) = inr (λ e. cc)
-int-or-other (Shift o a b) = inr (λ e. cc)
-int-or-other (Mov a b) = inr (λ e. cc)
-int-or-other (Xchg a b) = inr (λ e. cc)
-int-or-other (Lea r ea) = inr (λ e. cc)
-int-or-other (Push a) = inr (λ e. cc)
-int-or-other (Pop a) = inr (λ e. cc)
-int-or-other (Plain o) = inr (λ e. cc)
-int-or-other (Jump t) = inr (λ e. cc)
-int-or-other (Branch c t) = inr (λ e. cc)
-int-or-other (Loop t) = inr (λ e. cc)
-int-or-other (LoopE t) = inr (λ e. cc)
-int-or-other (LoopNe t) = inr (λ e. cc)
-int-or-other (Jcxz t) = inr (λ e. cc)
-int-or-other (Table r o) = inr (λ e. cc)
-int-or-other (Call t) = inr (λ e. cc)
-int-or-other (Ret n) = inr (λ e. cc)
+int-or-other op = inr (λ e. cc)
 
-module _ (laws : AreLifted) (image : Image) (layout : Layout) (start : Proc) (p : Program) (fill : ℕ) (translation : IsTranslation image layout start p)
-    (sound : AreSound start.nodes.entries layout.start_ip image.ip) (placed : IsPlaced image)
-    (instructions : (at : ℕ) → IsNode image layout layout.start_ip at → (node : Node) × IsInstruction image layout start.nodes.entries at node) where
+-- what is lifted neither calls nor returns
+no-call : (op : Op) (entries : List ℕ) → is_liftable op ≡ true → procedures_after op entries ≡ entries
+no-call (Call target) entries l = absurd (true≢false (sym l))
+no-call (Ret count) entries l = absurd (true≢false (sym l))
+no-call op entries l = refl
+
+or-true : (b : Bool) → (b || true) ≡ true
+or-true true = refl
+or-true false = refl
+
+module _ (laws : AreLifted) (image : Image) (layout : Layout) (procs : List Proc) (loaded : IsLoaded image) (has : HasLayout image layout)
+    (are : AreFound image layout procs) (p : Program) (translation : IsTranslation image layout are.start p) (fill : ℕ) where
+  abbrev start : Proc
+  start = are.start
+
   abbrev nodes : Nodes
   nodes = start.nodes.entries
 
   abbrev entry : ℕ
   entry = layout.start_ip
 
+  sound : AreSound nodes entry image.ip
+  sound = found-sound image layout procs loaded has are
+
+  placed : IsPlaced image
+  placed = loaded-placed image loaded
+
   abbrev graph : Graph
   graph = the_graph image layout start p translation
 
-  abbrev kept : ℕ → Bool
-  kept = has_block_at p
+  -- the machine's run, of which the places of blocks are marked, and the program's
+  abbrev pub machine : Watched Watch Place
+  machine = only (has_block p) (watched_machine layout)
+
+  abbrev pub inner : Watched Inner Place
+  inner = watched_inner p fill
+
+  -- the machine within the procedure
+  abbrev pub within : Machine → Watch
+  within s = record { machine = s; stage = InProcedures (entry ∷ []) }
+
+  abbrev place : ℕ → Place
+  place at = record { entry = entry; at = at }
 
   -- the run is about to begin the block at an offset at which the machine stands
   pub record AtBlock (s : Machine) (t : Inner) : Type 0 where
@@ -109,7 +136,7 @@ module _ (laws : AreLifted) (image : Image) (layout : Layout) (start : Proc) (p 
           mirrors = both.mirrors;
           fits = both.fits;
           input = both.input;
-          out = both.out;
+          events = both.events;
           bytes = both.bytes;
           ah = both.ah;
         };
@@ -119,17 +146,42 @@ module _ (laws : AreLifted) (image : Image) (layout : Layout) (start : Proc) (p 
         rest_is = refl;
       })
 
-  -- the machine's steps through what is left of a block, one and so many further ones, and where both runs then are
-  record Through (related : Machine → Inner → Type 0) (further : ℕ) (s : Machine) (v : Inner) : Type 0 where
-    quiet : visits_of kept (visits machine_system instruction_mark further (machine_step s)) ≡ []
-    running : (j : ℕ) → j ≤ further → is_over (after machine_step j s).end ≡ false
-    goes_on_to : GoOn machine_system (inner_system p fill) related (after machine_step (suc further) s) v
-
-  same-further : (related : Machine → Inner → Type 0) (further : ℕ) (s : Machine) (v w : Inner) → v ≡ w → Through related further s w → Through related further s v
-  same-further related further s v w e x = subst (Through related further s) (sym e) x
+  -- the machine is in the procedure, and there at a block
+  pub record InBlock (w : Watch) (t : Inner) : Type 0 where
+    pub state_of : Machine
+    pub same : w ≡ within state_of
+    pub at_block : AtBlock state_of t
 
   not-over : (s : Machine) → s.end ≡ Running → is_over s.end ≡ false
   not-over s e = ap is_over e
+
+  -- a block begins at a leader, and at no other instruction
+  leader-has : (at : ℕ) → is_leader nodes entry at ≡ true → has_block p (place at) ≡ true
+  leader-has at leader = program_has_block image layout start p translation sound at ∙ ap (λ l. (image.ip == at) || l) leader ∙ or-true (image.ip == at)
+
+  inner-has : (at next : ℕ) → IsOnward nodes entry at next → has_block p (place next) ≡ false
+  inner-has at next onwards =
+      let no : is_leader nodes entry next ≡ false = joins_no_leader nodes entry image.ip sound next onwards.joins in
+      let node = onwards.node in
+      let other : (image.ip == next) ≡ false = elim (decided (image.ip == next)) [
+        | inl same ↦ absurd (sound.apart (subst (Contains (offsets_of nodes)) (sym (eqb-true image.ip next same)) (contained_node nodes next (node_in_has nodes next node.0 node.1))))
+        | inr different ↦ different
+      ] in
+      program_has_block image layout start p translation sound next ∙ ap₂ (λ a b. a || b) other no
+
+  -- an instruction that is lifted leaves the machine within the procedure
+  within-steps : (s : Machine) (t : Inner) (at : ℕ) (before : List ℕ) (both : BothStand image layout graph s t at before) (node : Node)
+      → IsInstruction image layout nodes at node → watch_step layout (within s) ≡ within (machine_step s)
+  within-steps s t at before both node is =
+      watch_moves layout (within s) (not-over s both.running) refl
+      ∙ ap (λ found. record { machine = machine_step s; stage = stage_after layout found (machine_step s).ip (InProcedures (entry ∷ [])) })
+      (fetched image layout graph s t at before node.instr placed both is.stands)
+      ∙ ap (λ entries. record { machine = machine_step s; stage = InProcedures entries }) (no-call node.instr.op (entry ∷ []) is.liftable)
+
+  -- the machine's steps through what is left of a block, one and so many further ones, and where both runs then are
+  record Through (further : ℕ) (s : Machine) (v : Inner) : Type 0 where
+    quiet : IsQuietUntil machine (suc further) (within s)
+    comes : ComesTo machine inner InBlock (state machine (suc further) (within s)) v
 
   -- the node is the only one found at its offset
   succ-of : (at : ℕ) (node : Node) → node_in nodes at ≡ Some node → successors_in (node_in nodes at) ≡ node.succ.items
@@ -149,8 +201,8 @@ module _ (laws : AreLifted) (image : Image) (layout : Layout) (start : Proc) (p 
   two-same x y a b xs e f = (cc, cc)
 
   -- the step through the last instruction of a block
-  module _ (related : Machine → Inner → Type 0) (at-block : (s : Machine) (t : Inner) → AtBlock s t → related s t) (s : Machine) (t : Inner) (at : ℕ)
-      (before : List ℕ) (both : BothStand image layout graph s t at before) (node : Node) (is : IsInstruction image layout nodes at node) where
+  module _ (s : Machine) (t : Inner) (at : ℕ) (before : List ℕ) (both : BothStand image layout graph s t at before) (node : Node)
+      (is : IsInstruction image layout nodes at node) where
     -- how the program's block ends, and where the machine has gone
     last-goes : (x : IsPassed image layout graph p.graphs fill node s t at before) (exit : Exit) → IsExitOf nodes entry node exit → exit_step exit x.next
         ≡ going_to (block_place nodes entry x.to) x.next
@@ -169,121 +221,201 @@ module _ (laws : AreLifted) (image : Image) (layout : Layout) (start : Proc) (p 
         one-place true m n = refl
         one-place false m n = refl
 
-    last-through : IsChain nodes entry at [] → t.running.block.exit ≡ exit_at nodes entry at → Through related 0 s (block_step p.graphs fill (stmts_at nodes at ++ []) t)
-    last-through chain exit_is =
-        let stmts : stmts_at nodes at ≡ node_stmts (Some node) = ap node_stmts is.found in
-        elim (instruction-done s t at before both node is) [
-          | goes_on x ↦
-              let leader : is_leader nodes entry x.to ≡ true = last_goes_to_leaders nodes entry image.ip sound at [] x.to chain (went x) in
-              let run : block_step p.graphs fill (stmts_at nodes at ++ []) t ≡ going_to (block_place nodes entry x.to) x.next =
-              ap (λ l. block_step p.graphs fill (l ++ []) t) stmts
-              ∙ x.runs []
-              ∙ ap (λ b. exit_step b.exit x.next) x.block
-              ∙ ap (λ ex. exit_step ex x.next) exit_is
-              ∙ last-goes x (exit_at nodes entry at) (exit_forms nodes entry image.ip sound at node is.found) in
-              same-further related 0 s _ _ run (record {
-                quiet = refl;
-                running = λ j le. let e : j ≡ 0 = omega (arith, le) in ap (λ k. is_over (after machine_step k s).end) e ∙ not-over s both.running;
-                goes_on_to = still_related (at-block _ _ (arrived (machine_step s) x.next x.to (at ∷ before) x.stand leader));
-              })
-          | ends x ↦
-              record {
-                quiet = refl;
-                running = λ j le. let e : j ≡ 0 = omega (arith, le) in ap (λ k. is_over (after machine_step k s).end) e ∙ not-over s both.running;
-                goes_on_to = both_over (record {
-                  over = ap is_over x.machine;
-                  end = ap (λ l. (block_step p.graphs fill (l ++ []) t).end) stmts ∙ x.ends [] ∙ sym x.machine;
-                  out = ap (λ l. (block_step p.graphs fill (l ++ []) t).out) stmts ∙ x.inner_out [] ∙ both.out ∙ sym x.out;
-                });
-              }
-        ]
+    last-through : IsChain nodes entry at [] → t.running.block.exit ≡ exit_at nodes entry at → Through 0 s (block_step p.graphs fill (stmts_at nodes at ++ []) t)
+    last-through chain exit_is = record {
+      quiet = quiet_once machine (within s);
+      comes = subst (λ w. ComesTo machine inner InBlock w (block_step p.graphs fill (stmts_at nodes at ++ []) t))
+          (sym (within-steps s t at before both node is)) (come (instruction-done s t at before both node is));
+    }
       where
-        went : (x : IsPassed image layout graph p.graphs fill node s t at before) → has_successor nodes at x.to ≡ true
-        went x = ap (list_any (λ n. n == x.to)) (succ-of at node is.found) ∙ any_contained node.succ.items x.to x.goes
+        stmts : stmts_at nodes at ≡ node_stmts (Some node)
+        stmts = ap node_stmts is.found
+
+        come : IsDone image layout graph p.graphs fill node s t at before → ComesTo machine inner InBlock (within (machine_step s)) (block_step p.graphs fill (stmts_at nodes at ++ []) t)
+        come (goes_on x) =
+            let went : has_successor nodes at x.to ≡ true = ap (list_any (λ n. n == x.to)) (succ-of at node is.found) ∙ any_contained node.succ.items x.to x.goes in
+            let leader : is_leader nodes entry x.to ≡ true = last_goes_to_leaders nodes entry image.ip sound at [] x.to chain went in
+            let run : block_step p.graphs fill (stmts_at nodes at ++ []) t ≡ going_to (block_place nodes entry x.to) x.next =
+            ap (λ l. block_step p.graphs fill (l ++ []) t) stmts
+            ∙ x.runs []
+            ∙ ap (λ b. exit_step b.exit x.next) x.block
+            ∙ ap (λ ex. exit_step ex x.next) exit_is
+            ∙ last-goes x (exit_at nodes entry at) (exit_forms nodes entry image.ip sound at node is.found) in
+            still_related (record {
+              state_of = machine_step s;
+              same = refl;
+              at_block = subst (AtBlock (machine_step s)) (sym run) (arrived (machine_step s) x.next x.to (at ∷ before) x.stand leader);
+            })
+        come (ends x) =
+            both_over (ap is_over x.machine)
+            (ap (λ l. (block_step p.graphs fill (l ++ []) t).end) stmts ∙ x.ends [] ∙ sym x.machine)
+            (ap (λ l. (block_step p.graphs fill (l ++ []) t).events) stmts ∙ x.inner_events [] ∙ both.events ∙ sym x.events)
 
   -- the steps through what is left of a block
-  module _ (related : Machine → Inner → Type 0) (at-block : (s : Machine) (t : Inner) → AtBlock s t → related s t) where
-    -- the offset of an instruction within a block is no block's
-    inner-quiet : (s : Machine) (at next : ℕ) → IsOnward nodes entry at next → s.end ≡ Running → s.ip ≡ next → visits_of kept (visit_of machine_system instruction_mark s) ≡ []
-    inner-quiet s at next onwards running ip =
-        let no : is_leader nodes entry next ≡ false = joins_no_leader nodes entry image.ip sound next onwards.joins in
-        let node = onwards.node in
-        let other : (image.ip == next) ≡ false = elim (decided (image.ip == next)) [
-          | inl same ↦ absurd (sound.apart (subst (Contains (offsets_of nodes)) (sym (eqb-true image.ip next same)) (contained_node nodes next (node_in_has nodes next node.0 node.1))))
-          | inr different ↦ different
-        ] in
-        let none : kept next ≡ false = program_has_block image layout start p translation sound next ∙ ap₂ (λ a b. a || b) other no in
-        ap (λ e. visits_of kept (if is_over e then [] else visit_at machine_system s (Some s.ip))) running
-        ∙ ap (λ b. cond b (record { place = s.ip; out = s.out } ∷ []) []) (ap kept ip ∙ none)
+  chain-through : (rest : List ℕ) (s : Machine) (t : Inner) (at : ℕ) (before : List ℕ) → BothStand image layout graph s t at before
+      → IsChain nodes entry at rest → t.running.block.exit ≡ exit_at nodes entry (last_of at rest)
+      → Through (length rest) s (block_step p.graphs fill (flat_map (stmts_at nodes) (at ∷ rest)) t)
+  chain-through [] s t at before both chain exit_is =
+      let x = node-instruction image layout procs loaded has are at (record { before = before; trail = both.trail }) in
+      last-through s t at before both x.0 x.1 chain exit_is
+  chain-through (next ∷ rest) s t at before both chain exit_is =
+      let x = node-instruction image layout procs loaded has are at (record { before = before; trail = both.trail }) in
+      let node : Node = x.0 in
+      let is : IsInstruction image layout nodes at node = x.1 in
+      let onwards = onward_tells nodes entry image.ip sound at next chain.0 in
+      let succ : node.succ.items ≡ next ∷ [] = sym (succ-of at node is.found) ∙ onwards.succ in
+      let stmts : stmts_at nodes at ≡ node_stmts (Some node) = ap node_stmts is.found in
+      let steps = sym (within-steps s t at before both node is) in
+      elim (instruction-done s t at before both node is) [
+        | ends y ↦ absurd (one-of-none next node.succ.items succ y.none)
+        | goes_on y ↦
+            let stand : BothStand image layout graph (machine_step s) y.next next (at ∷ before) =
+            subst (λ n. BothStand image layout graph (machine_step s) y.next n (at ∷ before)) (only-to s t at before node y next succ) y.stand in
+            let later = chain-through rest (machine_step s) y.next next (at ∷ before) stand chain.1 (ap (λ b. b.exit) y.block ∙ exit_is) in
+            let run : block_step p.graphs fill (flat_map (stmts_at nodes) (at ∷ next ∷ rest)) t ≡ block_step p.graphs fill (flat_map (stmts_at nodes) (next ∷ rest)) y.next =
+            ap (λ l. block_step p.graphs fill (l ++ flat_map (stmts_at nodes) (next ∷ rest)) t) stmts ∙ y.runs (flat_map (stmts_at nodes) (next ∷ rest)) in
+            let here : IsQuiet machine (within (machine_step s)) = record {
+              unmarked = ap (λ a. kept_mark (has_block p) (Some (place a))) stand.ip_is ∙ ap (λ b. if b then Some (place next) else None) (inner-has at next onwards);
+              running = not-over (machine_step s) stand.running;
+              clean = refl;
+            } in
+            record {
+              quiet = quiet_before machine (suc (length rest)) (within s) (subst (IsQuiet machine) steps here) (subst (IsQuietUntil machine (suc (length rest))) steps later.quiet);
+              comes = subst (λ v. ComesTo machine inner InBlock (state machine (suc (suc (length rest))) (within s)) v) (sym run)
+                  (subst (λ w. ComesTo machine inner InBlock (state machine (suc (length rest)) w) (block_step p.graphs fill (flat_map (stmts_at nodes) (next ∷ rest)) y.next)) steps later.comes);
+            }
+      ]
+    where
+      only-to : (s : Machine) (t : Inner) (at : ℕ) (before : List ℕ) (node : Node) (y : IsPassed image layout graph p.graphs fill node s t at before)
+          (next : ℕ) → node.succ.items ≡ next ∷ [] → y.to ≡ next
+      only-to s t at before node y next succ = elim (op_test node.instr.op) as (λ o. op_test node.instr.op ≡ o → y.to ≡ next) [
+        | None ↦ λ none. one-same y.to next node.succ.items (y.single none) succ
+        | Some test ↦ λ some. let z = y.tested test some in absurd (two-of-one z.0 z.1 next node.succ.items z.2 succ)
+      ] refl
 
-    chain-through : (rest : List ℕ) (s : Machine) (t : Inner) (at : ℕ) (before : List ℕ) → BothStand image layout graph s t at before
-        → IsChain nodes entry at rest → t.running.block.exit ≡ exit_at nodes entry (last_of at rest)
-        → Through related (length rest) s (block_step p.graphs fill (flat_map (stmts_at nodes) (at ∷ rest)) t)
-    chain-through [] s t at before both chain exit_is =
-        let x = instructions at (record { before = before; trail = both.trail }) in
-        last-through related at-block s t at before both x.0 x.1 chain exit_is
-    chain-through (next ∷ rest) s t at before both chain exit_is =
-        let x = instructions at (record { before = before; trail = both.trail }) in
-        let node : Node = x.0 in
-        let is : IsInstruction image layout nodes at node = x.1 in
-        let onwards = onward_tells nodes entry image.ip sound at next chain.0 in
-        let succ : node.succ.items ≡ next ∷ [] = sym (succ-of at node is.found) ∙ onwards.succ in
-        let stmts : stmts_at nodes at ≡ node_stmts (Some node) = ap node_stmts is.found in
-        elim (instruction-done s t at before both node is) [
-          | ends y ↦ absurd (one-of-none next node.succ.items succ y.none)
-          | goes_on y ↦
-              let to : y.to ≡ next = only-to s t at before node y next succ in
-              let stand : BothStand image layout graph (machine_step s) y.next next (at ∷ before) = subst (λ n. BothStand image layout graph (machine_step s) y.next n (at ∷ before)) to y.stand in
-              let later = chain-through rest (machine_step s) y.next next (at ∷ before) stand chain.1 (ap (λ b. b.exit) y.block ∙ exit_is) in
-              let run : block_step p.graphs fill (flat_map (stmts_at nodes) (at ∷ next ∷ rest)) t ≡ block_step p.graphs fill (flat_map (stmts_at nodes) (next ∷ rest)) y.next =
-              ap (λ l. block_step p.graphs fill (l ++ flat_map (stmts_at nodes) (next ∷ rest)) t) stmts ∙ y.runs (flat_map (stmts_at nodes) (next ∷ rest)) in
-              same-further related (suc (length rest)) s _ _ run (record {
-                quiet = visits_of-append kept (visit_of machine_system instruction_mark (machine_step s)) (visits machine_system instruction_mark (length rest) (machine_step (machine_step s)))
-                    ∙ ap₂ (λ a b. a ++ b) (inner-quiet (machine_step s) at next onwards stand.running stand.ip_is) later.quiet;
-                running = within s (length rest) (not-over s both.running) later.running;
-                goes_on_to = later.goes_on_to;
-              })
-        ]
-      where
-        only-to : (s : Machine) (t : Inner) (at : ℕ) (before : List ℕ) (node : Node) (y : IsPassed image layout graph p.graphs fill node s t at before)
-            (next : ℕ) → node.succ.items ≡ next ∷ [] → y.to ≡ next
-        only-to s t at before node y next succ = elim (op_test node.instr.op) as (λ o. op_test node.instr.op ≡ o → y.to ≡ next) [
-          | None ↦ λ none. one-same y.to next node.succ.items (y.single none) succ
-          | Some test ↦ λ some. let z = y.tested test some in absurd (two-of-one z.0 z.1 next node.succ.items z.2 succ)
-        ] refl
+  -- at a block both runs are at its place
+  marked : (s : Machine) (t : Inner) (b : AtBlock s t) → machine.mark (within s) ≡ Some (place b.at)
+  marked s t b = ap (λ a. kept_mark (has_block p) (Some (place a))) b.both.ip_is ∙ ap (λ k. if k then Some (place b.at) else None) (leader-has b.at b.leader)
 
-        within : (s : Machine) (further : ℕ) → is_over s.end ≡ false → ((j : ℕ) → j ≤ further → is_over (after machine_step j (machine_step s)).end ≡ false)
-            → (j : ℕ) → j ≤ suc further → is_over (after machine_step j s).end ≡ false
-        within s further first later zero le = first
-        within s further first later (suc j) le = let less : j ≤ further = omega (arith, le) in later j less
+  inner-marked : (s : Machine) (t : Inner) (b : AtBlock s t) → inner.mark t ≡ Some (place b.at)
+  inner-marked s t b =
+      ap (λ begins. if begins then Some (record { entry = t.running.graph.entry; at = t.running.block.at }) else None) b.begins
+      ∙ ap₂ (λ (g : Graph) at. Some (record { entry = g.entry; at = at })) b.both.graph_is b.is_block.at_is
 
-    -- a step of the program from a block stands for the machine's steps through it, one for each instruction
-    pub block-paced : (s : Machine) (t : Inner) → AtBlock s t → IsPaced 65536 kept machine_system instruction_mark (inner_system p fill) offset_mark related s t
-    block-paced s t b =
-        let block = b.is_block in
-        let x = chain-through block.rest s t b.at b.before b.both block.chain block.exit_is in
-        let stmts : t.running.rest ≡ flat_map (stmts_at nodes) (b.at ∷ block.rest) = b.rest_is ∙ block.stmts_are in
-        let step_is : inner_step p fill t ≡ block_step p.graphs fill (flat_map (stmts_at nodes) (b.at ∷ block.rest)) t =
-        ap (λ e. if is_over e then t else block_step p.graphs fill t.running.rest t) b.both.going ∙ ap (λ l. block_step p.graphs fill l t) stmts in
-        let here : kept b.at ≡ true = program_has_block image layout start p translation sound b.at ∙ ap (λ l. (image.ip == b.at) || l) b.leader ∙ or-true (image.ip == b.at) in
-        let low : b.at < 65536 = leader_below nodes entry image.ip sound b.at b.leader in
-        let fits = chain_fits nodes entry image.ip sound block.rest b.at block.chain low in (
-          record {
-            further = length block.rest;
-            visit =
-                ap₂ (λ e begins. if is_over e then [] else visit_at (inner_system p fill) t
-                (option_map (λ (place : Place). place.at)
-                (if begins then Some (record { entry = t.running.graph.entry; at = t.running.block.at }) else None))) b.both.going b.begins
-                ∙ ap₂ (λ at out. record { place = at; out = out } ∷ []) (block.at_is ∙ sym b.both.ip_is) b.both.out
-                ∙ sym (ap (λ e. visits_of kept (if is_over e then [] else visit_at machine_system s (Some s.ip))) b.both.running
-                ∙ ap (λ k. cond k (record { place = s.ip; out = s.out } ∷ []) []) (ap kept b.both.ip_is ∙ here));
-            quiet = x.quiet;
-            running = x.running;
-            goes_on = subst (λ v. GoOn machine_system (inner_system p fill) related (after machine_step (suc (length block.rest)) s) v) (sym step_is) x.goes_on_to;
-          },
-          omega (arith, fits),
-        )
-      where
-        or-true : (b : Bool) → (b || true) ≡ true
-        or-true true = refl
-        or-true false = refl
+  pub block-marked : (w : Watch) (t : Inner) → InBlock w t → IsMarked machine w
+  block-marked w t b =
+      subst (IsMarked machine) (sym b.same) (record {
+        place = place b.at_block.at;
+        mark = marked b.state_of t b.at_block;
+        running = not-over b.state_of b.at_block.both.running;
+      })
+
+  -- a step of the program from a block stands for the machine's steps through it, one for each instruction
+  pub block-matched : Matches machine inner InBlock
+  block-matched w t x =
+      let s = x.state_of in
+      let b = x.at_block in
+      let block = b.is_block in
+      let y = chain-through block.rest s t b.at b.before b.both block.chain block.exit_is in
+      let stmts : t.running.rest ≡ flat_map (stmts_at nodes) (b.at ∷ block.rest) = b.rest_is ∙ block.stmts_are in
+      let step_is : inner_step p fill t ≡ block_step p.graphs fill (flat_map (stmts_at nodes) (b.at ∷ block.rest)) t =
+      ap (λ e. if is_over e then t else block_step p.graphs fill t.running.rest t) b.both.going ∙ ap (λ l. block_step p.graphs fill l t) stmts in
+      record {
+        alike = record {
+          mark = inner-marked s t b ∙ sym (ap machine.mark x.same ∙ marked s t b);
+          events = b.both.events ∙ sym (ap (λ (u : Watch). u.machine.events) x.same);
+          running = ap (λ (u : Watch). is_over u.machine.end) x.same ∙ not-over s b.both.running;
+          other_running = ap is_over b.both.going;
+          clean = ap machine.foul x.same;
+        };
+        steps = suc (length block.rest);
+        some = omega arith;
+        other_steps = 1;
+        others = omega arith;
+        quiet = subst (IsQuietUntil machine (suc (length block.rest))) (sym x.same) y.quiet;
+        other_quiet = quiet_once inner t;
+        comes = subst (λ u. ComesTo machine inner InBlock (state machine (suc (length block.rest)) u) (inner_step p fill t)) (sym x.same)
+            (subst (λ v. ComesTo machine inner InBlock (state machine (suc (length block.rest)) (within s)) v) (sym step_is) y.comes);
+      }
+
+  -- a block has at most 4,096 instructions, for offsets ascend in it
+  block-short : (w : Watch) (t : Inner) (x : InBlock w t) → (block-matched w t x).steps ≤ steps_between
+  unfolding block-matched
+  block-short w t x =
+      let b = x.at_block in
+      let rest = b.is_block.rest in
+      let chain = b.is_block.chain in
+      let inside : All (λ at. is_node nodes at ≡ true) (b.at ∷ rest) = All-cons (λ at. is_node nodes at ≡ true) b.at rest (leader_node nodes entry image.ip sound b.at b.leader)
+      (All-weaker (IsInner nodes entry) (λ at. is_node nodes at ≡ true) (λ at i. i.node) rest (chain_inner nodes entry image.ip sound rest b.at chain)) in
+      let few = few-nodes image layout procs loaded has are (b.at ∷ rest) inside (chain_ascends nodes entry image.ip sound rest b.at chain) in
+      omega (arith, few)
+
+  -- The start.
+
+  module _ (input : List ℕ) (bytes : All (λ byte. byte < 256) input) where
+    abbrev begun : Inner
+    begun = begin image layout start p fill input loaded has translation bytes
+
+    abbrev far : ℕ
+    far = length has.prelude
+
+    -- after the prelude the machine is in the procedure
+    past : watch_at image layout loaded has input far ≡ within (after_prelude image layout start p fill input loaded has translation bytes)
+    past =
+        ap₂ (λ m stage. record { machine = m; stage = stage })
+        (machine_at image layout loaded has input far ∙ prelude-steps image layout start p fill input loaded has translation bytes)
+        (past_the_prelude image layout loaded has input)
+
+    -- the first block stands for the machine's steps through the prelude
+    start-matched : AreMatched machine inner InBlock (first_watch image input) begun
+    start-matched =
+        let here : has_block p (place image.ip) ≡ true = program_has_block image layout start p translation sound image.ip
+        ∙ ap (λ b. b || is_leader nodes entry image.ip) (same_number image.ip) in
+        let set : Inner = set_up image layout start p fill input loaded has translation bytes in
+        record {
+          alike = record {
+            mark = sym (ap (λ b. if b then Some (place image.ip) else None) here);
+            events = refl;
+            running = refl;
+            other_running = refl;
+            clean = refl;
+          };
+          steps = far;
+          some = prelude-some image layout loaded has;
+          other_steps = 1;
+          others = omega arith;
+          quiet = λ k some lt. record {
+            unmarked = ap (λ stage. kept_mark (has_block p) (place_of layout (record { machine = (watch_at image layout loaded has input k).machine; stage = stage })))
+                (in_the_prelude image layout loaded has input k some lt);
+            running = prelude_running image layout loaded has input k (omega (arith, lt));
+            clean = clean_after layout k (first_watch image input) refl;
+          };
+          other_quiet = quiet_once inner begun;
+          comes = still_related (record {
+            state_of = after_prelude image layout start p fill input loaded has translation bytes;
+            same = past;
+            at_block = subst (AtBlock (after_prelude image layout start p fill input loaded has translation bytes))
+                (sym (begin-step image layout start p fill input loaded has translation bytes))
+                (arrived (after_prelude image layout start p fill input loaded has translation bytes) set entry []
+                (begun-stand image layout start p fill input loaded has translation bytes (start-below image layout loaded has)) (entry_is_leader nodes entry image.ip sound));
+          });
+        }
+
+    law : IsWatchable machine
+    law = only_watchable (watched_machine layout) (has_block p) (machine_watchable layout)
+
+    -- the program's run shadows the machine's
+    pub run-shadows : Shadows machine (first_watch image input) inner (first_state p fill input)
+    run-shadows =
+        subst (Shadows machine (first_watch image input) inner) (sym (first-is image layout start p fill input loaded has translation bytes))
+        (shadows_from_matched machine inner law (inner_watchable p fill) InBlock block-matched (first_watch image input) begun start-matched)
+
+    -- the machine keeps pace: each instruction of the prelude takes a byte at least
+    pub machine-paced : KeepsPace machine (first_watch image input) steps_at_start steps_between
+    unfolding start-matched
+    machine-paced =
+        let up = offset-far (code_of image) far has.prelude image.ip has.is_prelude.run (omega arith) in
+        let end = offset-end has.prelude image.ip in
+        let short = prelude-short image layout loaded has in
+        let le : far ≤ steps_at_start = omega (arith, up, end, short) in
+        pace_from_matched machine inner law InBlock block-matched block-marked steps_between block-short steps_at_start (first_watch image input) begun start-matched le

@@ -1,7 +1,6 @@
 -- The machine at an offset of the procedure and the program's run within a block stand for each other; one instruction of
 -- the one and its statements in the other keep that.
-use Rattle.std.proofs.Common.{◌≡◌, ◌≢◌, ℕ, ◌+◌, ◌-◌, ◌<◌, ◌≤◌, Bool, true, false, List, [], ◌∷◌, ◌++◌, Option, Some, None, All, Contains, take, drop, length, refl, sym, ap, ◌∙◌, subst, lit<, arith, true≢false}
-use Rattle.std.proofs.lemmas.List.{length-drop, length-take, drop-take, take-take}
+use Rattle.std.proofs.Common.{◌≡◌, ◌≢◌, ℕ, ◌<◌, Bool, true, false, List, [], ◌∷◌, ◌++◌, Option, Some, None, All, Contains, refl, sym, ap, ◌∙◌, subst, lit<, true≢false}
 use Rattle.std.specs.Prelude.{slice_index, if◌then◌else◌, ◌==◌, ◌||◌}
 use Rattle.dcc_run.specs.End.{Running, Exit as ExitWith, is_over}
 use Rattle.dcc_num.specs.declared.Reg.TheVariants.{Ax}
@@ -12,14 +11,13 @@ use Rattle.dcc_prog.specs.declared.procedure.Node.{Node}
 use Rattle.dcc_prog.specs.declared.instr.Op.{Op}
 use Rattle.dcc_prog.specs.declared.instr.Op.TheVariants.{Int21, Table}
 use Rattle.dcc_prog.specs.declared.instr.Instr.{Instr}
-use Rattle.dcc_prog.specs.Code.{code_of}
+use Rattle.dcc_prog.specs.Code.{HoldsCode}
 use Rattle.dcc_prog.specs.Table.{instruction_at}
 use Rattle.dcc_prog.specs.Machine.{State as Machine, code_segment}
 use Rattle.dcc_prog.specs.Step.{code_bytes, op_step, instruction_step, step}
 use Rattle.dcc_prog.specs.Trail.{instruction_in, next_of, known_ah, ah_after, targets_of, op_successors, successors, IsTrail}
 use Rattle.dcc_prog.specs.WellFormed.{IsOperation}
-use Rattle.dcc_prog.proofs.TableLaws.{instruction-length, instruction-prefix}
-use Rattle.dcc_prog.proofs.FetchLaws.{IsPlaced, HoldsImage, fetched-instruction}
+use Rattle.dcc_prog.proofs.FetchLaws.{IsPlaced, code-kept, fetched-instruction}
 use Rattle.dcc_ir.specs.declared.syntax.Loc.TheVariants.{Half}
 use Rattle.dcc_ir.specs.Tree.{Expr, Stmt, Graph}
 use Rattle.dcc_ir.specs.Value.{Scene, value_of, Fits}
@@ -29,22 +27,19 @@ use Rattle.dcc_lift.specs.Statements.{op_stmts, op_test}
 use Rattle.dcc_lift.specs.Mirrors.{Mirrors, executed}
 use Rattle.dcc_lift.specs.Liftable.{is_liftable}
 use Rattle.dcc_lift.specs.Blocks.{Nodes, node_in, node_stmts}
+use Rattle.dcc_lift.proofs.StatementLaws.{after_sets}
 use Rattle.dcc_lift.proofs.MirrorLaws.{executed_values}
 use Rattle.dcc_lift.proofs.AhLaws.{ah-after}
 
 -- What operations do, each by itself.
 
--- a step leaves memory, segments, input, output and end
+-- a step leaves memory, segments, input, events and end
 pub record KeepsRest (s t : Machine) : Type 0 where
   pub memory : t.memory ≡ s.memory
   pub segs : t.segs ≡ s.segs
   pub input : t.input ≡ s.input
-  pub out : t.out ≡ s.out
+  pub events : t.events ≡ s.events
   pub end : t.end ≡ s.end
-
--- the run's state after statements that set locations
-abbrev pub having_set : List Stmt → Inner → Inner
-having_set stmts t = record t { running = record t.running { values = (executed stmts (scene_of t)).values } }
 
 -- of all operations but INT 21h that are lifted: what their statements do, and where they go
 pub record AreLifted : Type 0 where
@@ -59,7 +54,7 @@ pub record AreLifted : Type 0 where
       → scene.bits ≡ temporary_bits → Fits scene → Mirrors s scene.values → op_test op ≡ Some test
       → (target : ℕ) × (op_successors op s.ip ah [] ≡ target ∷ s.ip ∷ []) × ((op_step op at s).ip ≡ (if value_of (executed (op_stmts op number) scene) test == 1 then target else s.ip))
   pub runs : (op : Op) (number : Option ℕ) (graphs : List Graph) (fill : ℕ) (rest : List Stmt) (t : Inner) → is_liftable op ≡ true → IsOperation op → op ≢ Int21 → t.end ≡ Running
-      → block_step graphs fill (op_stmts op number ++ rest) t ≡ block_step graphs fill rest (having_set (op_stmts op number) t)
+      → block_step graphs fill (op_stmts op number ++ rest) t ≡ block_step graphs fill rest (after_sets (op_stmts op number) t)
 
 -- The instructions of the procedure.
 
@@ -80,7 +75,7 @@ pub record IsInstruction (image : Image) (layout : Layout) (nodes : Nodes) (at :
 -- The two runs.
 
 pub record BothStand (image : Image) (layout : Layout) (graph : Graph) (s : Machine) (t : Inner) (at : ℕ) (before : List ℕ) : Type 0 where
-  pub holds : HoldsImage image s
+  pub holds : HoldsCode image layout.code_end s
   pub ip_is : s.ip ≡ at
   pub running : s.end ≡ Running
   pub trail : IsTrail image layout layout.start_ip (at ∷ before)
@@ -89,7 +84,7 @@ pub record BothStand (image : Image) (layout : Layout) (graph : Graph) (s : Mach
   pub mirrors : Mirrors s t.running.values
   pub fits : Fits (scene_of t)
   pub input : t.input ≡ s.input
-  pub out : t.out ≡ s.out
+  pub events : t.events ≡ s.events
   pub bytes : All (λ byte. byte < 256) s.input
   pub ah : (n : ℕ) → known_ah image layout before ≡ Some n → t.running.values (Half Ax High) ≡ n
 
@@ -108,37 +103,25 @@ pub record IsPassed (image : Image) (layout : Layout) (graph : Graph) (graphs : 
 pub record IsLeft (graphs : List Graph) (fill : ℕ) (node : Node) (s : Machine) (t : Inner) : Type 0 where
   pub code : ℕ
   pub machine : (step s).end ≡ ExitWith code
-  pub out : (step s).out ≡ s.out
+  pub events : (step s).events ≡ s.events
   pub ends : (rest : List Stmt) → (block_step graphs fill (node_stmts (Some node) ++ rest) t).end ≡ ExitWith code
-  pub inner_out : (rest : List Stmt) → (block_step graphs fill (node_stmts (Some node) ++ rest) t).out ≡ t.out
+  pub inner_events : (rest : List Stmt) → (block_step graphs fill (node_stmts (Some node) ++ rest) t).events ≡ t.events
   pub none : node.succ.items ≡ []
 
 -- The step.
 
--- an instruction within the code stands in the whole code too
-within-code : (image : Image) (layout : Layout) (at : ℕ) (instr : Instr) → instruction_in image layout at ≡ Some instr → instruction_at at (drop at (code_of image)) ≡ Some instr
-within-code image layout at instr found =
-    let xs = code_of image in
-    let e : ℕ = layout.code_end in
-    let m : ℕ = e - at in
-    let bounds = instruction-length at (drop at (take e xs)) instr found in
-    let len : length (drop at (take e xs)) ≡ length (take e xs) - at = length-drop at (take e xs) in
-    let le : length (take e xs) ≤ e = omega (arith, length-take e xs) in
-    let inside : instr.len ≤ m = omega (arith, bounds.0, bounds.1, len, le) in
-    let split : e ≡ at + m = omega (arith, bounds.0, inside) in
-    let same : drop at (take e xs) ≡ take m (drop at xs) = ap (λ k. drop at (take k xs)) split ∙ drop-take at m xs in
-    instruction-prefix at (drop at (take e xs)) (drop at xs) instr found
-    (sym (ap (take instr.len) same ∙ take-take instr.len m (drop at xs) inside))
+-- the machine reads the instruction, and makes its step
+pub fetched : (image : Image) (layout : Layout) (graph : Graph) (s : Machine) (t : Inner) (at : ℕ) (before : List ℕ) (instr : Instr) → IsPlaced image
+    → BothStand image layout graph s t at before → instruction_in image layout at ≡ Some instr → instruction_at s.ip (code_bytes s) ≡ Some instr
+fetched image layout graph s t at before instr placed both found =
+    fetched-instruction image layout.code_end s instr placed both.holds (ap (λ a. instruction_in image layout a) both.ip_is ∙ found)
 
--- the machine makes the step of the instruction
 pub step-is : (image : Image) (layout : Layout) (graph : Graph) (s : Machine) (t : Inner) (at : ℕ) (before : List ℕ) (instr : Instr) → IsPlaced image
     → BothStand image layout graph s t at before → instruction_in image layout at ≡ Some instr
     → step s ≡ op_step instr.op s.ip (record s { ip = next_of s.ip instr })
 step-is image layout graph s t at before instr placed both found =
-    let here : instruction_at s.ip (drop s.ip (code_of image)) ≡ Some instr =
-    ap (λ a. instruction_at a (drop a (code_of image))) both.ip_is ∙ within-code image layout at instr found in
     ap (λ e. if is_over e then s else instruction_step (instruction_at s.ip (code_bytes s)) s) both.running
-    ∙ ap (λ o. instruction_step o s) (fetched-instruction image s instr placed both.holds here)
+    ∙ ap (λ o. instruction_step o s) (fetched image layout graph s t at before instr placed both found)
 
 pub no-some : {A : Type 0} {x : A} → None ≡ Some x → ⊥
 no-some e = cc
@@ -201,7 +184,7 @@ module _ (laws : AreLifted) (image : Image) (layout : Layout) (graph : Graph) (n
     trail-on to c = (subst (λ l. Contains l to) (is.succ before both.trail) c, both.trail)
 
     next-state : Inner
-    next-state = having_set (op_stmts node.instr.op node.number) t
+    next-state = after_sets (op_stmts node.instr.op node.number) t
 
     passed-mirrors : Mirrors moved next-state.running.values
     unfolding moved next-state
@@ -212,10 +195,8 @@ module _ (laws : AreLifted) (image : Image) (layout : Layout) (graph : Graph) (n
     goes-to to stepped ip contained =
         let rest = laws.keeps node.instr.op s.ip following is.liftable other in
         record {
-          holds = record {
-            memory = ap (λ u. u.memory) stepped ∙ rest.memory ∙ both.holds.memory;
-            code = ap code_segment stepped ∙ ap (λ l. slice_index l 1) rest.segs ∙ both.holds.code;
-          };
+          holds = code-kept image layout.code_end s (step s) both.holds (ap (λ u. u.memory) stepped ∙ rest.memory)
+              (ap code_segment stepped ∙ ap (λ l. slice_index l 1) rest.segs);
           ip_is = ip;
           running = ap (λ u. u.end) stepped ∙ rest.end ∙ both.running;
           trail = trail-on to contained;
@@ -224,7 +205,7 @@ module _ (laws : AreLifted) (image : Image) (layout : Layout) (graph : Graph) (n
           mirrors = subst (λ u. Mirrors u next-state.running.values) (sym stepped) passed-mirrors;
           fits = laws.fits node.instr.op node.number (scene_of t) is.liftable is.operation other bits-are both.fits;
           input = both.input ∙ sym (ap (λ u. u.input) stepped ∙ rest.input);
-          out = both.out ∙ sym (ap (λ u. u.out) stepped ∙ rest.out);
+          events = both.events ∙ sym (ap (λ u. u.events) stepped ∙ rest.events);
           bytes = subst (All (λ byte. byte < 256)) (sym (ap (λ u. u.input) stepped ∙ rest.input)) both.bytes;
           ah = λ n e.
               ah-after node.instr node.number (scene_of t) (known_ah image layout before) other both.ah n

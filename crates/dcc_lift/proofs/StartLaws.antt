@@ -1,5 +1,5 @@
 -- The start: the block of the prelude stands for the machine's steps through the prelude.
-use Rattle.std.proofs.Common.{◌≡◌, ℕ, ◌+◌, ◌*◌, ◌/◌, ◌%◌, ◌-◌, ◌^◌, ◌<◌, Bool, true, false, List, [], length, All, refl, sym, ap, ◌∙◌, subst, inl, inr, arith, true≢false, get_or, drop, lit<, pow_pos}
+use Rattle.std.proofs.Common.{◌≡◌, ℕ, ◌+◌, ◌*◌, ◌/◌, ◌%◌, ◌-◌, ◌^◌, ◌<◌, ◌≤◌, Bool, true, false, List, [], length, All, refl, sym, ap, ◌∙◌, subst, inl, inr, arith, true≢false, get_or, drop, lit<, pow_pos}
 use Rattle.std.proofs.lemmas.Bool.{cases_lt}
 use Rattle.std.proofs.Math.Nat.{mod-eq_of_lt}
 use Rattle.std.proofs.lemmas.Nat.{mod_below}
@@ -22,6 +22,7 @@ use Rattle.dcc_prog.specs.Code.{code_of}
 use Rattle.dcc_prog.specs.Machine.{State as Machine, reg_number, start_state}
 use Rattle.dcc_prog.specs.Step.{step as machine_step}
 use Rattle.dcc_prog.specs.Layout.{HasLayout}
+use Rattle.dcc_prog.proofs.FetchLaws.{start-holds, code-kept, code-part}
 use Rattle.dcc_prog.proofs.PreludeSteps.{executed as executed_run, executed-code, at_offset, steps-from_start, state_after-is}
 use Rattle.dcc_ir.specs.declared.syntax.Loc.{Loc}
 use Rattle.dcc_ir.specs.declared.syntax.Loc.TheVariants.{Half}
@@ -36,7 +37,7 @@ use Rattle.dcc_lift.specs.Translation.{data_image, prelude_block, IsTranslation}
 use Rattle.dcc_lift.proofs.MirrorLaws.{values_fit}
 use Rattle.dcc_lift.proofs.TranslationLaws.{the_graph, graphs_are}
 use Rattle.dcc_lift.proofs.StatementLaws.{well_formed, prelude-sound, prelude-sets, after_sets, sets-step}
-use Rattle.dcc_lift.proofs.CodeBounds.{bytes-taken, bytes-dropped, loaded-bytes}
+use Rattle.dcc_lift.proofs.CodeBounds.{loaded-placed, bytes-taken, bytes-dropped, loaded-bytes}
 use Rattle.dcc_lift.proofs.PreludeWords.{layout-registers, layout-eight, layout-words}
 use Rattle.dcc_lift.proofs.Standing.{BothStand, no-some}
 
@@ -121,7 +122,7 @@ module _ (image : Image) (layout : Layout) (start : Proc) (p : Program) (fill : 
     waiting = [];
     memory = first_memory p fill;
     input = input;
-    out = [];
+    events = [];
     end = Running;
   })
 
@@ -134,7 +135,7 @@ module _ (image : Image) (layout : Layout) (start : Proc) (p : Program) (fill : 
         waiting = [];
         memory = first_memory p fill;
         input = input;
-        out = [];
+        events = [];
         end = Running;
       })) (graphs_are image layout start p translation)
 
@@ -174,11 +175,12 @@ module _ (image : Image) (layout : Layout) (start : Proc) (p : Program) (fill : 
   pub begun-stand : layout.start_ip < 65536 → BothStand image layout graph after_prelude set_up layout.start_ip []
   begun-stand below =
       let regs = layout-registers image layout loaded has in
+      let placed = loaded-placed image loaded in
+      let ends : layout.code_end ≤ image.code_len = omega (arith, has.left.code_end) in
       record {
-        holds = record {
-          memory = refl;
-          code = executed-code (code_of image) image.ip has.prelude (start_state image []) has.is_prelude.run;
-        };
+        holds = code-kept image layout.code_end (start_state image input) after_prelude
+            (code-part image image.code_len layout.code_end (start_state image input) (start-holds image input placed) ends) refl
+            (executed-code (code_of image) image.ip has.prelude (start_state image []) has.is_prelude.run);
         ip_is = mod-eq_of_lt below;
         running = refl;
         trail = refl;
@@ -187,7 +189,7 @@ module _ (image : Image) (layout : Layout) (start : Proc) (p : Program) (fill : 
         mirrors = begun-mirrors image layout start set_up.running.values after_prelude (scene_of begin) (ap length (sym regs) ∙ layout-eight image layout loaded has) (sym regs) (sym layout-flags);
         fits = values_fit first_block.stmts (scene_of begin) (well_formed first_block.stmts (prelude-sound image layout start.nodes.entries words)) begin-fits;
         input = refl;
-        out = refl;
+        events = refl;
         bytes = bytes;
         ah = λ n e. absurd (no-some e);
       }

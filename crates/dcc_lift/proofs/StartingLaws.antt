@@ -1,5 +1,5 @@
 -- What is written for some registers, one after another.
-use Rattle.std.proofs.Common.{◌≡◌, ℕ, ◌+◌, ◌<◌, List, [], ◌∷◌, ◌++◌, length, take, get_or, flat_map, ap, sym, ◌∙◌}
+use Rattle.std.proofs.Common.{◌≡◌, ℕ, ◌+◌, ◌<◌, List, ◌++◌, length, take, get_or, flat_map, ap, sym, ◌∙◌}
 use Rattle.std.proofs.lemmas.List.{flat_map_more, take_more}
 
 -- one more is written

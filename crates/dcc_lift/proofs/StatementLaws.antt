@@ -1,8 +1,8 @@
 -- The statements of an instruction are well formed, no expression in them is deeper than 7, and all but those of INT 21h set
 -- locations.
-use Rattle.std.proofs.Common.{◌≡◌, ℕ, ◌%◌, ◌/◌, ◌<◌, ◌≤◌, Bool, true, false, ◌&&◌, ◌||◌, List, [], ◌∷◌, ◌++◌, refl, sym, ◌∙◌, ap, subst, true≢false, leb-true, eqb-true, arith}
+use Rattle.std.proofs.Common.{◌≡◌, ℕ, ◌%◌, ◌/◌, ◌<◌, ◌≤◌, Bool, true, false, not, ◌&&◌, ◌||◌, List, [], ◌∷◌, ◌++◌, refl, sym, ◌∙◌, ap, subst, true≢false, leb-true, eqb-true, arith}
 use Rattle.std.specs.Prelude.{slice_index, All, flat_map, option_to_list, Option, Some, None, ◌==◌, nat_le, nat_lt, if◌then◌else◌}
-use Rattle.std.specs.List.{list_all}
+use Rattle.std.specs.List.{list_any, list_all}
 use Rattle.std.proofs.lemmas.Bool.Decides.{nat_tests}
 use Rattle.std.proofs.lemmas.List.Folds.{list_all-append}
 use Rattle.std.proofs.lemmas.List.Elements.{All-nil, All-cons, All-head, All-tail, All-append}
@@ -36,13 +36,11 @@ use Rattle.dcc_prog.specs.Machine.{reg_number, operand_width}
 use Rattle.dcc_prog.specs.WellFormed.{IsOperand, AreOperands, IsOperation}
 use Rattle.dcc_ir.specs.declared.syntax.Loc.TheVariants.{Half}
 use Rattle.dcc_ir.specs.declared.syntax.BinOp.TheVariants.{And as AndOp}
-use Rattle.dcc_ir.specs.Tree.{Expr, Const, Get, Binary, Stmt, Set, Fetch, Store, Div, Call as CallStmt, Dos, Graph, Program}
-use Rattle.dcc_ir.specs.Location.{location_width, with_value}
-use Rattle.dcc_ir.specs.Value.{Scene, value_of}
-use Rattle.dcc_ir.specs.WellFormed.{is_location, is_expr_of, is_stmt, IsCalling}
+use Rattle.dcc_ir.specs.Tree.{Expr, Const, Get, Binary, Stmt, Set, Fetch, Store, Div, Call as CallStmt, Dos, Exit, Graph, Program}
+use Rattle.dcc_ir.specs.Location.{location_width}
+use Rattle.dcc_ir.specs.WellFormed.{is_location, is_expr_of, is_stmt, is_jump, jumps_after_call, IsCalling}
 use Rattle.dcc_ir.specs.Use.{exprs_of}
-use Rattle.dcc_ir.specs.Keeps.{calls_of}
-use Rattle.dcc_ir.specs.Run.{State, scene_of, value_in, setting, block_step}
+use Rattle.dcc_ir.specs.Run.{State, is_call, scene_of, value_in, setting, block_step}
 use Rattle.dcc_ir.specs.Measure.{depth_of}
 use Rattle.dcc_lift.specs.Temporaries.{temporary_bits}
 use Rattle.dcc_lift.specs.Expressions.{operand_expr, condition, goes_round, flag, negated, is_zero, word_of}
@@ -431,16 +429,15 @@ calls_agree p graph [] h = All-nil (IsCalling p graph)
 calls_agree p graph (stmt ∷ stmts) h =
     All-cons (IsCalling p graph) stmt stmts (sound-calling p graph stmt (sound-head stmt stmts h)) (calls_agree p graph stmts (sound-tail stmt stmts h))
 
-sound-uncalling : (stmt : Stmt) → is_sound_stmt stmt ≡ true → calls_of stmt ≡ []
-sound-uncalling (CallStmt results entry arguments depth) h = absurd (true≢false (sym h))
-sound-uncalling stmt h = refl
+sound-no_call : (stmt : Stmt) → is_sound_stmt stmt ≡ true → is_call stmt ≡ false
+sound-no_call (CallStmt results entry arguments depth) h = absurd (true≢false (sym h))
+sound-no_call stmt h = refl
 
-pub no_calls : (stmts : List Stmt) → AreSoundStmts stmts → flat_map calls_of stmts ≡ []
-no_calls [] h = refl
-no_calls (stmt ∷ stmts) h =
-    let here = sound-uncalling stmt (sound-head stmt stmts h) in
-    let rest = no_calls stmts (sound-tail stmt stmts h) in
-    ap (λ calls. calls ++ flat_map calls_of stmts) here ∙ rest
+pub jumps-sound : (stmts : List Stmt) (exit : Exit) → AreSoundStmts stmts → jumps_after_call stmts exit ≡ true
+jumps-sound [] exit h = refl
+jumps-sound (stmt ∷ stmts) exit h =
+    ap (λ b. if b then not (list_any is_call stmts) && is_jump exit else jumps_after_call stmts exit) (sound-no_call stmt (sound-head stmt stmts h))
+    ∙ jumps-sound stmts exit (sound-tail stmt stmts h)
 
 -- no expression of some is deeper
 abbrev pub AreShallow : List Expr → Type 0
@@ -467,26 +464,10 @@ shallow [] h = All-nil (λ e. depth_of e ≤ 7)
 shallow (stmt ∷ stmts) h =
     All-append (λ e. depth_of e ≤ 7) (exprs_of stmt) (flat_map exprs_of stmts) (sound-shallow stmt (sound-head stmt stmts h)) (shallow stmts (sound-tail stmt stmts h))
 
--- the test is well formed, and no deeper
-pub test-well : (op : Op) (test : Expr) → op_test op ≡ Some test → is_expr_of temporary_bits 1 test ≡ true
-test-well op test e = (parts (is_expr_of temporary_bits 1 test) (nat_le (depth_of test) 7) (test-sound op test e)).0
-
-pub test-shallow : (op : Op) (test : Expr) → op_test op ≡ Some test → depth_of test ≤ 7
-test-shallow op test e = leb-true (depth_of test) 7 (parts (is_expr_of temporary_bits 1 test) (nat_le (depth_of test) 7) (test-sound op test e)).1
-
 -- The same of an operation's statements, whatever the number of the DOS call is.
 
 pub op-well_formed : (op : Op) (number : Option ℕ) → is_liftable op ≡ true → IsOperation op → list_all (is_stmt temporary_bits) (op_stmts op number) ≡ true
 op-well_formed op number lifted well = well_formed (op_stmts op number) (stmts-sound op number lifted well)
-
-pub op-calls_agree : (p : Program) (graph : Graph) (op : Op) (number : Option ℕ) → is_liftable op ≡ true → IsOperation op → All (IsCalling p graph) (op_stmts op number)
-op-calls_agree p graph op number lifted well = calls_agree p graph (op_stmts op number) (stmts-sound op number lifted well)
-
-pub op-no_calls : (op : Op) (number : Option ℕ) → is_liftable op ≡ true → IsOperation op → flat_map calls_of (op_stmts op number) ≡ []
-op-no_calls op number lifted well = no_calls (op_stmts op number) (stmts-sound op number lifted well)
-
-pub op-shallow : (op : Op) (number : Option ℕ) → is_liftable op ≡ true → IsOperation op → AreShallow (flat_map exprs_of (op_stmts op number))
-op-shallow op number lifted well = shallow (op_stmts op number) (stmts-sound op number lifted well)
 
 -- Statements that set locations.
 
@@ -530,18 +511,6 @@ pub op-step :
     → block_step graphs fill (op_stmts op number ++ rest) t ≡ block_step graphs fill rest (after_sets (op_stmts op number) t)
 op-step graphs fill op number rest t lifted well other runs =
     sets-step graphs fill (op_stmts op number) rest t (op-sets op number lifted well other) runs
-
--- what expressions read after them is what they read in that state
-pub scene-after : (stmts : List Stmt) (t : State) → scene_of (after_sets stmts t) ≡ executed stmts (scene_of t)
-scene-after [] t = refl
-scene-after (Set location e ∷ stmts) t = scene-after stmts (setting location (value_in t e) t)
-scene-after (stmt ∷ stmts) t = scene-after stmts t
-
-pub executed-append : (stmts others : List Stmt) (scene : Scene) → executed (stmts ++ others) scene ≡ executed others (executed stmts scene)
-executed-append [] others scene = refl
-executed-append (Set location e ∷ stmts) others scene =
-    executed-append stmts others (record scene { values = with_value scene.values location (value_of scene e) })
-executed-append (stmt ∷ stmts) others scene = executed-append stmts others scene
 
 -- The block of the prelude.
 

@@ -1,20 +1,19 @@
 -- Laws of the program that stands for a procedure: its graph, and which blocks that has.
 use Rattle.std.proofs.Common.{◌≡◌, ℕ, true, cond, ◌||◌, ◌==◌, [], ◌∷◌, Some, None, refl, ap, ◌∙◌, eq-eqb}
-use Rattle.std.specs.List.{list_any}
 use Rattle.dcc_prog.specs.declared.image.Image.{Image}
 use Rattle.dcc_prog.specs.declared.procedure.Layout.{Layout}
 use Rattle.dcc_prog.specs.declared.procedure.Proc.{Proc}
 use Rattle.dcc_ir.specs.Tree.{Graph, Program}
 use Rattle.dcc_ir.specs.Flow.{flow_of, flow_at, graph_or_none}
 use Rattle.dcc_ir.specs.Run.{graph_at}
+use Rattle.dcc_ir.specs.Keeps.{has_block}
 use Rattle.dcc_lift.specs.Temporaries.{temporary_bits}
 use Rattle.dcc_lift.specs.Blocks.{block_place}
 use Rattle.dcc_lift.specs.Sound.{AreSound}
-use Rattle.dcc_lift.specs.Translation.{prelude_block, IsTranslation}
-use Rattle.dcc_lift.specs.Lifted.{has_block_at, IsFramed}
-use Rattle.dcc_lift.proofs.ListTests.{or_none}
+use Rattle.dcc_lift.specs.Translation.{data_image, prelude_block, IsTranslation}
+use Rattle.dcc_lift.specs.Lifted.{IsFramed}
 use Rattle.dcc_lift.proofs.ChainLaws.{is_leader}
-use Rattle.dcc_lift.proofs.BlockLaws.{has_block, HasBlock, leader_block}
+use Rattle.dcc_lift.proofs.BlockLaws.{has_block as graph_has_block, HasBlock, leader_block}
 
 module _ (image : Image) (layout : Layout) (start : Proc) (p : Program) (translation : IsTranslation image layout start p) where
   -- the graph of a translation
@@ -27,6 +26,9 @@ module _ (image : Image) (layout : Layout) (start : Proc) (p : Program) (transla
     blocks = prelude_block image layout start.nodes.entries ∷ translation.blocks;
     bits = temporary_bits;
   }
+
+  abbrev pub the_program : Program
+  the_program = record { graphs = the_graph ∷ []; image = data_image image layout; lo = layout.lo; hi = layout.hi }
 
   pub graphs_are : p.graphs ≡ the_graph ∷ []
   graphs_are = ap (λ (q : Program). q.graphs) translation.program_is
@@ -61,8 +63,7 @@ module _ (image : Image) (layout : Layout) (start : Proc) (p : Program) (transla
         leader_block start.nodes.entries layout.start_ip image.ip sound (prelude_block image layout start.nodes.entries) refl refl translation.blocks translation.blocks_are at leader
 
     -- blocks begin at the prelude's offset and at the leaders
-    pub program_has_block : (at : ℕ) → has_block_at p at ≡ ((image.ip == at) || is_leader start.nodes.entries layout.start_ip at)
+    pub program_has_block : (at : ℕ) → has_block p (record { entry = layout.start_ip; at = at }) ≡ ((image.ip == at) || is_leader start.nodes.entries layout.start_ip at)
     program_has_block at =
-        ap (list_any (λ graph. (flow_of graph).has at)) graphs_are
-        ∙ or_none ((flow_of the_graph).has at)
-        ∙ has_block start.nodes.entries layout.start_ip image.ip sound (prelude_block image layout start.nodes.entries) refl refl translation.blocks translation.blocks_are at
+        ap (λ o. (flow_of (graph_or_none o)).has at) graph_found
+        ∙ graph_has_block start.nodes.entries layout.start_ip image.ip sound (prelude_block image layout start.nodes.entries) refl refl translation.blocks translation.blocks_are at

@@ -114,18 +114,6 @@ sets_first [] known = true
 sets_first (Set to e ∷ rest) known = list_all known (reads_of e) && sets_first rest (λ l. known l || same_location l to)
 sets_first (stmt ∷ rest) known = false
 
-pub sets_both : (xs ys : List Stmt) (known : Loc → Bool) → sets_first xs known ≡ true → sets_first ys (known_after xs known) ≡ true → sets_first (xs ++ ys) known ≡ true
-sets_both [] ys known s t = t
-sets_both (Set to e ∷ xs) ys known s t =
-    and_both (list_all known (reads_of e)) (sets_first (xs ++ ys) (λ l. known l || same_location l to))
-    (and_left (list_all known (reads_of e)) (sets_first xs (λ l. known l || same_location l to)) s)
-    (sets_both xs ys (λ l. known l || same_location l to) (and_right (list_all known (reads_of e)) (sets_first xs (λ l. known l || same_location l to)) s) t)
-sets_both (Fetch to width address ∷ xs) ys known s t = absurd (true≢false (sym s))
-sets_both (Store width address e ∷ xs) ys known s t = absurd (true≢false (sym s))
-sets_both (Div to e ∷ xs) ys known s t = absurd (true≢false (sym s))
-sets_both (Call results entry arguments depth ∷ xs) ys known s t = absurd (true≢false (sym s))
-sets_both (Dos n place argument ∷ xs) ys known s t = absurd (true≢false (sym s))
-
 pub known_stays : (xs : List Stmt) (known : Loc → Bool) (l : Loc) → known l ≡ true → known_after xs known l ≡ true
 known_stays [] known l e = e
 known_stays (Set to e ∷ xs) known l t = known_stays xs (λ x. known x || same_location x to) l (or_here (known l) (same_location l to) t)

@@ -2,7 +2,7 @@
 -- nor writes memory, and it neither divides nor writes strings. Each statement sets a location or is a DOS call that
 -- writes a byte, takes a key into a half, or ends the run. Each block goes on, parts by a test, or stops. Few of the
 -- statements are on flags.
-use Rattle.std.specs.Prelude.{◌≡◌, ◌≤◌, ℕ, ◌==◌, Bool, true, false, ◌&&◌, ◌||◌, not, List, [], ◌∷◌, Option, Some, None, flat_map, count_by}
+use Rattle.std.specs.Prelude.{◌≡◌, ◌≤◌, ℕ, ◌==◌, Bool, true, false, ◌&&◌, ◌||◌, not, List, Option, Some, None, flat_map, count_by}
 use Rattle.std.specs.List.{list_any, list_all}
 use Rattle.dcc_num.specs.declared.Reg.{Reg}
 use Rattle.dcc_num.specs.declared.Reg.TheVariants.{Sp, Bp}

@@ -1,6 +1,5 @@
 -- What the code keeps of the edges to an offset.
 use Rattle.std.specs.Prelude.{◌≡◌, ℕ, List, [], ◌∷◌, length, get_or}
-use Rattle.dcc_prog.specs.declared.procedure.Node.{Node}
 use Rattle.dcc_lift.specs.Blocks.{Nodes, edges_into}
 use Rattle.dcc_lift.specs.declared.edges.Incoming.{Incoming}
 use Rattle.dcc_lift.specs.declared.edges.Incoming.TheVariants.{Nowhere, From, Several}

@@ -1,24 +1,22 @@
 -- What the lifted program is to the executable.
-use Rattle.std.specs.Prelude.{◌≡◌, ◌≢◌, ◌≤◌, ◌<◌, ℕ, ◌+◌, ◌*◌, ◌==◌, Bool, true, ◌&&◌, ◌||◌, List, [], ◌∷◌, All, Option, Some, option_map}
+use Rattle.std.specs.Prelude.{◌≡◌, ◌≤◌, ◌<◌, ℕ, ◌+◌, ◌==◌, true, ◌&&◌, ◌||◌, List, [], ◌∷◌, All}
 use Rattle.std.specs.List.{list_any}
-use Rattle.dcc_run.specs.End.{Stuck}
-use Rattle.dcc_run.specs.System.{end_after}
-use Rattle.dcc_run.specs.Visits.{VisitsKept}
-use Rattle.dcc_run.specs.Follows.{Follows}
+use Rattle.dcc_run.specs.Shadows.{Shadows, KeepsPace, only}
 use Rattle.dcc_prog.specs.declared.image.Image.{Image}
 use Rattle.dcc_prog.specs.declared.procedure.Node.{Node}
 use Rattle.dcc_prog.specs.declared.procedure.Proc.{Proc}
 use Rattle.dcc_prog.specs.declared.procedure.Layout.{Layout}
 use Rattle.dcc_prog.specs.declared.instr.Op.TheVariants.{Call}
-use Rattle.dcc_prog.specs.Machine.{State as Machine, start_state}
 use Rattle.dcc_prog.specs.Trail.{next_of}
-use Rattle.dcc_prog.specs.Step.{machine_system}
+use Rattle.dcc_prog.specs.Watch.{watched_machine, first_watch}
 use Rattle.dcc_ir.specs.Tree.{Graph, Program}
 use Rattle.dcc_ir.specs.Use.{graph_exprs}
 use Rattle.dcc_ir.specs.Measure.{depth_of}
 use Rattle.dcc_ir.specs.WellFormed.{IsProgram}
-use Rattle.dcc_ir.specs.Run.{State as Inner, Place, inner_system, first_state, block_mark}
-use Rattle.dcc_ir.specs.Flow.{Flow, flow_of, flow_at, IsContraction, HaveOneEdge}
+use Rattle.dcc_ir.specs.Run.{watched_inner, first_state}
+use Rattle.dcc_ir.specs.Flow.{Flow, flow_at, IsContraction, HaveOneEdge}
+use Rattle.dcc_ir.specs.Keeps.{has_block}
+use Rattle.dcc_ir.specs.Ends.{IsNeverStuck}
 use Rattle.dcc_lift.specs.Temporaries.{temporary_bits}
 use Rattle.dcc_lift.specs.Demand.{WantsTheSame}
 use Rattle.dcc_lift.specs.Form.{HasForm, HasFewFlagStmts}
@@ -26,42 +24,30 @@ use Rattle.dcc_lift.specs.Translation.{data_image}
 
 -- Runs.
 
--- the offset of the instruction that is about to be executed
-abbrev pub instruction_mark : Machine → Option ℕ
-instruction_mark s = Some s.ip
-
--- the offset of the block that is about to begin
-abbrev pub offset_mark : Inner → Option ℕ
-offset_mark t = option_map (λ (place : Place). place.at) (block_mark t)
-
--- a block of the program begins at the offset
-abbrev pub has_block_at : Program → ℕ → Bool
-has_block_at p at = list_any (λ graph. (flow_of graph).has at) p.graphs
-
--- For every fill and input the program's run comes to its blocks as the machine comes to their offsets, in the same
--- order and with the same output, and it ends as the machine does.
-abbrev pub RunsAsMachine : Image → Program → Type 0
-RunsAsMachine image p =
+-- For every fill and input the program's run shadows the machine's: for each clean number of the machine's steps there
+-- is a number of the program's, in which it has come to just those of its blocks at whose places the machine stood, in
+-- their order and with equal events, and has ended alike where the machine has; and wherever it begins a block or ends
+-- from then on, its events begin with the machine's.
+abbrev pub ShadowsMachine : Image → Layout → Program → Type 0
+ShadowsMachine image layout p =
     (fill : ℕ) (input : List ℕ) → fill < 65536 → All (λ byte. byte < 256) input
-    → VisitsKept (has_block_at p)
-    machine_system instruction_mark (start_state image input)
-    (inner_system p fill) offset_mark (first_state p fill input)
+    → Shadows (only (has_block p) (watched_machine layout)) (first_watch image input)
+    (watched_inner p fill) (first_state p fill input)
 
--- For every fill and input, the machine has put out what the program has after m of its steps within (m + 1) * 65536
--- steps, and has ended alike where the program has.
-abbrev pub MachineFollows : Image → Program → Type 0
-MachineFollows image p =
-    (fill : ℕ) (input : List ℕ) → fill < 65536 → All (λ byte. byte < 256) input
-    → Follows (λ m. Unit {0})
-    (inner_system p fill) (first_state p fill input)
-    machine_system (start_state image input)
-    (λ m. (m + 1) * 65536)
+-- Between two places of blocks the machine runs no instruction of a procedure twice, and passes at most one call or
+-- return; a procedure has at most 4,096 instructions. So these are the most steps from the one place to the next.
+abbrev pub steps_between : ℕ
+steps_between = 8192
 
--- no run of the program comes to a Switch that has no block for its value, to a Stop, or to a Ret of the first graph
-abbrev pub IsNeverStuck : Program → Type 0
-IsNeverStuck p =
-    (fill : ℕ) (input : List ℕ) (n entry : ℕ) → fill < 65536 → All (λ byte. byte < 256) input
-    → end_after (inner_system p fill) n (first_state p fill input) ≢ Stuck entry
+-- At the start the instructions of the prelude come first, at most 65,535.
+abbrev pub steps_at_start : ℕ
+steps_at_start = 65535 + steps_between
+
+-- for every input the machine comes to places of blocks, to its end or to where it is foul, within such numbers of steps
+abbrev pub MachineKeepsPace : Image → Layout → Program → Type 0
+MachineKeepsPace image layout p =
+    (input : List ℕ) → All (λ byte. byte < 256) input
+    → KeepsPace (only (has_block p) (watched_machine layout)) (first_watch image input) steps_at_start steps_between
 
 -- Blocks.
 
@@ -124,8 +110,8 @@ pub record IsLifted (image : Image) (layout : Layout) (start : Proc) (p : Progra
   pub form : All HasForm p.graphs
   pub flags : All (HasFewFlagStmts start) p.graphs
   pub shallow : All (IsShallow 7) p.graphs
-  pub runs : RunsAsMachine image p
-  pub pace : MachineFollows image p
+  pub runs : ShadowsMachine image layout p
+  pub pace : MachineKeepsPace image layout p
   pub never_stuck : IsNeverStuck p
   pub blocks : HasBlocks image start p
   pub wanted : All (WantsTheSame image layout) p.graphs

@@ -1,4 +1,4 @@
-use Rattle.std.proofs.Common.{◌≡◌, ◌<◌, ◌++◌, length, get_or, ap, ◌∙◌, rules, arith}
+use Rattle.std.proofs.Common.{◌<◌, ◌++◌, length, ap, ◌∙◌, rules}
 use Rattle.std.proofs.lemmas.List.{length-set, take_all}
 use Rattle.dcc_lift.specs.Incoming.{incoming_of}
 use Rattle.dcc_lift.proofs.IncomingLaws.{noted, noted-step}
