@@ -10,8 +10,7 @@ use Rattle.dcc_ir.specs.Fitting.{AreBytes, StateFits}
 use Rattle.dcc_ir.specs.Ends.{IsNeverStuck, HasNoSwitch, HasSoundEnds, SwitchesHavePlaces}
 use Rattle.dcc_ir.specs.Run.{State, execute, is_call, block_step, reached, watched_inner}
 use Rattle.dcc_ir.specs.Flow.{Flow, Reached, Leads, HaveOneEdge}
-use Rattle.dcc_ir.specs.Keeps.{Keeps}
-use Rattle.dcc_ir.specs.Passes.{KeepsRuns}
+use Rattle.dcc_ir.specs.Keeps.{KeepsRuns, Keeps}
 use Rattle.dcc_ir.specs.Trimmed.{Trim, trimmed, IsTrimmable}
 
 -- a state that has ended stays, no step takes events back, and no step is foul

@@ -2,15 +2,13 @@
 -- locations hold, may change.
 use Rattle.std.specs.Prelude.{◌≡◌, ℕ, zero, suc, ◌^◌, ◌<◌, ◌==◌, false, List, [], ◌∷◌, map, take, slice_get, Some, All}
 use Rattle.dcc_run.specs.End.{is_over}
-use Rattle.dcc_run.specs.Visits.{VisitsKept}
 use Rattle.dcc_ir.specs.declared.syntax.Loc.{Loc}
 use Rattle.dcc_ir.specs.Tree.{Block, Graph, Program}
 use Rattle.dcc_ir.specs.Location.{location_width, Values, with_value, filled}
-use Rattle.dcc_ir.specs.Run.{Activation, State, activation, entering, passing, graph_at, inner_system, first_state, block_mark}
+use Rattle.dcc_ir.specs.Run.{Activation, State, activation, entering, passing, graph_at}
 use Rattle.dcc_ir.specs.WellFormed.{put_width, IsProgram}
-use Rattle.dcc_ir.specs.Fitting.{AreBytes, StateFits}
+use Rattle.dcc_ir.specs.Fitting.{StateFits}
 use Rattle.dcc_ir.specs.Flow.{Flow, flow_at}
-use Rattle.dcc_ir.specs.Keeps.{has_block}
 use Rattle.dcc_ir.specs.Local.{Point, start_of, next_of, after_calls, Request, Halt, Over, Calls, Jumps, Returns, halt_of}
 
 -- The data of a pass. Graphs are named by their entries, arguments and values given back are lists in their order.
@@ -133,8 +131,8 @@ pub record BlocksStay (before after : Graph) (place : ℕ → ℕ) : Type 0 wher
   pub stays : (n : ℕ) (new : Block) → slice_get after.blocks n ≡ Some new
       → (old : Block) × (slice_get before.blocks (place n) ≡ Some old) × (old.at ≡ new.at)
 
--- The graphs with that entry begin alike: their params take arguments that may enter them, the other locations hold the
--- fill.
+-- The graphs with that entry begin alike: their params take arguments that may enter them, and their other locations
+-- hold the fill.
 pub record BeginAlike (pass : Pass) (entry : ℕ) (arguments : List ℕ) (s t : State) : Type 0 where
   pub memory : t.memory ≡ s.memory
   pub holds : pass.Inv arguments (start_of entry) s.running.values t.running.values
@@ -170,9 +168,3 @@ pub record IsPass (p q : Program) (pass : Pass) : Type 0 where
   pub go : OwesGo p q pass
   -- the first graph has no params
   pub start : All (λ g. pass.Enter g.entry [] []) (take 1 p.graphs)
-
--- For every fill and input the runs of the second program visit its blocks as those of the first one do, and end alike.
-abbrev pub KeepsRuns : Program → Program → Type 0
-KeepsRuns p q = (fill : ℕ) (input : List ℕ) → fill < 65536 → AreBytes input →
-    VisitsKept (has_block q) (inner_system p fill) block_mark (first_state p fill input)
-    (inner_system q fill) block_mark (first_state q fill input)

@@ -41,7 +41,8 @@ abbrev pub trim_block : Trim → ℕ → Block → Block
 trim_block trim entry b = record b { stmts = map (trim_stmt trim) b.stmts; exit = trim_exit trim entry b.exit }
 
 abbrev pub trim_graph : Trim → Graph → Graph
-trim_graph trim g = record g { params = kept (trim.takes g.entry) g.params; blocks = map (trim_block trim g.entry) g.blocks }
+trim_graph trim g =
+    record g { params = kept (trim.takes g.entry) g.params; blocks = map (trim_block trim g.entry) g.blocks }
 
 -- the program in which all graphs and calls are trimmed
 abbrev pub trimmed : Trim → Program → Program

@@ -1,7 +1,8 @@
 //! Laws of the inner language's definitions. Each function only states a law by its contract, and does nothing.
 
 ghost use Rattle.dcc_ir.specs.Tree.{Program};
-ghost use Rattle.dcc_ir.specs.Passes.{Pass, IsPass, KeepsRuns};
+ghost use Rattle.dcc_ir.specs.Passes.{Pass, IsPass};
+ghost use Rattle.dcc_ir.specs.Keeps.{KeepsRuns};
 ghost use Rattle.dcc_ir.specs.Laws.{RunsAreWatchable, StatementsAreExecuted, ProgramsKeepThemselves, KeepsComposes};
 ghost use Rattle.dcc_ir.specs.Laws.{OneEdgeLiesAfterOne, ValuesFit, StatesFit, RunsAreNeverStuck, NoSwitchHasPlaces};
 ghost use Rattle.dcc_ir.specs.Laws.{ProgramsKeepTheirRuns, UnreadMayGo};

@@ -19,9 +19,9 @@ use Rattle.dcc_ir.specs.Location.{location_width, filled}
 use Rattle.dcc_ir.specs.WellFormed.{put_width, all_ret_widths, IsProgram}
 use Rattle.dcc_ir.specs.Run.{State, Waiting, Activation, activation, no_block, entering, going_to, passing, callee_base, calling, graph_at, giving, returning, step, no_graph, first_memory, first_state, block_mark, watched_inner}
 use Rattle.dcc_ir.specs.Flow.{flow_at, graph_or_none}
-use Rattle.dcc_ir.specs.Keeps.{has_block}
+use Rattle.dcc_ir.specs.Keeps.{has_block, KeepsRuns}
 use Rattle.dcc_ir.specs.Local.{Point, next_of, Request, Halt, Over, Calls, Jumps, Returns, after_call, after_calls, halt_of, led_to}
-use Rattle.dcc_ir.specs.Passes.{Pass, point_before, with_values, FitIn, param_widths, IsAt, AgreeOutside, CallAlike, Meet, GoesOn, IsPass, KeepsRuns}
+use Rattle.dcc_ir.specs.Passes.{Pass, point_before, with_values, FitIn, param_widths, IsAt, AgreeOutside, CallAlike, Meet, GoesOn, IsPass}
 use Rattle.dcc_ir.proofs.RunLaws.{inner_watchable}
 use Rattle.dcc_ir.proofs.GraphLaws.{any_at, found_entry}
 use Rattle.dcc_ir.proofs.PassLaws.{passing_nothing}

@@ -18,7 +18,8 @@ use Rattle.dcc_ir.specs.WellFormed.{is_memory, put_width, IsProgram}
 use Rattle.dcc_ir.specs.Flow.{graph_or_none}
 use Rattle.dcc_ir.specs.Run.{State, Activation, putting, passing, stmt_step, value_in, graph_at}
 use Rattle.dcc_ir.specs.Local.{Point, Over, Jumps, after_call, after_calls, switch_halt, exit_halt, local_run, halt_of}
-use Rattle.dcc_ir.specs.Passes.{Pass, with_values, FitIn, param_widths, Meet, BlocksStay, BeginAlike, OwesBegin, OwesGo, KeepsRuns}
+use Rattle.dcc_ir.specs.Keeps.{KeepsRuns}
+use Rattle.dcc_ir.specs.Passes.{Pass, with_values, FitIn, param_widths, Meet, BlocksStay, BeginAlike, OwesBegin, OwesGo}
 use Rattle.dcc_ir.specs.Trimmed.{Trim, nothing_trimmed, kept, dropped, trim_stmt, trim_exit, trim_block, trim_graph, trimmed, reads_in, IsUnread, GivesRead, IsTrimmable, trimming}
 use Rattle.dcc_ir.proofs.GraphLaws.{found_entry}
 use Rattle.dcc_ir.proofs.ReachedLaws.{contained, found_contained}
