@@ -1,0 +1,7 @@
+pub mod Edges
+pub mod Order
+pub mod Bits
+pub mod Words
+pub mod Uses
+pub mod Work
+pub use Rattle.dcc_ir.specs.WellFormed

@@ -1,0 +1,93 @@
+//! Lists of truth values in words of 64 bits.
+
+ghost use Rattle.std.specs.Prelude.{◌≡◌, ◌+◌, ◌<◌, true, false, length, replicate, slice_set, IfOk};
+ghost use Rattle.dcc_flow.specs.Bits.{words_for, bit, flowed, differ};
+
+use crate::steps::Steps;
+use std::alloc::{AllocError, Global};
+use std::marker::Model;
+use std::sync::ledger::Ledger;
+
+/// A list of truth values.
+#[derive(Drop)]
+pub struct Bits {
+    words: Vec<u64>,
+    len: usize,
+}
+
+impl Model for Bits {
+    ghost use Rattle.std.specs.Prelude.{List, Bool};
+    ghost use Rattle.dcc_flow.specs.Words.{bits_in, AreWords};
+
+    ghost Value = { List Bool };
+
+    ghost view = { λ b. bits_in b.words.items b.len };
+
+    ghost invariant = { λ b. AreWords b.words.items b.len };
+}
+
+impl Bits {
+    /// So many values, all false.
+    pub fn new(alloc: Global, len: usize) -> Result<Bits, AllocError>
+        ensures { IfOk result (λ bits. bits ≡ replicate len false) }
+    {
+        let words = vec![in alloc; 0; len.div_ceil(64)]?;
+        Ok(Bits { words, len })
+    }
+
+    /// The same values.
+    pub(crate) fn copy(&self) -> Result<Bits, AllocError>
+        ensures { IfOk result (λ bits. bits ≡ self.now) }
+    {
+        let words = self.words.clone()?;
+        Ok(Bits {
+            words,
+            len: self.len,
+        })
+    }
+
+    /// The value at a place.
+    pub fn get(&self, i: usize) -> bool
+        requires { i < length self.now }
+        ensures { result ≡ bit self.now i }
+    {
+        self.words[i / 64] >> (i % 64) & 1 == 1
+    }
+
+    /// The place takes true.
+    pub fn set<L: Ledger>(&mut self, i: usize, steps: &mut Steps<L>)
+        requires { i < length self.old }
+        ensures bits { self.new ≡ slice_set self.old i true }
+        ensures steps { steps.new ≡ steps.old + 1 }
+    {
+        self.words[i / 64] |= 1 << (i % 64);
+        steps.tick();
+    }
+
+    /// Each place takes true where `used` has it, or `out` has it and `written` does not. The answer is whether a place
+    /// changed.
+    pub fn flow<L: Ledger>(
+        &mut self,
+        used: &Bits,
+        out: &Bits,
+        written: &Bits,
+        steps: &mut Steps<L>,
+    ) -> bool
+        requires used { length used.now ≡ length self.old }
+        requires out { length out.now ≡ length self.old }
+        requires written { length written.now ≡ length self.old }
+        ensures bits { self.new ≡ flowed self.old used.now out.now written.now }
+        ensures changed { result ≡ differ self.old self.new }
+        ensures steps { steps.new ≡ steps.old + words_for (length self.old) }
+    {
+        let mut changed = false;
+        for k in 0..self.words.len() {
+            let old = self.words[k];
+            let new = old | used.words[k] | out.words[k] & !written.words[k];
+            changed = changed || new != old;
+            self.words[k] = new;
+            steps.tick();
+        }
+        changed
+    }
+}

@@ -1,0 +1,93 @@
+//! Which places are used after each block.
+
+ghost use Rattle.std.specs.Prelude.{◌≡◌, ◌≤◌, ◌<◌, ◌+◌, ◌*◌, [], length, get_or, All, IfOk, OnOk};
+ghost use Rattle.dcc_flow.specs.Edges.{rows, AreWithin, entries};
+ghost use Rattle.dcc_flow.specs.Bits.{words_for};
+ghost use Rattle.dcc_flow.specs.Uses.{AreLists, AreUses};
+ghost use Rattle.dcc_flow.specs.Work.{work_of, spread, without_queued};
+
+use crate::bits::Bits;
+use crate::edges::sources;
+use crate::steps::Steps;
+use std::alloc::{AllocError, Global};
+use std::sync::ledger::Ledger;
+
+/// The answers so far, and the blocks whose answer has to flow on.
+#[derive(Drop)]
+pub struct Work {
+    /// Which places are known to be used after each block.
+    pub answer: Vec<Bits>,
+    /// The blocks whose answer has to flow on, the newest last.
+    pub pending: Vec<usize>,
+    /// Whether a block is one of these.
+    pub queued: Vec<bool>,
+}
+
+impl Work {
+    // All answers are empty, and each has to flow on.
+    fn new(alloc: Global, count: usize, len: usize) -> Result<Work, AllocError> {
+        let mut answer = Vec::new(alloc);
+        let mut pending = Vec::new(alloc);
+        for block in 0..count {
+            answer.push(Bits::new(alloc, len)?)?;
+            pending.push(block)?;
+        }
+        Ok(Work {
+            answer,
+            pending,
+            queued: vec![in alloc; true; count]?,
+        })
+    }
+
+    // The block has to flow on, if it does not have to already.
+    fn queue(&mut self, block: usize) -> Result<(), AllocError> {
+        if !self.queued[block] {
+            self.queued[block] = true;
+            self.pending.push(block)?;
+        }
+        Ok(())
+    }
+
+    // What a block uses, and what comes out of it, flows to each block before it.
+    fn spread<L: Ledger>(
+        &mut self,
+        block: usize,
+        sources: &[usize],
+        used: &Bits,
+        written: &Bits,
+        steps: &mut Steps<L>,
+    ) -> Result<(), AllocError> {
+        let out = self.answer[block].copy()?;
+        self.queued[block] = false;
+        for source in sources {
+            if self.answer[*source].flow(used, &out, written, steps) {
+                self.queue(*source)?;
+            }
+        }
+        Ok(())
+    }
+}
+
+/// For each block the places that are used after it before they are written, where these blocks follow each block and
+/// it uses and writes these places.
+pub fn solve<L: Ledger>(
+    alloc: Global,
+    next: &Vec<Vec<u32>>,
+    used: &Vec<Bits>,
+    written: &Vec<Bits>,
+    len: usize,
+    steps: &mut Steps<L>,
+) -> Result<Vec<Bits>, AllocError>
+    requires next { AreWithin (rows next.now.items) }
+    requires used { AreLists (length next.now.items) len used.now.items }
+    requires written { AreLists (length next.now.items) len written.now.items }
+    ensures exact { IfOk result (AreUses (rows next.now.items) used.now.items written.now.items len) }
+    ensures cost { steps.new ≤ steps.old + entries (rows next.now.items) * (len + 1) * words_for len }
+{
+    let sources = sources(alloc, next)?;
+    let mut work = Work::new(alloc, next.len(), len)?;
+    while let Some(block) = work.pending.pop() {
+        work.spread(block, &sources[block], &used[block], &written[block], steps)?;
+    }
+    Ok(work.answer)
+}
