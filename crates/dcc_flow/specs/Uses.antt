@@ -18,7 +18,7 @@ pub record IsUsedAfter (next : List (List ℕ)) (used written : List (List Bool)
   pub between : List ℕ
   pub user : ℕ
   pub path : IsPath (leads next) (λ b. holds written b place ≡ false) block between user
-  pub used : holds used user place ≡ true
+  pub read : holds used user place ≡ true
 
 -- the lists hold, for each block, exactly the places that are used after it
 pub record AreUses (next : List (List ℕ)) (used written : List (List Bool)) (len : ℕ) (answer : List (List Bool)) : Type 0 where

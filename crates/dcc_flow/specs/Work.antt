@@ -1,6 +1,7 @@
 -- The work that is left while places flow from block to block. No public contract rests on it.
-use Rattle.std.specs.Prelude.{ℕ, Bool, true, false, if◌then◌else◌, List, [], ◌∷◌, ◌++◌, get_or, slice_set}
-use Rattle.dcc_flow.specs.declared.solve.Work.{Work as WorkOf}
+use Rattle.std.specs.Prelude.{ℕ, Bool, true, false, if◌then◌else◌, List, [], ◌∷◌, ◌++◌, get_or, slice_set, replicate}
+use Rattle.std.specs.List.{range_with_len}
+use Rattle.dcc_flow.specs.declared.uses.Work.{Work as WorkOf}
 use Rattle.dcc_flow.specs.Bits.{flowed, differ}
 
 -- the answers so far, the blocks whose answer has to flow on, and whether a block is one of these
@@ -35,3 +36,16 @@ spread used out written work (block ∷ blocks) =
 -- the block's answer flows now
 abbrev pub without_queued : Work → ℕ → Work
 without_queued work block = record work { queued = slice_set work.queued block false }
+
+-- the block's answer flows to each of these blocks
+abbrev pub spread_from : Work → ℕ → List Bool → List Bool → List ℕ → Work
+spread_from work block used written sources =
+    spread used (get_or work.answer block []) written (without_queued work block) sources
+
+-- no place is known to be used, and each block's answer has to flow on
+abbrev pub first_work : ℕ → ℕ → Work
+first_work count len = record {
+  answer = replicate count (replicate len false);
+  pending = range_with_len 0 count;
+  queued = replicate count true;
+}

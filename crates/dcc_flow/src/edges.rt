@@ -1,10 +1,11 @@
 //! The edges of a graph, forwards and backwards.
 
-ghost use Rattle.std.specs.Prelude.{◌≡◌, ◌≤◌, ◌<◌, ◌^◌, length, map, All, IfOk, OnOk};
+ghost use Rattle.std.specs.Prelude.{◌≡◌, ◌≤◌, ◌<◌, ◌^◌, [], length, replicate, All, IfOk, OnOk};
 ghost use Rattle.dcc_ir.specs.Views.{exit_of, graph_of};
 ghost use Rattle.dcc_ir.specs.Flow.{targets};
 ghost use Rattle.dcc_ir.specs.WellFormed.{IsGraph};
 ghost use Rattle.dcc_flow.specs.Edges.{rows, successors_of, AreWithin, entries, ArePredecessors};
+ghost use Rattle.dcc_flow.specs.Sources.{added, entered};
 
 use dcc_ir::{End, Graph};
 use std::alloc::{AllocError, Global};
@@ -33,11 +34,36 @@ pub fn successors(alloc: Global, g: &Graph) -> Result<Vec<Vec<u32>>, AllocError>
 }
 
 // Puts a block at the end of a list, unless it stands there.
-fn add(list: &mut Vec<usize>, block: usize) -> Result<(), AllocError> {
-    if list.last() != Some(&block) {
-        list.push(block)?;
+fn add(list: &mut Vec<usize>, block: usize) -> Result<(), AllocError>
+    ensures { OnOk result (list.new.items ≡ added list.old.items block) }
+{
+    match list.last() {
+        Some(last) if *last == block => {}
+        _ => list.push(block)?,
     }
     Ok(())
+}
+
+// Notes the edges from a block to these.
+fn enter(sources: &mut Vec<Vec<usize>>, from: usize, tos: &[u32]) -> Result<(), AllocError>
+    requires { All (λ to. to < length sources.old.items) tos.now }
+    ensures { OnOk result (rows sources.new.items ≡ entered (rows sources.old.items) from tos.now) }
+{
+    for to in tos {
+        add(&mut sources[*to as usize], from)?;
+    }
+    Ok(())
+}
+
+// So many empty lists.
+fn no_sources(alloc: Global, count: usize) -> Result<Vec<Vec<usize>>, AllocError>
+    ensures { IfOk result (λ lists. rows lists.items ≡ replicate count []) }
+{
+    let mut lists = Vec::new(alloc);
+    for _ in 0..count {
+        lists.push(Vec::new(alloc))?;
+    }
+    Ok(lists)
 }
 
 /// For each block the blocks with an edge to it, each once, in ascending order.
@@ -46,14 +72,9 @@ pub(crate) fn sources(alloc: Global, next: &Vec<Vec<u32>>) -> Result<Vec<Vec<usi
     ensures sources { IfOk result (λ sources. ArePredecessors (rows next.now.items) (rows sources.items)) }
     ensures few { IfOk result (λ sources. entries (rows sources.items) ≤ entries (rows next.now.items)) }
 {
-    let mut sources = Vec::new(alloc);
-    for _ in 0..next.len() {
-        sources.push(Vec::new(alloc))?;
-    }
+    let mut sources = no_sources(alloc, next.len())?;
     for from in 0..next.len() {
-        for to in &next[from] {
-            add(&mut sources[*to as usize], from)?;
-        }
+        enter(&mut sources, from, next[from].as_slice())?;
     }
     Ok(sources)
 }

@@ -7,14 +7,14 @@
 mod bits;
 mod edges;
 pub mod laws;
-mod order;
-mod solve;
+mod search;
 mod steps;
 #[cfg(test)]
 mod tests;
+mod uses;
 
 pub use bits::Bits;
 pub use edges::{preds, successors};
-pub use order::order;
-pub use solve::solve;
+pub use search::order;
 pub use steps::Steps;
+pub use uses::solve;

@@ -1,6 +1,6 @@
 //! Each public function on its happy path.
 
-use crate::{order, preds, solve, successors, Bits, Steps};
+use crate::{Bits, Steps, order, preds, solve, successors};
 use dcc_ir::{Block, End, Expr, Graph};
 use std::alloc::{AllocError, Global};
 use std::marker::Brand;

@@ -1,10 +1,10 @@
 //! Which places are used after each block.
 
-ghost use Rattle.std.specs.Prelude.{◌≡◌, ◌≤◌, ◌<◌, ◌+◌, ◌*◌, [], length, get_or, All, IfOk, OnOk};
+ghost use Rattle.std.specs.Prelude.{◌≡◌, ◌≤◌, ◌<◌, ◌+◌, ◌*◌, length, All, IfOk, OnOk};
 ghost use Rattle.dcc_flow.specs.Edges.{rows, AreWithin, entries};
 ghost use Rattle.dcc_flow.specs.Bits.{words_for};
 ghost use Rattle.dcc_flow.specs.Uses.{AreLists, AreUses};
-ghost use Rattle.dcc_flow.specs.Work.{work_of, spread, without_queued};
+ghost use Rattle.dcc_flow.specs.Work.{work_of, first_work, with_queued, spread_from};
 
 use crate::bits::Bits;
 use crate::edges::sources;
@@ -25,7 +25,9 @@ pub struct Work {
 
 impl Work {
     // All answers are empty, and each has to flow on.
-    fn new(alloc: Global, count: usize, len: usize) -> Result<Work, AllocError> {
+    fn new(alloc: Global, count: usize, len: usize) -> Result<Work, AllocError>
+        ensures { IfOk result (λ work. work_of work ≡ first_work count len) }
+    {
         let mut answer = Vec::new(alloc);
         let mut pending = Vec::new(alloc);
         for block in 0..count {
@@ -40,7 +42,10 @@ impl Work {
     }
 
     // The block has to flow on, if it does not have to already.
-    fn queue(&mut self, block: usize) -> Result<(), AllocError> {
+    fn queue(&mut self, block: usize) -> Result<(), AllocError>
+        requires { block < length self.old.queued.items }
+        ensures { OnOk result (work_of self.new ≡ with_queued (work_of self.old) block) }
+    {
         if !self.queued[block] {
             self.queued[block] = true;
             self.pending.push(block)?;
@@ -56,7 +61,15 @@ impl Work {
         used: &Bits,
         written: &Bits,
         steps: &mut Steps<L>,
-    ) -> Result<(), AllocError> {
+    ) -> Result<(), AllocError>
+        requires block { block < length self.old.answer.items }
+        requires sources { All (λ source. source < length self.old.answer.items) sources.now }
+        requires queued { length self.old.queued.items ≡ length self.old.answer.items }
+        requires lists { All (λ bits. length bits ≡ length used.now) self.old.answer.items }
+        requires written { length written.now ≡ length used.now }
+        ensures work { OnOk result (work_of self.new ≡ spread_from (work_of self.old) block used.now written.now sources.now) }
+        ensures cost { steps.new ≤ steps.old + length sources.now * words_for (length used.now) }
+    {
         let out = self.answer[block].copy()?;
         self.queued[block] = false;
         for source in sources {
