@@ -1,7 +1,8 @@
 //! Lists of truth values in words of 64 bits.
 
-ghost use Rattle.std.specs.Prelude.{◌≡◌, ◌+◌, ◌<◌, true, false, length, replicate, slice_set, IfOk};
+ghost use Rattle.std.specs.Prelude.{◌≡◌, ◌≢◌, ◌+◌, ◌<◌, true, false, length, replicate, slice_set, IfOk, MatchBool};
 ghost use Rattle.dcc_flow.specs.Bits.{words_for, bit, flowed, differ};
+ghost use Rattle.dcc_flow.specs.Words.{flowed_words};
 
 use crate::steps::Steps;
 use std::alloc::{AllocError, Global};
@@ -24,6 +25,32 @@ impl Model for Bits {
     ghost view = { λ b. bits_in b.words.items b.len };
 
     ghost invariant = { λ b. AreWords b.words.items b.len };
+}
+
+// The same on words. The answer is whether a word changed.
+fn flow_words<L: Ledger>(
+    words: &mut [u64],
+    used: &[u64],
+    out: &[u64],
+    written: &[u64],
+    steps: &mut Steps<L>,
+) -> bool
+    requires used { length used.now ≡ length words.old }
+    requires out { length out.now ≡ length words.old }
+    requires written { length written.now ≡ length words.old }
+    ensures words { words.new ≡ flowed_words words.old used.now out.now written.now }
+    ensures changed { MatchBool result (words.new ≢ words.old) (words.new ≡ words.old) }
+    ensures steps { steps.new ≡ steps.old + length words.old }
+{
+    let mut changed = false;
+    for k in 0..words.len() {
+        let word = words[k];
+        let flowed = word | used[k] | out[k] & !written[k];
+        changed |= flowed != word;
+        words[k] = flowed;
+        steps.tick();
+    }
+    changed
 }
 
 impl Bits {
@@ -80,14 +107,12 @@ impl Bits {
         ensures changed { result ≡ differ self.old self.new }
         ensures steps { steps.new ≡ steps.old + words_for (length self.old) }
     {
-        let mut changed = false;
-        for k in 0..self.words.len() {
-            let old = self.words[k];
-            let new = old | used.words[k] | out.words[k] & !written.words[k];
-            changed = changed || new != old;
-            self.words[k] = new;
-            steps.tick();
-        }
-        changed
+        flow_words(
+            self.words.as_mut_slice(),
+            used.words.as_slice(),
+            out.words.as_slice(),
+            written.words.as_slice(),
+            steps,
+        )
     }
 }

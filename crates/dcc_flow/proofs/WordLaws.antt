@@ -1,0 +1,327 @@
+-- Laws of words of bits.
+use Rattle.std.proofs.Common.{◌≡◌, ◌≢◌, ℕ, zero, suc, ◌+◌, ◌-◌, ◌*◌, ◌/◌, ◌%◌, ◌^◌, ◌<◌, ◌≤◌, min, max, Bool, true, false, ◌&&◌, ◌||◌, not, ◌⊎◌, inl, inr, MatchBool, List, [], ◌∷◌, length, get_or, map, replicate, slice_set, All, refl, sym, ap, ◌∙◌, subst, arith, w64, bit_and, bit_or}
+use Rattle.std.specs.Prelude.{◌==◌}
+use Rattle.std.specs.Int.{bit_at, bit_not}
+use Rattle.std.specs.List.{range_with_len}
+use Rattle.std.proofs.lemmas.Bool.{false≢true, cases_Bool, cases_eq, cases_lt, eqb-true, eq-eqb, or_parts, or_from, not-false}
+use Rattle.std.proofs.lemmas.List.{ext_get_or, length-set, length-map, length-replicate, get_or-replicate, get_or-set_same, get_or-set_other, set-get_or, get_or_past}
+use Rattle.std.proofs.lemmas.List.Elements.{All-set, All-replicate, All-get_or, All-from_get_or}
+use Rattle.std.proofs.lemmas.List.FromFn.{length-range_with_len, length-map-range_with_len, get_or-map-range_with_len, fill_by_all}
+use Rattle.std.proofs.lemmas.Nat.{or_lt, and_le_l}
+use Rattle.std.proofs.lemmas.Nat.Bits.{bit_at-zero, bit_at_and, bit_at_or, bit_at_not, bit_at-lt, bit_at_set_same, bit_at_set_other, same_from_bits_below}
+use Rattle.dcc_flow.specs.Bits.{words_for, bit, flowed, is_other, differ}
+use Rattle.dcc_flow.specs.Words.{bit_in, bits_in, AreWords, flowed_word, flowed_words}
+
+-- One bit.
+
+two : (a : ℕ) → a < 2 → (a ≡ 0) ⊎ (a ≡ 1)
+two a h = elim (cases_eq a 0) [ inl e ↦ inl e | inr o ↦ inr (omega arith) ]
+
+for_bits : (P : ℕ → Type 0) → P 0 → P 1 → (a : ℕ) → a < 2 → P a
+for_bits P p q a h = elim (two a h) [ inl e ↦ subst P (sym e) p | inr e ↦ subst P (sym e) q ]
+
+or_bits : (a b : ℕ) → a < 2 → b < 2 → (max a b == 1) ≡ ((a == 1) || (b == 1))
+or_bits a b h k = for_bits (λ x. (max x b == 1) ≡ ((x == 1) || (b == 1)))
+    (for_bits (λ y. (max 0 y == 1) ≡ ((0 == 1) || (y == 1))) refl refl b k)
+    (for_bits (λ y. (max 1 y == 1) ≡ ((1 == 1) || (y == 1))) refl refl b k) a h
+
+and_bits : (a b : ℕ) → a < 2 → b < 2 → (min a b == 1) ≡ ((a == 1) && (b == 1))
+and_bits a b h k = for_bits (λ x. (min x b == 1) ≡ ((x == 1) && (b == 1)))
+    (for_bits (λ y. (min 0 y == 1) ≡ ((0 == 1) && (y == 1))) refl refl b k)
+    (for_bits (λ y. (min 1 y == 1) ≡ ((1 == 1) && (y == 1))) refl refl b k) a h
+
+not_bit : (a : ℕ) → a < 2 → (1 - a == 1) ≡ not (a == 1)
+not_bit a h = for_bits (λ x. (1 - x == 1) ≡ not (x == 1)) refl refl a h
+
+same_bit : (a b : ℕ) → a < 2 → b < 2 → (a == 1) ≡ (b == 1) → a ≡ b
+same_bit a b h k = for_bits (λ x. (x == 1) ≡ (b == 1) → x ≡ b)
+    (for_bits (λ y. (0 == 1) ≡ (y == 1) → 0 ≡ y) (λ e. refl) (λ e. absurd (false≢true e)) b k)
+    (for_bits (λ y. (1 == 1) ≡ (y == 1) → 1 ≡ y) (λ e. absurd (false≢true (sym e))) (λ e. refl) b k) a h
+
+flowed_bit : (a u o w i : ℕ) → w < 2 ^ 64 → i < 64 →
+    (bit_at (flowed_word a u o w) i == 1) ≡ ((bit_at a i == 1) || (bit_at u i == 1) || ((bit_at o i == 1) && not (bit_at w i == 1)))
+flowed_bit a u o w i h k =
+    let first = bit_at_or (bit_or a u) (bit_and o (bit_not w64 w)) i in
+    let left = bit_at_or a u i in
+    let right = bit_at_and o (bit_not w64 w) i in
+    let other = bit_at_not w64 w i h k in
+    let l : bit_at (bit_or a u) i < 2 = bit_at-lt (bit_or a u) i in
+    let r : bit_at (bit_and o (bit_not w64 w)) i < 2 = bit_at-lt (bit_and o (bit_not w64 w)) i in
+    ap (λ x. x == 1) first
+    ∙ or_bits (bit_at (bit_or a u) i) (bit_at (bit_and o (bit_not w64 w)) i) l r
+    ∙ ap (λ x. x || (bit_at (bit_and o (bit_not w64 w)) i == 1)) (ap (λ x. x == 1) left ∙ or_bits (bit_at a i) (bit_at u i) (bit_at-lt a i) (bit_at-lt u i))
+    ∙ ap (λ x. ((bit_at a i == 1) || (bit_at u i == 1)) || x)
+      (ap (λ x. x == 1) right
+      ∙ and_bits (bit_at o i) (bit_at (bit_not w64 w) i) (bit_at-lt o i) (bit_at-lt (bit_not w64 w) i)
+      ∙ ap (λ x. (bit_at o i == 1) && x) (ap (λ x. x == 1) other ∙ not_bit (bit_at w i) (bit_at-lt w i)))
+    ∙ assoc (bit_at a i == 1) (bit_at u i == 1) ((bit_at o i == 1) && not (bit_at w i == 1))
+  where
+    assoc : (x y z : Bool) → ((x || y) || z) ≡ (x || y || z)
+    assoc true y z = refl
+    assoc false y z = refl
+
+-- Lists of words.
+
+pub length_bits : (words : List ℕ) (len : ℕ) → length (bits_in words len) ≡ len
+length_bits words len = length-map-range_with_len (bit_in words) 0 len
+
+pub bit_at_place : (words : List ℕ) (len i : ℕ) → i < len → bit (bits_in words len) i ≡ bit_in words i
+bit_at_place words len i h = get_or-map-range_with_len (bit_in words) 0 len i i false h (omega arith)
+
+pub word_within : (words : List ℕ) (len i : ℕ) → length words ≡ words_for len → i < len → i / 64 < length words
+word_within words len i e h = omega arith
+
+-- words of zeros
+clear_word : (n place : ℕ) → bit_in (replicate n 0) place ≡ false
+clear_word n place =
+    let zeros : get_or (replicate n 0) (place / 64) 0 ≡ 0 = elim (cases_lt (place / 64) n) [
+      | inl inside ↦ get_or-replicate n (place / 64) 0 0 inside
+      | inr past ↦ get_or_past (replicate n 0) (place / 64) 0 (omega (arith, length-replicate {A = ℕ} n 0))
+    ] in
+    ap (λ x. bit_at x (place % 64) == 1) zeros ∙ ap (λ x. x == 1) (bit_at-zero (place % 64))
+
+pub no_words : (len : ℕ) → AreWords (replicate (words_for len) 0) len
+no_words len = record {
+  count = length-replicate (words_for len) 0;
+  fits = All-replicate (λ word. word < 2 ^ 64) (words_for len) 0 (omega arith);
+  clear = λ place h. clear_word (words_for len) place;
+}
+
+pub no_bits : (n len : ℕ) → bits_in (replicate n 0) len ≡ replicate len false
+no_bits n len = ext_get_or false (bits_in (replicate n 0) len) (replicate len false) (length_bits (replicate n 0) len ∙ sym (length-replicate len false)) (λ i h.
+    let inside : i < len = omega (arith, length_bits (replicate n 0) len) in
+    bit_at_place (replicate n 0) len i inside ∙ clear_word n i ∙ sym (get_or-replicate len i false false inside))
+
+-- One bit is set.
+module _ (words : List ℕ) (len i : ℕ) (are : AreWords words len) (inside : i < len) where
+  abbrev pub with_bit : List ℕ
+  with_bit = slice_set words (i / 64) (bit_or (get_or words (i / 64) 0) (1 * 2 ^ (i % 64) % 2 ^ 64))
+
+  within : i / 64 < length words
+  within = word_within words len i are.count inside
+
+  set_here : bit_in with_bit i ≡ true
+  set_here =
+      let word = get_or words (i / 64) 0 in
+      let new = bit_or word (1 * 2 ^ (i % 64) % 2 ^ 64) in
+      ap (λ x. bit_at x (i % 64) == 1) (get_or-set_same words (i / 64) new 0 within)
+      ∙ ap (λ x. x == 1) (bit_at_set_same w64 word (i % 64) (omega arith))
+
+  set_there : (place : ℕ) → place ≢ i → bit_in with_bit place ≡ bit_in words place
+  set_there place off =
+      let word = get_or words (i / 64) 0 in
+      let new = bit_or word (1 * 2 ^ (i % 64) % 2 ^ 64) in
+      elim (cases_eq (place / 64) (i / 64)) [
+        | inl e ↦
+            let far : place % 64 ≢ i % 64 = λ f. off (omega arith) in
+            ap (λ q. bit_at (get_or (slice_set words (i / 64) new) q 0) (place % 64) == 1) e
+            ∙ ap (λ x. bit_at x (place % 64) == 1) (get_or-set_same words (i / 64) new 0 within)
+            ∙ ap (λ x. x == 1) (bit_at_set_other w64 word (i % 64) (omega arith) (place % 64) far)
+            ∙ ap (λ q. bit_at (get_or words q 0) (place % 64) == 1) (sym e)
+        | inr o ↦ ap (λ x. bit_at x (place % 64) == 1) (get_or-set_other words (i / 64) (place / 64) new 0 o)
+      ]
+
+  pub set_words : AreWords with_bit len
+  set_words =
+      let word = get_or words (i / 64) 0 in
+      record {
+        count = length-set words (i / 64) (bit_or word (1 * 2 ^ (i % 64) % 2 ^ 64)) ∙ are.count;
+        fits = All-set (λ x. x < 2 ^ 64) words (i / 64) (bit_or word (1 * 2 ^ (i % 64) % 2 ^ 64))
+            (or_lt 64 word (1 * 2 ^ (i % 64) % 2 ^ 64) (All-get_or (λ x. x < 2 ^ 64) words (i / 64) 0 within are.fits) (omega arith)) are.fits;
+        clear = λ place h. set_there place (λ e. omega arith) ∙ are.clear place h;
+      }
+
+  pub set_bits : bits_in with_bit len ≡ slice_set (bits_in words len) i true
+  set_bits =
+      let same_len = length_bits words len in
+      ext_get_or false (bits_in with_bit len) (slice_set (bits_in words len) i true) (length_bits with_bit len ∙ sym (length-set (bits_in words len) i true ∙ same_len)) (λ k h.
+        let below : k < len = omega (arith, length_bits with_bit len) in
+        bit_at_place with_bit len k below ∙ elim (cases_eq k i) [
+          | inl e ↦ ap (bit_in with_bit) e ∙ set_here ∙ sym (ap (λ j. bit (slice_set (bits_in words len) i true) j) e ∙ get_or-set_same (bits_in words len) i true false (omega arith))
+          | inr o ↦ set_there k o ∙ sym (get_or-set_other (bits_in words len) i k true false o ∙ bit_at_place words len k below)
+        ])
+
+-- Lists that differ.
+
+pub differ_same : (xs : List Bool) → differ xs xs ≡ false
+differ_same [] = refl
+differ_same (true ∷ xs) = differ_same xs
+differ_same (false ∷ xs) = differ_same xs
+
+same_value : (x y : Bool) → is_other x y ≡ false → x ≡ y
+same_value true y h = sym (not-false y h)
+same_value false y h = sym h
+
+pub same_lists : (xs ys : List Bool) → differ xs ys ≡ false → xs ≡ ys
+same_lists [] [] h = refl
+same_lists [] (y ∷ ys) h = absurd (false≢true (sym h))
+same_lists (x ∷ xs) [] h = absurd (false≢true (sym h))
+same_lists (x ∷ xs) (y ∷ ys) h =
+    let parts = or_parts (is_other x y) (differ xs ys) h in
+    let heads = same_value x y parts.0 in
+    let tails = same_lists xs ys parts.1 in
+    cc
+
+-- words with the same bits are the same
+pub same_words : (xs ys : List ℕ) (len : ℕ) → AreWords xs len → AreWords ys len → bits_in xs len ≡ bits_in ys len → xs ≡ ys
+same_words xs ys len a b e = ext_get_or 0 xs ys (a.count ∙ sym b.count) (λ q h.
+    same_from_bits_below 64 (get_or xs q 0) (get_or ys q 0) (All-get_or (λ x. x < 2 ^ 64) xs q 0 h a.fits) (All-get_or (λ x. x < 2 ^ 64) ys q 0 (omega (arith, a.count, b.count)) b.fits) (λ j k.
+      let place = 64 * q + j in
+      let at : place / 64 ≡ q = omega arith in
+      let low : place % 64 ≡ j = omega arith in
+      let both : bit_in xs place ≡ bit_in ys place = elim (cases_lt place len) [
+        | inl inside ↦ sym (bit_at_place xs len place inside) ∙ ap (λ l. bit l place) e ∙ bit_at_place ys len place inside
+        | inr past ↦ a.clear place past ∙ sym (b.clear place past)
+      ] in
+      let here : (bit_at (get_or xs q 0) j == 1) ≡ (bit_at (get_or ys q 0) j == 1) =
+      subst (λ (p : ℕ × ℕ). (bit_at (get_or xs p.0 0) p.1 == 1) ≡ (bit_at (get_or ys p.0 0) p.1 == 1)) (pair_is at low) both in
+      same_bit (bit_at (get_or xs q 0) j) (bit_at (get_or ys q 0) j) (bit_at-lt (get_or xs q 0) j) (bit_at-lt (get_or ys q 0) j) here))
+  where
+    pair_is : {m n p q : ℕ} → m ≡ p → n ≡ q → ◌≡◌ {A = ℕ × ℕ} (m, n) (p, q)
+    pair_is e f = cc
+
+-- All words flow.
+module _ (words used out written : List ℕ) (len : ℕ) (are : AreWords words len) (uses : AreWords used len) (outs : AreWords out len) (writes : AreWords written len) where
+  word : ℕ → ℕ
+  word k = flowed_word (get_or words k 0) (get_or used k 0) (get_or out k 0) (get_or written k 0)
+
+  after : List ℕ
+  after = flowed_words words used out written
+
+  after_length : length after ≡ length words
+  unfolding after
+  after_length = length-map-range_with_len (λ k. flowed_word (get_or words k 0) (get_or used k 0) (get_or out k 0) (get_or written k 0)) 0 (length words)
+
+  after_at : (k : ℕ) → k < length words → get_or after k 0 ≡ word k
+  unfolding after word
+  after_at k h = get_or-map-range_with_len (λ k. flowed_word (get_or words k 0) (get_or used k 0) (get_or out k 0) (get_or written k 0)) 0 (length words) k k 0 h (omega arith)
+
+  small : (k : ℕ) → k < length words → get_or written k 0 < 2 ^ 64
+  small k h = All-get_or (λ x. x < 2 ^ 64) written k 0 (omega (arith, are.count, writes.count)) writes.fits
+
+  after_bit : (place : ℕ) → bit_in after place ≡ (bit_in words place || bit_in used place || (bit_in out place && not (bit_in written place)))
+  unfolding word
+  after_bit place = elim (cases_lt (place / 64) (length words)) [
+    | inl inside ↦
+        let q = place / 64 in
+        ap (λ x. bit_at x (place % 64) == 1) (after_at q inside)
+        ∙ flowed_bit (get_or words q 0) (get_or used q 0) (get_or out q 0) (get_or written q 0) (place % 64) (small q inside) (omega arith)
+    | inr past ↦
+        let gone : len ≤ place = omega (arith, are.count) in
+        let none : bit_in after place ≡ false =
+        ap (λ x. bit_at x (place % 64) == 1) (get_or_past after (place / 64) 0 (omega (arith, after_length))) ∙ ap (λ x. x == 1) (bit_at-zero (place % 64)) in
+        none ∙ sym (dark place gone)
+  ]
+    where
+      dark : (place : ℕ) → len ≤ place → (bit_in words place || bit_in used place || (bit_in out place && not (bit_in written place))) ≡ false
+      dark place gone = ap (λ x. x || bit_in used place || (bit_in out place && not (bit_in written place))) (are.clear place gone)
+          ∙ ap (λ x. x || (bit_in out place && not (bit_in written place))) (uses.clear place gone)
+          ∙ ap (λ x. x && not (bit_in written place)) (outs.clear place gone)
+
+  pub flowed_are : AreWords (flowed_words words used out written) len
+  unfolding after word
+  flowed_are = record {
+    count = after_length ∙ are.count;
+    fits = All-from_get_or (λ x. x < 2 ^ 64) after 0 (λ k h.
+        let inside : k < length words = omega (arith, after_length) in
+        subst (λ x. x < 2 ^ 64) (sym (after_at k inside))
+        (or_lt 64 (bit_or (get_or words k 0) (get_or used k 0)) (bit_and (get_or out k 0) (bit_not w64 (get_or written k 0)))
+          (or_lt 64 (get_or words k 0) (get_or used k 0) (All-get_or (λ x. x < 2 ^ 64) words k 0 inside are.fits) (All-get_or (λ x. x < 2 ^ 64) used k 0 (omega (arith, are.count, uses.count)) uses.fits))
+          (and_below (get_or out k 0) (bit_not w64 (get_or written k 0)) (All-get_or (λ x. x < 2 ^ 64) out k 0 (omega (arith, are.count, outs.count)) outs.fits))));
+    clear = λ place gone. after_bit place ∙ ap (λ x. x || bit_in used place || (bit_in out place && not (bit_in written place))) (are.clear place gone)
+        ∙ ap (λ x. x || (bit_in out place && not (bit_in written place))) (uses.clear place gone)
+        ∙ ap (λ x. x && not (bit_in written place)) (outs.clear place gone);
+  }
+    where
+      and_below : (a b : ℕ) → a < 2 ^ 64 → bit_and a b < 2 ^ 64
+      and_below a b h = omega (arith, h, and_le_l a b)
+
+  pub flowed_bits : bits_in (flowed_words words used out written) len ≡ flowed (bits_in words len) (bits_in used len) (bits_in out len) (bits_in written len)
+  unfolding after
+  flowed_bits =
+      fill_by_all (λ i. bit (bits_in words len) i || bit (bits_in used len) i || (bit (bits_in out len) i && not (bit (bits_in written len) i)))
+      (bits_in after len) (length (bits_in words len)) false (length_bits after len ∙ sym (length_bits words len)) (λ k h.
+        let inside : k < len = omega (arith, length_bits words len) in
+        bit_at_place after len k inside ∙ after_bit k
+        ∙ sym (ap (λ x. x || bit (bits_in used len) k || (bit (bits_in out len) k && not (bit (bits_in written len) k))) (bit_at_place words len k inside)
+          ∙ ap (λ x. bit_in words k || x || (bit (bits_in out len) k && not (bit (bits_in written len) k))) (bit_at_place used len k inside)
+          ∙ ap (λ x. bit_in words k || bit_in used k || (x && not (bit (bits_in written len) k))) (bit_at_place out len k inside)
+          ∙ ap (λ x. bit_in words k || bit_in used k || (bit_in out k && not x)) (bit_at_place written len k inside)))
+
+  -- whether a word changed is whether a place did
+  pub flowed_differ : (changed : Bool) → MatchBool changed (flowed_words words used out written ≢ words) (flowed_words words used out written ≡ words)
+      → changed ≡ differ (bits_in words len) (bits_in (flowed_words words used out written) len)
+  unfolding after
+  flowed_differ true other = elim (cases_Bool (differ (bits_in words len) (bits_in after len))) [
+    | inl t ↦ sym t
+    | inr f ↦ absurd (other (same_words after words len flowed_are are (sym (same_lists (bits_in words len) (bits_in after len) f))))
+  ]
+  flowed_differ false same = sym (ap (λ l. differ (bits_in words len) (bits_in l len)) same ∙ differ_same (bits_in words len))
+
+-- Words flow one after another.
+
+pub record FlowedTo (words initial used out written : List ℕ) (k : ℕ) (changed : Bool) : Type 0 where
+  pub same_length : length words ≡ length initial
+  pub below : (q : ℕ) → q < k → get_or words q 0 ≡ flowed_word (get_or initial q 0) (get_or used q 0) (get_or out q 0) (get_or written q 0)
+  pub kept : (q : ℕ) → k ≤ q → get_or words q 0 ≡ get_or initial q 0
+  pub change : MatchBool changed (words ≢ initial) (words ≡ initial)
+
+pub flowed_none : (words used out written : List ℕ) → FlowedTo words words used out written 0 false
+flowed_none words used out written = record { same_length = refl; below = λ q h. absurd (omega arith); kept = λ q h. refl; change = refl }
+
+change_more : (words initial : List ℕ) (k new : ℕ) → k < length words → get_or words k 0 ≡ get_or initial k 0 → (b : Bool) → MatchBool b (words ≢ initial) (words ≡ initial) →
+    (t : Bool) → (new == get_or words k 0) ≡ t → MatchBool (b || not t) (slice_set words k new ≢ initial) (slice_set words k new ≡ initial)
+change_more words initial k new inside same true other t e = λ equal.
+    let here : new ≡ get_or words k 0 = sym (get_or-set_same words k new 0 inside) ∙ ap (λ l. get_or l k 0) equal ∙ sym same in
+    other (sym (ap (slice_set words k) here ∙ set-get_or words k 0) ∙ equal)
+change_more words initial k new inside same false h true e =
+    ap (slice_set words k) (eqb-true new (get_or words k 0) e) ∙ set-get_or words k 0 ∙ h
+change_more words initial k new inside same false h false e = λ equal.
+    let here : new ≡ get_or words k 0 = sym (get_or-set_same words k new 0 inside) ∙ ap (λ l. get_or l k 0) equal ∙ sym same in
+    false≢true (sym e ∙ eq-eqb new (get_or words k 0) here)
+
+pub flowed_more : (words initial used out written : List ℕ) (k new : ℕ) (changed : Bool) → k < length words
+    → new ≡ flowed_word (get_or words k 0) (get_or used k 0) (get_or out k 0) (get_or written k 0)
+    → FlowedTo words initial used out written k changed
+    → FlowedTo (slice_set words k new) initial used out written (k + 1) (changed || not (new == get_or words k 0))
+flowed_more words initial used out written k new changed inside is h = record {
+  same_length = length-set words k new ∙ h.same_length;
+  below = λ q less. elim (cases_eq q k) [
+    | inl e ↦
+        ap (λ j. get_or (slice_set words k new) j 0) e ∙ get_or-set_same words k new 0 inside ∙ is
+        ∙ ap (λ x. flowed_word x (get_or used k 0) (get_or out k 0) (get_or written k 0)) (h.kept k (omega arith))
+        ∙ ap (λ j. flowed_word (get_or initial j 0) (get_or used j 0) (get_or out j 0) (get_or written j 0)) (sym e)
+    | inr o ↦ get_or-set_other words k q new 0 o ∙ h.below q (omega arith)
+  ];
+  kept = λ q le. get_or-set_other words k q new 0 (λ e. omega arith) ∙ h.kept q (omega arith);
+  change = change_more words initial k new inside (h.kept k (omega arith)) changed h.change (new == get_or words k 0) refl;
+}
+
+pub flowed_all : (words initial used out written : List ℕ) (k : ℕ) (changed : Bool) → length initial ≤ k → FlowedTo words initial used out written k changed → words ≡ flowed_words initial used out written
+flowed_all words initial used out written k changed all h =
+    fill_by_all (λ q. flowed_word (get_or initial q 0) (get_or used q 0) (get_or out q 0) (get_or written q 0)) words (length initial) 0 h.same_length (λ q less. h.below q (omega arith))
+
+pub length_flowed : (words used out written : List ℕ) → length (flowed_words words used out written) ≡ length words
+length_flowed words used out written =
+    length-map-range_with_len (λ k. flowed_word (get_or words k 0) (get_or used k 0) (get_or out k 0) (get_or written k 0)) 0 (length words)
+
+-- what words are after they have flowed, where all four lists have one length
+pub record Flowing (words after used out written : List ℕ) (len ul ol wl : ℕ) : Type 0 where
+  pub are : AreWords after len
+  pub places : bits_in after len ≡ flowed (bits_in words len) (bits_in used ul) (bits_in out ol) (bits_in written wl)
+  pub differs : (b : Bool) → MatchBool b (after ≢ words) (after ≡ words) → b ≡ differ (bits_in words len) (bits_in after len)
+
+pub flowing : (words after used out written : List ℕ) (len ul ol wl : ℕ) → AreWords words len → AreWords used ul → AreWords out ol → AreWords written wl
+    → ul ≡ len → ol ≡ len → wl ≡ len → after ≡ flowed_words words used out written → Flowing words after used out written len ul ol wl
+flowing words after used out written len ul ol wl a u o w e f g is =
+    let uses = subst (AreWords used) e u in
+    let outs = subst (AreWords out) f o in
+    let writes = subst (AreWords written) g w in
+    subst (λ n. Flowing words after used out written len n ol wl) (sym e)
+    (subst (λ n. Flowing words after used out written len len n wl) (sym f)
+    (subst (λ n. Flowing words after used out written len len len n) (sym g)
+    (subst (λ l. Flowing words l used out written len len len len) (sym is) (record {
+      are = flowed_are words used out written len a uses outs writes;
+      places = flowed_bits words used out written len a uses outs writes;
+      differs = flowed_differ words used out written len a uses outs writes;
+    }))))
