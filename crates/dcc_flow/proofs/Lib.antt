@@ -1,3 +1,5 @@
 pub mod Members
 pub mod OrderLaws
+pub mod RowLaws
+pub mod SourceLaws
 pub mod WordLaws

@@ -100,7 +100,7 @@ rises_added n list h = by_test (Rises n) (is_number (slice_get list (length list
 
 -- All lists.
 
-length_entered : (s : List (List ℕ)) (from : ℕ) (tos : List ℕ) → length (entered s from tos) ≡ length s
+pub length_entered : (s : List (List ℕ)) (from : ℕ) (tos : List ℕ) → length (entered s from tos) ≡ length s
 length_entered s from [] = refl
 length_entered s from (to ∷ tos) = length_entered (slice_set s to (added (get_or s to []) from)) from tos ∙ length-set s to (added (get_or s to []) from)
 

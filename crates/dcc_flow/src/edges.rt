@@ -91,6 +91,18 @@ fn narrowed(alloc: Global, blocks: &[usize]) -> Result<Vec<u32>, AllocError>
     Ok(numbers)
 }
 
+// The same numbers in each list.
+fn all_narrowed(alloc: Global, lists: &Vec<Vec<usize>>) -> Result<Vec<Vec<u32>>, AllocError>
+    requires { All (λ row. All (λ block. block < 2 ^ 32) row) (rows lists.now.items) }
+    ensures { IfOk result (λ narrow. rows narrow.items ≡ rows lists.now.items) }
+{
+    let mut narrow = Vec::new(alloc);
+    for place in 0..lists.len() {
+        narrow.push(narrowed(alloc, lists[place].as_slice())?)?;
+    }
+    Ok(narrow)
+}
+
 /// For each block the blocks with an edge to it, each once, in ascending order.
 pub fn preds(alloc: Global, g: &Graph) -> Result<Vec<Vec<u32>>, AllocError>
     requires { IsGraph (graph_of g.now) }
@@ -98,9 +110,5 @@ pub fn preds(alloc: Global, g: &Graph) -> Result<Vec<Vec<u32>>, AllocError>
 {
     let next = successors(alloc, g)?;
     let sources = sources(alloc, &next)?;
-    let mut preds = Vec::new(alloc);
-    for blocks in &sources {
-        preds.push(narrowed(alloc, blocks)?)?;
-    }
-    Ok(preds)
+    all_narrowed(alloc, &sources)
 }
