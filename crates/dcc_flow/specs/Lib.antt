@@ -4,5 +4,6 @@ pub mod Bits
 pub mod Words
 pub mod Uses
 pub mod Sources
+pub mod Search
 pub mod Work
 pub use Rattle.dcc_ir.specs.WellFormed

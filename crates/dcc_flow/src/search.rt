@@ -1,13 +1,57 @@
 //! The reverse post order of a graph.
 
-ghost use Rattle.std.specs.Prelude.{IfOk};
+ghost use Rattle.std.specs.Prelude.{◌≡◌, ◌<◌, length, IfOk, OnOk};
 ghost use Rattle.dcc_ir.specs.Views.{graph_of};
 ghost use Rattle.dcc_ir.specs.WellFormed.{IsGraph};
+ghost use Rattle.dcc_flow.specs.Edges.{rows, AreWithin};
 ghost use Rattle.dcc_flow.specs.Order.{IsReversePostOrder};
+ghost use Rattle.dcc_flow.specs.Search.{search_of, visited, gone_on};
 
 use crate::edges::successors;
 use dcc_ir::Graph;
 use std::alloc::{AllocError, Global};
+
+/// A depth-first search.
+#[derive(Drop)]
+pub struct Search {
+    /// Which blocks were begun.
+    pub seen: Vec<bool>,
+    /// The blocks that are not finished, each with how many of those that follow it were visited, the newest last.
+    pub begun: Vec<(u32, usize)>,
+    /// The finished blocks, the newest last.
+    pub finished: Vec<u32>,
+}
+
+impl Search {
+    // Begins a block, unless it was begun before.
+    fn visit(&mut self, block: u32) -> Result<(), AllocError>
+        requires { block < length self.old.seen.items }
+        ensures { OnOk result (search_of self.new ≡ visited (search_of self.old) block) }
+    {
+        if !self.seen[block as usize] {
+            self.seen[block as usize] = true;
+            self.begun.push((block, 0))?;
+        }
+        Ok(())
+    }
+
+    // Goes on from a block of whose followers so many were visited.
+    fn go_on(&mut self, next: &Vec<Vec<u32>>, block: u32, turn: usize) -> Result<(), AllocError>
+        requires block { block < length next.now.items }
+        requires next { AreWithin (rows next.now.items) }
+        requires seen { length self.old.seen.items ≡ length next.now.items }
+        ensures { OnOk result (search_of self.new ≡ gone_on (rows next.now.items) (search_of self.old) block turn) }
+    {
+        let followers = next[block as usize].as_slice();
+        if turn < followers.len() {
+            self.begun.push((block, turn + 1))?;
+            self.visit(followers[turn])
+        } else {
+            self.finished.push(block)?;
+            Ok(())
+        }
+    }
+}
 
 /// The blocks that are reached from block 0, each once, in reverse post order.
 pub fn order(alloc: Global, g: &Graph) -> Result<Vec<u32>, AllocError>
@@ -15,23 +59,16 @@ pub fn order(alloc: Global, g: &Graph) -> Result<Vec<u32>, AllocError>
     ensures { IfOk result (λ order. IsReversePostOrder (graph_of g.now) order.items) }
 {
     let next = successors(alloc, g)?;
-    let mut seen = vec![in alloc; false; next.len()]?;
-    let mut order = Vec::new(alloc);
-    let mut open = vec![in alloc; (0u32, 0usize)]?;
-    seen[0] = true;
-    while let Some((block, turn)) = open.pop() {
-        let followers = &next[block as usize];
-        if turn == followers.len() {
-            order.push(block)?;
-            continue;
-        }
-        open.push((block, turn + 1))?;
-        let follower = followers[turn];
-        if !seen[follower as usize] {
-            seen[follower as usize] = true;
-            open.push((follower, 0))?;
-        }
+    let mut search = Search {
+        seen: vec![in alloc; false; next.len()]?,
+        begun: Vec::new(alloc),
+        finished: Vec::new(alloc),
+    };
+    search.visit(0)?;
+    while let Some(last) = search.begun.pop() {
+        search.go_on(&next, last.0, last.1)?;
     }
+    let mut order = search.finished;
     order.reverse();
     Ok(order)
 }
