@@ -5,3 +5,4 @@ pub mod SearchLaws
 pub mod SourceLaws
 pub mod Sums
 pub mod WordLaws
+pub mod WorkLaws

@@ -1,10 +1,10 @@
 //! Which places are used after each block.
 
-ghost use Rattle.std.specs.Prelude.{◌≡◌, ◌≤◌, ◌<◌, ◌+◌, ◌*◌, length, All, IfOk, OnOk};
+ghost use Rattle.std.specs.Prelude.{◌≡◌, ◌≤◌, ◌<◌, ◌+◌, ◌*◌, [], length, get_or, All, IfOk, OnOk};
 ghost use Rattle.dcc_flow.specs.Edges.{rows, AreWithin, entries};
-ghost use Rattle.dcc_flow.specs.Bits.{words_for};
+ghost use Rattle.dcc_flow.specs.Bits.{words_for, flowed};
 ghost use Rattle.dcc_flow.specs.Uses.{AreLists, AreUses};
-ghost use Rattle.dcc_flow.specs.Work.{work_of, first_work, with_queued, spread_from};
+ghost use Rattle.dcc_flow.specs.Work.{work_of, first_work, with_queued, with_answer, spread, spread_from};
 
 use crate::bits::Bits;
 use crate::edges::sources;
@@ -53,8 +53,56 @@ impl Work {
         Ok(())
     }
 
-    // What a block uses, and what comes out of it, flows to each block before it.
+    // What a block uses, and what comes out of it, flows to a block before it.
+    fn flow_to<L: Ledger>(
+        &mut self,
+        source: usize,
+        used: &Bits,
+        out: &Bits,
+        written: &Bits,
+        steps: &mut Steps<L>,
+    ) -> Result<(), AllocError>
+        requires source { source < length self.old.answer.items }
+        requires queued { length self.old.queued.items ≡ length self.old.answer.items }
+        requires list { length (get_or self.old.answer.items source []) ≡ length used.now }
+        requires out { length out.now ≡ length used.now }
+        requires written { length written.now ≡ length used.now }
+        ensures work { OnOk result (work_of self.new ≡ with_answer (work_of self.old) source
+            (flowed (get_or self.old.answer.items source []) used.now out.now written.now)) }
+        ensures cost { steps.new ≡ steps.old + words_for (length used.now) }
+    {
+        let answer = &mut self.answer[source];
+        if answer.flow(used, out, written, steps) {
+            self.queue(source)?;
+        }
+        Ok(())
+    }
+
+    // What a block uses, and what comes out of it, flows to each of these blocks before it.
     fn spread<L: Ledger>(
+        &mut self,
+        sources: &[usize],
+        used: &Bits,
+        out: &Bits,
+        written: &Bits,
+        steps: &mut Steps<L>,
+    ) -> Result<(), AllocError>
+        requires sources { All (λ source. source < length self.old.answer.items) sources.now }
+        requires queued { length self.old.queued.items ≡ length self.old.answer.items }
+        requires lists { All (λ bits. length bits ≡ length used.now) self.old.answer.items }
+        requires out { length out.now ≡ length used.now }
+        requires written { length written.now ≡ length used.now }
+        ensures work { OnOk result (work_of self.new ≡ spread used.now out.now written.now (work_of self.old) sources.now) }
+        ensures cost { steps.new ≤ steps.old + length sources.now * words_for (length used.now) }
+    {
+        for source in sources {
+            self.flow_to(*source, used, out, written, steps)?;
+        }
+        Ok(())
+    }
+
+    // The answer of a block flows to each of these blocks before it.
+    fn flow_from<L: Ledger>(
         &mut self,
         block: usize,
         sources: &[usize],
@@ -72,12 +120,7 @@ impl Work {
     {
         let out = self.answer[block].copy()?;
         self.queued[block] = false;
-        for source in sources {
-            if self.answer[*source].flow(used, &out, written, steps) {
-                self.queue(*source)?;
-            }
-        }
-        Ok(())
+        self.spread(sources, used, &out, written, steps)
     }
 }
 
@@ -94,13 +137,19 @@ pub fn solve<L: Ledger>(
     requires next { AreWithin (rows next.now.items) }
     requires used { AreLists (length next.now.items) len used.now.items }
     requires written { AreLists (length next.now.items) len written.now.items }
-    ensures exact { IfOk result (AreUses (rows next.now.items) used.now.items written.now.items len) }
+    ensures exact { IfOk result (λ answer. AreUses (rows next.now.items) used.now.items written.now.items len answer.items) }
     ensures cost { steps.new ≤ steps.old + entries (rows next.now.items) * (len + 1) * words_for len }
 {
     let sources = sources(alloc, next)?;
     let mut work = Work::new(alloc, next.len(), len)?;
     while let Some(block) = work.pending.pop() {
-        work.spread(block, &sources[block], &used[block], &written[block], steps)?;
+        work.flow_from(
+            block,
+            sources[block].as_slice(),
+            &used[block],
+            &written[block],
+            steps,
+        )?;
     }
     Ok(work.answer)
 }
