@@ -1,5 +1,5 @@
 -- Laws of depth-first search: what it lists, and how edges lie in what it lists.
-use Rattle.std.proofs.Common.{◌≡◌, ℕ, Bool, true, false, ◌&&◌, ◌||◌, ◌⊎◌, inl, inr, List, [], ◌∷◌, ◌++◌, get_or, refl, sym, ap, ◌∙◌, subst}
+use Rattle.std.proofs.Common.{◌≡◌, ℕ, Bool, true, false, ◌&&◌, ◌⊎◌, inl, inr, List, [], ◌∷◌, ◌++◌, get_or, refl, sym, ap, ◌∙◌, subst}
 use Rattle.std.specs.Prelude.{◌==◌}
 use Rattle.std.proofs.lemmas.Bool.{false≢true, cases_Bool, eq-eqb, or_cases, or_left, or_right, or_parts, and_parts, and_from}
 use Rattle.dcc_ir.specs.Tree.{Graph}
@@ -8,7 +8,7 @@ use Rattle.dcc_ir.specs.Flow.{targets, IsPath, Any}
 use Rattle.dcc_ir.specs.Live.{follows}
 use Rattle.dcc_ir.specs.WellFormed.{all_differ}
 use Rattle.dcc_flow.specs.Edges.{is_in, leads, successors_of}
-use Rattle.dcc_flow.specs.Order.{IsSearched, done, again, first, IsReversePostOrder, comes_before, leads_on, IsAbove, IsOrder}
+use Rattle.dcc_flow.specs.Order.{IsSearched, done, again, first, IsReversePostOrder, comes_before, leads_on, IsOrder}
 use Rattle.dcc_flow.proofs.Members.{in_here, in_there, in_cases, in_left, in_right, in_either, not_since, differ_cons, differ_append, at_map}
 
 -- Before and after in a list.
@@ -278,10 +278,13 @@ module _ (graph : Graph) (order : List ℕ) (searched : IsReversePostOrder graph
   order_is = record {
     begins = begins (successors_of graph) searched refl;
     once = listed_once (successors_of graph) searched;
-    reached = λ b. (found b, λ o. elim o [
-      | inl e ↦ subst (λ z. is_in order z ≡ true) (sym e) start
-      | inr way ↦ along 0 way.0 b start way.1
-    ]);
+    reached = λ b. (
+      found b,
+      λ o. elim o [
+        | inl e ↦ subst (λ z. is_in order z ≡ true) (sym e) start
+        | inr way ↦ along 0 way.0 b start way.1
+      ],
+    );
     edges = λ a b h k. elim (edges (successors_of graph) searched a b h (sym (follows_is graph a b) ∙ k)) [
       | inl o ↦ elim o [
         | inl x ↦ inl x

@@ -1,19 +1,19 @@
 -- Laws of lists of numbers that stand in vectors, and of the successors of a graph's blocks.
-use Rattle.std.proofs.Common.{◌≡◌, ℕ, suc, ◌+◌, ◌<◌, ◌≤◌, ◌^◌, Bool, true, false, ◌&&◌, ◌||◌, not, inl, inr, List, [], ◌∷◌, ◌++◌, length, get_or, slice_set, map, take, drop, All, refl, sym, ap, ◌∙◌, subst, arith}
+use Rattle.std.proofs.Common.{◌≡◌, ℕ, ◌+◌, ◌<◌, ◌≤◌, ◌^◌, true, false, ◌&&◌, not, inl, inr, List, [], ◌∷◌, ◌++◌, length, get_or, slice_set, map, take, drop, All, sym, ap, ◌∙◌, subst, arith}
 use Rattle.std.specs.Prelude.{◌==◌, nat_lt, nat_le}
 use Rattle.std.specs.Global.{Vec}
 use Rattle.std.specs.List.{list_all, list_any, IsDistinct, AllByRecursion}
 use Rattle.std.proofs.lemmas.Bool.{false≢true, ltb-true, and_parts, or_cases, or_parts, eqb-true, not-true}
-use Rattle.std.proofs.lemmas.List.{length-map, map-set, map_push, get_or-map, take_more, take_all, drop_more, drop_all}
-use Rattle.std.proofs.lemmas.List.Elements.{All-nil, All-cons, All-head, All-tail, All-get_or, All-from_get_or}
+use Rattle.std.proofs.lemmas.List.{length-map, map-set, map_push, get_or-map, take_more, drop_more}
+use Rattle.std.proofs.lemmas.List.Elements.{All-nil, All-cons, All-head, All-tail, All-from_get_or}
 use Rattle.std.proofs.lemmas.Map.Steps.{length-le_from_distinct_below}
 use Rattle.std.proofs.Math.Dec.{eqb}
 use Rattle.dcc_ir.specs.declared.syntax.Block.{Block as BlockOf}
-use Rattle.dcc_ir.specs.Tree.{Expr, Exit, Goto, If, Switch, Ret, Stop, Block, Graph}
+use Rattle.dcc_ir.specs.Tree.{Exit, Goto, If, Switch, Ret, Stop, Block, Graph}
 use Rattle.dcc_ir.specs.Views.{exit_of, block_of}
 use Rattle.dcc_ir.specs.Flow.{targets}
 use Rattle.dcc_ir.specs.WellFormed.{is_expr_of, is_stmt, is_exit, is_block, all_differ, IsGraph}
-use Rattle.dcc_flow.specs.Edges.{rows, is_in, leads, successors_of, AreWithin, ArePredecessors}
+use Rattle.dcc_flow.specs.Edges.{rows, successors_of, AreWithin, ArePredecessors}
 use Rattle.dcc_flow.specs.Sources.{added, entered, all_entered}
 use Rattle.dcc_flow.proofs.SourceLaws.{in_at, predecessor_within}
 
@@ -112,7 +112,7 @@ few_blocks graph good =
 pub predecessors_fit : (next preds : List (List ℕ)) → length next ≤ 65536 → ArePredecessors next preds → All (λ row. All (λ block. block < 2 ^ 32) row) preds
 predecessors_fit next preds few are = All-from_get_or (λ row. All (λ block. block < 2 ^ 32) row) preds [] (λ b h.
     All-from_get_or (λ block. block < 2 ^ 32) (get_or preds b []) 0 (λ i inside.
-      let there = in_at (get_or preds b []) i inside in
-      let edge = sym (are.exact (get_or (get_or preds b []) i 0) b (omega (arith, are.len))) ∙ there in
-      let below = predecessor_within next (get_or (get_or preds b []) i 0) b edge in
-      omega (arith, below, few)))
+    let there = in_at (get_or preds b []) i inside in
+    let edge = sym (are.exact (get_or (get_or preds b []) i 0) b (omega (arith, are.len))) ∙ there in
+    let below = predecessor_within next (get_or (get_or preds b []) i 0) b edge in
+    omega (arith, below, few)))

@@ -1,8 +1,8 @@
 -- The search that keeps its own stack lists what a depth-first search lists.
-use Rattle.std.proofs.Common.{◌≡◌, ◌≢◌, ℕ, zero, suc, ◌+◌, ◌-◌, ◌<◌, ◌≤◌, Bool, true, false, ◌||◌, cond, ◌⊎◌, inl, inr, List, [], ◌∷◌, ◌++◌, length, get_or, slice_set, drop, reverse, replicate, All, Some, refl, sym, ap, ◌∙◌, subst, arith, length-append}
+use Rattle.std.proofs.Common.{◌≡◌, ℕ, ◌+◌, ◌-◌, ◌<◌, ◌≤◌, Bool, true, false, ◌||◌, inl, inr, List, [], ◌∷◌, ◌++◌, length, get_or, slice_set, drop, reverse, replicate, All, Some, refl, sym, ap, ◌∙◌, subst, arith}
 use Rattle.std.specs.Prelude.{◌==◌, nat_lt, if◌then◌else◌}
 use Rattle.std.specs.List.{sum_by}
-use Rattle.std.proofs.lemmas.Bool.{false≢true, cases_Bool, cases_eq, cases_lt, ltb-true, ltb-false, eq-eqb, ne_eqb}
+use Rattle.std.proofs.lemmas.Bool.{cases_Bool, cases_eq, cases_lt, ltb-true, ltb-false, eq-eqb, ne_eqb}
 use Rattle.std.proofs.lemmas.List.{length-set, length-replicate, get_or-replicate, get_or-set_same, get_or-set_other, get_or_past, drop_more, drop_all, append-nil, append_assoc, reverse-append}
 use Rattle.std.proofs.lemmas.List.Elements.{All-nil, All-cons, All-push, All-pop, All-get_or}
 use Rattle.std.proofs.lemmas.List.Sums.{sum_by-append}
@@ -10,7 +10,7 @@ use Rattle.dcc_flow.specs.Edges.{is_in, AreWithin}
 use Rattle.dcc_flow.specs.Order.{IsSearched, done, again, first}
 use Rattle.dcc_flow.specs.Search.{Search, visited, gone_on}
 use Rattle.dcc_flow.proofs.SourceLaws.{by_test, in_append}
-use Rattle.dcc_flow.proofs.Sums.{total, total_le, total_less}
+use Rattle.dcc_flow.proofs.Sums.{total, total_less}
 
 reverse_push : {X : Type 0} (xs : List X) (x : X) → reverse (xs ++ x ∷ []) ≡ x ∷ reverse xs
 reverse_push xs x = reverse-append xs (x ∷ [])
@@ -47,9 +47,11 @@ module _ (next : List (List ℕ)) where
 
   same_rest : (stack : List (ℕ × ℕ)) (seen other listed final : List ℕ) → ((n : ℕ) → is_in seen n ≡ is_in other n) → Rest seen stack listed final → Rest other stack listed final
   same_rest [] seen other listed final same r = r
-  same_rest (f ∷ stack) seen other listed final same r =
-      (r.0, same_seen r.1 other same,
-      same_rest stack (r.0 ++ seen) (r.0 ++ other) (f.0 ∷ r.0 ++ listed) final (λ n. in_append r.0 seen n ∙ ap (λ c. is_in r.0 n || c) (same n) ∙ sym (in_append r.0 other n)) r.2)
+  same_rest (f ∷ stack) seen other listed final same r = (
+    r.0,
+    same_seen r.1 other same,
+    same_rest stack (r.0 ++ seen) (r.0 ++ other) (f.0 ∷ r.0 ++ listed) final (λ n. in_append r.0 seen n ∙ ap (λ c. is_in r.0 n || c) (same n) ∙ sym (in_append r.0 other n)) r.2,
+  )
 
   -- the search stands so: whatever is listed at last is what the search from block 0 lists
   pub record Stands (flags : List Bool) (begun : List (ℕ × ℕ)) (finished : List ℕ) : Type 0 where
@@ -137,9 +139,9 @@ module _ (next : List (List ℕ)) where
   stands_on s b turn within inside h = by_test StandsAt (nat_lt turn (length (get_or next b [])))
       (visited (record s { begun = s.begun ++ (b, turn + 1) ∷ [] }) (get_or (get_or next b []) turn 0)) (record s { finished = s.finished ++ b ∷ [] })
       (λ t.
-        let less = ltb-true turn (length (get_or next b [])) t in
-        let row = All-get_or (λ r. All (λ place. place < length next) r) next b [] inside within in
-        visited_stands s b turn (get_or (get_or next b []) turn 0) less refl inside (All-get_or (λ place. place < length next) (get_or next b []) turn 0 less row) h)
+      let less = ltb-true turn (length (get_or next b [])) t in
+      let row = All-get_or (λ r. All (λ place. place < length next) r) next b [] inside within in
+      visited_stands s b turn (get_or (get_or next b []) turn 0) less refl inside (All-get_or (λ place. place < length next) (get_or next b []) turn 0 less row) h)
       (λ f. finished_stands s b turn (ltb-false turn (length (get_or next b [])) f) h)
 
   -- the search begins at block 0
@@ -179,32 +181,32 @@ module _ (next : List (List ℕ)) where
   less_left s b turn within size inside = by_test (λ t. left t < left (record s { begun = s.begun ++ (b, turn) ∷ [] })) (nat_lt turn (length (get_or next b [])))
       (visited (record s { begun = s.begun ++ (b, turn + 1) ∷ [] }) (get_or (get_or next b []) turn 0)) (record s { finished = s.finished ++ b ∷ [] })
       (λ t.
-        let less = ltb-true turn (length (get_or next b [])) t in
-        let row = All-get_or (λ r. All (λ place. place < length next) r) next b [] inside within in
-        visited_less s b turn (get_or (get_or next b []) turn 0) less size (All-get_or (λ place. place < length next) (get_or next b []) turn 0 less row))
+      let less = ltb-true turn (length (get_or next b [])) t in
+      let row = All-get_or (λ r. All (λ place. place < length next) r) next b [] inside within in
+      visited_less s b turn (get_or (get_or next b []) turn 0) less size (All-get_or (λ place. place < length next) (get_or next b []) turn 0 less row))
       (λ f.
-        let past = ltb-false turn (length (get_or next b [])) f in
-        let old = sum_by-append frame_left s.begun ((b, turn) ∷ []) in
-        omega (arith, old))
+      let past = ltb-false turn (length (get_or next b [])) f in
+      let old = sum_by-append frame_left s.begun ((b, turn) ∷ []) in
+      omega (arith, old))
     where
       visited_less : (s : Search) (b turn t : ℕ) → turn < length (get_or next b []) → length s.seen ≡ length next → t < length next
           → left (visited (record s { begun = s.begun ++ (b, turn + 1) ∷ [] }) t) < left (record s { begun = s.begun ++ (b, turn) ∷ [] })
       visited_less s b turn t less size there = by_test (λ u. left u < left (record s { begun = s.begun ++ (b, turn) ∷ [] })) (get_or s.seen t false)
           (record s { begun = s.begun ++ (b, turn + 1) ∷ [] }) (record s { seen = slice_set s.seen t true; begun = (s.begun ++ (b, turn + 1) ∷ []) ++ (t, 0) ∷ [] })
           (λ was.
-            let old = sum_by-append frame_left s.begun ((b, turn) ∷ []) in
-            let new = sum_by-append frame_left s.begun ((b, turn + 1) ∷ []) in
-            omega (arith, old, new))
+          let old = sum_by-append frame_left s.begun ((b, turn) ∷ []) in
+          let new = sum_by-append frame_left s.begun ((b, turn + 1) ∷ []) in
+          omega (arith, old, new))
           (λ is_new.
-            let old = sum_by-append frame_left s.begun ((b, turn) ∷ []) in
-            let new = sum_by-append frame_left s.begun ((b, turn + 1) ∷ []) in
-            let newest = sum_by-append frame_left (s.begun ++ (b, turn + 1) ∷ []) ((t, 0) ∷ []) in
-            let flags = total_less (block_left (slice_set s.seen t true)) (block_left s.seen) (length next) t (2 + length (get_or next t [])) there
-                (let set_flag = get_or-set_same s.seen t true false (omega arith) in
-                let zero_left : block_left (slice_set s.seen t true) t ≡ 0 = ap (λ c. if c then 0 else 2 + length (get_or next t [])) set_flag in
-                let all_left : block_left s.seen t ≡ 2 + length (get_or next t []) = ap (λ c. if c then 0 else 2 + length (get_or next t [])) is_new in
-                omega (arith, zero_left, all_left))
-                (λ i below off.
-                let same : block_left (slice_set s.seen t true) i ≡ block_left s.seen i = ap (λ c. if c then 0 else 2 + length (get_or next i [])) (get_or-set_other s.seen t i true false off) in
-                omega (arith, same)) in
-            omega (arith, old, new, newest, flags))
+          let old = sum_by-append frame_left s.begun ((b, turn) ∷ []) in
+          let new = sum_by-append frame_left s.begun ((b, turn + 1) ∷ []) in
+          let newest = sum_by-append frame_left (s.begun ++ (b, turn + 1) ∷ []) ((t, 0) ∷ []) in
+          let flags = total_less (block_left (slice_set s.seen t true)) (block_left s.seen) (length next) t (2 + length (get_or next t [])) there
+          (let set_flag = get_or-set_same s.seen t true false (omega arith) in
+          let zero_left : block_left (slice_set s.seen t true) t ≡ 0 = ap (λ c. if c then 0 else 2 + length (get_or next t [])) set_flag in
+          let all_left : block_left s.seen t ≡ 2 + length (get_or next t []) = ap (λ c. if c then 0 else 2 + length (get_or next t [])) is_new in
+          omega (arith, zero_left, all_left))
+          (λ i below off.
+          let same : block_left (slice_set s.seen t true) i ≡ block_left s.seen i = ap (λ c. if c then 0 else 2 + length (get_or next i [])) (get_or-set_other s.seen t i true false off) in
+          omega (arith, same)) in
+          omega (arith, old, new, newest, flags))

@@ -1,11 +1,10 @@
 -- Laws of edges that are turned round.
-use Rattle.std.proofs.Common.{◌≡◌, ◌≢◌, ℕ, zero, suc, ◌+◌, ◌-◌, ◌*◌, ◌<◌, ◌≤◌, Bool, true, false, ◌&&◌, ◌||◌, ◌⊎◌, inl, inr, List, [], ◌∷◌, ◌++◌, length, get_or, slice_get, slice_set, replicate, All, Some, None, refl, sym, ap, ◌∙◌, subst, arith, length-append}
+use Rattle.std.proofs.Common.{◌≡◌, ◌≢◌, ℕ, zero, suc, ◌+◌, ◌-◌, ◌<◌, ◌≤◌, Bool, true, false, ◌&&◌, ◌||◌, inl, inr, List, [], ◌∷◌, ◌++◌, length, get_or, slice_get, slice_set, replicate, All, refl, sym, ap, ◌∙◌, subst, arith}
 use Rattle.std.specs.Prelude.{◌==◌, if◌then◌else◌}
-use Rattle.std.specs.List.{list_any}
 use Rattle.std.specs.List.Sorted.{IsStrictlyIncreasing}
-use Rattle.std.proofs.lemmas.Bool.{false≢true, cases_Bool, cases_eq, cases_lt, eqb-true, eqb-false, eq-eqb, ne_eqb, or_left, or_right}
+use Rattle.std.proofs.lemmas.Bool.{false≢true, cases_Bool, cases_eq, cases_lt, eqb-true, eq-eqb, ne_eqb, or_left, or_right}
 use Rattle.std.proofs.lemmas.List.{length-set, length-replicate, get_or-replicate, get_or-set_same, get_or-set_other, get_or_past, get_or_append_left, get_or_push, length_push}
-use Rattle.std.proofs.lemmas.List.Elements.{All-head, All-tail, All-get_or, All-from_get_or}
+use Rattle.std.proofs.lemmas.List.Elements.{All-head, All-tail, All-from_get_or}
 use Rattle.dcc_flow.specs.Edges.{is_in, leads, entries, AreWithin, ArePredecessors}
 use Rattle.dcc_flow.specs.Sources.{is_number, added, entered, all_entered}
 use Rattle.dcc_flow.proofs.Members.{in_here, in_there}
@@ -86,8 +85,8 @@ rises_added n list h = by_test (Rises n) (is_number (slice_get list (length list
             let le = h.last (omega arith) in
             let at : length list - 1 ≡ k = omega arith in
             let other : get_or list k 0 ≢ n = λ e.
-                let yes = number_at list (length list - 1) n (omega arith) ∙ eq-eqb (get_or list (length list - 1) 0) n (ap (λ j. get_or list j 0) at ∙ e) in
-                false≢true (sym f ∙ yes) in
+            let yes = number_at list (length list - 1) n (omega arith) ∙ eq-eqb (get_or list (length list - 1) 0) n (ap (λ j. get_or list j 0) at ∙ e) in
+            false≢true (sym f ∙ yes) in
             let le_too : get_or list k 0 ≤ n = subst (λ j. get_or list j 0 ≤ n) at le in
             omega (arith, first, second, le_too, other)
       ];

@@ -1,12 +1,11 @@
 -- Laws of words of bits.
-use Rattle.std.proofs.Common.{◌≡◌, ◌≢◌, ℕ, zero, suc, ◌+◌, ◌-◌, ◌*◌, ◌/◌, ◌%◌, ◌^◌, ◌<◌, ◌≤◌, min, max, Bool, true, false, ◌&&◌, ◌||◌, not, ◌⊎◌, inl, inr, MatchBool, List, [], ◌∷◌, length, get_or, map, replicate, slice_set, All, refl, sym, ap, ◌∙◌, subst, arith, w64, bit_and, bit_or}
+use Rattle.std.proofs.Common.{◌≡◌, ◌≢◌, ℕ, ◌+◌, ◌-◌, ◌*◌, ◌/◌, ◌%◌, ◌^◌, ◌<◌, ◌≤◌, min, max, Bool, true, false, ◌&&◌, ◌||◌, not, ◌⊎◌, inl, inr, MatchBool, List, [], ◌∷◌, length, get_or, replicate, slice_set, refl, sym, ap, ◌∙◌, subst, arith, w64, bit_and, bit_or}
 use Rattle.std.specs.Prelude.{◌==◌}
 use Rattle.std.specs.Int.{bit_at, bit_not}
-use Rattle.std.specs.List.{range_with_len}
-use Rattle.std.proofs.lemmas.Bool.{false≢true, cases_Bool, cases_eq, cases_lt, eqb-true, eq-eqb, or_parts, or_from, not-false}
-use Rattle.std.proofs.lemmas.List.{ext_get_or, length-set, length-map, length-replicate, get_or-replicate, get_or-set_same, get_or-set_other, set-get_or, get_or_past}
+use Rattle.std.proofs.lemmas.Bool.{false≢true, cases_Bool, cases_eq, cases_lt, eqb-true, eq-eqb, or_parts, not-false}
+use Rattle.std.proofs.lemmas.List.{ext_get_or, length-set, length-replicate, get_or-replicate, get_or-set_same, get_or-set_other, set-get_or, get_or_past}
 use Rattle.std.proofs.lemmas.List.Elements.{All-set, All-replicate, All-get_or, All-from_get_or}
-use Rattle.std.proofs.lemmas.List.FromFn.{length-range_with_len, length-map-range_with_len, get_or-map-range_with_len, fill_by_all}
+use Rattle.std.proofs.lemmas.List.FromFn.{length-map-range_with_len, get_or-map-range_with_len, fill_by_all}
 use Rattle.std.proofs.lemmas.Nat.{or_lt, and_le_l}
 use Rattle.std.proofs.lemmas.Nat.Bits.{bit_at-zero, bit_at_and, bit_at_or, bit_at_not, bit_at-lt, bit_at_set_same, bit_at_set_other, same_from_bits_below}
 use Rattle.dcc_flow.specs.Bits.{words_for, bit, flowed, is_other, differ}
@@ -51,9 +50,9 @@ flowed_bit a u o w i h k =
     ∙ or_bits (bit_at (bit_or a u) i) (bit_at (bit_and o (bit_not w64 w)) i) l r
     ∙ ap (λ x. x || (bit_at (bit_and o (bit_not w64 w)) i == 1)) (ap (λ x. x == 1) left ∙ or_bits (bit_at a i) (bit_at u i) (bit_at-lt a i) (bit_at-lt u i))
     ∙ ap (λ x. ((bit_at a i == 1) || (bit_at u i == 1)) || x)
-      (ap (λ x. x == 1) right
-      ∙ and_bits (bit_at o i) (bit_at (bit_not w64 w) i) (bit_at-lt o i) (bit_at-lt (bit_not w64 w) i)
-      ∙ ap (λ x. (bit_at o i == 1) && x) (ap (λ x. x == 1) other ∙ not_bit (bit_at w i) (bit_at-lt w i)))
+    (ap (λ x. x == 1) right
+    ∙ and_bits (bit_at o i) (bit_at (bit_not w64 w) i) (bit_at-lt o i) (bit_at-lt (bit_not w64 w) i)
+    ∙ ap (λ x. (bit_at o i == 1) && x) (ap (λ x. x == 1) other ∙ not_bit (bit_at w i) (bit_at-lt w i)))
     ∙ assoc (bit_at a i == 1) (bit_at u i == 1) ((bit_at o i == 1) && not (bit_at w i == 1))
   where
     assoc : (x y z : Bool) → ((x || y) || z) ≡ (x || y || z)
@@ -135,11 +134,11 @@ module _ (words : List ℕ) (len i : ℕ) (are : AreWords words len) (inside : i
   set_bits =
       let same_len = length_bits words len in
       ext_get_or false (bits_in with_bit len) (slice_set (bits_in words len) i true) (length_bits with_bit len ∙ sym (length-set (bits_in words len) i true ∙ same_len)) (λ k h.
-        let below : k < len = omega (arith, length_bits with_bit len) in
-        bit_at_place with_bit len k below ∙ elim (cases_eq k i) [
-          | inl e ↦ ap (bit_in with_bit) e ∙ set_here ∙ sym (ap (λ j. bit (slice_set (bits_in words len) i true) j) e ∙ get_or-set_same (bits_in words len) i true false (omega arith))
-          | inr o ↦ set_there k o ∙ sym (get_or-set_other (bits_in words len) i k true false o ∙ bit_at_place words len k below)
-        ])
+      let below : k < len = omega (arith, length_bits with_bit len) in
+      bit_at_place with_bit len k below ∙ elim (cases_eq k i) [
+        | inl e ↦ ap (bit_in with_bit) e ∙ set_here ∙ sym (ap (λ j. bit (slice_set (bits_in words len) i true) j) e ∙ get_or-set_same (bits_in words len) i true false (omega arith))
+        | inr o ↦ set_there k o ∙ sym (get_or-set_other (bits_in words len) i k true false o ∙ bit_at_place words len k below)
+      ])
 
 -- Lists that differ.
 
@@ -166,16 +165,16 @@ same_lists (x ∷ xs) (y ∷ ys) h =
 pub same_words : (xs ys : List ℕ) (len : ℕ) → AreWords xs len → AreWords ys len → bits_in xs len ≡ bits_in ys len → xs ≡ ys
 same_words xs ys len a b e = ext_get_or 0 xs ys (a.count ∙ sym b.count) (λ q h.
     same_from_bits_below 64 (get_or xs q 0) (get_or ys q 0) (All-get_or (λ x. x < 2 ^ 64) xs q 0 h a.fits) (All-get_or (λ x. x < 2 ^ 64) ys q 0 (omega (arith, a.count, b.count)) b.fits) (λ j k.
-      let place = 64 * q + j in
-      let at : place / 64 ≡ q = omega arith in
-      let low : place % 64 ≡ j = omega arith in
-      let both : bit_in xs place ≡ bit_in ys place = elim (cases_lt place len) [
-        | inl inside ↦ sym (bit_at_place xs len place inside) ∙ ap (λ l. bit l place) e ∙ bit_at_place ys len place inside
-        | inr past ↦ a.clear place past ∙ sym (b.clear place past)
-      ] in
-      let here : (bit_at (get_or xs q 0) j == 1) ≡ (bit_at (get_or ys q 0) j == 1) =
-      subst (λ (p : ℕ × ℕ). (bit_at (get_or xs p.0 0) p.1 == 1) ≡ (bit_at (get_or ys p.0 0) p.1 == 1)) (pair_is at low) both in
-      same_bit (bit_at (get_or xs q 0) j) (bit_at (get_or ys q 0) j) (bit_at-lt (get_or xs q 0) j) (bit_at-lt (get_or ys q 0) j) here))
+    let place = 64 * q + j in
+    let at : place / 64 ≡ q = omega arith in
+    let low : place % 64 ≡ j = omega arith in
+    let both : bit_in xs place ≡ bit_in ys place = elim (cases_lt place len) [
+      | inl inside ↦ sym (bit_at_place xs len place inside) ∙ ap (λ l. bit l place) e ∙ bit_at_place ys len place inside
+      | inr past ↦ a.clear place past ∙ sym (b.clear place past)
+    ] in
+    let here : (bit_at (get_or xs q 0) j == 1) ≡ (bit_at (get_or ys q 0) j == 1) =
+    subst (λ (p : ℕ × ℕ). (bit_at (get_or xs p.0 0) p.1 == 1) ≡ (bit_at (get_or ys p.0 0) p.1 == 1)) (pair_is at low) both in
+    same_bit (bit_at (get_or xs q 0) j) (bit_at (get_or ys q 0) j) (bit_at-lt (get_or xs q 0) j) (bit_at-lt (get_or ys q 0) j) here))
   where
     pair_is : {m n p q : ℕ} → m ≡ p → n ≡ q → ◌≡◌ {A = ℕ × ℕ} (m, n) (p, q)
     pair_is e f = cc
@@ -226,8 +225,8 @@ module _ (words used out written : List ℕ) (len : ℕ) (are : AreWords words l
         let inside : k < length words = omega (arith, after_length) in
         subst (λ x. x < 2 ^ 64) (sym (after_at k inside))
         (or_lt 64 (bit_or (get_or words k 0) (get_or used k 0)) (bit_and (get_or out k 0) (bit_not w64 (get_or written k 0)))
-          (or_lt 64 (get_or words k 0) (get_or used k 0) (All-get_or (λ x. x < 2 ^ 64) words k 0 inside are.fits) (All-get_or (λ x. x < 2 ^ 64) used k 0 (omega (arith, are.count, uses.count)) uses.fits))
-          (and_below (get_or out k 0) (bit_not w64 (get_or written k 0)) (All-get_or (λ x. x < 2 ^ 64) out k 0 (omega (arith, are.count, outs.count)) outs.fits))));
+        (or_lt 64 (get_or words k 0) (get_or used k 0) (All-get_or (λ x. x < 2 ^ 64) words k 0 inside are.fits) (All-get_or (λ x. x < 2 ^ 64) used k 0 (omega (arith, are.count, uses.count)) uses.fits))
+        (and_below (get_or out k 0) (bit_not w64 (get_or written k 0)) (All-get_or (λ x. x < 2 ^ 64) out k 0 (omega (arith, are.count, outs.count)) outs.fits))));
     clear = λ place gone. after_bit place ∙ ap (λ x. x || bit_in used place || (bit_in out place && not (bit_in written place))) (are.clear place gone)
         ∙ ap (λ x. x || (bit_in out place && not (bit_in written place))) (uses.clear place gone)
         ∙ ap (λ x. x && not (bit_in written place)) (outs.clear place gone);
@@ -241,12 +240,12 @@ module _ (words used out written : List ℕ) (len : ℕ) (are : AreWords words l
   flowed_bits =
       fill_by_all (λ i. bit (bits_in words len) i || bit (bits_in used len) i || (bit (bits_in out len) i && not (bit (bits_in written len) i)))
       (bits_in after len) (length (bits_in words len)) false (length_bits after len ∙ sym (length_bits words len)) (λ k h.
-        let inside : k < len = omega (arith, length_bits words len) in
-        bit_at_place after len k inside ∙ after_bit k
-        ∙ sym (ap (λ x. x || bit (bits_in used len) k || (bit (bits_in out len) k && not (bit (bits_in written len) k))) (bit_at_place words len k inside)
-          ∙ ap (λ x. bit_in words k || x || (bit (bits_in out len) k && not (bit (bits_in written len) k))) (bit_at_place used len k inside)
-          ∙ ap (λ x. bit_in words k || bit_in used k || (x && not (bit (bits_in written len) k))) (bit_at_place out len k inside)
-          ∙ ap (λ x. bit_in words k || bit_in used k || (bit_in out k && not x)) (bit_at_place written len k inside)))
+      let inside : k < len = omega (arith, length_bits words len) in
+      bit_at_place after len k inside ∙ after_bit k
+      ∙ sym (ap (λ x. x || bit (bits_in used len) k || (bit (bits_in out len) k && not (bit (bits_in written len) k))) (bit_at_place words len k inside)
+      ∙ ap (λ x. bit_in words k || x || (bit (bits_in out len) k && not (bit (bits_in written len) k))) (bit_at_place used len k inside)
+      ∙ ap (λ x. bit_in words k || bit_in used k || (x && not (bit (bits_in written len) k))) (bit_at_place out len k inside)
+      ∙ ap (λ x. bit_in words k || bit_in used k || (bit_in out k && not x)) (bit_at_place written len k inside)))
 
   -- whether a word changed is whether a place did
   pub flowed_differ : (changed : Bool) → MatchBool changed (flowed_words words used out written ≢ words) (flowed_words words used out written ≡ words)

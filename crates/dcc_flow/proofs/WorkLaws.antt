@@ -1,22 +1,22 @@
 -- The work that is left while places flow: what it keeps, and that it becomes less.
-use Rattle.std.proofs.Common.{◌≡◌, ◌≢◌, ℕ, zero, suc, ◌+◌, ◌-◌, ◌*◌, ◌<◌, ◌≤◌, Bool, true, false, ◌&&◌, ◌||◌, not, ◌⊎◌, inl, inr, List, [], ◌∷◌, ◌++◌, length, get_or, slice_set, replicate, All, Some, count_by, refl, sym, ap, ◌∙◌, subst, arith}
+use Rattle.std.proofs.Common.{◌≡◌, ◌≢◌, ℕ, zero, suc, ◌+◌, ◌-◌, ◌*◌, ◌<◌, ◌≤◌, Bool, true, false, ◌&&◌, ◌||◌, not, ◌⊎◌, inl, inr, List, [], ◌∷◌, ◌++◌, length, get_or, slice_set, replicate, All, count_by, refl, sym, ap, ◌∙◌, subst, arith}
 use Rattle.std.specs.Prelude.{◌==◌, if◌then◌else◌}
-use Rattle.std.specs.List.{range_with_len, sum_by}
-use Rattle.std.proofs.lemmas.Bool.{false≢true, cases_Bool, cases_eq, cases_lt, eqb-true, eq-eqb, ne_eqb, or_cases, or_left, or_right, or_from, or_parts, and_parts, and_from, not-true, not_from_false}
+use Rattle.std.specs.List.{range_with_len}
+use Rattle.std.proofs.lemmas.Bool.{false≢true, cases_Bool, cases_eq, cases_lt, eq-eqb, ne_eqb, or_cases, or_left, or_right, or_from, and_parts, and_from, not-true}
 use Rattle.std.proofs.lemmas.List.{length-set, length-replicate, get_or-replicate, get_or-set_same, get_or-set_other, get_or_past}
-use Rattle.std.proofs.lemmas.List.Elements.{All-nil, All-cons, All-head, All-tail, All-get_or, All-from_get_or}
+use Rattle.std.proofs.lemmas.List.Elements.{All-head, All-tail, All-get_or, All-from_get_or}
 use Rattle.std.proofs.lemmas.List.Sums.{sum_by-append}
 use Rattle.std.proofs.lemmas.List.FromFn.{length-map-range_with_len, get_or-map-range_with_len}
-use Rattle.std.proofs.Math.Nat.{mul-le-mul_left, mul-le-mul_right, mul-suc, suc-mul}
+use Rattle.std.proofs.Math.Nat.{mul-le-mul_left, mul-le-mul_right, mul-suc}
 use Rattle.dcc_ir.specs.Flow.{IsPath}
 use Rattle.dcc_flow.specs.Edges.{is_in, leads, entries, AreWithin, ArePredecessors}
-use Rattle.dcc_flow.specs.Bits.{bit, flowed, is_other, differ}
-use Rattle.dcc_flow.specs.Uses.{holds, AreLists, IsUsedAfter, AreUses}
+use Rattle.dcc_flow.specs.Bits.{bit, flowed, differ}
+use Rattle.dcc_flow.specs.Uses.{holds, IsUsedAfter, AreUses}
 use Rattle.dcc_flow.specs.Work.{Work, with_queued, with_answer, spread, without_queued, spread_from, first_work}
 use Rattle.dcc_flow.proofs.Members.{in_here, in_there, in_cases}
 use Rattle.dcc_flow.proofs.SourceLaws.{predecessor_within}
-use Rattle.dcc_flow.proofs.Sums.{total, total_le, total_less, total_same, total_suc, total_none}
-use Rattle.dcc_flow.proofs.WordLaws.{differ_same, same_lists}
+use Rattle.dcc_flow.proofs.Sums.{total, total_less, total_same, total_suc, total_none}
+use Rattle.dcc_flow.proofs.WordLaws.{same_lists}
 
 -- Lists of truth values.
 
@@ -148,11 +148,19 @@ with_answer_is w b bits inside =
     let answered : Work = record w { answer = slice_set w.answer b bits } in
     elim (cases_Bool (differ (get_or w.answer b []) bits)) [
       | inr same ↦ subst (λ x. Answered w x b bits) (sym (ap (λ c. if c then with_queued answered b else answered) same)) (record {
-        answer_is = refl; flags = refl; others = λ p o. refl; agree = λ a. a; change = inl (same, refl);
+        answer_is = refl;
+        flags = refl;
+        others = λ p o. refl;
+        agree = λ a. a;
+        change = inl (same, refl);
       })
       | inl other ↦ subst (λ x. Answered w x b bits) (sym (ap (λ c. if c then with_queued answered b else answered) other)) (elim (cases_Bool (get_or w.queued b false)) [
         | inl was ↦ subst (λ x. Answered w x b bits) (sym (ap (λ c. if c then answered else record answered { pending = w.pending ++ b ∷ []; queued = slice_set w.queued b true }) was)) (record {
-          answer_is = refl; flags = refl; others = λ p o. refl; agree = λ a. a; change = inr (other, was);
+          answer_is = refl;
+          flags = refl;
+          others = λ p o. refl;
+          agree = λ a. a;
+          change = inr (other, was);
         })
         | inr free ↦ subst (λ x. Answered w x b bits) (sym (ap (λ c. if c then answered else record answered { pending = w.pending ++ b ∷ []; queued = slice_set w.queued b true }) free)) (record {
           answer_is = refl;
@@ -438,7 +446,7 @@ module _ (next : List (List ℕ)) (used written : List (List Bool)) (len : ℕ) 
       let popped : Work = record w { pending = rest } in
       let start = without_queued popped block in
       let old : (p : ℕ) → count_by (λ x. x == p) rest + (if block == p then 1 else 0) ≡ (if get_or w.queued p false then 1 else 0) = λ p.
-          sym (times_push rest block p) ∙ subst (λ l. count_by (λ x. x == p) l ≡ (if get_or w.queued p false then 1 else 0)) is (h.kept.agree p) in
+      sym (times_push rest block p) ∙ subst (λ l. count_by (λ x. x == p) l ≡ (if get_or w.queued p false then 1 else 0)) is (h.kept.agree p) in
       let was = last_queued w block rest is h.kept in
       let flagged : block < length w.queued = within w.queued block was in
       let inside : block < length next = omega (arith, flagged, h.kept.flags) in

@@ -3,7 +3,7 @@ use Rattle.std.specs.Prelude.{◌≡◌, ℕ, ◌==◌, Bool, true, false, ◌&&
 use Rattle.dcc_ir.specs.Tree.{Graph}
 use Rattle.dcc_ir.specs.Flow.{IsPath, Any}
 use Rattle.dcc_ir.specs.Live.{follows}
-use Rattle.dcc_ir.specs.WellFormed.{IsGraph, all_differ}
+use Rattle.dcc_ir.specs.WellFormed.{all_differ}
 use Rattle.dcc_flow.specs.Edges.{is_in, successors_of}
 
 -- A depth-first search visits each of these blocks in turn, if it was not seen before: it visits the blocks that follow

@@ -1,4 +1,4 @@
-use Rattle.std.proofs.Common.{◌≡◌, ℕ, [], replicate, ◌-◌}
+use Rattle.std.proofs.Common.{◌≡◌, [], replicate}
 use Rattle.dcc_flow.specs.Edges.{rows}
 use Rattle.dcc_flow.proofs.edges.no_sources.Given as goal
 

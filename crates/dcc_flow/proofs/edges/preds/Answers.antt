@@ -1,6 +1,6 @@
-use Rattle.std.proofs.Common.{◌≡◌, ◌≤◌, length, ap, sym, ◌∙◌, subst, arith}
+use Rattle.std.proofs.Common.{◌≤◌, length, sym, subst, arith}
 use Rattle.dcc_ir.specs.Views.{graph_of}
-use Rattle.dcc_flow.specs.Edges.{rows, successors_of, AreWithin, ArePredecessors}
+use Rattle.dcc_flow.specs.Edges.{rows, successors_of, AreWithin}
 use Rattle.dcc_flow.proofs.RowLaws.{successors_within, length_successors, few_blocks, predecessors_fit}
 use Rattle.dcc_flow.proofs.edges.preds.Goals as goal
 

@@ -1,7 +1,6 @@
-use Rattle.std.proofs.Common.{◌≡◌, ◌<◌, ◌+◌, ℕ, [], length, get_or, map, take, ap, sym, ◌∙◌, subst, arith}
+use Rattle.std.proofs.Common.{◌≡◌, ◌<◌, ◌+◌, length, get_or, take, ap, sym, ◌∙◌, subst, arith}
 use Rattle.std.proofs.lemmas.List.{length-map}
 use Rattle.dcc_ir.specs.Views.{block_of, graph_of}
-use Rattle.dcc_ir.specs.Flow.{targets}
 use Rattle.dcc_flow.specs.Edges.{rows, successors_of}
 use Rattle.dcc_flow.proofs.RowLaws.{push_step, successor_row, length_successors}
 use Rattle.dcc_flow.proofs.edges.successors.Goals as goal

@@ -1,9 +1,9 @@
-use Rattle.std.proofs.Common.{◌≡◌, ◌<◌, ◌≤◌, ◌-◌, ℕ, Bool, false, List, [], ◌∷◌, ◌++◌, length, get_or, replicate, reverse, take, All, Some, ap, sym, ◌∙◌, subst, arith}
-use Rattle.std.proofs.lemmas.List.Elements.{All-get_or, All-pop}
+use Rattle.std.proofs.Common.{◌≡◌, ◌<◌, ◌-◌, ℕ, Bool, false, List, [], ◌∷◌, ◌++◌, length, replicate, reverse, take, Some, ap, sym, ◌∙◌, subst, arith}
+use Rattle.std.proofs.lemmas.List.Elements.{All-pop}
 use Rattle.dcc_ir.specs.Views.{graph_of}
-use Rattle.dcc_flow.specs.Edges.{rows, successors_of, AreWithin}
+use Rattle.dcc_flow.specs.Edges.{rows, AreWithin}
 use Rattle.dcc_flow.specs.Order.{IsSearched}
-use Rattle.dcc_flow.specs.Search.{Search, search_of, visited, gone_on}
+use Rattle.dcc_flow.specs.Search.{Search, search_of, visited}
 use Rattle.dcc_flow.proofs.RowLaws.{length_rows, length_successors, successors_within}
 use Rattle.dcc_flow.proofs.SearchLaws.{StandsAt, stands_first, stands_on, stands_last, left, less_left}
 use Rattle.dcc_flow.proofs.search.order.Goals as goal

@@ -1,4 +1,3 @@
-use Rattle.std.proofs.Common.{◌≡◌, length}
 use Rattle.dcc_flow.specs.Edges.{rows}
 use Rattle.dcc_flow.specs.Search.{search_of}
 use Rattle.dcc_flow.proofs.SearchLaws.{StandsAt, left}

@@ -1,12 +1,12 @@
-use Rattle.std.proofs.Common.{◌≡◌, ◌<◌, ◌≤◌, ◌+◌, ◌-◌, ◌*◌, ℕ, Bool, List, [], ◌∷◌, ◌++◌, length, get_or, take, All, ap, sym, ◌∙◌, subst, arith}
+use Rattle.std.proofs.Common.{◌≡◌, ◌<◌, ◌≤◌, ◌+◌, ◌-◌, ◌*◌, [], ◌++◌, length, get_or, take, All, ap, sym, ◌∙◌, subst, arith}
 use Rattle.std.proofs.lemmas.List.{get_or_read}
 use Rattle.std.proofs.lemmas.List.Elements.{All-get_or, All-from_get_or}
 use Rattle.dcc_flow.specs.Edges.{rows}
 use Rattle.dcc_flow.specs.Bits.{words_for}
-use Rattle.dcc_flow.specs.Work.{Work, work_of, spread_from}
+use Rattle.dcc_flow.specs.Work.{work_of}
 use Rattle.dcc_flow.proofs.RowLaws.{row_read, length_rows}
 use Rattle.dcc_flow.proofs.SourceLaws.{in_at, predecessor_within}
-use Rattle.dcc_flow.proofs.WorkLaws.{Going, last_inside, answered, turn_going, turn_less, turn_steps, turn_bound, start_steps, start_going}
+use Rattle.dcc_flow.proofs.WorkLaws.{last_inside, answered, turn_going, turn_less, turn_steps, turn_bound, start_steps, start_going}
 use Rattle.dcc_flow.proofs.uses.solve.Goals as goal
 
 pub loop-block-init : goal.loop-block-init
@@ -55,10 +55,10 @@ flow_from-requires-clause-sources g c =
     let row = c.as_slice.ensures.value ∙ row_read vs block c.index.result.now (omega (arith, inside, c.in_ok-sources.ensures.sources.len, length_rows vs)) c.index.ensures in
     subst (λ l. All (λ source. source < length c.loop-block.work.answer.items) l) (sym row)
     (All-from_get_or (λ source. source < length c.loop-block.work.answer.items) (get_or (rows vs) block []) 0 (λ i less.
-      let source = get_or (get_or (rows vs) block []) i 0 in
-      let edge = sym (c.in_ok-sources.ensures.sources.exact source block inside) ∙ in_at (get_or (rows vs) block []) i less in
-      let below = predecessor_within next source block edge in
-      omega (arith, below, kept.count)))
+    let source = get_or (get_or (rows vs) block []) i 0 in
+    let edge = sym (c.in_ok-sources.ensures.sources.exact source block inside) ∙ in_at (get_or (rows vs) block []) i less in
+    let below = predecessor_within next source block edge in
+    omega (arith, below, kept.count)))
 
 pub flow_from-requires-clause-lists : goal.flow_from-requires-clause-lists
 flow_from-requires-clause-lists g c =

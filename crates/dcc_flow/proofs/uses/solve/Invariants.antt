@@ -1,4 +1,4 @@
-use Rattle.std.proofs.Common.{◌≡◌, ◌+◌, ◌*◌, ◌≤◌, [], length, get_or}
+use Rattle.std.proofs.Common.{◌+◌, ◌*◌, ◌≤◌, [], length, get_or}
 use Rattle.dcc_flow.specs.Edges.{rows, entries}
 use Rattle.dcc_flow.specs.Bits.{words_for}
 use Rattle.dcc_flow.specs.Work.{work_of}

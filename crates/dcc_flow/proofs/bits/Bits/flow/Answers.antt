@@ -1,9 +1,9 @@
-use Rattle.std.proofs.Common.{◌≡◌, ◌≢◌, ℕ, ◌+◌, Bool, MatchBool, List, length, ap, sym, ◌∙◌, subst, arith}
+use Rattle.std.proofs.Common.{◌≡◌, ◌≢◌, ℕ, ◌+◌, Bool, MatchBool, List, length, ap, sym, ◌∙◌, subst}
 use Rattle.std.specs.Vec.{with_items}
 use Rattle.std.proofs.lemmas.List.{with_items_is}
 use Rattle.dcc_flow.specs.Bits.{flowed, differ, words_for}
 use Rattle.dcc_flow.specs.Words.{bits_in, AreWords, flowed_words}
-use Rattle.dcc_flow.proofs.WordLaws.{length_bits, length_flowed, Flowing, flowing}
+use Rattle.dcc_flow.proofs.WordLaws.{length_bits, length_flowed, flowing}
 use Rattle.dcc_flow.proofs.bits.Bits.flow.Goals as goal
 
 -- two lists of bits with one length
@@ -38,19 +38,19 @@ invariant_of-self g c =
     let out = c.out.inside.words.items in
     let written = c.written.inside.words.items in
     let now = c.flow_words.ensures.words
-        ∙ ap (λ x. flowed_words x c.as_slice.result.now c.as_slice-2.result.now c.as_slice-3.result.now) c.as_mut_slice.ensures.value
-        ∙ ap (λ x. flowed_words words x c.as_slice-2.result.now c.as_slice-3.result.now) c.as_slice.ensures.value
-        ∙ ap (λ x. flowed_words words used x c.as_slice-3.result.now) c.as_slice-2.ensures.value
-        ∙ ap (flowed_words words used out) c.as_slice-3.ensures.value in
+    ∙ ap (λ x. flowed_words x c.as_slice.result.now c.as_slice-2.result.now c.as_slice-3.result.now) c.as_mut_slice.ensures.value
+    ∙ ap (λ x. flowed_words words x c.as_slice-2.result.now c.as_slice-3.result.now) c.as_slice.ensures.value
+    ∙ ap (λ x. flowed_words words used x c.as_slice-3.result.now) c.as_slice-2.ensures.value
+    ∙ ap (flowed_words words used out) c.as_slice-3.ensures.value in
     let whole : length c.flow_words.new.words ≡ c.self.inside.words.len =
-        ap length now ∙ length_flowed words used out written ∙ sym (ap length c.as_mut_slice.ensures.value) ∙ c.as_mut_slice.ensures.len in
+    ap length now ∙ length_flowed words used out written ∙ sym (ap length c.as_mut_slice.ensures.value) ∙ c.as_mut_slice.ensures.len in
     let kept = with_items_is c.self.inside.words c.flow_words.new.words whole in
     let facts = flowing words (with_items c.self.inside.words c.flow_words.new.words).items used out written c.self.inside.len c.used.inside.len c.out.inside.len c.written.inside.len
-        c.self.invariant c.used.invariant c.out.invariant c.written.invariant
-        (same_len used words c.used.inside.len c.self.inside.len c.args.used.now c.args.self.now c.used.view_is c.self.view_is c.requires.used)
-        (same_len out words c.out.inside.len c.self.inside.len c.args.out.now c.args.self.now c.out.view_is c.self.view_is c.requires.out)
-        (same_len written words c.written.inside.len c.self.inside.len c.args.written.now c.args.self.now c.written.view_is c.self.view_is c.requires.written)
-        (kept ∙ now) in
+    c.self.invariant c.used.invariant c.out.invariant c.written.invariant
+    (same_len used words c.used.inside.len c.self.inside.len c.args.used.now c.args.self.now c.used.view_is c.self.view_is c.requires.used)
+    (same_len out words c.out.inside.len c.self.inside.len c.args.out.now c.args.self.now c.out.view_is c.self.view_is c.requires.out)
+    (same_len written words c.written.inside.len c.self.inside.len c.args.written.now c.args.self.now c.written.view_is c.self.view_is c.requires.written)
+    (kept ∙ now) in
     facts.are
 
 pub returns-clause-bits : goal.returns-clause-bits
@@ -60,19 +60,19 @@ returns-clause-bits g c =
     let out = c.out.inside.words.items in
     let written = c.written.inside.words.items in
     let now = c.flow_words.ensures.words
-        ∙ ap (λ x. flowed_words x c.as_slice.result.now c.as_slice-2.result.now c.as_slice-3.result.now) c.as_mut_slice.ensures.value
-        ∙ ap (λ x. flowed_words words x c.as_slice-2.result.now c.as_slice-3.result.now) c.as_slice.ensures.value
-        ∙ ap (λ x. flowed_words words used x c.as_slice-3.result.now) c.as_slice-2.ensures.value
-        ∙ ap (flowed_words words used out) c.as_slice-3.ensures.value in
+    ∙ ap (λ x. flowed_words x c.as_slice.result.now c.as_slice-2.result.now c.as_slice-3.result.now) c.as_mut_slice.ensures.value
+    ∙ ap (λ x. flowed_words words x c.as_slice-2.result.now c.as_slice-3.result.now) c.as_slice.ensures.value
+    ∙ ap (λ x. flowed_words words used x c.as_slice-3.result.now) c.as_slice-2.ensures.value
+    ∙ ap (flowed_words words used out) c.as_slice-3.ensures.value in
     let whole : length c.flow_words.new.words ≡ c.self.inside.words.len =
-        ap length now ∙ length_flowed words used out written ∙ sym (ap length c.as_mut_slice.ensures.value) ∙ c.as_mut_slice.ensures.len in
+    ap length now ∙ length_flowed words used out written ∙ sym (ap length c.as_mut_slice.ensures.value) ∙ c.as_mut_slice.ensures.len in
     let kept = with_items_is c.self.inside.words c.flow_words.new.words whole in
     let facts = flowing words (with_items c.self.inside.words c.flow_words.new.words).items used out written c.self.inside.len c.used.inside.len c.out.inside.len c.written.inside.len
-        c.self.invariant c.used.invariant c.out.invariant c.written.invariant
-        (same_len used words c.used.inside.len c.self.inside.len c.args.used.now c.args.self.now c.used.view_is c.self.view_is c.requires.used)
-        (same_len out words c.out.inside.len c.self.inside.len c.args.out.now c.args.self.now c.out.view_is c.self.view_is c.requires.out)
-        (same_len written words c.written.inside.len c.self.inside.len c.args.written.now c.args.self.now c.written.view_is c.self.view_is c.requires.written)
-        (kept ∙ now) in
+    c.self.invariant c.used.invariant c.out.invariant c.written.invariant
+    (same_len used words c.used.inside.len c.self.inside.len c.args.used.now c.args.self.now c.used.view_is c.self.view_is c.requires.used)
+    (same_len out words c.out.inside.len c.self.inside.len c.args.out.now c.args.self.now c.out.view_is c.self.view_is c.requires.out)
+    (same_len written words c.written.inside.len c.self.inside.len c.args.written.now c.args.self.now c.written.view_is c.self.view_is c.requires.written)
+    (kept ∙ now) in
     facts.places
     ∙ ap (λ x. flowed x (bits_in used c.used.inside.len) (bits_in out c.out.inside.len) (bits_in written c.written.inside.len)) c.self.view_is
     ∙ ap (λ x. flowed c.args.self.now x (bits_in out c.out.inside.len) (bits_in written c.written.inside.len)) c.used.view_is
@@ -86,23 +86,23 @@ returns-clause-changed g c =
     let out = c.out.inside.words.items in
     let written = c.written.inside.words.items in
     let now = c.flow_words.ensures.words
-        ∙ ap (λ x. flowed_words x c.as_slice.result.now c.as_slice-2.result.now c.as_slice-3.result.now) c.as_mut_slice.ensures.value
-        ∙ ap (λ x. flowed_words words x c.as_slice-2.result.now c.as_slice-3.result.now) c.as_slice.ensures.value
-        ∙ ap (λ x. flowed_words words used x c.as_slice-3.result.now) c.as_slice-2.ensures.value
-        ∙ ap (flowed_words words used out) c.as_slice-3.ensures.value in
+    ∙ ap (λ x. flowed_words x c.as_slice.result.now c.as_slice-2.result.now c.as_slice-3.result.now) c.as_mut_slice.ensures.value
+    ∙ ap (λ x. flowed_words words x c.as_slice-2.result.now c.as_slice-3.result.now) c.as_slice.ensures.value
+    ∙ ap (λ x. flowed_words words used x c.as_slice-3.result.now) c.as_slice-2.ensures.value
+    ∙ ap (flowed_words words used out) c.as_slice-3.ensures.value in
     let whole : length c.flow_words.new.words ≡ c.self.inside.words.len =
-        ap length now ∙ length_flowed words used out written ∙ sym (ap length c.as_mut_slice.ensures.value) ∙ c.as_mut_slice.ensures.len in
+    ap length now ∙ length_flowed words used out written ∙ sym (ap length c.as_mut_slice.ensures.value) ∙ c.as_mut_slice.ensures.len in
     let kept = with_items_is c.self.inside.words c.flow_words.new.words whole in
     let after = (with_items c.self.inside.words c.flow_words.new.words).items in
     let facts = flowing words after used out written c.self.inside.len c.used.inside.len c.out.inside.len c.written.inside.len
-        c.self.invariant c.used.invariant c.out.invariant c.written.invariant
-        (same_len used words c.used.inside.len c.self.inside.len c.args.used.now c.args.self.now c.used.view_is c.self.view_is c.requires.used)
-        (same_len out words c.out.inside.len c.self.inside.len c.args.out.now c.args.self.now c.out.view_is c.self.view_is c.requires.out)
-        (same_len written words c.written.inside.len c.self.inside.len c.args.written.now c.args.self.now c.written.view_is c.self.view_is c.requires.written)
-        (kept ∙ now) in
+    c.self.invariant c.used.invariant c.out.invariant c.written.invariant
+    (same_len used words c.used.inside.len c.self.inside.len c.args.used.now c.args.self.now c.used.view_is c.self.view_is c.requires.used)
+    (same_len out words c.out.inside.len c.self.inside.len c.args.out.now c.args.self.now c.out.view_is c.self.view_is c.requires.out)
+    (same_len written words c.written.inside.len c.self.inside.len c.args.written.now c.args.self.now c.written.view_is c.self.view_is c.requires.written)
+    (kept ∙ now) in
     let told : MatchBool c.flow_words.result (after ≢ words) (after ≡ words) =
-        subst (λ l. MatchBool c.flow_words.result (after ≢ l) (after ≡ l)) c.as_mut_slice.ensures.value
-        (subst (λ l. MatchBool c.flow_words.result (l ≢ c.as_mut_slice.result.now) (l ≡ c.as_mut_slice.result.now)) (sym kept) c.flow_words.ensures.changed) in
+    subst (λ l. MatchBool c.flow_words.result (after ≢ l) (after ≡ l)) c.as_mut_slice.ensures.value
+    (subst (λ l. MatchBool c.flow_words.result (l ≢ c.as_mut_slice.result.now) (l ≡ c.as_mut_slice.result.now)) (sym kept) c.flow_words.ensures.changed) in
     facts.differs c.flow_words.result told ∙ ap (λ x. differ x (bits_in after c.self.inside.len)) c.self.view_is
 
 pub returns-clause-steps : goal.returns-clause-steps

@@ -1,4 +1,4 @@
-use Rattle.std.proofs.Common.{◌≡◌, List, ℕ, replicate, ap, sym, ◌∙◌, subst, arith}
+use Rattle.std.proofs.Common.{◌≡◌, replicate, ap, sym, ◌∙◌, subst, arith}
 use Rattle.dcc_flow.specs.Bits.{words_for}
 use Rattle.dcc_flow.specs.Words.{bits_in, AreWords}
 use Rattle.dcc_flow.proofs.WordLaws.{no_words, no_bits}

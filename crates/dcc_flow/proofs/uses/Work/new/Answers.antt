@@ -1,4 +1,4 @@
-use Rattle.std.proofs.Common.{◌≡◌, ◌+◌, ℕ, suc, false, [], ◌∷◌, ◌++◌, replicate, ap, sym, ◌∙◌, arith}
+use Rattle.std.proofs.Common.{◌≡◌, ◌+◌, suc, false, [], ◌∷◌, ◌++◌, replicate, ap, ◌∙◌, arith}
 use Rattle.std.specs.List.{range_with_len}
 use Rattle.std.proofs.lemmas.List.{replicate_more}
 use Rattle.dcc_flow.proofs.WorkLaws.{range_more}

@@ -1,9 +1,9 @@
-use Rattle.std.proofs.Common.{◌≡◌, ◌<◌, ◌+◌, ◌*◌, ℕ, suc, [], List, Bool, length, get_or, drop, All, ap, sym, ◌∙◌, subst, arith}
+use Rattle.std.proofs.Common.{◌≡◌, ◌<◌, ◌+◌, ◌*◌, [], length, get_or, drop, All, ap, sym, ◌∙◌, subst, arith}
 use Rattle.std.proofs.lemmas.List.{length-set, drop_more}
 use Rattle.std.proofs.lemmas.List.Elements.{All-get_or, All-set}
 use Rattle.std.proofs.Math.Nat.{suc-mul}
 use Rattle.dcc_flow.specs.Bits.{words_for, flowed}
-use Rattle.dcc_flow.specs.Work.{Work, work_of, with_answer, spread}
+use Rattle.dcc_flow.specs.Work.{Work, work_of, spread}
 use Rattle.dcc_flow.proofs.WorkLaws.{with_answer_is, length_flowed_bits}
 use Rattle.dcc_flow.proofs.uses.Work.spread.Goals as goal
 
@@ -27,7 +27,7 @@ loop-source-preserved g c =
     let size = ap length answer ∙ length-set w.answer to bits in
     let row = length_flowed_bits (get_or w.answer to []) used out written ∙ All-get_or (λ l. length l ≡ length used) w.answer to [] within c.loop-source.invariant.lists in
     let one : (i + 1) * words_for (length used) ≡ i * words_for (length used) + words_for (length used) =
-        ap (λ k. k * words_for (length used)) (omega arith) ∙ suc-mul i (words_for (length used)) in
+    ap (λ k. k * words_for (length used)) (omega arith) ∙ suc-mul i (words_for (length used)) in
     record {
       rest = ap (λ x. spread used out written x (drop (i + 1) tos)) work ∙ sym (ap (spread used out written w) (drop_more tos i 0 inside)) ∙ c.loop-source.invariant.rest;
       lists = subst (λ l. All (λ b. length b ≡ length used) l) (sym answer) (All-set (λ b. length b ≡ length used) w.answer to bits row c.loop-source.invariant.lists);
