@@ -16,4 +16,4 @@ pub mod ExecuteLaws
 pub mod FitStates
 pub mod ReachedLaws
 pub mod UnstuckLaws
-mod PassingExamples
+pub mod PassingExamples

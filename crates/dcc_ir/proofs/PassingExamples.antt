@@ -77,7 +77,7 @@ both_ascend : IsStrictlyIncreasing both_words
 both_ascend zero less = lit< tt
 both_ascend (suc k) less = let past : suc k + 1 < 2 = less in absurd (omega (arith, past))
 
-one : {X : Type 0} (P : X → Type 0) (x : X) → P x → All P (x ∷ [])
+pub one : {X : Type 0} (P : X → Type 0) (x : X) → P x → All P (x ∷ [])
 one P x h = All-cons P x [] h (All-nil P)
 
 callee_passes : GraphPasses both_words callee
@@ -142,7 +142,7 @@ callee_formed = record {
 of_both : (P : Graph → Type 0) → P caller → P callee → All P program.graphs
 of_both P h k = All-cons P caller (callee ∷ []) h (one P callee k)
 
-only_element : {X : Type 0} (x y : X) → Contains (x ∷ []) y → y ≡ x
+pub only_element : {X : Type 0} (x y : X) → Contains (x ∷ []) y → y ≡ x
 only_element x y c = go c.0 c.1 c.2
   where
     go : (k : ℕ) → k < 1 → slice_index_or (x ∷ []) k y ≡ y → y ≡ x

@@ -3,3 +3,4 @@ pub mod CallLaws
 pub mod Theorem
 pub mod AgreeLaws
 pub mod TrimLaws
+mod Examples

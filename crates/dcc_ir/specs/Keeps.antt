@@ -37,8 +37,8 @@ pub record KeepsCalls (p q : Program) (entry : ℕ) : Type 0 where
   pub after : (a b : ℕ) → Reached (flow_at p entry) a → calls_at p entry a ≢ [] → (flow_at p entry).goes a b ≡ true
       → (flow_at q entry).has b ≡ true
 
--- For every fill and input the second program's run visits its blocks as the first one's run does, with the same events,
--- and the two end alike.
+-- For every fill and input the second program's run visits its blocks as the first one's run does, with the same
+-- events, and the two end alike.
 abbrev pub KeepsRuns : Program → Program → Type 0
 KeepsRuns p q = (fill : ℕ) (input : List ℕ) → fill < 65536 → All (λ byte. byte < 256) input →
     VisitsKept (has_block q) (inner_system p fill) block_mark (first_state p fill input)

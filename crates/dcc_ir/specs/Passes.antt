@@ -151,8 +151,8 @@ pub record OwesBegin (pass : Pass) (entry : ℕ) (before after : Graph) : Type 0
 -- paths here.
 abbrev pub OwesGo : Program → Program → Pass → Type 0
 OwesGo p q pass = (arguments : List ℕ) (point : Point) (s t : State) → AreTogether p q pass arguments point s t
-    → (dropped : ℕ) × GoesOn (flow_at q point.entry) dropped (λ halt. Meet pass arguments point dropped halt (halt_of t))
-    (halt_of s)
+    → (dropped : ℕ)
+    × GoesOn (flow_at q point.entry) dropped (λ halt. Meet pass arguments point dropped halt (halt_of t)) (halt_of s)
 
 pub record IsPass (p q : Program) (pass : Pass) : Type 0 where
   pub before : IsProgram p
@@ -163,8 +163,8 @@ pub record IsPass (p q : Program) (pass : Pass) : Type 0 where
   pub entries : map (λ g. g.entry) q.graphs ≡ map (λ g. g.entry) p.graphs
   pub blocks : (entry : ℕ) (old new : Graph) → graph_at p.graphs entry ≡ Some old → graph_at q.graphs entry ≡ Some new
       → BlocksStay old new (pass.place entry)
-  pub begin : (entry : ℕ) (old new : Graph) → graph_at p.graphs entry ≡ Some old → graph_at q.graphs entry ≡ Some new
-      → OwesBegin pass entry old new
+  pub begin : (entry : ℕ) (old new : Graph) → graph_at p.graphs entry ≡ Some old
+      → graph_at q.graphs entry ≡ Some new → OwesBegin pass entry old new
   pub go : OwesGo p q pass
   -- the first graph has no params
   pub start : All (λ g. pass.Enter g.entry [] []) (take 1 p.graphs)
