@@ -1,5 +1,6 @@
 -- The program's answers: the status, the line on the error stream, and which answers are allowed for a job.
-use Rattle.std.specs.Prelude.{◌≡◌, ◌≤◌, ℕ, ◌+◌, ◌/◌, ◌%◌, nat_lt, if◌then◌else◌, List, [], ◌∷◌, ◌++◌, length, codes, Option, Some, None}
+use Rattle.std.specs.Prelude.{◌≡◌, ◌≤◌, ℕ, ◌+◌, ◌/◌, ◌%◌, nat_lt, if◌then◌else◌, List, [], ◌∷◌, ◌++◌, length, codes}
+use Rattle.std.specs.Prelude.{Option, Some, None}
 use Rattle.std.specs.Fmt.{decimal}
 use Rattle.dcc_mz.specs.Fault.{number_of, place_of, IsRefusal as IsFormatRefusal}
 use Rattle.dcc_mz.specs.declared.fault.MzFault.{MzFault}
@@ -9,9 +10,11 @@ use Rattle.dcc_io.specs.declared.outside.ShelfFault.TheVariants.{Absent, Failed 
 use Rattle.dcc_io.specs.Told.{WhenTold}
 use Rattle.dcc_prog.specs.declared.image.Image.{Image}
 use Rattle.dcc_prog.specs.declared.refusal.LimitName.{LimitName}
-use Rattle.dcc_prog.specs.declared.refusal.LimitName.TheVariants.{Procedures, Instructions, Total, Cells, Entries, Arguments}
+use Rattle.dcc_prog.specs.declared.refusal.LimitName.TheVariants.{Procedures, Instructions, Total, Cells, Entries}
+use Rattle.dcc_prog.specs.declared.refusal.LimitName.TheVariants.{Arguments}
 use Rattle.dcc_prog.specs.declared.refusal.Refusal.{Refusal}
-use Rattle.dcc_prog.specs.declared.refusal.Refusal.TheVariants.{Construct as ConstructRefused, Limit as LimitRefused, NotYet as NotYetRefused, Memory as MemoryRefused}
+use Rattle.dcc_prog.specs.declared.refusal.Refusal.TheVariants.{Construct as ConstructRefused, Limit as LimitRefused}
+use Rattle.dcc_prog.specs.declared.refusal.Refusal.TheVariants.{NotYet as NotYetRefused, Memory as MemoryRefused}
 use Rattle.dcc_prog.specs.MzImage.{IsImageOf}
 use Rattle.dcc_prog.specs.Refused.{IsRefusedFor, IsAcceptedProgram}
 use Rattle.dcc_c.specs.Text.{StandsFor}
@@ -24,7 +27,9 @@ use Rattle.dcc_parse.specs.declared.fault.ParseFault.TheVariants.{At, Memory as 
 use Rattle.dcc_parse.specs.Fault.{IsRefusal as IsTextRefusal}
 use Rattle.dcc_pipe.specs.Agreement.{IsTextOf}
 use Rattle.dcc_top.specs.declared.reply.Reply.{Reply}
-use Rattle.dcc_top.specs.declared.reply.Reply.TheVariants.{Done, Exited, Usage, NoFile, FileFault, InputFault, Memory, Format, Construct, Limit, NotYet, TextFault, Unfinished, Divided, Outside, Stuck}
+use Rattle.dcc_top.specs.declared.reply.Reply.TheVariants.{Done, Exited, Usage, NoFile, FileFault, InputFault, Memory}
+use Rattle.dcc_top.specs.declared.reply.Reply.TheVariants.{Format, Construct, Limit, NotYet, TextFault, Unfinished}
+use Rattle.dcc_top.specs.declared.reply.Reply.TheVariants.{Divided, Outside, Stuck}
 use Rattle.dcc_top.specs.Change.{Change}
 use Rattle.dcc_top.specs.Execution.{machine_of, text_of, Finishes, FinishesOrStops, IsCutRun}
 use Rattle.dcc_top.specs.Status as exit
@@ -276,8 +281,8 @@ pub data Allows (told : Files) (before left : Option (List ℕ)) : Option Job �
       → left ≡ before
       → Allows told before left (Some (ExecuteText name steps fill)) reply []
 
--- The job was cut off by a failed write, where these bytes were due: the text of the file, and then nothing of the input
--- was taken; or what a run puts out, and then no more was taken than the run had come to.
+-- The job was cut off by a failed write, where these bytes were due: the text of the file, and then nothing of the
+-- input was taken; or what a run puts out, and then no more was taken than the run had come to.
 pub data IsCut (told : Files) (input output : Change (Option (List ℕ))) : Option Job → List ℕ → Type 0 where
   cut_text : {name due : List ℕ}
       → input.after ≡ input.before

@@ -8,7 +8,9 @@ use Rattle.dcc_top.specs.Words.{Job, Decompile, ExecuteText, IsExecution, LoadsI
 use Rattle.dcc_top.specs.Answer.{OfImages, line_of}
 use Rattle.dcc_top.specs.Call.{Call, Rises, AppendsPart}
 use Rattle.dcc_top.specs.Headline.{HasText}
-use Rattle.dcc_top.specs.Causes.{IsAnswered, HasRunFile, EndsSo, Names, IsMissing, IsAbsent, IsUnreadable, HasFormatFault, HasRefusal, HasTextFault, IsNoText, IsOutOfMemory, IsCutOff, AsksPrefix, AsksAll}
+use Rattle.dcc_top.specs.Causes.{IsAnswered, HasRunFile, EndsSo, Names, IsMissing, IsAbsent, IsUnreadable}
+use Rattle.dcc_top.specs.Causes.{HasFormatFault, HasRefusal, HasTextFault, IsNoText, IsOutOfMemory, IsCutOff}
+use Rattle.dcc_top.specs.Causes.{AsksPrefix, AsksAll}
 use Rattle.dcc_top.specs.Status.{IsOneOf, end_status}
 use Rattle.dcc_top.specs.Status as exit
 
