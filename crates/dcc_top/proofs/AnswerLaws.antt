@@ -1,5 +1,5 @@
 -- What the answers for an image say of its file.
-use Rattle.std.proofs.Common.{◌≡◌, ℕ, List, [], Option, Some, None, refl, sym, ◌∙◌, subst}
+use Rattle.std.proofs.Common.{◌≡◌, ℕ, List, [], Option, Some, refl, sym, ◌∙◌, subst}
 use Rattle.std.specs.Prelude.{Result, Ok, Err, IfOk, OnErr}
 use Rattle.dcc_io.specs.declared.outside.Failed.{Failed}
 use Rattle.dcc_io.proofs.ToldLemmas.{append_told-nil}

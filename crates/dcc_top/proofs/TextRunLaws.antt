@@ -1,5 +1,5 @@
 -- From what the run of a text says to how it finished.
-use Rattle.std.proofs.Common.{◌≡◌, ℕ, List, [], ◌∷◌, Option, Some, None, refl, sym, ap, ◌∙◌, subst}
+use Rattle.std.proofs.Common.{◌≡◌, ℕ, List, [], ◌∷◌, Option, Some, refl, sym, ap, ◌∙◌, subst}
 use Rattle.std.specs.Prelude.{Result, Ok, Err, IfOk, OnErr}
 use Rattle.dcc_io.specs.declared.outside.Failed.{Failed}
 use Rattle.dcc_io.proofs.ToldLemmas.{append_told-nil}
