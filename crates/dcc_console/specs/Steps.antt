@@ -92,8 +92,8 @@ module _ {W C S : Type 0} (executor : Executor W C S) where
   MakesEach (suc count) before now = StepsFrom (MakesEach count before) now
 
   -- So many steps were made, one after another, and this has happened. Where the input tells what is left, they are one
-  -- run: from each state that the code stood for, with just the bytes to read that the input gave, so many steps lead to
-  -- a state that the code stands for now, at whose console just these events have joined.
+  -- run: from each state that the code stood for, with just the bytes to read that the input gave, so many steps lead
+  -- to a state that the code stands for now, at whose console just these events have joined.
   pub record MakesSteps (count : ℕ) (before now : Scene C) : Type 0 where
     pub each : MakesEach count before now
     pub happened : List Event

@@ -40,8 +40,8 @@ pub data IsRefusedImage (image : Image) : Type 0 where
 -- What may be told of a program that is refused, and in which order. The layout comes first: where none holds of the
 -- image, this is told at its entry, and nothing else is. All else is told of the layout that holds: a construct of the
 -- first five kinds that trails tell, more than the greatest number of instructions, or an instruction that is reached
--- and not built; where several of these stand, any of them may be told. What is not built yet, as a return or a division,
--- is told as that, whatever construct it may be. Want of memory has no cause.
+-- and not built; where several of these stand, any of them may be told. What is not built yet, as a return or a
+-- division, is told as that, whatever construct it may be. Want of memory has no cause.
 pub data IsRefusedFor (image : Image) : Refusal → Type 0 where
   no_layout : {at : ℕ} → LacksLayout image at → IsRefusedFor image (Construct NO_LAYOUT at)
   construct :

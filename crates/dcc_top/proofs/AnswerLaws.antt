@@ -1,5 +1,5 @@
 -- What the answers for an image say of its file.
-use Rattle.std.proofs.Common.{◌≡◌, ℕ, List, [], Option, Some, None, refl, sym, ◌∙◌, subst}
+use Rattle.std.proofs.Common.{◌≡◌, ℕ, List, [], Option, Some, refl, sym, ◌∙◌, subst}
 use Rattle.std.specs.Prelude.{Result, Ok, Err, IfOk, OnErr}
 use Rattle.dcc_io.specs.declared.outside.Failed.{Failed}
 use Rattle.dcc_io.proofs.ToldLemmas.{append_told-nil}
@@ -8,7 +8,8 @@ use Rattle.dcc_prog.specs.Machine.{start_state}
 use Rattle.dcc_prog.specs.MzImage.{IsImageOf}
 use Rattle.dcc_top.specs.declared.reply.Reply.{Reply}
 use Rattle.dcc_top.specs.Words.{Decompile}
-use Rattle.dcc_top.specs.Answer.{Files, OfFile, IsTextOfImage, AllowsImage, image_decompiled, image_refused, Decompiles, AllowsText, decompiled, refused, Allows, for_text, IsDue, due_text}
+use Rattle.dcc_top.specs.Answer.{Files, OfFile, IsTextOfImage, AllowsImage, image_decompiled, image_refused, Decompiles, AllowsText, decompiled, refused, Allows, for_text, IsCut, cut_text}
+use Rattle.dcc_top.specs.Change.{Change, same}
 use Rattle.dcc_top.specs.Delivery.{Answers, CutsShort}
 
 -- two images of one file begin in the same state
@@ -40,12 +41,12 @@ answer-of_image told name left image out now (Ok reply) f a =
     record { output = a.output; wrote = a.wrote; is_answer = for_text (text-of_image told name image reply a.output f a.is_answer) refl }
 answer-of_image told name left image out now (Err e) f a = a
 
-pub cut-of_image : (told : Files) (name : List ℕ) (left : Option (List ℕ)) (image : Image) (out now : Option (List ℕ)) (result : Result Reply Failed) → OfFile told name
-    (λ file. IsImageOf file image) → OnErr result (CutsShort (IsTextOfImage image) out now) → OnErr result (CutsShort (IsDue told left (Some (Decompile name))) out now)
-cut-of_image told name left image out now (Ok reply) f c = c
-cut-of_image told name left image out now (Err e) f c = record {
+pub cut-of_image : (told : Files) (name : List ℕ) (left : Option (List ℕ)) (image : Image) (output : Change (Option (List ℕ))) (result : Result Reply Failed) → OfFile told name
+    (λ file. IsImageOf file image) → OnErr result (CutsShort (IsTextOfImage image) output.before output.after) → OnErr result (CutsShort (IsCut told (same left) output (Some (Decompile name))) output.before output.after)
+cut-of_image told name left image output (Ok reply) f c = c
+cut-of_image told name left image output (Err e) f c = record {
   due = c.due;
-  is_due = due_text (record { file = f.file; has = f.has; holds = decompiles-image f.file c.due image f.holds c.is_due });
+  is_due = cut_text refl (record { file = f.file; has = f.has; holds = decompiles-image f.file c.due image f.holds c.is_due });
   part = c.part;
 }
 

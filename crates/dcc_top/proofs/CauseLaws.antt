@@ -8,7 +8,7 @@ use Rattle.dcc_mz.specs.Fault.{IsRefusal}
 use Rattle.dcc_run.specs.End.{End}
 use Rattle.dcc_prog.specs.declared.refusal.Refusal.{Refusal}
 use Rattle.dcc_prog.specs.MzImage.{FormatFault, IsFirstFault}
-use Rattle.dcc_top.specs.Program.{IsAcceptedProgram, IsRefusedImage}
+use Rattle.dcc_prog.specs.Refused.{IsAcceptedProgram, IsRefusedImage}
 use Rattle.dcc_reader.specs.declared.offence.ParseKind.{ParseKind}
 use Rattle.dcc_parse.specs.Fault.{IsRefusal as IsTextRefusal}
 use Rattle.dcc_top.specs.declared.reply.Reply.{Reply}

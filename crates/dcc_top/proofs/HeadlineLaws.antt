@@ -5,20 +5,14 @@ use Rattle.dcc_prog.specs.declared.image.Image.{Image}
 use Rattle.dcc_c.specs.Tree.{Tree, Function}
 use Rattle.dcc_pipe.specs.Agreement as pipe
 use Rattle.dcc_top.specs.Answer.{Files, ShelfHas, Decompiles}
-use Rattle.dcc_top.specs.Execution.{machine_of, text_of}
+use Rattle.dcc_top.specs.Execution.{text_of}
 use Rattle.dcc_top.specs.Headline.{HasText, RunsAgree}
 
 runs-agree : (image : Image) (tree : Tree) (start : Function) (tokens : ℕ) (input : List ℕ) (fill : ℕ)
     → pipe.RunsAgree image tree start tokens input fill
-    → RunsAgree (machine_of image) (text_of tree start fill) tokens input
+    → RunsAgree image (text_of tree start fill) tokens input
 runs-agree image tree start tokens input fill a =
-    let text = a.text_follows in
-    let file = a.machine_follows in
-    record {
-      text_keeps_up = λ n. record { out = text.out n tt; end = text.end n tt; same = text.same n tt };
-      file_keeps_up = λ k. record { out = file.out k tt; end = file.end k tt; same = file.same k tt };
-      never_stuck = a.never_stuck;
-    }
+    record { text_keeps_up = a.text_keeps_up; file_keeps_up = a.machine_keeps_up; never_stuck = a.never_stuck }
 
 pub has-text : (told : Files) (name : List ℕ) (before after : Option (List ℕ)) (file text : List ℕ)
     → ShelfHas told name file

@@ -1,6 +1,5 @@
 pub mod StatusLaws
 pub mod FetchedLaws
-pub mod ProgramLaws
 pub mod ExecuteLaws
 pub mod TextRunLaws
 pub mod AnswerLaws

@@ -9,11 +9,12 @@ use Rattle.dcc_prog.specs.declared.image.Image.{Image}
 use Rattle.dcc_prog.specs.declared.refusal.Refusal.{Refusal}
 use Rattle.dcc_prog.specs.declared.refusal.Refusal.TheVariants.{Construct as ConstructRefused, Limit as LimitRefused, NotYet as NotYetRefused, Memory as MemoryRefused}
 use Rattle.dcc_prog.specs.MzImage.{IsImageOf, FormatFault, IsFirstFault, too_large, short, not_mz, bad_pages, header_past_image, bad_relocation, entry_outside}
+use Rattle.dcc_prog.specs.Refused.{IsAcceptedProgram, IsRefusedImage}
 use Rattle.dcc_prog.specs.Step.{machine_system}
 use Rattle.dcc_prog.proofs.MzImageLaws.{not_both}
+use Rattle.dcc_prog.proofs.RefusedLaws.{accepted-not_refused, accepted-memory}
 use Rattle.dcc_top.specs.declared.reply.Reply.{Reply}
 use Rattle.dcc_top.specs.Words.{Job, Decompile, Execute, ExecuteText, name_of, file_of, LoadsImage}
-use Rattle.dcc_top.specs.Program.{IsRefusedFor, IsAcceptedProgram, IsRefusedImage}
 use Rattle.dcc_top.specs.Execution.{Subject, machine_of, text_of, Finishes, ended, stopped_at_read, not_begun, FinishesOrStops, finishes, found_none}
 use Rattle.dcc_top.specs.Answer.{Files, OfFile, HasNoFile, no_file, file_fault, no_memory, HasNoImage, no_executable, misshapen, HasNoUnit, no_text, offends, AllowsText, decompiled, refused, no_image, Decompiles, IsRefusedAs, OfImages, RunsFile, RunsText, RunsUnit, Allows, for_text, ran_file, ran_no_file, ran_text, ran_no_text, ShelfLacks, status_of, refusal_reply}
 use Rattle.dcc_top.specs.Call.{Call}
@@ -38,13 +39,6 @@ refusal-not_image file image (Reloc i) is r = not_both file image (bad_relocatio
 refusal-not_image file image EntryOutside is r = not_both file image entry_outside is r
 refusal-not_image file image TooLarge is r = not_both file image too_large is r
 refusal-not_image file image NoMemory is r = r
-
--- an accepted image is refused for want of memory alone
-accepted-not_refused : (image : Image) (refusal : Refusal) → IsAcceptedProgram image → IsRefusedFor image refusal → refusal ≡ MemoryRefused
-accepted-not_refused image (ConstructRefused kind at) a r = absurd (a.no_construct kind at r)
-accepted-not_refused image (LimitRefused what count) a r = absurd (a.no_limit what count r)
-accepted-not_refused image (NotYetRefused at) a r = absurd (a.built at r)
-accepted-not_refused image MemoryRefused a r = refl
 
 -- the statuses of a refusal, before those of faults
 refused-one : (refusal : Refusal) → IsOneOf (status_of (refusal_reply refusal)) (9 ∷ (10 ∷ (12 ∷ (4 ∷ (6 ∷ (7 ∷ []))))))
@@ -142,7 +136,7 @@ module _ (told : Files) (name : List ℕ) (files : List ℕ → Option (List ℕ
   accepted-one file has a _ output (decompiled f) = inl refl
   accepted-one file has a _ _ (refused refusal f) =
       let d = held file (IsRefusedAs refusal) has f in
-      inr (inr (inr (inl (ap (λ r. status_of (refusal_reply r)) (accepted-not_refused d.image refusal (a.each d.image d.is_image) d.refused)))))
+      inr (inr (inr (inl (ap (λ r. status_of (refusal_reply r)) (accepted-memory d.image refusal (a.each d.image d.is_image) d.refused)))))
   accepted-one file has a reply _ (no_image h) =
       faulty-one 0 (status_of reply) (no_image-faulty file has a.image a.is_image reply h)
 
@@ -150,8 +144,7 @@ module _ (told : Files) (name : List ℕ) (files : List ℕ → Option (List ℕ
       (9 ∷ (10 ∷ (12 ∷ (4 ∷ (6 ∷ (7 ∷ []))))))
   refused-always file has a _ output (decompiled f) =
       let d = held file (λ x. Decompiles x output) has f in
-      let r = a.each d.image d.is_image in
-      absurd (r.cause (accepted-not_refused d.image r.refusal d.is_text.accepted r.refused))
+      absurd (accepted-not_refused d.image d.is_text.accepted (a.each d.image d.is_image))
   refused-always file has a _ _ (refused refusal f) = refused-one refusal
   refused-always file has a reply _ (no_image h) =
       inr (inr (faulty-one 12 (status_of reply) (no_image-faulty file has a.image a.is_image reply h)))

@@ -1,5 +1,5 @@
 -- From a file that was fetched, or was not, to the answer to a job.
-use Rattle.std.proofs.Common.{◌≡◌, ℕ, ◌≤◌, ◌⊎◌, inl, inr, List, [], ◌∷◌, ◌++◌, Option, Some, None, refl, ap, sym, ◌∙◌, subst, arith}
+use Rattle.std.proofs.Common.{◌≡◌, ℕ, ◌≤◌, ◌⊎◌, inl, inr, List, [], ◌++◌, Option, Some, None, refl, ap, sym, ◌∙◌, subst, arith}
 use Rattle.std.proofs.lemmas.List.{append-nil}
 use Rattle.std.specs.Prelude.{Result, Ok, Err, IfOk, OnErr, MatchResult, IsErrOf}
 use Rattle.dcc_io.specs.declared.outside.Failed.{Failed}
@@ -7,7 +7,7 @@ use Rattle.dcc_run.proofs.PrefixLaws.{prefix_refl, prefix_nil}
 use Rattle.dcc_top.specs.declared.reply.Reply.{Reply}
 use Rattle.dcc_top.specs.declared.reply.Reply.TheVariants.{Usage, NoFile, FileFault, InputFault, Memory}
 use Rattle.dcc_top.specs.Words.{Job, name_of, greatest_of, requests_of}
-use Rattle.dcc_top.specs.Answer.{Allows, no_job, IsDue}
+use Rattle.dcc_top.specs.Answer.{Allows, no_job, IsCut}
 use Rattle.dcc_top.specs.Call.{ShelfChange, SourceChange, SinkChange, Change, Requests, Rises, unread, unwritten}
 use Rattle.dcc_top.specs.Causes.{AsksAll, AsksPrefix, AsksOnce, Replies}
 use Rattle.dcc_top.specs.Delivery.{Answers, CutsShort}
@@ -30,7 +30,7 @@ asks-prefix job asked (inr same) = ([], prefix_nil (requests_of (Some job)), sam
 pub replies-fetched : {T : Type 0} (job : Job) (shelf : ShelfChange) (input : SourceChange) (output : SinkChange) (result : Result Reply Failed) (x : T)
     → AsksOnce (name_of job) (greatest_of job) shelf (Ok x)
     → IfOk result (Answers (Allows shelf.files input.left.before input.left.after (Some job)) output.taken.before output.taken.after)
-    → OnErr result (CutsShort (IsDue shelf.files input.left.before (Some job)) output.taken.before output.taken.after)
+    → OnErr result (CutsShort (IsCut shelf.files input.left output.taken (Some job)) output.taken.before output.taken.after)
     → IfOk result (λ reply. reply ≡ NoFile → Rises shelf.absences)
     → IfOk result (λ reply. reply ≡ FileFault → Rises shelf.faults)
     → IfOk result (λ reply. reply ≡ InputFault → Rises input.faults)

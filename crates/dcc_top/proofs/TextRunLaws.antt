@@ -1,25 +1,27 @@
 -- From what the run of a text says to how it finished.
-use Rattle.std.proofs.Common.{◌≡◌, ℕ, List, [], ◌∷◌, Option, Some, None, refl, sym, ap, ◌∙◌}
+use Rattle.std.proofs.Common.{◌≡◌, ℕ, List, [], ◌∷◌, Option, Some, refl, sym, ap, ◌∙◌, subst}
 use Rattle.std.specs.Prelude.{Result, Ok, Err, IfOk, OnErr}
 use Rattle.dcc_io.specs.declared.outside.Failed.{Failed}
 use Rattle.dcc_io.proofs.ToldLemmas.{append_told-nil}
 use Rattle.dcc_run.specs.End.{End}
+use Rattle.dcc_run.specs.Event.{written_by}
 use Rattle.dcc_c.specs.Run.{first_state}
 use Rattle.dcc_c.specs.Rules.{IsAllowed}
 use Rattle.dcc_c.specs.Text.{StandsFor}
 use Rattle.dcc_c.specs.Tree.{Tree, Function}
 use Rattle.dcc_console.specs.Scene.{Scene, scene}
 use Rattle.dcc_console.specs.Steps.{HasEnded, MakesSteps, StopsShort, read_failed, write_failed, no_memory}
-use Rattle.dcc_console.proofs.RanLaws.{Begins, has_run_when_told, stops_when_told, stops_at_read_when_told, writes_part, WritesPart}
+use Rattle.dcc_console.proofs.RanLaws.{Begins, has_run_when_told, stops_when_told, stops_at_read_when_told, stops_at_write_when_told, writes_part, WritesPart}
 use Rattle.dcc_crun.specs.declared.run.CRun.{CRun}
 use Rattle.dcc_crun.specs.Standing.{StandsAt}
 use Rattle.dcc_crun.specs.Stepped.{texts}
 use Rattle.dcc_crun.proofs.RunLaws.{texts_execute}
 use Rattle.dcc_top.specs.declared.reply.Reply.{Reply}
 use Rattle.dcc_top.specs.declared.reply.Reply.TheVariants.{Memory, InputFault}
-use Rattle.dcc_top.specs.Answer.{Files, OfFile, Allows, ran_text, IsDue, due_text_output, IsReadAs, RunsUnit, UnitPutsOut}
+use Rattle.dcc_top.specs.Answer.{Files, OfFile, Allows, ran_text, IsCut, cut_text_run, IsReadAs, RunsUnit, IsCutUnit}
+use Rattle.dcc_top.specs.Change.{Change}
 use Rattle.dcc_top.specs.Delivery.{Answers, CutsShort}
-use Rattle.dcc_top.specs.Execution.{text_of, output_after, end_reply, ended, stopped_at_read, not_begun, finishes, found_none}
+use Rattle.dcc_top.specs.Execution.{text_of, IsCutRun, end_reply, ended, stopped_at_read, not_begun, finishes, found_none}
 use Rattle.dcc_top.specs.Words.{ExecuteText}
 
 -- the run stands at the start of the tree's first function, on every input
@@ -32,13 +34,13 @@ begins : (run : CRun) (tree : Tree) (fill : ℕ) → BeginsUnit run tree fill �
 begins run tree fill at text stands = record {
   stands = λ input. at stands.allowed.start stands.allowed.others input stands.allowed.first stands.allowed.no_params;
   left = λ input. refl;
-  out = λ input. refl;
+  events = λ input. refl;
 }
 
 -- a run that has ended, or goes on
 pub text-ended : (tree : Tree) (fill steps : ℕ) (run : CRun) (before taken : Option (List ℕ)) (now : Scene CRun) (end : End) → BeginsUnit run tree fill → MakesSteps texts steps (scene run before taken) now → HasEnded texts now.code end → Answers (RunsUnit tree steps fill before now.left) taken now.taken (end_reply steps end)
 text-ended tree fill steps run before taken now end at m is = record {
-  output = m.written;
+  output = written_by m.happened;
   wrote = m.wrote;
   is_answer = λ text stands.
       finishes (ended end (has_run_when_told texts tree (first_state tree stands.allowed.start fill) run (begins run tree fill at text stands) steps before taken now end is m));
@@ -47,7 +49,7 @@ text-ended tree fill steps run before taken now end at m is = record {
 -- a read that failed after the steps that were made
 pub text-to_read : (tree : Tree) (fill steps : ℕ) (run : CRun) (before taken : Option (List ℕ)) (now : Scene CRun) → BeginsUnit run tree fill → StopsShort texts read_failed steps (scene run before taken) now → Answers (RunsUnit tree steps fill before now.left) taken now.taken InputFault
 text-to_read tree fill steps run before taken now at s = record {
-  output = s.made.written;
+  output = written_by s.made.happened;
   wrote = ap (λ (u : Scene CRun). u.taken) s.refused.unchanged ∙ s.made.wrote;
   is_answer = λ text stands.
       finishes (stopped_at_read (stops_at_read_when_told texts tree (first_state tree stands.allowed.start fill) run (begins run tree fill at text stands) steps before taken now texts_execute s));
@@ -56,7 +58,7 @@ text-to_read tree fill steps run before taken now at s = record {
 -- memory was wanting after the steps that were made
 pub text-found_none : (tree : Tree) (fill steps : ℕ) (run : CRun) (before taken : Option (List ℕ)) (now : Scene CRun) → BeginsUnit run tree fill → StopsShort texts no_memory steps (scene run before taken) now → Answers (RunsUnit tree steps fill before now.left) taken now.taken Memory
 text-found_none tree fill steps run before taken now at s = record {
-  output = s.made.written;
+  output = written_by s.made.happened;
   wrote = s.refused.same_taken ∙ s.made.wrote;
   is_answer = λ text stands.
       found_none (stops_when_told texts tree (first_state tree stands.allowed.start fill) run (begins run tree fill at text stands) steps before taken now s);
@@ -75,15 +77,19 @@ same-start : (tree : Tree) → (a b : IsAllowed tree) → a.start ≡ b.start
 same-start tree a b = let both : a.start ∷ a.others ≡ b.start ∷ b.others = sym a.first ∙ b.first in cc
 
 -- a write that failed after the steps that were made
-pub text-broke_off : (tree : Tree) (fill steps : ℕ) (run : CRun) (before taken : Option (List ℕ)) (now : Scene CRun) → (text : List ℕ) → StandsFor text tree → BeginsUnit run tree fill → StopsShort texts write_failed steps (scene run before taken) now → CutsShort (UnitPutsOut tree steps fill before) taken now.taken
+pub text-broke_off : (tree : Tree) (fill steps : ℕ) (run : CRun) (before taken : Option (List ℕ)) (now : Scene CRun) → (text : List ℕ) → StandsFor text tree → BeginsUnit run tree fill → StopsShort texts write_failed steps (scene run before taken) now → CutsShort (IsCutUnit tree steps fill (record { before = before; after = now.left }) (record { before = taken; after = now.taken })) taken now.taken
 text-broke_off tree fill steps run before taken now text stands at s =
     let first = stands.allowed.start in
     let cut : WritesPart texts tree (first_state tree first fill) run (begins run tree fill at text stands) steps before taken now.taken =
     writes_part texts tree (first_state tree first fill) run (begins run tree fill at text stands) steps before taken now texts_execute s in
+    let stops = stops_at_write_when_told texts tree (first_state tree first fill) run (begins run tree fill at text stands) steps before taken now s in
+    let here : IsCutRun (text_of tree first fill) steps (record { before = before; after = now.left }) (record { before = taken; after = now.taken }) cut.due =
+    record { is_due = cut.is_due; stops = stops } in
     record {
       due = cut.due;
-      is_due = λ other also input told.
-          cut.is_due input told ∙ ap (λ f. output_after (text_of tree f fill) steps input) (same-start tree stands.allowed also.allowed);
+      is_due = λ other also.
+          subst (λ f. IsCutRun (text_of tree f fill) steps (record { before = before; after = now.left }) (record { before = taken; after = now.taken }) cut.due)
+          (same-start tree stands.allowed also.allowed) here;
       part = cut.part;
     }
 
@@ -96,10 +102,11 @@ reply-of_text told name steps fill tree before left out now (Ok reply) f ran = r
 }
 reply-of_text told name steps fill tree before left out now (Err e) f ran = ran
 
-pub cut-of_text : (told : Files) (name : List ℕ) (steps fill : ℕ) (tree : Tree) (before out now : Option (List ℕ)) (result : Result Reply Failed) → OfFile told name (λ text. IsReadAs text tree) → OnErr result (CutsShort (UnitPutsOut tree steps fill before) out now) → OnErr result (CutsShort (IsDue told before (Some (ExecuteText name steps fill))) out now)
-cut-of_text told name steps fill tree before out now (Ok reply) f broke = broke
-cut-of_text told name steps fill tree before out now (Err e) f broke = record {
+pub cut-of_text : (told : Files) (name : List ℕ) (steps fill : ℕ) (tree : Tree) (input output : Change (Option (List ℕ))) (result : Result Reply Failed) → OfFile told name (λ text. IsReadAs text tree) →
+    OnErr result (CutsShort (IsCutUnit tree steps fill input output) output.before output.after) → OnErr result (CutsShort (IsCut told input output (Some (ExecuteText name steps fill))) output.before output.after)
+cut-of_text told name steps fill tree input output (Ok reply) f broke = broke
+cut-of_text told name steps fill tree input output (Err e) f broke = record {
   due = broke.due;
-  is_due = due_text_output (record { file = f.file; has = f.has; holds = record { tree = tree; is_read = f.holds; puts = broke.is_due } });
+  is_due = cut_text_run (record { file = f.file; has = f.has; holds = record { tree = tree; is_read = f.holds; cut = broke.is_due } });
   part = broke.part;
 }

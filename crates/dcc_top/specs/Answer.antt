@@ -1,5 +1,6 @@
 -- The program's answers: the status, the line on the error stream, and which answers are allowed for a job.
-use Rattle.std.specs.Prelude.{◌≡◌, ◌≤◌, ℕ, ◌+◌, ◌/◌, ◌%◌, nat_lt, if◌then◌else◌, List, [], ◌∷◌, ◌++◌, length, codes, Option, Some, None}
+use Rattle.std.specs.Prelude.{◌≡◌, ◌≤◌, ℕ, ◌+◌, ◌/◌, ◌%◌, nat_lt, if◌then◌else◌, List, [], ◌∷◌, ◌++◌, length, codes}
+use Rattle.std.specs.Prelude.{Option, Some, None}
 use Rattle.std.specs.Fmt.{decimal}
 use Rattle.dcc_mz.specs.Fault.{number_of, place_of, IsRefusal as IsFormatRefusal}
 use Rattle.dcc_mz.specs.declared.fault.MzFault.{MzFault}
@@ -9,23 +10,28 @@ use Rattle.dcc_io.specs.declared.outside.ShelfFault.TheVariants.{Absent, Failed 
 use Rattle.dcc_io.specs.Told.{WhenTold}
 use Rattle.dcc_prog.specs.declared.image.Image.{Image}
 use Rattle.dcc_prog.specs.declared.refusal.LimitName.{LimitName}
-use Rattle.dcc_prog.specs.declared.refusal.LimitName.TheVariants.{Procedures, Instructions, Total, Cells, Entries, Arguments}
+use Rattle.dcc_prog.specs.declared.refusal.LimitName.TheVariants.{Procedures, Instructions, Total, Cells, Entries}
+use Rattle.dcc_prog.specs.declared.refusal.LimitName.TheVariants.{Arguments}
 use Rattle.dcc_prog.specs.declared.refusal.Refusal.{Refusal}
-use Rattle.dcc_prog.specs.declared.refusal.Refusal.TheVariants.{Construct as ConstructRefused, Limit as LimitRefused, NotYet as NotYetRefused, Memory as MemoryRefused}
+use Rattle.dcc_prog.specs.declared.refusal.Refusal.TheVariants.{Construct as ConstructRefused, Limit as LimitRefused}
+use Rattle.dcc_prog.specs.declared.refusal.Refusal.TheVariants.{NotYet as NotYetRefused, Memory as MemoryRefused}
 use Rattle.dcc_prog.specs.MzImage.{IsImageOf}
+use Rattle.dcc_prog.specs.Refused.{IsRefusedFor, IsAcceptedProgram}
 use Rattle.dcc_c.specs.Text.{StandsFor}
 use Rattle.dcc_c.specs.Tree.{Tree}
 use Rattle.dcc_c.specs.Written.{written_form}
 use Rattle.dcc_reader.specs.declared.offence.ParseKind.{ParseKind}
-use Rattle.dcc_reader.specs.declared.offence.ParseKind.TheVariants.{Length, Version, Token, Grammar, Name, Type_, Place, Depth}
+use Rattle.dcc_reader.specs.KindWords.{kind_word}
 use Rattle.dcc_parse.specs.declared.fault.ParseFault.{ParseFault}
 use Rattle.dcc_parse.specs.declared.fault.ParseFault.TheVariants.{At, Memory as ParseMemory}
 use Rattle.dcc_parse.specs.Fault.{IsRefusal as IsTextRefusal}
 use Rattle.dcc_pipe.specs.Agreement.{IsTextOf}
 use Rattle.dcc_top.specs.declared.reply.Reply.{Reply}
-use Rattle.dcc_top.specs.declared.reply.Reply.TheVariants.{Done, Exited, Usage, NoFile, FileFault, InputFault, Memory, Format, Construct, Limit, NotYet, TextFault, Unfinished, Divided, Outside, Stuck}
-use Rattle.dcc_top.specs.Program.{IsRefusedFor, IsAcceptedProgram}
-use Rattle.dcc_top.specs.Execution.{machine_of, text_of, Finishes, FinishesOrStops, PutsOut}
+use Rattle.dcc_top.specs.declared.reply.Reply.TheVariants.{Done, Exited, Usage, NoFile, FileFault, InputFault, Memory}
+use Rattle.dcc_top.specs.declared.reply.Reply.TheVariants.{Format, Construct, Limit, NotYet, TextFault, Unfinished}
+use Rattle.dcc_top.specs.declared.reply.Reply.TheVariants.{Divided, Outside, Stuck}
+use Rattle.dcc_top.specs.Change.{Change}
+use Rattle.dcc_top.specs.Execution.{machine_of, text_of, Finishes, FinishesOrStops, IsCutRun}
 use Rattle.dcc_top.specs.Status as exit
 use Rattle.dcc_top.specs.Words.{Job, Decompile, Execute, ExecuteText, greatest_text}
 
@@ -46,17 +52,6 @@ limit_word Total = codes "total"
 limit_word Cells = codes "cells"
 limit_word Entries = codes "entries"
 limit_word Arguments = codes "arguments"
-
--- the kind of what offends in a text, as it is told
-abbrev pub kind_word : ParseKind → List ℕ
-kind_word Length = codes "length"
-kind_word Version = codes "version"
-kind_word Token = codes "token"
-kind_word Grammar = codes "grammar"
-kind_word Name = codes "name"
-kind_word Type_ = codes "type"
-kind_word Place = codes "place"
-kind_word Depth = codes "depth"
 
 -- the exit status
 abbrev pub status_of : Reply → ℕ
@@ -212,11 +207,12 @@ pub record RunsFile (file : List ℕ) (steps : ℕ) (before left : Option (List 
   pub is_image : IsImageOf file image
   pub finishes : Finishes (machine_of image) steps before left reply output
 
--- the run of the file's image puts this out
-pub record FilePutsOut (file : List ℕ) (steps : ℕ) (before : Option (List ℕ)) (output : List ℕ) : Type 0 where
+-- the run of the file's image was cut off
+pub record IsCutFile (file : List ℕ) (steps : ℕ) (input output : Change (Option (List ℕ)))
+    (due : List ℕ) : Type 0 where
   pub image : Image
   pub is_image : IsImageOf file image
-  pub puts : PutsOut (machine_of image) steps before output
+  pub cut : IsCutRun (machine_of image) steps input output due
 
 -- the text stands for this tree alone, and is not too long
 pub record IsReadAs (text : List ℕ) (tree : Tree) : Type 0 where
@@ -235,11 +231,11 @@ RunsUnit tree steps fill before left reply output =
     (text : List ℕ) (stands : StandsFor text tree)
     → FinishesOrStops (text_of tree stands.allowed.start fill) steps before left reply output
 
--- from the start of a text for this tree, its run puts this out
-abbrev pub UnitPutsOut : Tree → ℕ → ℕ → Option (List ℕ) → List ℕ → Type 0
-UnitPutsOut tree steps fill before output =
+-- from the start of a text for this tree, its run was cut off
+abbrev pub IsCutUnit : Tree → ℕ → ℕ → Change (Option (List ℕ)) → Change (Option (List ℕ)) → List ℕ → Type 0
+IsCutUnit tree steps fill input output due =
     (text : List ℕ) (stands : StandsFor text tree)
-    → PutsOut (text_of tree stands.allowed.start fill) steps before output
+    → IsCutRun (text_of tree stands.allowed.start fill) steps input output due
 
 -- the answer is one for a run of the text
 pub record RunsText (text : List ℕ) (steps fill : ℕ) (before left : Option (List ℕ)) (reply : Reply)
@@ -248,11 +244,12 @@ pub record RunsText (text : List ℕ) (steps fill : ℕ) (before left : Option (
   pub is_read : IsReadAs text tree
   pub runs : RunsUnit tree steps fill before left reply output
 
--- the run of the text puts this out
-pub record TextPutsOut (text : List ℕ) (steps fill : ℕ) (before : Option (List ℕ)) (output : List ℕ) : Type 0 where
+-- the run of the text was cut off
+pub record IsCutText (text : List ℕ) (steps fill : ℕ) (input output : Change (Option (List ℕ)))
+    (due : List ℕ) : Type 0 where
   pub tree : Tree
   pub is_read : IsReadAs text tree
-  pub puts : UnitPutsOut tree steps fill before output
+  pub cut : IsCutUnit tree steps fill input output due
 
 -- the answer is one for the run that the job asks for, on the file with these bytes
 abbrev pub Runs : Job → List ℕ → Option (List ℕ) → Option (List ℕ) → Reply → List ℕ → Type 0
@@ -284,14 +281,16 @@ pub data Allows (told : Files) (before left : Option (List ℕ)) : Option Job �
       → left ≡ before
       → Allows told before left (Some (ExecuteText name steps fill)) reply []
 
--- These bytes are due on the output, where the job comes to its end: the text of the file, or what a run puts out.
-pub data IsDue (told : Files) (before : Option (List ℕ)) : Option Job → List ℕ → Type 0 where
-  due_text : {name due : List ℕ}
+-- The job was cut off by a failed write, where these bytes were due: the text of the file, and then nothing of the
+-- input was taken; or what a run puts out, and then no more was taken than the run had come to.
+pub data IsCut (told : Files) (input output : Change (Option (List ℕ))) : Option Job → List ℕ → Type 0 where
+  cut_text : {name due : List ℕ}
+      → input.after ≡ input.before
       → OfFile told name (λ file. Decompiles file due)
-      → IsDue told before (Some (Decompile name)) due
-  due_output : {name due : List ℕ} {steps : ℕ}
-      → OfFile told name (λ file. FilePutsOut file steps before due)
-      → IsDue told before (Some (Execute name steps)) due
-  due_text_output : {name due : List ℕ} {steps fill : ℕ}
-      → OfFile told name (λ text. TextPutsOut text steps fill before due)
-      → IsDue told before (Some (ExecuteText name steps fill)) due
+      → IsCut told input output (Some (Decompile name)) due
+  cut_run : {name due : List ℕ} {steps : ℕ}
+      → OfFile told name (λ file. IsCutFile file steps input output due)
+      → IsCut told input output (Some (Execute name steps)) due
+  cut_text_run : {name due : List ℕ} {steps fill : ℕ}
+      → OfFile told name (λ text. IsCutText text steps fill input output due)
+      → IsCut told input output (Some (ExecuteText name steps fill)) due

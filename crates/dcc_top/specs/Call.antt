@@ -3,19 +3,8 @@ use Rattle.std.specs.Prelude.{◌≡◌, ℕ, List, Option}
 use Rattle.dcc_io.specs.Count.{Rose}
 use Rattle.dcc_io.specs.Told.{append_told, AppendsProperPrefix}
 use Rattle.dcc_top.specs.Answer.{Files}
+pub use Rattle.dcc_top.specs.Change.{Change, change, same}
 use Rattle.dcc_top.specs.Words.{Job}
-
--- a value before the call, and after it
-pub record Change (T : Type 0) : Type 0 where
-  pub before : T
-  pub after : T
-
--- what is told before and after; and what stays
-abbrev pub change : {S T : Type 0} → (S → T) → S → S → Change T
-change told before after = record { before = told before; after = told after }
-
-abbrev pub same : {T : Type 0} → T → Change T
-same value = record { before = value; after = value }
 
 -- the count has risen in the call
 abbrev pub Rises : Change ℕ → Type 0

@@ -14,11 +14,14 @@ use Rattle.dcc_c.specs.Tree.{Tree}
 use Rattle.dcc_reader.specs.declared.offence.ParseKind.{ParseKind}
 use Rattle.dcc_parse.specs.Fault.{IsRefusal as IsTextRefusal}
 use Rattle.dcc_top.specs.declared.reply.Reply.{Reply}
-use Rattle.dcc_top.specs.declared.reply.Reply.TheVariants.{Done, NoFile, FileFault, InputFault, Memory, Format, TextFault}
+use Rattle.dcc_top.specs.declared.reply.Reply.TheVariants.{Done, NoFile, FileFault, InputFault, Memory, Format}
+use Rattle.dcc_top.specs.declared.reply.Reply.TheVariants.{TextFault}
 use Rattle.dcc_top.specs.Words.{Job, Decompile, Execute, ExecuteText, name_of, file_of, requests_of, greatest_text}
 use Rattle.dcc_top.specs.Execution.{machine_of, text_of, ending_after}
-use Rattle.dcc_top.specs.Answer.{Allows, IsDue, IsRefusedAs, Runs, ShelfHas, ShelfLacks, status_of, line_of, refusal_reply}
-use Rattle.dcc_top.specs.Call.{Call, Change, Requests, ShelfChange, SourceChange, SinkChange, Rises, Appends, AppendsPart}
+use Rattle.dcc_top.specs.Answer.{Allows, IsCut, IsRefusedAs, Runs, ShelfHas, ShelfLacks, status_of, line_of}
+use Rattle.dcc_top.specs.Answer.{refusal_reply}
+use Rattle.dcc_top.specs.Call.{Call, Change, Requests, ShelfChange, SourceChange, SinkChange, Rises, Appends}
+use Rattle.dcc_top.specs.Call.{AppendsPart}
 use Rattle.dcc_top.specs.Delivery.{Answers, CutsShort, TellsReply}
 use Rattle.dcc_top.specs.Status as exit
 
@@ -51,7 +54,7 @@ pub record Replies (job : Option Job) (shelf : ShelfChange) (input : SourceChang
     (result : Result Reply Failed) : Type 0 where
   pub allowed : IfOk result (Answers (Allows shelf.files input.left.before input.left.after job)
       output.taken.before output.taken.after)
-  pub broke_off : OnErr result (CutsShort (IsDue shelf.files input.left.before job)
+  pub broke_off : OnErr result (CutsShort (IsCut shelf.files input.left output.taken job)
       output.taken.before output.taken.after)
   pub asked : MatchResult result (λ reply. (reply ≡ Memory) ⊎ AsksAll job shelf.asked) (λ _. AsksAll job shelf.asked)
   pub asked_prefix : AsksPrefix job shelf.asked
@@ -84,8 +87,8 @@ pub record BreaksOff (call : Call) (due : List ℕ) : Type 0 where
   pub failed : Rises call.output.faults
 
 -- What a call comes to. An answer that is allowed for the job was told, after all that is due, and has its cause in
--- this call; or its line found no memory, and that was told in its place; or a write of what is due failed, and a part
--- of it is there.
+-- this call; or its line found no memory, and that was told in its place; or a write of what is due failed, a part of
+-- it is there, and no more of the input was taken than by the step whose write failed.
 pub data IsAnswered (call : Call) : Type 0 where
   answered : (reply : Reply)
       → GivesReply call reply
@@ -98,7 +101,7 @@ pub data IsAnswered (call : Call) : Type 0 where
       → TellsReply Memory call.status call.errors
       → IsAnswered call
   broke_off : (due : List ℕ)
-      → IsDue call.shelf.files call.input.left.before call.job due
+      → IsCut call.shelf.files call.input.left call.output.taken call.job due
       → BreaksOff call due
       → IsAnswered call
 
@@ -211,16 +214,17 @@ pub record IsOutOfMemory (call : Call) : Type 0 where
   pub not_done : reply ≢ Done
   pub line : Appends call.errors (line_of Memory)
 
--- A write to the error stream failed: all that is due on the output is there, and a part of the line of an answer that
--- is allowed; want of memory may be told in the place of any.
+-- A write to the error stream failed: all that is due on the output is there, the input has lost what the run took, and
+-- a part of the line of an answer that is allowed is there; want of memory may be told in the place of any.
 pub record IsCutInLine (call : Call) : Type 0 where
   pub reply : Reply
   pub gives : GivesReply call reply
   pub err : (AppendsPart call.errors (line_of reply) × IsCaused call reply) ⊎ AppendsPart call.errors (line_of Memory)
   pub failed : Rises call.errors.faults
 
--- what is written where a write failed: a part of what is due, and nothing on the error stream; or a part of the line
+-- what is written and was taken where a write failed: a part of what is due, and nothing on the error stream; or a part
+-- of the line
 abbrev pub IsCutOff : Call → Type 0
 IsCutOff call =
-    ((due : List ℕ) × IsDue call.shelf.files call.input.left.before call.job due × BreaksOff call due)
+    ((due : List ℕ) × IsCut call.shelf.files call.input.left call.output.taken call.job due × BreaksOff call due)
     ⊎ IsCutInLine call

@@ -1,7 +1,7 @@
 pub mod Words
 pub mod WordsRead
+pub mod Change
 pub mod Execution
-pub mod Program
 pub mod Status
 pub mod Answer
 pub mod Headline

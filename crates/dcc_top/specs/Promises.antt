@@ -2,13 +2,15 @@
 use Rattle.std.specs.Prelude.{◌≡◌, ◌≢◌, ◌⊎◌, ℕ, List, [], ◌∷◌, Some, None}
 use Rattle.dcc_run.specs.End.{End}
 use Rattle.dcc_prog.specs.MzImage.{FormatFault, IsFirstFault}
+use Rattle.dcc_prog.specs.Refused.{IsAcceptedProgram, IsRefusedImage}
 use Rattle.dcc_top.specs.declared.reply.Reply.TheVariants.{Memory}
 use Rattle.dcc_top.specs.Words.{Job, Decompile, ExecuteText, IsExecution, LoadsImage}
-use Rattle.dcc_top.specs.Program.{IsAcceptedProgram, IsRefusedImage}
 use Rattle.dcc_top.specs.Answer.{OfImages, line_of}
 use Rattle.dcc_top.specs.Call.{Call, Rises, AppendsPart}
 use Rattle.dcc_top.specs.Headline.{HasText}
-use Rattle.dcc_top.specs.Causes.{IsAnswered, HasRunFile, EndsSo, Names, IsMissing, IsAbsent, IsUnreadable, HasFormatFault, HasRefusal, HasTextFault, IsNoText, IsOutOfMemory, IsCutOff, AsksPrefix, AsksAll}
+use Rattle.dcc_top.specs.Causes.{IsAnswered, HasRunFile, EndsSo, Names, IsMissing, IsAbsent, IsUnreadable}
+use Rattle.dcc_top.specs.Causes.{HasFormatFault, HasRefusal, HasTextFault, IsNoText, IsOutOfMemory, IsCutOff}
+use Rattle.dcc_top.specs.Causes.{AsksPrefix, AsksAll}
 use Rattle.dcc_top.specs.Status.{IsOneOf, end_status}
 use Rattle.dcc_top.specs.Status as exit
 
@@ -72,7 +74,7 @@ pub record KeepsFaults (call : Call) : Type 0 where
   pub absent : call.status ≡ exit.no_file → IsAbsent call
   pub absent_always : IsMissing call → IsOneOf call.status (exit.no_file ∷ exit.faults)
   pub unreadable : call.status ≡ exit.file_fault → IsUnreadable call
-  -- a write failed: a part of an answer is written
+  -- a write failed: a part of an answer is written, and of the input no more is taken than for that part
   pub write_failed : call.status ≡ exit.write_fault → Rises call.output.faults ⊎ Rises call.errors.faults
   pub cut_off : call.status ≡ exit.write_fault → IsCutOff call
   -- memory ran out: what a run had put out by then is written

@@ -2,11 +2,15 @@
 use Rattle.std.specs.Prelude.{◌≤◌, length, Option, IfSome}
 use Rattle.std.specs.Option.{option_copied, option_to_list}
 use Rattle.dcc_top.specs.declared.words.Job.{Job as ReadJob}
-use Rattle.dcc_top.specs.declared.words.Job.TheVariants.{Decompile as ReadDecompile, Execute as ReadExecute, ExecuteText as ReadExecuteText}
+use Rattle.dcc_top.specs.declared.words.Job.TheVariants.{Decompile as ReadDecompile, Execute as ReadExecute}
+use Rattle.dcc_top.specs.declared.words.Job.TheVariants.{ExecuteText as ReadExecuteText}
 use Rattle.dcc_top.specs.declared.words.Kind.{Kind as ReadKind}
-use Rattle.dcc_top.specs.declared.words.Kind.TheVariants.{Positional as ReadPositional, End as ReadEnd, Names as ReadNames, Gives as ReadGives, Unknown as ReadUnknown}
+use Rattle.dcc_top.specs.declared.words.Kind.TheVariants.{Positional as ReadPositional, End as ReadEnd}
+use Rattle.dcc_top.specs.declared.words.Kind.TheVariants.{Names as ReadNames, Gives as ReadGives}
+use Rattle.dcc_top.specs.declared.words.Kind.TheVariants.{Unknown as ReadUnknown}
 use Rattle.dcc_top.specs.declared.words.Found.{Found}
-use Rattle.dcc_top.specs.Words.{Job, Decompile, Execute, ExecuteText, Kind, Positional, End, Names, Gives, Unknown, Parts}
+use Rattle.dcc_top.specs.Words.{Job, Decompile, Execute, ExecuteText, Kind, Positional, End, Names, Gives, Unknown}
+use Rattle.dcc_top.specs.Words.{Parts}
 
 -- the job that a value of the program names
 abbrev pub job_read : ReadJob → Job

@@ -4,8 +4,9 @@ ghost use Rattle.std.specs.Prelude.{◌≡◌, ◌≤◌, IfOk, OnErr};
 ghost use Rattle.dcc_io.specs.Count.{Rose};
 ghost use Rattle.dcc_prog.specs.MzImage.{IsLoaded};
 ghost use Rattle.dcc_top.specs.declared.reply.Reply.TheVariants.{InputFault};
+ghost use Rattle.dcc_top.specs.Change.{change};
 ghost use Rattle.dcc_top.specs.Delivery.{Answers, CutsShort};
-ghost use Rattle.dcc_top.specs.Execution.{machine_of, Finishes, PutsOut};
+ghost use Rattle.dcc_top.specs.Execution.{machine_of, Finishes, IsCutRun};
 
 use crate::reply::Reply;
 use dcc_io::{Failed, Sink, Source};
@@ -26,7 +27,8 @@ pub fn execute<I: Source, O: Sink>(
     ensures ran { IfOk result (Answers
         (Finishes (machine_of image.now) steps (I.left input.old) (I.left input.new))
         (O.taken out.old) (O.taken out.new)) }
-    ensures broke_off { OnErr result (CutsShort (PutsOut (machine_of image.now) steps (I.left input.old))
+    ensures broke_off { OnErr result (CutsShort (IsCutRun (machine_of image.now) steps
+        (change I.left input.old input.new) (change O.taken out.old out.new))
         (O.taken out.old) (O.taken out.new)) }
 
     // The counts never fall, and a fault comes only where its count rose.

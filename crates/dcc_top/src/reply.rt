@@ -1,7 +1,7 @@
 //! What the program answers: a status, and a line on the error stream.
 
 ghost use Rattle.std.specs.Prelude.{◌≡◌, Some, IfOk, IsOk, string_bytes};
-ghost use Rattle.dcc_top.specs.Answer.{status_of, line_of, limit_word, kind_word, shelf_reply, fault_reply, parse_reply, refusal_reply};
+ghost use Rattle.dcc_top.specs.Answer.{status_of, line_of, limit_word, shelf_reply, fault_reply, parse_reply, refusal_reply};
 
 use dcc_io::ShelfFault;
 use dcc_mz::MzFault;
@@ -153,7 +153,7 @@ impl fmt::Display for Reply {
                 writeln!(f, "dcc: limit {name} {count}")
             }
             Reply::TextFault { line, kind } => {
-                let word = kind_word(kind);
+                let word = kind.word();
                 writeln!(f, "dcc: text {word} at line {line}")
             }
             Reply::NotYet(at) => writeln!(f, "dcc: not yet at {at:04X}"),
@@ -176,21 +176,5 @@ fn limit_word(what: LimitName) -> &'static str
         LimitName::Cells => "cells",
         LimitName::Entries => "entries",
         LimitName::Arguments => "arguments",
-    }
-}
-
-// The word for what offends in a text.
-fn kind_word(kind: ParseKind) -> &'static str
-    ensures { result.now ≡ kind_word kind }
-{
-    match kind {
-        ParseKind::Length => "length",
-        ParseKind::Version => "version",
-        ParseKind::Token => "token",
-        ParseKind::Grammar => "grammar",
-        ParseKind::Name => "name",
-        ParseKind::Type_ => "type",
-        ParseKind::Place => "place",
-        ParseKind::Depth => "depth",
     }
 }

@@ -4,7 +4,8 @@ ghost use Rattle.std.specs.Prelude.{◌≡◌, ◌≤◌, IfOk, OnErr};
 ghost use Rattle.dcc_c.specs.Views.{tree_of};
 ghost use Rattle.dcc_io.specs.Count.{Rose};
 ghost use Rattle.dcc_top.specs.declared.reply.Reply.TheVariants.{InputFault};
-ghost use Rattle.dcc_top.specs.Answer.{HasSomeText, RunsUnit, UnitPutsOut};
+ghost use Rattle.dcc_top.specs.Answer.{HasSomeText, RunsUnit, IsCutUnit};
+ghost use Rattle.dcc_top.specs.Change.{change};
 ghost use Rattle.dcc_top.specs.Delivery.{Answers, CutsShort};
 
 use crate::reply::Reply;
@@ -27,7 +28,8 @@ pub fn execute_unit<I: Source, O: Sink>(
     ensures ran { IfOk result (Answers
         (RunsUnit (tree_of unit.now) steps fill (I.left input.old) (I.left input.new))
         (O.taken out.old) (O.taken out.new)) }
-    ensures broke_off { OnErr result (CutsShort (UnitPutsOut (tree_of unit.now) steps fill (I.left input.old))
+    ensures broke_off { OnErr result (CutsShort (IsCutUnit (tree_of unit.now) steps fill
+        (change I.left input.old input.new) (change O.taken out.old out.new))
         (O.taken out.old) (O.taken out.new)) }
 
     // The counts never fall, and a fault comes only where its count rose.

@@ -15,7 +15,7 @@ returns-in-Ok g c = λ left faults.
     let w = c.write_text.ensures in
     replies-fetched (Decompile name) _ _ _ c.write_text.result image c.in-Ok.ensures.asks
     (answer-of_image files name left image _ _ c.write_text.result c.in-Ok.ensures.image w.answers)
-    (cut-of_image files name left image _ _ c.write_text.result c.in-Ok.ensures.image w.cut_short)
+    (cut-of_image files name left image _ c.write_text.result c.in-Ok.ensures.image w.cut_short)
     (never (AllowsImage image) (0 ∷ refusals) (image-status image) NoFile refl _ _ _ c.write_text.result w.answers)
     (never (AllowsImage image) (0 ∷ refusals) (image-status image) FileFault refl _ _ _ c.write_text.result w.answers)
     (never (AllowsImage image) (0 ∷ refusals) (image-status image) InputFault refl _ _ _ c.write_text.result w.answers)

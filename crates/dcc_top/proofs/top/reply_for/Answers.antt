@@ -1,5 +1,4 @@
-use Rattle.std.proofs.Common.{refl, sym, subst}
-use Rattle.dcc_top.specs.Causes.{Replies}
+use Rattle.std.proofs.Common.{refl}
 use Rattle.dcc_top.proofs.ReplyLaws.{replies-usage}
 use Rattle.dcc_top.proofs.top.reply_for.Goals as goal
 

@@ -17,7 +17,7 @@ returns-in-Ok g c =
     let e = c.execute.ensures in
     replies-fetched (Execute name steps) _ _ _ c.execute.result image c.in-Ok.ensures.asks
     (reply-of_run files name steps image _ _ _ _ c.execute.result c.in-Ok.ensures.image e.ran)
-    (cut-of_run files name steps image _ _ _ c.execute.result c.in-Ok.ensures.image e.broke_off)
+    (cut-of_run files name steps image _ _ c.execute.result c.in-Ok.ensures.image e.broke_off)
     (never (Finishes (machine_of image) steps _ _) run_statuses (run-status (machine_of image) steps _ _) NoFile refl _ _ _ c.execute.result e.ran)
     (never (Finishes (machine_of image) steps _ _) run_statuses (run-status (machine_of image) steps _ _) FileFault refl _ _ _ c.execute.result e.ran)
     e.read_failed e.output_faults e.write_failed

@@ -31,7 +31,7 @@ returns-in-Ok g c =
     let e = c.execute_unit.ensures in
     replies-fetched (ExecuteText name steps fill) _ _ _ c.execute_unit.result c.in-Ok.unit c.in-Ok.ensures.asks
     (reply-of_text files name steps fill tree _ _ _ _ c.execute_unit.result c.in-Ok.ensures.unit e.ran)
-    (cut-of_text files name steps fill tree _ _ _ c.execute_unit.result c.in-Ok.ensures.unit e.broke_off)
+    (cut-of_text files name steps fill tree _ _ c.execute_unit.result c.in-Ok.ensures.unit e.broke_off)
     (never (RunsUnit tree steps fill _ _) run_statuses (run g c) NoFile refl _ _ _ c.execute_unit.result e.ran)
     (never (RunsUnit tree steps fill _ _) run_statuses (run g c) FileFault refl _ _ _ c.execute_unit.result e.ran)
     e.read_failed e.output_faults e.write_failed
