@@ -67,10 +67,16 @@ fn a_key_is_taken_and_written(rt: HostRuntime) -> Result<(), Refused> {
     stmts.push(call_dos(dos::EXIT, None, Some(number(8, 3))))?;
     let program = program(alloc, stmts, BlockEnd::Stop)?;
     let some = run(alloc, &program, b"a", 0, 9)?;
-    assert_eq!(rt; some.events.as_slice(), [Event::Took(b'a'), Event::Wrote(b'a')].as_slice());
+    assert_eq!(rt;
+        some.events.as_slice(),
+        [Event::Took(b'a'), Event::Wrote(b'a')].as_slice()
+    );
     assert_eq!(rt; some.end, End::Exit(3));
     let none = run(alloc, &program, b"", 0, 9)?;
-    assert_eq!(rt; none.events.as_slice(), [Event::MetEnd, Event::Wrote(0x1A)].as_slice());
+    assert_eq!(rt;
+        none.events.as_slice(),
+        [Event::MetEnd, Event::Wrote(0x1A)].as_slice()
+    );
     Ok(())
 }
 
@@ -83,7 +89,10 @@ fn each_read_at_the_end_of_the_input_is_seen(rt: HostRuntime) -> Result<(), Refu
     stmts.push(call_dos(dos::EXIT, None, Some(number(8, 0))))?;
     let program = program(alloc, stmts, BlockEnd::Stop)?;
     let none = run(alloc, &program, b"", 0, 9)?;
-    assert_eq!(rt; none.events.as_slice(), [Event::MetEnd, Event::MetEnd].as_slice());
+    assert_eq!(rt;
+        none.events.as_slice(),
+        [Event::MetEnd, Event::MetEnd].as_slice()
+    );
     let one = run(alloc, &program, b"a", 0, 9)?;
     let echoed = [Event::Took(b'a'), Event::Wrote(b'a'), Event::MetEnd];
     assert_eq!(rt; one.events.as_slice(), echoed.as_slice());
