@@ -4,11 +4,13 @@
 //! place, each option at most once. An option is two words, `--steps N`, or one, `--steps=N`. After a word
 //! `--` that isn't an option's value every word is positional.
 
-ghost use Rattle.std.specs.Prelude.{◌≡◌, ◌≤◌, ◌+◌, ◌++◌, ◌∷◌, [], MatchOption, Some, None, IsSome, map, string_bytes, codes, length};
+ghost use Rattle.std.specs.Prelude.{◌≡◌, ◌≤◌, ◌+◌, ◌++◌, ◌∷◌, [], MatchOption, Some, None, IsSome, map, string_bytes};
+ghost use Rattle.std.specs.Prelude.{codes, length};
 ghost use Rattle.std.specs.Char.{is_ascii_digit};
 ghost use Rattle.std.specs.List.{list_all};
 ghost use Rattle.std.specs.Option.{option_copied};
-ghost use Rattle.dcc_top.specs.Words.{AskForOneJob, Parts, command_of, is_number, is_positional, job_of, kind_of, number_of, option_of, parts_of, set_value, value_in, steps_of, fill_of};
+ghost use Rattle.dcc_top.specs.Words.{AskForOneJob, Parts, command_of, is_number, is_positional, job_of, kind_of};
+ghost use Rattle.dcc_top.specs.Words.{number_of, option_of, parts_of, set_value, value_in, steps_of, fill_of};
 ghost use Rattle.dcc_top.specs.WordsRead.{HasTwoFiles, job_read, kind_read, parts_read};
 
 /// What the program is to do.
