@@ -1,5 +1,5 @@
 -- How the values of locations stand for the machine's registers and flags. This stands between the runs; the public
--- contract tells visits, outputs and ends.
+-- contract tells visits, events and ends.
 use Rattle.std.specs.Prelude.{◌≡◌, ◌+◌, ◌*◌, true, List, [], ◌∷◌, length}
 use Rattle.std.specs.Int.{from_bool}
 use Rattle.dcc_num.specs.declared.Reg.{Reg}

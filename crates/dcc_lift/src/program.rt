@@ -145,7 +145,7 @@ fn translate(
 
 /// The program of the inner language that stands for the entry procedure: one graph, over the halves of registers,
 /// the flags and seven temporaries, and the image's data segment. Its run visits its blocks as the machine comes to
-/// their offsets, with the same outputs and the same end.
+/// their places, with the same events at the console and the same end, as long as that one is clean.
 ///
 /// The procedures are those that the search gives for the image and its layout.
 pub fn lift(
