@@ -84,41 +84,45 @@ module _ (next : List (List ℕ)) where
       let old = reverse_push s.begun (b, turn) in
       let new = reverse_push s.begun (b, turn + 1) in
       elim (cases_Bool (get_or s.seen t false)) [
-        | inl was ↦ subst StandsAt (sym (ap (λ c. if c then record s { begun = s.begun ++ (b, turn + 1) ∷ [] } else record s { seen = slice_set s.seen t true; begun = (s.begun ++ (b, turn + 1) ∷ []) ++ (t, 0) ∷ [] }) was)) (record {
-          seen = h.seen;
-          flagged = h.flagged;
-          count = h.count;
-          inside = moved s.begun b turn h.inside within;
-          leads_to = λ final r.
-              let now = subst (λ l. Rest h.seen l (reverse s.finished) final) new r in
-              let before : Rest h.seen ((b, turn) ∷ reverse s.begun) (reverse s.finished) final =
-              (now.0, subst (λ l. IsSearched next h.seen l now.0) (sym followers) (again (sym (h.flagged t) ∙ was) now.1), now.2) in
-              h.leads_to final (subst (λ l. Rest h.seen l (reverse s.finished) final) (sym old) before);
-        })
-        | inr is_new ↦ subst StandsAt (sym (ap (λ c. if c then record s { begun = s.begun ++ (b, turn + 1) ∷ [] } else record s { seen = slice_set s.seen t true; begun = (s.begun ++ (b, turn + 1) ∷ []) ++ (t, 0) ∷ [] }) is_new)) (record {
-          seen = t ∷ h.seen;
-          flagged = flag_more s.seen h.seen t (omega (arith, h.count)) h.flagged;
-          count = length-set s.seen t true ∙ h.count;
-          inside = All-push (λ (f : ℕ × ℕ). f.0 < length next) (s.begun ++ (b, turn + 1) ∷ []) (t, 0) (moved s.begun b turn h.inside within) inside;
-          leads_to = λ final r.
-              let top = reverse_push (s.begun ++ (b, turn + 1) ∷ []) (t, 0) ∙ ap (λ l. (t, 0) ∷ l) new in
-              let now = subst (λ l. Rest (t ∷ h.seen) l (reverse s.finished) final) top r in
-              let below = now.0 in
-              let on = now.2 in
-              let listed = on.0 ++ t ∷ below in
-              let search : IsSearched next h.seen (t ∷ rest) listed = first (sym (h.flagged t) ∙ is_new) now.1 on.1 in
-              let alike : (n : ℕ) → is_in (on.0 ++ (below ++ t ∷ h.seen)) n ≡ is_in (listed ++ h.seen) n = regroup on.0 below h.seen t in
-              let listed_is : on.0 ++ (t ∷ below ++ reverse s.finished) ≡ listed ++ reverse s.finished = sym (append_assoc on.0 (t ∷ below) (reverse s.finished)) in
-              let later = subst (λ l. Rest (on.0 ++ (below ++ t ∷ h.seen)) (reverse s.begun) (b ∷ l) final) listed_is on.2 in
-              let last = same_rest (reverse s.begun) (on.0 ++ (below ++ t ∷ h.seen)) (listed ++ h.seen) (b ∷ listed ++ reverse s.finished) final alike later in
-              let before : Rest h.seen ((b, turn) ∷ reverse s.begun) (reverse s.finished) final =
-              (listed, subst (λ l. IsSearched next h.seen l listed) (sym followers) search, last) in
-              h.leads_to final (subst (λ l. Rest h.seen l (reverse s.finished) final) (sym old) before);
-        })
+        | inl was ↦ subst StandsAt (sym (ap (λ c. if c then record s { begun = s.begun ++ (b, turn + 1) ∷ [] }
+            else record s { seen = slice_set s.seen t true; begun = (s.begun ++ (b, turn + 1) ∷ []) ++ (t, 0) ∷ [] }) was)) (record {
+              seen = h.seen;
+              flagged = h.flagged;
+              count = h.count;
+              inside = moved s.begun b turn h.inside within;
+              leads_to = λ final r.
+                  let now = subst (λ l. Rest h.seen l (reverse s.finished) final) new r in
+                  let before : Rest h.seen ((b, turn) ∷ reverse s.begun) (reverse s.finished) final =
+                  (now.0, subst (λ l. IsSearched next h.seen l now.0) (sym followers) (again (sym (h.flagged t) ∙ was) now.1), now.2) in
+                  h.leads_to final (subst (λ l. Rest h.seen l (reverse s.finished) final) (sym old) before);
+            })
+        | inr is_new ↦ subst StandsAt (sym (ap (λ c. if c then record s { begun = s.begun ++ (b, turn + 1) ∷ [] }
+            else record s { seen = slice_set s.seen t true; begun = (s.begun ++ (b, turn + 1) ∷ []) ++ (t, 0) ∷ [] }) is_new)) (record {
+              seen = t ∷ h.seen;
+              flagged = flag_more s.seen h.seen t (omega (arith, h.count)) h.flagged;
+              count = length-set s.seen t true ∙ h.count;
+              inside = All-push (λ (f : ℕ × ℕ). f.0 < length next) (s.begun ++ (b, turn + 1) ∷ []) (t, 0) (moved s.begun b turn h.inside within) inside;
+              leads_to = λ final r.
+                  let top = reverse_push (s.begun ++ (b, turn + 1) ∷ []) (t, 0) ∙ ap (λ l. (t, 0) ∷ l) new in
+                  let now = subst (λ l. Rest (t ∷ h.seen) l (reverse s.finished) final) top r in
+                  let below = now.0 in
+                  let on = now.2 in
+                  let listed = on.0 ++ t ∷ below in
+                  let search : IsSearched next h.seen (t ∷ rest) listed = first (sym (h.flagged t) ∙ is_new) now.1 on.1 in
+                  let alike : (n : ℕ) → is_in (on.0 ++ (below ++ t ∷ h.seen)) n ≡ is_in (listed ++ h.seen) n = regroup on.0 below h.seen t in
+                  let listed_is : on.0 ++ (t ∷ below ++ reverse s.finished) ≡ listed ++ reverse s.finished = sym (append_assoc on.0 (t ∷ below) (reverse s.finished)) in
+                  let later = subst (λ l. Rest (on.0 ++ (below ++ t ∷ h.seen)) (reverse s.begun) (b ∷ l) final) listed_is on.2 in
+                  let last = same_rest (reverse s.begun) (on.0 ++ (below ++ t ∷ h.seen)) (listed ++ h.seen) (b ∷ listed ++ reverse s.finished) final alike later in
+                  let before : Rest h.seen ((b, turn) ∷ reverse s.begun) (reverse s.finished) final =
+                  (listed, subst (λ l. IsSearched next h.seen l listed) (sym followers) search, last) in
+                  h.leads_to final (subst (λ l. Rest h.seen l (reverse s.finished) final) (sym old) before);
+            })
       ]
     where
-      moved : (begun : List (ℕ × ℕ)) (b turn : ℕ) → All (λ (f : ℕ × ℕ). f.0 < length next) (begun ++ (b, turn) ∷ []) → b < length next → All (λ (f : ℕ × ℕ). f.0 < length next) (begun ++ (b, turn + 1) ∷ [])
-      moved begun b turn all within = All-push (λ (f : ℕ × ℕ). f.0 < length next) begun (b, turn + 1) (All-pop (λ (f : ℕ × ℕ). f.0 < length next) (begun ++ (b, turn) ∷ []) begun (Some (b, turn)) refl all).0 within
+      moved : (begun : List (ℕ × ℕ)) (b turn : ℕ) → All (λ (f : ℕ × ℕ). f.0 < length next) (begun ++ (b, turn) ∷ []) → b < length next
+          → All (λ (f : ℕ × ℕ). f.0 < length next) (begun ++ (b, turn + 1) ∷ [])
+      moved begun b turn all within = All-push (λ (f : ℕ × ℕ). f.0 < length next) begun (b, turn + 1)
+          (All-pop (λ (f : ℕ × ℕ). f.0 < length next) (begun ++ (b, turn) ∷ []) begun (Some (b, turn)) refl all).0 within
 
   -- a block whose followers were all visited is finished
   finished_stands : (s : Search) (b turn : ℕ) → length (get_or next b []) ≤ turn → StandsAt (record s { begun = s.begun ++ (b, turn) ∷ [] }) → StandsAt (record s { finished = s.finished ++ b ∷ [] })

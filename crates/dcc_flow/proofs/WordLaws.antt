@@ -225,7 +225,8 @@ module _ (words used out written : List ℕ) (len : ℕ) (are : AreWords words l
         let inside : k < length words = omega (arith, after_length) in
         subst (λ x. x < 2 ^ 64) (sym (after_at k inside))
         (or_lt 64 (bit_or (get_or words k 0) (get_or used k 0)) (bit_and (get_or out k 0) (bit_not w64 (get_or written k 0)))
-        (or_lt 64 (get_or words k 0) (get_or used k 0) (All-get_or (λ x. x < 2 ^ 64) words k 0 inside are.fits) (All-get_or (λ x. x < 2 ^ 64) used k 0 (omega (arith, are.count, uses.count)) uses.fits))
+        (or_lt 64 (get_or words k 0) (get_or used k 0) (All-get_or (λ x. x < 2 ^ 64) words k 0 inside are.fits)
+        (All-get_or (λ x. x < 2 ^ 64) used k 0 (omega (arith, are.count, uses.count)) uses.fits))
         (and_below (get_or out k 0) (bit_not w64 (get_or written k 0)) (All-get_or (λ x. x < 2 ^ 64) out k 0 (omega (arith, are.count, outs.count)) outs.fits))));
     clear = λ place gone. after_bit place ∙ ap (λ x. x || bit_in used place || (bit_in out place && not (bit_in written place))) (are.clear place gone)
         ∙ ap (λ x. x || (bit_in out place && not (bit_in written place))) (uses.clear place gone)
@@ -296,7 +297,8 @@ flowed_more words initial used out written k new changed inside is h = record {
   change = change_more words initial k new inside (h.kept k (omega arith)) changed h.change (new == get_or words k 0) refl;
 }
 
-pub flowed_all : (words initial used out written : List ℕ) (k : ℕ) (changed : Bool) → length initial ≤ k → FlowedTo words initial used out written k changed → words ≡ flowed_words initial used out written
+pub flowed_all : (words initial used out written : List ℕ) (k : ℕ) (changed : Bool) → length initial ≤ k
+    → FlowedTo words initial used out written k changed → words ≡ flowed_words initial used out written
 flowed_all words initial used out written k changed all h =
     fill_by_all (λ q. flowed_word (get_or initial q 0) (get_or used q 0) (get_or out q 0) (get_or written q 0)) words (length initial) 0 h.same_length (λ q less. h.below q (omega arith))
 

@@ -361,7 +361,8 @@ module _ (next : List (List ℕ)) (used written : List (List Bool)) (len : ℕ) 
         (if get_or after.queued s false then 1 else 0) + (len - truths (get_or after.answer s [])) ≤ (if get_or w.queued s false then 1 else 0) + (len - truths (get_or w.answer s []))
     unfolding new old
     now_less s below = elim (cases_eq s b) [
-      | inl e ↦ subst (λ j. (if get_or after.queued j false then 1 else 0) + (len - truths (get_or after.answer j [])) ≤ (if get_or w.queued j false then 1 else 0) + (len - truths (get_or w.answer j []))) (sym e)
+      | inl e ↦ subst (λ j. (if get_or after.queued j false then 1 else 0) + (len - truths (get_or after.answer j []))
+          ≤ (if get_or w.queued j false then 1 else 0) + (len - truths (get_or w.answer j []))) (sym e)
           (elim is.change [
             | inl same ↦
                 let row : get_or after.answer b [] ≡ get_or w.answer b [] = row_here ∙ sym (same_lists old new same.0) in
@@ -369,7 +370,8 @@ module _ (next : List (List ℕ)) (used written : List (List Bool)) (len : ℕ) 
                 let left = ap truths row in
                 omega (arith, flag, left)
             | inr other ↦
-                let grown = truths_more old new (sym (length_flowed_bits old (get_or used block []) out (get_or written block []))) (λ i t. flowed_keeps old (get_or used block []) out (get_or written block []) i t) other.0 in
+                let grown = truths_more old new (sym (length_flowed_bits old (get_or used block []) out (get_or written block [])))
+                (λ i t. flowed_keeps old (get_or used block []) out (get_or written block []) i t) other.0 in
                 let most = truths_le_length new in
                 let whole = length_flowed_bits old (get_or used block []) out (get_or written block []) ∙ h.kept.size b inside in
                 let left = ap truths row_here in
@@ -459,7 +461,8 @@ module _ (next : List (List ℕ)) (used written : List (List Bool)) (len : ℕ) 
               let o = old p in
               let a = one_here block p e in
               let b = flag_one (get_or w.queued p false) (subst (λ j. get_or w.queued j false ≡ true) e was) in
-              let c = flag_none (get_or (slice_set w.queued block false) p false) (subst (λ j. get_or (slice_set w.queued block false) j false ≡ false) e (get_or-set_same w.queued block false false flagged)) in
+              let c = flag_none (get_or (slice_set w.queued block false) p false)
+              (subst (λ j. get_or (slice_set w.queued block false) j false ≡ false) e (get_or-set_same w.queued block false false flagged)) in
               omega (arith, o, a, b, c)
           | inr n ↦
               let o = old p in
@@ -532,7 +535,8 @@ module _ (next : List (List ℕ)) (used written : List (List Bool)) (len : ℕ) 
       flags = length-replicate (length next) true;
       agree = λ p. elim (cases_lt p (length next)) [
         | inl below ↦ times_in 0 (length next) p (omega arith) (omega arith) ∙ sym (flag_one (get_or (replicate (length next) true) p false) (get_or-replicate (length next) p true false below))
-        | inr past ↦ times_out 0 (length next) p (inr (omega arith)) ∙ sym (flag_none (get_or (replicate (length next) true) p false) (get_or_past (replicate (length next) true) p false (omega (arith, length-replicate {A = Bool} (length next) true))))
+        | inr past ↦ times_out 0 (length next) p (inr (omega arith))
+            ∙ sym (flag_none (get_or (replicate (length next) true) p false) (get_or_past (replicate (length next) true) p false (omega (arith, length-replicate {A = Bool} (length next) true))))
       ];
       sound = λ b i t. absurd (false≢true (sym (dark (length next) b i) ∙ t));
     };
@@ -562,7 +566,8 @@ module _ (next : List (List ℕ)) (used written : List (List Bool)) (len : ℕ) 
         exact = λ b i below small. (h.kept.sound b i, λ u. arrive free i small b u.between u.user u.path u.read);
       }
     where
-      arrive : ((s : ℕ) → get_or w.queued s false ≡ false) → (i : ℕ) → i < len → (a : ℕ) (ms : List ℕ) (c : ℕ) → IsPath (leads next) (λ b. holds written b i ≡ false) a ms c → holds used c i ≡ true → holds w.answer a i ≡ true
+      arrive : ((s : ℕ) → get_or w.queued s false ≡ false) → (i : ℕ) → i < len → (a : ℕ) (ms : List ℕ) (c : ℕ)
+          → IsPath (leads next) (λ b. holds written b i ≡ false) a ms c → holds used c i ≡ true → holds w.answer a i ≡ true
       arrive free i small a [] c edge read = h.closed c a (target_within next all a c edge) (free c) edge tt i small (inl read)
       arrive free i small a (m ∷ ms) c path read =
           let later = arrive free i small m ms c path.2 read in

@@ -25,7 +25,8 @@ loop-last-init c =
 pub go_on-requires-clause-block : goal.go_on-requires-clause-block
 go_on-requires-clause-block c =
     let next = rows c.in_ok-next.next.items in
-    let last : c.in-Some.last.0 < length next = (All-pop (λ (f : ℕ × ℕ). f.0 < length next) c.loop-last.search.begun.items c.pop.new.self.items (Some c.in-Some.last) c.in-Some.ensures.items c.loop-last.invariant.inside).1 in
+    let last : c.in-Some.last.0 < length next = (All-pop (λ (f : ℕ × ℕ). f.0 < length next) c.loop-last.search.begun.items
+    c.pop.new.self.items (Some c.in-Some.last) c.in-Some.ensures.items c.loop-last.invariant.inside).1 in
     omega (arith, last, length_rows c.in_ok-next.next.items)
 
 pub go_on-requires-clause-next : goal.go_on-requires-clause-next
@@ -35,7 +36,8 @@ pub loop-last-smaller : goal.loop-last-smaller
 loop-last-smaller c =
     let next = rows c.in_ok-next.next.items in
     let within = subst AreWithin (sym c.in_ok-next.ensures) (successors_within (graph_of c.args.g.now) c.requires) in
-    let inside : c.in-Some.last.0 < length next = (All-pop (λ (f : ℕ × ℕ). f.0 < length next) c.loop-last.search.begun.items c.pop.new.self.items (Some c.in-Some.last) c.in-Some.ensures.items c.loop-last.invariant.inside).1 in
+    let inside : c.in-Some.last.0 < length next = (All-pop (λ (f : ℕ × ℕ). f.0 < length next) c.loop-last.search.begun.items
+    c.pop.new.self.items (Some c.in-Some.last) c.in-Some.ensures.items c.loop-last.invariant.inside).1 in
     let popped : Search = record { seen = c.loop-last.search.seen.items; begun = c.pop.new.self.items; finished = c.loop-last.search.finished.items } in
     let less = less_left next popped c.in-Some.last.0 c.in-Some.last.1 within c.loop-last.invariant.count inside in
     let now : left next (search_of c.go_on.new.self) < left next (record popped { begun = popped.begun ++ c.in-Some.last ∷ [] }) =
@@ -46,7 +48,8 @@ pub loop-last-preserved : goal.loop-last-preserved
 loop-last-preserved c =
     let next = rows c.in_ok-next.next.items in
     let within = subst AreWithin (sym c.in_ok-next.ensures) (successors_within (graph_of c.args.g.now) c.requires) in
-    let inside : c.in-Some.last.0 < length next = (All-pop (λ (f : ℕ × ℕ). f.0 < length next) c.loop-last.search.begun.items c.pop.new.self.items (Some c.in-Some.last) c.in-Some.ensures.items c.loop-last.invariant.inside).1 in
+    let inside : c.in-Some.last.0 < length next = (All-pop (λ (f : ℕ × ℕ). f.0 < length next) c.loop-last.search.begun.items
+    c.pop.new.self.items (Some c.in-Some.last) c.in-Some.ensures.items c.loop-last.invariant.inside).1 in
     let popped : Search = record { seen = c.loop-last.search.seen.items; begun = c.pop.new.self.items; finished = c.loop-last.search.finished.items } in
     let before : StandsAt next (record popped { begun = popped.begun ++ c.in-Some.last ∷ [] }) =
     subst (λ l. StandsAt next (record popped { begun = l })) c.in-Some.ensures.items c.loop-last.invariant in

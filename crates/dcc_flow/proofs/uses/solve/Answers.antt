@@ -18,31 +18,36 @@ loop-block-init g c =
     let are = c.in_ok-sources.ensures.sources in
     record {
       going = start_going next (rows c.in_ok-sources.sources.items) used written c.args.len are (work_of c.in_ok-work.work) c.len.result c.in_ok-work.ensures count;
-      steps = start_steps next (rows c.in_ok-sources.sources.items) used written c.args.len are (work_of c.in_ok-work.work) c.len.result c.args.steps.now (words_for c.args.len) c.in_ok-work.ensures count c.in_ok-sources.ensures.few;
+      steps = start_steps next (rows c.in_ok-sources.sources.items) used written c.args.len are (work_of c.in_ok-work.work) c.len.result c.args.steps.now
+          (words_for c.args.len) c.in_ok-work.ensures count c.in_ok-sources.ensures.few;
     }
 
 pub index-requires : goal.index-requires
 index-requires g c =
     let next = rows c.args.next.now.items in
-    let inside = last_inside next c.args.used.now.items c.args.written.now.items c.args.len (work_of c.loop-block.work) c.in-Some.block c.pop.new.self.items c.in-Some.ensures.items c.loop-block.invariant.going.kept in
+    let inside = last_inside next c.args.used.now.items c.args.written.now.items c.args.len (work_of c.loop-block.work)
+    c.in-Some.block c.pop.new.self.items c.in-Some.ensures.items c.loop-block.invariant.going.kept in
     omega (arith, inside, c.in_ok-sources.ensures.sources.len, length_rows c.in_ok-sources.sources.items)
 
 pub index-requires-in-Some : goal.index-requires-in-Some
 index-requires-in-Some g c =
     let next = rows c.args.next.now.items in
-    let inside = last_inside next c.args.used.now.items c.args.written.now.items c.args.len (work_of c.loop-block.work) c.in-Some.block c.pop.new.self.items c.in-Some.ensures.items c.loop-block.invariant.going.kept in
+    let inside = last_inside next c.args.used.now.items c.args.written.now.items c.args.len (work_of c.loop-block.work)
+    c.in-Some.block c.pop.new.self.items c.in-Some.ensures.items c.loop-block.invariant.going.kept in
     omega (arith, inside, c.requires.used.count_is, length_rows c.args.next.now.items)
 
 pub index-requires-in-Some-2 : goal.index-requires-in-Some-2
 index-requires-in-Some-2 g c =
     let next = rows c.args.next.now.items in
-    let inside = last_inside next c.args.used.now.items c.args.written.now.items c.args.len (work_of c.loop-block.work) c.in-Some.block c.pop.new.self.items c.in-Some.ensures.items c.loop-block.invariant.going.kept in
+    let inside = last_inside next c.args.used.now.items c.args.written.now.items c.args.len (work_of c.loop-block.work)
+    c.in-Some.block c.pop.new.self.items c.in-Some.ensures.items c.loop-block.invariant.going.kept in
     omega (arith, inside, c.requires.written.count_is, length_rows c.args.next.now.items)
 
 pub flow_from-requires-clause-block : goal.flow_from-requires-clause-block
 flow_from-requires-clause-block g c =
     let next = rows c.args.next.now.items in
-    let inside = last_inside next c.args.used.now.items c.args.written.now.items c.args.len (work_of c.loop-block.work) c.in-Some.block c.pop.new.self.items c.in-Some.ensures.items c.loop-block.invariant.going.kept in
+    let inside = last_inside next c.args.used.now.items c.args.written.now.items c.args.len (work_of c.loop-block.work)
+    c.in-Some.block c.pop.new.self.items c.in-Some.ensures.items c.loop-block.invariant.going.kept in
     omega (arith, inside, c.loop-block.invariant.going.kept.count)
 
 pub flow_from-requires-clause-sources : goal.flow_from-requires-clause-sources

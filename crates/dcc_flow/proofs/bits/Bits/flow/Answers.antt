@@ -27,7 +27,8 @@ flow_words-requires-clause-out g c =
 
 pub flow_words-requires-clause-written : goal.flow_words-requires-clause-written
 flow_words-requires-clause-written g c =
-    let e = same_len c.written.inside.words.items c.self.inside.words.items c.written.inside.len c.self.inside.len c.args.written.now c.args.self.now c.written.view_is c.self.view_is c.requires.written in
+    let e = same_len c.written.inside.words.items c.self.inside.words.items c.written.inside.len c.self.inside.len
+    c.args.written.now c.args.self.now c.written.view_is c.self.view_is c.requires.written in
     ap length c.as_slice-3.ensures.value ∙ same_count c.written.inside.words.items c.self.inside.words.items c.written.inside.len c.self.inside.len c.written.invariant c.self.invariant e
     ∙ sym (ap length c.as_mut_slice.ensures.value)
 
