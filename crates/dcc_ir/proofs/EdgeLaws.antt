@@ -1,4 +1,4 @@
--- Where each block that goes has one edge in, it lies behind one block alone.
+-- Where each block that goes has one edge in, it lies after one block alone.
 use Rattle.std.proofs.Common.{◌≡◌, ℕ, Bool, true, false, List, [], ◌∷◌, sym, subst}
 use Rattle.dcc_ir.specs.Flow.{Flow, IsPath, Any, Reached, Leads, HaveOneEdge}
 use Rattle.dcc_ir.proofs.PathLaws.{clash, reached_along}

@@ -73,7 +73,7 @@ Leads p q a b = (between : List ℕ) × IsPath p.goes (λ c. q.has c ≡ false) 
 
 -- The second graph has a part of the first one's blocks, the first block among them. Every closed path of reached
 -- blocks holds one of them. The edges between them are those of the first graph, with each other block taken into the
--- block before it: each other reached block lies behind one of them alone.
+-- block before it: each other reached block lies after one of them alone.
 pub record IsContraction (p q : Flow) : Type 0 where
   pub start : q.start ≡ p.start
   pub blocks : (a : ℕ) → q.has a ≡ true → p.has a ≡ true

@@ -338,7 +338,7 @@ fn runs_end_at_faults_and_outside_the_table(rt: HostRuntime) -> Result<(), Fail>
     Ok(())
 }
 
-// Prints A and exits with 3, as a linker makes it: DS is set to a segment behind the code first.
+// Prints A and exits with 3, as a linker makes it: DS is set to a segment after the code first.
 const PRINTS_A: [u8; 16] = [
     0xB8, 0x11, 0x01, 0x8E, 0xD8, 0xB2, 0x41, 0xB4, 0x02, 0xCD, 0x21, 0xB8, 0x03, 0x4C, 0xCD, 0x21,
 ];
@@ -351,7 +351,7 @@ const ECHOES_TWO: [u8; 12] = [
 // Takes a key without an echo, and exits with it.
 const TAKES_ONE: [u8; 8] = [0xB4, 0x08, 0xCD, 0x21, 0xB4, 0x4C, 0xCD, 0x21];
 
-// Writes the string `hello` behind the code, and exits with AL, which is still that of DS.
+// Writes the string `hello` that stands after the code, and exits with AL, which is still that of DS.
 const SAYS_HELLO: [u8; 22] = [
     0xB8, 0x10, 0x01, 0x8E, 0xD8, 0xBA, 0x10, 0x00, 0xB4, 0x09, 0xCD, 0x21, 0xB4, 0x4C, 0xCD, 0x21,
     b'h', b'e', b'l', b'l', b'o', b'$',

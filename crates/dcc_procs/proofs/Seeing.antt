@@ -129,7 +129,7 @@ grown-none (Same known) (Same other) ah e t =
 grown-none (Same known) Differing ah e t = let clash = e in cc
 grown-none Differing other ah e t = tt
 
--- Behind an instruction.
+-- After an instruction.
 
 pub tells-after : (instr : Instr) (seen : Seen) (ah : Option ℕ) → Tells seen ah → Tells (seen_after instr.op seen) (ah_after (Some instr) ah)
 tells-after instr Never ah t = t
