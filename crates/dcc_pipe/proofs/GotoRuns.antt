@@ -362,7 +362,8 @@ module _ (image : List ℕ) (lo hi entry local pushed : ℕ) (params : List Para
         leaps_count (run.watched_inner goto_program fill) (text_system goto_text) (inner_watchable goto_program fill) related statements goto-leaps
         (run.first_state goto_program fill input) (c.first_state goto_text start fill input) 4 first-related
 
-    pub goto-shows : (m : ℕ) → is_shown (run.watched_inner goto_program fill) (after (run.step goto_program fill) m (run.first_state goto_program fill input)) ≡ true
+    pub goto-shows : (m : ℕ) → (k : ℕ) × (m ≤ k)
+        × (is_shown (run.watched_inner goto_program fill) (after (run.step goto_program fill) k (run.first_state goto_program fill input)) ≡ true)
     goto-shows =
         leaps_show (run.watched_inner goto_program fill) (text_system goto_text) (inner_watchable goto_program fill) related statements goto-leaps
         (run.first_state goto_program fill input) (c.first_state goto_text start fill input) 4 first-related

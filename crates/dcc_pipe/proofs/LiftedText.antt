@@ -136,7 +136,7 @@ module _ (image : Image) (layout : Layout) (start_proc : Proc) (p : inner.Progra
   -- what is known of the program and the text
   record Together (q : inner.Program) (t : Tree) : Type 0 where
     counts : Counts (λ place. true) (run.watched_inner q fill) (run.first_state q fill input) (text_system t) (c.first_state t start fill input) tokens
-    shows : (m : ℕ) → is_shown (run.watched_inner q fill) (after (run.step q fill) m (run.first_state q fill input)) ≡ true
+    shows : (m : ℕ) → (k : ℕ) × (m ≤ k) × (is_shown (run.watched_inner q fill) (after (run.step q fill) k (run.first_state q fill input)) ≡ true)
     goes_on : (k : ℕ) → (m : ℕ) × ((k ≤ kept_count (λ place. true) (run.watched_inner q fill) m (run.first_state q fill input))
         ⊎ (is_over (end_after (run.inner_system q fill) m (run.first_state q fill input)) ≡ true))
 

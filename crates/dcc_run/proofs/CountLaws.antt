@@ -1,7 +1,7 @@
 -- From a run that shadows another, and a third that counts its visits, to the agreement of the first and the third
 -- within numbers of steps.
 use Rattle.std.proofs.Common.{◌≡◌, ℕ, zero, suc, ◌+◌, ◌-◌, ◌*◌, ◌≤◌, ◌<◌, inl, inr, Bool, true, false, cond, [], ◌∷◌, ◌++◌, length, Option, Some, None, refl, sym, ap, ◌∙◌, subst, true≢false, arith}
-use Rattle.std.specs.Prelude.{All, ◌⊎◌}
+use Rattle.std.specs.Prelude.{All, ◌⊎◌, ◌||◌, is_some}
 use Rattle.std.proofs.Math.Nat.{mul-le-mul_left}
 use Rattle.std.proofs.lemmas.Bool.{cases_lt}
 use Rattle.std.proofs.lemmas.List.{append-nil, length-append}
@@ -74,6 +74,48 @@ module _ {S P : Type 0} (kept : P → Bool) (w : Watched S P) where
             ]
       ]
 
+module _ {S P : Type 0} (w : Watched S P) where
+  -- a state of which nothing is shown visits nothing
+  hidden_visit : (s : S) → is_shown w s ≡ false → visit_of w.system w.mark s ≡ []
+  hidden_visit s none = by (is_over (w.system.end s)) (w.mark s) none
+    where
+      by : (b : Bool) (place : Option P) → (b || is_some place) ≡ false → cond b [] (visit_at w.system s place) ≡ []
+      by true place e = refl
+      by false None e = refl
+      by false (Some place) e = absurd (true≢false e)
+
+  -- so one step from there visits no place
+  hidden_step : (m : ℕ) (s : S) → is_shown w (state w m s) ≡ false → length (visits w.system w.mark (suc m) s) ≡ length (visits w.system w.mark m s)
+  hidden_step m s none =
+      let e : suc m ≡ m + 1 = omega arith in
+      let more = ap (λ k. length (visits w.system w.mark k s)) e
+      ∙ ap length (visits-add w.system w.mark m 1 s)
+      ∙ length-append (visits w.system w.mark m s) (visits w.system w.mark 1 (state w m s))
+      ∙ ap (λ l. length (visits w.system w.mark m s) + length l) (append-nil _ ∙ hidden_visit (state w m s) none) in
+      omega (arith, more)
+
+  -- the next state that is shown: up to there no place is visited
+  record NextShown (m : ℕ) (s : S) : Type 0 where
+    at : ℕ
+    late : m ≤ at
+    shown : is_shown w (state w at s) ≡ true
+    same : length (visits w.system w.mark at s) ≡ length (visits w.system w.mark m s)
+
+  next_shown : (d m : ℕ) (s : S) → is_shown w (state w (m + d) s) ≡ true → NextShown m s
+  next_shown zero m s there =
+      let e : m ≡ m + 0 = omega arith in
+      let le : m ≤ m = omega arith in
+      record { at = m; late = le; shown = ap (λ k. is_shown w (state w k s)) e ∙ there; same = refl }
+  next_shown (suc d) m s there =
+      let e : suc m + d ≡ m + suc d = omega arith in
+      let x = next_shown d (suc m) s (ap (λ k. is_shown w (state w k s)) e ∙ there) in
+      elim (which (is_shown w (state w m s))) [
+        | inl here ↦ let le : m ≤ m = omega arith in record { at = m; late = le; shown = here; same = refl }
+        | inr none ↦
+            let le : m ≤ x.at = omega (arith, x.late) in
+            record { at = x.at; late = le; shown = x.shown; same = x.same ∙ hidden_step m s none }
+      ]
+
 module _ {S T U P : Type 0} (kept : P → Bool) (first : Watched S P) (second : Watched T P) (third : System U) (law : IsWatchable first)
     (third_law : IsLawful third) (s : S) (t : T) (u : U) (within : ℕ) (counts : Counts kept second t third u within) where
   -- where the second run is over, its events begin with those of the third at any time, and the third's end is the same
@@ -95,27 +137,32 @@ module _ {S T U P : Type 0} (kept : P → Bool) (first : Watched S P) (second : 
             record { end = ap third.end same ∙ c.1.stands.end; events = ap third.events same ∙ c.1.stands.events },
       )
 
-  -- Where something is seen of the second run in each of its states, the third has caught up with n clean steps of the
-  -- first.
-  pub third_keeps_up : Shadows first s second t → ((m : ℕ) → is_shown second (state second m t) ≡ true) →
+  -- Where something is shown of the second run again and again, the third has caught up with n clean steps of the first.
+  pub third_keeps_up : Shadows first s second t → ((m : ℕ) → (k : ℕ) × (m ≤ k) × (is_shown second (state second k t) ≡ true)) →
       (n : ℕ) → first.foul (state first n s) ≡ false → KeepsUp first.system s n third u (within * (n + 1))
-  third_keeps_up shadows seen n clean =
+  third_keeps_up shadows again n clean =
       let x = shadows n clean in
       let m = x.0 in
-      let c = counts m in
+      let late = again m in
+      let e : late.0 ≡ m + (late.0 - m) = omega (arith, late.1) in
+      let y = next_shown second (late.0 - m) m t (sym (ap (λ k. is_shown second (state second k t)) e) ∙ late.2) in
+      let c = counts y.at in
+      let here = counts m in
       let last = within * (n + 1) in
       let few = few_visits first n s in
       let equal = ap length x.1.visits_are in
       let less : length (visits second.system second.mark m t) + 1 ≤ n + 1 = omega (arith, few, equal) in
+      let less_there : length (visits second.system second.mark y.at t) + 1 ≤ n + 1 = omega (arith, few, equal, y.same) in
       let product = mul-le-mul_left within less in
-      let le : c.0 ≤ last = omega (arith, c.1.high, product) in
-      let low : m ≤ m = omega arith in
+      let product_there = mul-le-mul_left within less_there in
+      let le : here.0 ≤ last = omega (arith, here.1.high, product) in
+      let le_there : c.0 ≤ last = omega (arith, c.1.high, product_there) in
       record {
-        events = prefix_trans (x.1.ahead m low (seen m)) (subst (λ l. IsPrefix l (events_after third last u)) c.1.stands.events (events_grow third third_law c.0 last u le));
+        events = prefix_trans (x.1.ahead y.at y.late y.shown) (subst (λ l. IsPrefix l (events_after third last u)) c.1.stands.events (events_grow third third_law c.0 last u le_there));
         alike = λ o.
             let z = x.1.alike o in
-            let same = over_stays third third_law c.0 last u le (ap is_over (c.1.stands.end ∙ z.end) ∙ o) in
-            record { end = ap third.end same ∙ c.1.stands.end ∙ z.end; events = ap third.events same ∙ c.1.stands.events ∙ z.events };
+            let same = over_stays third third_law here.0 last u le (ap is_over (here.1.stands.end ∙ z.end) ∙ o) in
+            record { end = ap third.end same ∙ here.1.stands.end ∙ z.end; events = ap third.events same ∙ here.1.stands.events ∙ z.events };
       }
 
   -- The first run, which keeps pace in its kept places, has caught up with k steps of the third.

@@ -96,12 +96,16 @@ module _ {S T P : Type 0} (w : Watched S P) (other : System T) (law : IsWatchabl
           },
         )
 
-    -- each state of this run is seen
-    pub leaps_show : (m : ℕ) → is_shown w (state w m s) ≡ true
-    leaps_show m = elim (stands_after m s (after other.step lead t) begins).seen [
-      | inl marked ↦ marked_shows w (state w m s) marked.1
-      | inr over ↦ over_shows w (state w m s) over
-    ]
+    -- something is shown of this run again and again: of each state
+    pub leaps_show : (m : ℕ) → (k : ℕ) × (m ≤ k) × (is_shown w (state w k s) ≡ true)
+    leaps_show m = let low : m ≤ m = omega arith in (
+      m,
+      low,
+      elim (stands_after m s (after other.step lead t) begins).seen [
+        | inl marked ↦ marked_shows w (state w m s) marked.1
+        | inr over ↦ over_shows w (state w m s) over
+      ],
+    )
 
     -- and it visits more and more places, or ends
     pub leaps_go_on : (k : ℕ) → (m : ℕ) × ((k ≤ length (visits_of (λ place. true) (visits w.system w.mark m s))) ⊎ (is_over (end_after w.system m s) ≡ true))
