@@ -14,6 +14,7 @@ use Rattle.dcc_ir.specs.Location.{location_width}
 use Rattle.dcc_ir.specs.WellFormed.{is_stmt, is_param_list, memory_params_last, jumps_after_call, all_ret_widths, IsGraph, IsCalling, IsProgram}
 use Rattle.dcc_ir.specs.Ends.{IsNeverStuck, is_ret, is_switch, stops_soundly, HasSoundEnds}
 use Rattle.dcc_ir.specs.Passing.{passed, param_of, RetPasses, GraphPasses, CallPasses, StmtPasses, PassesAll}
+use Rattle.std.proofs.lemmas.List.{length-map}
 use Rattle.dcc_ir.proofs.UnstuckLaws.{never_stuck, no_switch_places}
 
 -- The callee takes two words, the first in two locations, the second in memory, and gives both back.
@@ -92,15 +93,14 @@ callee_passes = record {
 }
 
 call_passes : CallPasses both_words (passed ++ places) (arguments ++ map Get passed)
-call_passes = record { words = arguments; taken = refl; bytes = places; given = refl; two = refl }
+call_passes = record { words = arguments; taken = refl; temporaries = 0 ∷ 1 ∷ 2 ∷ 3 ∷ []; given = refl; differ = refl; two = refl }
 
 back : ℕ → List ℕ
 back entry = both_words
 
-program_passes : PassesAll program
+program_passes : PassesAll back program
 unfolding back
 program_passes = record {
-  back = back;
   graphs = one (λ g. GraphPasses (back g.entry) g) callee callee_passes;
   calls = All-cons (λ g. All (λ b. All (StmtPasses back) b.stmts) g.blocks) caller (callee ∷ [])
       (All-cons (λ b. All (StmtPasses back) b.stmts) calling_block (last_block ∷ []) (one (StmtPasses back) call call_passes)
@@ -207,9 +207,9 @@ a_byte_in_memory_is_loaded e = cc
 
 each_byte_has_a_place : ¬ CallPasses (0 ∷ []) (passed ++ Temp 0 ∷ []) (arguments ++ map Get passed)
 each_byte_has_a_place p =
-    let places_are : p.bytes ≡ Temp 0 ∷ [] = let e = p.given in cc in
-    let two : 1 ≡ 2 = sym (ap length places_are) ∙ p.two in
-    omega (arith, two)
+    let places_are : map Temp p.temporaries ≡ Temp 0 ∷ [] = let e = p.given in cc in
+    let count : 1 ≡ length p.temporaries = sym (ap length places_are) ∙ length-map p.temporaries Temp in
+    omega (arith, count, p.two)
 
 memory_comes_last : (memory_params_last words ≡ true) × (memory_params_last (in_memory ∷ in_locations ∷ []) ≡ false)
 memory_comes_last = (refl, refl)

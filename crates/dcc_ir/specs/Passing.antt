@@ -6,11 +6,12 @@ use Rattle.dcc_num.specs.declared.Reg.TheVariants.{Ax, Cx, Dx, Bx, Si, Di}
 use Rattle.dcc_num.specs.declared.Half.TheVariants.{Low, High}
 use Rattle.dcc_num.specs.declared.FlagName.TheVariants.{Cf, Zf, Sf, Of}
 use Rattle.dcc_ir.specs.declared.syntax.Loc.{Loc}
-use Rattle.dcc_ir.specs.declared.syntax.Loc.TheVariants.{Half, Flag}
+use Rattle.dcc_ir.specs.declared.syntax.Loc.TheVariants.{Half, Flag, Temp}
 use Rattle.dcc_ir.specs.declared.syntax.Put.{Put}
 use Rattle.dcc_ir.specs.declared.syntax.Put.TheVariants.{Memory, One, Two}
 use Rattle.dcc_ir.specs.declared.syntax.Param.{Param}
 use Rattle.dcc_ir.specs.Tree.{Expr, Get, Load, Address, Stmt, Call, Exit, Ret, Graph, Program}
+use Rattle.dcc_ir.specs.WellFormed.{all_differ}
 
 -- the halves and flags that pass, in their order
 abbrev pub passed : List Loc
@@ -69,23 +70,23 @@ pub record GraphPasses (numbers : List ℕ) (graph : Graph) : Type 0 where
 
 -- Calls.
 
--- a Call takes words, then the caller's halves and flags, and sets these and then two places for each word of these
--- numbers
+-- a Call takes words, then the caller's halves and flags, and sets these and then a temporary of its own for each byte of
+-- the words of these numbers, in the order in which the callee gives them
 pub record CallPasses (numbers : List ℕ) (results : List Loc) (arguments : List Expr) : Type 0 where
   pub words : List Expr
   pub taken : arguments ≡ words ++ map Get passed
-  pub bytes : List Loc
-  pub given : results ≡ passed ++ bytes
-  pub two : length bytes ≡ 2 * length numbers
+  pub temporaries : List ℕ
+  pub given : results ≡ passed ++ map Temp temporaries
+  pub differ : all_differ temporaries ≡ true
+  pub two : length temporaries ≡ 2 * length numbers
 
 -- the callee gives back what the entries tell
 abbrev pub StmtPasses : (ℕ → List ℕ) → Stmt → Type 0
 StmtPasses back (Call results entry arguments depth) = CallPasses (back entry) results arguments
 StmtPasses back _ = Unit {0}
 
--- All halves and flags pass in and out of each graph but the first, and through each Call. Each graph, by its entry,
--- has its numbers of words that are given back.
-pub record PassesAll (p : Program) : Type 0 where
-  pub back : ℕ → List ℕ
+-- All halves and flags pass in and out of each graph but the first, and through each Call. Each graph gives back the
+-- words of the numbers that are told of its entry.
+pub record PassesAll (back : ℕ → List ℕ) (p : Program) : Type 0 where
   pub graphs : All (λ g. GraphPasses (back g.entry) g) (drop 1 p.graphs)
   pub calls : All (λ g. All (λ b. All (StmtPasses back) b.stmts) g.blocks) p.graphs

@@ -32,7 +32,7 @@ use Rattle.dcc_lift.proofs.WantedStatements.{alone, WantedWith, WantedAtEnd, cou
 use Rattle.dcc_lift.proofs.WantedMakes.{is_same, place_same, comes_from}
 use Rattle.dcc_lift.proofs.WantedOperations.{agrees, is_visible, sets, reads_test, uses_agree}
 use Rattle.dcc_lift.proofs.WantedDos.{location_of, located, dos_uses_wanted, dos_keeps}
-use Rattle.dcc_lift.proofs.WantedLaws.{is_dos, uses_any, writes_any, IsWantedAt, IsWantedBehind, by_test, by_next, ahead}
+use Rattle.dcc_lift.proofs.WantedLaws.{is_dos, uses_any, writes_any, IsWantedAt, IsWantedAfter, by_test, by_next, ahead}
 
 -- what the test of a block's end uses is read by the test of its last instruction
 test_read : (nodes : Nodes) (entry : ℕ) (node : Node) (exit : Exit) (l : Loc) → IsExitOf nodes entry node exit → Contains (tests_of exit) l → reads_test (op_test node.instr.op) l ≡ true
@@ -76,7 +76,7 @@ module _ (image : Image) (layout : Layout) (nodes : Nodes) (prelude : ℕ) (soun
 
   -- what is wanted before the instructions of a chain, where at its end no more is wanted than after its last instruction
   chain_ahead : (End : Loc → Type 0) (rest : List ℕ) (at : ℕ) → IsChain nodes layout.start_ip at rest → is_node nodes at ≡ true
-      → ((node : Node) → node_in nodes (last_of at rest) ≡ Some node → (l : Loc) → End l → IsWantedBehind image layout (last_of at rest) node.instr.op l)
+      → ((node : Node) → node_in nodes (last_of at rest) ≡ Some node → (l : Loc) → End l → IsWantedAfter image layout (last_of at rest) node.instr.op l)
       → (l : Loc) → WantedWith End (flat_map (stmts_at nodes) (at ∷ rest)) l → IsWantedAt image layout at l
   chain_ahead End [] at chain node ends l d =
       let found = node_in_some nodes at node in
@@ -118,7 +118,7 @@ module _ (image : Image) (layout : Layout) (nodes : Nodes) (prelude : ℕ) (soun
     where
       ends : ((at : ℕ) (block : Block) → IsBlockAt nodes layout.start_ip at block → is_node nodes at ≡ true → (l : Loc)
           → WantedWith (WantedAtEnd graph n block) block.stmts l → IsWantedAt image layout at l)
-          → (node : Node) → node_in nodes (last_of at is.rest) ≡ Some node → (to : Loc) → WantedAtEnd graph (suc n) block to → IsWantedBehind image layout (last_of at is.rest) node.instr.op to
+          → (node : Node) → node_in nodes (last_of at is.rest) ≡ Some node → (to : Loc) → WantedAtEnd graph (suc n) block to → IsWantedAfter image layout (last_of at is.rest) node.instr.op to
       ends later node found to (inl c) = by_test (test_read nodes layout.start_ip node block.exit to
           (subst (λ x. IsExitOf nodes layout.start_ip node x) (sym is.exit_is) (exit_forms nodes layout.start_ip prelude sound (last_of at is.rest) node found)) c)
       ends later node found to (inr e) =

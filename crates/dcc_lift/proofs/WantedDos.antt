@@ -62,9 +62,9 @@ by_numbers P two exit one eight n e = elim (or_cases (n == 0x02) ((n == 0x4C) ||
 ]
 
 -- what a DOS call wants before it: what it uses, and what is wanted after it and is not written
-pub data DosWants (n : ℕ) (l : Loc) (Behind : Type 0) : Type 0 where
-  taken : (location : Location) → place_of location ≡ l → uses Int21 (Some n) location ≡ true → DosWants n l Behind
-  kept : ((location : Location) → place_of location ≡ l → surely_writes Int21 (Some n) location ≡ false) → Behind → DosWants n l Behind
+pub data DosWants (n : ℕ) (l : Loc) (IsAfter : Type 0) : Type 0 where
+  taken : (location : Location) → place_of location ≡ l → uses Int21 (Some n) location ≡ true → DosWants n l IsAfter
+  kept : ((location : Location) → place_of location ≡ l → surely_writes Int21 (Some n) location ≡ false) → IsAfter → DosWants n l IsAfter
 
 -- AL is not written
 not_al : (location : Location) (l : Loc) → place_of location ≡ l → ¬ Contains (Half Ax Low ∷ []) l → is_same location (half_of Ax Low) ≡ false

@@ -57,9 +57,9 @@ pub record IsWantedAt (image : Image) (layout : Layout) (at : ℕ) (l : Loc) : T
   pub wanted : IsWanted image layout layout.start_ip at location
 
 -- what is wanted after an instruction: what its test reads, or what is wanted where it goes on
-pub data IsWantedBehind (image : Image) (layout : Layout) (at : ℕ) (op : Op) (l : Loc) : Type 0 where
-  by_test : reads_test (op_test op) l ≡ true → IsWantedBehind image layout at op l
-  by_next : (next : ℕ) → IsEdge image layout layout.start_ip at next → IsWantedAt image layout next l → IsWantedBehind image layout at op l
+pub data IsWantedAfter (image : Image) (layout : Layout) (at : ℕ) (op : Op) (l : Loc) : Type 0 where
+  by_test : reads_test (op_test op) l ≡ true → IsWantedAfter image layout at op l
+  by_next : (next : ℕ) → IsEdge image layout layout.start_ip at next → IsWantedAt image layout next l → IsWantedAfter image layout at op l
 
 module _ (image : Image) (layout : Layout) (nodes : Nodes) (at : ℕ) (node : Node) (is : IsInstruction image layout nodes at node) (reached : IsNode image layout layout.start_ip at) where
   has_operation : HasOperation image layout layout.start_ip at node.instr.op node.number
@@ -69,7 +69,7 @@ module _ (image : Image) (layout : Layout) (nodes : Nodes) (at : ℕ) (node : No
     number_is = λ e. record { before = reached.before; trail = reached.trail; stands = (node.instr, is.stands, e); ah_is = is.told e reached.before reached.trail };
   }
 
-  module _ (End : Loc → Type 0) (ys : List Stmt) (following : (to : Loc) → WantedWith End ys to → IsWantedBehind image layout at node.instr.op to) where
+  module _ (End : Loc → Type 0) (ys : List Stmt) (following : (to : Loc) → WantedWith End ys to → IsWantedAfter image layout at node.instr.op to) where
     -- an operation that is no INT 21h, where its test reads what is wanted
     ahead_tested : node.instr.op ≢ Int21 → (l to : Loc) → before (op_stmts node.instr.op node.number) (alone to) l ≡ true → reads_test (op_test node.instr.op) to ≡ true → IsWantedAt image layout at l
     ahead_tested other l to b t =
@@ -121,7 +121,7 @@ module _ (image : Image) (layout : Layout) (nodes : Nodes) (at : ℕ) (node : No
         let on = leads End (op_stmts node.instr.op node.number) ys is_visible l (sets node.instr.op node.number is.liftable other) d in
         by_after on.0 on.1 (following on.0 on.2)
       where
-        by_after : (to : Loc) → before (op_stmts node.instr.op node.number) (alone to) l ≡ true → IsWantedBehind image layout at node.instr.op to → IsWantedAt image layout at l
+        by_after : (to : Loc) → before (op_stmts node.instr.op node.number) (alone to) l ≡ true → IsWantedAfter image layout at node.instr.op to → IsWantedAt image layout at l
         by_after to b (by_test t) = ahead_tested other l to b t
         by_after to b (by_next next edge there) = ahead_next other l to b next edge there
 
@@ -138,7 +138,7 @@ module _ (image : Image) (layout : Layout) (nodes : Nodes) (at : ℕ) (node : No
         writes_here : (location : Location) → surely_writes node.instr.op node.number location ≡ surely_writes Int21 (Some n.0) location
         writes_here location = ap (λ op. surely_writes op node.number location) same ∙ ap (λ m. surely_writes Int21 m location) n.1
 
-        by_after : ((location : Location) → place_of location ≡ l → surely_writes Int21 (Some n.0) location ≡ false) → IsWantedBehind image layout at node.instr.op l → IsWantedAt image layout at l
+        by_after : ((location : Location) → place_of location ≡ l → surely_writes Int21 (Some n.0) location ≡ false) → IsWantedAfter image layout at node.instr.op l → IsWantedAt image layout at l
         by_after f (by_test t) = absurd (true≢false (sym (subst (λ op. reads_test (op_test op) l ≡ true) same t)))
         by_after f (by_next next edge there) = record {
           location = there.location;

@@ -80,12 +80,12 @@ passes-append passed b = b
 passes-append (passes is a) b = passes is (passes-append a b)
 
 -- the lines after statements without the label
-pub record Behind (word : Word) (ys : List Stmt) (lines : Lines) (rest : Continuation) : Type 0 where
+pub record IsAfter (word : Word) (ys : List Stmt) (lines : Lines) (rest : Continuation) : Type 0 where
   pub after : Lines
   pub lined : AreLined ys after
   pub same : from_label word lines rest ≡ from_label word after rest
 
-pub following : {word : Word} {xs : List Stmt} (ys : List Stmt) (lines : Lines) (rest : Continuation) → Passes word xs → AreLined (xs ++ ys) lines → Behind word ys lines rest
+pub following : {word : Word} {xs : List Stmt} (ys : List Stmt) (lines : Lines) (rest : Continuation) → Passes word xs → AreLined (xs ++ ys) lines → IsAfter word ys lines rest
 following ys lines rest passed lined = record { after = lines; lined = lined; same = refl }
 following ys no_lines rest (passes is others) lined = elim lined [ ]
 following {word} ys (line counted at lines) rest (passes is others) (one_more kept lined) =

@@ -15,7 +15,10 @@ use Rattle.dcc_prog.specs.declared.instr.Alu.TheVariants.{Add}
 use Rattle.dcc_prog.specs.declared.instr.Operand.TheVariants.{Word, Mem, Const}
 use Rattle.dcc_prog.specs.declared.instr.Op.{Op}
 use Rattle.dcc_prog.specs.declared.instr.Op.TheVariants.{Alu as AluOp, Mov, Push, Pop, Table, Call, Ret, Int21}
+use Rattle.dcc_run.specs.Event.{Wrote, Took, MetEnd}
 use Rattle.dcc_prog.specs.Bytes.{word_at}
+use Rattle.dcc_prog.specs.Machine.{start_state}
+use Rattle.dcc_prog.specs.Dos.{key_step}
 use Rattle.dcc_prog.specs.Code.{code_of}
 use Rattle.dcc_prog.specs.Table.{table, instruction_at}
 use Rattle.dcc_prog.specs.Trail.{StandsAt, table_number, successors, IsTrail, start}
@@ -362,3 +365,13 @@ bare-construct = record {
     foreign = refl;
   });
 }
+
+-- The console.
+
+-- on an empty input each of two keys is a read at its end, and nothing is echoed
+keys-at_the_end : (key_step true (key_step true (start_state switch_image []))).events ≡ MetEnd ∷ MetEnd ∷ []
+keys-at_the_end = refl
+
+-- a key is taken and then written, before the input has ended
+key-then_the_end : (key_step true (key_step true (start_state switch_image (0x61 ∷ [])))).events ≡ Took 0x61 ∷ Wrote 0x61 ∷ MetEnd ∷ []
+key-then_the_end = refl
