@@ -9,8 +9,6 @@ mod edges;
 pub mod laws;
 mod search;
 mod steps;
-#[cfg(test)]
-mod tests;
 mod uses;
 
 pub use bits::Bits;
