@@ -1,5 +1,5 @@
--- Which instructions are of a form that is not built yet: those that use memory or the stack, divide, call, return
--- or jump through a table.
+-- Which instructions are of a form for which no text is built yet: those that use memory or the stack, divide, call,
+-- return or jump through a table.
 use Rattle.std.specs.Prelude.{◌≡◌, ℕ, Bool, true, false, ◌||◌, Some}
 use Rattle.dcc_num.specs.declared.Reg.TheVariants.{Sp, Bp}
 use Rattle.dcc_num.specs.declared.dos.TheConstants.{PUTS}
@@ -12,8 +12,8 @@ use Rattle.dcc_prog.specs.declared.instr.Plain.TheVariants.{Xlat}
 use Rattle.dcc_prog.specs.declared.instr.Operand.{Operand}
 use Rattle.dcc_prog.specs.declared.instr.Operand.TheVariants.{Word, Mem}
 use Rattle.dcc_prog.specs.declared.instr.Op.{Op}
-use Rattle.dcc_prog.specs.declared.instr.Op.TheVariants.{Alu as AluOp, Unary as UnaryOp, Shift as ShiftOp, Mov, Xchg, Lea, Push, Pop, Plain as PlainOp, Table, Call, Ret}
-use Rattle.dcc_prog.specs.Trail.{StandsAt, IsNode}
+use Rattle.dcc_prog.specs.declared.instr.Op.TheVariants.{Alu as AluOp, Unary as UnaryOp, Shift as ShiftOp, Mov, Xchg, Lea, Imul3, Push, Pop, Enter, Leave, Plain as PlainOp, Table, Call, Ret}
+use Rattle.dcc_prog.specs.Trail.{StandsAt, IsNode, IsEntry}
 use Rattle.dcc_prog.specs.Construct.{HasAh}
 
 -- memory, SP or BP
@@ -37,12 +37,15 @@ is_xlat operation = false
 abbrev pub is_unbuilt : Op → Bool
 is_unbuilt (AluOp operation a b) = is_memory_or_stack a || is_memory_or_stack b
 is_unbuilt (UnaryOp operation a) = is_unbuilt_unary operation a
-is_unbuilt (ShiftOp operation a by_cl) = is_memory_or_stack a
+is_unbuilt (ShiftOp operation a count) = is_memory_or_stack a
 is_unbuilt (Mov to from) = is_memory_or_stack to || is_memory_or_stack from
 is_unbuilt (Xchg a b) = is_memory_or_stack a || is_memory_or_stack b
 is_unbuilt (Lea r ea) = true
+is_unbuilt (Imul3 r a constant) = is_memory_or_stack (Word r) || is_memory_or_stack a
 is_unbuilt (Push a) = true
 is_unbuilt (Pop a) = true
+is_unbuilt (Enter count) = true
+is_unbuilt Leave = true
 is_unbuilt (PlainOp operation) = is_xlat operation
 is_unbuilt (Table r offset) = true
 is_unbuilt (Call target) = true
@@ -54,7 +57,13 @@ pub data IsUnbuiltAt (image : Image) (layout : Layout) (entry at : ℕ) : Type 0
   operation : {op : Op} → StandsAt image layout at op → is_unbuilt op ≡ true → IsUnbuiltAt image layout entry at
   string : HasAh image layout entry at (Some PUTS) → IsUnbuiltAt image layout entry at
 
--- the same, and the entry procedure reaches the offset
+-- the same, and a procedure that is reached has the offset as a node
 pub record IsNotYet (image : Image) (layout : Layout) (at : ℕ) : Type 0 where
-  pub node : IsNode image layout layout.start_ip at
-  pub unbuilt : IsUnbuiltAt image layout layout.start_ip at
+  pub entry : ℕ
+  pub is_entry : IsEntry image layout entry
+  pub node : IsNode image layout entry at
+  pub unbuilt : IsUnbuiltAt image layout entry at
+
+-- no instruction is reached that is not built
+abbrev pub IsBuilt : Image → Layout → Type 0
+IsBuilt image layout = (at : ℕ) → ¬ IsNotYet image layout at

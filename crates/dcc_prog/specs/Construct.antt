@@ -1,9 +1,10 @@
--- The constructs for which a program is not decompiled. Each kind has a number, and is a predicate of the image and an
--- offset in its code segment.
+-- The constructs for which a program is not decompiled. Each kind has a number, and is a predicate of the processor,
+-- the image and an offset in its code segment: one file may have a construct on one processor and none on the other.
 use Rattle.std.specs.Prelude.{◌≡◌, ◌≢◌, ◌≤◌, ◌<◌, ◌⊎◌, ℕ, ◌+◌, ◌*◌, ◌==◌, Bool, true, false, not, ◌||◌, List, ◌∷◌, length, Option, Some, None}
 use Rattle.dcc_num.specs.declared.Reg.{Reg}
 use Rattle.dcc_num.specs.declared.dos.TheConstants.{GETCHE, PUTC, GETCH, PUTS, EXIT}
 use Rattle.dcc_prog.specs.declared.refusal.construct.TheConstants.{NO_LAYOUT, OUTSIDE, INDIRECT_JUMP, INDIRECT_CALL, DOS_NUMBER, ENTRY_RETURN, DIVISION}
+use Rattle.dcc_prog.specs.declared.cpu.Cpu.{Cpu}
 use Rattle.dcc_prog.specs.declared.image.Image.{Image}
 use Rattle.dcc_prog.specs.declared.procedure.Layout.{Layout}
 use Rattle.dcc_prog.specs.declared.instr.Operand.{Operand}
@@ -19,10 +20,10 @@ use Rattle.dcc_prog.specs.Prepared.{IsUnprepared}
 
 -- Kind 1: no layout.
 
--- the offset is the entry, and no layout holds of the image
-pub record LacksLayout (image : Image) (at : ℕ) : Type 0 where
+-- the offset is the entry, and no layout for the processor holds of the image
+pub record LacksLayout (cpu : Cpu) (image : Image) (at : ℕ) : Type 0 where
   pub entry : at ≡ image.ip
-  pub none : (layout : Layout) → ¬ HasLayout image layout
+  pub none : (layout : Layout) → layout.cpu ≡ cpu → ¬ HasLayout image layout
 
 -- Kinds 3 and 4: indirect jumps and calls.
 
@@ -155,11 +156,12 @@ pub record IsOfTrails (kind : ℕ) (image : Image) (layout : Layout) (at : ℕ) 
   pub node : IsNode image layout entry at
   pub stands : IsAtNode image layout entry at kind
 
--- a construct of this kind stands at the offset
-pub data IsConstruct : ℕ → Image → ℕ → Type 0 where
-  lacks_layout : {image : Image} {at : ℕ} → LacksLayout image at → IsConstruct NO_LAYOUT image at
+-- on this processor a construct of this kind stands at the offset
+pub data IsConstruct (cpu : Cpu) : ℕ → Image → ℕ → Type 0 where
+  lacks_layout : {image : Image} {at : ℕ} → LacksLayout cpu image at → IsConstruct cpu NO_LAYOUT image at
   of_trails :
       {kind at : ℕ} {image : Image} {layout : Layout}
+      → layout.cpu ≡ cpu
       → HasLayout image layout
       → IsOfTrails kind image layout at
-      → IsConstruct kind image at
+      → IsConstruct cpu kind image at

@@ -1,5 +1,5 @@
 -- The procedures of a program as they are found.
-use Rattle.std.specs.Prelude.{◌≡◌, ◌<◌, ℕ, List, [], ◌∷◌, slice_get, All, AllPairs, Some, None}
+use Rattle.std.specs.Prelude.{◌≡◌, ◌≢◌, ◌<◌, ℕ, List, ◌∷◌, slice_get, All, AllPairs, Some, None}
 use Rattle.dcc_prog.specs.declared.image.Image.{Image}
 use Rattle.dcc_prog.specs.declared.procedure.Layout.{Layout}
 use Rattle.dcc_prog.specs.declared.procedure.Node.{Node}
@@ -9,7 +9,6 @@ use Rattle.dcc_prog.specs.declared.instr.Op.TheVariants.{Int21}
 use Rattle.dcc_prog.specs.Trail.{instruction_in, known_ah, successors, IsTrail, IsNode, IsEntry}
 use Rattle.dcc_prog.specs.Construct.{IsOfTrails}
 use Rattle.dcc_prog.specs.Limit.{IsAbove}
-use Rattle.dcc_prog.specs.Built.{IsNotYet}
 
 -- the offset is a node, with its instruction, with the successors of every trail that ends there, and, if it is INT
 -- 21h, with the number that every trail tells of AH
@@ -39,14 +38,28 @@ pub record IsFound (image : Image) (layout : Layout) (proc : Proc) : Type 0 wher
   pub ascending : AllPairs (λ (a b : ℕ × Node). a.0 < b.0) proc.nodes.entries
   pub every : (at : ℕ) → IsNode image layout proc.entry at → IsListed proc.nodes.entries at
 
--- the program has one procedure, which is found; no construct that trails tell stands anywhere, no count is too
--- great, and no instruction that is reached is one that is not built
-pub record AreFound (image : Image) (layout : Layout) (procs : List Proc) : Type 0 where
+-- a procedure with that entry is among these
+pub record HasEntry (procs : List Proc) (entry : ℕ) : Type 0 where
+  pub proc : Proc
+  pub place : ℕ
+  pub listed : slice_get procs place ≡ Some proc
+  pub entry_is : proc.entry ≡ entry
+
+-- the entry procedure stands first, and then the others in ascending order of their entries
+pub record AreInOrder (layout : Layout) (procs : List Proc) : Type 0 where
   pub start : Proc
-  pub one : procs ≡ start ∷ []
-  pub entry : start.entry ≡ layout.start_ip
-  pub found : IsFound image layout start
-  pub only : (entry : ℕ) → IsEntry image layout entry → entry ≡ layout.start_ip
+  pub others : List Proc
+  pub procs_are : procs ≡ start ∷ others
+  pub first : start.entry ≡ layout.start_ip
+  pub apart : All (λ proc. proc.entry ≢ layout.start_ip) others
+  pub ascending : AllPairs (λ (a b : Proc). a.entry < b.entry) others
+
+-- these are just the procedures that are reached, in order, each with just its nodes; no construct that trails tell
+-- stands anywhere, and no count is too great
+pub record AreFound (image : Image) (layout : Layout) (procs : List Proc) : Type 0 where
+  pub order : AreInOrder layout procs
+  pub reached : All (λ proc. IsEntry image layout proc.entry) procs
+  pub every : (entry : ℕ) → IsEntry image layout entry → HasEntry procs entry
+  pub found : All (IsFound image layout) procs
   pub no_construct : (kind at : ℕ) → ¬ IsOfTrails kind image layout at
   pub no_limit : (what : LimitName) (count : ℕ) → ¬ IsAbove image layout what count
-  pub built : (at : ℕ) → ¬ IsNotYet image layout at

@@ -4,6 +4,7 @@ use Rattle.std.specs.Prelude.{◌≡◌, ◌≤◌, ◌<◌, ℕ, ◌+◌, ◌-�
 use Rattle.std.specs.List.{list_any}
 use Rattle.dcc_run.specs.System.{after}
 use Rattle.dcc_num.specs.declared.Reg.TheVariants.{Sp}
+use Rattle.dcc_prog.specs.declared.cpu.Cpu.{Cpu}
 use Rattle.dcc_prog.specs.declared.image.Image.{Image}
 use Rattle.dcc_prog.specs.declared.procedure.Layout.{Layout}
 use Rattle.dcc_prog.specs.declared.instr.Alu.TheVariants.{Add, Sub}
@@ -62,7 +63,7 @@ abbrev pub is_prelude_form : Op → Bool
 is_prelude_form (Mov to from) = is_prelude_move to from
 is_prelude_form (AluOp Add a b) = is_prelude_sum a b
 is_prelude_form (AluOp Sub a b) = is_prelude_sum a b
-is_prelude_form (ShiftOp Shl a by_cl) = is_word_register a
+is_prelude_form (ShiftOp Shl a count) = is_word_register a
 is_prelude_form (PlainOp operation) = is_prelude_plain operation
 is_prelude_form op = false
 
@@ -83,7 +84,7 @@ is_control operation = false
 abbrev pub may_end_prelude : Op → Bool
 may_end_prelude (Mov to from) = is_segment_or_sp to
 may_end_prelude (AluOp operation a b) = is_segment_or_sp a
-may_end_prelude (ShiftOp operation a by_cl) = is_segment_or_sp a
+may_end_prelude (ShiftOp operation a count) = is_segment_or_sp a
 may_end_prelude (PlainOp operation) = is_control operation
 may_end_prelude op = false
 
@@ -95,14 +96,14 @@ writes_ds op = false
 -- The prelude.
 
 -- the instruction stands at an offset, wholly in the code, and may stand in a prelude
-pub record IsFormAt (code : List ℕ) (at : ℕ) (instr : Instr) : Type 0 where
-  pub found : instruction_at at (drop at code) ≡ Some instr
+pub record IsFormAt (cpu : Cpu) (code : List ℕ) (at : ℕ) (instr : Instr) : Type 0 where
+  pub found : instruction_at cpu at (drop at code) ≡ Some instr
   pub form : is_prelude_form instr.op ≡ true
 
 -- such instructions stand one after another from an offset on
-abbrev pub IsRun : List ℕ → ℕ → List Instr → Type 0
-IsRun code at [] = Unit {0}
-IsRun code at (instr ∷ rest) = IsFormAt code at instr × IsRun code (at + instr.len) rest
+abbrev pub IsRun : Cpu → List ℕ → ℕ → List Instr → Type 0
+IsRun cpu code at [] = Unit {0}
+IsRun cpu code at (instr ∷ rest) = IsFormAt cpu code at instr × IsRun cpu code (at + instr.len) rest
 
 -- the offset after instructions that stand one after another from an offset on
 abbrev pub end_of : ℕ → List Instr → ℕ
@@ -116,15 +117,15 @@ ends_prelude (instr ∷ []) = may_end_prelude instr.op
 ends_prelude (instr ∷ next ∷ rest) = ends_prelude (next ∷ rest)
 
 -- the prelude: the longest run from the entry after whose last instruction a prelude may end
-pub record IsPrelude (code : List ℕ) (entry : ℕ) (prelude : List Instr) : Type 0 where
-  pub run : IsRun code entry prelude
+pub record IsPrelude (cpu : Cpu) (code : List ℕ) (entry : ℕ) (prelude : List Instr) : Type 0 where
+  pub run : IsRun cpu code entry prelude
   pub ends : ends_prelude prelude ≡ true
-  pub longest : (other : List Instr) → IsRun code entry other → ends_prelude other ≡ true
+  pub longest : (other : List Instr) → IsRun cpu code entry other → ends_prelude other ≡ true
       → length other ≤ length prelude
 
 -- the machine after the prelude: that many steps from the start
-unfoldable pub state_after : Image → List Instr → State
-state_after image prelude = after step (length prelude) (start_state image [])
+unfoldable pub state_after : Cpu → Image → List Instr → State
+state_after cpu image prelude = after (step cpu) (length prelude) (start_state image [])
 
 -- The layout.
 
@@ -137,12 +138,12 @@ lowest_of_stack image ds =
 
 -- the values of a layout are those that the prelude leaves
 pub record IsLeftBy (image : Image) (prelude : List Instr) (layout : Layout) : Type 0 where
-  pub regs : layout.regs ≡ (state_after image prelude).regs
-  pub flags : layout.flags ≡ (state_after image prelude).flags
-  pub ds : layout.ds ≡ data_segment (state_after image prelude)
-  pub delta : layout.ds * 16 + layout.delta ≡ stack_segment (state_after image prelude) * 16
+  pub regs : layout.regs ≡ (state_after layout.cpu image prelude).regs
+  pub flags : layout.flags ≡ (state_after layout.cpu image prelude).flags
+  pub ds : layout.ds ≡ data_segment (state_after layout.cpu image prelude)
+  pub delta : layout.ds * 16 + layout.delta ≡ stack_segment (state_after layout.cpu image prelude) * 16
   pub lo : layout.lo ≡ lowest_of_stack image layout.ds
-  pub hi : layout.hi ≡ word_in (state_after image prelude) Sp + layout.delta
+  pub hi : layout.hi ≡ word_in (state_after layout.cpu image prelude) Sp + layout.delta
   pub start_ip : layout.start_ip ≡ end_of image.ip prelude
   -- the code ends where the data segment begins, or before, where the image ends or at offset 65536
   pub code_end : layout.code_end ≡ min ((layout.ds - image.cs) * 16) image.code_len
@@ -156,10 +157,11 @@ pub record IsSmall (image : Image) (layout : Layout) : Type 0 where
   pub has_stack : layout.lo < layout.hi
   pub has_code : layout.start_ip < layout.code_end
 
--- the layout holds of the image: its prelude writes DS and leaves these values, and they keep to the small memory model
+-- the layout holds of the image on its processor: the prelude writes DS and leaves these values, and they keep to the
+-- small memory model
 pub record HasLayout (image : Image) (layout : Layout) : Type 0 where
   pub prelude : List Instr
-  pub is_prelude : IsPrelude (code_of image) image.ip prelude
+  pub is_prelude : IsPrelude layout.cpu (code_of image) image.ip prelude
   pub ds_written : list_any (λ instr. writes_ds instr.op) prelude ≡ true
   pub left : IsLeftBy image prelude layout
   pub small : IsSmall image layout

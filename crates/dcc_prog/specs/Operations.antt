@@ -1,11 +1,12 @@
--- What the operations of the 8086 do to the state (8086 Family User's Manual, table 2-21). The instruction pointer
--- stands after the instruction already. Flags that the manual leaves undefined are clear.
+-- What the operations do to the state (8086 Family User's Manual, table 2-21; iAPX 86/88, 186/188 User's Manual,
+-- Programmer's Reference). The instruction pointer stands after the instruction already. Flags that the manuals leave
+-- undefined are clear.
 use Rattle.std.specs.Prelude.{ℕ, ◌+◌, ◌-◌, ◌*◌, ◌%◌, ◌==◌, Bool, true, false, not, ◌&&◌, ◌||◌, if◌then◌else◌, Option, Some, None}
 use Rattle.dcc_run.specs.End.{End, Divide}
 use Rattle.dcc_num.specs.declared.Width.{Width}
 use Rattle.dcc_num.specs.declared.Width.TheVariants.{Byte as byte_width, Word as word_width}
 use Rattle.dcc_num.specs.declared.Reg.{Reg}
-use Rattle.dcc_num.specs.declared.Reg.TheVariants.{Ax, Cx, Dx, Bx, Sp}
+use Rattle.dcc_num.specs.declared.Reg.TheVariants.{Ax, Cx, Dx, Bx, Sp, Bp}
 use Rattle.dcc_num.specs.declared.Half.TheVariants.{Low, High}
 use Rattle.dcc_num.specs.declared.Flags.{Flags}
 use Rattle.dcc_num.specs.Numbers.{limit_of, differ, sign_extension_of, no_flags}
@@ -14,10 +15,14 @@ use Rattle.dcc_num.specs.Logic.{conjunction_of, disjunction_of, exclusive_of}
 use Rattle.dcc_num.specs.Shift.{shl_of, shr_of, sar_of, left_rotation_of, right_rotation_of, left_turn_of, right_turn_of}
 use Rattle.dcc_num.specs.Product.{product_of, signed_product_of, extension_of}
 use Rattle.dcc_num.specs.Quotient.{division_of, signed_division_of}
+use Rattle.dcc_prog.specs.declared.cpu.Cpu.{Cpu}
+use Rattle.dcc_prog.specs.declared.cpu.Cpu.TheVariants.{I8086, I186}
 use Rattle.dcc_prog.specs.declared.instr.Alu.{Alu}
 use Rattle.dcc_prog.specs.declared.instr.Alu.TheVariants.{Add, Or, Adc, Sbb, And, Sub, Xor, Cmp, Test}
 use Rattle.dcc_prog.specs.declared.instr.Shift.{Shift}
 use Rattle.dcc_prog.specs.declared.instr.Shift.TheVariants.{Rol, Ror, Rcl, Rcr, Shl, Shr, Sar}
+use Rattle.dcc_prog.specs.declared.instr.Count.{Count}
+use Rattle.dcc_prog.specs.declared.instr.Count.TheVariants.{One, Cl, Const as ConstCount}
 use Rattle.dcc_prog.specs.declared.instr.Unary.{Unary}
 use Rattle.dcc_prog.specs.declared.instr.Unary.TheVariants.{Inc, Dec, Neg, Not, Mul, Imul, Div, Idiv}
 use Rattle.dcc_prog.specs.declared.instr.Cond.{Cond}
@@ -26,6 +31,7 @@ use Rattle.dcc_prog.specs.declared.instr.Plain.{Plain}
 use Rattle.dcc_prog.specs.declared.instr.Plain.TheVariants.{Nop, Cbw, Cwd, Xlat, Clc, Stc, Cmc, Cli, Sti, Cld}
 use Rattle.dcc_prog.specs.declared.instr.Ea.{Ea}
 use Rattle.dcc_prog.specs.declared.instr.Operand.{Operand}
+use Rattle.dcc_prog.specs.declared.instr.Operand.TheVariants.{Word}
 use Rattle.dcc_prog.specs.Machine.{State, half_of_word, word_with_half, word_in, with_word_in, code_segment, stack_segment, data_segment, byte_in, word_at_offset, with_word_at_offset, offset_of, operand_value, with_operand, operand_width}
 
 -- the run ends at the instruction at this offset
@@ -94,6 +100,12 @@ abbrev pub with_division : Width → ℕ → Option (ℕ × ℕ) → State → S
 with_division w at None s = with_end Divide at s
 with_division w at (Some division) s = with_pair w division.0 division.1 (with_flags no_flags s)
 
+-- the lower word of the signed product of an operand and a constant
+abbrev pub imul3_step : Reg → Operand → ℕ → State → State
+imul3_step r x constant s =
+    let product = signed_product_of word_width (operand_value s x) constant in
+    with_word_in (with_flags product.2 s) r product.0
+
 abbrev pub unary_step : Unary → Width → Operand → ℕ → ℕ → State → State
 unary_step Inc w x a at s = with_result x (increment_of w a s.flags) s
 unary_step Dec w x a at s = with_result x (decrement_of w a s.flags) s
@@ -106,9 +118,16 @@ unary_step Idiv w x a at s = with_division w at (signed_division_of w (upper_in 
 
 -- Shifts and rotates.
 
--- the count in CL, or 1
-abbrev pub count_in : Bool → State → ℕ
-count_in by_cl s = if by_cl then half_of_word Low (word_in s Cx) else 1
+-- how far the processor goes by a number in CL: the 80186 takes it modulo 32
+abbrev pub taken_count : Cpu → ℕ → ℕ
+taken_count I8086 number = number
+taken_count I186 number = number % 32
+
+-- how far a shift or rotate goes; the 80186 alone has a constant
+abbrev pub count_in : Cpu → Count → State → ℕ
+count_in cpu One s = 1
+count_in cpu Cl s = taken_count cpu (half_of_word Low (word_in s Cx))
+count_in cpu (ConstCount number) s = number % 32
 
 -- RCL and RCR are by 1 alone
 abbrev pub shift_result : Shift → Width → ℕ → ℕ → Flags → ℕ × Flags
@@ -120,9 +139,9 @@ shift_result Shl w a count was = shl_of w a count was
 shift_result Shr w a count was = shr_of w a count was
 shift_result Sar w a count was = sar_of w a count was
 
-abbrev pub shift_step : Shift → Operand → Bool → State → State
-shift_step shift x by_cl s =
-    with_result x (shift_result shift (operand_width x) (operand_value s x) (count_in by_cl s) s.flags) s
+abbrev pub shift_step : Cpu → Shift → Operand → Count → State → State
+shift_step cpu shift x count s =
+    with_result x (shift_result shift (operand_width x) (operand_value s x) (count_in cpu count s) s.flags) s
 
 -- The stack.
 
@@ -147,6 +166,15 @@ push_step x s = after_push (operand_value s x) s
 -- the operand is written after SP has risen
 abbrev pub pop_step : Operand → State → State
 pop_step x s = with_operand (with_sp_raised 2 s) x (top_word s)
+
+-- BP is pushed, it takes SP, and SP falls by a number of bytes
+abbrev pub enter_step : ℕ → State → State
+enter_step count s =
+    let t = after_push (word_in s Bp) s in with_sp_raised (65536 - count) (with_word_in t Bp (word_in t Sp))
+
+-- SP takes BP, and BP is popped
+abbrev pub leave_step : State → State
+leave_step s = pop_step (Word Bp) (with_word_in s Sp (word_in s Bp))
 
 -- Jumps, calls and returns.
 

@@ -1,13 +1,17 @@
--- The encodings of the 8086 that this project knows, one row for each (8086 Family User's Manual,
--- table 4-12), and which instruction some bytes are.
+-- The encodings of the 8086 and the 80186 that this project knows, one row for each (8086 Family User's Manual, table
+-- 4-12; iAPX 86/88, 186/188 User's Manual, Programmer's Reference), and which instruction some bytes are.
 use Rattle.std.specs.Prelude.{◌<◌, take, ◌≡◌, ◌≤◌, ◌↔◌, IsTrue, slice_get, filter, Some, ℕ, ◌+◌, ◌-◌, ◌/◌, ◌%◌, zero, suc, Bool, true, false, if◌then◌else◌, ◌==◌, ◌&&◌, nat_le, List, [], ◌∷◌, ◌++◌, length, get_or, map, find, Option, None, option_map}
 use Rattle.dcc_num.specs.declared.Reg.TheVariants.{Bx, Si, Di}
 use Rattle.dcc_num.specs.declared.Width.TheVariants.{Byte as byte_width, Word as word_width}
 use Rattle.dcc_num.specs.Numbers.{sign_extension_of}
+use Rattle.dcc_prog.specs.declared.cpu.Cpu.{Cpu}
+use Rattle.dcc_prog.specs.declared.cpu.Cpu.TheVariants.{I8086, I186}
 use Rattle.dcc_prog.specs.declared.instr.Alu.{Alu}
 use Rattle.dcc_prog.specs.declared.instr.Alu.TheVariants.{Add, Or, Adc, Sbb, And, Sub, Xor, Cmp, Test}
 use Rattle.dcc_prog.specs.declared.instr.Shift.{Shift}
 use Rattle.dcc_prog.specs.declared.instr.Shift.TheVariants.{Rol, Ror, Rcl, Rcr, Shl, Shr, Sar}
+use Rattle.dcc_prog.specs.declared.instr.Count.{Count}
+use Rattle.dcc_prog.specs.declared.instr.Count.TheVariants.{One, Cl, Const as ConstCount}
 use Rattle.dcc_prog.specs.declared.instr.Unary.{Unary}
 use Rattle.dcc_prog.specs.declared.instr.Unary.TheVariants.{Inc, Dec, Neg, Not, Mul, Imul, Div, Idiv}
 use Rattle.dcc_prog.specs.declared.instr.Cond.{Cond}
@@ -16,7 +20,7 @@ use Rattle.dcc_prog.specs.declared.instr.Plain.TheVariants.{Nop, Cbw, Cwd, Xlat,
 use Rattle.dcc_prog.specs.declared.instr.Operand.{Operand}
 use Rattle.dcc_prog.specs.declared.instr.Operand.TheVariants.{Seg, Mem, Const}
 use Rattle.dcc_prog.specs.declared.instr.Op.{Op}
-use Rattle.dcc_prog.specs.declared.instr.Op.TheVariants.{Alu as AluOp, Unary as UnaryOp, Shift as ShiftOp, Mov, Xchg, Lea, Push, Pop, Plain as PlainOp, Jump, Branch, Loop, LoopE, LoopNe, Jcxz, Table, Call, Ret, Int21}
+use Rattle.dcc_prog.specs.declared.instr.Op.TheVariants.{Alu as AluOp, Unary as UnaryOp, Shift as ShiftOp, Mov, Xchg, Lea, Imul3, Push, Pop, Enter, Leave, Plain as PlainOp, Jump, Branch, Loop, LoopE, LoopNe, Jcxz, Table, Call, Ret, Int21}
 use Rattle.dcc_prog.specs.declared.instr.Instr.{Instr}
 use Rattle.dcc_prog.specs.Bytes.{byte_at, word_at}
 use Rattle.dcc_prog.specs.Operands.{word_register, register, width_of, mod_field, reg_field, rm_field, displacement_size, displacement_at, address, rm_operand}
@@ -36,13 +40,18 @@ pub record BytePattern : Type 0 where
   pub regs : Range
   pub rms : Range
 
--- which constant stands at the end of an instruction: none, a byte, a word, or a byte that is
--- sign-extended to a word
+-- which constant an instruction has: none, a byte, a word, or a byte that is sign-extended to a word
 pub data ConstantForm : Type 0 where
   no_constant : ConstantForm
   byte_constant : ConstantForm
   word_constant : ConstantForm
   signed_constant : ConstantForm
+
+-- where the constant begins: at the end, after the first bytes and the displacement; or at an index among the first
+-- bytes
+pub data ConstantPlace : Type 0 where
+  at_end : ConstantPlace
+  at_index : ℕ → ConstantPlace
 
 -- what an operation is made of: the opcode byte, the ModRM byte with its displacement, the
 -- constant, and the offset of the next instruction, which isn't wrapped
@@ -53,11 +62,12 @@ pub record Parts : Type 0 where
   pub constant : ℕ
   pub next : ℕ
 
--- an encoding: what it asks of its first bytes, whether the second of these is a ModRM byte with
--- a displacement after it, the constant after that, and the operation
+-- an encoding: what it asks of its first bytes, whether the second of these is a ModRM byte with a displacement after
+-- them, the constant and where it stands, and the operation
 pub record Row : Type 0 where
   pub pattern : List BytePattern
   pub has_modrm : Bool
+  pub constant_place : ConstantPlace
   pub constant_form : ConstantForm
   pub operation : Parts → Op
 
@@ -101,10 +111,23 @@ abbrev pub row_displacement_size : Row → List ℕ → ℕ
 row_displacement_size row bytes =
     if row.has_modrm then displacement_size (byte_at bytes 1) else 0
 
--- the length of an instruction of the row: its first bytes, displacement and constant
+-- the first bytes and the displacement
+abbrev pub head_length : Row → List ℕ → ℕ
+head_length row bytes = length row.pattern + row_displacement_size row bytes
+
+-- how many bytes of a constant stand after them
+abbrev pub tail_size : ConstantPlace → ConstantForm → ℕ
+tail_size at_end form = constant_size form
+tail_size (at_index index) form = 0
+
+-- where a constant begins, by where the bytes before the end of an instruction end
+abbrev pub constant_index : ConstantPlace → ℕ → ℕ
+constant_index at_end head = head
+constant_index (at_index index) head = index
+
+-- the length of an instruction of the row: its first bytes, the displacement, and a constant after them
 abbrev pub row_length : Row → List ℕ → ℕ
-row_length row bytes =
-    (length row.pattern + row_displacement_size row bytes) + constant_size row.constant_form
+row_length row bytes = head_length row bytes + tail_size row.constant_place row.constant_form
 
 -- whether the bytes begin with an instruction of the row, which is wholly there
 abbrev pub matches : Row → List ℕ → Bool
@@ -117,8 +140,7 @@ row_parts row offset bytes = record {
   modrm = if row.has_modrm then byte_at bytes 1 else 0;
   displacement =
       if row.has_modrm then displacement_at (byte_at bytes 1) bytes (length row.pattern) else 0;
-  constant =
-      constant_at row.constant_form bytes (length row.pattern + row_displacement_size row bytes);
+  constant = constant_at row.constant_form bytes (constant_index row.constant_place (head_length row bytes));
   next = offset + row_length row bytes;
 }
 
@@ -207,9 +229,21 @@ alu_by_reg parts = AluOp (alu_of (reg_field parts.modrm))
 abbrev pub shift_of : ℕ → Shift
 shift_of number = get_or (Rol ∷ Ror ∷ Rcl ∷ Rcr ∷ Shl ∷ Shr ∷ Sar ∷ Sar ∷ []) number Sar
 
--- the shift or rotate that the reg field names, by CL where bit 1 of the opcode is set, else by 1
+-- the shift or rotate that the reg field names
+abbrev pub shift_by : Count → Parts → Op
+shift_by count parts = ShiftOp (shift_of (reg_field parts.modrm)) (rm parts) count
+
+-- by CL where bit 1 of the opcode is set, else by 1
 abbrev pub shift : Parts → Op
-shift parts = ShiftOp (shift_of (reg_field parts.modrm)) (rm parts) (parts.opcode / 2 % 2 == 1)
+shift parts = shift_by (if parts.opcode / 2 % 2 == 1 then Cl else One) parts
+
+-- by the constant
+abbrev pub constant_shift : Parts → Op
+constant_shift parts = shift_by (ConstCount parts.constant) parts
+
+-- the product of r/m and the constant into the word register that the reg field names
+abbrev pub triple_product : Parts → Op
+triple_product parts = Imul3 (word_register (reg_field parts.modrm)) (rm16 parts) parts.constant
 
 -- the operation on one operand of a number from 2 to 7
 abbrev pub unary_of : ℕ → Unary
@@ -248,6 +282,10 @@ bytes_between first last = record {
   regs = between 0 7;
   rms = between 0 7;
 }
+
+-- any byte
+abbrev pub any_byte : BytePattern
+any_byte = bytes_between 0x00 0xff
 
 -- the one byte
 abbrev pub this_byte : ℕ → BytePattern
@@ -302,6 +340,7 @@ abbrev pub row : BytePattern → ConstantForm → (Parts → Op) → Row
 row opcode constant operation = record {
   pattern = opcode ∷ [];
   has_modrm = false;
+  constant_place = at_end;
   constant_form = constant;
   operation = operation;
 }
@@ -311,6 +350,7 @@ abbrev pub modrm_row : BytePattern → BytePattern → ConstantForm → (Parts �
 modrm_row opcode modrm constant operation = record {
   pattern = opcode ∷ modrm ∷ [];
   has_modrm = true;
+  constant_place = at_end;
   constant_form = constant;
   operation = operation;
 }
@@ -320,7 +360,18 @@ abbrev pub fixed_row : List ℕ → ConstantForm → (Parts → Op) → Row
 fixed_row bytes constant operation = record {
   pattern = map this_byte bytes;
   has_modrm = false;
+  constant_place = at_end;
   constant_form = constant;
+  operation = operation;
+}
+
+-- a row without a ModRM byte, whose word constant stands directly after the opcode byte, and after which a byte is given
+abbrev pub closed_row : BytePattern → BytePattern → (Parts → Op) → Row
+closed_row opcode last operation = record {
+  pattern = opcode ∷ any_byte ∷ any_byte ∷ last ∷ [];
+  has_modrm = false;
+  constant_place = at_index 1;
+  constant_form = word_constant;
   operation = operation;
 }
 
@@ -424,47 +475,71 @@ plain_rows =
     ∷ row (this_byte 0xfc) no_constant (λ p. PlainOp Cld)
     ∷ []
 
--- every encoding
-unfoldable pub table : List Row
-table = arithmetic_rows ++ unary_rows ++ stack_rows ++ move_rows ++ control_rows ++ plain_rows
+-- what the 80186 has besides: PUSH of a constant; IMUL of r/m and a constant; ROL, ROR, SHL, SHR, SAR by a constant;
+-- ENTER at level 0, LEAVE
+abbrev pub later_rows : List Row
+later_rows =
+    row (this_byte 0x68) word_constant (λ p. Push (imm16 p))
+    ∷ row (this_byte 0x6a) signed_constant (λ p. Push (imm16 p))
+    ∷ modrm_row (this_byte 0x69) any_modrm word_constant (λ p. triple_product p)
+    ∷ modrm_row (this_byte 0x6b) any_modrm signed_constant (λ p. triple_product p)
+    ∷ modrm_row (bytes_between 0xc0 0xc1) (any_operand 0 1) byte_constant (λ p. constant_shift p)
+    ∷ modrm_row (bytes_between 0xc0 0xc1) (any_operand 4 5) byte_constant (λ p. constant_shift p)
+    ∷ modrm_row (bytes_between 0xc0 0xc1) (any_operand 7 7) byte_constant (λ p. constant_shift p)
+    ∷ closed_row (this_byte 0xc8) (this_byte 0x00) (λ p. Enter p.constant)
+    ∷ row (this_byte 0xc9) no_constant (λ p. Leave)
+    ∷ []
+
+abbrev pub rows_besides : Cpu → List Row
+rows_besides I8086 = []
+rows_besides I186 = later_rows
+
+-- every encoding of a processor
+unfoldable pub table : Cpu → List Row
+table cpu =
+    arithmetic_rows ++ unary_rows ++ stack_rows ++ move_rows ++ control_rows ++ plain_rows ++ rows_besides cpu
 
 -- the instruction that begins at an offset with the first of these bytes: that of the row that
 -- matches them, if any
-unfoldable pub instruction_at : ℕ → List ℕ → Option Instr
-instruction_at offset bytes =
-    option_map (λ row. row_instruction row offset bytes) (find (λ row. matches row bytes) table)
+unfoldable pub instruction_at : Cpu → ℕ → List ℕ → Option Instr
+instruction_at cpu offset bytes =
+    option_map (λ row. row_instruction row offset bytes) (find (λ row. matches row bytes) (table cpu))
 
 -- Laws of the table ----------------------------------------------------------------------------
 
 -- a row of the table
-abbrev pub IsRow : Row → Type 0
-IsRow row = (k : ℕ) × (slice_get table k ≡ Some row)
+abbrev pub IsRow : Cpu → Row → Type 0
+IsRow cpu row = (k : ℕ) × (slice_get (table cpu) k ≡ Some row)
 
 -- at most one row of the table matches any bytes
 abbrev pub AtMostOneRowMatches : Type 0
 AtMostOneRowMatches =
-    (bytes : List ℕ) → length (filter (λ row. matches row bytes) table) ≤ 1
+    (cpu : Cpu) (bytes : List ℕ) → length (filter (λ row. matches row bytes) (table cpu)) ≤ 1
 
--- the bytes are an instruction exactly where a row of the table matches them, and then it is that
--- row's; its length is that of the opcode and ModRM bytes, the displacement and the constant
+-- the bytes are an instruction exactly where a row of the table matches them, and then it is that row's; its length is
+-- that of the opcode and ModRM bytes, the displacement, and a constant after them
 abbrev pub InstructionIsThatOfItsRow : Type 0
 InstructionIsThatOfItsRow =
-    (offset : ℕ) (bytes : List ℕ) (instr : Instr)
-    → (instruction_at offset bytes ≡ Some instr)
-    ↔ ((row : Row) × IsRow row × IsTrue (matches row bytes)
+    (cpu : Cpu) (offset : ℕ) (bytes : List ℕ) (instr : Instr)
+    → (instruction_at cpu offset bytes ≡ Some instr)
+    ↔ ((row : Row) × IsRow cpu row × IsTrue (matches row bytes)
     × (instr.op ≡ row.operation (row_parts row offset bytes))
-    × (instr.len
-    ≡ (length row.pattern + row_displacement_size row bytes)
-    + constant_size row.constant_form))
+    × (instr.len ≡ row_length row bytes))
 
 -- an instruction has one to six bytes, all of which are there
 abbrev pub InstructionHasOneToSixBytes : Type 0
 InstructionHasOneToSixBytes =
-    (offset : ℕ) (bytes : List ℕ) (instr : Instr) → instruction_at offset bytes ≡ Some instr
+    (cpu : Cpu) (offset : ℕ) (bytes : List ℕ) (instr : Instr) → instruction_at cpu offset bytes ≡ Some instr
     → (0 < instr.len) × (instr.len ≤ length bytes) × (instr.len ≤ 6)
 
 -- an instruction depends on its own bytes alone
 abbrev pub InstructionDependsOnItsBytes : Type 0
 InstructionDependsOnItsBytes =
-    (offset : ℕ) (bytes others : List ℕ) (instr : Instr) → instruction_at offset bytes ≡ Some instr
-    → take instr.len others ≡ take instr.len bytes → instruction_at offset others ≡ Some instr
+    (cpu : Cpu) (offset : ℕ) (bytes others : List ℕ) (instr : Instr) → instruction_at cpu offset bytes ≡ Some instr
+    → take instr.len others ≡ take instr.len bytes → instruction_at cpu offset others ≡ Some instr
+
+-- the 80186 has each instruction of the 8086
+abbrev pub LaterProcessorHasEachInstruction : Type 0
+LaterProcessorHasEachInstruction =
+    (offset : ℕ) (bytes : List ℕ) (instr : Instr) → instruction_at I8086 offset bytes ≡ Some instr
+    → instruction_at I186 offset bytes ≡ Some instr

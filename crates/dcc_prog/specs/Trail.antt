@@ -1,17 +1,18 @@
 -- Procedures: which instructions are reached from an entry. A trail is a list of offsets in the code segment that a
 -- run may pass one after another, and stands here with the newest first. Where it goes on rests on the instruction
--- at its end; for INT 21h also on the constant that was last moved to AH, and for a jump through a table on the
--- three instructions before.
-use Rattle.std.specs.Prelude.{◌≡◌, ℕ, ◌+◌, ◌*◌, ◌/◌, ◌%◌, ◌==◌, Bool, false, not, ◌&&◌, if◌then◌else◌, List, [], ◌∷◌, take, drop, map, Contains, Option, Some, None}
+-- at its end; for INT 21h also on the constant that was last moved to AH, and for a jump through a table on at most
+-- five instructions before.
+use Rattle.std.specs.Prelude.{◌≡◌, ℕ, ◌+◌, ◌*◌, ◌/◌, ◌%◌, ◌==◌, Bool, true, false, not, ◌&&◌, if◌then◌else◌, List, [], ◌∷◌, take, drop, map, Contains, Option, Some, None, option_map}
 use Rattle.std.specs.List.{range_with_len}
 use Rattle.dcc_num.specs.declared.Reg.{Reg}
-use Rattle.dcc_num.specs.declared.Reg.TheVariants.{Ax}
-use Rattle.dcc_num.specs.declared.Half.TheVariants.{High}
+use Rattle.dcc_num.specs.declared.Reg.TheVariants.{Ax, Cx, Dx, Bx, Sp, Bp, Si, Di}
+use Rattle.dcc_num.specs.declared.Half.TheVariants.{Low, High}
 use Rattle.dcc_num.specs.declared.dos.TheConstants.{EXIT}
 use Rattle.dcc_prog.specs.declared.image.Image.{Image}
 use Rattle.dcc_prog.specs.declared.procedure.Layout.{Layout}
-use Rattle.dcc_prog.specs.declared.instr.Alu.TheVariants.{Cmp}
+use Rattle.dcc_prog.specs.declared.instr.Alu.TheVariants.{Xor, Cmp}
 use Rattle.dcc_prog.specs.declared.instr.Shift.TheVariants.{Shl}
+use Rattle.dcc_prog.specs.declared.instr.Count.TheVariants.{One}
 use Rattle.dcc_prog.specs.declared.instr.Cond.TheVariants.{A, Be}
 use Rattle.dcc_prog.specs.declared.instr.Operand.TheVariants.{Word, Byte, Const}
 use Rattle.dcc_prog.specs.declared.instr.Op.{Op}
@@ -30,7 +31,7 @@ code_within image layout = take layout.code_end (code_of image)
 
 -- the instruction that stands at an offset, wholly in the code, if any
 abbrev pub instruction_in : Image → Layout → ℕ → Option Instr
-instruction_in image layout at = instruction_at at (drop at (code_within image layout))
+instruction_in image layout at = instruction_at layout.cpu at (drop at (code_within image layout))
 
 -- this operation stands at the offset
 abbrev pub StandsAt : Image → Layout → ℕ → Op → Type 0
@@ -60,10 +61,42 @@ known_ah image layout (at ∷ before) = ah_after (instruction_in image layout at
 
 -- Tables.
 
--- N, where the operation is `cmp r,N`
-abbrev pub compared_with : Reg → Op → Option ℕ
-compared_with r (AluOp Cmp (Word q) (Const width constant)) = if is_same_register r q then Some constant else None
+-- AX, CX, DX, BX, SI or DI
+abbrev pub is_general : Reg → Bool
+is_general Sp = false
+is_general Bp = false
+is_general r = true
+
+-- the operation at an offset, if an instruction stands there
+abbrev pub operation_in : Image → Layout → ℕ → Option Op
+operation_in image layout at = option_map (λ instr. instr.op) (instruction_in image layout at)
+
+-- r, where the operation is `mov q,r` and moves it from another register
+abbrev pub moved_from : Reg → Option Op → Option Reg
+moved_from q (Some (Mov (Word p) (Word r))) =
+    if is_same_register q p && not (is_same_register q r) then Some r else None
+moved_from q op = None
+
+-- `shl r,1`
+abbrev pub is_doubling : Reg → Option Op → Bool
+is_doubling r (Some (ShiftOp Shl (Word q) One)) = is_same_register r q
+is_doubling r op = false
+
+-- `xor ah,ah`, where r is AX
+abbrev pub clears_upper : Reg → Option Op → Bool
+clears_upper Ax (Some (AluOp Xor (Byte Ax High) (Byte Ax High))) = true
+clears_upper r op = false
+
+-- N, where the operation is `cmp r,N` of a general register
+abbrev pub compared_with : Reg → Option Op → Option ℕ
+compared_with r (Some (AluOp Cmp (Word q) (Const width constant))) =
+    if is_general r && is_same_register r q then Some constant else None
 compared_with r op = None
+
+-- N, where the operation is `cmp al,N`
+abbrev pub al_compared_with : Option Op → Option ℕ
+al_compared_with (Some (AluOp Cmp (Byte Ax Low) (Const width constant))) = Some constant
+al_compared_with op = None
 
 -- a JA whose next instruction stands at the offset and whose target doesn't, or a JBE the other way round
 abbrev pub is_bounds_test : Op → ℕ → ℕ → Bool
@@ -71,27 +104,40 @@ is_bounds_test (Branch A target) next to = (next == to) && not (target == to)
 is_bounds_test (Branch Be target) next to = (target == to) && not (next == to)
 is_bounds_test op next to = false
 
--- `shl r,1`
-abbrev pub is_doubling : Reg → Op → Bool
-is_doubling r (ShiftOp Shl (Word q) false) = is_same_register r q
-is_doubling r op = false
+-- a bounds test stands at an offset, and goes on to another one
+abbrev pub is_test_to : Option Instr → ℕ → ℕ → Bool
+is_test_to None at to = false
+is_test_to (Some instr) at to = is_bounds_test instr.op (next_of at instr) to
 
--- N, where these three are `cmp r,N`, a bounds test that goes on to the third, which stands at the offset, and `shl
--- r,1`
-abbrev pub number_of_window : Reg → Option Instr → ℕ → Option Instr → ℕ → Option Instr → Option ℕ
-number_of_window r (Some compare) test_at (Some test) shift_at (Some shift) =
-    if is_bounds_test test.op (next_of test_at test) shift_at && is_doubling r shift.op then compared_with r compare.op
+-- N of the comparison at the end of a trail but for the bounds test, which goes on to an offset
+abbrev pub number_before_test : Image → Layout → (Option Op → Option ℕ) → ℕ → List ℕ → Option ℕ
+number_before_test image layout comparison to (test ∷ compare ∷ rest) =
+    if is_test_to (instruction_in image layout test) test to then comparison (operation_in image layout compare)
     else None
-number_of_window r _ _ _ _ _ = None
+number_before_test image layout comparison to _ = None
 
--- N, where the last instructions of a trail are these three
+-- The greatest number that r may hold at an offset, by a trail to it: that of `cmp r,N` and a bounds test, or where r is
+-- AX that of `cmp al,N`, a bounds test and `xor ah,ah`.
+abbrev pub greatest_in : Image → Layout → Reg → ℕ → List ℕ → Option ℕ
+greatest_in image layout r to [] = None
+greatest_in image layout r to (last ∷ before) =
+    if clears_upper r (operation_in image layout last) then number_before_test image layout al_compared_with last before
+    else number_before_test image layout (compared_with r) to (last ∷ before)
+
+-- the same, where the last instruction of the trail is `shl r,1` after that
+abbrev pub greatest_doubled : Image → Layout → Reg → List ℕ → Option ℕ
+greatest_doubled image layout r [] = None
+greatest_doubled image layout r (shift ∷ before) =
+    if is_doubling r (operation_in image layout shift) then greatest_in image layout r shift before else None
+
+-- N of a jump through a table by the register q, where the last instructions of the trail before it are these for q, or
+-- these for another register r and then `mov q,r`
 abbrev pub table_number : Image → Layout → Reg → List ℕ → Option ℕ
-table_number image layout r (shift ∷ test ∷ compare ∷ rest) =
-    number_of_window r
-    (instruction_in image layout compare)
-    test (instruction_in image layout test)
-    shift (instruction_in image layout shift)
-table_number image layout r _ = None
+table_number image layout q [] = None
+table_number image layout q (last ∷ before) = elim (moved_from q (operation_in image layout last)) [
+  | None ↦ greatest_doubled image layout q (last ∷ before)
+  | Some r ↦ greatest_doubled image layout r before
+]
 
 -- the word at an offset of the code segment, which wraps, low byte first; beyond the image there are zeros
 abbrev pub word_in_segment : Image → ℕ → ℕ

@@ -18,6 +18,8 @@ use Rattle.dcc_prog.specs.declared.instr.Alu.{Alu}
 use Rattle.dcc_prog.specs.declared.instr.Alu.TheVariants.{Adc, Sbb, And, Or, Xor, Test}
 use Rattle.dcc_prog.specs.declared.instr.Shift.{Shift}
 use Rattle.dcc_prog.specs.declared.instr.Shift.TheVariants.{Rcl, Rcr, Sar}
+use Rattle.dcc_prog.specs.declared.instr.Count.{Count}
+use Rattle.dcc_prog.specs.declared.instr.Count.TheVariants.{Cl}
 use Rattle.dcc_prog.specs.declared.instr.Unary.{Unary}
 use Rattle.dcc_prog.specs.declared.instr.Unary.TheVariants.{Mul, Imul, Div, Idiv}
 use Rattle.dcc_prog.specs.declared.instr.Cond.{Cond}
@@ -28,12 +30,12 @@ use Rattle.dcc_prog.specs.declared.instr.Ea.{Ea}
 use Rattle.dcc_prog.specs.declared.instr.Operand.{Operand}
 use Rattle.dcc_prog.specs.declared.instr.Operand.TheVariants.{Word, Byte, Mem}
 use Rattle.dcc_prog.specs.declared.instr.Op.{Op}
-use Rattle.dcc_prog.specs.declared.instr.Op.TheVariants.{Alu as AluOp, Unary as UnaryOp, Shift as ShiftOp, Mov, Xchg, Lea, Plain as PlainOp, Branch, Loop, LoopE, LoopNe, Jcxz, Table, Int21}
+use Rattle.dcc_prog.specs.declared.instr.Op.TheVariants.{Alu as AluOp, Unary as UnaryOp, Shift as ShiftOp, Mov, Xchg, Lea, Imul3, Pop, Plain as PlainOp, Branch, Loop, LoopE, LoopNe, Jcxz, Table, Int21}
 use Rattle.dcc_prog.specs.Machine.{operand_width}
 use Rattle.dcc_prog.specs.Trail.{StandsAt, IsNode, IsEdge}
 use Rattle.dcc_prog.specs.Prepared.{is_division}
 use Rattle.dcc_prog.specs.Construct.{HasAh}
-use Rattle.dcc_prog.specs.Writes.{is_same_register, is_same_half, is_half_of, writes_operand, is_in_pair, is_carry_or_overflow, unary_writes_flag, shift_writes_flag, writes_half, writes_flag}
+use Rattle.dcc_prog.specs.Writes.{is_same_register, is_same_half, is_half_of, writes_operand, is_in_pair, is_carry_or_overflow, unary_writes_flag, shift_writes_flag, never_shifts, writes_half, writes_flag}
 
 -- a half of a word register, or a flag
 pub data Location : Type 0 where
@@ -131,9 +133,13 @@ is_turn Rcl = true
 is_turn Rcr = true
 is_turn operation = false
 
+abbrev pub is_in_cl : Count → Bool
+is_in_cl Cl = true
+is_in_cl count = false
+
 -- the count is in CL
-abbrev pub is_by_cl : Shift → Bool → Bool
-is_by_cl operation by_cl = by_cl && not (is_turn operation)
+abbrev pub is_by_cl : Shift → Count → Bool
+is_by_cl operation count = is_in_cl count && not (is_turn operation)
 
 -- OF of SAR is a constant
 abbrev pub is_constant_flag : Shift → FlagName → Bool
@@ -151,15 +157,15 @@ abbrev pub shift_reads : Shift → Location → Bool
 shift_reads operation (half_of r half) = true
 shift_reads operation (flag_of flag) = not (is_constant_flag operation flag)
 
-abbrev pub shift_writes : Shift → Operand → Location → Bool
-shift_writes operation a (half_of r half) = is_half_of r half a
-shift_writes operation a (flag_of flag) = shift_writes_flag operation flag
+abbrev pub shift_writes : Shift → Operand → Count → Location → Bool
+shift_writes operation a count (half_of r half) = is_half_of r half a
+shift_writes operation a count (flag_of flag) = shift_writes_flag operation flag && not (never_shifts count)
 
-abbrev pub shift_makes : Shift → Operand → Bool → Location → Location → Bool
-shift_makes operation a by_cl to from =
-    shift_writes operation a to
+abbrev pub shift_makes : Shift → Operand → Count → Location → Location → Bool
+shift_makes operation a count to from =
+    shift_writes operation a count to
     && ((shift_reads operation to && is_read from a)
-    || ((is_by_cl operation by_cl && is_cl from)
+    || ((is_by_cl operation count && is_cl from)
     || (brings_carry operation to && is_flag Cf from)))
 
 -- MOV goes half by half
@@ -182,15 +188,21 @@ plain_makes operation to from = false
 abbrev pub counts : Location → Location → Bool
 counts to from = is_half to Cx && is_half from Cx
 
+-- the register, CF and OF are made of the operand; ZF and SF are constants
+abbrev pub triple_product_makes : Reg → Operand → Location → Location → Bool
+triple_product_makes q a (half_of r half) from = is_same_register r q && is_read from a
+triple_product_makes q a (flag_of flag) from = is_carry_or_overflow flag && is_read from a
+
 -- of all operations
 abbrev pub makes : Op → Location → Location → Bool
 makes (AluOp operation a b) to from =
     alu_makes operation a to && (is_read from a || (is_read from b || (takes_carry operation && is_flag Cf from)))
 makes (UnaryOp operation a) to from = unary_makes operation a to && unary_reads operation a from
-makes (ShiftOp operation a by_cl) to from = shift_makes operation a by_cl to from
+makes (ShiftOp operation a count) to from = shift_makes operation a count to from
 makes (Mov to_operand operand) to from = moves to_operand operand to from
 makes (Xchg a b) to from = moves a b to from || moves b a to from
 makes (Lea r ea) to from = is_half to r && is_in_address from ea
+makes (Imul3 r a constant) to from = triple_product_makes r a to from
 makes (PlainOp operation) to from = plain_makes operation to from
 makes (Loop target) to from = counts to from
 makes (LoopE target) to from = counts to from
@@ -255,12 +267,13 @@ uses (AluOp operation a b) number location =
     (is_in_memory a && writes_operand operation)
     && (is_read location a || (is_read location b || (takes_carry operation && is_flag Cf location)))
 uses (UnaryOp operation a) number location = unary_uses operation a location
-uses (ShiftOp operation a by_cl) number location =
+uses (ShiftOp operation a count) number location =
     is_in_memory a
     && (is_read location a
-    || ((is_by_cl operation by_cl && is_cl location) || (is_turn operation && is_flag Cf location)))
+    || ((is_by_cl operation count && is_cl location) || (is_turn operation && is_flag Cf location)))
 uses (Mov to from) number location = is_in_memory to && (is_in_address_of location to || is_read location from)
 uses (Xchg a b) number location = (is_in_memory a || is_in_memory b) && (is_read location a || is_read location b)
+uses (Pop a) number location = is_in_address_of location a
 uses (Branch condition target) number location = condition_uses condition location
 uses (Loop target) number location = is_half location Cx
 uses (LoopE target) number location = is_half location Cx || is_flag Zf location
@@ -281,10 +294,10 @@ abbrev pub surely_writes_half : Op → Option ℕ → Reg → Half → Bool
 surely_writes_half Int21 number r half = gives_byte number && writes_half Int21 r half
 surely_writes_half op number r half = writes_half op r half
 
--- a shift or rotate by CL leaves the flags where the count is 0
+-- a shift or rotate by CL leaves the flags where the count is 0, as one by a constant that is 0 modulo 32 does
 abbrev pub surely_writes_flag : Op → FlagName → Bool
-surely_writes_flag (ShiftOp operation a by_cl) flag =
-    writes_flag (ShiftOp operation a by_cl) flag && not (is_by_cl operation by_cl)
+surely_writes_flag (ShiftOp operation a count) flag =
+    writes_flag (ShiftOp operation a count) flag && not (is_by_cl operation count)
 surely_writes_flag op flag = writes_flag op flag
 
 abbrev pub surely_writes : Op → Option ℕ → Location → Bool

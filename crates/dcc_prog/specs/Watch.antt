@@ -3,6 +3,7 @@ use Rattle.std.specs.Prelude.{◌≡◌, ℕ, ◌==◌, Bool, true, false, ◌||
 use Rattle.dcc_run.specs.End.{is_over}
 use Rattle.dcc_run.specs.Place.{Place}
 use Rattle.dcc_run.specs.Watched.{Watched, state}
+use Rattle.dcc_prog.specs.declared.cpu.Cpu.{Cpu}
 use Rattle.dcc_prog.specs.declared.image.Image.{Image}
 use Rattle.dcc_prog.specs.declared.procedure.Layout.{Layout}
 use Rattle.dcc_prog.specs.declared.instr.Instr.{Instr}
@@ -45,8 +46,8 @@ stage_after layout found at stage =
     if at == layout.start_ip then InProcedures (layout.start_ip ∷ []) else InPrelude
 
 -- the instruction that the machine executes next, if one stands there
-abbrev pub next_instruction : State → Option Instr
-next_instruction s = instruction_at s.ip (code_bytes s)
+abbrev pub next_instruction : Cpu → State → Option Instr
+next_instruction cpu s = instruction_at cpu s.ip (code_bytes s)
 
 -- The run has been stopped at a step that is not clean. No step of the programs that are accepted so far touches the
 -- stack, so each is clean.
@@ -57,9 +58,9 @@ is_foul w = elim w.stage [ AtStart ↦ false | InPrelude ↦ false | InProcedure
 abbrev pub watch_step : Layout → Watch → Watch
 watch_step layout w =
     if is_over w.machine.end || is_foul w then w
-    else (let next = step w.machine in record {
+    else (let next = step layout.cpu w.machine in record {
       machine = next;
-      stage = stage_after layout (next_instruction w.machine) next.ip w.stage;
+      stage = stage_after layout (next_instruction layout.cpu w.machine) next.ip w.stage;
     })
 
 -- The place where the run stands: an offset in the procedure of the newest frame. The first instruction counts as one of
@@ -75,7 +76,7 @@ place_of layout w = elim w.stage [
   | Stopped ↦ None
 ]
 
--- the machine's runs, watched
+-- the runs of the machine with the layout's processor, watched
 abbrev pub watched_machine : Layout → Watched Watch Place
 watched_machine layout = record {
   system = record { step = watch_step layout; events = λ w. w.machine.events; end = λ w. w.machine.end };
@@ -87,7 +88,8 @@ watched_machine layout = record {
 abbrev pub first_watch : Image → List ℕ → Watch
 first_watch image input = record { machine = start_state image input; stage = AtStart }
 
--- none of the first n steps of the image's run on the input is foul, or none of those before the run ended
-abbrev pub IsClean : Image → List ℕ → ℕ → Type 0
-IsClean image input n =
-    (layout : Layout) → HasLayout image layout → is_foul (state (watched_machine layout) n (first_watch image input)) ≡ false
+-- none of the first n steps of the image's run on a processor and an input is foul, or none of those before the run ended
+abbrev pub IsClean : Cpu → Image → List ℕ → ℕ → Type 0
+IsClean cpu image input n =
+    (layout : Layout) → layout.cpu ≡ cpu → HasLayout image layout
+    → is_foul (state (watched_machine layout) n (first_watch image input)) ≡ false

@@ -5,7 +5,7 @@ use Rattle.dcc_num.specs.Numbers.{limit_of}
 use Rattle.dcc_prog.specs.declared.instr.Operand.{Operand}
 use Rattle.dcc_prog.specs.declared.instr.Operand.TheVariants.{Word, Byte, Seg, Mem, Const}
 use Rattle.dcc_prog.specs.declared.instr.Op.{Op}
-use Rattle.dcc_prog.specs.declared.instr.Op.TheVariants.{Alu, Unary, Shift, Mov, Xchg, Lea, Push, Pop, Plain, Jump, Branch, Loop, LoopE, LoopNe, Jcxz, Table, Call, Ret, Int21}
+use Rattle.dcc_prog.specs.declared.instr.Op.TheVariants.{Alu, Unary, Shift, Mov, Xchg, Lea, Imul3, Push, Pop, Enter, Leave, Plain, Jump, Branch, Loop, LoopE, LoopNe, Jcxz, Table, Call, Ret, Int21}
 use Rattle.dcc_prog.specs.Machine.{operand_width}
 
 -- a constant fits its width, and the number of a segment register is below 4
@@ -31,12 +31,15 @@ pub record IsWordOperand (a : Operand) : Type 0 where
 abbrev pub IsOperation : Op → Type 0
 IsOperation (Alu operation a b) = AreOperands a b
 IsOperation (Unary operation a) = IsOperand a
-IsOperation (Shift operation a by_cl) = IsOperand a
+IsOperation (Shift operation a count) = IsOperand a
 IsOperation (Mov to from) = AreOperands to from
 IsOperation (Xchg a b) = AreOperands a b
 IsOperation (Lea r ea) = Unit {0}
+IsOperation (Imul3 r a constant) = IsWordOperand a
 IsOperation (Push a) = IsWordOperand a
 IsOperation (Pop a) = IsWordOperand a
+IsOperation (Enter count) = Unit {0}
+IsOperation Leave = Unit {0}
 IsOperation (Plain operation) = Unit {0}
 IsOperation (Jump target) = Unit {0}
 IsOperation (Branch condition target) = Unit {0}

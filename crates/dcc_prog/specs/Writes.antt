@@ -1,10 +1,10 @@
--- Which halves of the word registers and which flags an operation may write (8086 Family User's Manual, table
--- 2-21). What it doesn't write stays as it was.
-use Rattle.std.specs.Prelude.{◌==◌, Bool, true, false, ◌&&◌, ◌||◌}
+-- Which halves of the word registers and which flags an operation may write (8086 Family User's Manual, table 2-21; iAPX
+-- 86/88, 186/188 User's Manual, Programmer's Reference). What it doesn't write stays as it was.
+use Rattle.std.specs.Prelude.{◌%◌, ◌==◌, Bool, true, false, not, ◌&&◌, ◌||◌}
 use Rattle.dcc_num.specs.declared.Width.{Width}
 use Rattle.dcc_num.specs.declared.Width.TheVariants.{Byte as byte_width, Word as word_width}
 use Rattle.dcc_num.specs.declared.Reg.{Reg}
-use Rattle.dcc_num.specs.declared.Reg.TheVariants.{Ax, Cx, Dx, Sp}
+use Rattle.dcc_num.specs.declared.Reg.TheVariants.{Ax, Cx, Dx, Sp, Bp}
 use Rattle.dcc_num.specs.declared.Half.{Half}
 use Rattle.dcc_num.specs.declared.Half.TheVariants.{Low, High}
 use Rattle.dcc_num.specs.declared.FlagName.{FlagName}
@@ -13,6 +13,8 @@ use Rattle.dcc_prog.specs.declared.instr.Alu.{Alu}
 use Rattle.dcc_prog.specs.declared.instr.Alu.TheVariants.{Cmp, Test}
 use Rattle.dcc_prog.specs.declared.instr.Shift.{Shift}
 use Rattle.dcc_prog.specs.declared.instr.Shift.TheVariants.{Shl, Shr, Sar}
+use Rattle.dcc_prog.specs.declared.instr.Count.{Count}
+use Rattle.dcc_prog.specs.declared.instr.Count.TheVariants.{Const as ConstCount}
 use Rattle.dcc_prog.specs.declared.instr.Unary.{Unary}
 use Rattle.dcc_prog.specs.declared.instr.Unary.TheVariants.{Inc, Dec, Not, Mul, Imul, Div, Idiv}
 use Rattle.dcc_prog.specs.declared.instr.Plain.{Plain}
@@ -20,7 +22,7 @@ use Rattle.dcc_prog.specs.declared.instr.Plain.TheVariants.{Cbw, Cwd, Xlat, Clc,
 use Rattle.dcc_prog.specs.declared.instr.Operand.{Operand}
 use Rattle.dcc_prog.specs.declared.instr.Operand.TheVariants.{Word, Byte}
 use Rattle.dcc_prog.specs.declared.instr.Op.{Op}
-use Rattle.dcc_prog.specs.declared.instr.Op.TheVariants.{Alu as AluOp, Unary as UnaryOp, Shift as ShiftOp, Mov, Xchg, Lea, Push, Pop, Plain as PlainOp, Loop, LoopE, LoopNe, Call, Ret, Int21}
+use Rattle.dcc_prog.specs.declared.instr.Op.TheVariants.{Alu as AluOp, Unary as UnaryOp, Shift as ShiftOp, Mov, Xchg, Lea, Imul3, Push, Pop, Enter, Leave, Plain as PlainOp, Loop, LoopE, LoopNe, Call, Ret, Int21}
 use Rattle.dcc_prog.specs.Machine.{reg_number, operand_width}
 
 abbrev pub is_same_register : Reg → Reg → Bool
@@ -69,12 +71,15 @@ plain_writes_half operation r half = false
 abbrev pub writes_half : Op → Reg → Half → Bool
 writes_half (AluOp operation a b) r half = writes_operand operation && is_half_of r half a
 writes_half (UnaryOp operation a) r half = unary_writes_half operation a r half
-writes_half (ShiftOp operation a by_cl) r half = is_half_of r half a
+writes_half (ShiftOp operation a count) r half = is_half_of r half a
 writes_half (Mov to from) r half = is_half_of r half to
 writes_half (Xchg a b) r half = is_half_of r half a || is_half_of r half b
 writes_half (Lea to ea) r half = is_same_register r to
+writes_half (Imul3 to a constant) r half = is_same_register r to
 writes_half (Push a) r half = is_same_register r Sp
 writes_half (Pop a) r half = is_same_register r Sp || is_half_of r half a
+writes_half (Enter count) r half = is_same_register r Sp || is_same_register r Bp
+writes_half Leave r half = is_same_register r Sp || is_same_register r Bp
 writes_half (PlainOp operation) r half = plain_writes_half operation r half
 writes_half (Loop target) r half = is_same_register r Cx
 writes_half (LoopE target) r half = is_same_register r Cx
@@ -102,7 +107,12 @@ is_carry_or_overflow Cf = true
 is_carry_or_overflow Of = true
 is_carry_or_overflow flag = false
 
--- a rotate writes the carry and the overflow; by a count of 0 in CL no flag changes
+-- by a constant that is 0 modulo 32 nothing is shifted
+abbrev pub never_shifts : Count → Bool
+never_shifts (ConstCount number) = number % 32 == 0
+never_shifts count = false
+
+-- a rotate writes the carry and the overflow; by a count of 0 no flag changes
 abbrev pub shift_writes_flag : Shift → FlagName → Bool
 shift_writes_flag Shl flag = true
 shift_writes_flag Shr flag = true
@@ -119,7 +129,8 @@ plain_writes_flag operation flag = false
 abbrev pub writes_flag : Op → FlagName → Bool
 writes_flag (AluOp operation a b) flag = true
 writes_flag (UnaryOp operation a) flag = unary_writes_flag operation flag
-writes_flag (ShiftOp operation a by_cl) flag = shift_writes_flag operation flag
+writes_flag (ShiftOp operation a count) flag = shift_writes_flag operation flag && not (never_shifts count)
+writes_flag (Imul3 r a constant) flag = true
 writes_flag (PlainOp operation) flag = plain_writes_flag operation flag
 writes_flag (Call target) flag = true
 writes_flag op flag = false

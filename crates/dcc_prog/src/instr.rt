@@ -1,4 +1,5 @@
-//! Instructions, in the terms of the 8086 Family User's Manual, table 2-21.
+//! Instructions, in the terms of the 8086 Family User's Manual, table 2-21, and of the iAPX 86/88, 186/188 User's
+//! Manual, Programmer's Reference.
 
 ghost use Rattle.std.specs.Prelude.{◌≡◌};
 ghost use Rattle.dcc_prog.specs.Construct.{is_segment};
@@ -79,6 +80,17 @@ pub enum Shift {
     Shl,
     Shr,
     Sar,
+}
+
+/// How far a shift or rotate goes.
+#[derive(Clone, Copy, PartialEq, Eq, Debug)]
+pub enum Count {
+    /// By 1.
+    One,
+    /// By what CL holds; the 80186 takes it modulo 32.
+    Cl,
+    /// By this constant, modulo 32; the 80186 alone has this form.
+    Const(u8),
 }
 
 /// An operation on one operand.
@@ -183,18 +195,25 @@ pub enum Op {
     Alu(Alu, Operand, Operand),
     /// The operand takes the result, except of a product or a quotient, which AX and DX take.
     Unary(Unary, Operand),
-    /// The flag says that the count is CL; else it is 1.
-    Shift(Shift, Operand, bool),
+    /// The operand takes the result; RCL and RCR go by 1 alone.
+    Shift(Shift, Operand, Count),
     /// The destination, then the source.
     Mov(Operand, Operand),
     /// Both operands take the value of the other one.
     Xchg(Operand, Operand),
     /// The register takes the offset of the address.
     Lea(Reg, Ea),
+    /// The register takes the lower word of the signed product of the word operand and the constant; the 80186 alone
+    /// has this form.
+    Imul3(Reg, Operand, u16),
     /// A word operand.
     Push(Operand),
     /// A word operand, which takes the word at the top of the stack.
     Pop(Operand),
+    /// BP is pushed and takes SP, and SP falls by this many bytes; the 80186 alone has it.
+    Enter(u16),
+    /// SP takes BP, and BP is popped; the 80186 alone has it.
+    Leave,
     /// Without operands.
     Plain(Plain),
     /// A jump in any case.

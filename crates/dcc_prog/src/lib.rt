@@ -1,6 +1,7 @@
-//! A program of the 8086: its image, its instructions, and what the analyses find in it.
+//! A program of the 8086 or the 80186: its image, its instructions, and what the analyses find in it.
 #![tactic(auto)]
 
+pub mod cpu;
 pub mod frame;
 pub mod image;
 pub mod instr;
@@ -8,9 +9,10 @@ pub mod procedure;
 pub mod refusal;
 pub mod segment;
 
+pub use cpu::Cpu;
 pub use frame::{Cell, Cells, Exposed, Frame, Heights, Program};
 pub use image::{Image, LOAD_SEGMENT, PREFIX_SEGMENT};
-pub use instr::{Alu, Cond, Ea, Instr, Op, Operand, Plain, Shift, Unary};
+pub use instr::{Alu, Cond, Count, Ea, Instr, Op, Operand, Plain, Shift, Unary};
 pub use procedure::{Layout, Node, Proc};
 pub use refusal::{LimitName, Refusal, construct};
 pub use segment::{CS, DS, ES, SS};

@@ -1,5 +1,6 @@
 //! Procedures, and what the prelude of a program sets up.
 
+use crate::cpu::Cpu;
 use crate::instr::Instr;
 use dcc_num::Flags;
 use indexmap::IndexMap;
@@ -28,6 +29,8 @@ pub struct Proc {
 /// What the prelude of a program sets up.
 #[derive(Drop)]
 pub struct Layout {
+    /// The processor that runs the program.
+    pub cpu: Cpu,
     /// The data segment.
     pub ds: u16,
     /// How far the stack segment begins above the data segment, in bytes.
