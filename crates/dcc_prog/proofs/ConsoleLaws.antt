@@ -7,18 +7,21 @@ use Rattle.dcc_num.specs.declared.Reg.{Reg}
 use Rattle.dcc_num.specs.declared.Flags.{Flags}
 use Rattle.dcc_num.specs.Product.{product_of, signed_product_of}
 use Rattle.dcc_num.specs.Quotient.{division_of, signed_division_of}
+use Rattle.dcc_prog.specs.declared.cpu.Cpu.{Cpu}
 use Rattle.dcc_prog.specs.declared.instr.Alu.{Alu as AluKind}
 use Rattle.dcc_prog.specs.declared.instr.Alu.TheVariants.{Add, Or, Adc, Sbb, And, Sub, Xor, Cmp, Test}
 use Rattle.dcc_prog.specs.declared.instr.Unary.{Unary as UnaryKind}
 use Rattle.dcc_prog.specs.declared.instr.Unary.TheVariants.{Inc, Dec, Neg, Not, Mul, Imul, Div, Idiv}
 use Rattle.dcc_prog.specs.declared.instr.Shift.{Shift as ShiftKind}
+use Rattle.dcc_prog.specs.declared.instr.Count.{Count}
+use Rattle.dcc_prog.specs.declared.instr.Count.TheVariants.{One, Cl, Const as ConstCount}
 use Rattle.dcc_prog.specs.declared.instr.Plain.{Plain as PlainKind}
 use Rattle.dcc_prog.specs.declared.instr.Plain.TheVariants.{Nop, Cbw, Cwd, Xlat, Clc, Stc, Cmc, Cli, Sti, Cld}
 use Rattle.dcc_prog.specs.declared.instr.Operand.{Operand}
 use Rattle.dcc_prog.specs.declared.instr.Operand.TheVariants.{Word, Byte, Seg, Mem, Const}
 use Rattle.dcc_prog.specs.declared.instr.Ea.{Ea}
 use Rattle.dcc_prog.specs.declared.instr.Op.{Op}
-use Rattle.dcc_prog.specs.declared.instr.Op.TheVariants.{Alu, Unary, Shift, Mov, Xchg, Lea, Push, Pop, Plain, Jump, Branch, Loop, LoopE, LoopNe, Jcxz, Table, Call, Ret, Int21}
+use Rattle.dcc_prog.specs.declared.instr.Op.TheVariants.{Alu, Unary, Shift, Mov, Xchg, Lea, Imul3, Push, Pop, Enter, Leave, Plain, Jump, Branch, Loop, LoopE, LoopNe, Jcxz, Table, Call, Ret, Int21}
 use Rattle.dcc_prog.specs.Machine.{State, part_of, offset_of, segment_of, byte_in, word_at_offset, with_byte_in, with_word_at_offset, operand_value, operand_width, with_operand, with_word_in}
 use Rattle.dcc_prog.specs.Operations.{with_flags, with_result, alu_step, accumulator_in, upper_in, with_product, with_division, unary_step, shift_step, count_in, shift_result, after_push, top_word, with_sp_raised, plain_step}
 use Rattle.dcc_prog.specs.Step.{op_step}
@@ -114,10 +117,19 @@ unary-keeps Idiv w x a at input events s =
     ∙ ap (λ n. with_console_of input events (with_division w at (signed_division_of w n (accumulator_in w t) a) s)) (upper-keeps w input events s)
     ∙ ap (λ n. with_console_of input events (with_division w at (signed_division_of w (upper_in w s) n a) s)) (accumulator-keeps w input events s)
 
-shift-keeps : (shift : ShiftKind) (x : Operand) (by_cl : Bool) → KeepsConsole (shift_step shift x by_cl)
-shift-keeps shift x by_cl input events s =
-    result-keeps x _ input events s
-    ∙ ap (λ n. with_console_of input events (with_result x (shift_result shift (operand_width x) n (count_in by_cl s) s.flags) s)) (value-keeps input events s x)
+count-keeps :
+    (cpu : Cpu) (count : Count) (input : List ℕ) (events : List Event) (s : State)
+    → count_in cpu count (with_console_of input events s) ≡ count_in cpu count s
+count-keeps cpu One input events s = refl
+count-keeps cpu Cl input events s = refl
+count-keeps cpu (ConstCount number) input events s = refl
+
+shift-keeps : (cpu : Cpu) (shift : ShiftKind) (x : Operand) (count : Count) → KeepsConsole (shift_step cpu shift x count)
+shift-keeps cpu shift x count input events s =
+    let t = with_console_of input events s in
+    ap (λ n. with_result x (shift_result shift (operand_width x) (operand_value t x) n s.flags) t) (count-keeps cpu count input events s)
+    ∙ result-keeps x _ input events s
+    ∙ ap (λ n. with_console_of input events (with_result x (shift_result shift (operand_width x) n (count_in cpu count s) s.flags) s)) (value-keeps input events s x)
 
 plain-keeps : (operation : PlainKind) → KeepsConsole (plain_step operation)
 plain-keeps Nop input events s = refl
@@ -132,41 +144,45 @@ plain-keeps Sti input events s = refl
 plain-keeps Cld input events s = refl
 
 -- every operation but INT 21h
-pub op-keeps : (op : Op) (at : ℕ) → op ≢ Int21 → KeepsConsole (op_step op at)
-op-keeps (Alu operation a b) at other input events s =
+pub op-keeps : (cpu : Cpu) (op : Op) (at : ℕ) → op ≢ Int21 → KeepsConsole (op_step cpu op at)
+op-keeps cpu (Alu operation a b) at other input events s =
     alu-keeps operation (operand_width a) a _ _ input events s
     ∙ ap (λ n. with_console_of input events (alu_step operation (operand_width a) a n (operand_value (with_console_of input events s) b) s)) (value-keeps input events s a)
     ∙ ap (λ n. with_console_of input events (alu_step operation (operand_width a) a (operand_value s a) n s)) (value-keeps input events s b)
-op-keeps (Unary operation a) at other input events s =
+op-keeps cpu (Unary operation a) at other input events s =
     unary-keeps operation (operand_width a) a _ at input events s
     ∙ ap (λ n. with_console_of input events (unary_step operation (operand_width a) a n at s)) (value-keeps input events s a)
-op-keeps (Shift shift a by_cl) at other input events s = shift-keeps shift a by_cl input events s
-op-keeps (Mov to from) at other input events s =
+op-keeps cpu (Shift shift a count) at other input events s = shift-keeps cpu shift a count input events s
+op-keeps cpu (Mov to from) at other input events s =
     operand-keeps to _ input events s
     ∙ ap (λ n. with_console_of input events (with_operand s to n)) (value-keeps input events s from)
-op-keeps (Xchg a b) at other input events s =
+op-keeps cpu (Xchg a b) at other input events s =
     let t = with_console_of input events s in
     ap (λ u. with_operand u b (operand_value t a)) (operand-keeps a (operand_value t b) input events s)
     ∙ operand-keeps b (operand_value t a) input events (with_operand s a (operand_value t b))
     ∙ ap (λ n. with_console_of input events (with_operand (with_operand s a n) b (operand_value t a))) (value-keeps input events s b)
     ∙ ap (λ n. with_console_of input events (with_operand (with_operand s a (operand_value s b)) b n)) (value-keeps input events s a)
-op-keeps (Lea r ea) at other input events s =
+op-keeps cpu (Lea r ea) at other input events s =
     ap (λ n. with_console_of input events (with_word_in s r n)) (offset-keeps input events s ea)
-op-keeps (Push a) at other input events s =
+op-keeps cpu (Imul3 r a constant) at other input events s =
+    ap (λ n. with_console_of input events (with_word_in (with_flags (signed_product_of word_width n constant).2 s) r (signed_product_of word_width n constant).0)) (value-keeps input events s a)
+op-keeps cpu (Push a) at other input events s =
     ap (λ n. with_console_of input events (after_push n s)) (value-keeps input events s a)
-op-keeps (Pop a) at other input events s = operand-keeps a (top_word s) input events (with_sp_raised 2 s)
-op-keeps (Plain operation) at other input events s = plain-keeps operation input events s
-op-keeps (Jump target) at other input events s = refl
-op-keeps (Branch condition target) at other input events s = refl
-op-keeps (Loop target) at other input events s = refl
-op-keeps (LoopE target) at other input events s = refl
-op-keeps (LoopNe target) at other input events s = refl
-op-keeps (Jcxz target) at other input events s = refl
-op-keeps (Table r offset) at other input events s = refl
-op-keeps (Call target) at other input events s = refl
-op-keeps (Ret count) at other input events s = refl
-op-keeps Int21 at other input events s = absurd (other refl)
+op-keeps cpu (Pop a) at other input events s = operand-keeps a (top_word s) input events (with_sp_raised 2 s)
+op-keeps cpu (Enter count) at other input events s = refl
+op-keeps cpu Leave at other input events s = refl
+op-keeps cpu (Plain operation) at other input events s = plain-keeps operation input events s
+op-keeps cpu (Jump target) at other input events s = refl
+op-keeps cpu (Branch condition target) at other input events s = refl
+op-keeps cpu (Loop target) at other input events s = refl
+op-keeps cpu (LoopE target) at other input events s = refl
+op-keeps cpu (LoopNe target) at other input events s = refl
+op-keeps cpu (Jcxz target) at other input events s = refl
+op-keeps cpu (Table r offset) at other input events s = refl
+op-keeps cpu (Call target) at other input events s = refl
+op-keeps cpu (Ret count) at other input events s = refl
+op-keeps cpu Int21 at other input events s = absurd (other refl)
 
 -- so nothing happens at the console
-pub op-keeps_events : (op : Op) (at : ℕ) → op ≢ Int21 → (s : State) → (op_step op at s).events ≡ s.events
-op-keeps_events op at other s = ap (λ (t : State). t.events) (op-keeps op at other s.input s.events s)
+pub op-keeps_events : (cpu : Cpu) (op : Op) (at : ℕ) → op ≢ Int21 → (s : State) → (op_step cpu op at s).events ≡ s.events
+op-keeps_events cpu op at other s = ap (λ (t : State). t.events) (op-keeps cpu op at other s.input s.events s)

@@ -1,5 +1,6 @@
 -- Laws of constructs.
 use Rattle.std.proofs.Common.{◌≡◌, ◌≤◌, ℕ, refl, arith}
+use Rattle.dcc_prog.specs.declared.cpu.Cpu.{Cpu}
 use Rattle.dcc_prog.specs.declared.image.Image.{Image}
 use Rattle.dcc_prog.specs.declared.procedure.Layout.{Layout}
 use Rattle.dcc_prog.specs.Construct.{LacksLayout, IsAtNode, unknown, foreign, indirect_jump, formless, indirect_call, dos_number, entry_return, division, IsConstruct, lacks_layout, of_trails}
@@ -15,9 +16,10 @@ at_node-kind (entry_return h) = omega arith
 at_node-kind (division h) = omega arith
 
 -- construct 1 is the lack of a layout
-first-lacks : {kind at : ℕ} {image : Image} → IsConstruct kind image at → kind ≡ 1 → LacksLayout image at
+first-lacks :
+    {cpu : Cpu} {kind at : ℕ} {image : Image} → IsConstruct cpu kind image at → kind ≡ 1 → LacksLayout cpu image at
 first-lacks (lacks_layout none) first = none
-first-lacks (of_trails holds trails) first = absurd (let other = at_node-kind trails.stands in omega arith)
+first-lacks (of_trails runs_on holds trails) first = absurd (let other = at_node-kind trails.stands in omega arith)
 
-pub lacks-layout : (image : Image) (at : ℕ) → IsConstruct 1 image at → LacksLayout image at
-lacks-layout image at construct = first-lacks construct refl
+pub lacks-layout : (cpu : Cpu) (image : Image) (at : ℕ) → IsConstruct cpu 1 image at → LacksLayout cpu image at
+lacks-layout cpu image at construct = first-lacks construct refl

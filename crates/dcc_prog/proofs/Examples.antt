@@ -1,29 +1,37 @@
 -- Small codes, tried against the definitions that no body meets yet: jumps through a table, frame forms, and the
 -- constructs and counts that are told of them. Numbers stand here as they are printed.
-use Rattle.std.proofs.Common.{◌≡◌, inl, ◌<◌, ◌≤◌, ◌^◌, ◌+◌, ℕ, zero, suc, Bool, true, false, List, [], ◌∷◌, length, map, Contains, Some, None, refl, sym, arith}
+use Rattle.std.proofs.Common.{◌≡◌, inl, inr, ◌<◌, ◌≤◌, ◌^◌, ◌+◌, ℕ, zero, suc, Bool, true, false, List, [], ◌∷◌, ◌++◌, length, map, Contains, Option, Some, None, refl, sym, arith}
 use Rattle.std.specs.List.{slice_index_or}
 use Rattle.dcc_num.specs.declared.Width.TheVariants.{Word as word_width}
 use Rattle.dcc_num.specs.declared.Reg.TheVariants.{Ax, Bx, Sp, Bp}
 use Rattle.dcc_num.specs.declared.dos.TheConstants.{GETCHE, PUTC, GETCH, PUTS, EXIT}
 use Rattle.dcc_num.specs.Numbers.{no_flags, sign_extension_of, signed_of}
+use Rattle.dcc_num.specs.Shift.{shl_of}
+use Rattle.dcc_prog.specs.declared.cpu.Cpu.{Cpu}
+use Rattle.dcc_prog.specs.declared.cpu.Cpu.TheVariants.{I8086, I186}
 use Rattle.dcc_prog.specs.declared.segment.TheConstants.{ES, CS, SS, DS}
 use Rattle.dcc_prog.specs.declared.refusal.construct.TheConstants.{NO_LAYOUT, OUTSIDE, INDIRECT_JUMP, INDIRECT_CALL, DOS_NUMBER, HEIGHTS, FRAME_ACCESS, ARGUMENTS_SHORT, ARGUMENT_REUSED, SEVERAL_RESULTS, ENTRY_RETURN, DIVISION}
 use Rattle.dcc_prog.specs.declared.refusal.LimitName.TheVariants.{Entries}
 use Rattle.dcc_prog.specs.declared.image.Image.{Image}
 use Rattle.dcc_prog.specs.declared.procedure.Layout.{Layout}
-use Rattle.dcc_prog.specs.declared.instr.Alu.TheVariants.{Add}
+use Rattle.dcc_prog.specs.declared.instr.Alu.TheVariants.{Add, Cmp}
+use Rattle.dcc_prog.specs.declared.instr.Shift.TheVariants.{Shl}
+use Rattle.dcc_prog.specs.declared.instr.Count.TheVariants.{Cl, Const as ConstCount}
+use Rattle.dcc_prog.specs.declared.instr.Unary.TheVariants.{Dec}
 use Rattle.dcc_prog.specs.declared.instr.Operand.TheVariants.{Word, Mem, Const}
 use Rattle.dcc_prog.specs.declared.instr.Op.{Op}
-use Rattle.dcc_prog.specs.declared.instr.Op.TheVariants.{Alu as AluOp, Mov, Push, Pop, Table, Call, Ret, Int21}
+use Rattle.dcc_prog.specs.declared.instr.Op.TheVariants.{Alu as AluOp, Unary as UnaryOp, Shift as ShiftOp, Mov, Lea, Imul3, Push, Pop, Enter, Leave, Table, Call, Ret, Int21}
+use Rattle.dcc_prog.specs.declared.instr.Instr.{Instr}
 use Rattle.dcc_run.specs.Event.{Wrote, Took, MetEnd}
 use Rattle.dcc_prog.specs.Bytes.{word_at}
-use Rattle.dcc_prog.specs.Machine.{start_state}
+use Rattle.dcc_prog.specs.Machine.{start_state, word_in}
+use Rattle.dcc_prog.specs.Step.{op_step}
 use Rattle.dcc_prog.specs.Dos.{key_step}
 use Rattle.dcc_prog.specs.Code.{code_of}
 use Rattle.dcc_prog.specs.Table.{table, instruction_at}
 use Rattle.dcc_prog.specs.Trail.{StandsAt, table_number, successors, IsTrail, start}
 use Rattle.dcc_prog.specs.FrameForm.{is_framed, is_frame_form}
-use Rattle.dcc_prog.specs.Construct.{IsOfTrails, foreign, indirect_jump, formless, no_number, no_table, indirect_call, dos_number, not_known, other_number, entry_return, returns, calls}
+use Rattle.dcc_prog.specs.Construct.{IsOfTrails, unknown, foreign, indirect_jump, formless, no_number, no_table, indirect_call, dos_number, not_known, other_number, entry_return, returns, calls}
 use Rattle.dcc_prog.specs.Limit.{IsAbove, entries}
 use Rattle.dcc_prog.proofs.MzImageLaws.{vec_of}
 
@@ -55,6 +63,7 @@ image_of code few = record {
 
 abbrev pub layout_of : List ℕ → Layout
 layout_of code = record {
+  cpu = I8086;
   ds = 0x0111;
   delta = 0;
   lo = 0;
@@ -185,6 +194,39 @@ many-limit = entries {at = 0x0D} start (record {
   stands = (record { op = Table Bx 0; len = 5 }, refl, refl);
   number_is = refl;
 }) (same 256)
+
+-- 0005 mov al,2; 0007 cmp al,3; 0009 ja 0028; 000B xor ah,ah; 000D shl ax,1; 000F mov bx,ax; 0011 jmp cs:[bx+002C]
+abbrev byte_switch : List ℕ
+byte_switch =
+    0xB0 ∷ 0x02 ∷ 0x3C ∷ 0x03 ∷ 0x77 ∷ 0x1D ∷ 0x32 ∷ 0xE4 ∷ 0xD1 ∷ 0xE0 ∷ 0x8B ∷ 0xD8
+    ∷ 0x2E ∷ 0xFF ∷ 0xA7 ∷ 0x2C ∷ 0x00 ∷ []
+
+byte_switch-number :
+    table_number (image_of byte_switch (omega arith)) (layout_of byte_switch) Bx
+    (0x0F ∷ 0x0D ∷ 0x0B ∷ 0x09 ∷ 0x07 ∷ 0x05 ∷ [])
+    ≡ Some 3
+unfolding instruction_at table code_of word_at sign_extension_of signed_of vec_of
+byte_switch-number = refl
+
+-- 0005 mov ax,2; 0008 cmp ax,3; 000B ja 0028; 000D shl ax,1; 000F mov bx,ax; 0011 jmp cs:[bx+002C]
+abbrev moved_switch : ℕ → List ℕ
+moved_switch modrm =
+    0xB8 ∷ 0x02 ∷ 0x00 ∷ 0x3D ∷ 0x03 ∷ 0x00 ∷ 0x77 ∷ 0x1B ∷ 0xD1 ∷ 0xE0 ∷ 0x8B ∷ modrm
+    ∷ 0x2E ∷ 0xFF ∷ 0xA7 ∷ 0x2C ∷ 0x00 ∷ []
+
+-- N of it; where another register is moved to BX there is none
+moved_number : ℕ → Option ℕ
+moved_number modrm =
+    table_number (image_of (moved_switch modrm) (omega arith)) (layout_of (moved_switch modrm)) Bx
+    (0x0F ∷ 0x0D ∷ 0x0B ∷ 0x08 ∷ 0x05 ∷ [])
+
+moved_switch-number : moved_number 0xD8 ≡ Some 3
+unfolding moved_number instruction_at table code_of word_at sign_extension_of signed_of vec_of
+moved_switch-number = refl
+
+other_moved-none : moved_number 0xD9 ≡ None
+unfolding moved_number instruction_at table code_of word_at sign_extension_of signed_of vec_of
+other_moved-none = refl
 
 -- Indirect jumps and calls.
 
@@ -324,34 +366,113 @@ bare-not : is_framed (image_of bare (omega arith)) (layout_of bare) 5 ≡ false
 unfolding instruction_at table code_of word_at sign_extension_of signed_of vec_of
 bare-not = refl
 
--- some operations at offset 8: the first five are allowed in the framed procedure, of these two in the other
-abbrev operations : List Op
-operations =
+-- LEA of SP from BP plus a word
+abbrev lea_sp : ℕ → Op
+lea_sp word = Lea Sp (record { base = Some Bp; index = None; disp = word })
+
+-- some operations at offset 8 that a framed procedure may have
+abbrev frame_operations : List Op
+frame_operations =
     Push (Word Ax)
     ∷ AluOp Add (Word Sp) (Const word_width 2)
+    ∷ UnaryOp Dec (Word Sp)
     ∷ argument
     ∷ Mov (Word Sp) (Word Bp)
+    ∷ lea_sp 0xFFFE
     ∷ Pop (Word Bp)
-    ∷ Push (Word Bp)
+    ∷ Leave
+    ∷ Mov (Word Bx) (Word Bp)
+    ∷ []
+
+-- and some that no procedure may have there
+abbrev foreign_operations : List Op
+foreign_operations =
+    Push (Word Bp)
     ∷ Mov (Word Bp) (Word Sp)
     ∷ Mov (Word Bp) (Const word_width 5)
+    ∷ Mov (Word Bp) (Word Bp)
+    ∷ lea_sp 0x0002
+    ∷ AluOp Cmp (Word Sp) (Const word_width 2)
+    ∷ Enter 2
     ∷ []
 
 framed-allows :
-    map (λ op. allowed framed (omega arith) 8 op) operations
-    ≡ true ∷ true ∷ true ∷ true ∷ true ∷ false ∷ false ∷ false ∷ []
+    map (λ op. allowed framed (omega arith) 8 op) (frame_operations ++ foreign_operations)
+    ≡ true ∷ true ∷ true ∷ true ∷ true ∷ true ∷ true ∷ true ∷ true
+    ∷ false ∷ false ∷ false ∷ false ∷ false ∷ false ∷ false ∷ []
 unfolding instruction_at table code_of word_at sign_extension_of signed_of vec_of
 framed-allows = refl
 
+-- without a frame the first three alone are allowed
 bare-allows :
-    map (λ op. allowed bare (omega arith) 8 op) operations
-    ≡ true ∷ true ∷ false ∷ false ∷ false ∷ false ∷ false ∷ false ∷ []
+    map (λ op. allowed bare (omega arith) 8 op) (frame_operations ++ foreign_operations)
+    ≡ true ∷ true ∷ true ∷ false ∷ false ∷ false ∷ false ∷ false ∷ false
+    ∷ false ∷ false ∷ false ∷ false ∷ false ∷ false ∷ false ∷ []
 unfolding instruction_at table code_of word_at sign_extension_of signed_of vec_of
 bare-allows = refl
 
 frame-begins : allowed framed (omega arith) 5 (Push (Word Bp)) ≡ true
 unfolding instruction_at table code_of word_at sign_extension_of signed_of vec_of
 frame-begins = refl
+
+-- The 80186.
+
+-- 0005 enter 2,0; 0009 mov byte [bp-2],2Ah; 000D leave; 000E ret
+abbrev entered : List ℕ
+entered = 0xC8 ∷ 0x02 ∷ 0x00 ∷ 0x00 ∷ 0xC6 ∷ 0x46 ∷ 0xFE ∷ 0x2A ∷ 0xC9 ∷ 0xC3 ∷ []
+
+abbrev later_layout : List ℕ → Layout
+later_layout code = record (layout_of code) { cpu = I186 }
+
+entered-is : is_framed (image_of entered (omega arith)) (later_layout entered) 5 ≡ true
+unfolding instruction_at table code_of word_at sign_extension_of signed_of vec_of
+entered-is = refl
+
+entered-begins : is_frame_form (image_of entered (omega arith)) (later_layout entered) 5 5 (Enter 2) ≡ true
+unfolding instruction_at table code_of word_at sign_extension_of signed_of vec_of
+entered-begins = refl
+
+-- the 8086 has no ENTER, so that the program has a construct on the one processor and none there on the other
+entered-unknown : IsOfTrails 2 (image_of entered (omega arith)) (layout_of entered) 0x0005
+unfolding instruction_at table code_of word_at sign_extension_of signed_of vec_of
+entered-unknown = record {
+  entry = 5;
+  is_entry = start;
+  node = record { before = []; trail = refl };
+  stands = unknown (record {
+    none = refl;
+    no_jump = λ jump. elim jump [ inl is ↦ let clash = is.opcode in cc | inr is ↦ let clash = is.opcode in cc ];
+    no_call = λ call. elim call [ inl is ↦ let clash = is.opcode in cc | inr is ↦ let clash = is.opcode in cc ];
+  });
+}
+
+-- the bytes of an instruction
+abbrev instruction_of : Cpu → List ℕ → Option Instr
+instruction_of cpu bytes = instruction_at cpu 5 bytes
+
+-- another level than 0 is none
+deep_enter-none : instruction_of I186 (0xC8 ∷ 0x02 ∷ 0x00 ∷ 0x01 ∷ []) ≡ None
+unfolding instruction_at table word_at
+deep_enter-none = refl
+
+-- imul ax,bx,6; shl ax,4
+later_instructions :
+    instruction_of I186 (0x6B ∷ 0xC3 ∷ 0x06 ∷ []) ∷ instruction_of I186 (0xC1 ∷ 0xE0 ∷ 0x04 ∷ []) ∷ []
+    ≡ Some (record { op = Imul3 Ax (Word Bx) 6; len = 3 })
+    ∷ Some (record { op = ShiftOp Shl (Word Ax) (ConstCount 4); len = 3 })
+    ∷ []
+unfolding instruction_at table word_at sign_extension_of signed_of
+later_instructions = refl
+
+-- 32 places to the left are all of a word on the 8086, and none on the 80186
+abbrev shifted : Cpu → ℕ
+shifted cpu =
+    word_in (op_step cpu (ShiftOp Shl (Word Ax) Cl) 5
+    (record (start_state (image_of entered (omega arith)) []) { regs = 1 ∷ 32 ∷ 0 ∷ 0 ∷ 0 ∷ 0 ∷ 0 ∷ 0 ∷ [] })) Ax
+
+counts-differ : shifted I8086 ∷ shifted I186 ∷ [] ≡ 0 ∷ 1 ∷ []
+unfolding vec_of shl_of
+counts-differ = refl
 
 pub bare-construct : IsOfTrails 2 (image_of bare (omega arith)) (layout_of bare) 0x0005
 unfolding instruction_at table code_of word_at sign_extension_of signed_of vec_of

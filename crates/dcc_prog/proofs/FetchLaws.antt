@@ -2,6 +2,7 @@
 use Rattle.std.proofs.Common.{◌≡◌, ℕ, zero, suc, ◌+◌, ◌-◌, ◌*◌, ◌<◌, ◌≤◌, List, [], ◌∷◌, ◌++◌, length, take, drop, get_or, replicate, Some, refl, sym, ap, ◌∙◌, arith, length-drop, length-take}
 use Rattle.std.proofs.Math.Nat.{mod-eq_of_lt}
 use Rattle.std.proofs.lemmas.List.{get_or-append-add, get_or_append_left, get_or-take, get_or-drop, take_all, length-replicate}
+use Rattle.dcc_prog.specs.declared.cpu.Cpu.{Cpu}
 use Rattle.dcc_prog.specs.declared.image.Image.{Image}
 use Rattle.dcc_prog.specs.declared.instr.Instr.{Instr}
 use Rattle.dcc_prog.specs.Load.{load_segment, image_address}
@@ -119,11 +120,11 @@ take-tabulated (suc len) (suc n) f (x ∷ xs) a b same =
     cc
 
 -- the instruction at the instruction pointer is the one that stands in the code below the end
-pub fetched-instruction : (image : Image) (end : ℕ) (s : State) (instr : Instr) → IsPlaced image → HoldsCode image end s → instruction_at s.ip (drop s.ip (take end (code_of image))) ≡ Some instr → instruction_at s.ip (code_bytes s) ≡ Some instr
+pub fetched-instruction : (cpu : Cpu) (image : Image) (end : ℕ) (s : State) (instr : Instr) → IsPlaced image → HoldsCode image end s → instruction_at cpu s.ip (drop s.ip (take end (code_of image))) ≡ Some instr → instruction_at cpu s.ip (code_bytes s) ≡ Some instr
 unfolding tabulated
-fetched-instruction image end s instr placed holds found =
+fetched-instruction cpu image end s instr placed holds found =
     let code = take end (code_of image) in
-    let bounds = instruction-length s.ip (drop s.ip code) instr found in
+    let bounds = instruction-length cpu s.ip (drop s.ip code) instr found in
     let len = length-drop s.ip code in
     let some = length-take end (code_of image) in
     let all = length-code_of image placed in
@@ -135,11 +136,11 @@ fetched-instruction image end s instr placed holds found =
     code_byte-is image end s k holds within low
     ∙ sym (get_or-take end (code_of image) (s.ip + k) 0 within)
     ∙ sym (get_or-drop s.ip code k 0)) in
-    instruction-prefix s.ip (drop s.ip code) (code_bytes s) instr found same
+    instruction-prefix cpu s.ip (drop s.ip code) (code_bytes s) instr found same
 
 -- the same of the whole code
-pub fetched-whole : (image : Image) (s : State) (instr : Instr) → IsPlaced image → HoldsCode image image.code_len s → instruction_at s.ip (drop s.ip (code_of image)) ≡ Some instr → instruction_at s.ip (code_bytes s) ≡ Some instr
-fetched-whole image s instr placed holds found =
+pub fetched-whole : (cpu : Cpu) (image : Image) (s : State) (instr : Instr) → IsPlaced image → HoldsCode image image.code_len s → instruction_at cpu s.ip (drop s.ip (code_of image)) ≡ Some instr → instruction_at cpu s.ip (code_bytes s) ≡ Some instr
+fetched-whole cpu image s instr placed holds found =
     let all : take image.code_len (code_of image) ≡ code_of image =
     take_all image.code_len (code_of image) (let e = length-code_of image placed in omega (arith, e)) in
-    fetched-instruction image image.code_len s instr placed holds (ap (λ l. instruction_at s.ip (drop s.ip l)) all ∙ found)
+    fetched-instruction cpu image image.code_len s instr placed holds (ap (λ l. instruction_at cpu s.ip (drop s.ip l)) all ∙ found)

@@ -6,6 +6,7 @@ use Rattle.std.proofs.lemmas.List.{take_all}
 use Rattle.dcc_num.specs.declared.Width.TheVariants.{Word as word_width}
 use Rattle.dcc_num.specs.declared.Reg.TheVariants.{Ax, Bx, Sp, Bp}
 use Rattle.dcc_num.specs.Numbers.{sign_extension_of, signed_of}
+use Rattle.dcc_prog.specs.declared.cpu.Cpu.TheVariants.{I8086}
 use Rattle.dcc_prog.specs.declared.segment.TheConstants.{DS}
 use Rattle.dcc_prog.specs.declared.image.Image.{Image}
 use Rattle.dcc_prog.specs.declared.instr.Unary.TheVariants.{Idiv}
@@ -28,13 +29,13 @@ use Rattle.dcc_prog.proofs.DivisionExamples.{divides, divides-construct}
 -- Where a prelude can't go on.
 
 -- no instruction stands there
-none-stops : (code : List ℕ) (at : ℕ) → instruction_at at (drop at code) ≡ None → NoFormAt code at
+none-stops : (code : List ℕ) (at : ℕ) → instruction_at I8086 at (drop at code) ≡ None → NoFormAt I8086 code at
 none-stops code at none instr form = let clash = sym none ∙ form.found in cc
 
 -- one stands there that no prelude has
 other-stops :
     (code : List ℕ) (at : ℕ) (other : Instr)
-    → instruction_at at (drop at code) ≡ Some other → is_prelude_form other.op ≡ false → NoFormAt code at
+    → instruction_at I8086 at (drop at code) ≡ Some other → is_prelude_form other.op ≡ false → NoFormAt I8086 code at
 other-stops code at other found foreign instr form =
     let both = sym found ∙ form.found in
     let same : other ≡ instr = cc in
@@ -56,7 +57,7 @@ code-is : (code : List ℕ) (few : length code < 2 ^ 62) → code_of (image_of c
 unfolding code_of vec_of
 code-is code few = take_all (5 + length code) (whole code) (omega arith)
 
-run-is : (code : List ℕ) → IsRun (whole code) 0 loads_ds
+run-is : (code : List ℕ) → IsRun I8086 (whole code) 0 loads_ds
 unfolding instruction_at table word_at sign_extension_of signed_of
 run-is code = (record { found = refl; form = refl }, (record { found = refl; form = refl }, tt))
 
@@ -67,20 +68,20 @@ placed code few short = record { low = omega arith; high = omega arith; short = 
 -- the machine after it
 left-is :
     (code : List ℕ) (few : length code < 2 ^ 62) → length code ≤ 11
-    → state_after (image_of code few) loads_ds
-    ≡ at_offset (image_of code few) [] (executed (start_state (image_of code few) []) loads_ds) 5
+    → state_after I8086 (image_of code few) loads_ds
+    ≡ at_offset (image_of code few) [] (executed I8086 (start_state (image_of code few) []) loads_ds) 5
 unfolding state_after
 left-is code few short =
     let image = image_of code few in
-    run-steps image [] (start_state image []) 0 loads_ds (placed code few short) refl
-    (subst (λ bytes. IsRun bytes 0 loads_ds) (sym (code-is code few)) (run-is code))
+    run-steps I8086 image [] (start_state image []) 0 loads_ds (placed code few short) refl
+    (subst (λ bytes. IsRun I8086 bytes 0 loads_ds) (sym (code-is code few)) (run-is code))
 
 -- where so few bytes follow that the data segment begins above the image, and where the prelude can't go on by other
 -- instructions to one after which it may end, the layout holds
 has-layout :
     (code : List ℕ) (few : length code < 2 ^ 62) (more : List Instr)
     → 0 < length code → length code ≤ 11
-    → IsRun (whole code) 5 more → NoFormAt (whole code) (end_of 5 more) → none_ends more ≡ true
+    → IsRun I8086 (whole code) 5 more → NoFormAt I8086 (whole code) (end_of 5 more) → none_ends more ≡ true
     → HasLayout (image_of code few) (layout_of code)
 unfolding vec_of
 has-layout code few more some short run stop none =
@@ -89,8 +90,8 @@ has-layout code few more some short run stop none =
     let left = left-is code few short in
     record {
       prelude = loads_ds;
-      is_prelude = subst (λ bytes. IsPrelude bytes 0 loads_ds) (sym same)
-          (prelude-is (whole code) 0 loads_ds more (run-append (whole code) 0 loads_ds more (run-is code) run) stop refl none);
+      is_prelude = subst (λ bytes. IsPrelude I8086 bytes 0 loads_ds) (sym same)
+          (prelude-is I8086 (whole code) 0 loads_ds more (run-append I8086 (whole code) 0 loads_ds more (run-is code) run) stop refl none);
       ds_written = refl;
       left = record {
         regs = ap (λ s. s.regs) (sym left);
@@ -108,40 +109,40 @@ has-layout code few more some short run stop none =
 -- Constructs of whole programs.
 
 -- 0005 mov bp,5
-bare-told : IsConstruct 2 (image_of bare (omega arith)) 0x0005
+bare-told : IsConstruct I8086 2 (image_of bare (omega arith)) 0x0005
 unfolding instruction_at table word_at sign_extension_of signed_of
-bare-told = of_trails (has-layout bare (omega arith)
+bare-told = of_trails refl (has-layout bare (omega arith)
     (record { op = Mov (Word Bp) (Const word_width 5); len = 3 } ∷ []) (omega arith) (omega arith)
     (record { found = refl; form = refl }, tt) (none-stops (whole bare) 8 refl) refl) bare-construct
 
 -- 0005 jmp [bx]
-jump_through-told : IsConstruct 3 (image_of jump_through (omega arith)) 0x0005
+jump_through-told : IsConstruct I8086 3 (image_of jump_through (omega arith)) 0x0005
 unfolding instruction_at table word_at sign_extension_of signed_of
-jump_through-told = of_trails (has-layout jump_through (omega arith) [] (omega arith) (omega arith) tt
+jump_through-told = of_trails refl (has-layout jump_through (omega arith) [] (omega arith) (omega arith) tt
     (none-stops (whole jump_through) 5 refl) refl) jump_through-construct
 
 -- 0005 call [bx]
-call_through-told : IsConstruct 4 (image_of call_through (omega arith)) 0x0005
+call_through-told : IsConstruct I8086 4 (image_of call_through (omega arith)) 0x0005
 unfolding instruction_at table word_at sign_extension_of signed_of
-call_through-told = of_trails (has-layout call_through (omega arith) [] (omega arith) (omega arith) tt
+call_through-told = of_trails refl (has-layout call_through (omega arith) [] (omega arith) (omega arith) tt
     (none-stops (whole call_through) 5 refl) refl) call_through-construct
 
 -- 0005 mov ah,[0000]; 0009 int 21h
-unknown_number-told : IsConstruct 5 (image_of unknown_number (omega arith)) 0x0009
+unknown_number-told : IsConstruct I8086 5 (image_of unknown_number (omega arith)) 0x0009
 unfolding instruction_at table word_at sign_extension_of signed_of
-unknown_number-told = of_trails (has-layout unknown_number (omega arith) [] (omega arith) (omega arith) tt
+unknown_number-told = of_trails refl (has-layout unknown_number (omega arith) [] (omega arith) (omega arith) tt
     (other-stops (whole unknown_number) 5 _ refl refl) refl) unknown_number-construct
 
 -- 0005 ret
-ret-told : IsConstruct 11 (image_of ret (omega arith)) 0x0005
+ret-told : IsConstruct I8086 11 (image_of ret (omega arith)) 0x0005
 unfolding instruction_at table word_at sign_extension_of signed_of
-ret-told = of_trails (has-layout ret (omega arith) [] (omega arith) (omega arith) tt
+ret-told = of_trails refl (has-layout ret (omega arith) [] (omega arith) (omega arith) tt
     (other-stops (whole ret) 5 (record { op = Ret 0; len = 1 }) refl refl) refl) ret-construct
 
 -- 0005 mov ax,1; 0008 mov bx,0; 000B idiv bx
-divides-told : IsConstruct 12 (image_of divides (omega arith)) 0x000B
+divides-told : IsConstruct I8086 12 (image_of divides (omega arith)) 0x000B
 unfolding instruction_at table word_at sign_extension_of signed_of
-divides-told = of_trails (has-layout divides (omega arith)
+divides-told = of_trails refl (has-layout divides (omega arith)
     (record { op = Mov (Word Ax) (Const word_width 1); len = 3 }
     ∷ record { op = Mov (Word Bx) (Const word_width 0); len = 3 } ∷ [])
     (omega arith) (omega arith) (record { found = refl; form = refl }, (record { found = refl; form = refl }, tt))
@@ -163,17 +164,18 @@ flat_image = record {
 }
 
 -- its prelude is empty
-flat-prelude : IsPrelude (code_of flat_image) 0 []
+flat-prelude : IsPrelude I8086 (code_of flat_image) 0 []
 unfolding instruction_at table word_at sign_extension_of signed_of code_of vec_of
 flat-prelude =
-    prelude-is (code_of flat_image) 0 [] (record { op = Mov (Word Ax) (Const word_width 0x4C00); len = 3 } ∷ [])
+    prelude-is I8086 (code_of flat_image) 0 [] (record { op = Mov (Word Ax) (Const word_width 0x4C00); len = 3 } ∷ [])
     (record { found = refl; form = refl }, tt)
     (other-stops (code_of flat_image) 3 (record { op = Int21; len = 2 }) refl refl) refl refl
 
-flat-told : IsConstruct 1 flat_image 0x0000
+flat-told : IsConstruct I8086 1 flat_image 0x0000
 flat-told = lacks_layout (record {
   entry = refl;
-  none = λ layout has.
-      let same = prelude-once (code_of flat_image) 0 has.prelude [] has.is_prelude flat-prelude in
+  none = λ layout runs_on has.
+      let mine : IsPrelude layout.cpu (code_of flat_image) 0 [] = subst (λ c. IsPrelude c (code_of flat_image) 0 []) (sym runs_on) flat-prelude in
+      let same = prelude-once layout.cpu (code_of flat_image) 0 has.prelude [] has.is_prelude mine in
       let clash : false ≡ true = subst (λ p. list_any (λ (i : Instr). writes_ds i.op) p ≡ true) same has.ds_written in cc;
 })

@@ -10,6 +10,7 @@ pub mod PreludeOffsets
 pub mod LayoutLaws
 pub mod TrailLaws
 pub mod ConstructLaws
+pub mod FoundLaws
 pub mod RefusedLaws
 pub mod MachineEnds
 pub mod WatchLaws

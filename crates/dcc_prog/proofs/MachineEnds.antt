@@ -7,6 +7,7 @@ use Rattle.dcc_num.specs.declared.Width.{Width}
 use Rattle.dcc_num.specs.declared.Width.TheVariants.{Byte as byte_width, Word as word_width}
 use Rattle.dcc_num.specs.declared.Reg.TheVariants.{Ax, Dx}
 use Rattle.dcc_num.specs.Numbers.{no_flags}
+use Rattle.dcc_prog.specs.declared.cpu.Cpu.{Cpu}
 use Rattle.dcc_prog.specs.declared.image.Image.{Image}
 use Rattle.dcc_prog.specs.declared.instr.Alu.{Alu as AluName}
 use Rattle.dcc_prog.specs.declared.instr.Alu.TheVariants.{Add, Or, Adc, Sbb, And, Sub, Xor, Cmp, Test}
@@ -17,7 +18,7 @@ use Rattle.dcc_prog.specs.declared.instr.Plain.TheVariants.{Nop, Cbw, Cwd, Xlat,
 use Rattle.dcc_prog.specs.declared.instr.Operand.{Operand}
 use Rattle.dcc_prog.specs.declared.instr.Operand.TheVariants.{Word, Byte, Seg, Mem, Const}
 use Rattle.dcc_prog.specs.declared.instr.Op.{Op}
-use Rattle.dcc_prog.specs.declared.instr.Op.TheVariants.{Alu, Unary, Shift, Mov, Xchg, Lea, Push, Pop, Plain, Jump, Branch, Loop, LoopE, LoopNe, Jcxz, Table, Call, Ret, Int21}
+use Rattle.dcc_prog.specs.declared.instr.Op.TheVariants.{Alu, Unary, Shift, Mov, Xchg, Lea, Imul3, Push, Pop, Enter, Leave, Plain, Jump, Branch, Loop, LoopE, LoopNe, Jcxz, Table, Call, Ret, Int21}
 use Rattle.dcc_prog.specs.declared.instr.Instr.{Instr}
 use Rattle.dcc_prog.specs.Table.{instruction_at}
 use Rattle.dcc_prog.specs.Machine.{State, word_in, operand_value, operand_width, with_operand, start_state}
@@ -105,38 +106,45 @@ dos-end number at s m =
     (chosen-end (number == 0x08) (key_step false s) string (keeping (key-end false s.input s) m)
     (chosen-end (number == 0x09) (after_write (dos_string s) s) last m tt))))
 
-op-end : (op : Op) (at : ℕ) (s : State) → IsMachineEnd s.end → IsMachineEnd (op_step op at s).end
-op-end (Alu operation x y) at s m = keeping (alu-end operation (operand_width x) x (operand_value s x) (operand_value s y) s) m
-op-end (Unary operation x) at s m = unary-end operation (operand_width x) x (operand_value s x) at s m
-op-end (Shift operation x by_cl) at s m = keeping (operand-end _ x _) m
-op-end (Mov to from) at s m = keeping (operand-end s to _) m
-op-end (Xchg x y) at s m = keeping (operand-end _ y _ ∙ operand-end s x _) m
-op-end (Lea r ea) at s m = m
-op-end (Push x) at s m = m
-op-end (Pop x) at s m = keeping (operand-end (with_sp_raised 2 s) x (top_word s)) m
-op-end (Plain operation) at s m = keeping (plain-end operation s) m
-op-end (Jump target) at s m = m
-op-end (Branch condition target) at s m = m
-op-end (Loop target) at s m = m
-op-end (LoopE target) at s m = m
-op-end (LoopNe target) at s m = m
-op-end (Jcxz target) at s m = m
-op-end (Table r offset) at s m = m
-op-end (Call target) at s m = m
-op-end (Ret count) at s m = m
-op-end Int21 at s m = dos-end (word_in s Ax / 256) at s m
+op-end : (cpu : Cpu) (op : Op) (at : ℕ) (s : State) → IsMachineEnd s.end → IsMachineEnd (op_step cpu op at s).end
+op-end cpu (Alu operation x y) at s m = keeping (alu-end operation (operand_width x) x (operand_value s x) (operand_value s y) s) m
+op-end cpu (Unary operation x) at s m = unary-end operation (operand_width x) x (operand_value s x) at s m
+op-end cpu (Shift operation x count) at s m = keeping (operand-end _ x _) m
+op-end cpu (Mov to from) at s m = keeping (operand-end s to _) m
+op-end cpu (Xchg x y) at s m = keeping (operand-end _ y _ ∙ operand-end s x _) m
+op-end cpu (Lea r ea) at s m = m
+op-end cpu (Imul3 r x constant) at s m = m
+op-end cpu (Push x) at s m = m
+op-end cpu (Pop x) at s m = keeping (operand-end (with_sp_raised 2 s) x (top_word s)) m
+op-end cpu (Enter count) at s m = m
+op-end cpu Leave at s m = m
+op-end cpu (Plain operation) at s m = keeping (plain-end operation s) m
+op-end cpu (Jump target) at s m = m
+op-end cpu (Branch condition target) at s m = m
+op-end cpu (Loop target) at s m = m
+op-end cpu (LoopE target) at s m = m
+op-end cpu (LoopNe target) at s m = m
+op-end cpu (Jcxz target) at s m = m
+op-end cpu (Table r offset) at s m = m
+op-end cpu (Call target) at s m = m
+op-end cpu (Ret count) at s m = m
+op-end cpu Int21 at s m = dos-end (word_in s Ax / 256) at s m
 
-instruction-end : (found : Option Instr) (s : State) → IsMachineEnd s.end → IsMachineEnd (instruction_step found s).end
-instruction-end None s m = tt
-instruction-end (Some instr) s m = op-end instr.op s.ip (record s { ip = (s.ip + instr.len) % 65536 }) m
+instruction-end : (cpu : Cpu) (found : Option Instr) (s : State) → IsMachineEnd s.end → IsMachineEnd (instruction_step cpu found s).end
+instruction-end cpu None s m = tt
+instruction-end cpu (Some instr) s m = op-end cpu instr.op s.ip (record s { ip = (s.ip + instr.len) % 65536 }) m
 
-step-end : (s : State) → IsMachineEnd s.end → IsMachineEnd (step s).end
-step-end s m = chosen-end (is_over s.end) s (instruction_step (instruction_at s.ip (code_bytes s)) s) m (instruction-end (instruction_at s.ip (code_bytes s)) s m)
+step-end : (cpu : Cpu) (s : State) → IsMachineEnd s.end → IsMachineEnd (step cpu s).end
+step-end cpu s m =
+    let found = instruction_at cpu s.ip (code_bytes s) in
+    chosen-end (is_over s.end) s (instruction_step cpu found s) m (instruction-end cpu found s m)
 
-after-end : (n : ℕ) (s : State) → IsMachineEnd s.end → IsMachineEnd (end_after machine_system n s)
-after-end zero s m = m
-after-end (suc n) s m = after-end n (step s) (step-end s m)
+after-end : (cpu : Cpu) (n : ℕ) (s : State) → IsMachineEnd s.end → IsMachineEnd (end_after (machine_system cpu) n s)
+after-end cpu zero s m = m
+after-end cpu (suc n) s m = after-end cpu n (step cpu s) (step-end cpu s m)
 
 -- no run of the machine is stuck
-pub machine-not_stuck : (image : Image) (input : List ℕ) (n line : ℕ) → end_after machine_system n (start_state image input) ≢ Stuck line
-machine-not_stuck image input n line e = subst IsMachineEnd e (after-end n (start_state image input) tt)
+pub machine-not_stuck :
+    (cpu : Cpu) (image : Image) (input : List ℕ) (n line : ℕ)
+    → end_after (machine_system cpu) n (start_state image input) ≢ Stuck line
+machine-not_stuck cpu image input n line e = subst IsMachineEnd e (after-end cpu n (start_state image input) tt)

@@ -1,6 +1,7 @@
 -- Laws of preludes: each code has just one.
 use Rattle.std.proofs.Common.{◌≡◌, ℕ, zero, suc, ◌+◌, ◌<◌, ◌≤◌, ◌⊎◌, inl, inr, Bool, true, false, not, ◌&&◌, List, [], ◌∷◌, ◌++◌, length, drop, Some, None, refl, sym, ap, ◌∙◌, subst, arith, length-drop}
 use Rattle.std.proofs.lemmas.Bool.{not-true}
+use Rattle.dcc_prog.specs.declared.cpu.Cpu.{Cpu}
 use Rattle.dcc_prog.specs.declared.instr.Instr.{Instr}
 use Rattle.dcc_prog.specs.Table.{instruction_at}
 use Rattle.dcc_prog.specs.Layout.{is_prelude_form, may_end_prelude, IsFormAt, IsRun, end_of, ends_prelude, IsPrelude}
@@ -9,25 +10,25 @@ use Rattle.dcc_prog.proofs.TableLaws.{and_left, and_right, and_both, instruction
 -- Runs.
 
 -- an instruction of a run lies in the code
-pub form-inside : (code : List ℕ) (at : ℕ) (instr : Instr) → IsFormAt code at instr → (0 < instr.len) × (at + instr.len ≤ length code)
-form-inside code at instr is =
-    let bounds = instruction-length at (drop at code) instr is.found in
+pub form-inside : (cpu : Cpu) (code : List ℕ) (at : ℕ) (instr : Instr) → IsFormAt cpu code at instr → (0 < instr.len) × (at + instr.len ≤ length code)
+form-inside cpu code at instr is =
+    let bounds = instruction-length cpu at (drop at code) instr is.found in
     (bounds.0, omega (arith, bounds.0, bounds.1, length-drop at code))
 
 -- at most one stands at an offset
-form-same : (code : List ℕ) (at : ℕ) (a b : Instr) → IsFormAt code at a → IsFormAt code at b → a ≡ b
-form-same code at a b f g = let both = sym f.found ∙ g.found in cc
+form-same : (cpu : Cpu) (code : List ℕ) (at : ℕ) (a b : Instr) → IsFormAt cpu code at a → IsFormAt cpu code at b → a ≡ b
+form-same cpu code at a b f g = let both = sym f.found ∙ g.found in cc
 
 -- no instruction at the offset may stand in a prelude
-abbrev pub NoFormAt : List ℕ → ℕ → Type 0
-NoFormAt code at = (instr : Instr) → ¬ IsFormAt code at instr
+abbrev pub NoFormAt : Cpu → List ℕ → ℕ → Type 0
+NoFormAt cpu code at = (instr : Instr) → ¬ IsFormAt cpu code at instr
 
 -- one may, or none
-form-or_none : (code : List ℕ) (at : ℕ) → ((instr : Instr) × IsFormAt code at instr) ⊎ NoFormAt code at
-form-or_none code at =
-    elim (instruction_at at (drop at code)) as (λ o. instruction_at at (drop at code) ≡ o → ((instr : Instr) × IsFormAt code at instr) ⊎ NoFormAt code at) [
+form-or_none : (cpu : Cpu) (code : List ℕ) (at : ℕ) → ((instr : Instr) × IsFormAt cpu code at instr) ⊎ NoFormAt cpu code at
+form-or_none cpu code at =
+    elim (instruction_at cpu at (drop at code)) as (λ o. instruction_at cpu at (drop at code) ≡ o → ((instr : Instr) × IsFormAt cpu code at instr) ⊎ NoFormAt cpu code at) [
       | None ↦ λ e. inr (λ i f. let both = sym e ∙ f.found in cc)
-      | Some instr ↦ λ e. elim (is_prelude_form instr.op) as (λ b. is_prelude_form instr.op ≡ b → ((i : Instr) × IsFormAt code at i) ⊎ NoFormAt code at) [
+      | Some instr ↦ λ e. elim (is_prelude_form instr.op) as (λ b. is_prelude_form instr.op ≡ b → ((i : Instr) × IsFormAt cpu code at i) ⊎ NoFormAt cpu code at) [
         | true ↦ λ t. inl (instr, record { found = e; form = t })
         | false ↦ λ t. inr (λ i f.
             let both = sym e ∙ f.found in
@@ -38,57 +39,57 @@ form-or_none code at =
     ] refl
 
 -- a run that begins in the code ends in it
-pub run-inside : (code : List ℕ) (at : ℕ) (run : List Instr) → at ≤ length code → IsRun code at run → end_of at run ≤ length code
-run-inside code at [] le r = le
-run-inside code at (i ∷ rest) le r =
-    run-inside code (at + i.len) rest (form-inside code at i r.0).1 r.1
+pub run-inside : (cpu : Cpu) (code : List ℕ) (at : ℕ) (run : List Instr) → at ≤ length code → IsRun cpu code at run → end_of at run ≤ length code
+run-inside cpu code at [] le r = le
+run-inside cpu code at (i ∷ rest) le r =
+    run-inside cpu code (at + i.len) rest (form-inside cpu code at i r.0).1 r.1
 
 -- a run goes on by a run from its end
-pub run-append : (code : List ℕ) (at : ℕ) (run more : List Instr) → IsRun code at run → IsRun code (end_of at run) more → IsRun code at (run ++ more)
-run-append code at [] more r s = s
-run-append code at (i ∷ rest) more r s = (r.0, run-append code (at + i.len) rest more r.1 s)
+pub run-append : (cpu : Cpu) (code : List ℕ) (at : ℕ) (run more : List Instr) → IsRun cpu code at run → IsRun cpu code (end_of at run) more → IsRun cpu code at (run ++ more)
+run-append cpu code at [] more r s = s
+run-append cpu code at (i ∷ rest) more r s = (r.0, run-append cpu code (at + i.len) rest more r.1 s)
 
 -- the front of a run is one
-pub run-of_append : (code : List ℕ) (at : ℕ) (run more : List Instr) → IsRun code at (run ++ more) → IsRun code at run
-run-of_append code at [] more r = tt
-run-of_append code at (i ∷ rest) more r = (r.0, run-of_append code (at + i.len) rest more r.1)
+pub run-of_append : (cpu : Cpu) (code : List ℕ) (at : ℕ) (run more : List Instr) → IsRun cpu code at (run ++ more) → IsRun cpu code at run
+run-of_append cpu code at [] more r = tt
+run-of_append cpu code at (i ∷ rest) more r = (r.0, run-of_append cpu code (at + i.len) rest more r.1)
 
 pub end_of-append : (at : ℕ) (run more : List Instr) → end_of at (run ++ more) ≡ end_of (end_of at run) more
 end_of-append at [] more = refl
 end_of-append at (i ∷ rest) more = end_of-append (at + i.len) rest more
 
 -- a run is the front of one that can't go on
-run-front : (code : List ℕ) (at : ℕ) (run whole : List Instr) → IsRun code at run → IsRun code at whole → NoFormAt code (end_of at whole) → (more : List Instr) × (whole ≡ run ++ more)
-run-front code at [] whole r w none = (whole, refl)
-run-front code at (i ∷ rest) [] r w none = absurd (none i r.0)
-run-front code at (i ∷ rest) (j ∷ others) r w none =
-    let same : j ≡ i = form-same code at j i w.0 r.0 in
-    let tail_run : IsRun code (at + i.len) others = subst (λ (k : Instr). IsRun code (at + k.len) others) same w.1 in
-    let stop : NoFormAt code (end_of (at + i.len) others) = subst (λ (k : Instr). NoFormAt code (end_of (at + k.len) others)) same none in
-    let tail = run-front code (at + i.len) rest others r.1 tail_run stop in
+run-front : (cpu : Cpu) (code : List ℕ) (at : ℕ) (run whole : List Instr) → IsRun cpu code at run → IsRun cpu code at whole → NoFormAt cpu code (end_of at whole) → (more : List Instr) × (whole ≡ run ++ more)
+run-front cpu code at [] whole r w none = (whole, refl)
+run-front cpu code at (i ∷ rest) [] r w none = absurd (none i r.0)
+run-front cpu code at (i ∷ rest) (j ∷ others) r w none =
+    let same : j ≡ i = form-same cpu code at j i w.0 r.0 in
+    let tail_run : IsRun cpu code (at + i.len) others = subst (λ (k : Instr). IsRun cpu code (at + k.len) others) same w.1 in
+    let stop : NoFormAt cpu code (end_of (at + i.len) others) = subst (λ (k : Instr). NoFormAt cpu code (end_of (at + k.len) others)) same none in
+    let tail = run-front cpu code (at + i.len) rest others r.1 tail_run stop in
     (tail.0, let e = tail.1 in cc)
 
 -- runs of one length are the same
-run-same : (code : List ℕ) (at : ℕ) (run other : List Instr) → IsRun code at run → IsRun code at other → length run ≡ length other → run ≡ other
-run-same code at [] [] r s e = refl
-run-same code at [] (j ∷ others) r s e = absurd (omega arith)
-run-same code at (i ∷ rest) [] r s e = absurd (omega arith)
-run-same code at (i ∷ rest) (j ∷ others) r s e =
-    let same : j ≡ i = form-same code at j i s.0 r.0 in
-    let tail_run : IsRun code (at + i.len) others = subst (λ (k : Instr). IsRun code (at + k.len) others) same s.1 in
-    let tails : rest ≡ others = run-same code (at + i.len) rest others r.1 tail_run (omega arith) in
+run-same : (cpu : Cpu) (code : List ℕ) (at : ℕ) (run other : List Instr) → IsRun cpu code at run → IsRun cpu code at other → length run ≡ length other → run ≡ other
+run-same cpu code at [] [] r s e = refl
+run-same cpu code at [] (j ∷ others) r s e = absurd (omega arith)
+run-same cpu code at (i ∷ rest) [] r s e = absurd (omega arith)
+run-same cpu code at (i ∷ rest) (j ∷ others) r s e =
+    let same : j ≡ i = form-same cpu code at j i s.0 r.0 in
+    let tail_run : IsRun cpu code (at + i.len) others = subst (λ (k : Instr). IsRun cpu code (at + k.len) others) same s.1 in
+    let tails : rest ≡ others = run-same cpu code (at + i.len) rest others r.1 tail_run (omega arith) in
     cc
 
 -- a run goes on until it can't
-whole-run : (fuel : ℕ) (code : List ℕ) (at : ℕ) → length code ≤ at + fuel → (run : List Instr) × IsRun code at run × NoFormAt code (end_of at run)
-whole-run zero code at le =
-    ([], tt, λ i f. absurd (let b = form-inside code at i f in omega (arith, b.0, b.1)))
-whole-run (suc fuel) code at le =
-    elim (form-or_none code at) [
+whole-run : (fuel : ℕ) (cpu : Cpu) (code : List ℕ) (at : ℕ) → length code ≤ at + fuel → (run : List Instr) × IsRun cpu code at run × NoFormAt cpu code (end_of at run)
+whole-run zero cpu code at le =
+    ([], tt, λ i f. absurd (let b = form-inside cpu code at i f in omega (arith, b.0, b.1)))
+whole-run (suc fuel) cpu code at le =
+    elim (form-or_none cpu code at) [
       | inr none ↦ ([], tt, none)
       | inl (i, f) ↦
-          let b = form-inside code at i f in
-          let tail = whole-run fuel code (at + i.len) (omega (arith, b.0)) in
+          let b = form-inside cpu code at i f in
+          let tail = whole-run fuel cpu code (at + i.len) (omega (arith, b.0)) in
           (i ∷ tail.0, (f, tail.1), tail.2)
     ]
 
@@ -133,12 +134,12 @@ ends-within (f ∷ front) rest (o ∷ other) more e n h =
     omega arith
 
 -- the prelude is the front of a run that can't go on, up to the last instruction after which it may end
-pub prelude-is : (code : List ℕ) (entry : ℕ) (front rest : List Instr) → IsRun code entry (front ++ rest) → NoFormAt code (end_of entry (front ++ rest)) → ends_prelude front ≡ true → none_ends rest ≡ true → IsPrelude code entry front
-prelude-is code entry front rest run stop ends none = record {
-  run = run-of_append code entry front rest run;
+pub prelude-is : (cpu : Cpu) (code : List ℕ) (entry : ℕ) (front rest : List Instr) → IsRun cpu code entry (front ++ rest) → NoFormAt cpu code (end_of entry (front ++ rest)) → ends_prelude front ≡ true → none_ends rest ≡ true → IsPrelude cpu code entry front
+prelude-is cpu code entry front rest run stop ends none = record {
+  run = run-of_append cpu code entry front rest run;
   ends = ends;
   longest = λ other r h.
-      let more = run-front code entry other (front ++ rest) r run stop in
+      let more = run-front cpu code entry other (front ++ rest) r run stop in
       ends-within front rest other more.0 more.1 none h;
 }
 
@@ -164,17 +165,17 @@ cut-of [] = record { front = []; rest = []; joins = refl; ends = refl; none = re
 cut-of (i ∷ run) = let c = cut-of run in cut-more i run c.front c.rest c.joins c.ends c.none
 
 -- each code has a prelude
-pub prelude-of : (code : List ℕ) (entry : ℕ) → (prelude : List Instr) × IsPrelude code entry prelude
-prelude-of code entry =
-    let whole = whole-run (length code) code entry (omega arith) in
+pub prelude-of : (cpu : Cpu) (code : List ℕ) (entry : ℕ) → (prelude : List Instr) × IsPrelude cpu code entry prelude
+prelude-of cpu code entry =
+    let whole = whole-run (length code) cpu code entry (omega arith) in
     let c = cut-of whole.0 in
-    let run : IsRun code entry (c.front ++ c.rest) = subst (λ l. IsRun code entry l) c.joins whole.1 in
-    let stop : NoFormAt code (end_of entry (c.front ++ c.rest)) = subst (λ l. NoFormAt code (end_of entry l)) c.joins whole.2 in
-    (c.front, prelude-is code entry c.front c.rest run stop c.ends c.none)
+    let run : IsRun cpu code entry (c.front ++ c.rest) = subst (λ l. IsRun cpu code entry l) c.joins whole.1 in
+    let stop : NoFormAt cpu code (end_of entry (c.front ++ c.rest)) = subst (λ l. NoFormAt cpu code (end_of entry l)) c.joins whole.2 in
+    (c.front, prelude-is cpu code entry c.front c.rest run stop c.ends c.none)
 
 -- and just one
-pub prelude-once : (code : List ℕ) (entry : ℕ) (prelude other : List Instr) → IsPrelude code entry prelude → IsPrelude code entry other → prelude ≡ other
-prelude-once code entry prelude other p q =
+pub prelude-once : (cpu : Cpu) (code : List ℕ) (entry : ℕ) (prelude other : List Instr) → IsPrelude cpu code entry prelude → IsPrelude cpu code entry other → prelude ≡ other
+prelude-once cpu code entry prelude other p q =
     let le = p.longest other q.run q.ends in
     let ge = q.longest prelude p.run p.ends in
-    run-same code entry prelude other p.run q.run (omega arith)
+    run-same cpu code entry prelude other p.run q.run (omega arith)

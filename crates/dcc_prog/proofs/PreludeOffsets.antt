@@ -1,6 +1,7 @@
 -- Where the instructions of a prelude stand: in ascending order from its first one, below the procedure's entry.
 use Rattle.std.proofs.Common.{◌≡◌, ◌≢◌, ℕ, zero, suc, ◌+◌, ◌<◌, ◌≤◌, true, List, [], ◌∷◌, length, take, Some, slice_get, refl, sym, subst, true≢false, arith}
 use Rattle.std.specs.List.{list_any}
+use Rattle.dcc_prog.specs.declared.cpu.Cpu.{Cpu}
 use Rattle.dcc_prog.specs.declared.image.Image.{Image}
 use Rattle.dcc_prog.specs.declared.procedure.Layout.{Layout}
 use Rattle.dcc_prog.specs.declared.instr.Instr.{Instr}
@@ -27,62 +28,62 @@ offset-end [] at = refl
 offset-end (instr ∷ rest) at = offset-end rest (at + instr.len)
 
 -- the front of a run is one
-pub run-taken : (code : List ℕ) (k : ℕ) (run : List Instr) (at : ℕ) → IsRun code at run → IsRun code at (take k run)
-run-taken code zero run at r = tt
-run-taken code (suc k) [] at r = tt
-run-taken code (suc k) (instr ∷ rest) at r = (r.0, run-taken code k rest (at + instr.len) r.1)
+pub run-taken : (cpu : Cpu) (code : List ℕ) (k : ℕ) (run : List Instr) (at : ℕ) → IsRun cpu code at run → IsRun cpu code at (take k run)
+run-taken cpu code zero run at r = tt
+run-taken cpu code (suc k) [] at r = tt
+run-taken cpu code (suc k) (instr ∷ rest) at r = (r.0, run-taken cpu code k rest (at + instr.len) r.1)
 
 -- each instruction of a run stands at its offset
-pub form-at : (code : List ℕ) (k : ℕ) (run : List Instr) (at : ℕ) (instr : Instr) → IsRun code at run → slice_get run k ≡ Some instr → IsFormAt code (offset_in k run at) instr
-form-at code k [] at instr r e = absurd (cc)
-form-at code zero (first ∷ rest) at instr r e = let same : first ≡ instr = cc in subst (IsFormAt code at) same r.0
-form-at code (suc k) (first ∷ rest) at instr r e = form-at code k rest (at + first.len) instr r.1 e
+pub form-at : (cpu : Cpu) (code : List ℕ) (k : ℕ) (run : List Instr) (at : ℕ) (instr : Instr) → IsRun cpu code at run → slice_get run k ≡ Some instr → IsFormAt cpu code (offset_in k run at) instr
+form-at cpu code k [] at instr r e = absurd (cc)
+form-at cpu code zero (first ∷ rest) at instr r e = let same : first ≡ instr = cc in subst (IsFormAt cpu code at) same r.0
+form-at cpu code (suc k) (first ∷ rest) at instr r e = form-at cpu code k rest (at + first.len) instr r.1 e
 
 -- Order.
 
-pub offset-above : (code : List ℕ) (k : ℕ) (run : List Instr) (at : ℕ) → IsRun code at run → at ≤ offset_in k run at
-offset-above code zero run at r = omega arith
-offset-above code (suc k) [] at r = omega arith
-offset-above code (suc k) (instr ∷ rest) at r =
-    let further = offset-above code k rest (at + instr.len) r.1 in
+pub offset-above : (cpu : Cpu) (code : List ℕ) (k : ℕ) (run : List Instr) (at : ℕ) → IsRun cpu code at run → at ≤ offset_in k run at
+offset-above cpu code zero run at r = omega arith
+offset-above cpu code (suc k) [] at r = omega arith
+offset-above cpu code (suc k) (instr ∷ rest) at r =
+    let further = offset-above cpu code k rest (at + instr.len) r.1 in
     omega (arith, further)
 
 -- the offsets ascend
-pub offset-ascends : (code : List ℕ) (j k : ℕ) (run : List Instr) (at : ℕ) → IsRun code at run → j < k → k ≤ length run → offset_in j run at < offset_in k run at
-offset-ascends code j zero run at r less inside = absurd (omega arith)
-offset-ascends code j (suc k) [] at r less inside = absurd (omega arith)
-offset-ascends code zero (suc k) (instr ∷ rest) at r less inside =
-    let some = (form-inside code at instr r.0).0 in
-    let further = offset-above code k rest (at + instr.len) r.1 in
+pub offset-ascends : (cpu : Cpu) (code : List ℕ) (j k : ℕ) (run : List Instr) (at : ℕ) → IsRun cpu code at run → j < k → k ≤ length run → offset_in j run at < offset_in k run at
+offset-ascends cpu code j zero run at r less inside = absurd (omega arith)
+offset-ascends cpu code j (suc k) [] at r less inside = absurd (omega arith)
+offset-ascends cpu code zero (suc k) (instr ∷ rest) at r less inside =
+    let some = (form-inside cpu code at instr r.0).0 in
+    let further = offset-above cpu code k rest (at + instr.len) r.1 in
     omega (arith, some, further)
-offset-ascends code (suc j) (suc k) (instr ∷ rest) at r less inside =
-    offset-ascends code j k rest (at + instr.len) r.1 (omega arith) (omega arith)
+offset-ascends cpu code (suc j) (suc k) (instr ∷ rest) at r less inside =
+    offset-ascends cpu code j k rest (at + instr.len) r.1 (omega arith) (omega arith)
 
 -- each instruction takes a byte at least
-pub offset-far : (code : List ℕ) (k : ℕ) (run : List Instr) (at : ℕ) → IsRun code at run → k ≤ length run → at + k ≤ offset_in k run at
-offset-far code zero run at r inside = omega arith
-offset-far code (suc k) [] at r inside = absurd (omega (arith, inside))
-offset-far code (suc k) (instr ∷ rest) at r inside =
-    let some = (form-inside code at instr r.0).0 in
-    let more = offset-far code k rest (at + instr.len) r.1 (omega (arith, inside)) in
+pub offset-far : (cpu : Cpu) (code : List ℕ) (k : ℕ) (run : List Instr) (at : ℕ) → IsRun cpu code at run → k ≤ length run → at + k ≤ offset_in k run at
+offset-far cpu code zero run at r inside = omega arith
+offset-far cpu code (suc k) [] at r inside = absurd (omega (arith, inside))
+offset-far cpu code (suc k) (instr ∷ rest) at r inside =
+    let some = (form-inside cpu code at instr r.0).0 in
+    let more = offset-far cpu code k rest (at + instr.len) r.1 (omega (arith, inside)) in
     omega (arith, some, more)
 
-pub run-above : (code : List ℕ) (run : List Instr) (at : ℕ) → IsRun code at run → at ≤ end_of at run
-run-above code run at r =
-    let above = offset-above code (length run) run at r in
+pub run-above : (cpu : Cpu) (code : List ℕ) (run : List Instr) (at : ℕ) → IsRun cpu code at run → at ≤ end_of at run
+run-above cpu code run at r =
+    let above = offset-above cpu code (length run) run at r in
     omega (arith, above, offset-end run at)
 
 -- they lie before the run's end
-pub offset-before_end : (code : List ℕ) (k : ℕ) (run : List Instr) (at : ℕ) → IsRun code at run → k < length run → offset_in k run at < end_of at run
-offset-before_end code k run at r inside =
-    let up = offset-ascends code k (length run) run at r inside (omega arith) in
+pub offset-before_end : (cpu : Cpu) (code : List ℕ) (k : ℕ) (run : List Instr) (at : ℕ) → IsRun cpu code at run → k < length run → offset_in k run at < end_of at run
+offset-before_end cpu code k run at r inside =
+    let up = offset-ascends cpu code k (length run) run at r inside (omega arith) in
     omega (arith, up, offset-end run at)
 
 -- the first one alone is where the run begins
-pub offset-first : (code : List ℕ) (k : ℕ) (run : List Instr) (at : ℕ) → IsRun code at run → k < length run → offset_in k run at ≡ at → k ≡ 0
-offset-first code zero run at r inside same = refl
-offset-first code (suc k) run at r inside same =
-    let up = offset-ascends code 0 (suc k) run at r (omega arith) (omega arith) in
+pub offset-first : (cpu : Cpu) (code : List ℕ) (k : ℕ) (run : List Instr) (at : ℕ) → IsRun cpu code at run → k < length run → offset_in k run at ≡ at → k ≡ 0
+offset-first cpu code zero run at r inside same = refl
+offset-first cpu code (suc k) run at r inside same =
+    let up = offset-ascends cpu code 0 (suc k) run at r (omega arith) (omega arith) in
     absurd (omega (arith, up, same))
 
 -- Bounds of a layout.
@@ -110,7 +111,7 @@ module _ (image : Image) (layout : Layout) (loaded : IsLoaded image) (has : HasL
 
   pub prelude-before_start : (k : ℕ) → k < length has.prelude → offset_in k has.prelude image.ip < layout.start_ip
   prelude-before_start k inside =
-      let before = offset-before_end (code_of image) k has.prelude image.ip has.is_prelude.run inside in
+      let before = offset-before_end layout.cpu (code_of image) k has.prelude image.ip has.is_prelude.run inside in
       omega (arith, before, has.left.start_ip)
 
   pub prelude-below : (k : ℕ) → k < length has.prelude → offset_in k has.prelude image.ip < 65536
@@ -118,7 +119,7 @@ module _ (image : Image) (layout : Layout) (loaded : IsLoaded image) (has : HasL
 
   -- the first instruction of the prelude alone stands where the program begins
   pub prelude-first : (k : ℕ) → k < length has.prelude → offset_in k has.prelude image.ip ≡ image.ip → k ≡ 0
-  prelude-first k inside same = offset-first (code_of image) k has.prelude image.ip has.is_prelude.run inside same
+  prelude-first k inside same = offset-first layout.cpu (code_of image) k has.prelude image.ip has.is_prelude.run inside same
 
   pub start-apart : image.ip ≢ layout.start_ip
   start-apart same = let before : image.ip < layout.start_ip = prelude-before_start 0 prelude-some in absurd (omega (arith, before, same))

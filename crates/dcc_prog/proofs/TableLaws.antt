@@ -1,15 +1,17 @@
 -- Laws of the table of encodings: at most one row matches any bytes, the bounds of an
 -- instruction's length, and on which bytes it depends.
-use Rattle.std.proofs.Common.{◌≡◌, ℕ, zero, suc, ◌+◌, ◌<◌, ◌≤◌, Bool, true, false, cond, not, ◌&&◌, ◌||◌, nat_le, nat_lt, get_or-take, length-take, List, [], ◌∷◌, length, get_or, take, refl, sym, ◌∙◌, ap, arith}
+use Rattle.std.proofs.Common.{◌≡◌, ℕ, zero, suc, ◌+◌, ◌<◌, ◌≤◌, Bool, true, false, cond, not, ◌&&◌, ◌||◌, nat_le, nat_lt, get_or-take, length-take, List, [], ◌∷◌, ◌++◌, length, get_or, take, refl, sym, ◌∙◌, ap, arith}
 use Rattle.std.specs.Prelude.{filter, find, slice_get, Option, Some, None, option_map, if◌then◌else◌, ◌==◌}
 use Rattle.std.specs.List.{list_all}
 use Rattle.std.proofs.lemmas.Bool.Decides.{nat_tests}
+use Rattle.dcc_prog.specs.declared.cpu.Cpu.{Cpu}
+use Rattle.dcc_prog.specs.declared.cpu.Cpu.TheVariants.{I8086, I186}
 use Rattle.dcc_prog.specs.declared.instr.Instr.{Instr}
 use Rattle.dcc_prog.specs.declared.instr.Op.{Op}
 use Rattle.dcc_num.specs.Numbers.{sign_extension_of}
 use Rattle.dcc_prog.specs.Bytes.{byte_at, word_at}
 use Rattle.dcc_prog.specs.Operands.{displacement_size, displacement_at}
-use Rattle.dcc_prog.specs.Table.{InstructionHasOneToSixBytes, InstructionDependsOnItsBytes, AtMostOneRowMatches, InstructionIsThatOfItsRow, Range, BytePattern, Row, Parts, in_range, fits_byte, fits, has_bytes, ConstantForm, constant_size, constant_at, row_displacement_size, row_length, matches, row_parts, row_instruction, table, instruction_at, IsRow, no_constant, byte_constant, word_constant, signed_constant}
+use Rattle.dcc_prog.specs.Table.{InstructionHasOneToSixBytes, InstructionDependsOnItsBytes, AtMostOneRowMatches, InstructionIsThatOfItsRow, LaterProcessorHasEachInstruction, later_rows, Range, BytePattern, Row, Parts, in_range, fits_byte, fits, has_bytes, ConstantForm, constant_size, constant_at, ConstantPlace, at_end, at_index, tail_size, constant_index, head_length, row_displacement_size, row_length, matches, row_parts, row_instruction, table, instruction_at, IsRow, no_constant, byte_constant, word_constant, signed_constant}
 
 -- Tests ----------------------------------------------------------------------------------------
 
@@ -102,9 +104,10 @@ rows_apart [] = true
 rows_apart (row ∷ rows) =
     list_all (λ other. patterns_apart row.pattern other.pattern) rows && rows_apart rows
 
-pub rows_apart-table : rows_apart table ≡ true
+pub rows_apart-table : (cpu : Cpu) → rows_apart (table cpu) ≡ true
 unfolding table
-rows_apart-table = refl
+rows_apart-table I8086 = refl
+rows_apart-table I186 = refl
 
 -- the one row that passes a test, where only rows whose pattern the bytes fit do, is found
 find-only :
@@ -124,16 +127,16 @@ find-only test bytes inside (r ∷ rows) (suc k) row apart at m =
     rw (cases (test r) refl) (find-only test bytes inside rows k row (and_right _ _ apart) at m)
 
 pub find-row :
-    (bytes : List ℕ) (row : Row) → IsRow row → matches row bytes ≡ true
-    → find (λ r. matches r bytes) table ≡ Some row
-find-row bytes row at m =
-    find-only (λ r. matches r bytes) bytes (λ r t. and_left _ _ t) table at.0 row rows_apart-table at.1 m
+    (cpu : Cpu) (bytes : List ℕ) (row : Row) → IsRow cpu row → matches row bytes ≡ true
+    → find (λ r. matches r bytes) (table cpu) ≡ Some row
+find-row cpu bytes row at m =
+    find-only (λ r. matches r bytes) bytes (λ r t. and_left _ _ t) (table cpu) at.0 row (rows_apart-table cpu) at.1 m
 
 pub find-fits :
-    (bytes : List ℕ) (row : Row) → IsRow row → fits row.pattern bytes ≡ true
-    → find (λ r. fits r.pattern bytes) table ≡ Some row
-find-fits bytes row at h =
-    find-only (λ r. fits r.pattern bytes) bytes (λ r t. t) table at.0 row rows_apart-table at.1 h
+    (cpu : Cpu) (bytes : List ℕ) (row : Row) → IsRow cpu row → fits row.pattern bytes ≡ true
+    → find (λ r. fits r.pattern bytes) (table cpu) ≡ Some row
+find-fits cpu bytes row at h =
+    find-only (λ r. fits r.pattern bytes) bytes (λ r t. t) (table cpu) at.0 row (rows_apart-table cpu) at.1 h
 
 -- The length ------------------------------------------------------------------------------------
 
@@ -147,18 +150,33 @@ has_bytes-of_le zero xs h = refl
 has_bytes-of_le (suc n) [] h = absurd (omega arith)
 has_bytes-of_le (suc n) (x ∷ xs) h = has_bytes-of_le n xs (omega arith)
 
--- a row has an opcode and a ModRM byte, or one to three bytes without one
-abbrev sized : Row → Bool
+-- a row has an opcode and a ModRM byte, or one to four bytes without one
+abbrev pub sized : Row → Bool
 sized row =
     if row.has_modrm then length row.pattern == 2
-    else nat_le 1 (length row.pattern) && nat_le (length row.pattern) 3
+    else nat_le 1 (length row.pattern) && nat_le (length row.pattern) 4
 
-sized-table : list_all sized table ≡ true
+-- a constant among the first bytes is wholly there
+abbrev pub placed : ConstantPlace → ConstantForm → ℕ → Bool
+placed at_end form size = true
+placed (at_index index) form size = nat_le (index + constant_size form) size
+
+abbrev pub well_made : Row → Bool
+well_made row = sized row && placed row.constant_place row.constant_form (length row.pattern)
+
+well_made-table : (cpu : Cpu) → list_all well_made (table cpu) ≡ true
 unfolding table
-sized-table = refl
+well_made-table I8086 = refl
+well_made-table I186 = refl
 
-sized-row : (row : Row) → IsRow row → sized row ≡ true
-sized-row row at = list_all-get sized table at.0 row sized-table at.1
+well_made-row : (cpu : Cpu) (row : Row) → IsRow cpu row → well_made row ≡ true
+well_made-row cpu row at = list_all-get well_made (table cpu) at.0 row (well_made-table cpu) at.1
+
+sized-row : (cpu : Cpu) (row : Row) → IsRow cpu row → sized row ≡ true
+sized-row cpu row at = and_left _ _ (well_made-row cpu row at)
+
+placed-row : (cpu : Cpu) (row : Row) → IsRow cpu row → placed row.constant_place row.constant_form (length row.pattern) ≡ true
+placed-row cpu row at = and_right (sized row) _ (well_made-row cpu row at)
 
 pub displacement_size-le : (modrm : ℕ) → displacement_size modrm ≤ 2
 displacement_size-le modrm = grind (arith, nat_tests)
@@ -169,38 +187,50 @@ constant_size-le byte_constant = omega arith
 constant_size-le word_constant = omega arith
 constant_size-le signed_constant = omega arith
 
+tail_size-le : (place : ConstantPlace) (form : ConstantForm) → tail_size place form ≤ 2
+tail_size-le at_end form = constant_size-le form
+tail_size-le (at_index index) form = omega arith
+
+-- the constant lies within the instruction
+constant-within :
+    (place : ConstantPlace) (form : ConstantForm) (size more : ℕ) → placed place form size ≡ true
+    → constant_index place (size + more) + constant_size form ≤ (size + more) + tail_size place form
+constant-within at_end form size more h = omega arith
+constant-within (at_index index) form size more h =
+    let le : index + constant_size form ≤ size = grind (arith, nat_tests) in omega (arith, le)
+
 row_length-bounds :
     (row : Row) (bytes : List ℕ) → sized row ≡ true
     → (0 < row_length row bytes) × (row_length row bytes ≤ 6)
 row_length-bounds row bytes h =
     let d = displacement_size-le (get_or bytes 1 0) in
-    let c = constant_size-le row.constant_form in
+    let c = tail_size-le row.constant_place row.constant_form in
     grind (arith, nat_tests)
 
 -- the row of an instruction
 pub instruction-row :
-    (offset : ℕ) (bytes : List ℕ) (instr : Instr) → instruction_at offset bytes ≡ Some instr
-    → (row : Row) × IsRow row × (matches row bytes ≡ true) × (row_instruction row offset bytes ≡ instr)
+    (cpu : Cpu) (offset : ℕ) (bytes : List ℕ) (instr : Instr) → instruction_at cpu offset bytes ≡ Some instr
+    → (row : Row) × IsRow cpu row × (matches row bytes ≡ true) × (row_instruction row offset bytes ≡ instr)
 unfolding instruction_at
-instruction-row offset bytes instr e =
+instruction-row cpu offset bytes instr e =
     let test : Row → Bool = λ row. matches row bytes in
-    let found : Option Row = find test table in
-    let P : Option Row → Type 0 = λ o. found ≡ o → option_map (λ row. row_instruction row offset bytes) o ≡ Some instr → (row : Row) × IsRow row × (matches row bytes ≡ true) × (row_instruction row offset bytes ≡ instr) in
-    let cases : (o : Option Row) → P o = λ o. elim o as P [ None ↦ λ f h. cc | Some row ↦ λ f h. (row, find-get test table row f, find-passes test table row f, cc) ] in
+    let found : Option Row = find test (table cpu) in
+    let P : Option Row → Type 0 = λ o. found ≡ o → option_map (λ row. row_instruction row offset bytes) o ≡ Some instr → (row : Row) × IsRow cpu row × (matches row bytes ≡ true) × (row_instruction row offset bytes ≡ instr) in
+    let cases : (o : Option Row) → P o = λ o. elim o as P [ None ↦ λ f h. cc | Some row ↦ λ f h. (row, find-get test (table cpu) row f, find-passes test (table cpu) row f, cc) ] in
     cases found refl e
 
 -- a row that matches gives the instruction
 pub instruction-of_row :
-    (offset : ℕ) (bytes : List ℕ) (row : Row) → IsRow row → matches row bytes ≡ true
-    → instruction_at offset bytes ≡ Some (row_instruction row offset bytes)
+    (cpu : Cpu) (offset : ℕ) (bytes : List ℕ) (row : Row) → IsRow cpu row → matches row bytes ≡ true
+    → instruction_at cpu offset bytes ≡ Some (row_instruction row offset bytes)
 unfolding instruction_at
-instruction-of_row offset bytes row at m = rw (find-row bytes row at m)
+instruction-of_row cpu offset bytes row at m = rw (find-row cpu bytes row at m)
 
 -- an instruction has one to six bytes, all of which are there
 pub instruction-length : InstructionHasOneToSixBytes
-instruction-length offset bytes instr e =
-    let r = instruction-row offset bytes instr e in
-    let bounds = row_length-bounds r.0 bytes (sized-row r.0 r.1) in
+instruction-length cpu offset bytes instr e =
+    let r = instruction-row cpu offset bytes instr e in
+    let bounds = row_length-bounds r.0 bytes (sized-row cpu r.0 r.1) in
     let there : row_length r.0 bytes ≤ length bytes =
     has_bytes-le (row_length r.0 bytes) bytes (and_right (fits r.0.pattern bytes) (has_bytes (row_length r.0 bytes) bytes) r.2) in
     let same : row_length r.0 bytes ≡ instr.len = ap (λ (i : Instr). i.len) r.3 in
@@ -280,7 +310,7 @@ length-same_take n xs ys e h =
     let l = length-take n ys in let k = length-take n xs in let same = ap length e in omega arith
 
 -- what the row that matches some bytes says of others that begin alike
-module _ (row : Row) (xs ys : List ℕ) (is_row : IsRow row) (e : take (row_length row xs) ys ≡ take (row_length row xs) xs) where
+module _ (cpu : Cpu) (row : Row) (xs ys : List ℕ) (is_row : IsRow cpu row) (e : take (row_length row xs) ys ≡ take (row_length row xs) xs) where
   same_bytes : Agree (row_length row xs) xs ys
   same_bytes = agree (row_length row xs) xs ys e
 
@@ -288,11 +318,11 @@ module _ (row : Row) (xs ys : List ℕ) (is_row : IsRow row) (e : take (row_leng
   pattern_length = omega arith
 
   same_opcode : byte_at ys 0 ≡ byte_at xs 0
-  same_opcode = same_bytes 0 (row_length-bounds row xs (sized-row row is_row)).0
+  same_opcode = same_bytes 0 (row_length-bounds row xs (sized-row cpu row is_row)).0
 
   same_modrm : row.has_modrm ≡ true → byte_at ys 1 ≡ byte_at xs 1
   same_modrm h =
-      let s = sized-row row is_row in
+      let s = sized-row cpu row is_row in
       let two : length row.pattern ≡ 2 = grind (arith, nat_tests) in
       same_bytes 1 (omega arith)
 
@@ -321,10 +351,13 @@ module _ (row : Row) (xs ys : List ℕ) (is_row : IsRow row) (e : take (row_leng
       let cases : (b : Bool) → P b = λ b. elim b as P [ true ↦ λ h. with_modrm h | false ↦ λ h. refl ] in
       cases row.has_modrm refl
 
-  same_constant : constant_at row.constant_form ys (length row.pattern + row_displacement_size row ys) ≡ constant_at row.constant_form xs (length row.pattern + row_displacement_size row xs)
+  same_constant :
+      constant_at row.constant_form ys (constant_index row.constant_place (head_length row ys))
+      ≡ constant_at row.constant_form xs (constant_index row.constant_place (head_length row xs))
   same_constant =
       rw same_displacement_size
-      (constant_at-agree row.constant_form (row_length row xs) (length row.pattern + row_displacement_size row xs) xs ys same_bytes (omega arith))
+      (constant_at-agree row.constant_form (row_length row xs) (constant_index row.constant_place (head_length row xs)) xs ys same_bytes
+      (constant-within row.constant_place row.constant_form (length row.pattern) (row_displacement_size row xs) (placed-row cpu row is_row)))
 
   same_parts : (offset : ℕ) → row_parts row offset ys ≡ row_parts row offset xs
   same_parts offset =
@@ -341,14 +374,46 @@ module _ (row : Row) (xs ys : List ℕ) (is_row : IsRow row) (e : take (row_leng
 
 -- an instruction depends on its own bytes alone
 pub instruction-prefix : InstructionDependsOnItsBytes
-instruction-prefix offset xs ys instr e t =
-    let r = instruction-row offset xs instr e in
+instruction-prefix cpu offset xs ys instr e t =
+    let r = instruction-row cpu offset xs instr e in
     let len : row_length r.0 xs ≡ instr.len = ap (λ (i : Instr). i.len) r.3 in
     let t' : take (row_length r.0 xs) ys ≡ take (row_length r.0 xs) xs = rw len t in
-    let there = instruction-of_row offset ys r.0 r.1 (same_matches r.0 xs ys r.1 t' r.2) in
+    let there = instruction-of_row cpu offset ys r.0 r.1 (same_matches cpu r.0 xs ys r.1 t' r.2) in
     let same : row_instruction r.0 offset ys ≡ row_instruction r.0 offset xs =
-    instruction-same (r.0).operation (same_parts r.0 xs ys r.1 t' offset) (same_row_length r.0 xs ys r.1 t') in
+    instruction-same (r.0).operation (same_parts cpu r.0 xs ys r.1 t' offset) (same_row_length cpu r.0 xs ys r.1 t') in
     there ∙ ap Some (same ∙ r.3)
+
+-- Both processors -------------------------------------------------------------------------------
+
+find-front :
+    (test : Row → Bool) (rows more : List Row) (row : Row) → find test rows ≡ Some row → find test (rows ++ more) ≡ Some row
+find-front test [] more row e = cc
+find-front test (r ∷ rows) more row e =
+    let P : Bool → Type 0 = λ b. cond b (Some r) (find test rows) ≡ Some row → cond b (Some r) (find test (rows ++ more)) ≡ Some row in
+    let cases : (b : Bool) → P b = λ b. elim b as P [ true ↦ λ h. h | false ↦ λ h. find-front test rows more row h ] in
+    cases (test r) e
+
+-- the rows of the 8086 stand first among those of the 80186
+both_tables : table I186 ≡ table I8086 ++ later_rows
+unfolding table
+both_tables = refl
+
+-- the 80186 has each instruction of the 8086
+pub later_processor : LaterProcessorHasEachInstruction
+unfolding instruction_at
+later_processor offset bytes instr e =
+    let test : Row → Bool = λ row. matches row bytes in
+    let make : Row → Instr = λ row. row_instruction row offset bytes in
+    let P : Option Row → Type 0 = λ o. find test (table I8086) ≡ o → option_map make o ≡ Some instr
+    → option_map make (find test (table I186)) ≡ Some instr in
+    let cases : (o : Option Row) → P o = λ o. elim o as P [
+      | None ↦ λ f h. cc
+      | Some row ↦ λ f h.
+          let found : find test (table I186) ≡ Some row =
+          ap (find test) both_tables ∙ find-front test (table I8086) later_rows row f in
+          ap (option_map make) found ∙ h
+    ] in
+    cases (find test (table I8086)) refl e
 
 -- One row -------------------------------------------------------------------------------------
 
@@ -379,14 +444,14 @@ at_most_one bytes (r ∷ rows) apart =
 
 -- at most one row of the table matches any bytes
 pub at_most_one_row_matches : AtMostOneRowMatches
-at_most_one_row_matches bytes = at_most_one bytes table rows_apart-table
+at_most_one_row_matches cpu bytes = at_most_one bytes (table cpu) (rows_apart-table cpu)
 
 -- some bytes are an instruction exactly where a row matches them, and then it is that row's
 pub instruction_is_that_of_its_row : InstructionIsThatOfItsRow
-instruction_is_that_of_its_row offset bytes instr = (
-  λ e. let r = instruction-row offset bytes instr e in
+instruction_is_that_of_its_row cpu offset bytes instr = (
+  λ e. let r = instruction-row cpu offset bytes instr e in
       (r.0, r.1, r.2, ap (λ (i : Instr). i.op) (sym r.3), ap (λ (i : Instr). i.len) (sym r.3)),
-  λ r. instruction-of_row offset bytes r.0 r.1 r.2 ∙ ap Some (instruction-parts instr (row_instruction r.0 offset bytes) r.3 r.4),
+  λ r. instruction-of_row cpu offset bytes r.0 r.1 r.2 ∙ ap Some (instruction-parts instr (row_instruction r.0 offset bytes) r.3 r.4),
 )
 
 -- The rows that a form of bytes leaves ----------------------------------------------------------

@@ -11,6 +11,7 @@ use Rattle.dcc_run.specs.System.{after}
 use Rattle.dcc_run.specs.Watched.{IsWatchable, state}
 use Rattle.dcc_run.proofs.PrefixLaws.{prefix_refl}
 use Rattle.dcc_run.proofs.RunLaws.{after-add}
+use Rattle.dcc_prog.specs.declared.cpu.Cpu.{Cpu}
 use Rattle.dcc_prog.specs.declared.image.Image.{Image}
 use Rattle.dcc_prog.specs.declared.procedure.Layout.{Layout}
 use Rattle.dcc_prog.specs.declared.instr.Instr.{Instr}
@@ -37,8 +38,8 @@ module _ (layout : Layout) where
   -- the watch after a step that is made
   abbrev pub moved : Watch → Watch
   moved w = record {
-    machine = step w.machine;
-    stage = stage_after layout (next_instruction w.machine) (step w.machine).ip w.stage;
+    machine = step layout.cpu w.machine;
+    stage = stage_after layout (next_instruction layout.cpu w.machine) (step layout.cpu w.machine).ip w.stage;
   }
 
   -- Watchable.
@@ -47,7 +48,7 @@ module _ (layout : Layout) where
   grows w =
       elim (is_over w.machine.end || is_foul w) as (λ b. IsPrefix w.machine.events (if b then w else moved w).machine.events) [
         | true ↦ prefix_refl w.machine.events
-        | false ↦ machine_lawful.grows w.machine
+        | false ↦ (machine_lawful layout.cpu).grows w.machine
       ]
 
   unmarked : (m : State) (stage : Stage) → is_foul (record { machine = m; stage = stage }) ≡ true → place_of layout (record { machine = m; stage = stage }) ≡ None
@@ -71,10 +72,10 @@ module _ (layout : Layout) where
   watch_moves w running clean =
       ap (λ b. if b || is_foul w then w else moved w) running ∙ ap (λ b. if b then w else moved w) clean
 
-  pub machine_steps : (w : Watch) → is_foul w ≡ false → (watch_step layout w).machine ≡ step w.machine
+  pub machine_steps : (w : Watch) → is_foul w ≡ false → (watch_step layout w).machine ≡ step layout.cpu w.machine
   machine_steps w clean =
-      elim (is_over w.machine.end) as (λ b. is_over w.machine.end ≡ b → (if b || is_foul w then w else moved w).machine ≡ step w.machine) [
-        | true ↦ λ over. sym (machine_lawful.stays w.machine over)
+      elim (is_over w.machine.end) as (λ b. is_over w.machine.end ≡ b → (if b || is_foul w then w else moved w).machine ≡ step layout.cpu w.machine) [
+        | true ↦ λ over. sym ((machine_lawful layout.cpu).stays w.machine over)
         | false ↦ λ running. ap (λ b. (if b then w else moved w).machine) clean
       ] refl
 
@@ -97,7 +98,7 @@ module _ (layout : Layout) where
   clean_step w clean =
       elim (is_over w.machine.end || is_foul w) as (λ b. is_foul (if b then w else moved w) ≡ false) [
         | true ↦ clean
-        | false ↦ goes_clean w.machine (step w.machine) w.stage (next_instruction w.machine) (step w.machine).ip clean
+        | false ↦ goes_clean w.machine (step layout.cpu w.machine) w.stage (next_instruction layout.cpu w.machine) (step layout.cpu w.machine).ip clean
       ]
 
   pub clean_after : (n : ℕ) (w : Watch) → is_foul w ≡ false → is_foul (state (watched_machine layout) n w) ≡ false
@@ -105,20 +106,20 @@ module _ (layout : Layout) where
   clean_after (suc n) w clean = clean_after n (watch_step layout w) (clean_step w clean)
 
   -- so the watched machine is where the machine is
-  pub machine_after : (n : ℕ) (w : Watch) → is_foul w ≡ false → (state (watched_machine layout) n w).machine ≡ after step n w.machine
+  pub machine_after : (n : ℕ) (w : Watch) → is_foul w ≡ false → (state (watched_machine layout) n w).machine ≡ after (step layout.cpu) n w.machine
   machine_after zero w clean = refl
-  machine_after (suc n) w clean = machine_after n (watch_step layout w) (clean_step w clean) ∙ ap (after step n) (machine_steps w clean)
+  machine_after (suc n) w clean = machine_after n (watch_step layout w) (clean_step w clean) ∙ ap (after (step layout.cpu) n) (machine_steps w clean)
 
   -- Stages.
 
   -- an instruction that neither calls nor returns leaves the procedures
-  pub procedures_stay : (w : Watch) (entries : List ℕ) (instr : Instr) → w.stage ≡ InProcedures entries → next_instruction w.machine ≡ Some instr
+  pub procedures_stay : (w : Watch) (entries : List ℕ) (instr : Instr) → w.stage ≡ InProcedures entries → next_instruction layout.cpu w.machine ≡ Some instr
       → procedures_after instr.op entries ≡ entries → (watch_step layout w).stage ≡ InProcedures entries
   procedures_stay w entries instr stage found same =
       elim (is_over w.machine.end || is_foul w) as (λ b. (if b then w else moved w).stage ≡ InProcedures entries) [
         | true ↦ stage
-        | false ↦ ap (λ x. stage_after layout (next_instruction w.machine) (step w.machine).ip x) stage
-            ∙ ap (λ x. stage_after layout x (step w.machine).ip (InProcedures entries)) found
+        | false ↦ ap (λ x. stage_after layout (next_instruction layout.cpu w.machine) (step layout.cpu w.machine).ip x) stage
+            ∙ ap (λ x. stage_after layout x (step layout.cpu w.machine).ip (InProcedures entries)) found
             ∙ ap InProcedures same
       ]
 
@@ -134,16 +135,16 @@ module _ (layout : Layout) where
   enters (Some instr) at stage at_start = refl
   enters (Some instr) at stage in_prelude = refl
 
-  pub prelude_goes : (w : Watch) (at : ℕ) → IsBefore w.stage → is_over w.machine.end ≡ false → (step w.machine).ip ≡ at
+  pub prelude_goes : (w : Watch) (at : ℕ) → IsBefore w.stage → is_over w.machine.end ≡ false → (step layout.cpu w.machine).ip ≡ at
       → (watch_step layout w).stage ≡ (if at == layout.start_ip then InProcedures (layout.start_ip ∷ []) else InPrelude)
   prelude_goes w at before running ip =
       ap (λ (v : Watch). v.stage) (watch_moves w running (before-clean w.machine w.stage before))
-      ∙ enters (next_instruction w.machine) (step w.machine).ip w.stage before
+      ∙ enters (next_instruction layout.cpu w.machine) (step layout.cpu w.machine).ip w.stage before
       ∙ ap (λ a. if a == layout.start_ip then InProcedures (layout.start_ip ∷ []) else InPrelude) ip
 
 -- no step of the programs that are accepted so far is foul
-pub always_clean : (image : Image) (input : List ℕ) (n : ℕ) → IsClean image input n
-always_clean image input n layout has = clean_after layout n (first_watch image input) refl
+pub always_clean : (cpu : Cpu) (image : Image) (input : List ℕ) (n : ℕ) → IsClean cpu image input n
+always_clean cpu image input n layout runs_on has = clean_after layout n (first_watch image input) refl
 
 -- The prelude.
 
@@ -151,16 +152,16 @@ module _ (image : Image) (layout : Layout) (loaded : IsLoaded image) (has : HasL
   abbrev pub watch_at : ℕ → Watch
   watch_at k = state (watched_machine layout) k (first_watch image input)
 
-  pub machine_at : (k : ℕ) → (watch_at k).machine ≡ after step k (start_state image input)
+  pub machine_at : (k : ℕ) → (watch_at k).machine ≡ after (step layout.cpu) k (start_state image input)
   machine_at k = machine_after layout k (first_watch image input) refl
 
   -- the machine within the prelude
-  pub prelude_state : (k : ℕ) → k ≤ length has.prelude → after step k (start_state image input)
-      ≡ at_offset image input (executed (start_state image []) (take k has.prelude)) (offset_in k has.prelude image.ip)
+  pub prelude_state : (k : ℕ) → k ≤ length has.prelude → after (step layout.cpu) k (start_state image input)
+      ≡ at_offset image input (executed layout.cpu (start_state image []) (take k has.prelude)) (offset_in k has.prelude image.ip)
   prelude_state k le =
-      ap (λ n. after step n (start_state image input)) (sym (length-take-le k has.prelude le))
-      ∙ steps-from_start image input (take k has.prelude) loaded (run-taken (code_of image) k has.prelude image.ip has.is_prelude.run)
-      ∙ ap (λ a. at_offset image input (executed (start_state image []) (take k has.prelude)) a) (sym (offset-taken k has.prelude image.ip))
+      ap (λ n. after (step layout.cpu) n (start_state image input)) (sym (length-take-le k has.prelude le))
+      ∙ steps-from_start layout.cpu image input (take k has.prelude) loaded (run-taken layout.cpu (code_of image) k has.prelude image.ip has.is_prelude.run)
+      ∙ ap (λ a. at_offset image input (executed layout.cpu (start_state image []) (take k has.prelude)) a) (sym (offset-taken k has.prelude image.ip))
 
   pub prelude_running : (k : ℕ) → k ≤ length has.prelude → is_over (watch_at k).machine.end ≡ false
   prelude_running k le = ap (λ (s : State). is_over s.end) (machine_at k ∙ prelude_state k le)
@@ -170,10 +171,10 @@ module _ (image : Image) (layout : Layout) (loaded : IsLoaded image) (has : HasL
       let e : suc k ≡ k + 1 = omega arith in
       ap watch_at e ∙ after-add (watch_step layout) k 1 (first_watch image input)
 
-  next-machine : (k : ℕ) → step (watch_at k).machine ≡ after step (suc k) (start_state image input)
+  next-machine : (k : ℕ) → step layout.cpu (watch_at k).machine ≡ after (step layout.cpu) (suc k) (start_state image input)
   next-machine k =
       let e : k + 1 ≡ suc k = omega arith in
-      ap step (machine_at k) ∙ sym (after-add step k 1 (start_state image input)) ∙ ap (λ n. after step n (start_state image input)) e
+      ap (step layout.cpu) (machine_at k) ∙ sym (after-add (step layout.cpu) k 1 (start_state image input)) ∙ ap (λ n. after (step layout.cpu) n (start_state image input)) e
 
   -- after each further step the machine stands at that offset of the prelude, or at its end
   goes-to : (k : ℕ) → suc k ≤ length has.prelude → IsBefore (watch_at k).stage

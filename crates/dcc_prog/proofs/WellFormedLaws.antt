@@ -1,19 +1,25 @@
 -- Every instruction of the table has well-formed operands.
-use Rattle.std.proofs.Common.{◌≡◌, ℕ, zero, suc, ◌+◌, ◌/◌, ◌%◌, ◌<◌, ◌≤◌, true, false, List, [], ◌∷◌, length, get_or, refl, sym, ◌∙◌, ap, subst, arith}
+use Rattle.std.proofs.Common.{◌≡◌, ℕ, zero, suc, ◌+◌, ◌/◌, ◌%◌, ◌<◌, ◌≤◌, Bool, true, false, not, ◌&&◌, List, [], ◌∷◌, ◌++◌, length, get_or, refl, sym, ◌∙◌, ap, subst, arith}
 use Rattle.std.specs.Prelude.{slice_get, IfSome, Option, Some, None, if◌then◌else◌, ◌==◌, nat_le}
 use Rattle.std.proofs.lemmas.Bool.{leb-true}
+use Rattle.std.proofs.lemmas.Bool.Decides.{nat_tests}
 use Rattle.dcc_num.specs.declared.Width.{Width}
 use Rattle.dcc_num.specs.declared.Width.TheVariants.{Byte as byte_width, Word as word_width}
 use Rattle.dcc_num.specs.Numbers.{limit_of, signed_of, sign_extension_of}
 use Rattle.dcc_num.proofs.Differences.{wrapped_below}
+use Rattle.dcc_prog.specs.declared.cpu.Cpu.{Cpu}
+use Rattle.dcc_prog.specs.declared.cpu.Cpu.TheVariants.{I8086, I186}
+use Rattle.dcc_prog.specs.declared.instr.Shift.{Shift}
+use Rattle.dcc_prog.specs.declared.instr.Shift.TheVariants.{Rcl, Rcr}
+use Rattle.dcc_prog.specs.declared.instr.Count.TheVariants.{One, Cl, Const as ConstCount}
 use Rattle.dcc_prog.specs.declared.instr.Operand.{Operand}
 use Rattle.dcc_prog.specs.declared.instr.Operand.TheVariants.{Seg, Mem, Const}
 use Rattle.dcc_prog.specs.declared.instr.Instr.{Instr}
 use Rattle.dcc_prog.specs.Machine.{operand_width}
 use Rattle.dcc_prog.specs.Bytes.{byte_at, word_at}
 use Rattle.dcc_prog.specs.Operands.{register, rm_operand, mod_field, reg_field, address, width_of}
-use Rattle.dcc_prog.specs.Table.{BytePattern, Row, Parts, in_range, fits_byte, fits, has_bytes, ConstantForm, no_constant, byte_constant, word_constant, signed_constant, constant_at, row_displacement_size, row_length, row_parts, row_instruction, table, instruction_at, any_modrm, rm, rm8, rm16, reg, segment, r8, r16, al, ax, accumulator, imm8, imm16, imm, direct, destination, source, this_byte, register_operand}
-use Rattle.dcc_prog.specs.WellFormed.{IsOperand, AreOperands, IsWordOperand, IsOperation}
+use Rattle.dcc_prog.specs.Table.{BytePattern, Row, Parts, in_range, fits_byte, fits, has_bytes, ConstantForm, no_constant, byte_constant, word_constant, signed_constant, constant_at, row_displacement_size, row_length, row_parts, row_instruction, table, instruction_at, any_modrm, rm, rm8, rm16, reg, segment, r8, r16, al, ax, accumulator, imm8, imm16, imm, direct, destination, source, this_byte, register_operand, constant_index, head_length, arithmetic_rows, unary_rows, stack_rows, move_rows, control_rows, plain_rows, later_rows, rows_besides, shift_of, any_operand, between}
+use Rattle.dcc_prog.specs.WellFormed.{IsOperand, AreOperands, IsWordOperand, AreFactors, MayCount, IsShift, IsOperation}
 use Rattle.dcc_prog.proofs.TableLaws.{and_left, and_right, instruction-row}
 
 -- Operands.
@@ -105,228 +111,219 @@ imm_word p w fits =
     let below : p.constant < limit_of (width_of p.opcode) = subst (λ v. p.constant < limit_of v) (sym w) fits in
     const-of (width_of p.opcode) p.constant below
 
-abbrev AllGood : List Row → Type 0
-AllGood [] = Unit {0}
-AllGood (row ∷ rows) = IsGood row × AllGood rows
+infixr 30 ◌&◌
+-- each row of a list is good
+data AllGood : List Row → Type 0 where
+  none_left : AllGood []
+  ◌&◌ : {row : Row} {rows : List Row} → IsGood row → AllGood rows → AllGood (row ∷ rows)
 
 all_good-get : (rows : List Row) (k : ℕ) (row : Row) → AllGood rows → slice_get rows k ≡ Some row → IsGood row
 all_good-get [] k row good at = cc
-all_good-get (r ∷ rows) zero row good at = let same : r ≡ row = cc in subst IsGood same good.0
-all_good-get (r ∷ rows) (suc k) row good at = all_good-get rows k row good.1 at
+all_good-get (r ∷ rows) zero row (first & rest) at = let same : r ≡ row = cc in subst IsGood same first
+all_good-get (r ∷ rows) (suc k) row (first & rest) at = all_good-get rows k row rest at
 
-table-good : AllGood table
+all_good-append : (rows others : List Row) → AllGood rows → AllGood others → AllGood (rows ++ others)
+all_good-append [] others good more = more
+all_good-append (r ∷ rows) others (first & rest) more = first & all_good-append rows others rest more
+
+-- Operands of the rows.
+
+r16_of : (p : Parts) → IsOf word_width (r16 p)
+r16_of p = register-of word_width (p.opcode % 8)
+
+rm16_of : (p : Parts) → IsOf word_width (rm16 p)
+rm16_of p = rm-of word_width p.modrm p.displacement
+
+rm_of : (p : Parts) → IsOf (width_of p.opcode) (rm p)
+rm_of p = rm-of (width_of p.opcode) p.modrm p.displacement
+
+reg_of : (p : Parts) → IsOf (width_of p.opcode) (reg p)
+reg_of p = register-of (width_of p.opcode) (reg_field p.modrm)
+
+accumulator_of : (p : Parts) → IsOf (width_of p.opcode) (accumulator p)
+accumulator_of p = register-of (width_of p.opcode) 0
+
+direct_of : (p : Parts) → IsOf (width_of p.opcode) (direct p)
+direct_of p = memory-of (width_of p.opcode) _
+
+imm16_of : (p : Parts) → p.constant < 65536 → IsOf word_width (imm16 p)
+imm16_of p fits = const-of word_width p.constant fits
+
+-- Shifts and rotates.
+
+may-turn : (operation : Shift) (by_cl : Bool) → MayCount operation (if by_cl then Cl else One)
+may-turn Rcl true = tt
+may-turn Rcl false = tt
+may-turn Rcr true = tt
+may-turn Rcr false = tt
+may-turn operation by_cl = tt
+
+-- all numbers but those of RCL and RCR
+abbrev is_plain_shift : ℕ → Bool
+is_plain_shift number = not (number == 2) && not (number == 3)
+
+may-shift : (number count : ℕ) → number < 8 → is_plain_shift number ≡ true → MayCount (shift_of number) (ConstCount count)
+may-shift zero count below plain = tt
+may-shift (suc zero) count below plain = tt
+may-shift (suc (suc zero)) count below plain = cc
+may-shift (suc (suc (suc zero))) count below plain = cc
+may-shift (suc (suc (suc (suc zero)))) count below plain = tt
+may-shift (suc (suc (suc (suc (suc zero))))) count below plain = tt
+may-shift (suc (suc (suc (suc (suc (suc zero)))))) count below plain = tt
+may-shift (suc (suc (suc (suc (suc (suc (suc zero))))))) count below plain = tt
+may-shift (suc (suc (suc (suc (suc (suc (suc (suc n)))))))) count below plain = absurd (omega (arith, below))
+
+-- by 1 or by CL
+shift-of : (p : Parts) → IsShift (shift_of (reg_field p.modrm)) (rm p) (if p.opcode / 2 % 2 == 1 then Cl else One)
+shift-of p = record {
+  operand = (rm_of p).operand;
+  may = may-turn (shift_of (reg_field p.modrm)) (p.opcode / 2 % 2 == 1);
+}
+
+-- by a constant, where the reg field lies in a range without 2 and 3
+constant_shift-of :
+    (p : Parts) (first last : ℕ) → fits_byte (any_operand first last) p.modrm ≡ true
+    → ((number : ℕ) → first ≤ number → number ≤ last → (number < 8) × (is_plain_shift number ≡ true))
+    → IsShift (shift_of (reg_field p.modrm)) (rm p) (ConstCount p.constant)
+constant_shift-of p first last fits plain =
+    let range : in_range (between first last) (reg_field p.modrm) ≡ true = and_right _ _ (and_left _ _ fits) in
+    let low = leb-true first (reg_field p.modrm) (and_left _ _ range) in
+    let high = leb-true (reg_field p.modrm) last (and_right _ _ range) in
+    let both = plain (reg_field p.modrm) low high in
+    record { operand = (rm_of p).operand; may = may-shift (reg_field p.modrm) p.constant both.0 both.1 }
+
+plain-to_one : (number : ℕ) → 0 ≤ number → number ≤ 1 → (number < 8) × (is_plain_shift number ≡ true)
+plain-to_one number low high = (omega (arith, high), grind (arith, nat_tests))
+
+plain-four_five : (number : ℕ) → 4 ≤ number → number ≤ 5 → (number < 8) × (is_plain_shift number ≡ true)
+plain-four_five number low high = (omega (arith, high), grind (arith, nat_tests))
+
+plain-seven : (number : ℕ) → 7 ≤ number → number ≤ 7 → (number < 8) × (is_plain_shift number ≡ true)
+plain-seven number low high = (omega (arith, high), grind (arith, nat_tests))
+
+factors : (a : Operand) (constant : ℕ) → IsOf word_width a → constant < 65536 → AreFactors a constant
+factors a constant is fits = record { operand = is.operand; width = is.width; fits = fits }
+
+-- The rows.
+
+arithmetic-good : AllGood arithmetic_rows
+arithmetic-good =
+    (λ p c. either_order p)
+    & (λ p c. both_of byte_width al (imm8 p) (register-of byte_width 0) (const-of byte_width p.constant c.constant))
+    & (λ p c. both_of word_width ax (imm16 p) (register-of word_width 0) (const-of word_width p.constant c.constant))
+    & (λ p c. both_of byte_width (rm8 p) (imm8 p) (rm-of byte_width p.modrm p.displacement) (const-of byte_width p.constant c.constant))
+    & (λ p c. both_of word_width (rm16 p) (imm16 p) (rm16_of p) (const-of word_width p.constant c.constant))
+    & (λ p c. both_of word_width (rm16 p) (imm16 p) (rm16_of p) (const-of word_width p.constant c.constant))
+    & (λ p c. both_of (width_of p.opcode) (rm p) (reg p) (rm_of p) (reg_of p))
+    & (λ p c. both_of (width_of p.opcode) (accumulator p) (imm p) (accumulator_of p) (imm_byte p c.constant))
+    & (λ p c. both_of (width_of p.opcode) (accumulator p) (imm p) (accumulator_of p) (imm_word p (ap width_of (opcode-is 0xa9 p.opcode (c.opcode (omega arith)))) c.constant))
+    & (λ p c. both_of (width_of p.opcode) (rm p) (imm p) (rm_of p) (imm_byte p c.constant))
+    & (λ p c. both_of (width_of p.opcode) (rm p) (imm p) (rm_of p) (imm_word p (ap width_of (opcode-is 0xf7 p.opcode (c.opcode (omega arith)))) c.constant))
+    & none_left
+
+unary-good : AllGood unary_rows
+unary-good =
+    (λ p c. (r16_of p).operand)
+    & (λ p c. (r16_of p).operand)
+    & (λ p c. (rm_of p).operand)
+    & (λ p c. (rm_of p).operand)
+    & (λ p c. (rm_of p).operand)
+    & (λ p c. shift-of p)
+    & (λ p c. shift-of p)
+    & (λ p c. shift-of p)
+    & (λ p c. shift-of p)
+    & none_left
+
+stack-good : AllGood stack_rows
+stack-good =
+    (λ p c. word_operand (r16 p) (r16_of p))
+    & (λ p c. word_operand (r16 p) (r16_of p))
+    & (λ p c. word_operand (r16 p) (r16_of p))
+    & (λ p c. word_operand (r16 p) (r16_of p))
+    & (λ p c. word_operand (rm16 p) (rm16_of p))
+    & (λ p c. word_operand (rm16 p) (rm16_of p))
+    & (λ p c. word_operand (rm16 p) (rm16_of p))
+    & (λ p c. word_operand (rm16 p) (rm16_of p))
+    & (λ p c. word_operand (rm16 p) (rm16_of p))
+    & (λ p c. word_operand (rm16 p) (rm16_of p))
+    & none_left
+
+move-good : AllGood move_rows
+move-good =
+    (λ p c. both_of (width_of p.opcode) (rm p) (reg p) (rm_of p) (reg_of p))
+    & (λ p c. both_of word_width ax (r16 p) (register-of word_width 0) (r16_of p))
+    & (λ p c. either_order p)
+    & (λ p c. both_of word_width (rm16 p) (segment p) (rm16_of p) (segment-of (reg_field p.modrm) (segment-below 0 3 (register_operand 0 3) p.modrm refl refl (omega arith) (c.modrm refl (omega arith)))))
+    & (λ p c. both_of word_width (segment p) (rm16 p) (segment-of (reg_field p.modrm) (segment-below 0 0 (register_operand 0 0) p.modrm refl refl (omega arith) (c.modrm refl (omega arith)))) (rm16_of p))
+    & (λ p c. both_of word_width (segment p) (rm16 p) (segment-of (reg_field p.modrm) (segment-below 2 3 (register_operand 2 3) p.modrm refl refl (omega arith) (c.modrm refl (omega arith)))) (rm16_of p))
+    & (λ p c. tt)
+    & (λ p c. both_of (width_of p.opcode) (accumulator p) (direct p) (accumulator_of p) (direct_of p))
+    & (λ p c. both_of (width_of p.opcode) (direct p) (accumulator p) (direct_of p) (accumulator_of p))
+    & (λ p c. both_of byte_width (r8 p) (imm8 p) (register-of byte_width (p.opcode % 8)) (const-of byte_width p.constant c.constant))
+    & (λ p c. both_of word_width (r16 p) (imm16 p) (r16_of p) (const-of word_width p.constant c.constant))
+    & (λ p c. both_of (width_of p.opcode) (rm p) (imm p) (rm_of p) (imm_byte p c.constant))
+    & (λ p c. both_of (width_of p.opcode) (rm p) (imm p) (rm_of p) (imm_word p (ap width_of (opcode-is 0xc7 p.opcode (c.opcode (omega arith)))) c.constant))
+    & none_left
+
+control-good : AllGood control_rows
+control-good =
+    (λ p c. tt)
+    & (λ p c. tt)
+    & (λ p c. tt)
+    & (λ p c. tt)
+    & (λ p c. tt)
+    & (λ p c. tt)
+    & (λ p c. tt)
+    & (λ p c. tt)
+    & (λ p c. tt)
+    & (λ p c. tt)
+    & (λ p c. tt)
+    & (λ p c. tt)
+    & (λ p c. tt)
+    & (λ p c. tt)
+    & (λ p c. tt)
+    & none_left
+
+plain-good : AllGood plain_rows
+plain-good =
+    (λ p c. tt)
+    & (λ p c. tt)
+    & (λ p c. tt)
+    & (λ p c. tt)
+    & (λ p c. tt)
+    & (λ p c. tt)
+    & (λ p c. tt)
+    & (λ p c. tt)
+    & (λ p c. tt)
+    & (λ p c. tt)
+    & none_left
+
+later-good : AllGood later_rows
+later-good =
+    (λ p c. word_operand (imm16 p) (imm16_of p c.constant))
+    & (λ p c. word_operand (imm16 p) (imm16_of p c.constant))
+    & (λ p c. factors (rm16 p) p.constant (rm16_of p) c.constant)
+    & (λ p c. factors (rm16 p) p.constant (rm16_of p) c.constant)
+    & (λ p c. constant_shift-of p 0 1 (c.modrm refl (omega arith)) plain-to_one)
+    & (λ p c. constant_shift-of p 4 5 (c.modrm refl (omega arith)) plain-four_five)
+    & (λ p c. constant_shift-of p 7 7 (c.modrm refl (omega arith)) plain-seven)
+    & (λ p c. tt)
+    & (λ p c. tt)
+    & none_left
+
+besides-good : (cpu : Cpu) → AllGood (rows_besides cpu)
+besides-good I8086 = none_left
+besides-good I186 = later-good
+
+table-good : (cpu : Cpu) → AllGood (table cpu)
 unfolding table
-table-good =
-    let r16_of : (p : Parts) → IsOf word_width (r16 p) = λ p. register-of word_width (p.opcode % 8) in
-    let rm16_of : (p : Parts) → IsOf word_width (rm16 p) = λ p. rm-of word_width p.modrm p.displacement in
-    let rm_of : (p : Parts) → IsOf (width_of p.opcode) (rm p) = λ p. rm-of (width_of p.opcode) p.modrm p.displacement in
-    let reg_of : (p : Parts) → IsOf (width_of p.opcode) (reg p) = λ p. register-of (width_of p.opcode) (reg_field p.modrm) in
-    let accumulator_of : (p : Parts) → IsOf (width_of p.opcode) (accumulator p) = λ p. register-of (width_of p.opcode) 0 in
-    let direct_of : (p : Parts) → IsOf (width_of p.opcode) (direct p) = λ p. memory-of (width_of p.opcode) _ in (
-      λ p c. either_order p,
-      (
-        λ p c. both_of byte_width al (imm8 p) (register-of byte_width 0) (const-of byte_width p.constant c.constant),
-        (
-          λ p c. both_of word_width ax (imm16 p) (register-of word_width 0) (const-of word_width p.constant c.constant),
-          (
-            λ p c. both_of byte_width (rm8 p) (imm8 p) (rm-of byte_width p.modrm p.displacement) (const-of byte_width p.constant c.constant),
-            (
-              λ p c. both_of word_width (rm16 p) (imm16 p) (rm16_of p) (const-of word_width p.constant c.constant),
-              (
-                λ p c. both_of word_width (rm16 p) (imm16 p) (rm16_of p) (const-of word_width p.constant c.constant),
-                (
-                  λ p c. both_of (width_of p.opcode) (rm p) (reg p) (rm_of p) (reg_of p),
-                  (
-                    λ p c. both_of (width_of p.opcode) (accumulator p) (imm p) (accumulator_of p) (imm_byte p c.constant),
-                    (
-                      λ p c. both_of (width_of p.opcode) (accumulator p) (imm p) (accumulator_of p) (imm_word p (ap width_of (opcode-is 0xa9 p.opcode (c.opcode (omega arith)))) c.constant),
-                      (
-                        λ p c. both_of (width_of p.opcode) (rm p) (imm p) (rm_of p) (imm_byte p c.constant),
-                        (
-                          λ p c. both_of (width_of p.opcode) (rm p) (imm p) (rm_of p) (imm_word p (ap width_of (opcode-is 0xf7 p.opcode (c.opcode (omega arith)))) c.constant),
-                          (
-                            λ p c. (r16_of p).operand,
-                            (
-                              λ p c. (r16_of p).operand,
-                              (
-                                λ p c. (rm_of p).operand,
-                                (
-                                  λ p c. (rm_of p).operand,
-                                  (
-                                    λ p c. (rm_of p).operand,
-                                    (
-                                      λ p c. (rm_of p).operand,
-                                      (
-                                        λ p c. (rm_of p).operand,
-                                        (
-                                          λ p c. (rm_of p).operand,
-                                          (
-                                            λ p c. (rm_of p).operand,
-                                            (
-                                              λ p c. word_operand (r16 p) (r16_of p),
-                                              (
-                                                λ p c. word_operand (r16 p) (r16_of p),
-                                                (
-                                                  λ p c. word_operand (r16 p) (r16_of p),
-                                                  (
-                                                    λ p c. word_operand (r16 p) (r16_of p),
-                                                    (
-                                                      λ p c. word_operand (rm16 p) (rm16_of p),
-                                                      (
-                                                        λ p c. word_operand (rm16 p) (rm16_of p),
-                                                        (
-                                                          λ p c. word_operand (rm16 p) (rm16_of p),
-                                                          (
-                                                            λ p c. word_operand (rm16 p) (rm16_of p),
-                                                            (
-                                                              λ p c. word_operand (rm16 p) (rm16_of p),
-                                                              (
-                                                                λ p c. word_operand (rm16 p) (rm16_of p),
-                                                                (
-                                                                  λ p c. both_of (width_of p.opcode) (rm p) (reg p) (rm_of p) (reg_of p),
-                                                                  (
-                                                                    λ p c. both_of word_width ax (r16 p) (register-of word_width 0) (r16_of p),
-                                                                    (
-                                                                      λ p c. either_order p,
-                                                                      (
-                                                                        λ p c. both_of word_width (rm16 p) (segment p) (rm16_of p) (segment-of (reg_field p.modrm) (segment-below 0 3 (register_operand 0 3) p.modrm refl refl (omega arith) (c.modrm refl (omega arith)))),
-                                                                        (
-                                                                          λ p c. both_of word_width (segment p) (rm16 p) (segment-of (reg_field p.modrm) (segment-below 0 0 (register_operand 0 0) p.modrm refl refl (omega arith) (c.modrm refl (omega arith)))) (rm16_of p),
-                                                                          (
-                                                                            λ p c. both_of word_width (segment p) (rm16 p) (segment-of (reg_field p.modrm) (segment-below 2 3 (register_operand 2 3) p.modrm refl refl (omega arith) (c.modrm refl (omega arith)))) (rm16_of p),
-                                                                            (
-                                                                              λ p c. tt,
-                                                                              (
-                                                                                λ p c. both_of (width_of p.opcode) (accumulator p) (direct p) (accumulator_of p) (direct_of p),
-                                                                                (
-                                                                                  λ p c. both_of (width_of p.opcode) (direct p) (accumulator p) (direct_of p) (accumulator_of p),
-                                                                                  (
-                                                                                    λ p c. both_of byte_width (r8 p) (imm8 p) (register-of byte_width (p.opcode % 8)) (const-of byte_width p.constant c.constant),
-                                                                                    (
-                                                                                      λ p c. both_of word_width (r16 p) (imm16 p) (r16_of p) (const-of word_width p.constant c.constant),
-                                                                                      (
-                                                                                        λ p c. both_of (width_of p.opcode) (rm p) (imm p) (rm_of p) (imm_byte p c.constant),
-                                                                                        (
-                                                                                          λ p c. both_of (width_of p.opcode) (rm p) (imm p) (rm_of p) (imm_word p (ap width_of (opcode-is 0xc7 p.opcode (c.opcode (omega arith)))) c.constant),
-                                                                                          (
-                                                                                            λ p c. tt,
-                                                                                            (
-                                                                                              λ p c. tt,
-                                                                                              (
-                                                                                                λ p c. tt,
-                                                                                                (
-                                                                                                  λ p c. tt,
-                                                                                                  (
-                                                                                                    λ p c. tt,
-                                                                                                    (
-                                                                                                      λ p c. tt,
-                                                                                                      (
-                                                                                                        λ p c. tt,
-                                                                                                        (
-                                                                                                          λ p c. tt,
-                                                                                                          (
-                                                                                                            λ p c. tt,
-                                                                                                            (
-                                                                                                              λ p c. tt,
-                                                                                                              (
-                                                                                                                λ p c. tt,
-                                                                                                                (
-                                                                                                                  λ p c. tt,
-                                                                                                                  (
-                                                                                                                    λ p c. tt,
-                                                                                                                    (
-                                                                                                                      λ p c. tt,
-                                                                                                                      (
-                                                                                                                        λ p c. tt,
-                                                                                                                        (
-                                                                                                                          λ p c. tt,
-                                                                                                                          (
-                                                                                                                            λ p c. tt,
-                                                                                                                            (
-                                                                                                                              λ p c. tt,
-                                                                                                                              (
-                                                                                                                                λ p c. tt,
-                                                                                                                                (
-                                                                                                                                  λ p c. tt,
-                                                                                                                                  (
-                                                                                                                                    λ p c. tt,
-                                                                                                                                    (
-                                                                                                                                      λ p c. tt,
-                                                                                                                                      (
-                                                                                                                                        λ p c. tt,
-                                                                                                                                        (
-                                                                                                                                          λ p c. tt,
-                                                                                                                                          (
-                                                                                                                                            λ p c. tt,
-                                                                                                                                            tt,
-                                                                                                                                          ),
-                                                                                                                                        ),
-                                                                                                                                      ),
-                                                                                                                                    ),
-                                                                                                                                  ),
-                                                                                                                                ),
-                                                                                                                              ),
-                                                                                                                            ),
-                                                                                                                          ),
-                                                                                                                        ),
-                                                                                                                      ),
-                                                                                                                    ),
-                                                                                                                  ),
-                                                                                                                ),
-                                                                                                              ),
-                                                                                                            ),
-                                                                                                          ),
-                                                                                                        ),
-                                                                                                      ),
-                                                                                                    ),
-                                                                                                  ),
-                                                                                                ),
-                                                                                              ),
-                                                                                            ),
-                                                                                          ),
-                                                                                        ),
-                                                                                      ),
-                                                                                    ),
-                                                                                  ),
-                                                                                ),
-                                                                              ),
-                                                                            ),
-                                                                          ),
-                                                                        ),
-                                                                      ),
-                                                                    ),
-                                                                  ),
-                                                                ),
-                                                              ),
-                                                            ),
-                                                          ),
-                                                        ),
-                                                      ),
-                                                    ),
-                                                  ),
-                                                ),
-                                              ),
-                                            ),
-                                          ),
-                                        ),
-                                      ),
-                                    ),
-                                  ),
-                                ),
-                              ),
-                            ),
-                          ),
-                        ),
-                      ),
-                    ),
-                  ),
-                ),
-              ),
-            ),
-          ),
-        ),
-      ),
-    )
+table-good cpu =
+    all_good-append arithmetic_rows _ arithmetic-good
+    (all_good-append unary_rows _ unary-good
+    (all_good-append stack_rows _ stack-good
+    (all_good-append move_rows _ move-good
+    (all_good-append control_rows _ control-good
+    (all_good-append plain_rows _ plain-good (besides-good cpu))))))
 
 -- The parts of an instruction.
 
@@ -357,7 +354,7 @@ fits-at (p ∷ ps) (b ∷ bytes) (suc k) h lt = fits-at ps bytes k (and_right _ 
 
 parts-of : (row : Row) (offset : ℕ) (bytes : List ℕ) → AreBytes bytes → fits row.pattern bytes ≡ true → ArePartsOf row (row_parts row offset bytes)
 parts-of row offset bytes bs h = record {
-  constant = constant-fits row.constant_form bytes (length row.pattern + row_displacement_size row bytes) bs;
+  constant = constant-fits row.constant_form bytes (constant_index row.constant_place (head_length row bytes)) bs;
   opcode = λ lt. fits-at row.pattern bytes 0 h lt;
   modrm = λ has lt.
       ap (λ b. fits_byte (get_or row.pattern 1 any_modrm) (if b then byte_at bytes 1 else 0)) has
@@ -365,15 +362,15 @@ parts-of row offset bytes bs h = record {
 }
 
 -- the operation of an instruction of bytes is well formed
-pub instruction-operation : (offset : ℕ) (bytes : List ℕ) (instr : Instr) → AreBytes bytes → instruction_at offset bytes ≡ Some instr → IsOperation instr.op
-instruction-operation offset bytes instr bs e =
-    let found = instruction-row offset bytes instr e in
+pub instruction-operation : (cpu : Cpu) (offset : ℕ) (bytes : List ℕ) (instr : Instr) → AreBytes bytes → instruction_at cpu offset bytes ≡ Some instr → IsOperation instr.op
+instruction-operation cpu offset bytes instr bs e =
+    let found = instruction-row cpu offset bytes instr e in
     let row = found.0 in
-    let good : IsGood row = all_good-get table found.1.0 row table-good found.1.1 in
+    let good : IsGood row = all_good-get (table cpu) found.1.0 row (table-good cpu) found.1.1 in
     let well : IsOperation (row_instruction row offset bytes).op =
     good (row_parts row offset bytes) (parts-of row offset bytes bs (and_left (fits row.pattern bytes) (has_bytes (row_length row bytes) bytes) found.2)) in
     subst (λ (i : Instr). IsOperation i.op) found.3 well
 
-pub found-operation : (offset : ℕ) (bytes : List ℕ) (found : Option Instr) → AreBytes bytes → found ≡ instruction_at offset bytes → IfSome found (λ instr. IsOperation instr.op)
-found-operation offset bytes None bs e = tt
-found-operation offset bytes (Some instr) bs e = instruction-operation offset bytes instr bs (sym e)
+pub found-operation : (cpu : Cpu) (offset : ℕ) (bytes : List ℕ) (found : Option Instr) → AreBytes bytes → found ≡ instruction_at cpu offset bytes → IfSome found (λ instr. IsOperation instr.op)
+found-operation cpu offset bytes None bs e = tt
+found-operation cpu offset bytes (Some instr) bs e = instruction-operation cpu offset bytes instr bs (sym e)

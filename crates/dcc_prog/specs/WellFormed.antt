@@ -1,11 +1,15 @@
 -- What the decoder's operations have in common: constants fit their width, and two operands have one width.
-use Rattle.std.specs.Prelude.{◌≡◌, ◌<◌}
+use Rattle.std.specs.Prelude.{◌≡◌, ℕ, ◌<◌}
 use Rattle.dcc_num.specs.declared.Width.TheVariants.{Word as word_width}
 use Rattle.dcc_num.specs.Numbers.{limit_of}
+use Rattle.dcc_prog.specs.declared.instr.Shift.{Shift}
+use Rattle.dcc_prog.specs.declared.instr.Shift.TheVariants.{Rcl, Rcr}
+use Rattle.dcc_prog.specs.declared.instr.Count.{Count}
+use Rattle.dcc_prog.specs.declared.instr.Count.TheVariants.{Const as ConstCount}
 use Rattle.dcc_prog.specs.declared.instr.Operand.{Operand}
 use Rattle.dcc_prog.specs.declared.instr.Operand.TheVariants.{Word, Byte, Seg, Mem, Const}
 use Rattle.dcc_prog.specs.declared.instr.Op.{Op}
-use Rattle.dcc_prog.specs.declared.instr.Op.TheVariants.{Alu, Unary, Shift, Mov, Xchg, Lea, Imul3, Push, Pop, Enter, Leave, Plain, Jump, Branch, Loop, LoopE, LoopNe, Jcxz, Table, Call, Ret, Int21}
+use Rattle.dcc_prog.specs.declared.instr.Op.TheVariants.{Alu, Unary, Shift as ShiftOp, Mov, Xchg, Lea, Imul3, Push, Pop, Enter, Leave, Plain, Jump, Branch, Loop, LoopE, LoopNe, Jcxz, Table, Call, Ret, Int21}
 use Rattle.dcc_prog.specs.Machine.{operand_width}
 
 -- a constant fits its width, and the number of a segment register is below 4
@@ -27,15 +31,31 @@ pub record IsWordOperand (a : Operand) : Type 0 where
   pub operand : IsOperand a
   pub width : operand_width a ≡ word_width
 
+-- the factors of a product of a word operand and a constant
+pub record AreFactors (a : Operand) (constant : ℕ) : Type 0 where
+  pub operand : IsOperand a
+  pub width : operand_width a ≡ word_width
+  pub fits : constant < 65536
+
+-- RCL and RCR go by 1 alone, never by a constant
+abbrev pub MayCount : Shift → Count → Type 0
+MayCount Rcl (ConstCount number) = ⊥
+MayCount Rcr (ConstCount number) = ⊥
+MayCount operation count = Unit {0}
+
+pub record IsShift (operation : Shift) (a : Operand) (count : Count) : Type 0 where
+  pub operand : IsOperand a
+  pub may : MayCount operation count
+
 -- the operands of an operation are well formed
 abbrev pub IsOperation : Op → Type 0
 IsOperation (Alu operation a b) = AreOperands a b
 IsOperation (Unary operation a) = IsOperand a
-IsOperation (Shift operation a count) = IsOperand a
+IsOperation (ShiftOp operation a count) = IsShift operation a count
 IsOperation (Mov to from) = AreOperands to from
 IsOperation (Xchg a b) = AreOperands a b
 IsOperation (Lea r ea) = Unit {0}
-IsOperation (Imul3 r a constant) = IsWordOperand a
+IsOperation (Imul3 r a constant) = AreFactors a constant
 IsOperation (Push a) = IsWordOperand a
 IsOperation (Pop a) = IsWordOperand a
 IsOperation (Enter count) = Unit {0}
