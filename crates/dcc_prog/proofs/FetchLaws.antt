@@ -120,7 +120,10 @@ take-tabulated (suc len) (suc n) f (x ∷ xs) a b same =
     cc
 
 -- the instruction at the instruction pointer is the one that stands in the code below the end
-pub fetched-instruction : (cpu : Cpu) (image : Image) (end : ℕ) (s : State) (instr : Instr) → IsPlaced image → HoldsCode image end s → instruction_at cpu s.ip (drop s.ip (take end (code_of image))) ≡ Some instr → instruction_at cpu s.ip (code_bytes s) ≡ Some instr
+pub fetched-instruction :
+    (cpu : Cpu) (image : Image) (end : ℕ) (s : State) (instr : Instr) → IsPlaced image → HoldsCode image end s
+    → instruction_at cpu s.ip (drop s.ip (take end (code_of image))) ≡ Some instr
+    → instruction_at cpu s.ip (code_bytes s) ≡ Some instr
 unfolding tabulated
 fetched-instruction cpu image end s instr placed holds found =
     let code = take end (code_of image) in
@@ -139,7 +142,10 @@ fetched-instruction cpu image end s instr placed holds found =
     instruction-prefix cpu s.ip (drop s.ip code) (code_bytes s) instr found same
 
 -- the same of the whole code
-pub fetched-whole : (cpu : Cpu) (image : Image) (s : State) (instr : Instr) → IsPlaced image → HoldsCode image image.code_len s → instruction_at cpu s.ip (drop s.ip (code_of image)) ≡ Some instr → instruction_at cpu s.ip (code_bytes s) ≡ Some instr
+pub fetched-whole :
+    (cpu : Cpu) (image : Image) (s : State) (instr : Instr) → IsPlaced image → HoldsCode image image.code_len s
+    → instruction_at cpu s.ip (drop s.ip (code_of image)) ≡ Some instr
+    → instruction_at cpu s.ip (code_bytes s) ≡ Some instr
 fetched-whole cpu image s instr placed holds found =
     let all : take image.code_len (code_of image) ≡ code_of image =
     take_all image.code_len (code_of image) (let e = length-code_of image placed in omega (arith, e)) in

@@ -15,7 +15,9 @@ use Rattle.dcc_prog.specs.Construct.{LacksLayout}
 use Rattle.dcc_prog.proofs.PreludeLaws.{prelude-of, prelude-once}
 
 -- layouts with the same values are the same
-same-layout : (a b : Layout) → a.cpu ≡ b.cpu → a.ds ≡ b.ds → a.delta ≡ b.delta → a.lo ≡ b.lo → a.hi ≡ b.hi → a.start_ip ≡ b.start_ip → a.code_end ≡ b.code_end → a.regs ≡ b.regs → a.flags ≡ b.flags → a ≡ b
+same-layout :
+    (a b : Layout) → a.cpu ≡ b.cpu → a.ds ≡ b.ds → a.delta ≡ b.delta → a.lo ≡ b.lo → a.hi ≡ b.hi
+    → a.start_ip ≡ b.start_ip → a.code_end ≡ b.code_end → a.regs ≡ b.regs → a.flags ≡ b.flags → a ≡ b
 same-layout a b cpu ds delta lo hi start_ip code_end regs flags =
     let made : Cpu → ℕ → ℕ → ℕ → ℕ → ℕ → ℕ → List ℕ → Flags → Layout =
     λ c i j k l m n r f. record { cpu = c; ds = i; delta = j; lo = k; hi = l; start_ip = m; code_end = n; regs = r; flags = f } in

@@ -59,7 +59,9 @@ end_of-append at [] more = refl
 end_of-append at (i ∷ rest) more = end_of-append (at + i.len) rest more
 
 -- a run is the front of one that can't go on
-run-front : (cpu : Cpu) (code : List ℕ) (at : ℕ) (run whole : List Instr) → IsRun cpu code at run → IsRun cpu code at whole → NoFormAt cpu code (end_of at whole) → (more : List Instr) × (whole ≡ run ++ more)
+run-front :
+    (cpu : Cpu) (code : List ℕ) (at : ℕ) (run whole : List Instr) → IsRun cpu code at run → IsRun cpu code at whole
+    → NoFormAt cpu code (end_of at whole) → (more : List Instr) × (whole ≡ run ++ more)
 run-front cpu code at [] whole r w none = (whole, refl)
 run-front cpu code at (i ∷ rest) [] r w none = absurd (none i r.0)
 run-front cpu code at (i ∷ rest) (j ∷ others) r w none =
@@ -134,7 +136,10 @@ ends-within (f ∷ front) rest (o ∷ other) more e n h =
     omega arith
 
 -- the prelude is the front of a run that can't go on, up to the last instruction after which it may end
-pub prelude-is : (cpu : Cpu) (code : List ℕ) (entry : ℕ) (front rest : List Instr) → IsRun cpu code entry (front ++ rest) → NoFormAt cpu code (end_of entry (front ++ rest)) → ends_prelude front ≡ true → none_ends rest ≡ true → IsPrelude cpu code entry front
+pub prelude-is :
+    (cpu : Cpu) (code : List ℕ) (entry : ℕ) (front rest : List Instr) → IsRun cpu code entry (front ++ rest)
+    → NoFormAt cpu code (end_of entry (front ++ rest)) → ends_prelude front ≡ true → none_ends rest ≡ true
+    → IsPrelude cpu code entry front
 prelude-is cpu code entry front rest run stop ends none = record {
   run = run-of_append cpu code entry front rest run;
   ends = ends;

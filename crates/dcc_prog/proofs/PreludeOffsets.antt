@@ -34,7 +34,9 @@ run-taken cpu code (suc k) [] at r = tt
 run-taken cpu code (suc k) (instr ∷ rest) at r = (r.0, run-taken cpu code k rest (at + instr.len) r.1)
 
 -- each instruction of a run stands at its offset
-pub form-at : (cpu : Cpu) (code : List ℕ) (k : ℕ) (run : List Instr) (at : ℕ) (instr : Instr) → IsRun cpu code at run → slice_get run k ≡ Some instr → IsFormAt cpu code (offset_in k run at) instr
+pub form-at :
+    (cpu : Cpu) (code : List ℕ) (k : ℕ) (run : List Instr) (at : ℕ) (instr : Instr) → IsRun cpu code at run
+    → slice_get run k ≡ Some instr → IsFormAt cpu code (offset_in k run at) instr
 form-at cpu code k [] at instr r e = absurd (cc)
 form-at cpu code zero (first ∷ rest) at instr r e = let same : first ≡ instr = cc in subst (IsFormAt cpu code at) same r.0
 form-at cpu code (suc k) (first ∷ rest) at instr r e = form-at cpu code k rest (at + first.len) instr r.1 e

@@ -102,7 +102,9 @@ executed-push cpu s [] i = refl
 executed-push cpu s (j ∷ rest) i = executed-push cpu (op_step cpu j.op 0 s) rest i
 
 -- a run leaves DS, unless one of its instructions writes it
-pub executed-data : (cpu : Cpu) (code : List ℕ) (at : ℕ) (run : List Instr) (s : State) → IsRun cpu code at run → list_any (λ (i : Instr). writes_ds i.op) run ≡ false → data_segment (executed cpu s run) ≡ data_segment s
+pub executed-data :
+    (cpu : Cpu) (code : List ℕ) (at : ℕ) (run : List Instr) (s : State) → IsRun cpu code at run
+    → list_any (λ (i : Instr). writes_ds i.op) run ≡ false → data_segment (executed cpu s run) ≡ data_segment s
 executed-data cpu code at [] s r idle = refl
 executed-data cpu code at (i ∷ rest) s r idle =
     let parts = or_parts (writes_ds i.op) (list_any (λ (k : Instr). writes_ds k.op) rest) idle in
@@ -119,7 +121,10 @@ abbrev pub at_offset : Image → List ℕ → State → ℕ → State
 at_offset image input r at = with_registers_of r (record (start_state image input) { ip = at % 65536 })
 
 -- one step
-pub step-at : (cpu : Cpu) (image : Image) (input : List ℕ) (r : State) (at : ℕ) (instr : Instr) → IsPlaced image → code_segment r ≡ image.cs → IsFormAt cpu (code_of image) at instr → step cpu (at_offset image input r at) ≡ at_offset image input (op_step cpu instr.op 0 r) (at + instr.len)
+pub step-at :
+    (cpu : Cpu) (image : Image) (input : List ℕ) (r : State) (at : ℕ) (instr : Instr) → IsPlaced image
+    → code_segment r ≡ image.cs → IsFormAt cpu (code_of image) at instr
+    → step cpu (at_offset image input r at) ≡ at_offset image input (op_step cpu instr.op 0 r) (at + instr.len)
 step-at cpu image input r at instr placed cs is =
     let s = at_offset image input r at in
     let inside = form-inside cpu (code_of image) at instr is in
@@ -134,7 +139,10 @@ step-at cpu image input r at instr placed cs is =
     ∙ ap (λ a. at_offset image input (op_step cpu instr.op 0 r) (a + instr.len)) low
 
 -- as many steps as a run has instructions
-pub run-steps : (cpu : Cpu) (image : Image) (input : List ℕ) (r : State) (at : ℕ) (run : List Instr) → IsPlaced image → code_segment r ≡ image.cs → IsRun cpu (code_of image) at run → after (step cpu) (length run) (at_offset image input r at) ≡ at_offset image input (executed cpu r run) (end_of at run)
+pub run-steps :
+    (cpu : Cpu) (image : Image) (input : List ℕ) (r : State) (at : ℕ) (run : List Instr) → IsPlaced image
+    → code_segment r ≡ image.cs → IsRun cpu (code_of image) at run
+    → after (step cpu) (length run) (at_offset image input r at) ≡ at_offset image input (executed cpu r run) (end_of at run)
 run-steps cpu image input r at [] placed cs is = refl
 run-steps cpu image input r at (i ∷ rest) placed cs is =
     ap (λ s. after (step cpu) (length rest) s) (step-at cpu image input r at i placed cs is.0)
@@ -150,11 +158,16 @@ start-at image input loaded =
 
 -- The machine after a run from the entry of a loaded program, whatever the input: its registers and flags are those after
 -- the run's instructions, its instruction pointer is after them, and all else is as at the start.
-pub steps-from_start : (cpu : Cpu) (image : Image) (input : List ℕ) (run : List Instr) → IsLoaded image → IsRun cpu (code_of image) image.ip run → after (step cpu) (length run) (start_state image input) ≡ at_offset image input (executed cpu (start_state image []) run) (end_of image.ip run)
+pub steps-from_start :
+    (cpu : Cpu) (image : Image) (input : List ℕ) (run : List Instr) → IsLoaded image
+    → IsRun cpu (code_of image) image.ip run
+    → after (step cpu) (length run) (start_state image input) ≡ at_offset image input (executed cpu (start_state image []) run) (end_of image.ip run)
 steps-from_start cpu image input run loaded is =
     ap (λ s. after (step cpu) (length run) s) (start-at image input loaded)
     ∙ run-steps cpu image input (start_state image []) image.ip run (image-placed loaded.file image loaded.is_image) refl is
 
-pub state_after-is : (cpu : Cpu) (image : Image) (prelude : List Instr) → IsLoaded image → IsRun cpu (code_of image) image.ip prelude → state_after cpu image prelude ≡ at_offset image [] (executed cpu (start_state image []) prelude) (end_of image.ip prelude)
+pub state_after-is :
+    (cpu : Cpu) (image : Image) (prelude : List Instr) → IsLoaded image → IsRun cpu (code_of image) image.ip prelude
+    → state_after cpu image prelude ≡ at_offset image [] (executed cpu (start_state image []) prelude) (end_of image.ip prelude)
 unfolding state_after
 state_after-is cpu image prelude loaded is = steps-from_start cpu image [] prelude loaded is

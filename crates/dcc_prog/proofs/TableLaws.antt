@@ -341,7 +341,8 @@ module _ (cpu : Cpu) (row : Row) (xs ys : List ℕ) (is_row : IsRow cpu row) (e 
       let cases : (b : Bool) → P b = λ b. elim b as P [ true ↦ λ h. same_modrm h | false ↦ λ h. refl ] in
       cases row.has_modrm refl
 
-  same_displacement : (if row.has_modrm then displacement_at (byte_at ys 1) ys (length row.pattern) else 0) ≡ (if row.has_modrm then displacement_at (byte_at xs 1) xs (length row.pattern) else 0)
+  same_displacement :
+      (if row.has_modrm then displacement_at (byte_at ys 1) ys (length row.pattern) else 0) ≡ (if row.has_modrm then displacement_at (byte_at xs 1) xs (length row.pattern) else 0)
   same_displacement =
       let P : Bool → Type 0 = λ b. row.has_modrm ≡ b → (if b then displacement_at (byte_at ys 1) ys (length row.pattern) else 0) ≡ (if b then displacement_at (byte_at xs 1) xs (length row.pattern) else 0) in
       let with_modrm : row.has_modrm ≡ true → displacement_at (byte_at ys 1) ys (length row.pattern) ≡ displacement_at (byte_at xs 1) xs (length row.pattern) = λ h.

@@ -371,6 +371,8 @@ instruction-operation cpu offset bytes instr bs e =
     good (row_parts row offset bytes) (parts-of row offset bytes bs (and_left (fits row.pattern bytes) (has_bytes (row_length row bytes) bytes) found.2)) in
     subst (λ (i : Instr). IsOperation i.op) found.3 well
 
-pub found-operation : (cpu : Cpu) (offset : ℕ) (bytes : List ℕ) (found : Option Instr) → AreBytes bytes → found ≡ instruction_at cpu offset bytes → IfSome found (λ instr. IsOperation instr.op)
+pub found-operation :
+    (cpu : Cpu) (offset : ℕ) (bytes : List ℕ) (found : Option Instr) → AreBytes bytes
+    → found ≡ instruction_at cpu offset bytes → IfSome found (λ instr. IsOperation instr.op)
 found-operation cpu offset bytes None bs e = tt
 found-operation cpu offset bytes (Some instr) bs e = instruction-operation cpu offset bytes instr bs (sym e)

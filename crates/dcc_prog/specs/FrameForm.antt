@@ -1,5 +1,5 @@
--- The forms in which a procedure may use SP and BP, as far as they don't rest on the height of the stack. Compilers lower
--- SP by SUB, by ADD of a negative number, by DEC and by LEA, and take a frame's address by LEA or from BP.
+-- The forms in which a procedure may use SP and BP, as far as they don't rest on the height of the stack. Compilers
+-- lower SP by SUB, by ADD of a negative number, by DEC and by LEA, and take a frame's address by LEA or from BP.
 use Rattle.std.specs.Prelude.{ℕ, ◌==◌, nat_le, Bool, true, false, not, ◌&&◌, ◌||◌, Option, Some, None, is_some}
 use Rattle.dcc_num.specs.declared.Reg.TheVariants.{Sp, Bp}
 use Rattle.dcc_prog.specs.declared.image.Image.{Image}

@@ -39,8 +39,8 @@ pub data IsRefusedImage (cpu : Cpu) (image : Image) : Type 0 where
   passes_limit : {what : LimitName} {count : ℕ} → PassesLimit cpu image what count → IsRefusedImage cpu image
   reaches_unbuilt : {at : ℕ} → ReachesUnbuilt cpu image at → IsRefusedImage cpu image
 
--- What the search for procedures may tell of a program that it refuses: a construct that trails tell, or a count above its
--- greatest number; where several of these stand, any of them may be told. Want of memory has no cause.
+-- What the search for procedures may tell of a program that it refuses: a construct that trails tell, or a count above
+-- its greatest number; where several of these stand, any of them may be told. Want of memory has no cause.
 pub data IsRefusedByTrails (image : Image) (layout : Layout) : Refusal → Type 0 where
   construct : {kind at : ℕ} → IsOfTrails kind image layout at → IsRefusedByTrails image layout (Construct kind at)
   limit :
@@ -55,8 +55,8 @@ pub record IsAcceptedByTrails (image : Image) (layout : Layout) : Type 0 where
   pub no_limit : (what : LimitName) (count : ℕ) → ¬ IsAbove image layout what count
 
 -- What may be told of a program that is refused on a processor, and in which order. The layout comes first: where none
--- holds of the image, this is told at its entry, and nothing else is. All else is told of the layout that holds: first what
--- trails tell, and only where they refuse nothing an instruction that is reached and not built.
+-- holds of the image, this is told at its entry, and nothing else is. All else is told of the layout that holds: first
+-- what trails tell, and only where they refuse nothing an instruction that is reached and not built.
 pub data IsRefusedFor (cpu : Cpu) (image : Image) : Refusal → Type 0 where
   no_layout : {at : ℕ} → LacksLayout cpu image at → IsRefusedFor cpu image (Construct NO_LAYOUT at)
   by_trails :

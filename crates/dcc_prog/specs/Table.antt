@@ -365,7 +365,7 @@ fixed_row bytes constant operation = record {
   operation = operation;
 }
 
--- a row without a ModRM byte, whose word constant stands directly after the opcode byte, and after which a byte is given
+-- a row without a ModRM byte, whose word constant stands directly after the opcode byte and before a last byte
 abbrev pub closed_row : BytePattern → BytePattern → (Parts → Op) → Row
 closed_row opcode last operation = record {
   pattern = opcode ∷ any_byte ∷ any_byte ∷ last ∷ [];

@@ -116,8 +116,8 @@ number_before_test image layout comparison to (test ∷ compare ∷ rest) =
     else None
 number_before_test image layout comparison to _ = None
 
--- The greatest number that r may hold at an offset, by a trail to it: that of `cmp r,N` and a bounds test, or where r is
--- AX that of `cmp al,N`, a bounds test and `xor ah,ah`.
+-- The greatest number that r may hold at an offset, by a trail to it: that of `cmp r,N` and a bounds test, or where r
+-- is AX that of `cmp al,N`, a bounds test and `xor ah,ah`.
 abbrev pub greatest_in : Image → Layout → Reg → ℕ → List ℕ → Option ℕ
 greatest_in image layout r to [] = None
 greatest_in image layout r to (last ∷ before) =

@@ -63,8 +63,8 @@ watch_step layout w =
       stage = stage_after layout (next_instruction layout.cpu w.machine) next.ip w.stage;
     })
 
--- The place where the run stands: an offset in the procedure of the newest frame. The first instruction counts as one of
--- the entry procedure's, and those that follow it in the prelude are at no place.
+-- The place where the run stands: an offset in the procedure of the newest frame. The first instruction counts as one
+-- of the entry procedure's, and those that follow it in the prelude are at no place.
 abbrev pub place_of : Layout → Watch → Option Place
 place_of layout w = elim w.stage [
   | AtStart ↦ Some (record { entry = layout.start_ip; at = w.machine.ip })
@@ -88,7 +88,7 @@ watched_machine layout = record {
 abbrev pub first_watch : Image → List ℕ → Watch
 first_watch image input = record { machine = start_state image input; stage = AtStart }
 
--- none of the first n steps of the image's run on a processor and an input is foul, or none of those before the run ended
+-- none of the first n steps of the image's run on a processor and an input is foul, or none of those before it ended
 abbrev pub IsClean : Cpu → Image → List ℕ → ℕ → Type 0
 IsClean cpu image input n =
     (layout : Layout) → layout.cpu ≡ cpu → HasLayout image layout

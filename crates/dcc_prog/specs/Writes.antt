@@ -1,5 +1,5 @@
--- Which halves of the word registers and which flags an operation may write (8086 Family User's Manual, table 2-21; iAPX
--- 86/88, 186/188 User's Manual, Programmer's Reference). What it doesn't write stays as it was.
+-- Which halves of the word registers and which flags an operation may write (8086 Family User's Manual, table 2-21;
+-- iAPX 86/88, 186/188 User's Manual, Programmer's Reference). What it doesn't write stays as it was.
 use Rattle.std.specs.Prelude.{◌%◌, ◌==◌, Bool, true, false, not, ◌&&◌, ◌||◌}
 use Rattle.dcc_num.specs.declared.Width.{Width}
 use Rattle.dcc_num.specs.declared.Width.TheVariants.{Byte as byte_width, Word as word_width}
