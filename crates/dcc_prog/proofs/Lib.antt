@@ -17,3 +17,4 @@ pub mod WatchLaws
 mod Examples
 mod DivisionExamples
 mod LayoutExamples
+mod FrameExamples

@@ -13,9 +13,11 @@ pub mod Layout
 pub mod Writes
 pub mod Trail
 pub mod FrameForm
+pub mod Height
 pub mod Prepared
 pub mod Construct
 pub mod Limit
+pub mod Frame
 pub mod Wanted
 pub mod Built
 pub mod Found

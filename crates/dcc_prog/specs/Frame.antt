@@ -1,0 +1,309 @@
+-- The frames of procedures, byte by byte: which bytes are used together, and whose address may be computed. Offsets count
+-- from the frame's base less 4, which is BP's value in a framed procedure: argument j is the word at 4 + 2 * j, the return
+-- address stands at 2, and at height h SP stands at 2 - h.
+use Rattle.std.specs.Prelude.{◌≡◌, ◌≢◌, ◌≤◌, ◌<◌, ◌⊎◌, ℕ, ◌+◌, ◌*◌, ◌/◌, ℤ, pos, ◌+ℤ◌, ◌-ℤ◌, neg_ℤ, ◌<ℤ◌, ◌≤ℤ◌, Bool, true, false, not, ◌&&◌, if◌then◌else◌, Option, Some, None, is_some}
+use Rattle.dcc_num.specs.declared.Width.{Width}
+use Rattle.dcc_num.specs.declared.Width.TheVariants.{Byte as byte_width, Word as word_width}
+use Rattle.dcc_num.specs.declared.Reg.TheVariants.{Sp, Bp}
+use Rattle.dcc_num.specs.Numbers.{signed_of}
+use Rattle.dcc_prog.specs.declared.image.Image.{Image}
+use Rattle.dcc_prog.specs.declared.procedure.Layout.{Layout}
+use Rattle.dcc_prog.specs.declared.instr.Ea.{Ea}
+use Rattle.dcc_prog.specs.declared.instr.Operand.{Operand}
+use Rattle.dcc_prog.specs.declared.instr.Operand.TheVariants.{Word, Mem}
+use Rattle.dcc_prog.specs.declared.instr.Op.{Op}
+use Rattle.dcc_prog.specs.declared.instr.Op.TheVariants.{Alu, Unary, Shift, Mov, Xchg, Lea, Imul3, Push, Pop, Call}
+use Rattle.dcc_prog.specs.Machine.{is_bp}
+use Rattle.dcc_prog.specs.Trail.{StandsAt, IsNode, IsEntry}
+use Rattle.dcc_prog.specs.FrameForm.{is_framed, copies_bp, address_uses_bp}
+use Rattle.dcc_prog.specs.Height.{ReachesRet, HasHeight}
+use Rattle.dcc_prog.specs.Limit.{HasMany}
+
+-- some bytes of a frame: those from the first offset up to the end, which isn't one of them
+pub record Span : Type 0 where
+  pub first : ℤ
+  pub end : ℤ
+
+-- so many bytes from an offset on
+abbrev pub span_of : ℤ → ℕ → Span
+span_of first size = record { first = first; end = first +ℤ pos size }
+
+-- the word at the top of the stack at a height, and the word that a PUSH puts there
+abbrev pub top_of : ℤ → Span
+top_of height = span_of (pos 2 -ℤ height) 2
+
+abbrev pub below_top : ℤ → Span
+below_top height = span_of (neg_ℤ height) 2
+
+-- the word of an argument
+abbrev pub argument_word : ℕ → Span
+argument_word number = span_of (pos (4 + 2 * number)) 2
+
+-- Memory operands.
+
+abbrev pub byte_count : Width → ℕ
+byte_count byte_width = 1
+byte_count word_width = 2
+
+abbrev pub memory_of : Operand → Option (Width × Ea)
+memory_of (Mem width ea) = Some (width, ea)
+memory_of operand = None
+
+-- that of either of two operands, of which one at most lies in memory
+abbrev pub memory_of_two : Operand → Operand → Option (Width × Ea)
+memory_of_two a b = if is_some (memory_of a) then memory_of a else memory_of b
+
+-- the memory operand of an operation; LEA has none
+abbrev pub memory_operand : Op → Option (Width × Ea)
+memory_operand (Alu operation a b) = memory_of_two a b
+memory_operand (Unary operation a) = memory_of a
+memory_operand (Shift operation a count) = memory_of a
+memory_operand (Mov to from) = memory_of_two to from
+memory_operand (Xchg a b) = memory_of_two a b
+memory_operand (Imul3 r a constant) = memory_of a
+memory_operand (Push a) = memory_of a
+memory_operand (Pop a) = memory_of a
+memory_operand op = None
+
+-- BP plus a displacement, without an index
+abbrev pub is_direct : Ea → Bool
+is_direct ea = is_bp ea.base && not (is_some ea.index)
+
+-- the displacement of an address, taken as a signed word
+abbrev pub offset_in_frame : Ea → ℤ
+offset_in_frame ea = signed_of word_width ea.disp
+
+-- What an instruction uses of its procedure's frame.
+
+-- a direct access of a framed procedure: a memory operand at BP plus a displacement
+pub data IsDirectAccess (image : Image) (layout : Layout) (entry at : ℕ) : Span → Type 0 where
+  direct :
+      {op : Op} {width : Width} {ea : Ea}
+      → is_framed image layout entry ≡ true
+      → StandsAt image layout at op
+      → memory_operand op ≡ Some (width, ea)
+      → is_direct ea ≡ true
+      → IsDirectAccess image layout entry at (span_of (offset_in_frame ea) (byte_count width))
+
+-- From this byte on addresses may be computed: by LEA of another register than SP from an address with BP, by an operand
+-- with BP and an index, or by `mov r,bp`, which exposes all bytes between SP and BP.
+pub data StartsExposure (image : Image) (layout : Layout) (entry at : ℕ) : ℤ → Type 0 where
+  by_lea :
+      {r : _} {ea : Ea}
+      → StandsAt image layout at (Lea r ea)
+      → r ≢ Sp
+      → address_uses_bp ea ≡ true
+      → StartsExposure image layout entry at (offset_in_frame ea)
+  by_index :
+      {op : Op} {width : Width} {ea : Ea}
+      → StandsAt image layout at op
+      → memory_operand op ≡ Some (width, ea)
+      → address_uses_bp ea ≡ true
+      → is_direct ea ≡ false
+      → StartsExposure image layout entry at (offset_in_frame ea)
+  by_copy :
+      {op : Op} {height : ℤ}
+      → StandsAt image layout at op
+      → copies_bp op ≡ true
+      → HasHeight image layout entry at height
+      → StartsExposure image layout entry at (pos 2 -ℤ height)
+
+-- `push bp` and `pop bp` of a framed procedure save BP and give it back
+abbrev pub is_saved_bp : Image → Layout → ℕ → Operand → Type 0
+is_saved_bp image layout entry a = (is_framed image layout entry ≡ true) × (a ≡ Word Bp)
+
+-- the word that a PUSH or POP moves, but for the saved BP
+pub data IsMovedWord (image : Image) (layout : Layout) (entry at : ℕ) : Span → Type 0 where
+  pushed :
+      {a : Operand} {height : ℤ}
+      → StandsAt image layout at (Push a)
+      → ¬ is_saved_bp image layout entry a
+      → HasHeight image layout entry at height
+      → IsMovedWord image layout entry at (below_top height)
+  popped :
+      {a : Operand} {height : ℤ}
+      → StandsAt image layout at (Pop a)
+      → ¬ is_saved_bp image layout entry a
+      → HasHeight image layout entry at height
+      → IsMovedWord image layout entry at (top_of height)
+
+-- Arguments.
+
+-- so many argument words have what every RET removes, and every byte from 4 on that a direct access or a start of
+-- exposure touches
+pub record HasRoom (image : Image) (layout : Layout) (entry count : ℕ) : Type 0 where
+  pub removed : (bytes : ℕ) → ReachesRet image layout entry bytes → bytes / 2 ≤ count
+  pub accessed :
+      (at : ℕ) (span : Span) → IsNode image layout entry at → IsDirectAccess image layout entry at span
+      → span.end ≤ℤ pos (4 + 2 * count)
+  pub exposed :
+      (at : ℕ) (start : ℤ) → IsNode image layout entry at → StartsExposure image layout entry at start
+      → start <ℤ pos (4 + 2 * count)
+
+-- the number of a procedure's arguments: the least that has room; the entry procedure has none
+pub data HasArguments (image : Image) (layout : Layout) (entry : ℕ) : ℕ → Type 0 where
+  of_start : entry ≡ layout.start_ip → HasArguments image layout entry 0
+  of_procedure :
+      {count : ℕ}
+      → entry ≢ layout.start_ip
+      → HasRoom image layout entry count
+      → ((other : ℕ) → HasRoom image layout entry other → count ≤ other)
+      → HasArguments image layout entry count
+
+-- how many bytes of its own a frame has at a height: the saved BP isn't counted
+abbrev pub own_bytes : Image → Layout → ℕ → ℤ → ℤ
+own_bytes image layout entry height = if is_framed image layout entry then height -ℤ pos 2 else height
+
+-- the word of the frame that is an argument of a CALL, where the frame has it
+pub data IsPassedWord (image : Image) (layout : Layout) (entry at : ℕ) : Span → Type 0 where
+  passed :
+      {target count number : ℕ} {height : ℤ}
+      → StandsAt image layout at (Call target)
+      → HasHeight image layout entry at height
+      → HasArguments image layout target count
+      → number < count
+      → pos (2 * number + 2) ≤ℤ own_bytes image layout entry height
+      → IsPassedWord image layout entry at (span_of (pos (2 + 2 * number) -ℤ height) 2)
+
+-- Runs and cells.
+
+-- bytes that the instruction at a node uses together
+pub data IsUsed (image : Image) (layout : Layout) (entry at : ℕ) (span : Span) : Type 0 where
+  moved : IsMovedWord image layout entry at span → IsUsed image layout entry at span
+  passed : IsPassedWord image layout entry at span → IsUsed image layout entry at span
+  accessed : IsDirectAccess image layout entry at span → IsUsed image layout entry at span
+
+-- bytes that belong together: those that an instruction uses together, and the word of each argument
+pub data IsPiece (image : Image) (layout : Layout) (entry : ℕ) : Span → Type 0 where
+  used : {at : ℕ} {span : Span} → IsNode image layout entry at → IsUsed image layout entry at span → IsPiece image layout entry span
+  argument :
+      {count number : ℕ}
+      → HasArguments image layout entry count
+      → number < count
+      → IsPiece image layout entry (argument_word number)
+
+-- a piece has bytes on both sides of the offset
+pub record IsCrossed (image : Image) (layout : Layout) (entry : ℕ) (offset : ℤ) : Type 0 where
+  pub span : Span
+  pub piece : IsPiece image layout entry span
+  pub before : span.first <ℤ offset
+  pub after : offset <ℤ span.end
+
+-- a run: pieces that overlap, joined; it has a piece, each offset within it is crossed, and none of its ends is
+pub record IsRun (image : Image) (layout : Layout) (entry : ℕ) (run : Span) : Type 0 where
+  pub span : Span
+  pub piece : IsPiece image layout entry span
+  pub begins : span.first ≡ run.first
+  pub ends : run.first <ℤ run.end
+  pub joined : (offset : ℤ) → run.first <ℤ offset → offset <ℤ run.end → IsCrossed image layout entry offset
+  pub apart_before : ¬ IsCrossed image layout entry run.first
+  pub apart_after : ¬ IsCrossed image layout entry run.end
+
+-- a run of at most two bytes is a cell
+pub record IsCell (image : Image) (layout : Layout) (entry : ℕ) (cell : Span) : Type 0 where
+  pub run : IsRun image layout entry cell
+  pub small : cell.end ≤ℤ (cell.first +ℤ pos 2)
+
+-- a longer one isn't
+pub record IsLongRun (image : Image) (layout : Layout) (entry : ℕ) (run : Span) : Type 0 where
+  pub is_run : IsRun image layout entry run
+  pub long : (run.first +ℤ pos 2) <ℤ run.end
+
+-- Exposure.
+
+-- the address of bytes from this one on may be computed: an instruction starts it, or a run of more than two bytes does
+pub data IsExposureStart (image : Image) (layout : Layout) (entry : ℕ) : ℤ → Type 0 where
+  by_instruction :
+      {at : ℕ} {start : ℤ}
+      → IsNode image layout entry at
+      → StartsExposure image layout entry at start
+      → IsExposureStart image layout entry start
+  by_run : {run : Span} → IsLongRun image layout entry run → IsExposureStart image layout entry run.first
+
+-- so many bytes directly below BP are exposed: from the least start below BP on
+pub data HasExposedLocal (image : Image) (layout : Layout) (entry : ℕ) : ℕ → Type 0 where
+  no_local : ((start : ℤ) → IsExposureStart image layout entry start → pos 0 ≤ℤ start) → HasExposedLocal image layout entry 0
+  local :
+      {count : ℕ}
+      → 0 < count
+      → IsExposureStart image layout entry (neg_ℤ (pos count))
+      → ((start : ℤ) → IsExposureStart image layout entry start → neg_ℤ (pos count) ≤ℤ start)
+      → HasExposedLocal image layout entry count
+
+-- the arguments' bytes are exposed from the least start of 4 or more on
+pub data HasExposedArguments (image : Image) (layout : Layout) (entry : ℕ) : Option ℕ → Type 0 where
+  no_argument :
+      ((start : ℤ) → IsExposureStart image layout entry start → start <ℤ pos 4)
+      → HasExposedArguments image layout entry None
+  from_argument :
+      {least : ℕ}
+      → 4 ≤ least
+      → IsExposureStart image layout entry (pos least)
+      → ((start : ℤ) → IsExposureStart image layout entry start → pos 4 ≤ℤ start → pos least ≤ℤ start)
+      → HasExposedArguments image layout entry (Some least)
+
+-- Kind 7.
+
+-- the bytes aren't wholly in the arguments, and at a height not wholly between SP and BP
+pub record IsOutsideFrame (image : Image) (layout : Layout) (entry : ℕ) (height : ℤ) (span : Span) : Type 0 where
+  pub count : ℕ
+  pub arguments : HasArguments image layout entry count
+  pub no_argument : ¬ ((pos 4 ≤ℤ span.first) × (span.end ≤ℤ pos (4 + 2 * count)))
+  pub no_local : ¬ (((pos 2 -ℤ height) ≤ℤ span.first) × (span.end ≤ℤ pos 0))
+
+-- addresses of the frame can't be told in the data segment: the stack lies apart from it, or the procedure sets up no BP
+abbrev pub LacksAddresses : Image → Layout → ℕ → Type 0
+LacksAddresses image layout entry = (layout.delta ≢ 0) ⊎ (is_framed image layout entry ≡ false)
+
+pub data HasBadAccess (image : Image) (layout : Layout) (entry at : ℕ) : Type 0 where
+  access_outside :
+      {span : Span} {height : ℤ}
+      → IsDirectAccess image layout entry at span
+      → HasHeight image layout entry at height
+      → IsOutsideFrame image layout entry height span
+      → HasBadAccess image layout entry at
+  start_outside :
+      {start height : ℤ}
+      → StartsExposure image layout entry at start
+      → HasHeight image layout entry at height
+      → IsOutsideFrame image layout entry height (span_of start 1)
+      → HasBadAccess image layout entry at
+  no_addresses :
+      {start : ℤ}
+      → LacksAddresses image layout entry
+      → StartsExposure image layout entry at start
+      → HasBadAccess image layout entry at
+  long_without_addresses :
+      {span run : Span}
+      → LacksAddresses image layout entry
+      → IsUsed image layout entry at span
+      → IsLongRun image layout entry run
+      → run.first ≤ℤ span.first
+      → span.end ≤ℤ run.end
+      → HasBadAccess image layout entry at
+
+-- Kind 8.
+
+-- a CALL finds fewer bytes of its own frame than the callee's arguments take
+pub record IsShortCall (image : Image) (layout : Layout) (entry at : ℕ) : Type 0 where
+  pub target : ℕ
+  pub stands : StandsAt image layout at (Call target)
+  pub count : ℕ
+  pub arguments : HasArguments image layout target count
+  pub height : ℤ
+  pub has : HasHeight image layout entry at height
+  pub short : own_bytes image layout entry height <ℤ pos (2 * count)
+
+-- Limits.
+
+-- a procedure that is reached has more than 512 cells, or this many arguments, which are more than 32
+pub record HasManyCells (image : Image) (layout : Layout) : Type 0 where
+  pub entry : ℕ
+  pub is_entry : IsEntry image layout entry
+  pub many : HasMany (IsCell image layout entry) 513
+
+pub record HasManyArguments (image : Image) (layout : Layout) (count : ℕ) : Type 0 where
+  pub entry : ℕ
+  pub is_entry : IsEntry image layout entry
+  pub arguments : HasArguments image layout entry count
+  pub many : 32 < count
