@@ -10,12 +10,15 @@ ROOT = pathlib.Path(__file__).resolve().parent.parent
 SECONDS = 3000
 
 
-def tried(folder, name, source, dependencies, paths, heads):
+def tried(folder, name, source, dependencies, paths, heads, added=None):
     """The lines that begin with one of the heads, of which the program prints one for each path.
 
-    The crates are copied into the folder, and the program is a crate of this name beside them."""
+    The crates are copied into the folder, and the program is a crate of this name beside them. What is to be added to
+    files of the copied crates stands by their paths."""
     crates = folder / "crates"
     shutil.copytree(ROOT / "crates", crates, ignore=shutil.ignore_patterns("out"))
+    for path, text in (added or {}).items():
+        (crates / path).write_text((crates / path).read_text() + text)
     sources = crates / name / "src"
     sources.mkdir(parents=True)
     (sources / "main.rt").write_text(source)

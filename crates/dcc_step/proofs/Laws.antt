@@ -6,7 +6,7 @@ use Rattle.dcc_step.specs.Stepped.{machine}
 
 pub machine_executes : IsLawfulExecutor machine
 machine_executes = record {
-  lawful = λ w. machine_lawful;
-  left_is = λ w input s. refl;
-  stands_with = λ w input core s stands. stands;
+  lawful = λ cpu. machine_lawful cpu;
+  left_is = λ cpu input s. refl;
+  stands_with = λ cpu input core s stands. stands;
 }

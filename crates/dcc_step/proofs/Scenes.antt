@@ -10,6 +10,7 @@ use Rattle.dcc_num.specs.declared.Reg.TheVariants.{Ax}
 use Rattle.dcc_num.specs.declared.Half.TheVariants.{High}
 use Rattle.dcc_io.specs.Told.{append_told, prepend_told, AppendsProperPrefix}
 use Rattle.dcc_io.proofs.ToldLemmas.{append_told-nil, prepend_told-nil}
+use Rattle.dcc_prog.specs.declared.cpu.Cpu.{Cpu}
 use Rattle.dcc_prog.specs.Machine.{State, word_in, half_of_word}
 use Rattle.dcc_prog.specs.Operations.{with_end, with_al}
 use Rattle.dcc_prog.specs.Dos.{bytes_from, dos_string, key_step, dos_step, dos_call}
@@ -19,7 +20,7 @@ use Rattle.dcc_console.specs.Key.{key_events, TakesKey, next_byte, no_byte, IsRe
 use Rattle.dcc_console.specs.Scene.{Scene, scene, told_bytes}
 use Rattle.dcc_console.specs.Steps.{Comes, Makes, IsRefusedWrite, Steps, refusal_of}
 use Rattle.dcc_console.proofs.KeyLaws.{key-taken}
-use Rattle.dcc_step.specs.Core.{Core, with_console, core_of, state_of}
+use Rattle.dcc_step.specs.Core.{Core, with_console, core_of, state_of, changed_by}
 use Rattle.dcc_step.specs.Stepped.{machine_by}
 
 -- what follows for a call that answers
@@ -28,85 +29,91 @@ on_ok (Ok t) f p = f p
 on_ok (Err e) f p = p
 
 -- what an operation does to a state, from what it does to the machine beside the state's console
-done_beside : (operation : State → State) (old : Core) (s : State) (input : List ℕ) → core_of s ≡ old → s.input ≡ input
-    → operation s ≡ operation (with_console old input s.events)
-done_beside operation old s input stands has =
-    ap (λ (c : Core). operation (with_console c s.input s.events)) stands ∙ ap (λ i. operation (with_console old i s.events)) has
+done_beside : (operation : Cpu → State → State) (cpu : Cpu) (old : Core) (s : State) (input : List ℕ) → core_of cpu s ≡ old → s.input ≡ input
+    → operation cpu s ≡ operation old.cpu (with_console old input s.events)
+done_beside operation cpu old s input stands has =
+    ap (λ (c : Core). operation c.cpu (with_console c s.input s.events)) stands ∙ ap (λ i. operation old.cpu (with_console old i s.events)) has
 
 -- where that is one equation
-comes_by : (operation : State → State) (old new : Core) (given rest : List ℕ) (happened : List Event)
-    → ((events : List Event) → operation (with_console old (given ++ rest) events) ≡ with_console new rest (events ++ happened))
-    → (s : State) → core_of s ≡ old → s.input ≡ given ++ rest
-    → Comes (machine_by operation) tt new rest (s.events ++ happened) (operation s)
-comes_by operation old new given rest happened is s stands has =
-    let there : operation s ≡ with_console new rest (s.events ++ happened) =
-    done_beside operation old s (given ++ rest) stands has ∙ is s.events in
-    record { stands = ap core_of there; left = ap (λ (t : State). t.input) there; events = ap (λ (t : State). t.events) there }
+comes_by : (operation : Cpu → State → State) (old new : Core) (given rest : List ℕ) (happened : List Event) → new.cpu ≡ old.cpu
+    → ((events : List Event) → operation old.cpu (with_console old (given ++ rest) events) ≡ with_console new rest (events ++ happened))
+    → (cpu : Cpu) (s : State) → core_of cpu s ≡ old → s.input ≡ given ++ rest
+    → Comes (machine_by operation) cpu new rest (s.events ++ happened) (operation cpu s)
+comes_by operation old new given rest happened kept is cpu s stands has =
+    let there : operation cpu s ≡ with_console new rest (s.events ++ happened) =
+    done_beside operation cpu old s (given ++ rest) stands has ∙ is s.events in
+    let same : cpu ≡ new.cpu = ap (λ (c : Core). c.cpu) stands ∙ sym kept in
+    record {
+      stands = ap (core_of cpu) there ∙ ap (λ (c : Cpu). record new { cpu = c }) same;
+      left = ap (λ (t : State). t.input) there;
+      events = ap (λ (t : State). t.events) there;
+    }
 
 -- an operation that does the same beside any console, and leaves that
-pub made_quiet : (operation : State → State) (old new : Core) (left taken : Option (List ℕ))
-    → ((input : List ℕ) (events : List Event) → operation (with_console old input events) ≡ with_console new input events)
+pub made_quiet : (operation : Cpu → State → State) (old new : Core) (left taken : Option (List ℕ)) → new.cpu ≡ old.cpu
+    → ((input : List ℕ) (events : List Event) → operation old.cpu (with_console old input events) ≡ with_console new input events)
     → Makes (machine_by operation) (scene old left taken) (scene new left taken)
-made_quiet operation old new left taken is = record {
+made_quiet operation old new left taken kept is = record {
   happened = [];
   took = sym (prepend_told-nil left);
   wrote = sym (append_told-nil taken);
   made = λ w s stands has.
-      comes_by operation old new [] (told_bytes left) []
-      (λ events. is (told_bytes left) events ∙ ap (λ (e : List Event). with_console new (told_bytes left) e) (sym (append-nil events))) s stands has;
+      comes_by operation old new [] (told_bytes left) [] kept
+      (λ events. is (told_bytes left) events ∙ ap (λ (e : List Event). with_console new (told_bytes left) e) (sym (append-nil events))) w s stands has;
 }
 
 -- an operation that does, from one machine, what another does from another machine
-pub made_as : (f g : State → State) (from old : Core) (left taken : Option (List ℕ)) (now : Scene Core)
-    → ((input : List ℕ) (events : List Event) → g (with_console from input events) ≡ f (with_console old input events))
+pub made_as : (f g : Cpu → State → State) (from old : Core) (left taken : Option (List ℕ)) (now : Scene Core) → old.cpu ≡ from.cpu
+    → ((input : List ℕ) (events : List Event) → g from.cpu (with_console from input events) ≡ f old.cpu (with_console old input events))
     → Makes (machine_by f) (scene old left taken) now → Makes (machine_by g) (scene from left taken) now
-made_as f g from old left taken now same made = record {
+made_as f g from old left taken now kept same made = record {
   happened = made.happened;
   took = made.took;
   wrote = made.wrote;
   made = λ w s stands has.
-      let is : g s ≡ f (with_console old s.input s.events) = done_beside g from s s.input stands refl ∙ same s.input s.events in
-      let comes = made.made w (with_console old s.input s.events) refl has in
+      let is : g w s ≡ f old.cpu (with_console old s.input s.events) = done_beside g w from s s.input stands refl ∙ same s.input s.events in
+      let cpu : w ≡ old.cpu = ap (λ (c : Core). c.cpu) stands ∙ sym kept in
+      let comes = made.made old.cpu (with_console old s.input s.events) refl has in
       record {
-        stands = ap core_of is ∙ comes.stands;
+        stands = ap (core_of w) is ∙ ap (λ c. core_of c (f old.cpu (with_console old s.input s.events))) cpu ∙ comes.stands;
         left = ap (λ (t : State). t.input) is ∙ comes.left;
         events = ap (λ (t : State). t.events) is ∙ comes.events;
       };
 }
 
 -- the same where it is refused: the machine is then as it was before
-pub refused_as : (f g : State → State) (fault : Fault) (from old new : Core) (left taken left_now taken_now : Option (List ℕ))
-    → ((input : List ℕ) (events : List Event) → g (with_console from input events) ≡ f (with_console old input events))
+pub refused_as : (f g : Cpu → State → State) (fault : Fault) (from old new : Core) (left taken left_now taken_now : Option (List ℕ))
+    → ((input : List ℕ) (events : List Event) → g from.cpu (with_console from input events) ≡ f old.cpu (with_console old input events))
     → Steps (machine_by f) (refusal_of fault) (scene old left taken) (scene new left_now taken_now)
     → Steps (machine_by g) (refusal_of fault) (scene from left taken) (scene from left_now taken_now)
 refused_as f g Input from old new left taken left_now taken_now same refused = record {
   takes = λ w s byte rest stands has.
-      ap (λ (t : State). t.input) (done_beside g from s s.input stands refl ∙ same s.input s.events)
-      ∙ refused.takes w (with_console old s.input s.events) byte rest refl has;
+      ap (λ (t : State). t.input) (done_beside g w from s s.input stands refl ∙ same s.input s.events)
+      ∙ refused.takes old.cpu (with_console old s.input s.events) byte rest refl has;
   unchanged = ap (λ (v : Scene Core). scene from v.left v.taken) refused.unchanged;
 }
 refused_as f g Output from old new left taken left_now taken_now same refused = record {
   happened = refused.happened;
   takes = λ w s rest stands has.
-      ap (λ (t : State). t.input) (done_beside g from s s.input stands refl ∙ same s.input s.events)
-      ∙ refused.takes w (with_console old s.input s.events) rest refl has;
+      ap (λ (t : State). t.input) (done_beside g w from s s.input stands refl ∙ same s.input s.events)
+      ∙ refused.takes old.cpu (with_console old s.input s.events) rest refl has;
   happens = λ w s rest stands has.
-      ap (λ (t : State). t.events) (done_beside g from s s.input stands refl ∙ same s.input s.events)
-      ∙ refused.happens w (with_console old s.input s.events) rest refl has;
+      ap (λ (t : State). t.events) (done_beside g w from s s.input stands refl ∙ same s.input s.events)
+      ∙ refused.happens old.cpu (with_console old s.input s.events) rest refl has;
   unchanged = refl;
   took = refused.took;
   part = refused.part;
 }
 
 -- a refused operation leaves the machine
-pub refused_core : (f : State → State) (fault : Fault) (old new : Core) (left taken left_now taken_now : Option (List ℕ))
+pub refused_core : (f : Cpu → State → State) (fault : Fault) (old new : Core) (left taken left_now taken_now : Option (List ℕ))
     → Steps (machine_by f) (refusal_of fault) (scene old left taken) (scene new left_now taken_now) → new ≡ old
 refused_core f Input old new left taken left_now taken_now refused = ap (λ (v : Scene Core). v.code) refused.unchanged
 refused_core f Output old new left taken left_now taken_now refused = refused.unchanged
 
 -- the same from one machine, where the other operation left it
-pub refused_here : (f g : State → State) (fault : Fault) (old new : Core) (left taken left_now taken_now : Option (List ℕ))
-    → ((input : List ℕ) (events : List Event) → g (with_console old input events) ≡ f (with_console old input events))
+pub refused_here : (f g : Cpu → State → State) (fault : Fault) (old new : Core) (left taken left_now taken_now : Option (List ℕ))
+    → ((input : List ℕ) (events : List Event) → g old.cpu (with_console old input events) ≡ f old.cpu (with_console old input events))
     → Steps (machine_by f) (refusal_of fault) (scene old left taken) (scene new left_now taken_now)
     → Steps (machine_by g) (refusal_of fault) (scene old left taken) (scene new left_now taken_now)
 refused_here f g fault old new left taken left_now taken_now same refused =
@@ -119,8 +126,8 @@ untaken : (bytes : List ℕ) (left : Option (List ℕ)) → left ≡ prepend_tol
 untaken bytes left = sym (prepend_told-nil left) ∙ ap (λ l. prepend_told l left) (sym (taken-writes bytes))
 
 -- an operation that only writes some bytes
-pub made_writing : (operation : State → State) (m : Core) (bytes : List ℕ) (left taken taken_now : Option (List ℕ))
-    → ((input : List ℕ) (events : List Event) → operation (with_console m input events) ≡ with_console m input (events ++ writes bytes))
+pub made_writing : (operation : Cpu → State → State) (m : Core) (bytes : List ℕ) (left taken taken_now : Option (List ℕ))
+    → ((input : List ℕ) (events : List Event) → operation m.cpu (with_console m input events) ≡ with_console m input (events ++ writes bytes))
     → taken_now ≡ append_told taken bytes
     → Makes (machine_by operation) (scene m left taken) (scene m left taken_now)
 made_writing operation m bytes left taken taken_now is wrote = record {
@@ -128,19 +135,19 @@ made_writing operation m bytes left taken taken_now is wrote = record {
   took = untaken bytes left;
   wrote = wrote ∙ ap (append_told taken) (sym (written-writes bytes));
   made = λ w s stands has.
-      comes_by operation m m [] (told_bytes left) (writes bytes) (is (told_bytes left)) s stands (has ∙ ap (λ l. l ++ told_bytes left) (taken-writes bytes));
+      comes_by operation m m [] (told_bytes left) (writes bytes) refl (is (told_bytes left)) w s stands (has ∙ ap (λ l. l ++ told_bytes left) (taken-writes bytes));
 }
 
-pub refused_writing : (operation : State → State) (m : Core) (bytes : List ℕ) (left taken taken_now : Option (List ℕ))
-    → ((input : List ℕ) (events : List Event) → operation (with_console m input events) ≡ with_console m input (events ++ writes bytes))
+pub refused_writing : (operation : Cpu → State → State) (m : Core) (bytes : List ℕ) (left taken taken_now : Option (List ℕ))
+    → ((input : List ℕ) (events : List Event) → operation m.cpu (with_console m input events) ≡ with_console m input (events ++ writes bytes))
     → AppendsProperPrefix taken taken_now bytes
     → IsRefusedWrite (machine_by operation) (scene m left taken) (scene m left taken_now)
 refused_writing operation m bytes left taken taken_now is part = record {
   happened = writes bytes;
   takes = λ w s rest stands has.
-      (comes_by operation m m [] rest (writes bytes) (is rest) s stands (has ∙ ap (λ l. l ++ rest) (taken-writes bytes))).left;
+      (comes_by operation m m [] rest (writes bytes) refl (is rest) w s stands (has ∙ ap (λ l. l ++ rest) (taken-writes bytes))).left;
   happens = λ w s rest stands has.
-      (comes_by operation m m [] rest (writes bytes) (is rest) s stands (has ∙ ap (λ l. l ++ rest) (taken-writes bytes))).events;
+      (comes_by operation m m [] rest (writes bytes) refl (is rest) w s stands (has ∙ ap (λ l. l ++ rest) (taken-writes bytes))).events;
   unchanged = refl;
   took = untaken bytes left;
   part = subst (AppendsProperPrefix taken taken_now) (sym (written-writes bytes)) part;
@@ -148,15 +155,15 @@ refused_writing operation m bytes left taken taken_now is part = record {
 
 -- a key was taken into AL
 pub key_made : (echo : Bool) (m new : Core) (key : ℕ) (left taken left_now taken_now : Option (List ℕ))
-    → TakesKey echo left taken left_now taken_now key → new ≡ core_of (with_al key (state_of m))
-    → Makes (machine_by (key_step echo)) (scene m left taken) (scene new left_now taken_now)
+    → TakesKey echo left taken left_now taken_now key → new ≡ changed_by (with_al key) m
+    → Makes (machine_by (λ cpu. key_step echo)) (scene m left taken) (scene new left_now taken_now)
 key_made echo m new key left taken left_now taken_now (next_byte took wrote) is = record {
   happened = key_events echo key;
   took = took;
   wrote = wrote;
   made = λ w s stands has.
-      comes_by (key_step echo) m new (key ∷ []) (told_bytes left_now) (key_events echo key)
-      (λ events. ap (λ (c : Core). with_console c (told_bytes left_now) (events ++ key_events echo key)) (sym is)) s stands
+      comes_by (λ cpu. key_step echo) m new (key ∷ []) (told_bytes left_now) (key_events echo key) (ap (λ (c : Core). c.cpu) is)
+      (λ events. ap (λ (c : Core). with_console c (told_bytes left_now) (events ++ key_events echo key)) (sym is)) w s stands
       (has ∙ ap (λ l. l ++ told_bytes left_now) (key-taken echo key));
 }
 key_made echo m new _ left taken left_now taken_now (no_byte none took wrote) is = record {
@@ -164,29 +171,29 @@ key_made echo m new _ left taken left_now taken_now (no_byte none took wrote) is
   took = took;
   wrote = wrote;
   made = λ w s stands has.
-      comes_by (key_step echo) m new [] (told_bytes left_now) (MetEnd ∷ [])
+      comes_by (λ cpu. key_step echo) m new [] (told_bytes left_now) (MetEnd ∷ []) (ap (λ (c : Core). c.cpu) is)
       (λ events.
       ap (λ (l : List ℕ). key_step echo (with_console m l events)) none
       ∙ ap (λ (c : Core). with_console c [] (events ++ MetEnd ∷ [])) (sym is)
-      ∙ ap (λ (l : List ℕ). with_console new l (events ++ MetEnd ∷ [])) (sym none)) s stands has;
+      ∙ ap (λ (l : List ℕ). with_console new l (events ++ MetEnd ∷ [])) (sym none)) w s stands has;
 }
 
 -- a key was not taken, or not wholly written
 pub key_refused : (echo : Bool) (m : Core) (fault : Fault) (left taken left_now taken_now : Option (List ℕ))
     → IsRefusedKey echo left taken left_now taken_now fault
-    → Steps (machine_by (key_step echo)) (refusal_of fault) (scene m left taken) (scene m left_now taken_now)
+    → Steps (machine_by (λ cpu. key_step echo)) (refusal_of fault) (scene m left taken) (scene m left_now taken_now)
 key_refused echo m Input left taken left_now taken_now refused = record {
-  takes = λ w s byte rest stands has. ap (λ (t : State). t.input) (done_beside (key_step echo) m s (byte ∷ rest) stands has);
+  takes = λ w s byte rest stands has. ap (λ (t : State). t.input) (done_beside (λ cpu. key_step echo) w m s (byte ∷ rest) stands has);
   unchanged = ap (λ l. scene m l taken_now) refused.same_left ∙ ap (scene m left) refused.same_taken;
 }
 key_refused echo m Output left taken left_now taken_now refused = record {
   happened = key_events echo refused.byte;
   takes = λ w s rest stands has.
       let first : s.input ≡ refused.byte ∷ rest = has ∙ ap (λ l. l ++ rest) (key-taken echo refused.byte) in
-      ap (λ (t : State). t.input) (done_beside (key_step echo) m s (refused.byte ∷ rest) stands first);
+      ap (λ (t : State). t.input) (done_beside (λ cpu. key_step echo) w m s (refused.byte ∷ rest) stands first);
   happens = λ w s rest stands has.
       let first : s.input ≡ refused.byte ∷ rest = has ∙ ap (λ l. l ++ rest) (key-taken echo refused.byte) in
-      ap (λ (t : State). t.events) (done_beside (key_step echo) m s (refused.byte ∷ rest) stands first);
+      ap (λ (t : State). t.events) (done_beside (λ cpu. key_step echo) w m s (refused.byte ∷ rest) stands first);
   unchanged = refl;
   took = refused.took;
   part = refused.part;

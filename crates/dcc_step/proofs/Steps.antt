@@ -18,18 +18,18 @@ use Rattle.dcc_console.specs.declared.fault.Fault.{Fault}
 use Rattle.dcc_console.specs.declared.fault.Fault.TheVariants.{Input, Output}
 use Rattle.dcc_console.specs.Scene.{Scene, scene}
 use Rattle.dcc_console.specs.Steps.{HasEnded, Makes, MakesSteps, made, Steps, Runs, refusal_of}
-use Rattle.dcc_step.specs.Core.{Core, with_console, core_of, state_of}
+use Rattle.dcc_step.specs.Core.{Core, with_console, state_of, changed_by}
 use Rattle.dcc_step.specs.Ending.{end_of, answer_of, fault_answer_of}
 use Rattle.dcc_step.specs.Stepped.{machine, machine_by, outcome_of, end_told}
 use Rattle.dcc_step.proofs.Scenes.{made_quiet, made_as, refused_as, refused_core}
 
 -- an operation other than INT 21h
 pub operation_made : (op : Op) (at : ℕ) (m new : Core) (left taken : Option (List ℕ)) → op ≢ Int21
-    → new ≡ core_of (op_step op at (state_of m))
-    → Makes (machine_by (op_step op at)) (scene m left taken) (scene new left taken)
+    → new ≡ changed_by (op_step m.cpu op at) m
+    → Makes (machine_by (λ cpu. op_step cpu op at)) (scene m left taken) (scene new left taken)
 operation_made op at m new left taken other is =
-    made_quiet (op_step op at) m new left taken
-    (λ input events. op-keeps op at other input events (state_of m) ∙ ap (λ k. with_console k input events) (sym is))
+    made_quiet (λ cpu. op_step cpu op at) m new left taken (ap (λ (k : Core). k.cpu) is)
+    (λ input events. op-keeps m.cpu op at other input events (state_of m) ∙ ap (λ k. with_console k input events) (sym is))
 
 -- what a step answers
 
@@ -80,22 +80,22 @@ answer_over write_fails other is = cc
 -- a machine whose run has ended
 pub stays_over : (m : Core) (left taken : Option (List ℕ)) → is_over m.end ≡ true → Makes machine (scene m left taken) (scene m left taken)
 stays_over m left taken over =
-    made_quiet step m m left taken
-    (λ input events. ap (λ b. if b then with_console m input events else instruction_step (instruction_at m.ip (code_bytes (with_console m input events))) (with_console m input events)) over)
+    made_quiet step m m left taken refl
+    (λ input events. ap (λ b. if b then with_console m input events else instruction_step m.cpu (instruction_at m.cpu m.ip (code_bytes (with_console m input events))) (with_console m input events)) over)
 
 -- a machine that runs makes the instruction that is found
-pub step_is : (m : Core) (found : Option Instr) → m.end ≡ running → instruction_at m.ip (code_bytes (state_of m)) ≡ found
-    → (input : List ℕ) (events : List Event) → step (with_console m input events) ≡ instruction_step found (with_console m input events)
+pub step_is : (m : Core) (found : Option Instr) → m.end ≡ running → instruction_at m.cpu m.ip (code_bytes (state_of m)) ≡ found
+    → (input : List ℕ) (events : List Event) → step m.cpu (with_console m input events) ≡ instruction_step m.cpu found (with_console m input events)
 step_is m found runs is input events =
     let s = with_console m input events in
-    ap (λ e. if is_over e then s else instruction_step (instruction_at m.ip (code_bytes s)) s) runs
-    ∙ ap (λ f. instruction_step f s) is
+    ap (λ e. if is_over e then s else instruction_step m.cpu (instruction_at m.cpu m.ip (code_bytes s)) s) runs
+    ∙ ap (λ f. instruction_step m.cpu f s) is
 
-pub step_outside : (m new : Core) (left taken : Option (List ℕ)) → m.end ≡ running → instruction_at m.ip (code_bytes (state_of m)) ≡ None
-    → new ≡ core_of (with_end (outside m.ip) m.ip (state_of m))
+pub step_outside : (m new : Core) (left taken : Option (List ℕ)) → m.end ≡ running → instruction_at m.cpu m.ip (code_bytes (state_of m)) ≡ None
+    → new ≡ changed_by (with_end (outside m.ip) m.ip) m
     → Makes machine (scene m left taken) (scene new left taken)
 step_outside m new left taken runs none is =
-    made_quiet step m new left taken
+    made_quiet step m new left taken (ap (λ (k : Core). k.cpu) is)
     (λ input events. step_is m None runs none input events ∙ ap (λ k. with_console k input events) (sym is))
 
 -- the machine with its instruction pointer past an instruction
@@ -103,40 +103,40 @@ abbrev pub moved_past : Instr → Core → Core
 moved_past instr m = record m { ip = (m.ip + instr.len) % 65536 }
 
 pub step_made : (m : Core) (instr : Instr) (left taken : Option (List ℕ)) (now : Scene Core) → m.end ≡ running
-    → instruction_at m.ip (code_bytes (state_of m)) ≡ Some instr
-    → Makes (machine_by (op_step instr.op m.ip)) (scene (moved_past instr m) left taken) now
+    → instruction_at m.cpu m.ip (code_bytes (state_of m)) ≡ Some instr
+    → Makes (machine_by (λ cpu. op_step cpu instr.op m.ip)) (scene (moved_past instr m) left taken) now
     → Makes machine (scene m left taken) now
 step_made m instr left taken now runs found done =
-    made_as (op_step instr.op m.ip) step m (moved_past instr m) left taken now (step_is m (Some instr) runs found) done
+    made_as (λ cpu. op_step cpu instr.op m.ip) step m (moved_past instr m) left taken now refl (step_is m (Some instr) runs found) done
 
 pub step_refused : (m new : Core) (instr : Instr) (fault : Fault) (left taken left_now taken_now : Option (List ℕ)) → m.end ≡ running
-    → instruction_at m.ip (code_bytes (state_of m)) ≡ Some instr
-    → Steps (machine_by (op_step instr.op m.ip)) (refusal_of fault) (scene (moved_past instr m) left taken) (scene new left_now taken_now)
+    → instruction_at m.cpu m.ip (code_bytes (state_of m)) ≡ Some instr
+    → Steps (machine_by (λ cpu. op_step cpu instr.op m.ip)) (refusal_of fault) (scene (moved_past instr m) left taken) (scene new left_now taken_now)
     → Steps machine (refusal_of fault) (scene m left taken) (scene m left_now taken_now)
 step_refused m new instr fault left taken left_now taken_now runs found refused =
-    refused_as (op_step instr.op m.ip) step fault m (moved_past instr m) new left taken left_now taken_now (step_is m (Some instr) runs found) refused
+    refused_as (λ cpu. op_step cpu instr.op m.ip) step fault m (moved_past instr m) new left taken left_now taken_now (step_is m (Some instr) runs found) refused
 
 -- the same, as the code has it: the instruction's offset, and the machine with its instruction pointer moved
 pub step_made_at : (m old : Core) (at : ℕ) (instr : Instr) (left taken : Option (List ℕ)) (now : Scene Core) → m.end ≡ running
-    → instruction_at m.ip (code_bytes (state_of m)) ≡ Some instr
-    → Makes (machine_by (op_step instr.op at)) (scene old left taken) now
+    → instruction_at m.cpu m.ip (code_bytes (state_of m)) ≡ Some instr
+    → Makes (machine_by (λ cpu. op_step cpu instr.op at)) (scene old left taken) now
     → at ≡ m.ip → old ≡ moved_past instr m → Makes machine (scene m left taken) now
 step_made_at m old at instr left taken now runs found done here moved =
     step_made m instr left taken now runs found
-    (subst (λ k. Makes (machine_by (op_step instr.op m.ip)) (scene k left taken) now) moved
-    (subst (λ a. Makes (machine_by (op_step instr.op a)) (scene old left taken) now) here done))
+    (subst (λ k. Makes (machine_by (λ cpu. op_step cpu instr.op m.ip)) (scene k left taken) now) moved
+    (subst (λ a. Makes (machine_by (λ cpu. op_step cpu instr.op a)) (scene old left taken) now) here done))
 
 pub step_refused_at : (m old new back : Core) (at : ℕ) (instr : Instr) (fault : Fault) (left taken left_now taken_now : Option (List ℕ)) → m.end ≡ running
-    → instruction_at m.ip (code_bytes (state_of m)) ≡ Some instr
-    → Steps (machine_by (op_step instr.op at)) (refusal_of fault) (scene old left taken) (scene new left_now taken_now)
+    → instruction_at m.cpu m.ip (code_bytes (state_of m)) ≡ Some instr
+    → Steps (machine_by (λ cpu. op_step cpu instr.op at)) (refusal_of fault) (scene old left taken) (scene new left_now taken_now)
     → at ≡ m.ip → old ≡ moved_past instr m → (new ≡ moved_past instr m → back ≡ m)
     → Steps machine (refusal_of fault) (scene m left taken) (scene back left_now taken_now)
 step_refused_at m old new back at instr fault left taken left_now taken_now runs found refused here moved put_back =
-    let kept : new ≡ old = refused_core (op_step instr.op at) fault old new left taken left_now taken_now refused in
+    let kept : new ≡ old = refused_core (λ cpu. op_step cpu instr.op at) fault old new left taken left_now taken_now refused in
     subst (λ k. Steps machine (refusal_of fault) (scene m left taken) (scene k left_now taken_now)) (sym (put_back (kept ∙ moved)))
     (step_refused m new instr fault left taken left_now taken_now runs found
-    (subst (λ k. Steps (machine_by (op_step instr.op m.ip)) (refusal_of fault) (scene k left taken) (scene new left_now taken_now)) moved
-    (subst (λ a. Steps (machine_by (op_step instr.op a)) (refusal_of fault) (scene old left taken) (scene new left_now taken_now)) here refused)))
+    (subst (λ k. Steps (machine_by (λ cpu. op_step cpu instr.op m.ip)) (refusal_of fault) (scene k left taken) (scene new left_now taken_now)) moved
+    (subst (λ a. Steps (machine_by (λ cpu. op_step cpu instr.op a)) (refusal_of fault) (scene old left taken) (scene new left_now taken_now)) here refused)))
 
 -- what a step answers that is refused
 pub refused_outcome : (fault : Fault) → outcome_of (fault_answer_of fault) ≡ refusal_of fault

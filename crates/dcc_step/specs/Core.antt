@@ -3,10 +3,12 @@ use Rattle.std.specs.Prelude.{ℕ, List, []}
 use Rattle.dcc_run.specs.End.{End}
 use Rattle.dcc_run.specs.Event.{Event}
 use Rattle.dcc_num.specs.declared.Flags.{Flags}
+use Rattle.dcc_prog.specs.declared.cpu.Cpu.{Cpu}
 use Rattle.dcc_prog.specs.Machine.{State}
 
--- a state but for its console
+-- a processor, and a state but for its console
 pub record Core : Type 0 where
+  pub cpu : Cpu
   pub regs : List ℕ
   pub segs : List ℕ
   pub flags : Flags
@@ -27,9 +29,10 @@ with_console m input events = record {
   end = m.end;
 }
 
--- a state without its console
-abbrev pub core_of : State → Core
-core_of s = record {
+-- a processor with a state without its console
+abbrev pub core_of : Cpu → State → Core
+core_of cpu s = record {
+  cpu = cpu;
   regs = s.regs;
   segs = s.segs;
   flags = s.flags;
@@ -41,3 +44,7 @@ core_of s = record {
 -- the machine with an empty console, for what no console changes
 abbrev pub state_of : Core → State
 state_of m = with_console m [] []
+
+-- the machine after an operation on its state
+abbrev pub changed_by : (State → State) → Core → Core
+changed_by operation m = core_of m.cpu (operation (state_of m))

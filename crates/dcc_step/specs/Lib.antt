@@ -1,3 +1,4 @@
+pub mod Cache
 pub mod Core
 pub mod Ending
 pub mod Stepped

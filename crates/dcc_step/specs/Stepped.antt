@@ -1,6 +1,7 @@
 -- What steps of the machine leave, and what they answer.
 use Rattle.std.specs.Prelude.{◌≡◌}
 use Rattle.dcc_run.specs.End.{End, Running as running, Exit as exited, Divide as divided, Outside as outside}
+use Rattle.dcc_prog.specs.declared.cpu.Cpu.{Cpu}
 use Rattle.dcc_prog.specs.Machine.{State}
 use Rattle.dcc_prog.specs.Step.{step}
 use Rattle.dcc_console.specs.Console.{Console, Executor}
@@ -17,12 +18,12 @@ console_by operation = record {
   with_left = λ input s. record s { input = input };
 }
 
--- the code that makes this operation: it keeps a state but for its console
-abbrev pub machine_by : (State → State) → Executor (Unit {0}) Core State
-machine_by operation = record { console = λ _. console_by operation; stands = λ _ core s. core_of s ≡ core }
+-- the code that makes this operation of its processor: it keeps a state but for its console
+abbrev pub machine_by : (Cpu → State → State) → Executor Cpu Core State
+machine_by operation = record { console = λ cpu. console_by (operation cpu); stands = λ cpu core s. core_of cpu s ≡ core }
 
--- the code that makes the machine's steps
-abbrev pub machine : Executor (Unit {0}) Core State
+-- the code that makes the steps of its processor's machine
+abbrev pub machine : Executor Cpu Core State
 machine = machine_by step
 
 -- how a step or a run came out that answers so

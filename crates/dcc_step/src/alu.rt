@@ -3,9 +3,9 @@
 ghost use Rattle.std.specs.Prelude.{◌≡◌, ◌<◌, ◌-◌, IfSome, Option, Some, None};
 ghost use Rattle.dcc_num.specs.Numbers.{limit_of};
 ghost use Rattle.dcc_prog.specs.Machine.{operand_value, operand_width};
-ghost use Rattle.dcc_prog.specs.Operations.{with_result, accumulator_in, upper_in, with_pair, with_product, with_division, alu_step, unary_step, count_in, shift_result, shift_step};
-ghost use Rattle.dcc_prog.specs.WellFormed.{IsOperand, AreOperands};
-ghost use Rattle.dcc_step.specs.Core.{core_of, state_of};
+ghost use Rattle.dcc_prog.specs.Operations.{with_result, accumulator_in, upper_in, with_pair, with_product, with_division, alu_step, unary_step, imul3_step, taken_count, count_in, shift_result, shift_step};
+ghost use Rattle.dcc_prog.specs.WellFormed.{IsOperand, AreOperands, IsWordOperand};
+ghost use Rattle.dcc_step.specs.Core.{state_of, changed_by};
 
 use crate::ending::Ending;
 use crate::machine::Machine;
@@ -13,7 +13,7 @@ use dcc_num::{
     Flags, Half, NO_FLAGS, Reg, Width, add, and, dec, div, idiv, imul, inc, mul, neg, or, rcl1,
     rcr1, rol, ror, sar, shl, shr, sub, xor,
 };
-use dcc_prog::{Alu, Operand, Shift, Unary};
+use dcc_prog::{Alu, Count, Cpu, Operand, Shift, Unary};
 
 // NOT: the bits that are not in the operand.
 fn complement(w: Width, a: u16) -> u16
@@ -44,12 +44,22 @@ fn shift_by(kind: Shift, w: Width, a: u16, count: u8, was: Flags) -> (u16, Flags
     }
 }
 
+// How far the processor goes by a number in CL: the 80186 takes it modulo 32.
+fn taken_count(cpu: Cpu, number: u8) -> u8
+    ensures { result ≡ taken_count cpu number }
+{
+    match cpu {
+        Cpu::I8086 => number,
+        Cpu::I186 => number % 32,
+    }
+}
+
 impl Machine {
     // Gives an operand an outcome, and sets the flags with it.
     fn put_result(&mut self, operand: Operand, outcome: (u16, Flags))
         requires operand { IsOperand operand }
         requires width { outcome.0 < limit_of (operand_width operand) }
-        ensures { self.new ≡ core_of (with_result operand outcome (state_of self.old)) }
+        ensures { self.new ≡ changed_by (with_result operand outcome) self.old }
     {
         self.flags = outcome.1;
         self.put(operand, outcome.0);
@@ -58,8 +68,8 @@ impl Machine {
     /// An operation on two operands.
     pub(crate) fn alu(&mut self, kind: Alu, a: Operand, b: Operand)
         requires { AreOperands a b }
-        ensures { self.new ≡ core_of (alu_step kind (operand_width a) a
-            (operand_value (state_of self.old) a) (operand_value (state_of self.old) b) (state_of self.old)) }
+        ensures { self.new ≡ changed_by (λ s.
+            alu_step kind (operand_width a) a (operand_value s a) (operand_value s b) s) self.old }
     {
         let w = a.width();
         let x = self.value(a);
@@ -103,7 +113,7 @@ impl Machine {
     fn set_pair(&mut self, w: Width, low: u16, high: u16)
         requires low { low < limit_of w }
         requires high { high < limit_of w }
-        ensures { self.new ≡ core_of (with_pair w low high (state_of self.old)) }
+        ensures { self.new ≡ changed_by (with_pair w low high) self.old }
     {
         match w {
             Width::Byte => self.set_reg(Reg::Ax, high * 256 + low),
@@ -118,7 +128,7 @@ impl Machine {
     fn set_product(&mut self, w: Width, product: (u16, u16, Flags))
         requires low { product.0 < limit_of w }
         requires high { product.1 < limit_of w }
-        ensures { self.new ≡ core_of (with_product w product (state_of self.old)) }
+        ensures { self.new ≡ changed_by (with_product w product) self.old }
     {
         self.flags = product.2;
         self.set_pair(w, product.0, product.1);
@@ -127,7 +137,7 @@ impl Machine {
     // Keeps a quotient and a remainder, or ends the run by a divide fault.
     fn set_division(&mut self, w: Width, division: Option<(u16, u16)>, at: u16)
         requires { IfSome division (λ x. (x.0 < limit_of w) × (x.1 < limit_of w)) }
-        ensures { self.new ≡ core_of (with_division w at division (state_of self.old)) }
+        ensures { self.new ≡ changed_by (with_division w at division) self.old }
     {
         match division {
             None => self.finish(Ending::Divide, at),
@@ -141,8 +151,8 @@ impl Machine {
     /// An operation on one operand of the instruction at an offset.
     pub(crate) fn unary(&mut self, kind: Unary, x: Operand, at: u16)
         requires { IsOperand x }
-        ensures { self.new ≡ core_of (unary_step kind (operand_width x) x
-            (operand_value (state_of self.old) x) at (state_of self.old)) }
+        ensures { self.new ≡ changed_by (λ s.
+            unary_step kind (operand_width x) x (operand_value s x) at s) self.old }
     {
         let w = x.width();
         let a = self.value(x);
@@ -164,25 +174,35 @@ impl Machine {
         }
     }
 
-    // The count of a shift: CL, or 1.
-    fn count(&self, by_cl: bool) -> u8
-        ensures { result ≡ count_in by_cl (state_of self.now) }
+    /// IMUL with three operands: the register takes the lower word of the product.
+    pub(crate) fn imul3(&mut self, r: Reg, x: Operand, constant: u16)
+        requires { IsWordOperand x }
+        ensures { self.new ≡ changed_by (imul3_step r x constant) self.old }
     {
-        if by_cl {
-            Half::Low.of(self.reg(Reg::Cx))
-        } else {
-            1
+        let product = imul(Width::Word, self.value(x), constant);
+        self.flags = product.2;
+        self.set_reg(r, product.0);
+    }
+
+    // How far a shift or rotate goes.
+    fn count(&self, count: Count) -> u8
+        ensures { result ≡ count_in self.now.cpu count (state_of self.now) }
+    {
+        match count {
+            Count::One => 1,
+            Count::Cl => taken_count(self.cpu, Half::Low.of(self.reg(Reg::Cx))),
+            Count::Const(number) => number % 32,
         }
     }
 
     /// A shift or rotate.
-    pub(crate) fn shift(&mut self, kind: Shift, x: Operand, by_cl: bool)
+    pub(crate) fn shift(&mut self, kind: Shift, x: Operand, count: Count)
         requires { IsOperand x }
-        ensures { self.new ≡ core_of (shift_step kind x by_cl (state_of self.old)) }
+        ensures { self.new ≡ changed_by (shift_step self.old.cpu kind x count) self.old }
     {
         let w = x.width();
         let a = self.value(x);
-        let outcome = shift_by(kind, w, a, self.count(by_cl), self.flags);
+        let outcome = shift_by(kind, w, a, self.count(count), self.flags);
         self.put_result(x, outcome);
     }
 }

@@ -1,10 +1,11 @@
 //! Decoded instructions, kept by their offsets.
 
-ghost use Rattle.std.specs.Prelude.{◌≡◌, ◌<◌, ◌^◌, ℕ, IfOk, slice_index, vec_len};
-ghost use Rattle.dcc_prog.specs.Table.{instruction_at};
+ghost use Rattle.std.specs.Prelude.{◌≡◌, IfOk, vec_len};
+ghost use Rattle.std.specs.List.{All};
+ghost use Rattle.dcc_step.specs.Cache.{IsDecoded};
 
 use dcc_decode::decode_window;
-use dcc_prog::Instr;
+use dcc_prog::{Cpu, Instr};
 use std::alloc::{AllocError, Global};
 
 /// How many decoded instructions are kept; the one at an offset stands at the offset modulo this.
@@ -19,17 +20,16 @@ pub(crate) struct Decoded {
     pub(crate) window: [u8; 6],
     /// The instruction.
     pub(crate) instr: Option<Instr>,
-    ghost bytes: { (i : ℕ) → slice_index window i < 2 ^ 8 },
-    ghost found: { instr ≡ instruction_at at window },
 }
 
 impl Decoded {
-    /// Decodes the bytes at an offset.
-    pub(crate) fn of(at: u16, window: &[u8; 6]) -> Decoded
+    /// Decodes the bytes at an offset for a processor.
+    pub(crate) fn of(at: u16, window: &[u8; 6], cpu: Cpu) -> Decoded
         ensures at { result.at ≡ at }
         ensures window { result.window ≡ window.now }
+        ensures decoded { IsDecoded cpu result }
     {
-        let instr = decode_window(window, at);
+        let instr = decode_window(window, at, cpu);
         Decoded {
             at,
             window: *window,
@@ -39,10 +39,11 @@ impl Decoded {
 }
 
 /// A cache that knows no other bytes than zeros at offset 0.
-pub(crate) fn first_cache(alloc: Global) -> Result<Vec<Decoded>, AllocError>
-    ensures { IfOk result (λ cache. vec_len cache ≡ 4096) }
+pub(crate) fn first_cache(alloc: Global, cpu: Cpu) -> Result<Vec<Decoded>, AllocError>
+    ensures count { IfOk result (λ cache. vec_len cache ≡ 4096) }
+    ensures decoded { IfOk result (λ cache. All (IsDecoded cpu) cache.items) }
 {
     let mut cache = Vec::with_capacity(alloc, CACHE_SIZE)?;
-    cache.resize(CACHE_SIZE, Decoded::of(0, &[0; 6]))?;
+    cache.resize(CACHE_SIZE, Decoded::of(0, &[0; 6], cpu))?;
     Ok(cache)
 }

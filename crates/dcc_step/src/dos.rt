@@ -5,7 +5,7 @@ ghost use Rattle.dcc_io.specs.Count.{Rose};
 ghost use Rattle.dcc_io.specs.Told.{append_told, AppendsProperPrefix};
 ghost use Rattle.dcc_prog.specs.Operations.{with_al, with_end};
 ghost use Rattle.dcc_prog.specs.Dos.{key_step, dos_string, dos_call};
-ghost use Rattle.dcc_step.specs.Core.{core_of, state_of};
+ghost use Rattle.dcc_step.specs.Core.{state_of, changed_by};
 ghost use Rattle.dcc_step.specs.Ending.{end_of};
 ghost use Rattle.dcc_console.specs.Scene.{scene};
 ghost use Rattle.dcc_console.specs.Steps.{Makes, Steps, refusal_of};
@@ -20,7 +20,7 @@ use dcc_num::{Half, Reg, dos};
 impl Machine {
     /// Gives AL a value.
     pub(crate) fn set_al(&mut self, byte: u8)
-        ensures { self.new ≡ core_of (with_al byte (state_of self.old)) }
+        ensures { self.new ≡ changed_by (with_al byte) self.old }
     {
         let word = Half::Low.put(self.reg(Reg::Ax), byte);
         self.set_reg(Reg::Ax, word);
@@ -28,7 +28,7 @@ impl Machine {
 
     /// Ends the run at the instruction at an offset.
     pub(crate) fn finish(&mut self, end: Ending, at: u16)
-        ensures { self.new ≡ core_of (with_end (end_of end) at (state_of self.old)) }
+        ensures { self.new ≡ changed_by (with_end (end_of end) at) self.old }
     {
         self.end = end;
         self.ip = at;
@@ -61,10 +61,10 @@ impl Machine {
         input: &mut I,
         out: &mut O,
     ) -> Result<(), Fault>
-        ensures made { OnOk result (Makes (machine_by (key_step echo))
+        ensures made { OnOk result (Makes (machine_by (λ cpu. key_step echo))
             (scene self.old (I.left input.old) (O.taken out.old))
             (scene self.new (I.left input.new) (O.taken out.new))) }
-        ensures refused { IfErr result (λ fault. Steps (machine_by (key_step echo)) (refusal_of fault)
+        ensures refused { IfErr result (λ fault. Steps (machine_by (λ cpu. key_step echo)) (refusal_of fault)
             (scene self.old (I.left input.old) (O.taken out.old))
             (scene self.new (I.left input.new) (O.taken out.new))) }
 
@@ -86,10 +86,10 @@ impl Machine {
         input: &mut I,
         out: &mut O,
     ) -> Result<(), Fault>
-        ensures made { OnOk result (Makes (machine_by (dos_call at))
+        ensures made { OnOk result (Makes (machine_by (λ cpu. dos_call at))
             (scene self.old (I.left input.old) (O.taken out.old))
             (scene self.new (I.left input.new) (O.taken out.new))) }
-        ensures refused { IfErr result (λ fault. Steps (machine_by (dos_call at)) (refusal_of fault)
+        ensures refused { IfErr result (λ fault. Steps (machine_by (λ cpu. dos_call at)) (refusal_of fault)
             (scene self.old (I.left input.old) (O.taken out.old))
             (scene self.new (I.left input.new) (O.taken out.new))) }
 

@@ -3,7 +3,7 @@
 ghost use Rattle.std.specs.Prelude.{◌≡◌};
 ghost use Rattle.dcc_prog.specs.Operations.{after_jump, after_jump_if, loop_step, table_step, with_carry, plain_step, lea_step, mov_step, xchg_step};
 ghost use Rattle.dcc_prog.specs.WellFormed.{AreOperands};
-ghost use Rattle.dcc_step.specs.Core.{core_of, state_of};
+ghost use Rattle.dcc_step.specs.Core.{changed_by};
 
 use crate::machine::Machine;
 use dcc_num::{Half, Reg, sign8};
@@ -12,7 +12,7 @@ use dcc_prog::{Ea, Operand, Plain};
 impl Machine {
     /// To the target where so, else to the next instruction.
     pub(crate) fn jump_if(&mut self, so: bool, target: u16)
-        ensures { self.new ≡ core_of (after_jump_if so target (state_of self.old)) }
+        ensures { self.new ≡ changed_by (after_jump_if so target) self.old }
     {
         if so {
             self.ip = target;
@@ -21,7 +21,7 @@ impl Machine {
 
     /// A LOOP form: CX falls by 1, and the jump is made where it is not 0 then and `also` holds.
     pub(crate) fn count_down(&mut self, also: bool, target: u16)
-        ensures { self.new ≡ core_of (loop_step also target (state_of self.old)) }
+        ensures { self.new ≡ changed_by (loop_step also target) self.old }
     {
         let left = self.reg(Reg::Cx).wrapping_sub(1);
         self.set_reg(Reg::Cx, left);
@@ -30,7 +30,7 @@ impl Machine {
 
     /// A jump to the word in the code segment at a register plus an offset.
     pub(crate) fn jump_by_table(&mut self, r: Reg, offset: u16)
-        ensures { self.new ≡ core_of (table_step r offset (state_of self.old)) }
+        ensures { self.new ≡ changed_by (table_step r offset) self.old }
     {
         let target = self.load_word(self.cs(), self.reg(r).wrapping_add(offset));
         self.ip = target;
@@ -39,7 +39,7 @@ impl Machine {
     /// MOV.
     pub(crate) fn assign(&mut self, to: Operand, from: Operand)
         requires { AreOperands to from }
-        ensures { self.new ≡ core_of (mov_step to from (state_of self.old)) }
+        ensures { self.new ≡ changed_by (mov_step to from) self.old }
     {
         let value = self.value(from);
         self.put(to, value);
@@ -48,7 +48,7 @@ impl Machine {
     /// XCHG: the address of the first operand is taken before either changes.
     pub(crate) fn exchange(&mut self, a: Operand, b: Operand)
         requires { AreOperands a b }
-        ensures { self.new ≡ core_of (xchg_step a b (state_of self.old)) }
+        ensures { self.new ≡ changed_by (xchg_step a b) self.old }
     {
         let x = self.value(a);
         let y = self.value(b);
@@ -58,7 +58,7 @@ impl Machine {
 
     /// LEA: the offset of a memory operand.
     pub(crate) fn load_offset(&mut self, r: Reg, ea: Ea)
-        ensures { self.new ≡ core_of (lea_step r ea (state_of self.old)) }
+        ensures { self.new ≡ changed_by (lea_step r ea) self.old }
     {
         let offset = self.offset(ea);
         self.set_reg(r, offset);
@@ -66,7 +66,7 @@ impl Machine {
 
     /// An operation without operands.
     pub(crate) fn plain(&mut self, kind: Plain)
-        ensures { self.new ≡ core_of (plain_step kind (state_of self.old)) }
+        ensures { self.new ≡ changed_by (plain_step kind) self.old }
     {
         let ax = self.reg(Reg::Ax);
         let al = Half::Low.of(ax);

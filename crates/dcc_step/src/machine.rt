@@ -1,14 +1,14 @@
 //! The machine and its state.
 
-ghost use Rattle.std.specs.Prelude.{◌≡◌, ◌+◌, ◌<◌, ◌≤◌, ◌^◌, ℕ, List, [], vec_len, slice_index, IfOk};
+ghost use Rattle.std.specs.Prelude.{◌≡◌, ◌+◌, ◌<◌, ◌≤◌, ◌^◌, [], vec_len, slice_index, IfOk};
 ghost use Rattle.dcc_prog.specs.Load.{image_address};
 ghost use Rattle.dcc_prog.specs.Machine.{start_state, word_in};
-ghost use Rattle.dcc_step.specs.Core.{with_console, state_of};
+ghost use Rattle.dcc_step.specs.Core.{core_of, state_of};
 
 use crate::cache::{Decoded, first_cache};
 use crate::ending::Ending;
 use dcc_num::{Flags, NO_FLAGS, Reg};
-use dcc_prog::{Image, LOAD_SEGMENT, PREFIX_SEGMENT};
+use dcc_prog::{Cpu, Image, LOAD_SEGMENT, PREFIX_SEGMENT};
 use std::alloc::{AllocError, Global};
 use std::marker::Model;
 
@@ -18,9 +18,11 @@ const MEMORY_SIZE: usize = 0x10_0000;
 // The physical address at which the load image begins.
 const IMAGE_ADDRESS: usize = LOAD_SEGMENT as usize * 16;
 
-/// A machine: registers, flags, memory, and how its run has ended.
+/// A machine: its processor, registers, flags, memory, and how its run has ended.
 #[derive(Drop)]
 pub struct Machine {
+    /// The processor.
+    pub(crate) cpu: Cpu,
     /// By number: AX, CX, DX, BX, SP, BP, SI, DI.
     pub(crate) regs: [u16; 8],
     /// By number: ES, CS, SS, DS.
@@ -33,19 +35,22 @@ pub struct Machine {
     pub(crate) memory: Vec<u8>,
     /// How the run has ended, if it has.
     pub(crate) end: Ending,
-    /// Instructions that were decoded, 4,096 of them, each at its offset modulo 4,096.
+    /// Instructions that were decoded for the processor, 4,096 of them, each at its offset modulo 4,096.
     pub(crate) cache: Vec<Decoded>,
 }
 
 impl Model for Machine {
     ghost use Rattle.std.specs.Prelude.{◌≡◌, ◌^◌, vec_len};
+    ghost use Rattle.std.specs.List.{All};
     ghost use Rattle.dcc_step.specs.Core.{Core};
+    ghost use Rattle.dcc_step.specs.Cache.{IsDecoded};
 
     ghost Value = { Core };
 
     ghost use Rattle.dcc_step.specs.Ending.{end_of};
 
     ghost view = { λ m. record {
+      cpu = m.cpu;
       regs = m.regs;
       segs = m.segs;
       flags = m.flags;
@@ -54,23 +59,24 @@ impl Model for Machine {
       end = end_of m.end;
     } };
 
-    ghost invariant = { λ m. (vec_len m.memory ≡ 2 ^ 20) × (vec_len m.cache ≡ 4096) };
+    ghost invariant = { λ m. (vec_len m.memory ≡ 2 ^ 20) × (vec_len m.cache ≡ 4096)
+        × All (IsDecoded m.cpu) m.cache.items };
 }
 
 impl Machine {
-    /// The machine at the start of a loaded program: memory holds the load image from offset 0 of
-    /// the load segment on and 0 elsewhere.
-    pub fn new(alloc: Global, image: &Image) -> Result<Machine, AllocError>
+    /// The machine with a processor at the start of a loaded program: memory holds the load image from
+    /// offset 0 of the load segment on and 0 elsewhere.
+    pub fn new(alloc: Global, image: &Image, cpu: Cpu) -> Result<Machine, AllocError>
         requires { image_address + vec_len image.now.bytes ≤ 2 ^ 20 }
-        ensures { IfOk result (λ machine. (input : List ℕ) →
-            with_console machine input [] ≡ start_state image.now input) }
+        ensures { IfOk result (λ machine. machine ≡ core_of cpu (start_state image.now [])) }
     {
         let mut memory = Vec::with_capacity(alloc, MEMORY_SIZE)?;
         memory.resize(IMAGE_ADDRESS, 0)?;
         memory.extend_from_slice(&image.bytes)?;
         memory.resize(MEMORY_SIZE, 0)?;
-        let cache = first_cache(alloc)?;
+        let cache = first_cache(alloc, cpu)?;
         Ok(Machine {
+            cpu,
             regs: [0, 0, 0, 0, image.sp, 0, 0, 0],
             segs: [PREFIX_SEGMENT, image.cs, image.ss, PREFIX_SEGMENT],
             flags: NO_FLAGS,

@@ -4,7 +4,7 @@ ghost use Rattle.std.specs.Prelude.{◌≡◌, ◌<◌, ◌^◌};
 ghost use Rattle.dcc_num.specs.Numbers.{limit_of};
 ghost use Rattle.dcc_prog.specs.Machine.{physical, byte_in, word_at_offset, with_byte_in, with_word_at_offset, with_word_in, code_segment, stack_segment, data_segment, part_of, offset_of, is_bp, segment_of, operand_value, with_operand, operand_width};
 ghost use Rattle.dcc_prog.specs.WellFormed.{IsOperand};
-ghost use Rattle.dcc_step.specs.Core.{core_of, state_of};
+ghost use Rattle.dcc_step.specs.Core.{state_of, changed_by};
 
 use crate::machine::Machine;
 use dcc_num::{Half, Reg, Width};
@@ -44,14 +44,14 @@ impl Machine {
 
     // Stores a byte at an offset in a segment.
     fn store_byte(&mut self, segment: u16, offset: u16, byte: u8)
-        ensures { self.new ≡ core_of (with_byte_in (state_of self.old) segment offset byte) }
+        ensures { self.new ≡ changed_by (λ s. with_byte_in s segment offset byte) self.old }
     {
         self.memory[physical_address(segment, offset)] = byte;
     }
 
     /// Stores a word, its low byte first; the offset of the second byte wraps.
     pub(crate) fn store_word(&mut self, segment: u16, offset: u16, word: u16)
-        ensures { self.new ≡ core_of (with_word_at_offset (state_of self.old) segment offset word) }
+        ensures { self.new ≡ changed_by (λ s. with_word_at_offset s segment offset word) self.old }
     {
         self.store_byte(segment, offset, (word % 256) as u8);
         self.store_byte(segment, offset.wrapping_add(1), (word / 256) as u8);
@@ -59,7 +59,7 @@ impl Machine {
 
     /// Gives a word register a value.
     pub(crate) fn set_reg(&mut self, r: Reg, word: u16)
-        ensures { self.new ≡ core_of (with_word_in (state_of self.old) r word) }
+        ensures { self.new ≡ changed_by (λ s. with_word_in s r word) self.old }
     {
         self.regs[r as usize] = word;
     }
@@ -136,7 +136,7 @@ impl Machine {
     pub(crate) fn put(&mut self, operand: Operand, value: u16)
         requires operand { IsOperand operand }
         requires width { value < limit_of (operand_width operand) }
-        ensures { self.new ≡ core_of (with_operand (state_of self.old) operand value) }
+        ensures { self.new ≡ changed_by (λ s. with_operand s operand value) self.old }
     {
         match operand {
             Operand::Word(r) => self.set_reg(r, value),

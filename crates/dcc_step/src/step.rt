@@ -6,7 +6,7 @@ ghost use Rattle.dcc_prog.specs.declared.instr.Op.{Op};
 ghost use Rattle.dcc_prog.specs.Table.{instruction_at};
 ghost use Rattle.dcc_prog.specs.Step.{code_byte, code_bytes, op_step};
 ghost use Rattle.dcc_prog.specs.WellFormed.{IsOperation};
-ghost use Rattle.dcc_step.specs.Core.{core_of, state_of};
+ghost use Rattle.dcc_step.specs.Core.{state_of, changed_by};
 ghost use Rattle.dcc_console.specs.Scene.{scene};
 ghost use Rattle.dcc_console.specs.Steps.{Makes, Steps, HasEnded, Runs, refusal_of};
 ghost use Rattle.dcc_step.specs.Stepped.{machine, machine_by, outcome_of, end_told};
@@ -59,7 +59,7 @@ impl Machine {
     // or other bytes, so it is right whatever was written to memory.
     fn fetch(&mut self) -> Option<Instr>
         ensures kept { self.new ≡ self.old }
-        ensures found { result ≡ instruction_at self.old.ip (code_bytes (state_of self.old)) }
+        ensures found { result ≡ instruction_at self.old.cpu self.old.ip (code_bytes (state_of self.old)) }
         ensures operation { IfSome result (λ instr. IsOperation instr.op) }
     {
         let window = self.window();
@@ -68,7 +68,7 @@ impl Machine {
         if last.at == self.ip && last.window == window {
             return last.instr;
         }
-        let decoded = Decoded::of(self.ip, &window);
+        let decoded = Decoded::of(self.ip, &window, self.cpu);
         self.cache[place] = decoded;
         decoded.instr
     }
@@ -77,17 +77,20 @@ impl Machine {
     fn operate(&mut self, op: Op, at: u16)
         requires operation { IsOperation op }
         requires other { op ≢ Op.Int21 }
-        ensures { self.new ≡ core_of (op_step op at (state_of self.old)) }
+        ensures { self.new ≡ changed_by (op_step self.old.cpu op at) self.old }
     {
         match op {
             Op::Alu(kind, a, b) => self.alu(kind, a, b),
             Op::Unary(kind, x) => self.unary(kind, x, at),
-            Op::Shift(kind, x, by_cl) => self.shift(kind, x, by_cl),
+            Op::Shift(kind, x, count) => self.shift(kind, x, count),
             Op::Mov(to, from) => self.assign(to, from),
             Op::Xchg(a, b) => self.exchange(a, b),
             Op::Lea(r, ea) => self.load_offset(r, ea),
+            Op::Imul3(r, x, constant) => self.imul3(r, x, constant),
             Op::Push(x) => self.push(x),
             Op::Pop(x) => self.pop(x),
+            Op::Enter(count) => self.enter(count),
+            Op::Leave => self.leave(),
             Op::Plain(kind) => self.plain(kind),
             Op::Jump(target) => self.ip = target,
             Op::Branch(condition, target) => self.jump_if(condition.holds(self.flags), target),
@@ -111,10 +114,10 @@ impl Machine {
         out: &mut O,
     ) -> Result<(), Fault>
         requires { IsOperation op }
-        ensures made { OnOk result (Makes (machine_by (op_step op at))
+        ensures made { OnOk result (Makes (machine_by (λ cpu. op_step cpu op at))
             (scene self.old (I.left input.old) (O.taken out.old))
             (scene self.new (I.left input.new) (O.taken out.new))) }
-        ensures refused { IfErr result (λ fault. Steps (machine_by (op_step op at)) (refusal_of fault)
+        ensures refused { IfErr result (λ fault. Steps (machine_by (λ cpu. op_step cpu op at)) (refusal_of fault)
             (scene self.old (I.left input.old) (O.taken out.old))
             (scene self.new (I.left input.new) (O.taken out.new))) }
 
@@ -133,8 +136,9 @@ impl Machine {
         }
     }
 
-    /// Makes one instruction (8086 Family User's Manual, table 2-21). A machine whose run has ended
-    /// answers its end again and changes nothing.
+    /// Makes one instruction of the machine's processor (8086 Family User's Manual, table 2-21; iAPX 86/88,
+    /// 186/188 User's Manual, Programmer's Reference). A machine whose run has ended answers its end again and
+    /// changes nothing.
     ///
     /// Exit comes from INT 21h with 4Ch, Divide from a quotient that does not fit, and Outside where
     /// no instruction of the table stands or INT 21h has another number. InFault and OutFault come

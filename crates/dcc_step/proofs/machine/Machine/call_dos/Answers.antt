@@ -1,4 +1,4 @@
-use Rattle.std.proofs.Common.{true, false, arith, ◌≡◌, ◌++◌, sym, ap, ◌∙◌, ◌∷◌, []}
+use Rattle.std.proofs.Common.{true, false, arith, ◌≡◌, ◌++◌, refl, sym, ap, ◌∙◌, ◌∷◌, []}
 use Rattle.std.proofs.lemmas.Result.{IfErr-weaker}
 use Rattle.dcc_run.specs.End.{Exit}
 use Rattle.dcc_run.specs.Event.{writes}
@@ -17,7 +17,7 @@ returns-in_default-put_all-clause-refused g c =
     let m = c.args.self.now in
     let ah : 2 ≡ half_of_word High (word_in (state_of m) Ax) = sym c.in-2.is ∙ c.of.ensures ∙ ap (half_of_word High) c.reg-ax.ensures in
     let byte : c.of-byte.result ≡ half_of_word Low (word_in (state_of m) Dx) = c.of-byte.ensures ∙ ap (half_of_word Low) c.reg.ensures in
-    refused_writing (dos_call c.args.at) m (c.of-byte.result ∷ []) _ _ _
+    refused_writing (λ cpu. dos_call c.args.at) m (c.of-byte.result ∷ []) _ _ _
     (λ input events. numbered c.args.at 2 m ah input events ∙ ap (λ b. with_console m input (events ++ writes (b ∷ []))) (sym byte))
     c.in_default-put_all.ensures.part
 
@@ -26,7 +26,7 @@ pub returns-in_default-write_string-clause-refused :
 returns-in_default-write_string-clause-refused g c =
     let m = c.args.self.now in
     let ah : 9 ≡ half_of_word High (word_in (state_of m) Ax) = sym c.in-9.is ∙ c.of.ensures ∙ ap (half_of_word High) c.reg-ax.ensures in
-    refused_writing (dos_call c.args.at) m (dos_string (state_of m)) _ _ _
+    refused_writing (λ cpu. dos_call c.args.at) m (dos_string (state_of m)) _ _ _
     (λ input events. numbered c.args.at 9 m ah input events ∙ ap (λ l. with_console m input (events ++ writes l)) (string-keeps m input events))
     c.in_default-write_string.ensures.part
 
@@ -35,7 +35,7 @@ returns-in-Ok-clause-made g c =
     let m = c.args.self.now in
     let ah : 2 ≡ half_of_word High (word_in (state_of m) Ax) = sym c.in-2.is ∙ c.of.ensures ∙ ap (half_of_word High) c.reg-ax.ensures in
     let byte : c.of-byte.result ≡ half_of_word Low (word_in (state_of m) Dx) = c.of-byte.ensures ∙ ap (half_of_word Low) c.reg.ensures in
-    made_writing (dos_call c.args.at) m (c.of-byte.result ∷ []) _ _ _
+    made_writing (λ cpu. dos_call c.args.at) m (c.of-byte.result ∷ []) _ _ _
     (λ input events. numbered c.args.at 2 m ah input events ∙ ap (λ b. with_console m input (events ++ writes (b ∷ []))) (sym byte))
     c.in-Ok.ensures.whole
 
@@ -43,7 +43,7 @@ pub returns-in-Ok-write_string-clause-made : goal.returns-in-Ok-write_string-cla
 returns-in-Ok-write_string-clause-made g c =
     let m = c.args.self.now in
     let ah : 9 ≡ half_of_word High (word_in (state_of m) Ax) = sym c.in-9.is ∙ c.of.ensures ∙ ap (half_of_word High) c.reg-ax.ensures in
-    made_writing (dos_call c.args.at) m (dos_string (state_of m)) _ _ _
+    made_writing (λ cpu. dos_call c.args.at) m (dos_string (state_of m)) _ _ _
     (λ input events. numbered c.args.at 9 m ah input events ∙ ap (λ l. with_console m input (events ++ writes l)) (string-keeps m input events))
     c.in-Ok-write_string.ensures.whole
 
@@ -52,7 +52,7 @@ returns-in-76-clause-made g c =
     let m = c.args.self.now in
     let ah : 76 ≡ half_of_word High (word_in (state_of m) Ax) = sym c.in-76.is ∙ c.of.ensures ∙ ap (half_of_word High) c.reg-ax.ensures in
     let code : c.of-in-76.result ≡ half_of_word Low (word_in (state_of m) Ax) = c.of-in-76.ensures ∙ ap (half_of_word Low) c.reg-ax.ensures in
-    made_quiet (dos_call c.args.at) m c.finish.new.self _ _
+    made_quiet (λ cpu. dos_call c.args.at) m c.finish.new.self _ _ (ap (λ (k : Core). k.cpu) c.finish.ensures)
     (λ input events. numbered c.args.at 76 m ah input events
     ∙ ap (λ k. with_end (Exit k) c.args.at (with_console m input events)) (sym code)
     ∙ ap (λ k. with_console k input events) (sym c.finish.ensures))
@@ -61,7 +61,7 @@ pub returns-in_default-clause-made : goal.returns-in_default-clause-made
 returns-in_default-clause-made g c =
     let m = c.args.self.now in
     let number : c.of.result ≡ half_of_word High (word_in (state_of m) Ax) = c.of.ensures ∙ ap (half_of_word High) c.reg-ax.ensures in
-    made_quiet (dos_call c.args.at) m c.finish-in_default.new.self _ _
+    made_quiet (λ cpu. dos_call c.args.at) m c.finish-in_default.new.self _ _ (ap (λ (k : Core). k.cpu) c.finish-in_default.ensures)
     (λ input events. numbered c.args.at c.of.result m number input events
     ∙ no_call c.of.result c.args.at (with_console m input events) (omega arith) (omega arith) (omega arith) (omega arith) (omega arith)
     ∙ ap (λ k. with_console k input events) (sym c.finish-in_default.ensures))
@@ -72,7 +72,7 @@ returns-in-1-clause-made g c =
     let ah : 1 ≡ half_of_word High (word_in (state_of m) Ax) = sym c.in-1.is ∙ c.of.ensures ∙ ap (half_of_word High) c.reg-ax.ensures in
     let now : Scene Core = scene c.read_key.new.self (g.I.Source.left c.read_key.new.input) (g.O.Sink.taken c.read_key.new.out) in
     on_ok c.read_key.result
-    (made_as (key_step true) (dos_call c.args.at) m m (g.I.Source.left c.args.input.now) (g.O.Sink.taken c.args.out.now) now (numbered c.args.at 1 m ah))
+    (made_as (λ cpu. key_step true) (λ cpu. dos_call c.args.at) m m (g.I.Source.left c.args.input.now) (g.O.Sink.taken c.args.out.now) now refl (numbered c.args.at 1 m ah))
     c.read_key.ensures.made
 
 pub returns-in-1-clause-refused : goal.returns-in-1-clause-refused
@@ -81,7 +81,7 @@ returns-in-1-clause-refused g c =
     let ah : 1 ≡ half_of_word High (word_in (state_of m) Ax) = sym c.in-1.is ∙ c.of.ensures ∙ ap (half_of_word High) c.reg-ax.ensures in
     IfErr-weaker c.read_key.result _ _
     (λ fault refused.
-    refused_here (key_step true) (dos_call c.args.at) fault m c.read_key.new.self (g.I.Source.left c.args.input.now) (g.O.Sink.taken c.args.out.now)
+    refused_here (λ cpu. key_step true) (λ cpu. dos_call c.args.at) fault m c.read_key.new.self (g.I.Source.left c.args.input.now) (g.O.Sink.taken c.args.out.now)
     (g.I.Source.left c.read_key.new.input) (g.O.Sink.taken c.read_key.new.out) (numbered c.args.at 1 m ah) refused)
     c.read_key.ensures.refused
 
@@ -91,7 +91,7 @@ returns-in-8-clause-made g c =
     let ah : 8 ≡ half_of_word High (word_in (state_of m) Ax) = sym c.in-8.is ∙ c.of.ensures ∙ ap (half_of_word High) c.reg-ax.ensures in
     let now : Scene Core = scene c.read_key-in-8.new.self (g.I.Source.left c.read_key-in-8.new.input) (g.O.Sink.taken c.read_key-in-8.new.out) in
     on_ok c.read_key-in-8.result
-    (made_as (key_step false) (dos_call c.args.at) m m (g.I.Source.left c.args.input.now) (g.O.Sink.taken c.args.out.now) now (numbered c.args.at 8 m ah))
+    (made_as (λ cpu. key_step false) (λ cpu. dos_call c.args.at) m m (g.I.Source.left c.args.input.now) (g.O.Sink.taken c.args.out.now) now refl (numbered c.args.at 8 m ah))
     c.read_key-in-8.ensures.made
 
 pub returns-in-8-clause-refused : goal.returns-in-8-clause-refused
@@ -100,6 +100,6 @@ returns-in-8-clause-refused g c =
     let ah : 8 ≡ half_of_word High (word_in (state_of m) Ax) = sym c.in-8.is ∙ c.of.ensures ∙ ap (half_of_word High) c.reg-ax.ensures in
     IfErr-weaker c.read_key-in-8.result _ _
     (λ fault refused.
-    refused_here (key_step false) (dos_call c.args.at) fault m c.read_key-in-8.new.self (g.I.Source.left c.args.input.now) (g.O.Sink.taken c.args.out.now)
+    refused_here (λ cpu. key_step false) (λ cpu. dos_call c.args.at) fault m c.read_key-in-8.new.self (g.I.Source.left c.args.input.now) (g.O.Sink.taken c.args.out.now)
     (g.I.Source.left c.read_key-in-8.new.input) (g.O.Sink.taken c.read_key-in-8.new.out) (numbered c.args.at 8 m ah) refused)
     c.read_key-in-8.ensures.refused

@@ -1,10 +1,9 @@
-use Rattle.dcc_prog.proofs.WellFormedLaws.{found-operation}
+use Rattle.std.proofs.Common.{◌%◌}
+use Rattle.std.proofs.lemmas.List.Elements.{All-set}
+use Rattle.dcc_step.specs.Cache.{IsDecoded}
 use Rattle.dcc_step.proofs.machine.Machine.fetch.Goals as goal
 
-pub returns-then-eq-clause-operation : goal.returns-then-eq-clause-operation
-returns-then-eq-clause-operation c =
-    found-operation c.index.result.now.at c.index.result.now.window c.index.result.now.instr c.index.result.now.bytes c.index.result.now.found
-
-pub returns-clause-operation : goal.returns-clause-operation
-returns-clause-operation c =
-    found-operation c.of-decoded.result.at c.of-decoded.result.window c.of-decoded.result.instr c.of-decoded.result.bytes c.of-decoded.result.found
+pub invariant_of-self : goal.invariant_of-self
+invariant_of-self c =
+    let all = All-set (IsDecoded c.self.inside.cpu) c.self.inside.cache.items (c.from-place.result % 4096) c.of-decoded.result c.of-decoded.ensures.decoded c.self.invariant.2 in
+    (c.self.invariant.0, c.self.invariant.1, all)

@@ -12,4 +12,4 @@ returns c =
     memory_is image.bytes.items first.items c.resize.new.self.items third.items c.resize-2.new.self.items (vec_len first) (vec_len third)
     c.in_ok-memory.ensures.items (omega (arith, image.bytes.ok.0)) first.ok.0 third.ok.0
     c.in_ok-resize.ensures.items (c.in_ok-extend_from_slice.ensures.items ∙ ap (λ l. c.resize.new.self.items ++ l) c.deref.ensures.value) c.in_ok-resize-2.ensures.items in
-    λ input. cc
+    cc

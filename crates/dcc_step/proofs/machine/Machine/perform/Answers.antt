@@ -15,11 +15,11 @@ pub returns-in-Int21-clause-made : goal.returns-in-Int21-clause-made
 returns-in-Int21-clause-made g c =
     let before : Scene Core = scene c.args.self.now (g.I.Source.left c.args.input.now) (g.O.Sink.taken c.args.out.now) in
     let now : Scene Core = scene c.call_dos.new.self (g.I.Source.left c.call_dos.new.input) (g.O.Sink.taken c.call_dos.new.out) in
-    subst (λ o. OnOk c.call_dos.result (Makes (machine_by (op_step o c.args.at)) before now)) (sym c.in-Int21.is) c.call_dos.ensures.made
+    subst (λ o. OnOk c.call_dos.result (Makes (machine_by (λ cpu. op_step cpu o c.args.at)) before now)) (sym c.in-Int21.is) c.call_dos.ensures.made
 
 pub returns-in-Int21-clause-refused : goal.returns-in-Int21-clause-refused
 returns-in-Int21-clause-refused g c =
     let before : Scene Core = scene c.args.self.now (g.I.Source.left c.args.input.now) (g.O.Sink.taken c.args.out.now) in
     let now : Scene Core = scene c.call_dos.new.self (g.I.Source.left c.call_dos.new.input) (g.O.Sink.taken c.call_dos.new.out) in
-    subst (λ o. IfErr c.call_dos.result (λ fault. Steps (machine_by (op_step o c.args.at)) (refusal_of fault) before now)) (sym c.in-Int21.is)
+    subst (λ o. IfErr c.call_dos.result (λ fault. Steps (machine_by (λ cpu. op_step cpu o c.args.at)) (refusal_of fault) before now)) (sym c.in-Int21.is)
     c.call_dos.ensures.refused

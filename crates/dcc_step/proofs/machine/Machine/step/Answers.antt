@@ -1,7 +1,7 @@
 use Rattle.std.proofs.Common.{◌≡◌, ◌+◌, ◌%◌, sym, ap, ◌∙◌}
 use Rattle.dcc_run.specs.End.{Running, Outside, is_over}
 use Rattle.dcc_prog.specs.Operations.{with_end}
-use Rattle.dcc_step.specs.Core.{Core, core_of, state_of}
+use Rattle.dcc_step.specs.Core.{Core, changed_by}
 use Rattle.dcc_step.specs.Ending.{end_of}
 use Rattle.dcc_console.specs.Scene.{scene}
 use Rattle.dcc_step.proofs.Steps.{answered, answers, refused, over, stays_over, step_outside, step_made_at, step_refused_at}
@@ -30,8 +30,8 @@ returns-in_default-fetch-clause-step g c =
     answered c.self-in_default-fetch.inside.end c.answer-in_default-fetch.result _ _ c.answer-in_default-fetch.ensures
     (step_outside m c.finish.new.self left taken runs (sym c.fetch.ensures.found ∙ c.in_default-fetch.is)
     (c.finish.ensures
-    ∙ ap (λ (k : Core). core_of (with_end (Outside c.self.inside.ip) c.self.inside.ip (state_of k))) c.fetch.ensures.kept
-    ∙ ap (λ at. core_of (with_end (Outside at) at (state_of m))) ip))
+    ∙ ap (changed_by (with_end (Outside c.self.inside.ip) c.self.inside.ip)) c.fetch.ensures.kept
+    ∙ ap (λ at. changed_by (with_end (Outside at) at) m) ip))
 
 pub returns-in-Err-clause-step : goal.returns-in-Err-clause-step
 returns-in-Err-clause-step g c =
