@@ -20,7 +20,10 @@ console_by operation = record {
 
 -- the code that makes this operation of its processor: it keeps a state but for its console
 abbrev pub machine_by : (Cpu → State → State) → Executor Cpu Core State
-machine_by operation = record { console = λ cpu. console_by (operation cpu); stands = λ cpu core s. core_of cpu s ≡ core }
+machine_by operation = record {
+  console = λ cpu. console_by (operation cpu);
+  stands = λ cpu core s. core_of cpu s ≡ core;
+}
 
 -- the code that makes the steps of its processor's machine
 abbrev pub machine : Executor Cpu Core State

@@ -7,6 +7,7 @@ ghost use Rattle.dcc_prog.specs.Operations.{with_al, with_end};
 ghost use Rattle.dcc_prog.specs.Dos.{key_step, dos_string, dos_call};
 ghost use Rattle.dcc_step.specs.Core.{state_of, changed_by};
 ghost use Rattle.dcc_step.specs.Ending.{end_of};
+ghost use Rattle.dcc_console.specs.Counts.{CountsFaults};
 ghost use Rattle.dcc_console.specs.Scene.{scene};
 ghost use Rattle.dcc_console.specs.Steps.{Makes, Steps, refusal_of};
 ghost use Rattle.dcc_step.specs.Stepped.{machine_by};
@@ -67,12 +68,8 @@ impl Machine {
         ensures refused { IfErr result (λ fault. Steps (machine_by (λ cpu. key_step echo)) (refusal_of fault)
             (scene self.old (I.left input.old) (O.taken out.old))
             (scene self.new (I.left input.new) (O.taken out.new))) }
-
-        // The counts never fall, and a fault comes only where its count rose.
-        ensures input_faults { I.faults input.old ≤ I.faults input.new }
-        ensures output_faults { O.faults out.old ≤ O.faults out.new }
-        ensures read_failed { IsErrOf result Fault.Input → Rose (I.faults input.old) (I.faults input.new) }
-        ensures write_failed { IsErrOf result Fault.Output → Rose (O.faults out.old) (O.faults out.new) }
+        ensures faults { CountsFaults (IsErrOf result Fault.Input) (IsErrOf result Fault.Output)
+            (I.faults input.old) (I.faults input.new) (O.faults out.old) (O.faults out.new) }
     {
         let byte = take_key(echo, input, out)?;
         self.set_al(byte);
@@ -92,12 +89,8 @@ impl Machine {
         ensures refused { IfErr result (λ fault. Steps (machine_by (λ cpu. dos_call at)) (refusal_of fault)
             (scene self.old (I.left input.old) (O.taken out.old))
             (scene self.new (I.left input.new) (O.taken out.new))) }
-
-        // The counts never fall, and a fault comes only where its count rose.
-        ensures input_faults { I.faults input.old ≤ I.faults input.new }
-        ensures output_faults { O.faults out.old ≤ O.faults out.new }
-        ensures read_failed { IsErrOf result Fault.Input → Rose (I.faults input.old) (I.faults input.new) }
-        ensures write_failed { IsErrOf result Fault.Output → Rose (O.faults out.old) (O.faults out.new) }
+        ensures faults { CountsFaults (IsErrOf result Fault.Input) (IsErrOf result Fault.Output)
+            (I.faults input.old) (I.faults input.new) (O.faults out.old) (O.faults out.new) }
     {
         let ax = self.reg(Reg::Ax);
         match Half::High.of(ax) {

@@ -1,12 +1,12 @@
 //! Steps and runs.
 
-ghost use Rattle.std.specs.Prelude.{◌≡◌, ◌≢◌, ◌≤◌, ℕ, IsSome, IfSome, OnOk, IfErr, IsErrOf, Option, Some, None};
-ghost use Rattle.dcc_io.specs.Count.{Rose};
+ghost use Rattle.std.specs.Prelude.{◌≡◌, ◌≢◌, IfSome, OnOk, IfErr, IsErrOf, Option, Some, None};
 ghost use Rattle.dcc_prog.specs.declared.instr.Op.{Op};
 ghost use Rattle.dcc_prog.specs.Table.{instruction_at};
 ghost use Rattle.dcc_prog.specs.Step.{code_byte, code_bytes, op_step};
 ghost use Rattle.dcc_prog.specs.WellFormed.{IsOperation};
 ghost use Rattle.dcc_step.specs.Core.{state_of, changed_by};
+ghost use Rattle.dcc_console.specs.Counts.{CountsFaults};
 ghost use Rattle.dcc_console.specs.Scene.{scene};
 ghost use Rattle.dcc_console.specs.Steps.{Makes, Steps, HasEnded, Runs, refusal_of};
 ghost use Rattle.dcc_step.specs.Stepped.{machine, machine_by, outcome_of, end_told};
@@ -120,12 +120,8 @@ impl Machine {
         ensures refused { IfErr result (λ fault. Steps (machine_by (λ cpu. op_step cpu op at)) (refusal_of fault)
             (scene self.old (I.left input.old) (O.taken out.old))
             (scene self.new (I.left input.new) (O.taken out.new))) }
-
-        // The counts never fall, and a fault comes only where its count rose.
-        ensures input_faults { I.faults input.old ≤ I.faults input.new }
-        ensures output_faults { O.faults out.old ≤ O.faults out.new }
-        ensures read_failed { IsErrOf result Fault.Input → Rose (I.faults input.old) (I.faults input.new) }
-        ensures write_failed { IsErrOf result Fault.Output → Rose (O.faults out.old) (O.faults out.new) }
+        ensures faults { CountsFaults (IsErrOf result Fault.Input) (IsErrOf result Fault.Output)
+            (I.faults input.old) (I.faults input.new) (O.faults out.old) (O.faults out.new) }
     {
         match op {
             Op::Int21 => self.call_dos(at, input, out),
@@ -148,12 +144,8 @@ impl Machine {
             (scene self.old (I.left input.old) (O.taken out.old))
             (scene self.new (I.left input.new) (O.taken out.new)) }
         ensures answer { HasEnded machine self.new (end_told result) }
-
-        // The counts never fall, and a fault comes only where its count rose.
-        ensures input_faults { I.faults input.old ≤ I.faults input.new }
-        ensures output_faults { O.faults out.old ≤ O.faults out.new }
-        ensures read_failed { result ≡ Stepped.InFault → Rose (I.faults input.old) (I.faults input.new) }
-        ensures write_failed { result ≡ Stepped.OutFault → Rose (O.faults out.old) (O.faults out.new) }
+        ensures faults { CountsFaults (result ≡ Stepped.InFault) (result ≡ Stepped.OutFault)
+            (I.faults input.old) (I.faults input.new) (O.faults out.old) (O.faults out.new) }
     {
         let Ending::Running = self.end else {
             return self.end.answer();
@@ -178,12 +170,8 @@ impl Machine {
             (scene self.old (I.left input.old) (O.taken out.old))
             (scene self.new (I.left input.new) (O.taken out.new)) }
         ensures answer { HasEnded machine self.new (end_told result) }
-
-        // The counts never fall, and a fault comes only where its count rose.
-        ensures input_faults { I.faults input.old ≤ I.faults input.new }
-        ensures output_faults { O.faults out.old ≤ O.faults out.new }
-        ensures read_failed { result ≡ Stepped.InFault → Rose (I.faults input.old) (I.faults input.new) }
-        ensures write_failed { result ≡ Stepped.OutFault → Rose (O.faults out.old) (O.faults out.new) }
+        ensures faults { CountsFaults (result ≡ Stepped.InFault) (result ≡ Stepped.OutFault)
+            (I.faults input.old) (I.faults input.new) (O.faults out.old) (O.faults out.new) }
     {
         for _count in 0..most {
             match self.step(input, out) {

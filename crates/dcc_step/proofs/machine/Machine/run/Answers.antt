@@ -20,8 +20,8 @@ loop-count-init g c = record {
 pub loop-count-preserved : goal.loop-count-preserved
 loop-count-preserved g c = record {
   made = one_more machine c.loop-count._count _ _ _ c.loop-count.invariant.made c.in-Running.ensures.step;
-  input_faults = omega arith;
-  output_faults = omega arith;
+  input_faults = omega (arith, c.in-Running.ensures.faults.input_faults);
+  output_faults = omega (arith, c.in-Running.ensures.faults.output_faults);
 }
 
 pub returns-in_default : goal.returns-in_default
@@ -30,10 +30,12 @@ returns-in_default g c = record {
       last_step machine machine_executes (outcome_of c.step.result) c.loop-count._count c.args.most _ _ _ (end_told c.step.result)
       c.loop-count-test.true (answer_over c.step.result c.in_default.not-Running) c.loop-count.invariant.made c.step.ensures.step c.step.ensures.answer;
   answer = c.step.ensures.answer;
-  input_faults = omega arith;
-  output_faults = omega arith;
-  read_failed = λ failed. Rose-since _ _ _ c.loop-count.invariant.input_faults (c.step.ensures.read_failed failed);
-  write_failed = λ failed. Rose-since _ _ _ c.loop-count.invariant.output_faults (c.step.ensures.write_failed failed);
+  faults = record {
+    input_faults = omega (arith, c.step.ensures.faults.input_faults);
+    output_faults = omega (arith, c.step.ensures.faults.output_faults);
+    read_failed = λ failed. Rose-since _ _ _ c.loop-count.invariant.input_faults (c.step.ensures.faults.read_failed failed);
+    write_failed = λ failed. Rose-since _ _ _ c.loop-count.invariant.output_faults (c.step.ensures.faults.write_failed failed);
+  };
 }
 
 pub returns-clause-run : goal.returns-clause-run
