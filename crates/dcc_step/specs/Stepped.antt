@@ -18,14 +18,15 @@ console_by operation = record {
   with_left = λ input s. record s { input = input };
 }
 
--- the code that makes this operation of its processor: it keeps a state but for its console
+-- The code that makes this operation of its processor. It keeps the processor and a state but for its console, and stands
+-- for states of that processor's machine alone.
 abbrev pub machine_by : (Cpu → State → State) → Executor Cpu Core State
 machine_by operation = record {
   console = λ cpu. console_by (operation cpu);
   stands = λ cpu core s. core_of cpu s ≡ core;
 }
 
--- the code that makes the steps of its processor's machine
+-- the code that makes its processor's steps
 abbrev pub machine : Executor Cpu Core State
 machine = machine_by step
 

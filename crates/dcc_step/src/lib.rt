@@ -1,4 +1,4 @@
-//! The 8086 machine on flat memory, one instruction a step, with the five DOS calls.
+//! The machine with the 8086 or the 80186 on flat memory, one instruction a step, with the five DOS calls.
 #![tactic(auto)]
 
 mod alu;
