@@ -5,6 +5,7 @@ use Rattle.std.specs.List.{list_all}
 use Rattle.std.proofs.lemmas.Nat.{and_mask}
 use Rattle.std.proofs.lemmas.Bool.{cases_lt}
 use Rattle.std.proofs.lemmas.Bool.Decides.{nat_tests}
+use Rattle.dcc_prog.specs.declared.cpu.Cpu.TheVariants.{I186}
 use Rattle.dcc_prog.specs.Operands.{mod_field, reg_field, rm_field}
 use Rattle.dcc_prog.specs.Table.{Range, BytePattern, Row, ConstantForm, no_constant, byte_constant, word_constant, signed_constant, in_range, fits_byte, fits, table, IsRow, bytes_between, this_byte, each_eight, any_operand, modrm_bytes, between}
 use Rattle.dcc_prog.proofs.TableLaws.{and_left, and_right, and_both, patterns_apart, fits-apart, rows_within}
@@ -89,11 +90,11 @@ list_all-filter {X} test keep (y ∷ ys) (suc k) x h e p =
 -- a test that holds of the rows that bytes of a form may fit holds of each row that they do fit
 pub told :
     (form : List BytePattern) (test : Row → Bool) (bytes : List ℕ)
-    → list_all test (rows_within form table) ≡ true → fits form bytes ≡ true → (row : Row)
-    → IsRow row → fits row.pattern bytes ≡ true → test row ≡ true
+    → list_all test (rows_within form (table I186)) ≡ true → fits form bytes ≡ true → (row : Row)
+    → IsRow I186 row → fits row.pattern bytes ≡ true → test row ≡ true
 told form test bytes all h row at k =
     let apart = fits-apart form row.pattern bytes h k in
-    list_all-filter test (λ r. not (patterns_apart form r.pattern)) table at.0 row all at.1 (rw apart refl)
+    list_all-filter test (λ r. not (patterns_apart form r.pattern)) (table I186) at.0 row all at.1 (rw apart refl)
 
 -- The ModRM byte ---------------------------------------------------------------------------------
 
@@ -110,7 +111,7 @@ same_flag-eq false false h = refl
 -- whether the rows of a form have a ModRM byte
 abbrev modrm_told : BytePattern → Bool → Bool
 modrm_told form answer =
-    list_all (λ row. not (is_opcode_row row) || same_flag row.has_modrm answer) (rows_within (form ∷ []) table)
+    list_all (λ row. not (is_opcode_row row) || same_flag row.has_modrm answer) (rows_within (form ∷ []) (table I186))
 
 or_right : (a b : Bool) → not a || b ≡ true → a ≡ true → b ≡ true
 or_right true b h t = h
@@ -155,13 +156,49 @@ pub modrm-fe_ff : (opcode : ℕ) → 0xfe ≤ opcode → opcode ≤ 0xff → Tel
 unfolding table
 modrm-fe_ff opcode h k = modrm_between 0xfe 0xff true opcode refl h k (omega arith)
 
-pub modrm-40_7f : (opcode : ℕ) → 0x40 ≤ opcode → opcode ≤ 0x7f → TellsModrm opcode false
+pub modrm-40_68 : (opcode : ℕ) → 0x40 ≤ opcode → opcode ≤ 0x68 → TellsModrm opcode false
 unfolding table
-modrm-40_7f opcode h k = modrm_between 0x40 0x7f false opcode refl h k (omega arith)
+modrm-40_68 opcode h k = modrm_between 0x40 0x68 false opcode refl h k (omega arith)
 
-pub modrm-90_c5 : (opcode : ℕ) → 0x90 ≤ opcode → opcode ≤ 0xc5 → TellsModrm opcode false
+pub modrm-69_69 : (opcode : ℕ) → 0x69 ≤ opcode → opcode ≤ 0x69 → TellsModrm opcode true
 unfolding table
-modrm-90_c5 opcode h k = modrm_between 0x90 0xc5 false opcode refl h k (omega arith)
+modrm-69_69 opcode h k = modrm_between 0x69 0x69 true opcode refl h k (omega arith)
+
+pub modrm-6a_6a : (opcode : ℕ) → 0x6a ≤ opcode → opcode ≤ 0x6a → TellsModrm opcode false
+unfolding table
+modrm-6a_6a opcode h k = modrm_between 0x6a 0x6a false opcode refl h k (omega arith)
+
+pub modrm-6b_6b : (opcode : ℕ) → 0x6b ≤ opcode → opcode ≤ 0x6b → TellsModrm opcode true
+unfolding table
+modrm-6b_6b opcode h k = modrm_between 0x6b 0x6b true opcode refl h k (omega arith)
+
+pub modrm-6c_7f : (opcode : ℕ) → 0x6c ≤ opcode → opcode ≤ 0x7f → TellsModrm opcode false
+unfolding table
+modrm-6c_7f opcode h k = modrm_between 0x6c 0x7f false opcode refl h k (omega arith)
+
+-- between 0x40 and 0x7F the two multiplications alone have a ModRM byte
+pub modrm-rest_40_7f :
+    (opcode : ℕ) → 0x40 ≤ opcode → opcode ≤ 0x7f → opcode ≢ 0x69 → opcode ≢ 0x6b → TellsModrm opcode false
+modrm-rest_40_7f opcode h k n m =
+    elim (cases_lt opcode 0x69) [
+      | inl a ↦ modrm-40_68 opcode h (omega arith)
+      | inr a ↦ elim (cases_lt opcode 0x6b) [
+        | inl b ↦ modrm-6a_6a opcode (omega arith) (omega arith)
+        | inr b ↦ modrm-6c_7f opcode (omega arith) k
+      ]
+    ]
+
+pub modrm-90_bf : (opcode : ℕ) → 0x90 ≤ opcode → opcode ≤ 0xbf → TellsModrm opcode false
+unfolding table
+modrm-90_bf opcode h k = modrm_between 0x90 0xbf false opcode refl h k (omega arith)
+
+pub modrm-c0_c1 : (opcode : ℕ) → 0xc0 ≤ opcode → opcode ≤ 0xc1 → TellsModrm opcode true
+unfolding table
+modrm-c0_c1 opcode h k = modrm_between 0xc0 0xc1 true opcode refl h k (omega arith)
+
+pub modrm-c2_c5 : (opcode : ℕ) → 0xc2 ≤ opcode → opcode ≤ 0xc5 → TellsModrm opcode false
+unfolding table
+modrm-c2_c5 opcode h k = modrm_between 0xc2 0xc5 false opcode refl h k (omega arith)
 
 pub modrm-c8_cf : (opcode : ℕ) → 0xc8 ≤ opcode → opcode ≤ 0xcf → TellsModrm opcode false
 unfolding table
@@ -193,7 +230,7 @@ modrm-below_40 opcode h =
     let cases : (b : Bool) → P b = λ b. elim b as P [ true ↦ λ t. modrm-low opcode h (grind (arith, nat_tests)) | false ↦ λ t. modrm-high opcode h (grind (arith, nat_tests)) ] in
     rw (low_bits opcode) (cases (nat_lt (opcode % 8) 4) refl)
 
-pub ruleset modrm_rules = (modrm-80_8f, modrm-c6_c7, modrm-d0_d3, modrm-f6_f7, modrm-fe_ff, modrm-40_7f, modrm-90_c5, modrm-c8_cf, modrm-d4_f5, modrm-f8_fd, modrm-below_40)
+pub ruleset modrm_rules = (modrm-80_8f, modrm-c6_c7, modrm-d0_d3, modrm-f6_f7, modrm-fe_ff, modrm-69_69, modrm-6b_6b, modrm-rest_40_7f, modrm-90_bf, modrm-c0_c1, modrm-c2_c5, modrm-c8_cf, modrm-d4_f5, modrm-f8_fd, modrm-below_40)
 
 -- The constant -----------------------------------------------------------------------------------
 
@@ -225,7 +262,7 @@ same_form-eq signed_constant word_constant h = cc
 -- whether the rows of a form end in that constant
 abbrev constant_told : List BytePattern → Constant → Bool
 constant_told form answer =
-    list_all (λ row. not (is_opcode_row row) || same_form row.constant_form (form_of answer)) (rows_within form table)
+    list_all (λ row. not (is_opcode_row row) || same_form row.constant_form (form_of answer)) (rows_within form (table I186))
 
 tells_constant :
     (form : List BytePattern) (answer : Constant) (opcode modrm : ℕ)
@@ -258,10 +295,25 @@ constant_eight first last answer opcode modrm all h k l =
     tells_constant (each_eight first last ∷ []) answer opcode modrm all
     (λ rest. fits-one _ opcode (modrm ∷ rest) (fits-each_eight first last opcode low high l))
 
-pub constant-40_6f :
-    (opcode modrm : ℕ) → 0x40 ≤ opcode → opcode ≤ 0x6f → TellsConstant opcode modrm Absent
+pub constant-40_67 :
+    (opcode modrm : ℕ) → 0x40 ≤ opcode → opcode ≤ 0x67 → TellsConstant opcode modrm Absent
 unfolding table
-constant-40_6f opcode modrm h k = constant_between 0x40 0x6f Absent opcode modrm refl h k (omega arith)
+constant-40_67 opcode modrm h k = constant_between 0x40 0x67 Absent opcode modrm refl h k (omega arith)
+
+pub constant-68_69 :
+    (opcode modrm : ℕ) → 0x68 ≤ opcode → opcode ≤ 0x69 → TellsConstant opcode modrm Word
+unfolding table
+constant-68_69 opcode modrm h k = constant_between 0x68 0x69 Word opcode modrm refl h k (omega arith)
+
+pub constant-6a_6b :
+    (opcode modrm : ℕ) → 0x6a ≤ opcode → opcode ≤ 0x6b → TellsConstant opcode modrm SignedByte
+unfolding table
+constant-6a_6b opcode modrm h k = constant_between 0x6a 0x6b SignedByte opcode modrm refl h k (omega arith)
+
+pub constant-6c_6f :
+    (opcode modrm : ℕ) → 0x6c ≤ opcode → opcode ≤ 0x6f → TellsConstant opcode modrm Absent
+unfolding table
+constant-6c_6f opcode modrm h k = constant_between 0x6c 0x6f Absent opcode modrm refl h k (omega arith)
 
 pub constant-70_7f :
     (opcode modrm : ℕ) → 0x70 ≤ opcode → opcode ≤ 0x7f → TellsConstant opcode modrm SignedByte
@@ -334,9 +386,9 @@ unfolding table
 constant-b8_bf opcode modrm h k = constant_between 0xb8 0xbf Word opcode modrm refl h k (omega arith)
 
 pub constant-c0_c1 :
-    (opcode modrm : ℕ) → 0xc0 ≤ opcode → opcode ≤ 0xc1 → TellsConstant opcode modrm Absent
+    (opcode modrm : ℕ) → 0xc0 ≤ opcode → opcode ≤ 0xc1 → TellsConstant opcode modrm Byte
 unfolding table
-constant-c0_c1 opcode modrm h k = constant_between 0xc0 0xc1 Absent opcode modrm refl h k (omega arith)
+constant-c0_c1 opcode modrm h k = constant_between 0xc0 0xc1 Byte opcode modrm refl h k (omega arith)
 
 pub constant-c2_c2 :
     (opcode modrm : ℕ) → 0xc2 ≤ opcode → opcode ≤ 0xc2 → TellsConstant opcode modrm Word
@@ -358,15 +410,10 @@ pub constant-c7_c7 :
 unfolding table
 constant-c7_c7 opcode modrm h k = constant_between 0xc7 0xc7 Word opcode modrm refl h k (omega arith)
 
-pub constant-c8_cf :
-    (opcode modrm : ℕ) → 0xc8 ≤ opcode → opcode ≤ 0xcf → TellsConstant opcode modrm Absent
+pub constant-c8_df :
+    (opcode modrm : ℕ) → 0xc8 ≤ opcode → opcode ≤ 0xdf → TellsConstant opcode modrm Absent
 unfolding table
-constant-c8_cf opcode modrm h k = constant_between 0xc8 0xcf Absent opcode modrm refl h k (omega arith)
-
-pub constant-d0_df :
-    (opcode modrm : ℕ) → 0xd0 ≤ opcode → opcode ≤ 0xdf → TellsConstant opcode modrm Absent
-unfolding table
-constant-d0_df opcode modrm h k = constant_between 0xd0 0xdf Absent opcode modrm refl h k (omega arith)
+constant-c8_df opcode modrm h k = constant_between 0xc8 0xdf Absent opcode modrm refl h k (omega arith)
 
 pub constant-e0_e3 :
     (opcode modrm : ℕ) → 0xe0 ≤ opcode → opcode ≤ 0xe3 → TellsConstant opcode modrm SignedByte
@@ -479,20 +526,6 @@ constant-rest_a4_af opcode modrm h k n0 n1 =
           constant-aa_af opcode modrm (omega arith) (omega arith)
     ]
 
-pub constant-rest_c0_cf :
-    (opcode modrm : ℕ) → 0xc0 ≤ opcode → opcode ≤ 0xcf → opcode ≢ 0xc2 → opcode ≢ 0xc6
-    → opcode ≢ 0xc7 → TellsConstant opcode modrm Absent
-constant-rest_c0_cf opcode modrm h k n0 n1 n2 =
-    elim (cases_lt opcode 0xc3) [
-      | inl l0 ↦ constant-c0_c1 opcode modrm (omega arith) (omega arith)
-      | inr r0 ↦
-          elim (cases_lt opcode 0xc8) [
-            | inl l1 ↦ constant-c3_c5 opcode modrm (omega arith) (omega arith)
-            | inr r1 ↦
-                constant-c8_cf opcode modrm (omega arith) (omega arith)
-          ]
-    ]
-
 pub constant-rest_ea_ef :
     (opcode modrm : ℕ) → 0xea ≤ opcode → opcode ≤ 0xef → opcode ≢ 0xeb
     → TellsConstant opcode modrm Absent
@@ -512,4 +545,4 @@ constant-rest_eight opcode modrm h m n =
       | inr r ↦ constant-eight_6_7 opcode modrm h (omega arith) (omega arith)
     ]
 
-pub ruleset constant_rules = (constant-40_6f, constant-70_7f, constant-80_80, constant-81_81, constant-82_82, constant-83_83, constant-84_8f, constant-90_9f, constant-a0_a3, constant-a4_a7, constant-a8_a8, constant-a9_a9, constant-aa_af, constant-b0_b7, constant-b8_bf, constant-c0_c1, constant-c2_c2, constant-c3_c5, constant-c6_c6, constant-c7_c7, constant-c8_cf, constant-d0_df, constant-e0_e3, constant-e4_e7, constant-e8_e9, constant-ea_ea, constant-eb_eb, constant-ec_ef, constant-f0_f5, constant-f8_ff, constant-rest_80_8f, constant-rest_a4_af, constant-rest_c0_cf, constant-eight_0_3, constant-eight_4_4, constant-eight_5_5, constant-eight_6_7, constant-f6_0_0, constant-f7_0_0, constant-f6_f7, constant-rest_ea_ef, constant-rest_eight)
+pub ruleset constant_rules = (constant-40_67, constant-68_69, constant-6a_6b, constant-6c_6f, constant-70_7f, constant-80_80, constant-81_81, constant-82_82, constant-83_83, constant-84_8f, constant-90_9f, constant-a0_a3, constant-a4_a7, constant-a8_a8, constant-a9_a9, constant-aa_af, constant-b0_b7, constant-b8_bf, constant-c0_c1, constant-c2_c2, constant-c3_c5, constant-c6_c6, constant-c7_c7, constant-c8_df, constant-e0_e3, constant-e4_e7, constant-e8_e9, constant-ea_ea, constant-eb_eb, constant-ec_ef, constant-f0_f5, constant-f8_ff, constant-rest_80_8f, constant-rest_a4_af, constant-eight_0_3, constant-eight_4_4, constant-eight_5_5, constant-eight_6_7, constant-f6_0_0, constant-f7_0_0, constant-f6_f7, constant-rest_ea_ef, constant-rest_eight)

@@ -1,9 +1,12 @@
--- The operation of each row with an opcode below 0x90, by its opcode and ModRM byte, and the bytes that have none.
-use Rattle.std.proofs.Common.{◌≡◌, ℕ, ◌-◌, ◌<◌, ◌≤◌, Bool, true, false, ◌&&◌, nat_lt, List, [], ◌∷◌, length, refl, inl, inr, arith}
+-- The operation of each row of the 8086 with an opcode below 0x90, by its opcode and ModRM byte, and the bytes that
+-- have none.
+use Rattle.std.proofs.Common.{◌≡◌, ℕ, ◌-◌, ◌<◌, ◌≤◌, Bool, true, false, ◌&&◌, nat_lt, List, [], ◌∷◌, length, refl, ◌∙◌, inl, inr, arith}
 use Rattle.std.specs.Prelude.{◌≢◌, bit_and, find, slice_get, Some, None, ◌==◌}
 use Rattle.std.specs.List.{list_all}
 use Rattle.std.proofs.lemmas.Bool.{cases_lt}
 use Rattle.std.proofs.lemmas.Bool.Decides.{nat_tests}
+use Rattle.dcc_prog.specs.declared.cpu.Cpu.{Cpu}
+use Rattle.dcc_prog.specs.declared.cpu.Cpu.TheVariants.{I8086}
 use Rattle.dcc_prog.specs.declared.instr.Alu.TheVariants.{Test}
 use Rattle.dcc_prog.specs.declared.instr.Unary.TheVariants.{Inc, Dec}
 use Rattle.dcc_prog.specs.declared.instr.Op.TheVariants.{Alu as AluOp, Unary as UnaryOp, Mov, Xchg, Push, Pop}
@@ -16,11 +19,16 @@ use Rattle.dcc_decode.proofs.Forms.{fits-between, fits-this, fits-each_eight, fi
 -- The row that the bytes fit -----------------------------------------------------------------------
 
 -- the row at a place of the table gives the operation where the opcode and the ModRM byte fit it
-pub of_row :
-    (k : ℕ) (row : Row) (p : Parts) → slice_get table k ≡ Some row
-    → fits row.pattern (p.opcode ∷ p.modrm ∷ []) ≡ true → operation_of p ≡ Some (row.operation p)
+pub of_row_for :
+    (cpu : Cpu) (k : ℕ) (row : Row) (p : Parts) → slice_get (table cpu) k ≡ Some row
+    → fits row.pattern (p.opcode ∷ p.modrm ∷ []) ≡ true → operation_of cpu p ≡ Some (row.operation p)
 unfolding operation_of
-of_row k row p at h = rw (find-fits (p.opcode ∷ p.modrm ∷ []) row (k, at) h)
+of_row_for cpu k row p at h = rw (find-fits cpu (p.opcode ∷ p.modrm ∷ []) row (k, at) h)
+
+pub of_row :
+    (k : ℕ) (row : Row) (p : Parts) → slice_get (table I8086) k ≡ Some row
+    → fits row.pattern (p.opcode ∷ p.modrm ∷ []) ≡ true → operation_of I8086 p ≡ Some (row.operation p)
+of_row = of_row_for I8086
 
 -- no row of more than two bytes fits two
 fits-long :
@@ -42,15 +50,27 @@ find-long :
 find-long [] a b h = refl
 find-long (row ∷ rows) a b h = rw (fits-long row.pattern a b (and_left _ _ h)) (find-long rows a b (and_right _ _ h))
 
-abbrev empty : List BytePattern → Bool
-empty form = list_all (λ row. nat_lt 2 (length row.pattern)) (rows_within form table)
+-- whether each of the rows that bytes of a form may fit has more than two bytes
+abbrev pub empty : List Row → List BytePattern → Bool
+empty rows form = list_all (λ row. nat_lt 2 (length row.pattern)) (rows_within form rows)
+
+-- then no row fits an opcode and a ModRM byte of that form
+pub no_row_fits :
+    (rows : List Row) (form : List BytePattern) (a b : ℕ) → empty rows form ≡ true → fits form (a ∷ b ∷ []) ≡ true
+    → find (λ row. fits row.pattern (a ∷ b ∷ [])) rows ≡ None
+no_row_fits rows form a b e h = find-within form (a ∷ b ∷ []) rows h ∙ find-long (rows_within form rows) a b e
 
 -- there is no operation where no row of one or two bytes has a part in the form
-pub none :
-    (form : List BytePattern) (p : Parts) → empty form ≡ true
-    → fits form (p.opcode ∷ p.modrm ∷ []) ≡ true → operation_of p ≡ None
+pub none_for :
+    (cpu : Cpu) (form : List BytePattern) (p : Parts) → empty (table cpu) form ≡ true
+    → fits form (p.opcode ∷ p.modrm ∷ []) ≡ true → operation_of cpu p ≡ None
 unfolding operation_of
-none form p e h = rw (find-within form (p.opcode ∷ p.modrm ∷ []) table h) (rw (find-long (rows_within form table) p.opcode p.modrm e))
+none_for cpu form p e h = rw (no_row_fits (table cpu) form p.opcode p.modrm e h) refl
+
+pub none :
+    (form : List BytePattern) (p : Parts) → empty (table I8086) form ≡ true
+    → fits form (p.opcode ∷ p.modrm ∷ []) ≡ true → operation_of I8086 p ≡ None
+none = none_for I8086
 
 -- the two bytes fit an opcode's pattern, and the ModRM byte's
 pub one :
@@ -86,7 +106,7 @@ this byte p e = fits-one _ p.opcode (p.modrm ∷ []) (fits-this byte p.opcode e)
 
 pub alu_two :
     (p : Parts) → p.opcode < 64 → bit_and p.opcode 7 ≤ 3 → p.modrm < 256
-    → operation_of p ≡ Some (alu_by_opcode p (destination p) (source p))
+    → operation_of I8086 p ≡ Some (alu_by_opcode p (destination p) (source p))
 unfolding table
 alu_two p h k m =
     of_row 0 _ p refl
@@ -94,17 +114,17 @@ alu_two p h k m =
 
 pub alu_al :
     (p : Parts) → p.opcode < 64 → bit_and p.opcode 7 ≡ 4
-    → operation_of p ≡ Some (alu_by_opcode p al (imm8 p))
+    → operation_of I8086 p ≡ Some (alu_by_opcode p al (imm8 p))
 unfolding table
 alu_al p h e = of_row 1 _ p refl (eight 4 4 p (omega arith) (omega arith) h)
 
 pub alu_ax :
     (p : Parts) → p.opcode < 64 → bit_and p.opcode 7 ≡ 5
-    → operation_of p ≡ Some (alu_by_opcode p ax (imm16 p))
+    → operation_of I8086 p ≡ Some (alu_by_opcode p ax (imm16 p))
 unfolding table
 alu_ax p h e = of_row 2 _ p refl (eight 5 5 p (omega arith) (omega arith) h)
 
-pub none-eight : (p : Parts) → p.opcode < 64 → 6 ≤ bit_and p.opcode 7 → operation_of p ≡ None
+pub none-eight : (p : Parts) → p.opcode < 64 → 6 ≤ bit_and p.opcode 7 → operation_of I8086 p ≡ None
 unfolding table
 none-eight p h k =
     none (each_eight 6 7 ∷ []) p refl (eight 6 7 p k (rw low_bits (omega arith)) h)
@@ -112,38 +132,38 @@ none-eight p h k =
 -- 0x40 to 0x5F ----------------------------------------------------------------------------------
 
 pub inc_register :
-    (p : Parts) → 0x40 ≤ p.opcode → p.opcode ≤ 0x47 → operation_of p ≡ Some (UnaryOp Inc (r16 p))
+    (p : Parts) → 0x40 ≤ p.opcode → p.opcode ≤ 0x47 → operation_of I8086 p ≡ Some (UnaryOp Inc (r16 p))
 unfolding table
 inc_register p h k = of_row 11 _ p refl (one 0x40 0x47 p h k (omega arith))
 
 pub dec_register :
-    (p : Parts) → 0x48 ≤ p.opcode → p.opcode ≤ 0x4f → operation_of p ≡ Some (UnaryOp Dec (r16 p))
+    (p : Parts) → 0x48 ≤ p.opcode → p.opcode ≤ 0x4f → operation_of I8086 p ≡ Some (UnaryOp Dec (r16 p))
 unfolding table
 dec_register p h k = of_row 12 _ p refl (one 0x48 0x4f p h k (omega arith))
 
-pub push_low : (p : Parts) → 0x50 ≤ p.opcode → p.opcode ≤ 0x53 → operation_of p ≡ Some (Push (r16 p))
+pub push_low : (p : Parts) → 0x50 ≤ p.opcode → p.opcode ≤ 0x53 → operation_of I8086 p ≡ Some (Push (r16 p))
 unfolding table
 push_low p h k = of_row 20 _ p refl (one 0x50 0x53 p h k (omega arith))
 
-pub push_high : (p : Parts) → 0x55 ≤ p.opcode → p.opcode ≤ 0x57 → operation_of p ≡ Some (Push (r16 p))
+pub push_high : (p : Parts) → 0x55 ≤ p.opcode → p.opcode ≤ 0x57 → operation_of I8086 p ≡ Some (Push (r16 p))
 unfolding table
 push_high p h k = of_row 21 _ p refl (one 0x55 0x57 p h k (omega arith))
 
-pub pop_low : (p : Parts) → 0x58 ≤ p.opcode → p.opcode ≤ 0x5b → operation_of p ≡ Some (Pop (r16 p))
+pub pop_low : (p : Parts) → 0x58 ≤ p.opcode → p.opcode ≤ 0x5b → operation_of I8086 p ≡ Some (Pop (r16 p))
 unfolding table
 pop_low p h k = of_row 22 _ p refl (one 0x58 0x5b p h k (omega arith))
 
-pub pop_high : (p : Parts) → 0x5d ≤ p.opcode → p.opcode ≤ 0x5f → operation_of p ≡ Some (Pop (r16 p))
+pub pop_high : (p : Parts) → 0x5d ≤ p.opcode → p.opcode ≤ 0x5f → operation_of I8086 p ≡ Some (Pop (r16 p))
 unfolding table
 pop_high p h k = of_row 23 _ p refl (one 0x5d 0x5f p h k (omega arith))
 
-pub none-54_54 : (p : Parts) → 0x54 ≤ p.opcode → p.opcode ≤ 0x54 → operation_of p ≡ None
+pub none-54_54 : (p : Parts) → 0x54 ≤ p.opcode → p.opcode ≤ 0x54 → operation_of I8086 p ≡ None
 unfolding table
 none-54_54 p h k =
     none (bytes_between 0x54 0x54 ∷ []) p refl
     (one 0x54 0x54 p h k (omega arith))
 
-pub none-5c_5c : (p : Parts) → 0x5c ≤ p.opcode → p.opcode ≤ 0x5c → operation_of p ≡ None
+pub none-5c_5c : (p : Parts) → 0x5c ≤ p.opcode → p.opcode ≤ 0x5c → operation_of I8086 p ≡ None
 unfolding table
 none-5c_5c p h k =
     none (bytes_between 0x5c 0x5c ∷ []) p refl
@@ -151,7 +171,7 @@ none-5c_5c p h k =
 
 -- 0x60 to 0x7F ----------------------------------------------------------------------------------
 
-pub none-60_6f : (p : Parts) → 0x60 ≤ p.opcode → p.opcode ≤ 0x6f → operation_of p ≡ None
+pub none-60_6f : (p : Parts) → 0x60 ≤ p.opcode → p.opcode ≤ 0x6f → operation_of I8086 p ≡ None
 unfolding table
 none-60_6f p h k =
     none (bytes_between 0x60 0x6f ∷ []) p refl
@@ -159,17 +179,17 @@ none-60_6f p h k =
 
 pub branch_unsigned :
     (p : Parts) → 0x70 ≤ p.opcode → p.opcode ≤ 0x79
-    → operation_of p ≡ Some (branch (condition_of (p.opcode - 0x70)) p)
+    → operation_of I8086 p ≡ Some (branch (condition_of (p.opcode - 0x70)) p)
 unfolding table
 branch_unsigned p h k = of_row 43 _ p refl (one 0x70 0x79 p h k (omega arith))
 
 pub branch_signed :
     (p : Parts) → 0x7c ≤ p.opcode → p.opcode ≤ 0x7f
-    → operation_of p ≡ Some (branch (signed_condition_of (p.opcode - 0x7c)) p)
+    → operation_of I8086 p ≡ Some (branch (signed_condition_of (p.opcode - 0x7c)) p)
 unfolding table
 branch_signed p h k = of_row 44 _ p refl (one 0x7c 0x7f p h k (omega arith))
 
-pub none-7a_7b : (p : Parts) → 0x7a ≤ p.opcode → p.opcode ≤ 0x7b → operation_of p ≡ None
+pub none-7a_7b : (p : Parts) → 0x7a ≤ p.opcode → p.opcode ≤ 0x7b → operation_of I8086 p ≡ None
 unfolding table
 none-7a_7b p h k =
     none (bytes_between 0x7a 0x7b ∷ []) p refl
@@ -179,7 +199,7 @@ none-7a_7b p h k =
 
 pub alu_byte :
     (p : Parts) → p.opcode ≡ 0x80 → p.modrm < 256
-    → operation_of p ≡ Some (alu_by_reg p (rm8 p) (imm8 p))
+    → operation_of I8086 p ≡ Some (alu_by_reg p (rm8 p) (imm8 p))
 unfolding table
 alu_byte p e m =
     of_row 3 _ p refl
@@ -188,7 +208,7 @@ alu_byte p e m =
 
 pub alu_word :
     (p : Parts) → p.opcode ≡ 0x81 → p.modrm < 256
-    → operation_of p ≡ Some (alu_by_reg p (rm16 p) (imm16 p))
+    → operation_of I8086 p ≡ Some (alu_by_reg p (rm16 p) (imm16 p))
 unfolding table
 alu_word p e m =
     of_row 4 _ p refl
@@ -197,7 +217,7 @@ alu_word p e m =
 
 pub alu_signed :
     (p : Parts) → p.opcode ≡ 0x83 → p.modrm < 256
-    → operation_of p ≡ Some (alu_by_reg p (rm16 p) (imm16 p))
+    → operation_of I8086 p ≡ Some (alu_by_reg p (rm16 p) (imm16 p))
 unfolding table
 alu_signed p e m =
     of_row 5 _ p refl
@@ -206,14 +226,14 @@ alu_signed p e m =
 
 pub alu_constant_word :
     (p : Parts) → 0x81 ≤ p.opcode → p.opcode ≤ 0x83 → p.opcode ≢ 0x82 → p.modrm < 256
-    → operation_of p ≡ Some (alu_by_reg p (rm16 p) (imm16 p))
+    → operation_of I8086 p ≡ Some (alu_by_reg p (rm16 p) (imm16 p))
 alu_constant_word p h k n m =
     elim (cases_lt p.opcode 0x82) [
       | inl l ↦ alu_word p (omega arith) m
       | inr r ↦ alu_signed p (omega arith) m
     ]
 
-pub none-82_82 : (p : Parts) → 0x82 ≤ p.opcode → p.opcode ≤ 0x82 → operation_of p ≡ None
+pub none-82_82 : (p : Parts) → 0x82 ≤ p.opcode → p.opcode ≤ 0x82 → operation_of I8086 p ≡ None
 unfolding table
 none-82_82 p h k =
     none (bytes_between 0x82 0x82 ∷ []) p refl
@@ -221,7 +241,7 @@ none-82_82 p h k =
 
 pub test_two :
     (p : Parts) → 0x84 ≤ p.opcode → p.opcode ≤ 0x85 → p.modrm < 256
-    → operation_of p ≡ Some (AluOp Test (rm p) (reg p))
+    → operation_of I8086 p ≡ Some (AluOp Test (rm p) (reg p))
 unfolding table
 test_two p h k m =
     of_row 6 _ p refl
@@ -230,7 +250,7 @@ test_two p h k m =
 
 pub xchg_two :
     (p : Parts) → 0x86 ≤ p.opcode → p.opcode ≤ 0x87 → p.modrm < 256
-    → operation_of p ≡ Some (Xchg (rm p) (reg p))
+    → operation_of I8086 p ≡ Some (Xchg (rm p) (reg p))
 unfolding table
 xchg_two p h k m =
     of_row 30 _ p refl
@@ -239,7 +259,7 @@ xchg_two p h k m =
 
 pub mov_two :
     (p : Parts) → 0x88 ≤ p.opcode → p.opcode ≤ 0x8b → p.modrm < 256
-    → operation_of p ≡ Some (Mov (destination p) (source p))
+    → operation_of I8086 p ≡ Some (Mov (destination p) (source p))
 unfolding table
 mov_two p h k m =
     of_row 32 _ p refl
@@ -248,7 +268,7 @@ mov_two p h k m =
 
 pub mov_from_segment :
     (p : Parts) → p.opcode ≡ 0x8c → mod_field p.modrm ≡ 3 → reg_field p.modrm ≤ 3 → p.modrm < 256
-    → operation_of p ≡ Some (Mov (rm16 p) (segment p))
+    → operation_of I8086 p ≡ Some (Mov (rm16 p) (segment p))
 unfolding table
 mov_from_segment p e mod_is reg_high m =
     of_row 33 _ p refl
@@ -258,7 +278,7 @@ mov_from_segment p e mod_is reg_high m =
 
 pub mov_to_es :
     (p : Parts) → p.opcode ≡ 0x8e → mod_field p.modrm ≡ 3 → reg_field p.modrm ≡ 0 → p.modrm < 256
-    → operation_of p ≡ Some (Mov (segment p) (rm16 p))
+    → operation_of I8086 p ≡ Some (Mov (segment p) (rm16 p))
 unfolding table
 mov_to_es p e mod_is reg_is m =
     of_row 34 _ p refl
@@ -268,7 +288,7 @@ mov_to_es p e mod_is reg_is m =
 
 pub mov_to_segment :
     (p : Parts) → p.opcode ≡ 0x8e → mod_field p.modrm ≡ 3 → 2 ≤ reg_field p.modrm
-    → reg_field p.modrm ≤ 3 → p.modrm < 256 → operation_of p ≡ Some (Mov (segment p) (rm16 p))
+    → reg_field p.modrm ≤ 3 → p.modrm < 256 → operation_of I8086 p ≡ Some (Mov (segment p) (rm16 p))
 unfolding table
 mov_to_segment p e mod_is reg_low reg_high m =
     of_row 35 _ p refl
@@ -278,7 +298,7 @@ mov_to_segment p e mod_is reg_low reg_high m =
 
 pub none-8c_memory :
     (p : Parts) → 0x8c ≤ p.opcode → p.opcode ≤ 0x8c → mod_field p.modrm ≤ 2 → p.modrm < 256
-    → operation_of p ≡ None
+    → operation_of I8086 p ≡ None
 unfolding table
 none-8c_memory p h k mod_high m =
     none (bytes_between 0x8c 0x8c ∷ modrm_bytes (between 0 2) (between 0 7) (between 0 7) ∷ []) p refl
@@ -288,7 +308,7 @@ none-8c_memory p h k mod_high m =
 
 pub none-8c_high :
     (p : Parts) → 0x8c ≤ p.opcode → p.opcode ≤ 0x8c → 4 ≤ reg_field p.modrm → p.modrm < 256
-    → operation_of p ≡ None
+    → operation_of I8086 p ≡ None
 unfolding table
 none-8c_high p h k reg_low m =
     none (bytes_between 0x8c 0x8c ∷ modrm_bytes (between 0 3) (between 4 7) (between 0 7) ∷ []) p refl
@@ -297,7 +317,7 @@ none-8c_high p h k reg_low m =
 
 pub none-8e_memory :
     (p : Parts) → 0x8e ≤ p.opcode → p.opcode ≤ 0x8e → mod_field p.modrm ≤ 2 → p.modrm < 256
-    → operation_of p ≡ None
+    → operation_of I8086 p ≡ None
 unfolding table
 none-8e_memory p h k mod_high m =
     none (bytes_between 0x8e 0x8e ∷ modrm_bytes (between 0 2) (between 0 7) (between 0 7) ∷ []) p refl
@@ -307,7 +327,7 @@ none-8e_memory p h k mod_high m =
 
 pub none-8e_cs :
     (p : Parts) → 0x8e ≤ p.opcode → p.opcode ≤ 0x8e → reg_field p.modrm ≡ 1 → p.modrm < 256
-    → operation_of p ≡ None
+    → operation_of I8086 p ≡ None
 unfolding table
 none-8e_cs p h k reg_is m =
     none (bytes_between 0x8e 0x8e ∷ modrm_bytes (between 0 3) (between 1 1) (between 0 7) ∷ []) p refl
@@ -316,7 +336,7 @@ none-8e_cs p h k reg_is m =
 
 pub none-8e_high :
     (p : Parts) → 0x8e ≤ p.opcode → p.opcode ≤ 0x8e → 4 ≤ reg_field p.modrm → p.modrm < 256
-    → operation_of p ≡ None
+    → operation_of I8086 p ≡ None
 unfolding table
 none-8e_high p h k reg_low m =
     none (bytes_between 0x8e 0x8e ∷ modrm_bytes (between 0 3) (between 4 7) (between 0 7) ∷ []) p refl
@@ -325,7 +345,7 @@ none-8e_high p h k reg_low m =
 
 pub lea :
     (p : Parts) → p.opcode ≡ 0x8d → mod_field p.modrm ≤ 2 → p.modrm < 256
-    → operation_of p ≡ Some (load_address p)
+    → operation_of I8086 p ≡ Some (load_address p)
 unfolding table
 lea p e mod_high m =
     of_row 36 _ p refl
@@ -335,7 +355,7 @@ lea p e mod_high m =
 
 pub none-8d :
     (p : Parts) → 0x8d ≤ p.opcode → p.opcode ≤ 0x8d → mod_field p.modrm ≡ 3 → p.modrm < 256
-    → operation_of p ≡ None
+    → operation_of I8086 p ≡ None
 unfolding table
 none-8d p h k mod_is m =
     none (bytes_between 0x8d 0x8d ∷ modrm_bytes (between 3 3) (between 0 7) (between 0 7) ∷ []) p refl
@@ -345,7 +365,7 @@ none-8d p h k mod_is m =
 
 pub pop_memory :
     (p : Parts) → p.opcode ≡ 0x8f → mod_field p.modrm ≤ 2 → reg_field p.modrm ≡ 0 → p.modrm < 256
-    → operation_of p ≡ Some (Pop (rm16 p))
+    → operation_of I8086 p ≡ Some (Pop (rm16 p))
 unfolding table
 pop_memory p e mod_high reg_is m =
     of_row 27 _ p refl
@@ -355,7 +375,7 @@ pop_memory p e mod_high reg_is m =
 
 pub pop_below_sp :
     (p : Parts) → p.opcode ≡ 0x8f → mod_field p.modrm ≡ 3 → reg_field p.modrm ≡ 0
-    → rm_field p.modrm ≤ 3 → p.modrm < 256 → operation_of p ≡ Some (Pop (rm16 p))
+    → rm_field p.modrm ≤ 3 → p.modrm < 256 → operation_of I8086 p ≡ Some (Pop (rm16 p))
 unfolding table
 pop_below_sp p e mod_is reg_is rm_high m =
     of_row 28 _ p refl
@@ -365,7 +385,7 @@ pop_below_sp p e mod_is reg_is rm_high m =
 
 pub pop_above_sp :
     (p : Parts) → p.opcode ≡ 0x8f → mod_field p.modrm ≡ 3 → reg_field p.modrm ≡ 0
-    → 5 ≤ rm_field p.modrm → p.modrm < 256 → operation_of p ≡ Some (Pop (rm16 p))
+    → 5 ≤ rm_field p.modrm → p.modrm < 256 → operation_of I8086 p ≡ Some (Pop (rm16 p))
 unfolding table
 pop_above_sp p e mod_is reg_is rm_low m =
     of_row 29 _ p refl
@@ -375,7 +395,7 @@ pop_above_sp p e mod_is reg_is rm_low m =
 
 pub none-8f_group :
     (p : Parts) → 0x8f ≤ p.opcode → p.opcode ≤ 0x8f → 1 ≤ reg_field p.modrm → p.modrm < 256
-    → operation_of p ≡ None
+    → operation_of I8086 p ≡ None
 unfolding table
 none-8f_group p h k reg_low m =
     none (bytes_between 0x8f 0x8f ∷ modrm_bytes (between 0 3) (between 1 7) (between 0 7) ∷ []) p refl
@@ -384,7 +404,7 @@ none-8f_group p h k reg_low m =
 
 pub none-8f_sp :
     (p : Parts) → 0x8f ≤ p.opcode → p.opcode ≤ 0x8f → mod_field p.modrm ≡ 3 → rm_field p.modrm ≡ 4
-    → p.modrm < 256 → operation_of p ≡ None
+    → p.modrm < 256 → operation_of I8086 p ≡ None
 unfolding table
 none-8f_sp p h k mod_is rm_is m =
     none (bytes_between 0x8f 0x8f ∷ modrm_bytes (between 3 3) (between 0 7) (between 4 4) ∷ []) p refl
@@ -396,7 +416,7 @@ none-8f_sp p h k mod_is rm_is m =
 pub pop_not_sp :
     (p : Parts) → p.opcode ≡ 0x8f → reg_field p.modrm ≡ 0
     → (mod_field p.modrm == 3) && (rm_field p.modrm == 4) ≡ false → p.modrm < 256
-    → operation_of p ≡ Some (Pop (rm16 p))
+    → operation_of I8086 p ≡ Some (Pop (rm16 p))
 pop_not_sp p e r n m =
     elim (cases_lt (mod_field p.modrm) 3) [
       | inl a ↦ pop_memory p e (omega arith) r m
@@ -413,7 +433,7 @@ pop_not_sp p e r n m =
 pub pop_sp :
     (p : Parts) → p.opcode ≡ 0x8f → reg_field p.modrm ≡ 0
     → (mod_field p.modrm == 3) && (rm_field p.modrm == 4) ≡ true → p.modrm < 256
-    → operation_of p ≡ None
+    → operation_of I8086 p ≡ None
 pop_sp p e r n m =
     let mod_is : mod_field p.modrm ≡ 3 = grind (arith, nat_tests) in
     let rm_is : rm_field p.modrm ≡ 4 = grind (arith, nat_tests) in

@@ -1,10 +1,12 @@
--- What the fields of an instruction, as they are read from its bytes, have to do with the rows of
--- the table.
+-- What the fields of an instruction, as they are read from its bytes, have to do with the rows of the tables. Both
+-- processors' fields are read alike, by the rows of the 80186, which has those of the 8086.
 use Rattle.std.specs.Prelude.{◌≡◌, ◌≤◌, ◌<◌, ℕ, ◌+◌, IsSomeAnd, ◌↔◌, Bool, if◌then◌else◌, ◌==◌, nat_le, IsTrue, List, [], ◌∷◌, length, find, Option, Some, None, option_map}
+use Rattle.dcc_prog.specs.declared.cpu.Cpu.{Cpu}
+use Rattle.dcc_prog.specs.declared.cpu.Cpu.TheVariants.{I186}
 use Rattle.dcc_prog.specs.declared.instr.Op.{Op}
 use Rattle.dcc_prog.specs.Bytes.{byte_at}
 use Rattle.dcc_prog.specs.Operands.{displacement_size, displacement_at}
-use Rattle.dcc_prog.specs.Table.{Parts, Row, ConstantForm, no_constant, byte_constant, word_constant, signed_constant, fits, constant_size, constant_at, row_displacement_size, row_length, row_parts, table, IsRow}
+use Rattle.dcc_prog.specs.Table.{Parts, Row, ConstantForm, no_constant, byte_constant, word_constant, signed_constant, fits, constant_size, constant_at, head_length, row_length, row_parts, table, IsRow}
 use Rattle.dcc_decode.specs.declared.fields.Constant.{Constant}
 use Rattle.dcc_decode.specs.declared.fields.Constant.TheVariants.{Absent, Byte, Word, SignedByte}
 use Rattle.dcc_decode.specs.declared.fields.Fields.{Fields}
@@ -26,18 +28,22 @@ parts_of fields = record {
   next = fields.at + fields.len;
 }
 
--- the operation of the row that an opcode and a ModRM byte fit, if any
-unfoldable pub operation_of : Parts → Option Op
-operation_of parts =
+-- the operation of the processor's row that an opcode and a ModRM byte fit, if any
+unfoldable pub operation_of : Cpu → Parts → Option Op
+operation_of cpu parts =
     option_map (λ row. row.operation parts)
-    (find (λ row. fits row.pattern (parts.opcode ∷ parts.modrm ∷ [])) table)
+    (find (λ row. fits row.pattern (parts.opcode ∷ parts.modrm ∷ [])) (table cpu))
 
--- a row of the table whose first bytes are its opcode and its ModRM byte, if it has one
+-- a shift or rotate by a constant has a byte as its constant
+abbrev pub HasByteCount : Fields → Type 0
+HasByteCount fields = 0xc0 ≤ fields.opcode → fields.opcode ≤ 0xc1 → fields.constant < 256
+
+-- a row whose first bytes are its opcode and its ModRM byte, if it has one
 abbrev pub is_opcode_row : Row → Bool
 is_opcode_row row = length row.pattern == (if row.has_modrm then 2 else 1)
 
 abbrev pub IsOpcodeRow : Row → Type 0
-IsOpcodeRow row = IsRow row × IsTrue (is_opcode_row row)
+IsOpcodeRow row = IsRow I186 row × IsTrue (is_opcode_row row)
 
 -- the answer, whether a ModRM byte follows the opcode, is that of each row that begins with it
 pub record TellsModrm (opcode : ℕ) (answer : Bool) : Type 0 where
@@ -63,10 +69,6 @@ abbrev pub constant_read : ConstantForm → List ℕ → ℕ → Option ℕ
 constant_read form bytes index =
     if nat_le (index + constant_size form) (length bytes) then Some (constant_at form bytes index)
     else None
-
--- the number of bytes before the constant of an instruction of a row
-abbrev pub head_length : Row → List ℕ → ℕ
-head_length row bytes = length row.pattern + row_displacement_size row bytes
 
 -- the ModRM byte and the displacement of an instruction of a row, and the index after them
 abbrev pub head_of : Row → List ℕ → Option (ℕ × ℕ × ℕ)

@@ -4,7 +4,7 @@ ghost use Rattle.std.specs.Prelude.{◌≡◌, ℕ, ◌+◌, ◌<◌, ◌≤◌,
 ghost use Rattle.dcc_prog.specs.Bytes.{byte_at, word_at};
 ghost use Rattle.dcc_prog.specs.Operands.{mod_field, reg_field, rm_field, register, rm_operand, address, width_of, displacement_size};
 ghost use Rattle.dcc_prog.specs.Table.{word_constant, constant_size, destination, source, reg, direct, target};
-ghost use Rattle.dcc_decode.specs.Reading.{form_of, parts_of, TellsModrm, TellsConstant, modrm_read, constant_read, ReadsHead, ReadsRows, FitsAsRead};
+ghost use Rattle.dcc_decode.specs.Reading.{form_of, parts_of, TellsModrm, TellsConstant, modrm_read, constant_read, ReadsHead, ReadsRows, FitsAsRead, HasByteCount};
 
 use crate::operand;
 use byteorder::{ByteOrder, LittleEndian};
@@ -48,6 +48,7 @@ impl Fields {
         ensures rows { ReadsRows bytes.now at result }
         ensures first { IfSome result (λ fields. fields.opcode ≡ byte_at bytes.now 0) }
         ensures fitting { IfSome result (λ fields. FitsAsRead bytes.now fields) }
+        ensures count { IfSome result (λ fields. HasByteCount fields) }
     {
         let opcode = *bytes.first()?;
         let (modrm, displacement, end) = read_head(opcode, bytes)?;
@@ -140,6 +141,14 @@ impl Fields {
         operand::register(width, self.opcode & 7)
     }
 
+    /// The constant, which is a byte.
+    pub fn constant_byte(self) -> u8
+        requires { self.constant < 256 }
+        ensures { result ≡ self.constant }
+    {
+        self.constant as u8
+    }
+
     /// The constant as an operand.
     pub fn constant_operand(self, width: Width) -> Operand
         ensures { result ≡ Operand.Const width self.constant }
@@ -183,7 +192,8 @@ fn has_modrm(opcode: u8) -> bool
 {
     match opcode {
         0x00..=0x3f => opcode & 7 < 4,
-        0x80..=0x8f | 0xc6..=0xc7 | 0xd0..=0xd3 | 0xf6..=0xf7 | 0xfe..=0xff => true,
+        0x69 | 0x6b | 0x80..=0x8f => true,
+        0xc0..=0xc1 | 0xc6..=0xc7 | 0xd0..=0xd3 | 0xf6..=0xf7 | 0xfe..=0xff => true,
         _ => false,
     }
 }
@@ -191,16 +201,19 @@ fn has_modrm(opcode: u8) -> bool
 // Which constant ends an instruction with this opcode and ModRM byte.
 #[tactic(auto, using(crate::proofs::Forms::constant_rules))]
 fn constant_form(opcode: u8, modrm: u8) -> Constant
-    ensures { TellsConstant opcode modrm result }
+    ensures form { TellsConstant opcode modrm result }
+    ensures count { 0xc0 ≤ opcode → opcode ≤ 0xc1 → result ≡ Constant.Byte }
 {
     match opcode {
         0x00..=0x3f => arithmetic_constant(opcode),
+        0x68..=0x69 => Constant::Word,
+        0x6a..=0x6b => Constant::SignedByte,
         0x70..=0x7f => Constant::SignedByte,
         0x80..=0x8f => operand_constant(opcode),
         0xa0..=0xaf => accumulator_constant(opcode),
         0xb0..=0xb7 => Constant::Byte,
         0xb8..=0xbf => Constant::Word,
-        0xc0..=0xcf => return_constant(opcode),
+        0xc0..=0xc7 => shift_or_return_constant(opcode),
         0xe0..=0xef => jump_constant(opcode),
         0xf6..=0xf7 => test_constant(opcode, modrm),
         _ => Constant::Absent,
@@ -249,17 +262,17 @@ fn accumulator_constant(opcode: u8) -> Constant
     }
 }
 
-// The constant of the opcodes 0xC0 to 0xCF.
+// The constant of the opcodes 0xC0 to 0xC7.
 #[tactic(auto, using(crate::proofs::Forms::constant_rules))]
-fn return_constant(opcode: u8) -> Constant
+fn shift_or_return_constant(opcode: u8) -> Constant
     requires low { 0xc0 ≤ opcode }
-    requires high { opcode ≤ 0xcf }
-    ensures { (modrm : ℕ) → TellsConstant opcode modrm result }
+    requires high { opcode ≤ 0xc7 }
+    ensures form { (modrm : ℕ) → TellsConstant opcode modrm result }
+    ensures count { opcode ≤ 0xc1 → result ≡ Constant.Byte }
 {
     match opcode {
-        0xc2 => Constant::Word,
-        0xc6 => Constant::Byte,
-        0xc7 => Constant::Word,
+        0xc0..=0xc1 | 0xc6 => Constant::Byte,
+        0xc2 | 0xc7 => Constant::Word,
         _ => Constant::Absent,
     }
 }
@@ -340,7 +353,8 @@ fn read_head(opcode: u8, bytes: &[u8]) -> Option<(u8, u16, u8)>
 fn read_constant(form: Constant, bytes: &[u8], index: usize) -> Option<u16>
     requires small { index ≤ 4 }
     requires within { index ≤ length bytes.now }
-    ensures { result ≡ constant_read (form_of form) bytes.now index }
+    ensures value { result ≡ constant_read (form_of form) bytes.now index }
+    ensures range { form ≡ Constant.Byte → IfSome result (λ constant. constant < 256) }
 {
     match form {
         Constant::Absent => Some(0),

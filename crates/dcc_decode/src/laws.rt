@@ -1,15 +1,15 @@
-//! Laws of the table of encodings. The functions do nothing: their contracts are proved for every
+//! Laws of the table of encodings. The functions do nothing: their contracts are proved for both processors and every
 //! list of bytes.
 
-ghost use Rattle.dcc_prog.specs.Table.{AtMostOneRowMatches, InstructionIsThatOfItsRow, InstructionHasOneToSixBytes, InstructionDependsOnItsBytes};
+ghost use Rattle.dcc_prog.specs.Table.{AtMostOneRowMatches, InstructionIsThatOfItsRow, InstructionHasOneToSixBytes, InstructionDependsOnItsBytes, LaterProcessorHasEachInstruction};
 
 /// At most one row of the table matches any bytes.
 pub fn one_row_at_most()
     ensures { AtMostOneRowMatches }
 {}
 
-/// Bytes are an instruction exactly where a row matches them, and then it is that row's. Its length
-/// is that of the opcode and ModRM bytes, the displacement and the constant.
+/// Bytes are an instruction exactly where a row matches them, and then it is that row's. Its length is that of the
+/// opcode and ModRM bytes, the displacement, and a constant after them.
 pub fn instruction_of_row()
     ensures { InstructionIsThatOfItsRow }
 {}
@@ -22,4 +22,9 @@ pub fn length_of_instruction()
 /// An instruction depends on its own bytes alone.
 pub fn bytes_of_instruction()
     ensures { InstructionDependsOnItsBytes }
+{}
+
+/// The 80186 has each instruction of the 8086.
+pub fn later_processor()
+    ensures { LaterProcessorHasEachInstruction }
 {}

@@ -1,4 +1,5 @@
-//! The decoder of 8086 instructions (8086 Family User's Manual, table 4-12).
+//! The decoder of the instructions of the 8086 and the 80186 (8086 Family User's Manual, table 4-12; iAPX 86/88,
+//! 186/188 User's Manual, Programmer's Reference).
 #![tactic(auto)]
 
 mod fields;
@@ -7,57 +8,60 @@ mod operand;
 mod operation;
 
 ghost use Rattle.std.specs.Prelude.{◌≡◌, ◌≢◌, ◌<◌, ◌∷◌, ℕ, drop, length, slice_index, IfSome};
+ghost use Rattle.dcc_prog.specs.declared.cpu.Cpu.{Cpu};
 ghost use Rattle.dcc_prog.specs.Table.{instruction_at};
 ghost use Rattle.dcc_prog.specs.WellFormed.{IsOperation};
 
 use dcc_num::Reg;
-use dcc_prog::{Instr, Op};
+use dcc_prog::{Cpu, Instr, Op};
 use fields::Fields;
 
-/// The instruction that begins at the index `at` of `code` and lies wholly within it. It is None
-/// where these bytes are no instruction that this project knows. An index of `code` is an offset
-/// in the code segment.
+/// The instruction of the processor that begins at the index `at` of `code` and lies wholly within it. It is None
+/// where these bytes are no instruction of that processor that this project knows. An index of `code` is an offset in
+/// the code segment.
 #[tactic(auto, using(crate::proofs::Decoding::end_rules))]
-pub fn decode(code: &[u8], at: u16) -> Option<Instr>
-    ensures { result ≡ instruction_at at (drop at code.now) }
+pub fn decode(code: &[u8], at: u16, cpu: Cpu) -> Option<Instr>
+    ensures { result ≡ instruction_at cpu at (drop at code.now) }
 {
     let bytes = code.get(usize::from(at)..)?;
-    decode_window(bytes, at)
+    decode_window(bytes, at, cpu)
 }
 
-/// The instruction whose first byte is the first one of the window, and stands at the offset `at`
-/// of the code segment. It is None where no instruction that this project knows lies wholly within
-/// the window.
-pub fn decode_window(window: &[u8], at: u16) -> Option<Instr>
-    ensures found { result ≡ instruction_at at window.now }
+/// The instruction of the processor whose first byte is the first one of the window, and stands at the offset `at` of
+/// the code segment. It is None where no instruction of that processor that this project knows lies wholly within the
+/// window.
+pub fn decode_window(window: &[u8], at: u16, cpu: Cpu) -> Option<Instr>
+    ensures found { result ≡ instruction_at cpu at window.now }
     ensures operation { IfSome result (λ instr. IsOperation instr.op) }
 {
-    instruction_in(window, at)
+    instruction_in(window, at, cpu)
 }
 
 // The instruction that begins with the first byte of a window.
 #[tactic(auto, using(crate::proofs::Decoding::end_rules))]
-fn instruction_in(window: &[u8], at: u16) -> Option<Instr>
-    ensures { result ≡ instruction_at at window.now }
+fn instruction_in(window: &[u8], at: u16, cpu: Cpu) -> Option<Instr>
+    ensures { result ≡ instruction_at cpu at window.now }
 {
     let (opcode, rest) = window.split_first()?;
     match *opcode {
         0x2e => table_jump(rest),
+        0xc8 => enter(rest, cpu),
         0xcd => interrupt(rest),
-        _ => decode_fields(window, at),
+        _ => decode_fields(window, at, cpu),
     }
 }
 
-// An instruction other than these two, whose first bytes are its opcode and its ModRM byte.
+// An instruction other than these three, whose first bytes are its opcode and its ModRM byte.
 #[tactic(auto, using(crate::proofs::Decoding::field_rules))]
-fn decode_fields(bytes: &[u8], at: u16) -> Option<Instr>
+fn decode_fields(bytes: &[u8], at: u16, cpu: Cpu) -> Option<Instr>
     requires some { 0 < length bytes.now }
     requires table_jump { slice_index bytes.now 0 ≢ 0x2e }
+    requires enter { slice_index bytes.now 0 ≢ 0xc8 }
     requires interrupt { slice_index bytes.now 0 ≢ 0xcd }
-    ensures { result ≡ instruction_at at bytes.now }
+    ensures { result ≡ instruction_at cpu at bytes.now }
 {
     let fields = Fields::read(bytes, at)?;
-    let op = operation::operation(fields)?;
+    let op = operation::operation(fields, cpu)?;
     Some(Instr {
         op,
         len: fields.len,
@@ -67,7 +71,7 @@ fn decode_fields(bytes: &[u8], at: u16) -> Option<Instr>
 // INT 21h, by the bytes after its opcode.
 #[tactic(auto, using(crate::proofs::Decoding::interrupt_rules))]
 fn interrupt(rest: &[u8]) -> Option<Instr>
-    ensures { (at : ℕ) → result ≡ instruction_at at (0xcd ∷ rest.now) }
+    ensures { (cpu : Cpu) (at : ℕ) → result ≡ instruction_at cpu at (0xcd ∷ rest.now) }
 {
     if *rest.first()? == 0x21 {
         Some(Instr {
@@ -82,7 +86,7 @@ fn interrupt(rest: &[u8]) -> Option<Instr>
 // A jump to the word at CS:[SI+iw], CS:[DI+iw] or CS:[BX+iw], by the bytes after its CS prefix.
 #[tactic(auto, using(crate::proofs::Decoding::table_jump_rules), unfolding(dcc_prog::specs::Bytes::word_at))]
 fn table_jump(rest: &[u8]) -> Option<Instr>
-    ensures { (at : ℕ) → result ≡ instruction_at at (0x2e ∷ rest.now) }
+    ensures { (cpu : Cpu) (at : ℕ) → result ≡ instruction_at cpu at (0x2e ∷ rest.now) }
 {
     let [0xff, modrm, _, _, ..] = rest else {
         return None;
@@ -97,4 +101,21 @@ fn table_jump(rest: &[u8]) -> Option<Instr>
         op: Op::Table(register, fields::word(rest, 2)),
         len: 5,
     })
+}
+
+// ENTER at level 0, which the 80186 alone has, by the bytes after its opcode: the word, then the level.
+#[tactic(auto, using(crate::proofs::Decoding::enter_rules), unfolding(dcc_prog::specs::Bytes::word_at))]
+fn enter(rest: &[u8], cpu: Cpu) -> Option<Instr>
+    ensures { (at : ℕ) → result ≡ instruction_at cpu at (0xc8 ∷ rest.now) }
+{
+    let [_, _, 0x00, ..] = rest else {
+        return None;
+    };
+    match cpu {
+        Cpu::I8086 => None,
+        Cpu::I186 => Some(Instr {
+            op: Op::Enter(fields::word(rest, 0)),
+            len: 4,
+        }),
+    }
 }

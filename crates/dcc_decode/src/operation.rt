@@ -1,19 +1,35 @@
-//! The operations by their opcodes (8086 Family User's Manual, table 4-12).
+//! The operations by their opcodes (8086 Family User's Manual, table 4-12; iAPX 86/88, 186/188 User's Manual,
+//! Programmer's Reference).
 
-ghost use Rattle.std.specs.Prelude.{◌≡◌, ◌≢◌, ◌≤◌, ◌<◌, ◌⊎◌, Some};
+ghost use Rattle.std.specs.Prelude.{◌≡◌, ◌≢◌, ◌≤◌, ◌<◌, ◌⊎◌, Some, None};
 ghost use Rattle.dcc_prog.specs.Table.{alu_of, condition_of, signed_condition_of, shift_of, unary_of};
-ghost use Rattle.dcc_decode.specs.Reading.{operation_of, parts_of};
+ghost use Rattle.dcc_prog.specs.declared.cpu.Cpu.TheVariants.{I8086, I186};
+ghost use Rattle.dcc_decode.specs.Reading.{operation_of, parts_of, HasByteCount};
 
 use crate::fields::Fields;
 use crate::operand;
 use dcc_num::Width;
-use dcc_prog::{Alu, Cond, Op, Operand, Plain, Shift, Unary};
+use dcc_prog::{Alu, Cond, Count, Cpu, Op, Operand, Plain, Shift, Unary};
 
-/// The operation of an instruction with these fields, if it is one that this project knows.
+/// The operation of an instruction with these fields, if it is one that the processor has and this project knows.
+#[tactic(auto, using(crate::proofs::LaterRows::processor_rules))]
+pub fn operation(fields: Fields, cpu: Cpu) -> Option<Op>
+    requires other { fields.opcode ≢ 0xcd }
+    requires count { HasByteCount fields }
+    ensures { result ≡ operation_of cpu (parts_of fields) }
+{
+    let earlier = earlier_operation(fields);
+    match cpu {
+        Cpu::I186 if earlier.is_none() => later_operation(fields),
+        _ => earlier,
+    }
+}
+
+// The operation where the 8086 has it.
 #[tactic(auto, using(crate::proofs::Rows::operation_rules))]
-pub fn operation(fields: Fields) -> Option<Op>
+fn earlier_operation(fields: Fields) -> Option<Op>
     requires { fields.opcode ≢ 0xcd }
-    ensures { result ≡ operation_of (parts_of fields) }
+    ensures { result ≡ operation_of I8086 (parts_of fields) }
 {
     match fields.opcode >> 4 {
         0x0..=0x3 => arithmetic(fields),
@@ -53,7 +69,7 @@ fn alu(number: u8) -> Alu
 #[tactic(auto, using(crate::proofs::Rows::arithmetic_rules))]
 fn arithmetic(fields: Fields) -> Option<Op>
     requires { fields.opcode ≤ 0x3f }
-    ensures { result ≡ operation_of (parts_of fields) }
+    ensures { result ≡ operation_of I8086 (parts_of fields) }
 {
     let alu = alu(fields.opcode >> 3);
     match fields.opcode & 7 {
@@ -77,7 +93,7 @@ fn arithmetic(fields: Fields) -> Option<Op>
 fn step_register(fields: Fields) -> Op
     requires low { 0x40 ≤ fields.opcode }
     requires high { fields.opcode ≤ 0x4f }
-    ensures { Some result ≡ operation_of (parts_of fields) }
+    ensures { Some result ≡ operation_of I8086 (parts_of fields) }
 {
     let operand = fields.opcode_register(Width::Word);
     if fields.opcode < 0x48 {
@@ -92,7 +108,7 @@ fn step_register(fields: Fields) -> Op
 fn push_or_pop_register(fields: Fields) -> Option<Op>
     requires low { 0x50 ≤ fields.opcode }
     requires high { fields.opcode ≤ 0x5f }
-    ensures { result ≡ operation_of (parts_of fields) }
+    ensures { result ≡ operation_of I8086 (parts_of fields) }
 {
     let operand = fields.opcode_register(Width::Word);
     match fields.opcode {
@@ -139,7 +155,7 @@ fn signed_condition(number: u8) -> Cond
 fn branch(fields: Fields) -> Option<Op>
     requires low { 0x70 ≤ fields.opcode }
     requires high { fields.opcode ≤ 0x7f }
-    ensures { result ≡ operation_of (parts_of fields) }
+    ensures { result ≡ operation_of I8086 (parts_of fields) }
 {
     let target = fields.target();
     match fields.opcode {
@@ -154,7 +170,7 @@ fn branch(fields: Fields) -> Option<Op>
 fn arithmetic_with_constant(fields: Fields) -> Option<Op>
     requires low { 0x80 ≤ fields.opcode }
     requires high { fields.opcode ≤ 0x83 }
-    ensures { result ≡ operation_of (parts_of fields) }
+    ensures { result ≡ operation_of I8086 (parts_of fields) }
 {
     let alu = alu(fields.reg_field());
     match fields.opcode {
@@ -177,7 +193,7 @@ fn arithmetic_with_constant(fields: Fields) -> Option<Op>
 fn operand_operation(fields: Fields) -> Option<Op>
     requires low { 0x80 ≤ fields.opcode }
     requires high { fields.opcode ≤ 0x8f }
-    ensures { result ≡ operation_of (parts_of fields) }
+    ensures { result ≡ operation_of I8086 (parts_of fields) }
 {
     match fields.opcode {
         0x80..=0x83 => arithmetic_with_constant(fields),
@@ -199,7 +215,7 @@ fn operand_operation(fields: Fields) -> Option<Op>
 #[tactic(auto, using(crate::proofs::Rows::segment_rules))]
 fn move_segment(fields: Fields) -> Option<Op>
     requires { (fields.opcode ≡ 0x8c) ⊎ (fields.opcode ≡ 0x8e) }
-    ensures { result ≡ operation_of (parts_of fields) }
+    ensures { result ≡ operation_of I8086 (parts_of fields) }
 {
     if fields.mod_field() != 3 {
         return None;
@@ -218,7 +234,7 @@ fn move_segment(fields: Fields) -> Option<Op>
 #[tactic(auto, using(crate::proofs::Rows::address_rules))]
 fn load_address(fields: Fields) -> Option<Op>
     requires { fields.opcode ≡ 0x8d }
-    ensures { result ≡ operation_of (parts_of fields) }
+    ensures { result ≡ operation_of I8086 (parts_of fields) }
 {
     if fields.mod_field() == 3 {
         return None;
@@ -231,7 +247,7 @@ fn load_address(fields: Fields) -> Option<Op>
 #[tactic(auto, using(crate::proofs::Rows::pop_rules))]
 fn pop_operand(fields: Fields) -> Option<Op>
     requires { fields.opcode ≡ 0x8f }
-    ensures { result ≡ operation_of (parts_of fields) }
+    ensures { result ≡ operation_of I8086 (parts_of fields) }
 {
     if fields.reg_field() != 0 || fields.names_sp() {
         return None;
@@ -244,7 +260,7 @@ fn pop_operand(fields: Fields) -> Option<Op>
 fn accumulator_operation(fields: Fields) -> Option<Op>
     requires low { 0x90 ≤ fields.opcode }
     requires high { fields.opcode ≤ 0x9f }
-    ensures { result ≡ operation_of (parts_of fields) }
+    ensures { result ≡ operation_of I8086 (parts_of fields) }
 {
     match fields.opcode {
         0x90 => Some(Op::Plain(Plain::Nop)),
@@ -263,7 +279,7 @@ fn accumulator_operation(fields: Fields) -> Option<Op>
 fn move_or_test_accumulator(fields: Fields) -> Option<Op>
     requires low { 0xa0 ≤ fields.opcode }
     requires high { fields.opcode ≤ 0xaf }
-    ensures { result ≡ operation_of (parts_of fields) }
+    ensures { result ≡ operation_of I8086 (parts_of fields) }
 {
     let accumulator = operand::register(fields.width(), 0);
     match fields.opcode {
@@ -283,7 +299,7 @@ fn move_or_test_accumulator(fields: Fields) -> Option<Op>
 fn move_constant(fields: Fields) -> Op
     requires low { 0xb0 ≤ fields.opcode }
     requires high { fields.opcode ≤ 0xbf }
-    ensures { Some result ≡ operation_of (parts_of fields) }
+    ensures { Some result ≡ operation_of I8086 (parts_of fields) }
 {
     let width = if fields.opcode < 0xb8 {
         Width::Byte
@@ -302,7 +318,7 @@ fn move_constant_or_return(fields: Fields) -> Option<Op>
     requires low { 0xc0 ≤ fields.opcode }
     requires high { fields.opcode ≤ 0xcf }
     requires other { fields.opcode ≢ 0xcd }
-    ensures { result ≡ operation_of (parts_of fields) }
+    ensures { result ≡ operation_of I8086 (parts_of fields) }
 {
     match fields.opcode {
         0xc2 => Some(Op::Ret(fields.constant)),
@@ -336,7 +352,7 @@ fn shift(number: u8) -> Shift
 fn shift_or_translate(fields: Fields) -> Option<Op>
     requires low { 0xd0 ≤ fields.opcode }
     requires high { fields.opcode ≤ 0xdf }
-    ensures { result ≡ operation_of (parts_of fields) }
+    ensures { result ≡ operation_of I8086 (parts_of fields) }
 {
     match fields.opcode {
         0xd0..=0xd1 => shift_by_one(fields),
@@ -351,13 +367,13 @@ fn shift_or_translate(fields: Fields) -> Option<Op>
 fn shift_by_one(fields: Fields) -> Option<Op>
     requires low { 0xd0 ≤ fields.opcode }
     requires high { fields.opcode ≤ 0xd1 }
-    ensures { result ≡ operation_of (parts_of fields) }
+    ensures { result ≡ operation_of I8086 (parts_of fields) }
 {
     match fields.reg_field() {
         6 => None,
         number => {
             let operand = fields.rm_operand(fields.width());
-            Some(Op::Shift(shift(number), operand, false))
+            Some(Op::Shift(shift(number), operand, Count::One))
         }
     }
 }
@@ -367,13 +383,13 @@ fn shift_by_one(fields: Fields) -> Option<Op>
 fn shift_by_cl(fields: Fields) -> Option<Op>
     requires low { 0xd2 ≤ fields.opcode }
     requires high { fields.opcode ≤ 0xd3 }
-    ensures { result ≡ operation_of (parts_of fields) }
+    ensures { result ≡ operation_of I8086 (parts_of fields) }
 {
     match fields.reg_field() {
         2 | 3 | 6 => None,
         number => {
             let operand = fields.rm_operand(fields.width());
-            Some(Op::Shift(shift(number), operand, true))
+            Some(Op::Shift(shift(number), operand, Count::Cl))
         }
     }
 }
@@ -383,7 +399,7 @@ fn shift_by_cl(fields: Fields) -> Option<Op>
 fn loop_or_jump(fields: Fields) -> Option<Op>
     requires low { 0xe0 ≤ fields.opcode }
     requires high { fields.opcode ≤ 0xef }
-    ensures { result ≡ operation_of (parts_of fields) }
+    ensures { result ≡ operation_of I8086 (parts_of fields) }
 {
     let target = fields.target();
     match fields.opcode {
@@ -401,7 +417,7 @@ fn loop_or_jump(fields: Fields) -> Option<Op>
 #[tactic(auto, using(crate::proofs::Rows::group_rules))]
 fn group(fields: Fields) -> Option<Op>
     requires { 0xf0 ≤ fields.opcode }
-    ensures { result ≡ operation_of (parts_of fields) }
+    ensures { result ≡ operation_of I8086 (parts_of fields) }
 {
     match fields.opcode {
         0xf5 => Some(Op::Plain(Plain::Cmc)),
@@ -437,7 +453,7 @@ fn unary(number: u8) -> Unary
 fn test_or_unary(fields: Fields) -> Option<Op>
     requires low { 0xf6 ≤ fields.opcode }
     requires high { fields.opcode ≤ 0xf7 }
-    ensures { result ≡ operation_of (parts_of fields) }
+    ensures { result ≡ operation_of I8086 (parts_of fields) }
 {
     let operand = fields.rm_operand(fields.width());
     match fields.reg_field() {
@@ -451,7 +467,7 @@ fn test_or_unary(fields: Fields) -> Option<Op>
 #[tactic(auto, using(crate::proofs::Rows::step_rules))]
 fn step_or_push(fields: Fields) -> Option<Op>
     requires { 0xfe ≤ fields.opcode }
-    ensures { result ≡ operation_of (parts_of fields) }
+    ensures { result ≡ operation_of I8086 (parts_of fields) }
 {
     let operand = fields.rm_operand(fields.width());
     match fields.reg_field() {
@@ -461,5 +477,48 @@ fn step_or_push(fields: Fields) -> Option<Op>
             Some(Op::Push(fields.rm_operand(Width::Word)))
         }
         _ => None,
+    }
+}
+
+// The operation where the 8086 has none and the 80186 may have one.
+#[tactic(auto, using(crate::proofs::LaterRows::later_rules))]
+fn later_operation(fields: Fields) -> Option<Op>
+    requires count { HasByteCount fields }
+    requires earlier { operation_of I8086 (parts_of fields) ≡ None }
+    ensures { result ≡ operation_of I186 (parts_of fields) }
+{
+    match fields.opcode {
+        0x68 | 0x6a => Some(Op::Push(fields.constant_operand(Width::Word))),
+        0x69 | 0x6b => Some(product_with_constant(fields)),
+        0xc0..=0xc1 => shift_by_constant(fields),
+        0xc9 => Some(Op::Leave),
+        _ => None,
+    }
+}
+
+// 0x69 and 0x6B: IMUL of a word operand and a constant.
+#[tactic(auto, using(crate::proofs::LaterRows::product_rules))]
+fn product_with_constant(fields: Fields) -> Op
+    requires { (fields.opcode ≡ 0x69) ⊎ (fields.opcode ≡ 0x6b) }
+    ensures { Some result ≡ operation_of I186 (parts_of fields) }
+{
+    let register = operand::word_register(fields.reg_field());
+    Op::Imul3(register, fields.rm_operand(Width::Word), fields.constant)
+}
+
+// 0xC0 and 0xC1: shifts and rotates by a constant, but RCL and RCR.
+#[tactic(auto, using(crate::proofs::LaterRows::shift_rules))]
+fn shift_by_constant(fields: Fields) -> Option<Op>
+    requires low { 0xc0 ≤ fields.opcode }
+    requires high { fields.opcode ≤ 0xc1 }
+    requires count { HasByteCount fields }
+    ensures { result ≡ operation_of I186 (parts_of fields) }
+{
+    match fields.reg_field() {
+        2 | 3 | 6 => None,
+        number => {
+            let count = Count::Const(fields.constant_byte());
+            Some(Op::Shift(shift(number), fields.rm_operand(fields.width()), count))
+        }
     }
 }
