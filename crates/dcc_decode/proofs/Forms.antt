@@ -1,6 +1,6 @@
 -- Which ModRM byte and constant the opcodes have, by the rows of the table that begin with them.
 use Rattle.std.proofs.Common.{◌≡◌, ℕ, zero, suc, ◌%◌, ◌<◌, ◌≤◌, Bool, true, false, cond, not, ◌||◌, nat_lt, List, [], ◌∷◌, refl, sym, inl, inr, arith}
-use Rattle.std.specs.Prelude.{◌≢◌, bit_and, filter, slice_get, Some}
+use Rattle.std.specs.Prelude.{◌≢◌, ◌==◌, bit_and, filter, slice_get, Some}
 use Rattle.std.specs.List.{list_all}
 use Rattle.std.proofs.lemmas.Nat.{and_mask}
 use Rattle.std.proofs.lemmas.Bool.{cases_lt}
@@ -177,16 +177,25 @@ unfolding table
 modrm-6c_7f opcode h k = modrm_between 0x6c 0x7f false opcode refl h k (omega arith)
 
 -- between 0x40 and 0x7F the two multiplications alone have a ModRM byte
-pub modrm-rest_40_7f :
-    (opcode : ℕ) → 0x40 ≤ opcode → opcode ≤ 0x7f → opcode ≢ 0x69 → opcode ≢ 0x6b → TellsModrm opcode false
-modrm-rest_40_7f opcode h k n m =
-    elim (cases_lt opcode 0x69) [
+pub modrm-first_product : (opcode : ℕ) → opcode ≡ 0x69 → TellsModrm opcode true
+modrm-first_product opcode e = modrm-69_69 opcode (omega arith) (omega arith)
+
+pub modrm-second_product :
+    (opcode : ℕ) → 0x40 ≤ opcode → opcode ≤ 0x7f → opcode ≢ 0x69 → TellsModrm opcode (opcode == 0x6b)
+modrm-second_product opcode h k n =
+    let P : Bool → Type 0 = λ b. (opcode == 0x6b) ≡ b → TellsModrm opcode b in
+    let other : P false = λ m. elim (cases_lt opcode 0x69) [
       | inl a ↦ modrm-40_68 opcode h (omega arith)
       | inr a ↦ elim (cases_lt opcode 0x6b) [
         | inl b ↦ modrm-6a_6a opcode (omega arith) (omega arith)
-        | inr b ↦ modrm-6c_7f opcode (omega arith) k
+        | inr b ↦ modrm-6c_7f opcode (grind (arith, nat_tests)) k
       ]
-    ]
+    ] in
+    let cases : (b : Bool) → P b = λ b. elim b as P [
+      | true ↦ λ m. modrm-6b_6b opcode (grind (arith, nat_tests)) (grind (arith, nat_tests))
+      | false ↦ other
+    ] in
+    cases (opcode == 0x6b) refl
 
 pub modrm-90_bf : (opcode : ℕ) → 0x90 ≤ opcode → opcode ≤ 0xbf → TellsModrm opcode false
 unfolding table
@@ -230,7 +239,9 @@ modrm-below_40 opcode h =
     let cases : (b : Bool) → P b = λ b. elim b as P [ true ↦ λ t. modrm-low opcode h (grind (arith, nat_tests)) | false ↦ λ t. modrm-high opcode h (grind (arith, nat_tests)) ] in
     rw (low_bits opcode) (cases (nat_lt (opcode % 8) 4) refl)
 
-pub ruleset modrm_rules = (modrm-80_8f, modrm-c6_c7, modrm-d0_d3, modrm-f6_f7, modrm-fe_ff, modrm-69_69, modrm-6b_6b, modrm-rest_40_7f, modrm-90_bf, modrm-c0_c1, modrm-c2_c5, modrm-c8_cf, modrm-d4_f5, modrm-f8_fd, modrm-below_40)
+pub ruleset multiplication_rules = (modrm-first_product, modrm-second_product)
+
+pub ruleset modrm_rules = (modrm-80_8f, modrm-c6_c7, modrm-d0_d3, modrm-f6_f7, modrm-fe_ff, modrm-90_bf, modrm-c0_c1, modrm-c2_c5, modrm-c8_cf, modrm-d4_f5, modrm-f8_fd, modrm-below_40)
 
 -- The constant -----------------------------------------------------------------------------------
 

@@ -7,10 +7,10 @@ use Rattle.dcc_prog.specs.declared.cpu.Cpu.TheVariants.{I8086, I186}
 use Rattle.dcc_prog.specs.declared.instr.Op.{Op}
 use Rattle.dcc_prog.specs.declared.instr.Op.TheVariants.{Push, Leave}
 use Rattle.dcc_prog.specs.Operands.{reg_field}
-use Rattle.dcc_prog.specs.Table.{BytePattern, Row, Parts, fits, table, later_rows, IsRow, LaterProcessorHasEachInstruction, between, bytes_between, modrm_bytes, imm16, constant_shift, triple_product}
-use Rattle.dcc_prog.proofs.TableLaws.{and_both, instruction-row, instruction-of_row}
+use Rattle.dcc_prog.specs.Table.{BytePattern, Row, Parts, fits, table, later_rows, IsRow, between, bytes_between, modrm_bytes, imm16, constant_shift, triple_product}
+use Rattle.dcc_prog.proofs.TableLaws.{and_both, find-get, find-passes}
 use Rattle.dcc_decode.specs.Reading.{operation_of}
-use Rattle.dcc_decode.proofs.Forms.{fits-between, fits-any_operand, fits-one}
+use Rattle.dcc_decode.proofs.Forms.{fits-this, fits-any_operand, fits-one}
 use Rattle.dcc_decode.proofs.LowerRows.{of_row_for, none_for, no_row_fits, empty, one, two, any, this}
 
 -- The rows of both --------------------------------------------------------------------------------
@@ -25,14 +25,6 @@ get-append [] ys k x e = cc
 get-append (y ∷ xs) ys zero x e = e
 get-append (y ∷ xs) ys (suc k) x e = get-append xs ys k x e
 
-find-append_some :
-    {X : Type 0} (test : X → Bool) (xs ys : List X) (x : X) → find test xs ≡ Some x → find test (xs ++ ys) ≡ Some x
-find-append_some test [] ys x e = cc
-find-append_some {X} test (y ∷ xs) ys x e =
-    let P : Bool → Type 0 = λ b. cond b (Some y) (find test xs) ≡ Some x → cond b (Some y) (find test (xs ++ ys)) ≡ Some x in
-    let both : (b : Bool) → P b = λ b. elim b as P [ true ↦ λ h. h | false ↦ λ h. find-append_some test xs ys x h ] in
-    both (test y) e
-
 find-append_none :
     {X : Type 0} (test : X → Bool) (xs ys : List X) → find test ys ≡ None → find test (xs ++ ys) ≡ find test xs
 find-append_none test [] ys e = e
@@ -45,23 +37,28 @@ pub row_of_later : (cpu : Cpu) (row : Row) → IsRow cpu row → IsRow I186 row
 row_of_later I8086 row at = (at.0, rw table-later (get-append (table I8086) later_rows at.0 row at.1))
 row_of_later I186 row at = at
 
-pub later_has_each : LaterProcessorHasEachInstruction
-later_has_each offset bytes instr e =
-    let r = instruction-row I8086 offset bytes instr e in
-    instruction-of_row I186 offset bytes r.0 (row_of_later I8086 r.0 r.1) r.2 ∙ ap Some r.3
-
 -- Operations of both --------------------------------------------------------------------------------
 
-pub earlier_some : (p : Parts) (op : Op) → operation_of I8086 p ≡ Some op → operation_of I186 p ≡ Some op
+-- the row of an operation
+pub operation-row :
+    (cpu : Cpu) (p : Parts) (op : Op) → operation_of cpu p ≡ Some op
+    → (row : Row) × IsRow cpu row × (fits row.pattern (p.opcode ∷ p.modrm ∷ []) ≡ true) × (row.operation p ≡ op)
 unfolding operation_of
-earlier_some p op e =
+operation-row cpu p op e =
     let test : Row → Bool = λ row. fits row.pattern (p.opcode ∷ p.modrm ∷ []) in
-    let P : Option Row → Type 0 = λ o. find test (table I8086) ≡ o → option_map (λ row. row.operation p) o ≡ Some op → option_map (λ row. row.operation p) (find test (table I186)) ≡ Some op in
-    let cases : (o : Option Row) → P o = λ o. elim o as P [
-      | None ↦ λ f h. cc
-      | Some row ↦ λ f h. rw (table-later, find-append_some test (table I8086) later_rows row f) h
-    ] in
-    cases (find test (table I8086)) refl e
+    let found : Option Row = find test (table cpu) in
+    let P : Option Row → Type 0 = λ o. found ≡ o → option_map (λ row. row.operation p) o ≡ Some op → (row : Row) × IsRow cpu row × (fits row.pattern (p.opcode ∷ p.modrm ∷ []) ≡ true) × (row.operation p ≡ op) in
+    let cases : (o : Option Row) → P o = λ o. elim o as P [ None ↦ λ f h. cc | Some row ↦ λ f h. (row, find-get test (table cpu) row f, find-passes test (table cpu) row f, cc) ] in
+    cases found refl e
+
+-- the 80186 has each operation of the 8086
+pub earlier_some :
+    (cpu : Cpu) (p : Parts) (op : Op) → operation_of I8086 p ≡ Some op → operation_of cpu p ≡ Some op
+earlier_some I8086 p op e = e
+earlier_some I186 p op e =
+    let found = operation-row I8086 p op e in
+    let at = row_of_later I8086 found.0 found.1 in
+    of_row_for I186 at.0 found.0 p at.1 found.2 ∙ ap Some found.3
 
 -- where no later row has a part in the form of the opcode
 unlike_later :
@@ -98,15 +95,22 @@ pub push_signed : (p : Parts) → p.opcode ≡ 0x6a → operation_of I186 p ≡ 
 unfolding table
 push_signed p e = of_row_for I186 69 _ p refl (this 0x6a p e)
 
-pub product_word :
+product_word :
     (p : Parts) → p.opcode ≡ 0x69 → p.modrm < 256 → operation_of I186 p ≡ Some (triple_product p)
 unfolding table
-product_word p e m = of_row_for I186 70 _ p refl (two 0x69 0x69 _ _ _ p (omega arith) (omega arith) (omega arith) (any p m))
+product_word p e m =
+    of_row_for I186 70 _ p refl (and_both _ _ (fits-this 0x69 p.opcode e) (fits-one _ p.modrm [] (any p m)))
 
-pub product_signed :
+product_signed :
     (p : Parts) → p.opcode ≡ 0x6b → p.modrm < 256 → operation_of I186 p ≡ Some (triple_product p)
 unfolding table
-product_signed p e m = of_row_for I186 71 _ p refl (two 0x6b 0x6b _ _ _ p (omega arith) (omega arith) (omega arith) (any p m))
+product_signed p e m =
+    of_row_for I186 71 _ p refl (and_both _ _ (fits-this 0x6b p.opcode e) (fits-one _ p.modrm [] (any p m)))
+
+pub product :
+    (p : Parts) → (p.opcode ≡ 0x69) ⊎ (p.opcode ≡ 0x6b) → p.modrm < 256 → operation_of I186 p ≡ Some (triple_product p)
+product p (inl e) m = product_word p e m
+product p (inr e) m = product_signed p e m
 
 -- a shift or rotate whose number is one of a row's
 shift_between :
@@ -160,6 +164,6 @@ pub ruleset processor_rules = (earlier_some)
 
 pub ruleset later_rules = (push_word, push_signed, leave, neither)
 
-pub ruleset product_rules = (product_word, product_signed)
+pub ruleset product_rules = (product)
 
 pub ruleset shift_rules = (shift_by_constant, rotate_carry_none, sixth_none)

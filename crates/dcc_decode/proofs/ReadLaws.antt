@@ -1,14 +1,14 @@
 -- What is read from the bytes of an instruction, by the row that they fit.
 use Rattle.std.proofs.Common.{◌≡◌, ℕ, ◌+◌, ◌<◌, ◌≤◌, Bool, true, false, nat_le, List, [], ◌∷◌, ◌++◌, length, refl, sym, ◌∙◌, ap, arith}
-use Rattle.std.specs.Prelude.{◌↔◌, Option, Some, None, if◌then◌else◌}
+use Rattle.std.specs.Prelude.{◌↔◌, ◌==◌, Option, Some, None, if◌then◌else◌}
 use Rattle.std.proofs.lemmas.Bool.Decides.{nat_tests}
 use Rattle.dcc_prog.specs.Bytes.{byte_at}
 use Rattle.dcc_prog.specs.Operands.{displacement_size, displacement_at}
-use Rattle.dcc_prog.specs.Table.{BytePattern, Row, Parts, ConstantForm, fits_byte, fits, constant_size, constant_at, row_length}
+use Rattle.dcc_prog.specs.Table.{BytePattern, Row, Parts, ConstantForm, fits_byte, fits, constant_size, constant_at, ConstantPlace, at_end, at_index, constant_index, head_length, row_length}
 use Rattle.dcc_prog.proofs.TableLaws.{and_left, and_right, and_both}
 use Rattle.dcc_decode.specs.declared.fields.Constant.{Constant}
 use Rattle.dcc_decode.specs.declared.fields.Fields.{Fields}
-use Rattle.dcc_decode.specs.Reading.{form_of, IsOpcodeRow, TellsModrm, TellsConstant, modrm_read, constant_read, head_length, head_of, ReadsHead, ReadsRows, FitsAsRead}
+use Rattle.dcc_decode.specs.Reading.{form_of, IsOpcodeRow, TellsModrm, TellsConstant, modrm_read, constant_read, is_at_end, head_of, ReadsHead, ReadsRows, FitsAsRead}
 
 -- patterns that bytes fit are fitted by more bytes
 fits-more : (ps : List BytePattern) (xs ys : List ℕ) → fits ps xs ≡ true → fits ps (xs ++ ys) ≡ true
@@ -40,7 +40,16 @@ fits-short (p ∷ []) x l h = omega arith
 fits-short (p ∷ q ∷ ps) x l h = let no : false ≡ true = and_right (fits_byte p x) false h in cc
 
 opcode_row-length : (row : Row) → IsOpcodeRow row → length row.pattern ≡ (if row.has_modrm then 2 else 1)
-opcode_row-length row at = grind (arith, nat_tests, at.1)
+opcode_row-length row at =
+    let l : (length row.pattern == (if row.has_modrm then 2 else 1)) ≡ true = and_left _ (is_at_end row.constant_place) at.1 in
+    grind (arith, nat_tests, l)
+
+at_the_end : (place : ConstantPlace) → is_at_end place ≡ true → place ≡ at_end
+at_the_end at_end h = refl
+at_the_end (at_index index) h = cc
+
+opcode_row-place : (row : Row) → IsOpcodeRow row → row.constant_place ≡ at_end
+opcode_row-place row at = at_the_end row.constant_place (and_right (length row.pattern == (if row.has_modrm then 2 else 1)) _ at.1)
 
 opcode_row_with : (row : Row) → IsOpcodeRow row → row.has_modrm ≡ true → length row.pattern ≡ 2
 opcode_row_with row at h = let l = opcode_row-length row at in rw h at l
@@ -161,9 +170,9 @@ row_form row bytes opcode modrm displacement end form reads tells at h =
     tells.of_row row [] at ((reads.fitting modrm displacement end refl row at).0 h)
 
 whole_length :
-    (row : Row) (bytes : List ℕ) (end : ℕ) (form : ConstantForm) → head_length row bytes ≡ end
+    (row : Row) (bytes : List ℕ) (end : ℕ) (form : ConstantForm) → IsOpcodeRow row → head_length row bytes ≡ end
     → row.constant_form ≡ form → end + constant_size form ≡ row_length row bytes
-whole_length row bytes end form h k = rw (sym h, sym k) refl
+whole_length row bytes end form at h k = rw (sym h, sym k, opcode_row-place row at) refl
 
 parts_are :
     {a a' b b' c c' d d' n n' : ℕ} → a ≡ a' → b ≡ b' → c ≡ c' → d ≡ d' → n ≡ n'
@@ -178,7 +187,7 @@ reads_rows-none bytes at opcode modrm displacement end form reads tells r = reco
   complete = λ row by_opcode h enough.
       let same = row_form row bytes opcode modrm displacement end form reads tells by_opcode h in
       let head = head_some row bytes modrm displacement end (reads.of_row row by_opcode h) in
-      let whole = whole_length row bytes end (form_of form) head.3 same in
+      let whole = whole_length row bytes end (form_of form) by_opcode head.3 same in
       let within : nat_le (end + constant_size (form_of form)) (length bytes) ≡ true = grind (arith, nat_tests) in
       absurd (none_chosen _ (constant_at (form_of form) bytes end) within r);
   cut_short = λ row by_opcode h short. refl;
@@ -194,15 +203,16 @@ reads_rows-some bytes at opcode modrm displacement end size constant form e read
   complete = λ row by_opcode h enough.
       let same = row_form row bytes opcode modrm displacement end form reads tells by_opcode h in
       let head = head_some row bytes modrm displacement end (reads.of_row row by_opcode h) in
-      let whole = whole_length row bytes end (form_of form) head.3 same in
+      let whole = whole_length row bytes end (form_of form) by_opcode head.3 same in
       let got = chosen (nat_le (end + constant_size (form_of form)) (length bytes)) (constant_at (form_of form) bytes end) constant (sym r) in
-      let value : constant ≡ constant_at row.constant_form bytes (head_length row bytes) = rw (same, head.3) (sym got.1) in
+      let value : constant ≡ constant_at row.constant_form bytes (constant_index row.constant_place (head_length row bytes)) =
+      rw (same, opcode_row-place row by_opcode, head.3) (sym got.1) in
       let len : end + size ≡ row_length row bytes = rw s whole in
       (parts_are e (sym head.1) (sym head.2) value (ap (λ (n : ℕ). at + n) len), len);
   cut_short = λ row by_opcode h short.
       let same = row_form row bytes opcode modrm displacement end form reads tells by_opcode h in
       let head = head_some row bytes modrm displacement end (reads.of_row row by_opcode h) in
-      let whole = whole_length row bytes end (form_of form) head.3 same in
+      let whole = whole_length row bytes end (form_of form) by_opcode head.3 same in
       let got = chosen (nat_le (end + constant_size (form_of form)) (length bytes)) (constant_at (form_of form) bytes end) constant (sym r) in
       let within : end + constant_size (form_of form) ≤ length bytes = grind (arith, nat_tests, got.0) in
       absurd (omega arith);

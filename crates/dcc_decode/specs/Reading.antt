@@ -1,12 +1,12 @@
 -- What the fields of an instruction, as they are read from its bytes, have to do with the rows of the tables. Both
 -- processors' fields are read alike, by the rows of the 80186, which has those of the 8086.
-use Rattle.std.specs.Prelude.{◌≡◌, ◌≤◌, ◌<◌, ℕ, ◌+◌, IsSomeAnd, ◌↔◌, Bool, if◌then◌else◌, ◌==◌, nat_le, IsTrue, List, [], ◌∷◌, length, find, Option, Some, None, option_map}
+use Rattle.std.specs.Prelude.{◌≡◌, ◌≤◌, ◌<◌, ℕ, ◌+◌, IsSomeAnd, ◌↔◌, Bool, if◌then◌else◌, ◌==◌, ◌&&◌, true, false, nat_le, IsTrue, List, [], ◌∷◌, length, find, Option, Some, None, option_map}
 use Rattle.dcc_prog.specs.declared.cpu.Cpu.{Cpu}
 use Rattle.dcc_prog.specs.declared.cpu.Cpu.TheVariants.{I186}
 use Rattle.dcc_prog.specs.declared.instr.Op.{Op}
 use Rattle.dcc_prog.specs.Bytes.{byte_at}
 use Rattle.dcc_prog.specs.Operands.{displacement_size, displacement_at}
-use Rattle.dcc_prog.specs.Table.{Parts, Row, ConstantForm, no_constant, byte_constant, word_constant, signed_constant, fits, constant_size, constant_at, head_length, row_length, row_parts, table, IsRow}
+use Rattle.dcc_prog.specs.Table.{Parts, Row, ConstantForm, ConstantPlace, at_end, at_index, no_constant, byte_constant, word_constant, signed_constant, fits, constant_size, constant_at, head_length, row_length, row_parts, table, IsRow}
 use Rattle.dcc_decode.specs.declared.fields.Constant.{Constant}
 use Rattle.dcc_decode.specs.declared.fields.Constant.TheVariants.{Absent, Byte, Word, SignedByte}
 use Rattle.dcc_decode.specs.declared.fields.Fields.{Fields}
@@ -38,9 +38,13 @@ operation_of cpu parts =
 abbrev pub HasByteCount : Fields → Type 0
 HasByteCount fields = 0xc0 ≤ fields.opcode → fields.opcode ≤ 0xc1 → fields.constant < 256
 
--- a row whose first bytes are its opcode and its ModRM byte, if it has one
+abbrev pub is_at_end : ConstantPlace → Bool
+is_at_end at_end = true
+is_at_end (at_index index) = false
+
+-- a row whose first bytes are its opcode and its ModRM byte, if it has one, and whose constant stands at the end
 abbrev pub is_opcode_row : Row → Bool
-is_opcode_row row = length row.pattern == (if row.has_modrm then 2 else 1)
+is_opcode_row row = (length row.pattern == (if row.has_modrm then 2 else 1)) && is_at_end row.constant_place
 
 abbrev pub IsOpcodeRow : Row → Type 0
 IsOpcodeRow row = IsRow I186 row × IsTrue (is_opcode_row row)

@@ -192,10 +192,21 @@ fn has_modrm(opcode: u8) -> bool
 {
     match opcode {
         0x00..=0x3f => opcode & 7 < 4,
-        0x69 | 0x6b | 0x80..=0x8f => true,
-        0xc0..=0xc1 | 0xc6..=0xc7 | 0xd0..=0xd3 | 0xf6..=0xf7 | 0xfe..=0xff => true,
+        0x40..=0x7f => is_multiplication(opcode),
+        0x80..=0x8f | 0xc0..=0xc1 | 0xc6..=0xc7 => true,
+        0xd0..=0xd3 | 0xf6..=0xf7 | 0xfe..=0xff => true,
         _ => false,
     }
+}
+
+// Whether a ModRM byte follows an opcode from 0x40 to 0x7F; the multiplications alone have one.
+#[tactic(auto, using(crate::proofs::Forms::multiplication_rules))]
+fn is_multiplication(opcode: u8) -> bool
+    requires low { 0x40 ≤ opcode }
+    requires high { opcode ≤ 0x7f }
+    ensures { TellsModrm opcode result }
+{
+    opcode == 0x69 || opcode == 0x6b
 }
 
 // Which constant ends an instruction with this opcode and ModRM byte.
@@ -213,7 +224,8 @@ fn constant_form(opcode: u8, modrm: u8) -> Constant
         0xa0..=0xaf => accumulator_constant(opcode),
         0xb0..=0xb7 => Constant::Byte,
         0xb8..=0xbf => Constant::Word,
-        0xc0..=0xc7 => shift_or_return_constant(opcode),
+        0xc0..=0xc1 => Constant::Byte,
+        0xc2..=0xc7 => return_constant(opcode),
         0xe0..=0xef => jump_constant(opcode),
         0xf6..=0xf7 => test_constant(opcode, modrm),
         _ => Constant::Absent,
@@ -262,17 +274,17 @@ fn accumulator_constant(opcode: u8) -> Constant
     }
 }
 
-// The constant of the opcodes 0xC0 to 0xC7.
+// The constant of the opcodes 0xC2 to 0xC7.
 #[tactic(auto, using(crate::proofs::Forms::constant_rules))]
-fn shift_or_return_constant(opcode: u8) -> Constant
-    requires low { 0xc0 ≤ opcode }
+fn return_constant(opcode: u8) -> Constant
+    requires low { 0xc2 ≤ opcode }
     requires high { opcode ≤ 0xc7 }
-    ensures form { (modrm : ℕ) → TellsConstant opcode modrm result }
-    ensures count { opcode ≤ 0xc1 → result ≡ Constant.Byte }
+    ensures { (modrm : ℕ) → TellsConstant opcode modrm result }
 {
     match opcode {
-        0xc0..=0xc1 | 0xc6 => Constant::Byte,
-        0xc2 | 0xc7 => Constant::Word,
+        0xc2 => Constant::Word,
+        0xc6 => Constant::Byte,
+        0xc7 => Constant::Word,
         _ => Constant::Absent,
     }
 }

@@ -18,10 +18,12 @@ pub fn operation(fields: Fields, cpu: Cpu) -> Option<Op>
     requires count { HasByteCount fields }
     ensures { result ≡ operation_of cpu (parts_of fields) }
 {
-    let earlier = earlier_operation(fields);
+    if let Some(op) = earlier_operation(fields) {
+        return Some(op);
+    }
     match cpu {
-        Cpu::I186 if earlier.is_none() => later_operation(fields),
-        _ => earlier,
+        Cpu::I8086 => None,
+        Cpu::I186 => later_operation(fields),
     }
 }
 

@@ -4,4 +4,4 @@ use Rattle.dcc_decode.proofs.decode_window.Goals as goal
 
 pub returns-clause-operation : goal.returns-clause-operation
 returns-clause-operation c =
-    found-operation c.args.at c.args.window.now c.instruction_in.result (λ i. omega (arith, c.type_inv.window i)) c.instruction_in.ensures
+    found-operation c.args.cpu c.args.at c.args.window.now c.instruction_in.result (λ i. omega (arith, c.type_inv.window i)) c.instruction_in.ensures
