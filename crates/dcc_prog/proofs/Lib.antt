@@ -14,6 +14,8 @@ pub mod FoundLaws
 pub mod RefusedLaws
 pub mod MachineEnds
 pub mod WatchLaws
+pub mod OperationForms
+pub mod AccessLaws
 mod Examples
 mod DivisionExamples
 mod LayoutExamples

@@ -23,3 +23,6 @@ pub mod Built
 pub mod Found
 pub mod Refused
 pub mod Watch
+pub mod StateForm
+pub mod Access
+pub mod MemoryLaws

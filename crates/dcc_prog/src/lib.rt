@@ -5,6 +5,7 @@ pub mod cpu;
 pub mod frame;
 pub mod image;
 pub mod instr;
+pub mod laws;
 pub mod procedure;
 pub mod refusal;
 pub mod segment;
