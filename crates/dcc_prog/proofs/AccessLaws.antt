@@ -41,10 +41,10 @@ use Rattle.dcc_prog.proofs.OperationForms.{alu_result, alu_written, alu-form, Ou
 
 -- Agreement on addresses.
 
-agree-left : (xs ys memory other : List ℕ) → AgreeAt (xs ++ ys) memory other → AgreeAt xs memory other
+pub agree-left : (xs ys memory other : List ℕ) → AgreeAt (xs ++ ys) memory other → AgreeAt xs memory other
 agree-left xs ys memory other agree a has = agree a (Contains-append_left xs ys a has)
 
-agree-right : (xs ys memory other : List ℕ) → AgreeAt (xs ++ ys) memory other → AgreeAt ys memory other
+pub agree-right : (xs ys memory other : List ℕ) → AgreeAt (xs ++ ys) memory other → AgreeAt ys memory other
 agree-right xs ys memory other agree a has = agree a (Contains-append_right xs ys a has)
 
 -- of two lists of accesses
@@ -62,12 +62,12 @@ written_by-append (access ∷ rest) second =
     ap (λ (l : List ℕ). head ++ l) (written_by-append rest second)
     ∙ sym (append_assoc head (written_by rest) (written_by second))
 
-agree-first : (first second : List Access) (memory other : List ℕ) → AgreeAt (read_by (first ++ second)) memory other → AgreeAt (read_by first) memory other
+pub agree-first : (first second : List Access) (memory other : List ℕ) → AgreeAt (read_by (first ++ second)) memory other → AgreeAt (read_by first) memory other
 agree-first first second memory other agree =
     agree-left (read_by first) (read_by second) memory other
     (subst (λ l. AgreeAt l memory other) (read_by-append first second) agree)
 
-agree-second : (first second : List Access) (memory other : List ℕ) → AgreeAt (read_by (first ++ second)) memory other → AgreeAt (read_by second) memory other
+pub agree-second : (first second : List Access) (memory other : List ℕ) → AgreeAt (read_by (first ++ second)) memory other → AgreeAt (read_by second) memory other
 agree-second first second memory other agree =
     agree-right (read_by first) (read_by second) memory other
     (subst (λ l. AgreeAt l memory other) (read_by-append first second) agree)
@@ -103,7 +103,7 @@ part-same : (memory : List ℕ) (s : State) (part : Option Reg) → part_of (wit
 part-same memory s None = refl
 part-same memory s (Some r) = refl
 
-offset-same : (memory : List ℕ) (s : State) (ea : Ea) → offset_of (with_memory memory s) ea ≡ offset_of s ea
+pub offset-same : (memory : List ℕ) (s : State) (ea : Ea) → offset_of (with_memory memory s) ea ≡ offset_of s ea
 offset-same memory s ea =
     ap (λ n. (n + part_of (with_memory memory s) ea.index + ea.disp) % 65536) (part-same memory s ea.base)
     ∙ ap (λ n. (part_of s ea.base + n + ea.disp) % 65536) (part-same memory s ea.index)
@@ -112,7 +112,7 @@ offset-low : (s : State) (ea : Ea) → offset_of s ea < 65536
 offset-low s ea = omega arith
 
 -- what an operand holds
-value-same : (memory : List ℕ) (s : State) (x : Operand) → AgreeAt (read_by (operand_accesses Reading x s)) memory s.memory → operand_value (with_memory memory s) x ≡ operand_value s x
+pub value-same : (memory : List ℕ) (s : State) (x : Operand) → AgreeAt (read_by (operand_accesses Reading x s)) memory s.memory → operand_value (with_memory memory s) x ≡ operand_value s x
 value-same memory s (Word r) agree = refl
 value-same memory s (Byte r half) agree = refl
 value-same memory s (Seg number) agree = refl
@@ -124,23 +124,23 @@ value-same memory s (Mem word_width ea) agree =
     ∙ word-agrees s (segment_of s ea) (offset_of s ea) memory [] (offset-low s ea) agree
 value-same memory s (Const width constant) agree = refl
 
-abbrev store_at : ℕ → ℕ → Store
+abbrev pub store_at : ℕ → ℕ → Store
 store_at address byte = record { address = address; byte = byte }
 
 -- the bytes that are stored where a word is put to an offset
-abbrev word_stores : ℕ → ℕ → ℕ → List Store
+abbrev pub word_stores : ℕ → ℕ → ℕ → List Store
 word_stores segment offset word =
     store_at (physical segment offset) (word % 256)
     ∷ store_at (physical segment ((offset + 1) % 65536)) (word / 256)
     ∷ []
 
 -- those where an operand takes a value
-abbrev operand_stores : Operand → ℕ → State → List Store
+abbrev pub operand_stores : Operand → ℕ → State → List Store
 operand_stores (Mem byte_width ea) v s = store_at (physical (segment_of s ea) (offset_of s ea)) v ∷ []
 operand_stores (Mem word_width ea) v s = word_stores (segment_of s ea) (offset_of s ea) v
 operand_stores x v s = []
 
-abbrev addresses_stored : List Store → List ℕ
+abbrev pub addresses_stored : List Store → List ℕ
 addresses_stored stores = map (λ (store : Store). store.address) stores
 
 operand-addresses : (x : Operand) (v : ℕ) (s : State) → addresses_stored (operand_stores x v s) ≡ written_by (operand_accesses Writing x s)
@@ -155,10 +155,10 @@ operand-addresses (Mem word_width ea) v s =
 operand-addresses (Const width constant) v s = refl
 
 -- a function of the state does the same beside any memory, and stores these bytes
-abbrev Stores : (State → State) → List Store → State → Type 0
+abbrev pub Stores : (State → State) → List Store → State → Type 0
 Stores act stores s = (memory : List ℕ) → act (with_memory memory s) ≡ with_memory (stored stores memory) (act s)
 
-operand-stores : (x : Operand) (v : ℕ) (s : State) → Stores (λ t. with_operand t x v) (operand_stores x v s) s
+pub operand-stores : (x : Operand) (v : ℕ) (s : State) → Stores (λ t. with_operand t x v) (operand_stores x v s) s
 operand-stores (Word r) v s memory = refl
 operand-stores (Byte r half) v s memory = refl
 operand-stores (Seg number) v s memory = refl
@@ -387,7 +387,7 @@ imul3-acts cpu r a constant at s = record {
 -- The stack.
 
 -- a register holds what it has taken
-register-taken : (s : State) (r : Reg) (word : ℕ) → HasRegisters s → word_in (with_word_in s r word) r ≡ word
+pub register-taken : (s : State) (r : Reg) (word : ℕ) → HasRegisters s → word_in (with_word_in s r word) r ≡ word
 register-taken s r word form =
     let low : reg_number r < 8 = number-low r in
     let inside : reg_number r < length s.regs = omega (arith, form.count) in
@@ -514,7 +514,7 @@ string-from memory s p segment offset n size is agree =
     let inside : k < size = omega (arith, is, low) in
     agree (address_in access (0 + k)) (access-has access k inside))
 
-string-same : (memory : List ℕ) (s : State) → AgreeAt (read_by (other_read (data_segment s) (word_in s Dx) (string_size s) ∷ [])) memory s.memory → dos_string (with_memory memory s) ≡ dos_string s
+pub string-same : (memory : List ℕ) (s : State) → AgreeAt (read_by (other_read (data_segment s) (word_in s Dx) (string_size s) ∷ [])) memory s.memory → dos_string (with_memory memory s) ≡ dos_string s
 unfolding dos_string
 string-same memory s agree =
     string-from memory s is_not_dollar (data_segment s) (word_in s Dx) STRING_MOST (string_size s) refl agree

@@ -16,6 +16,7 @@ pub mod MachineEnds
 pub mod WatchLaws
 pub mod OperationForms
 pub mod AccessLaws
+pub mod MemoryKept
 mod Examples
 mod DivisionExamples
 mod LayoutExamples

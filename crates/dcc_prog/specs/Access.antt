@@ -2,6 +2,7 @@
 -- instruction's own bytes are none of them.
 use Rattle.std.specs.Prelude.{◌≡◌, ℕ, ◌+◌, ◌/◌, ◌%◌, ◌==◌, Bool, true, false, ◌&&◌, if◌then◌else◌, List, [], ◌∷◌, ◌++◌, length, map, min, slice_index, slice_set, Contains, Option, Some, None}
 use Rattle.std.specs.List.{range_with_len}
+use Rattle.dcc_run.specs.End.{is_over}
 use Rattle.dcc_num.specs.declared.Width.{Width}
 use Rattle.dcc_num.specs.declared.Width.TheVariants.{Byte as byte_width, Word as word_width}
 use Rattle.dcc_num.specs.declared.Reg.{Reg}
@@ -23,6 +24,8 @@ use Rattle.dcc_prog.specs.declared.instr.Instr.{Instr}
 use Rattle.dcc_prog.specs.Machine.{State, word_in, half_of_word, code_segment, stack_segment, data_segment, physical, offset_of, segment_of, operand_value, with_operand, is_bp}
 use Rattle.dcc_prog.specs.Operations.{with_sp_raised}
 use Rattle.dcc_prog.specs.Dos.{dos_string}
+use Rattle.dcc_prog.specs.Table.{instruction_at}
+use Rattle.dcc_prog.specs.Step.{code_bytes}
 use Rattle.dcc_prog.specs.Writes.{writes_operand}
 
 pub data Direction : Type 0 where
@@ -143,6 +146,15 @@ accesses (Ret count) s = stack_access Reading (word_in s Sp) s ∷ []
 accesses Int21 s = dos_accesses (word_in s Ax / 256) s
 accesses op s = []
 
+-- those of the instruction that was found, and of a step; a state that has ended makes none
+abbrev pub found_accesses : Option Instr → State → List Access
+found_accesses None s = []
+found_accesses (Some instr) s = accesses instr.op (record s { ip = (s.ip + instr.len) % 65536 })
+
+abbrev pub step_accesses : Cpu → State → List Access
+step_accesses cpu s =
+    if is_over s.end then [] else found_accesses (instruction_at cpu s.ip (code_bytes s)) s
+
 -- Bytes.
 
 -- the physical address of the byte at an index in an access, whose offset wraps
@@ -171,6 +183,22 @@ read_by (access ∷ rest) = read_in access.direction (addresses_of access) ++ re
 abbrev pub written_by : List Access → List ℕ
 written_by [] = []
 written_by (access ∷ rest) = written_in access.direction (addresses_of access) ++ written_by rest
+
+-- how many bytes tell which instruction stands at an offset, or that none does
+abbrev pub fetched_size : Option Instr → ℕ
+fetched_size None = 6
+fetched_size (Some instr) = instr.len
+
+-- the physical addresses of so many bytes of the code, from the instruction pointer on
+abbrev pub code_addresses : State → ℕ → List ℕ
+code_addresses s size = map (λ k. physical (code_segment s) ((s.ip + k) % 65536)) (range_with_len 0 size)
+
+-- the physical addresses that a step reads: those of the instruction's bytes, and those of its accesses
+abbrev pub found_reads : Option Instr → State → List ℕ
+found_reads found s = code_addresses s (fetched_size found) ++ read_by (found_accesses found s)
+
+abbrev pub step_reads : Cpu → State → List ℕ
+step_reads cpu s = if is_over s.end then [] else found_reads (instruction_at cpu s.ip (code_bytes s)) s
 
 -- Memory.
 

@@ -1,9 +1,25 @@
 //! Laws of the machine's steps, for every processor, operation and state. The functions do nothing: their contracts are
 //! proved for all.
 
-ghost use Rattle.dcc_prog.specs.MemoryLaws.{OperationsActByAccesses};
+ghost use Rattle.dcc_prog.specs.MemoryLaws.{StepsActByAccesses, MemoryChangesAtWritesAlone, BytesAreAlikeOrLeft, AccessesDependOnReads};
 
-/// The accesses of an operation tell what its step does to memory and takes from it.
-pub fn operations_act_by_accesses()
-    ensures { OperationsActByAccesses }
+/// The accesses of an operation tell what its step takes from memory and does to it, and with the instruction's bytes
+/// those of a step do.
+pub fn steps_act_by_accesses()
+    ensures { StepsActByAccesses }
+{}
+
+/// Memory changes at the writes alone.
+pub fn memory_changes_at_writes_alone()
+    ensures { MemoryChangesAtWritesAlone }
+{}
+
+/// Where an act finds two memories that agree at what it reads, each byte is alike after it, or was left alone.
+pub fn bytes_are_alike_or_left()
+    ensures { BytesAreAlikeOrLeft }
+{}
+
+/// The accesses themselves depend on memory at what they read alone.
+pub fn accesses_depend_on_reads()
+    ensures { AccessesDependOnReads }
 {}
