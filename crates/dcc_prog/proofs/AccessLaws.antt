@@ -519,6 +519,38 @@ unfolding dos_string
 string-same memory s agree =
     string-from memory s is_not_dollar (data_segment s) (word_in s Dx) STRING_MOST (string_size s) refl agree
 
+-- how many elements pass, where the first that fails is known
+passes-until : (p : ℕ → Bool) (f : ℕ → ℕ) (n count a : ℕ) → n < count → ((k : ℕ) → k < n → p (f (a + k)) ≡ true) → p (f (a + n)) ≡ false → length (take_while p (map f (range_with_len a count))) ≡ n
+passes-until p f n zero a within pass fail = absurd (omega arith)
+passes-until p f zero (suc count) a within pass fail =
+    let rest = map f (range_with_len (a + 1) count) in
+    let at : a + 0 ≡ a = omega arith in
+    let here : p (f a) ≡ false = subst (λ i. p (f i) ≡ false) at fail in
+    ap length (take_while-cons p (f a) rest ∙ ap (λ b. cond b (f a ∷ take_while p rest) []) here)
+passes-until p f (suc n) (suc count) a within pass fail =
+    let rest = map f (range_with_len (a + 1) count) in
+    let at : a + 0 ≡ a = omega arith in
+    let here : p (f a) ≡ true = subst (λ i. p (f i) ≡ true) at (pass 0 (omega arith)) in
+    let last : a + suc n ≡ a + 1 + n = omega arith in
+    let inner : length (take_while p rest) ≡ n =
+    passes-until p f n count (a + 1) (omega arith) (λ k low.
+    let next : a + suc k ≡ a + 1 + k = omega arith in
+    subst (λ i. p (f i) ≡ true) next (pass (suc k) (omega arith)))
+    (subst (λ i. p (f i) ≡ false) last fail) in
+    passes-length p (f a) rest here ∙ ap suc inner
+
+string-length : (s : State) (n count : ℕ) → n < count → ((k : ℕ) → k < n → is_not_dollar (byte_in s (data_segment s) ((word_in s Dx + (0 + k)) % 65536)) ≡ true) → is_not_dollar (byte_in s (data_segment s) ((word_in s Dx + (0 + n)) % 65536)) ≡ false → length (take_while is_not_dollar (bytes_from s (data_segment s) (word_in s Dx) count)) ≡ n
+unfolding bytes_from
+string-length s n count within pass fail =
+    passes-until is_not_dollar (λ k. byte_in s (data_segment s) ((word_in s Dx + k) % 65536)) n count 0 within pass fail
+
+-- a string of n bytes is read with its `$`
+pub string_size-is : (s : State) (n : ℕ) → n < STRING_MOST → ((k : ℕ) → k < n → is_not_dollar (byte_in s (data_segment s) ((word_in s Dx + (0 + k)) % 65536)) ≡ true) → is_not_dollar (byte_in s (data_segment s) ((word_in s Dx + (0 + n)) % 65536)) ≡ false → string_size s ≡ n + 1
+unfolding dos_string
+string_size-is s n within pass fail =
+    let size : length (dos_string s) ≡ n = string-length s n STRING_MOST within pass fail in
+    omega (arith, size)
+
 key-stores : (echo : Bool) (input : List ℕ) (s : State) → Stores (with_key echo input) [] s
 key-stores echo [] s memory = refl
 key-stores echo (byte ∷ rest) s memory = refl

@@ -17,7 +17,11 @@ pub mod WatchLaws
 pub mod OperationForms
 pub mod AccessLaws
 pub mod MemoryKept
+pub mod ResultBounds
+pub mod StateKept
+pub mod LocationKept
 mod Examples
 mod DivisionExamples
 mod LayoutExamples
 mod FrameExamples
+mod AccessExamples

@@ -26,3 +26,4 @@ pub mod Watch
 pub mod StateForm
 pub mod Access
 pub mod MemoryLaws
+pub mod LocationLaws

@@ -1,7 +1,11 @@
--- What holds of each state of the machine: how many registers and bytes there are, and what room each has.
-use Rattle.std.specs.Prelude.{◌≡◌, ℕ, ◌<◌, length, All}
+-- What holds of each state of the machine: how many registers and bytes there are, and what each has room for.
+use Rattle.std.specs.Prelude.{◌≡◌, ℕ, ◌<◌, length, slice_index}
 use Rattle.dcc_num.specs.declared.Reg.{Reg}
+use Rattle.dcc_prog.specs.declared.cpu.Cpu.{Cpu}
+use Rattle.dcc_prog.specs.declared.instr.Op.{Op}
 use Rattle.dcc_prog.specs.Machine.{State, word_in}
+use Rattle.dcc_prog.specs.WellFormed.{IsOperation}
+use Rattle.dcc_prog.specs.Step.{op_step, step}
 
 -- eight word registers, each with a word
 pub record HasRegisters (s : State) : Type 0 where
@@ -12,7 +16,14 @@ pub record HasRegisters (s : State) : Type 0 where
 pub record IsState (s : State) : Type 0 where
   pub registers : HasRegisters s
   pub segment_count : length s.segs ≡ 4
-  pub segments : All (λ segment. segment < 65536) s.segs
+  pub segments : (number : ℕ) → slice_index s.segs number < 65536
   pub memory_size : length s.memory ≡ 1048576
-  pub memory : All (λ byte. byte < 256) s.memory
-  pub input : All (λ byte. byte < 256) s.input
+  pub memory : (address : ℕ) → slice_index s.memory address < 256
+  pub input : (k : ℕ) → slice_index s.input k < 256
+
+-- steps keep that; the step of an operation does where the instruction pointer after it is a word
+pub record StepsKeepStates : Type 0 where
+  pub operation :
+      (cpu : Cpu) (op : Op) (at : ℕ) (s : State) → IsOperation op → s.ip < 65536 → IsState s
+      → IsState (op_step cpu op at s)
+  pub step : (cpu : Cpu) (s : State) → IsState s → IsState (step cpu s)

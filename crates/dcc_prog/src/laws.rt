@@ -1,6 +1,8 @@
 //! Laws of the machine's steps, for every processor, operation and state. The functions do nothing: their contracts are
 //! proved for all.
 
+ghost use Rattle.dcc_prog.specs.StateForm.{StepsKeepStates};
+ghost use Rattle.dcc_prog.specs.LocationLaws.{WhatIsNotWrittenStays};
 ghost use Rattle.dcc_prog.specs.MemoryLaws.{StepsActByAccesses, MemoryChangesAtWritesAlone, BytesAreAlikeOrLeft, AccessesDependOnReads};
 
 /// The accesses of an operation tell what its step takes from memory and does to it, and with the instruction's bytes
@@ -22,4 +24,14 @@ pub fn bytes_are_alike_or_left()
 /// The accesses themselves depend on memory at what they read alone.
 pub fn accesses_depend_on_reads()
     ensures { AccessesDependOnReads }
+{}
+
+/// Steps keep the number of registers and bytes, and what each has room for.
+pub fn steps_keep_states()
+    ensures { StepsKeepStates }
+{}
+
+/// What an operation doesn't write, by the table of writes, stays as it was. The own step of a CALL writes SP alone.
+pub fn what_is_not_written_stays()
+    ensures { WhatIsNotWrittenStays }
 {}
