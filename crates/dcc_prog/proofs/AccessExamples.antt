@@ -114,7 +114,9 @@ string-reads : accesses Int21 calling ≡ access Reading Other 0 0 3 ∷ []
 unfolding access calling
 string-reads = ap (λ n. access Reading Other 0 0 n ∷ []) (string_size-is calling 2 (omega arith) letters refl)
   where
-    letters : (k : ℕ) → k < 2 → is_not_dollar (byte_in calling (data_segment calling) ((word_in calling Dx + (0 + k)) % 65536)) ≡ true
+    letters :
+        (k : ℕ) → k < 2
+        → is_not_dollar (byte_in calling (data_segment calling) ((word_in calling Dx + (0 + k)) % 65536)) ≡ true
     letters zero low = refl
     letters (suc zero) low = refl
     letters (suc (suc k)) low = absurd (omega arith)

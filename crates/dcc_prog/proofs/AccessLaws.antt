@@ -62,35 +62,49 @@ written_by-append (access ∷ rest) second =
     ap (λ (l : List ℕ). head ++ l) (written_by-append rest second)
     ∙ sym (append_assoc head (written_by rest) (written_by second))
 
-pub agree-first : (first second : List Access) (memory other : List ℕ) → AgreeAt (read_by (first ++ second)) memory other → AgreeAt (read_by first) memory other
+pub agree-first :
+    (first second : List Access) (memory other : List ℕ) → AgreeAt (read_by (first ++ second)) memory other
+    → AgreeAt (read_by first) memory other
 agree-first first second memory other agree =
     agree-left (read_by first) (read_by second) memory other
     (subst (λ l. AgreeAt l memory other) (read_by-append first second) agree)
 
-pub agree-second : (first second : List Access) (memory other : List ℕ) → AgreeAt (read_by (first ++ second)) memory other → AgreeAt (read_by second) memory other
+pub agree-second :
+    (first second : List Access) (memory other : List ℕ) → AgreeAt (read_by (first ++ second)) memory other
+    → AgreeAt (read_by second) memory other
 agree-second first second memory other agree =
     agree-right (read_by first) (read_by second) memory other
     (subst (λ l. AgreeAt l memory other) (read_by-append first second) agree)
 
 -- Bytes and words that are read.
 
-head-agrees : (address : ℕ) (rest memory other : List ℕ) → AgreeAt (address ∷ rest) memory other → slice_index memory address ≡ slice_index other address
+head-agrees :
+    (address : ℕ) (rest memory other : List ℕ) → AgreeAt (address ∷ rest) memory other
+    → slice_index memory address ≡ slice_index other address
 head-agrees address rest memory other agree = agree address (0, omega arith, refl)
 
-next-agrees : (first address : ℕ) (rest memory other : List ℕ) → AgreeAt (first ∷ address ∷ rest) memory other → slice_index memory address ≡ slice_index other address
+next-agrees :
+    (first address : ℕ) (rest memory other : List ℕ) → AgreeAt (first ∷ address ∷ rest) memory other
+    → slice_index memory address ≡ slice_index other address
 next-agrees first address rest memory other agree = agree address (1, omega arith, refl)
 
 -- the first byte of an access stands at its offset
 first_offset : (n : ℕ) → n < 65536 → (n + 0) % 65536 ≡ n
 first_offset n low = omega arith
 
-byte-agrees : (segment n : ℕ) (rest memory other : List ℕ) → n < 65536 → AgreeAt (physical segment ((n + 0) % 65536) ∷ rest) memory other → slice_index memory (physical segment n) ≡ slice_index other (physical segment n)
+byte-agrees :
+    (segment n : ℕ) (rest memory other : List ℕ) → n < 65536
+    → AgreeAt (physical segment ((n + 0) % 65536) ∷ rest) memory other
+    → slice_index memory (physical segment n) ≡ slice_index other (physical segment n)
 byte-agrees segment n rest memory other low agree =
     let at = first_offset n low in
     head-agrees (physical segment n) rest memory other
     (subst (λ k. AgreeAt (physical segment k ∷ rest) memory other) at agree)
 
-word-agrees : (s : State) (segment n : ℕ) (memory rest : List ℕ) → n < 65536 → AgreeAt (physical segment ((n + 0) % 65536) ∷ physical segment ((n + 1) % 65536) ∷ rest) memory s.memory → word_at_offset (with_memory memory s) segment n ≡ word_at_offset s segment n
+word-agrees :
+    (s : State) (segment n : ℕ) (memory rest : List ℕ) → n < 65536
+    → AgreeAt (physical segment ((n + 0) % 65536) ∷ physical segment ((n + 1) % 65536) ∷ rest) memory s.memory
+    → word_at_offset (with_memory memory s) segment n ≡ word_at_offset s segment n
 word-agrees s segment n memory rest low agree =
     let second = physical segment ((n + 1) % 65536) in
     let b = byte-agrees segment n (second ∷ rest) memory s.memory low agree in
@@ -112,7 +126,9 @@ offset-low : (s : State) (ea : Ea) → offset_of s ea < 65536
 offset-low s ea = omega arith
 
 -- what an operand holds
-pub value-same : (memory : List ℕ) (s : State) (x : Operand) → AgreeAt (read_by (operand_accesses Reading x s)) memory s.memory → operand_value (with_memory memory s) x ≡ operand_value s x
+pub value-same :
+    (memory : List ℕ) (s : State) (x : Operand) → AgreeAt (read_by (operand_accesses Reading x s)) memory s.memory
+    → operand_value (with_memory memory s) x ≡ operand_value s x
 value-same memory s (Word r) agree = refl
 value-same memory s (Byte r half) agree = refl
 value-same memory s (Seg number) agree = refl
@@ -143,7 +159,9 @@ operand_stores x v s = []
 abbrev pub addresses_stored : List Store → List ℕ
 addresses_stored stores = map (λ (store : Store). store.address) stores
 
-operand-addresses : (x : Operand) (v : ℕ) (s : State) → addresses_stored (operand_stores x v s) ≡ written_by (operand_accesses Writing x s)
+operand-addresses :
+    (x : Operand) (v : ℕ) (s : State)
+    → addresses_stored (operand_stores x v s) ≡ written_by (operand_accesses Writing x s)
 operand-addresses (Word r) v s = refl
 operand-addresses (Byte r half) v s = refl
 operand-addresses (Seg number) v s = refl
@@ -173,7 +191,9 @@ operand-stores (Const width constant) v s memory = refl
 abbrev result_stores : Bool → Operand → ℕ → State → List Store
 result_stores so x v s = if so then operand_stores x v s else []
 
-result-addresses : (so : Bool) (x : Operand) (v : ℕ) (s : State) → addresses_stored (result_stores so x v s) ≡ written_by (result_accesses so x s)
+result-addresses :
+    (so : Bool) (x : Operand) (v : ℕ) (s : State)
+    → addresses_stored (result_stores so x v s) ≡ written_by (result_accesses so x s)
 result-addresses true x v s = operand-addresses x v s
 result-addresses false x v s = refl
 
@@ -187,7 +207,8 @@ flags-offset flags s ea =
     part_flags None = refl
     part_flags (Some r) = refl
 
-flags-stores : (flags : Flags) (x : Operand) (v : ℕ) (s : State) → operand_stores x v (with_flags flags s) ≡ operand_stores x v s
+flags-stores :
+    (flags : Flags) (x : Operand) (v : ℕ) (s : State) → operand_stores x v (with_flags flags s) ≡ operand_stores x v s
 flags-stores flags (Word r) v s = refl
 flags-stores flags (Byte r half) v s = refl
 flags-stores flags (Seg number) v s = refl
@@ -196,24 +217,30 @@ flags-stores flags (Mem byte_width ea) v s =
 flags-stores flags (Mem word_width ea) v s = ap (λ n. word_stores (segment_of s ea) n v) (flags-offset flags s ea)
 flags-stores flags (Const width constant) v s = refl
 
-result-stores : (x : Operand) (result : ℕ × Flags) (s : State) → Stores (with_result x result) (operand_stores x result.0 s) s
+result-stores :
+    (x : Operand) (result : ℕ × Flags) (s : State) → Stores (with_result x result) (operand_stores x result.0 s) s
 result-stores x result s memory =
     operand-stores x result.0 (with_flags result.1 s) memory
     ∙ ap (λ l. with_memory (stored l memory) (with_result x result s)) (flags-stores result.1 x result.0 s)
 
-written-stores : (so : Bool) (x : Operand) (result : ℕ × Flags) (s : State) → Stores (alu_written so x result) (result_stores so x result.0 s) s
+written-stores :
+    (so : Bool) (x : Operand) (result : ℕ × Flags) (s : State)
+    → Stores (alu_written so x result) (result_stores so x result.0 s) s
 written-stores true x result s memory = result-stores x result s memory
 written-stores false x result s memory = refl
 
 -- what reads begin with writes nothing
-after-reads : (x : Operand) (rest : List Access) (s : State) → written_by (operand_accesses Reading x s ++ rest) ≡ written_by rest
+after-reads :
+    (x : Operand) (rest : List Access) (s : State) → written_by (operand_accesses Reading x s ++ rest) ≡ written_by rest
 after-reads (Word r) rest s = refl
 after-reads (Byte r half) rest s = refl
 after-reads (Seg number) rest s = refl
 after-reads (Mem width ea) rest s = refl
 after-reads (Const width constant) rest s = refl
 
-alu-acts : (cpu : Cpu) (operation : AluName) (a b : Operand) (at : ℕ) (s : State) → ActsByAccesses (accesses (Alu operation a b) s) (op_step cpu (Alu operation a b) at) s
+alu-acts :
+    (cpu : Cpu) (operation : AluName) (a b : Operand) (at : ℕ) (s : State)
+    → ActsByAccesses (accesses (Alu operation a b) s) (op_step cpu (Alu operation a b) at) s
 alu-acts cpu operation a b at s =
     let w = operand_width a in
     let va = operand_value s a in
@@ -234,7 +261,8 @@ alu-acts cpu operation a b at s =
           let first = value-same memory s a (agree-first reads_a (reads_b ++ writes) memory s.memory agree) in
           let second =
           value-same memory s b
-          (agree-first reads_b writes memory s.memory (agree-second reads_a (reads_b ++ writes) memory s.memory agree)) in
+          (agree-first reads_b writes memory s.memory
+          (agree-second reads_a (reads_b ++ writes) memory s.memory agree)) in
           ap (λ n. alu_step operation w a n (operand_value t b) t) first
           ∙ ap (λ n. alu_step operation w a va n t) second
           ∙ alu-form operation w a va vb t
@@ -253,7 +281,9 @@ product-stores : (w : Width) (product : ℕ × ℕ × Flags) (s : State) → Sto
 product-stores byte_width product s memory = refl
 product-stores word_width product s memory = refl
 
-outcome-stores : (outcome : Outcome) (w : Width) (x : Operand) (at : ℕ) (s : State) → Stores (outcome_step outcome w x at) (outcome_stores outcome x s) s
+outcome-stores :
+    (outcome : Outcome) (w : Width) (x : Operand) (at : ℕ) (s : State)
+    → Stores (outcome_step outcome w x at) (outcome_stores outcome x s) s
 outcome-stores (in_operand result) w x at s memory = result-stores x result s memory
 outcome-stores (in_pair pair) w x at s memory = product-stores w pair s memory
 outcome-stores in_fault w x at s memory = refl
@@ -262,7 +292,10 @@ divided-stores : (division : Option (ℕ × ℕ)) (x : Operand) (s : State) → 
 divided-stores None x s = refl
 divided-stores (Some division) x s = refl
 
-outcome-addresses : (operation : UnaryName) (w : Width) (low high a : ℕ) (flags : Flags) (x : Operand) (s : State) → addresses_stored (outcome_stores (unary_outcome operation w low high a flags) x s) ≡ written_by (result_accesses (writes_back operation) x s)
+outcome-addresses :
+    (operation : UnaryName) (w : Width) (low high a : ℕ) (flags : Flags) (x : Operand) (s : State)
+    → addresses_stored (outcome_stores (unary_outcome operation w low high a flags) x s)
+    ≡ written_by (result_accesses (writes_back operation) x s)
 outcome-addresses Inc w low high a flags x s = operand-addresses x _ s
 outcome-addresses Dec w low high a flags x s = operand-addresses x _ s
 outcome-addresses Neg w low high a flags x s = operand-addresses x _ s
@@ -272,7 +305,8 @@ outcome-addresses Imul w low high a flags x s = refl
 outcome-addresses Div w low high a flags x s = ap addresses_stored (divided-stores _ x s)
 outcome-addresses Idiv w low high a flags x s = ap addresses_stored (divided-stores _ x s)
 
-accumulator-same : (w : Width) (memory : List ℕ) (s : State) → accumulator_in w (with_memory memory s) ≡ accumulator_in w s
+accumulator-same :
+    (w : Width) (memory : List ℕ) (s : State) → accumulator_in w (with_memory memory s) ≡ accumulator_in w s
 accumulator-same byte_width memory s = refl
 accumulator-same word_width memory s = refl
 
@@ -280,7 +314,9 @@ upper-same : (w : Width) (memory : List ℕ) (s : State) → upper_in w (with_me
 upper-same byte_width memory s = refl
 upper-same word_width memory s = refl
 
-unary-acts : (cpu : Cpu) (operation : UnaryName) (a : Operand) (at : ℕ) (s : State) → ActsByAccesses (accesses (Unary operation a) s) (op_step cpu (Unary operation a) at) s
+unary-acts :
+    (cpu : Cpu) (operation : UnaryName) (a : Operand) (at : ℕ) (s : State)
+    → ActsByAccesses (accesses (Unary operation a) s) (op_step cpu (Unary operation a) at) s
 unary-acts cpu operation a at s =
     let w = operand_width a in
     let v = operand_value s a in
@@ -289,7 +325,8 @@ unary-acts cpu operation a at s =
     record {
       stores = outcome_stores outcome a s;
       addresses =
-          outcome-addresses operation w (accumulator_in w s) (upper_in w s) v s.flags a s ∙ sym (after-reads a writes s);
+          outcome-addresses operation w (accumulator_in w s) (upper_in w s) v s.flags a s
+          ∙ sym (after-reads a writes s);
       alike = λ memory agree.
           let t = with_memory memory s in
           let value = value-same memory s a (agree-first (operand_accesses Reading a s) writes memory s.memory agree) in
@@ -301,12 +338,16 @@ unary-acts cpu operation a at s =
           ∙ ap (λ u. with_memory (stored (outcome_stores outcome a s) memory) u) (sym (unary-form operation w a v at s));
     }
 
-count-same : (cpu : Cpu) (count : Count) (memory : List ℕ) (s : State) → count_in cpu count (with_memory memory s) ≡ count_in cpu count s
+count-same :
+    (cpu : Cpu) (count : Count) (memory : List ℕ) (s : State)
+    → count_in cpu count (with_memory memory s) ≡ count_in cpu count s
 count-same cpu One memory s = refl
 count-same cpu Cl memory s = refl
 count-same cpu (ConstCount number) memory s = refl
 
-shift-acts : (cpu : Cpu) (shift : ShiftName) (a : Operand) (count : Count) (at : ℕ) (s : State) → ActsByAccesses (accesses (Shift shift a count) s) (op_step cpu (Shift shift a count) at) s
+shift-acts :
+    (cpu : Cpu) (shift : ShiftName) (a : Operand) (count : Count) (at : ℕ) (s : State)
+    → ActsByAccesses (accesses (Shift shift a count) s) (op_step cpu (Shift shift a count) at) s
 shift-acts cpu shift a count at s =
     let w = operand_width a in
     let v = operand_value s a in
@@ -325,7 +366,9 @@ shift-acts cpu shift a count at s =
 
 -- Moves.
 
-mov-acts : (cpu : Cpu) (to from : Operand) (at : ℕ) (s : State) → ActsByAccesses (accesses (Mov to from) s) (op_step cpu (Mov to from) at) s
+mov-acts :
+    (cpu : Cpu) (to from : Operand) (at : ℕ) (s : State)
+    → ActsByAccesses (accesses (Mov to from) s) (op_step cpu (Mov to from) at) s
 mov-acts cpu to from at s =
     let v = operand_value s from in
     let writes = operand_accesses Writing to s in
@@ -333,15 +376,20 @@ mov-acts cpu to from at s =
       stores = operand_stores to v s;
       addresses = operand-addresses to v s ∙ sym (after-reads from writes s);
       alike = λ memory agree.
-          let value = value-same memory s from (agree-first (operand_accesses Reading from s) writes memory s.memory agree) in
+          let value =
+          value-same memory s from (agree-first (operand_accesses Reading from s) writes memory s.memory agree) in
           ap (λ n. with_operand (with_memory memory s) to n) value ∙ operand-stores to v s memory;
     }
 
-stored-append : (first second : List Store) (memory : List ℕ) → stored (first ++ second) memory ≡ stored second (stored first memory)
+stored-append :
+    (first second : List Store) (memory : List ℕ)
+    → stored (first ++ second) memory ≡ stored second (stored first memory)
 stored-append [] second memory = refl
 stored-append (store ∷ rest) second memory = stored-append rest second (slice_set memory store.address store.byte)
 
-xchg-acts : (cpu : Cpu) (a b : Operand) (at : ℕ) (s : State) → ActsByAccesses (accesses (Xchg a b) s) (op_step cpu (Xchg a b) at) s
+xchg-acts :
+    (cpu : Cpu) (a b : Operand) (at : ℕ) (s : State)
+    → ActsByAccesses (accesses (Xchg a b) s) (op_step cpu (Xchg a b) at) s
 xchg-acts cpu a b at s =
     let va = operand_value s a in
     let vb = operand_value s b in
@@ -363,7 +411,8 @@ xchg-acts cpu a b at s =
           ∙ sym (after-reads a (reads_b ++ (writes_a ++ writes_b)) s);
       alike = λ memory agree.
           let t = with_memory memory s in
-          let value_a = value-same memory s a (agree-first reads_a (reads_b ++ (writes_a ++ writes_b)) memory s.memory agree) in
+          let value_a =
+          value-same memory s a (agree-first reads_a (reads_b ++ (writes_a ++ writes_b)) memory s.memory agree) in
           let value_b =
           value-same memory s b
           (agree-first reads_b (writes_a ++ writes_b) memory s.memory
@@ -375,13 +424,16 @@ xchg-acts cpu a b at s =
           ∙ ap (λ l. with_memory l (with_operand u b va)) (sym (stored-append first second memory));
     }
 
-imul3-acts : (cpu : Cpu) (r : Reg) (a : Operand) (constant at : ℕ) (s : State) → ActsByAccesses (accesses (Imul3 r a constant) s) (op_step cpu (Imul3 r a constant) at) s
+imul3-acts :
+    (cpu : Cpu) (r : Reg) (a : Operand) (constant at : ℕ) (s : State)
+    → ActsByAccesses (accesses (Imul3 r a constant) s) (op_step cpu (Imul3 r a constant) at) s
 imul3-acts cpu r a constant at s = record {
   stores = [];
   addresses = sym (after-reads a [] s) ∙ ap written_by (append-nil (operand_accesses Reading a s));
   alike = λ memory agree.
       let product = λ (n : ℕ). signed_product_of word_width n constant in
-      ap (λ n. with_word_in (with_flags (product n).2 (with_memory memory s)) r (product n).0) (value-same memory s a agree);
+      ap (λ n. with_word_in (with_flags (product n).2 (with_memory memory s)) r (product n).0)
+      (value-same memory s a agree);
 }
 
 -- The stack.
@@ -410,7 +462,8 @@ push_stores word s = word_stores (stack_segment s) (word_in (with_sp_raised 6553
 push-stores : (word : ℕ) (s : State) → Stores (after_push word) (push_stores word s) s
 push-stores word s memory = refl
 
-push-addresses : (word : ℕ) (s : State) → HasRegisters s → addresses_stored (push_stores word s) ≡ written_by (push_access s ∷ [])
+push-addresses :
+    (word : ℕ) (s : State) → HasRegisters s → addresses_stored (push_stores word s) ≡ written_by (push_access s ∷ [])
 push-addresses word s form =
     let n = (word_in s Sp + 65534) % 65536 in
     let fallen : word_in (with_sp_raised 65534 s) Sp ≡ n = register-taken s Sp n form in
@@ -418,7 +471,9 @@ push-addresses word s form =
     ap (λ k. physical (stack_segment s) k ∷ physical (stack_segment s) ((k + 1) % 65536) ∷ []) fallen
     ∙ ap (λ k. physical (stack_segment s) k ∷ physical (stack_segment s) ((n + 1) % 65536) ∷ []) (sym (first_offset n low))
 
-push-acts : (cpu : Cpu) (a : Operand) (at : ℕ) (s : State) → HasRegisters s → ActsByAccesses (accesses (Push a) s) (op_step cpu (Push a) at) s
+push-acts :
+    (cpu : Cpu) (a : Operand) (at : ℕ) (s : State) → HasRegisters s
+    → ActsByAccesses (accesses (Push a) s) (op_step cpu (Push a) at) s
 push-acts cpu a at s form =
     let v = operand_value s a in
     let writes = push_access s ∷ [] in
@@ -431,10 +486,15 @@ push-acts cpu a at s form =
     }
 
 -- the word at the top of the stack
-top-same : (memory rest : List ℕ) (s : State) → HasRegisters s → AgreeAt (addresses_of (stack_access Reading (word_in s Sp) s) ++ rest) memory s.memory → top_word (with_memory memory s) ≡ top_word s
+top-same :
+    (memory rest : List ℕ) (s : State) → HasRegisters s
+    → AgreeAt (addresses_of (stack_access Reading (word_in s Sp) s) ++ rest) memory s.memory
+    → top_word (with_memory memory s) ≡ top_word s
 top-same memory rest s form agree = word-agrees s (stack_segment s) (word_in s Sp) memory rest (form.words Sp) agree
 
-pop-acts : (cpu : Cpu) (a : Operand) (at : ℕ) (s : State) → HasRegisters s → ActsByAccesses (accesses (Pop a) s) (op_step cpu (Pop a) at) s
+pop-acts :
+    (cpu : Cpu) (a : Operand) (at : ℕ) (s : State) → HasRegisters s
+    → ActsByAccesses (accesses (Pop a) s) (op_step cpu (Pop a) at) s
 pop-acts cpu a at s form =
     let word = top_word s in
     let u = with_sp_raised 2 s in
@@ -443,11 +503,13 @@ pop-acts cpu a at s form =
       stores = operand_stores a word u;
       addresses = operand-addresses a word u;
       alike = λ memory agree.
-          ap (λ n. with_operand (with_sp_raised 2 (with_memory memory s)) a n) (top-same memory (read_by writes) s form agree)
+          ap (λ n. with_operand (with_sp_raised 2 (with_memory memory s)) a n)
+          (top-same memory (read_by writes) s form agree)
           ∙ operand-stores a word u memory;
     }
 
-leave-acts : (cpu : Cpu) (at : ℕ) (s : State) → HasRegisters s → ActsByAccesses (accesses Leave s) (op_step cpu Leave at) s
+leave-acts :
+    (cpu : Cpu) (at : ℕ) (s : State) → HasRegisters s → ActsByAccesses (accesses Leave s) (op_step cpu Leave at) s
 leave-acts cpu at s form = record {
   stores = [];
   addresses = refl;
@@ -465,7 +527,9 @@ leave-acts cpu at s form = record {
 -- DOS calls.
 
 -- the elements up to the first that fails, of two lists that begin alike
-passes-agree : (p : ℕ → Bool) (x y : ℕ) (xs ys : List ℕ) (passes : Bool) → p x ≡ passes → y ≡ x → (passes ≡ true → take_while p ys ≡ take_while p xs) → take_while p (y ∷ ys) ≡ take_while p (x ∷ xs)
+passes-agree :
+    (p : ℕ → Bool) (x y : ℕ) (xs ys : List ℕ) (passes : Bool) → p x ≡ passes → y ≡ x
+    → (passes ≡ true → take_while p ys ≡ take_while p xs) → take_while p (y ∷ ys) ≡ take_while p (x ∷ xs)
 passes-agree p x y xs ys passes e here rest =
     take_while-cons p y ys
     ∙ ap (λ z. cond (p z) (z ∷ take_while p ys) []) here
@@ -474,14 +538,20 @@ passes-agree p x y xs ys passes e here rest =
     ∙ sym (ap (λ b. cond b (x ∷ take_while p xs) []) e)
     ∙ sym (take_while-cons p x xs)
   where
-    go : (b : Bool) → (b ≡ true → take_while p ys ≡ take_while p xs) → cond b (x ∷ take_while p ys) [] ≡ cond b (x ∷ take_while p xs) []
+    go :
+        (b : Bool) → (b ≡ true → take_while p ys ≡ take_while p xs)
+        → cond b (x ∷ take_while p ys) [] ≡ cond b (x ∷ take_while p xs) []
     go true same = ap (λ (l : List ℕ). x ∷ l) (same refl)
     go false same = refl
 
-passes-length : (p : ℕ → Bool) (x : ℕ) (xs : List ℕ) → p x ≡ true → length (take_while p (x ∷ xs)) ≡ suc (length (take_while p xs))
+passes-length :
+    (p : ℕ → Bool) (x : ℕ) (xs : List ℕ) → p x ≡ true → length (take_while p (x ∷ xs)) ≡ suc (length (take_while p xs))
 passes-length p x xs e = ap length (take_while-cons p x xs ∙ ap (λ b. cond b (x ∷ take_while p xs) []) e)
 
-take_while-agrees : (p : ℕ → Bool) (f g : ℕ → ℕ) (n a : ℕ) → ((k : ℕ) → k < min (length (take_while p (map f (range_with_len a n))) + 1) n → g (a + k) ≡ f (a + k)) → take_while p (map g (range_with_len a n)) ≡ take_while p (map f (range_with_len a n))
+take_while-agrees :
+    (p : ℕ → Bool) (f g : ℕ → ℕ) (n a : ℕ)
+    → ((k : ℕ) → k < min (length (take_while p (map f (range_with_len a n))) + 1) n → g (a + k) ≡ f (a + k))
+    → take_while p (map g (range_with_len a n)) ≡ take_while p (map f (range_with_len a n))
 take_while-agrees p f g zero a same = refl
 take_while-agrees p f g (suc n) a same =
     let first = map f (range_with_len (a + 1) n) in
@@ -497,30 +567,45 @@ take_while-agrees p f g (suc n) a same =
     subst (λ i. g i ≡ f i) at (same (k + 1) room)))
 
 -- a byte of an access by its index
-access-has : (access : Access) (k : ℕ) → k < access.size → Contains (addresses_of access ++ []) (address_in access (0 + k))
+access-has :
+    (access : Access) (k : ℕ) → k < access.size → Contains (addresses_of access ++ []) (address_in access (0 + k))
 access-has access k low =
     let all = addresses_of access in
     let inside : k < length all = omega (arith, length-map-range_with_len (address_in access) 0 access.size) in
-    let here : Contains all (address_in access (0 + k)) =
-    (k, inside, get_or-map-range_with_len (address_in access) 0 access.size k (0 + k) (address_in access (0 + k)) low refl) in
+    let here : Contains all (address_in access (0 + k)) = (
+      k,
+      inside,
+      get_or-map-range_with_len (address_in access) 0 access.size k (0 + k)
+          (address_in access (0 + k)) low refl,
+    ) in
     Contains-append_left all [] (address_in access (0 + k)) here
 
 -- the bytes up to the one that ends them
-string-from : (memory : List ℕ) (s : State) (p : ℕ → Bool) (segment offset n size : ℕ) → size ≡ min (length (take_while p (bytes_from s segment offset n)) + 1) n → AgreeAt (read_by (other_read segment offset size ∷ [])) memory s.memory → take_while p (bytes_from (with_memory memory s) segment offset n) ≡ take_while p (bytes_from s segment offset n)
+string-from :
+    (memory : List ℕ) (s : State) (p : ℕ → Bool) (segment offset n size : ℕ)
+    → size ≡ min (length (take_while p (bytes_from s segment offset n)) + 1) n
+    → AgreeAt (read_by (other_read segment offset size ∷ [])) memory s.memory
+    → take_while p (bytes_from (with_memory memory s) segment offset n) ≡ take_while p (bytes_from s segment offset n)
 unfolding bytes_from
 string-from memory s p segment offset n size is agree =
     let access = other_read segment offset size in
-    take_while-agrees p (λ k. byte_in s segment ((offset + k) % 65536)) (λ k. byte_in (with_memory memory s) segment ((offset + k) % 65536)) n 0 (λ k low.
+    take_while-agrees p (λ k. byte_in s segment ((offset + k) % 65536))
+    (λ k. byte_in (with_memory memory s) segment ((offset + k) % 65536)) n 0 (λ k low.
     let inside : k < size = omega (arith, is, low) in
     agree (address_in access (0 + k)) (access-has access k inside))
 
-pub string-same : (memory : List ℕ) (s : State) → AgreeAt (read_by (other_read (data_segment s) (word_in s Dx) (string_size s) ∷ [])) memory s.memory → dos_string (with_memory memory s) ≡ dos_string s
+pub string-same :
+    (memory : List ℕ) (s : State)
+    → AgreeAt (read_by (other_read (data_segment s) (word_in s Dx) (string_size s) ∷ [])) memory s.memory
+    → dos_string (with_memory memory s) ≡ dos_string s
 unfolding dos_string
 string-same memory s agree =
     string-from memory s is_not_dollar (data_segment s) (word_in s Dx) STRING_MOST (string_size s) refl agree
 
 -- how many elements pass, where the first that fails is known
-passes-until : (p : ℕ → Bool) (f : ℕ → ℕ) (n count a : ℕ) → n < count → ((k : ℕ) → k < n → p (f (a + k)) ≡ true) → p (f (a + n)) ≡ false → length (take_while p (map f (range_with_len a count))) ≡ n
+passes-until :
+    (p : ℕ → Bool) (f : ℕ → ℕ) (n count a : ℕ) → n < count → ((k : ℕ) → k < n → p (f (a + k)) ≡ true)
+    → p (f (a + n)) ≡ false → length (take_while p (map f (range_with_len a count))) ≡ n
 passes-until p f n zero a within pass fail = absurd (omega arith)
 passes-until p f zero (suc count) a within pass fail =
     let rest = map f (range_with_len (a + 1) count) in
@@ -539,13 +624,20 @@ passes-until p f (suc n) (suc count) a within pass fail =
     (subst (λ i. p (f i) ≡ false) last fail) in
     passes-length p (f a) rest here ∙ ap suc inner
 
-string-length : (s : State) (n count : ℕ) → n < count → ((k : ℕ) → k < n → is_not_dollar (byte_in s (data_segment s) ((word_in s Dx + (0 + k)) % 65536)) ≡ true) → is_not_dollar (byte_in s (data_segment s) ((word_in s Dx + (0 + n)) % 65536)) ≡ false → length (take_while is_not_dollar (bytes_from s (data_segment s) (word_in s Dx) count)) ≡ n
+string-length :
+    (s : State) (n count : ℕ) → n < count
+    → ((k : ℕ) → k < n → is_not_dollar (byte_in s (data_segment s) ((word_in s Dx + (0 + k)) % 65536)) ≡ true)
+    → is_not_dollar (byte_in s (data_segment s) ((word_in s Dx + (0 + n)) % 65536)) ≡ false
+    → length (take_while is_not_dollar (bytes_from s (data_segment s) (word_in s Dx) count)) ≡ n
 unfolding bytes_from
 string-length s n count within pass fail =
     passes-until is_not_dollar (λ k. byte_in s (data_segment s) ((word_in s Dx + k) % 65536)) n count 0 within pass fail
 
 -- a string of n bytes is read with its `$`
-pub string_size-is : (s : State) (n : ℕ) → n < STRING_MOST → ((k : ℕ) → k < n → is_not_dollar (byte_in s (data_segment s) ((word_in s Dx + (0 + k)) % 65536)) ≡ true) → is_not_dollar (byte_in s (data_segment s) ((word_in s Dx + (0 + n)) % 65536)) ≡ false → string_size s ≡ n + 1
+pub string_size-is :
+    (s : State) (n : ℕ) → n < STRING_MOST
+    → ((k : ℕ) → k < n → is_not_dollar (byte_in s (data_segment s) ((word_in s Dx + (0 + k)) % 65536)) ≡ true)
+    → is_not_dollar (byte_in s (data_segment s) ((word_in s Dx + (0 + n)) % 65536)) ≡ false → string_size s ≡ n + 1
 unfolding dos_string
 string_size-is s n within pass fail =
     let size : length (dos_string s) ≡ n = string-length s n STRING_MOST within pass fail in
@@ -556,21 +648,35 @@ key-stores echo [] s memory = refl
 key-stores echo (byte ∷ rest) s memory = refl
 
 -- one of two states
-chosen-stores : (so : Bool) (f g : State → State) (s : State) (memory : List ℕ) → f (with_memory memory s) ≡ with_memory memory (f s) → g (with_memory memory s) ≡ with_memory memory (g s) → (if so then f (with_memory memory s) else g (with_memory memory s)) ≡ with_memory memory (if so then f s else g s)
+chosen-stores :
+    (so : Bool) (f g : State → State) (s : State) (memory : List ℕ)
+    → f (with_memory memory s) ≡ with_memory memory (f s) → g (with_memory memory s) ≡ with_memory memory (g s)
+    → (if so then f (with_memory memory s) else g (with_memory memory s)) ≡ with_memory memory (if so then f s else g s)
 chosen-stores true f g s memory p q = p
 chosen-stores false f g s memory p q = q
 
-write-stores : (so : Bool) (at : ℕ) (s : State) (memory : List ℕ) → AgreeAt (read_by (if so then other_read (data_segment s) (word_in s Dx) (string_size s) ∷ [] else [])) memory s.memory → (if so then after_write (dos_string (with_memory memory s)) (with_memory memory s) else with_end (Outside at) at (with_memory memory s)) ≡ with_memory memory (if so then after_write (dos_string s) s else with_end (Outside at) at s)
+write-stores :
+    (so : Bool) (at : ℕ) (s : State) (memory : List ℕ)
+    → AgreeAt
+    (read_by (if so then other_read (data_segment s) (word_in s Dx) (string_size s) ∷ [] else [])) memory s.memory
+    →
+    (if so then after_write (dos_string (with_memory memory s)) (with_memory memory s) else with_end (Outside at) at
+    (with_memory memory s))
+    ≡ with_memory memory (if so then after_write (dos_string s) s else with_end (Outside at) at s)
 write-stores true at s memory agree = ap (λ l. after_write l (with_memory memory s)) (string-same memory s agree)
 write-stores false at s memory agree = refl
 
-dos-writes : (so : Bool) (access : Access) → access.direction ≡ Reading → [] ≡ written_by (if so then access ∷ [] else [])
+dos-writes :
+    (so : Bool) (access : Access) → access.direction ≡ Reading → [] ≡ written_by (if so then access ∷ [] else [])
 dos-writes true access reads = ap (λ d. written_in d (addresses_of access) ++ []) (sym reads)
 dos-writes false access reads = refl
 
-dos-alike : (number at : ℕ) (s : State) (memory : List ℕ) → AgreeAt (read_by (dos_accesses number s)) memory s.memory → dos_step number at (with_memory memory s) ≡ with_memory memory (dos_step number at s)
+dos-alike :
+    (number at : ℕ) (s : State) (memory : List ℕ) → AgreeAt (read_by (dos_accesses number s)) memory s.memory
+    → dos_step number at (with_memory memory s) ≡ with_memory memory (dos_step number at s)
 dos-alike number at s memory agree =
-    let string : State → State = λ t. if number == PUTS then after_write (dos_string t) t else with_end (Outside at) at t in
+    let string : State → State =
+    λ t. if number == PUTS then after_write (dos_string t) t else with_end (Outside at) at t in
     let key : State → State = λ t. if number == GETCH then key_step false t else string t in
     let echoed : State → State = λ t. if number == GETCHE then key_step true t else key t in
     let leave : State → State = λ t. if number == EXIT then with_end (Exit (word_in t Ax % 256)) at t else echoed t in
@@ -589,7 +695,9 @@ dos-acts cpu at s =
       alike = dos-alike number at s;
     }
 
-plain-acts : (cpu : Cpu) (operation : PlainName) (at : ℕ) (s : State) → ActsByAccesses (plain_accesses operation s) (op_step cpu (Plain operation) at) s
+plain-acts :
+    (cpu : Cpu) (operation : PlainName) (at : ℕ) (s : State)
+    → ActsByAccesses (plain_accesses operation s) (op_step cpu (Plain operation) at) s
 plain-acts cpu Nop at s = record { stores = []; addresses = refl; alike = λ memory agree. refl }
 plain-acts cpu Cbw at s = record { stores = []; addresses = refl; alike = λ memory agree. refl }
 plain-acts cpu Cwd at s = record { stores = []; addresses = refl; alike = λ memory agree. refl }
@@ -611,26 +719,36 @@ plain-acts cpu Cld at s = record { stores = []; addresses = refl; alike = λ mem
 -- All operations.
 
 -- one that has nothing to do with memory
-quiet-acts : (act : State → State) (s : State) → ((memory : List ℕ) → act (with_memory memory s) ≡ with_memory memory (act s)) → ActsByAccesses [] act s
+quiet-acts :
+    (act : State → State) (s : State) → ((memory : List ℕ) → act (with_memory memory s) ≡ with_memory memory (act s))
+    → ActsByAccesses [] act s
 quiet-acts act s same = record { stores = []; addresses = refl; alike = λ memory agree. same memory }
 
-pub op-acts : (cpu : Cpu) (op : Op) (at : ℕ) (s : State) → HasRegisters s → ActsByAccesses (accesses op s) (op_step cpu op at) s
+pub op-acts :
+    (cpu : Cpu) (op : Op) (at : ℕ) (s : State) → HasRegisters s → ActsByAccesses (accesses op s) (op_step cpu op at) s
 op-acts cpu (Alu operation a b) at s form = alu-acts cpu operation a b at s
 op-acts cpu (Unary operation a) at s form = unary-acts cpu operation a at s
 op-acts cpu (Shift operation a count) at s form = shift-acts cpu operation a count at s
 op-acts cpu (Mov to from) at s form = mov-acts cpu to from at s
 op-acts cpu (Xchg a b) at s form = xchg-acts cpu a b at s
 op-acts cpu (Lea r ea) at s form =
-    quiet-acts (op_step cpu (Lea r ea) at) s (λ memory. ap (λ n. with_word_in (with_memory memory s) r n) (offset-same memory s ea))
+    quiet-acts (op_step cpu (Lea r ea) at) s
+    (λ memory. ap (λ n. with_word_in (with_memory memory s) r n) (offset-same memory s ea))
 op-acts cpu (Imul3 r a constant) at s form = imul3-acts cpu r a constant at s
 op-acts cpu (Push a) at s form = push-acts cpu a at s form
 op-acts cpu (Pop a) at s form = pop-acts cpu a at s form
 op-acts cpu (Enter count) at s form =
-    record { stores = push_stores (word_in s Bp) s; addresses = push-addresses (word_in s Bp) s form; alike = λ memory agree. refl }
+    record {
+      stores = push_stores (word_in s Bp) s;
+      addresses = push-addresses
+          (word_in s Bp) s form;
+      alike = λ memory agree. refl;
+    }
 op-acts cpu Leave at s form = leave-acts cpu at s form
 op-acts cpu (Plain operation) at s form = plain-acts cpu operation at s
 op-acts cpu (Jump target) at s form = quiet-acts (op_step cpu (Jump target) at) s (λ memory. refl)
-op-acts cpu (Branch condition target) at s form = quiet-acts (op_step cpu (Branch condition target) at) s (λ memory. refl)
+op-acts cpu (Branch condition target) at s form =
+    quiet-acts (op_step cpu (Branch condition target) at) s (λ memory. refl)
 op-acts cpu (Loop target) at s form = quiet-acts (op_step cpu (Loop target) at) s (λ memory. refl)
 op-acts cpu (LoopE target) at s form = quiet-acts (op_step cpu (LoopE target) at) s (λ memory. refl)
 op-acts cpu (LoopNe target) at s form = quiet-acts (op_step cpu (LoopNe target) at) s (λ memory. refl)
@@ -649,6 +767,7 @@ op-acts cpu (Ret count) at s form = record {
   stores = [];
   addresses = refl;
   alike = λ memory agree.
-      ap (λ word. after_jump word (with_sp_raised (2 + count) (with_memory memory s))) (top-same memory [] s form agree);
+      ap (λ word. after_jump word (with_sp_raised (2 + count) (with_memory memory s)))
+      (top-same memory [] s form agree);
 }
 op-acts cpu Int21 at s form = dos-acts cpu at s

@@ -56,11 +56,14 @@ apart a b e same = let yes : (a == b) ≡ true = eq-eqb a b same in cc
 
 -- Registers.
 
-pub word-other : (s : State) (q r : Reg) (v : ℕ) → is_same_register r q ≡ false → word_in (with_word_in s q v) r ≡ word_in s r
+pub word-other :
+    (s : State) (q r : Reg) (v : ℕ) → is_same_register r q ≡ false → word_in (with_word_in s q v) r ≡ word_in s r
 word-other s q r v other =
     get_or-set_other s.regs (reg_number q) (reg_number r) v 0 (apart (reg_number r) (reg_number q) other)
 
-half-other : (s : State) (q r : Reg) (v : ℕ) (half : Half) → is_same_register r q ≡ false → half_in (with_word_in s q v) r half ≡ half_in s r half
+half-other :
+    (s : State) (q r : Reg) (v : ℕ) (half : Half) → is_same_register r q ≡ false
+    → half_in (with_word_in s q v) r half ≡ half_in s r half
 half-other s q r v half other = ap (half_of_word half) (word-other s q r v other)
 
 number-low : (r : Reg) → reg_number r < 8
@@ -74,14 +77,18 @@ number-low Si = omega arith
 number-low Di = omega arith
 
 -- a register holds what it has taken, under each of its names
-pub word-taken : (s : State) (q r : Reg) (v : ℕ) → length s.regs ≡ 8 → is_same_register r q ≡ true → word_in (with_word_in s q v) r ≡ v
+pub word-taken :
+    (s : State) (q r : Reg) (v : ℕ) → length s.regs ≡ 8 → is_same_register r q ≡ true
+    → word_in (with_word_in s q v) r ≡ v
 word-taken s q r v count same =
     let low = number-low q in
     let at : reg_number r ≡ reg_number q = eqb-true (reg_number r) (reg_number q) same in
     get_or-set_at s.regs (reg_number q) (reg_number r) v 0 at (omega (arith, count))
 
 -- one half is written, the other one stays
-half-beside : (half other : Half) (word v : ℕ) → v < 256 → is_same_half half other ≡ false → half_of_word half (word_with_half other word v) ≡ half_of_word half word
+half-beside :
+    (half other : Half) (word v : ℕ) → v < 256 → is_same_half half other ≡ false
+    → half_of_word half (word_with_half other word v) ≡ half_of_word half word
 half-beside Low Low word v fits apart = cc
 half-beside Low High word v fits apart = omega arith
 half-beside High Low word v fits apart = omega arith
@@ -90,17 +97,24 @@ half-beside High High word v fits apart = cc
 same-word : (s : State) (q r : Reg) → is_same_register r q ≡ true → word_in s q ≡ word_in s r
 same-word s q r same = ap (slice_index s.regs) (sym (eqb-true (reg_number r) (reg_number q) same))
 
-byte-half : (same : Bool) (s : State) (q r : Reg) (half other : Half) (v : ℕ) → length s.regs ≡ 8 → v < 256 → is_same_register r q ≡ same → (same && is_same_half half other) ≡ false → half_in (with_word_in s q (word_with_half other (word_in s q) v)) r half ≡ half_in s r half
+byte-half :
+    (same : Bool) (s : State) (q r : Reg) (half other : Half) (v : ℕ) → length s.regs ≡ 8 → v < 256
+    → is_same_register r q ≡ same → (same && is_same_half half other) ≡ false
+    → half_in (with_word_in s q (word_with_half other (word_in s q) v)) r half ≡ half_in s r half
 byte-half true s q r half other v count fits same clear =
     ap (half_of_word half) (word-taken s q r (word_with_half other (word_in s q) v) count same)
     ∙ half-beside half other (word_in s q) v fits clear
     ∙ ap (half_of_word half) (same-word s q r same)
-byte-half false s q r half other v count fits same clear = half-other s q r (word_with_half other (word_in s q) v) half same
+byte-half false s q r half other v count fits same clear =
+    half-other s q r (word_with_half other (word_in s q) v) half same
 
 -- an operand takes a value that fits
-pub operand-half : (x : Operand) (v : ℕ) (s : State) (r : Reg) (half : Half) → length s.regs ≡ 8 → v < limit_of (operand_width x) → is_half_of r half x ≡ false → half_in (with_operand s x v) r half ≡ half_in s r half
+pub operand-half :
+    (x : Operand) (v : ℕ) (s : State) (r : Reg) (half : Half) → length s.regs ≡ 8 → v < limit_of (operand_width x)
+    → is_half_of r half x ≡ false → half_in (with_operand s x v) r half ≡ half_in s r half
 operand-half (Word q) v s r half count fits clear = half-other s q r v half clear
-operand-half (Byte q other) v s r half count fits clear = byte-half (is_same_register r q) s q r half other v count fits refl clear
+operand-half (Byte q other) v s r half count fits clear =
+    byte-half (is_same_register r q) s q r half other v count fits refl clear
 operand-half (Seg number) v s r half count fits clear = refl
 operand-half (Mem byte_width ea) v s r half count fits clear = refl
 operand-half (Mem word_width ea) v s r half count fits clear = refl
@@ -114,8 +128,12 @@ operand-count (Mem byte_width ea) v s = refl
 operand-count (Mem word_width ea) v s = refl
 operand-count (Const width constant) v s = refl
 
-written-half : (so : Bool) (x : Operand) (result : ℕ × Flags) (s : State) (r : Reg) (half : Half) → length s.regs ≡ 8 → result.0 < limit_of (operand_width x) → (so && is_half_of r half x) ≡ false → half_in (alu_written so x result s) r half ≡ half_in s r half
-written-half true x result s r half count fits clear = operand-half x result.0 (with_flags result.1 s) r half count fits clear
+written-half :
+    (so : Bool) (x : Operand) (result : ℕ × Flags) (s : State) (r : Reg) (half : Half) → length s.regs ≡ 8
+    → result.0 < limit_of (operand_width x) → (so && is_half_of r half x) ≡ false
+    → half_in (alu_written so x result s) r half ≡ half_in s r half
+written-half true x result s r half count fits clear =
+    operand-half x result.0 (with_flags result.1 s) r half count fits clear
 written-half false x result s r half count fits clear = refl
 
 -- Operations on one operand.
@@ -126,11 +144,17 @@ Spares w x r half (in_operand result) = (result.0 < limit_of w) × (is_half_of r
 Spares w x r half (in_pair pair) = is_in_pair w r ≡ false
 Spares w x r half in_fault = Unit {0}
 
-divided-spares : (w : Width) (x : Operand) (r : Reg) (half : Half) (division : Option (ℕ × ℕ)) → is_in_pair w r ≡ false → Spares w x r half (divided division)
+divided-spares :
+    (w : Width) (x : Operand) (r : Reg) (half : Half) (division : Option (ℕ × ℕ)) → is_in_pair w r ≡ false
+    → Spares w x r half (divided division)
 divided-spares w x r half None clear = tt
 divided-spares w x r half (Some division) clear = clear
 
-unary-spares : (operation : UnaryName) (x : Operand) (r : Reg) (half : Half) (low high a : ℕ) (flags : Flags) → OutcomeFits (operand_width x) (unary_outcome operation (operand_width x) low high a flags) → unary_writes_half operation x r half ≡ false → Spares (operand_width x) x r half (unary_outcome operation (operand_width x) low high a flags)
+unary-spares :
+    (operation : UnaryName) (x : Operand) (r : Reg) (half : Half) (low high a : ℕ) (flags : Flags)
+    → OutcomeFits (operand_width x) (unary_outcome operation (operand_width x) low high a flags)
+    → unary_writes_half operation x r half ≡ false
+    → Spares (operand_width x) x r half (unary_outcome operation (operand_width x) low high a flags)
 unary-spares Inc x r half low high a flags fits clear = (fits, clear)
 unary-spares Dec x r half low high a flags fits clear = (fits, clear)
 unary-spares Neg x r half low high a flags fits clear = (fits, clear)
@@ -140,14 +164,20 @@ unary-spares Imul x r half low high a flags fits clear = clear
 unary-spares Div x r half low high a flags fits clear = divided-spares (operand_width x) x r half _ clear
 unary-spares Idiv x r half low high a flags fits clear = divided-spares (operand_width x) x r half _ clear
 
-product-half : (w : Width) (product : ℕ × ℕ × Flags) (s : State) (r : Reg) (half : Half) → is_in_pair w r ≡ false → half_in (with_product w product s) r half ≡ half_in s r half
-product-half byte_width product s r half clear = half-other (with_flags product.2 s) Ax r (product.1 * 256 + product.0) half clear
+product-half :
+    (w : Width) (product : ℕ × ℕ × Flags) (s : State) (r : Reg) (half : Half) → is_in_pair w r ≡ false
+    → half_in (with_product w product s) r half ≡ half_in s r half
+product-half byte_width product s r half clear =
+    half-other (with_flags product.2 s) Ax r (product.1 * 256 + product.0) half clear
 product-half word_width product s r half clear =
     let none = or-none (is_same_register r Ax) (is_same_register r Dx) clear in
     let t = with_flags product.2 s in
     half-other (with_word_in t Ax product.0) Dx r product.1 half none.1 ∙ half-other t Ax r product.0 half none.0
 
-outcome-half : (outcome : Outcome) (x : Operand) (at : ℕ) (s : State) (r : Reg) (half : Half) → length s.regs ≡ 8 → Spares (operand_width x) x r half outcome → half_in (outcome_step outcome (operand_width x) x at s) r half ≡ half_in s r half
+outcome-half :
+    (outcome : Outcome) (x : Operand) (at : ℕ) (s : State) (r : Reg) (half : Half) → length s.regs ≡ 8
+    → Spares (operand_width x) x r half outcome
+    → half_in (outcome_step outcome (operand_width x) x at s) r half ≡ half_in s r half
 outcome-half (in_operand result) x at s r half count spares =
     operand-half x result.0 (with_flags result.1 s) r half count spares.0 spares.1
 outcome-half (in_pair pair) x at s r half count spares = product-half (operand_width x) pair s r half spares
@@ -155,7 +185,10 @@ outcome-half in_fault x at s r half count spares = refl
 
 -- Operations without operands, and DOS calls.
 
-low-kept : (same : Bool) (s : State) (r : Reg) (half : Half) → length s.regs ≡ 8 → is_same_register r Ax ≡ same → (same && is_same_half half High) ≡ false → half_in (with_word_in s Ax (sign_extension_of (half_of_word Low (word_in s Ax)))) r half ≡ half_in s r half
+low-kept :
+    (same : Bool) (s : State) (r : Reg) (half : Half) → length s.regs ≡ 8 → is_same_register r Ax ≡ same
+    → (same && is_same_half half High) ≡ false
+    → half_in (with_word_in s Ax (sign_extension_of (half_of_word Low (word_in s Ax)))) r half ≡ half_in s r half
 low-kept true s r Low count same clear =
     let low : word_in s Ax % 256 < 256 = omega arith in
     ap (half_of_word Low) (word-taken s Ax r (sign_extension_of (word_in s Ax % 256)) count same)
@@ -164,7 +197,10 @@ low-kept true s r Low count same clear =
 low-kept true s r High count same clear = cc
 low-kept false s r half count same clear = half-other s Ax r (sign_extension_of (word_in s Ax % 256)) half same
 
-plain-half : (operation : PlainName) (cpu : Cpu) (at : ℕ) (s : State) (r : Reg) (half : Half) → IsState s → plain_writes_half operation r half ≡ false → half_in (op_step cpu (Plain operation) at s) r half ≡ half_in s r half
+plain-half :
+    (operation : PlainName) (cpu : Cpu) (at : ℕ) (s : State) (r : Reg) (half : Half) → IsState s
+    → plain_writes_half operation r half ≡ false
+    → half_in (op_step cpu (Plain operation) at s) r half ≡ half_in s r half
 plain-half Nop cpu at s r half form clear = refl
 plain-half Cbw cpu at s r half form clear = low-kept (is_same_register r Ax) s r half form.registers.count refl clear
 plain-half Cwd cpu at s r half form clear = half-other s Dx r _ half clear
@@ -177,18 +213,27 @@ plain-half Cli cpu at s r half form clear = refl
 plain-half Sti cpu at s r half form clear = refl
 plain-half Cld cpu at s r half form clear = refl
 
-key-half : (echo : Bool) (input : List ℕ) (s : State) (r : Reg) (half : Half) → ((k : ℕ) → slice_index input k < 256) → length s.regs ≡ 8 → (is_same_register r Ax && is_same_half half Low) ≡ false → half_in (with_key echo input s) r half ≡ half_in s r half
+key-half :
+    (echo : Bool) (input : List ℕ) (s : State) (r : Reg) (half : Half) → ((k : ℕ) → slice_index input k < 256)
+    → length s.regs ≡ 8 → (is_same_register r Ax && is_same_half half Low) ≡ false
+    → half_in (with_key echo input s) r half ≡ half_in s r half
 key-half echo [] s r half bytes count clear =
     let fits : END_OF_INPUT < 256 = omega arith in
     byte-half (is_same_register r Ax) s Ax r half Low END_OF_INPUT count fits refl clear
-key-half echo (byte ∷ rest) s r half bytes count clear = byte-half (is_same_register r Ax) s Ax r half Low byte count (bytes 0) refl clear
+key-half echo (byte ∷ rest) s r half bytes count clear =
+    byte-half (is_same_register r Ax) s Ax r half Low byte count (bytes 0) refl clear
 
 -- one of two states
-chosen-half : (so : Bool) (s t u : State) (r : Reg) (half : Half) → half_in t r half ≡ half_in s r half → half_in u r half ≡ half_in s r half → half_in (if so then t else u) r half ≡ half_in s r half
+chosen-half :
+    (so : Bool) (s t u : State) (r : Reg) (half : Half) → half_in t r half ≡ half_in s r half
+    → half_in u r half ≡ half_in s r half → half_in (if so then t else u) r half ≡ half_in s r half
 chosen-half true s t u r half p q = p
 chosen-half false s t u r half p q = q
 
-dos-half : (number at : ℕ) (s : State) (r : Reg) (half : Half) → IsState s → (is_same_register r Ax && is_same_half half Low) ≡ false → half_in (dos_step number at s) r half ≡ half_in s r half
+dos-half :
+    (number at : ℕ) (s : State) (r : Reg) (half : Half) → IsState s
+    → (is_same_register r Ax && is_same_half half Low) ≡ false
+    → half_in (dos_step number at s) r half ≡ half_in s r half
 dos-half number at s r half form clear =
     let last : State = with_end (Outside at) at s in
     let string : State = if number == PUTS then after_write (dos_string s) s else last in
@@ -197,13 +242,17 @@ dos-half number at s r half form clear =
     let leave : State = if number == EXIT then with_end (Exit (word_in s Ax % 256)) at s else echoed in
     chosen-half (number == PUTC) s (after_write (word_in s Dx % 256 ∷ []) s) leave r half refl
     (chosen-half (number == EXIT) s (with_end (Exit (word_in s Ax % 256)) at s) echoed r half refl
-    (chosen-half (number == GETCHE) s (key_step true s) key r half (key-half true s.input s r half form.input form.registers.count clear)
-    (chosen-half (number == GETCH) s (key_step false s) string r half (key-half false s.input s r half form.input form.registers.count clear)
+    (chosen-half (number == GETCHE) s (key_step true s) key r half
+    (key-half true s.input s r half form.input form.registers.count clear)
+    (chosen-half (number == GETCH) s (key_step false s) string r half
+    (key-half false s.input s r half form.input form.registers.count clear)
     (chosen-half (number == PUTS) s (after_write (dos_string s) s) last r half refl refl))))
 
 -- All operations.
 
-op-half : (cpu : Cpu) (op : Op) (at : ℕ) (s : State) (r : Reg) (half : Half) → IsOperation op → IsState s → writes_half op r half ≡ false → half_in (op_step cpu op at s) r half ≡ half_in s r half
+op-half :
+    (cpu : Cpu) (op : Op) (at : ℕ) (s : State) (r : Reg) (half : Half) → IsOperation op → IsState s
+    → writes_half op r half ≡ false → half_in (op_step cpu op at s) r half ≡ half_in s r half
 op-half cpu (Alu operation a b) at s r half good form clear =
     let w = operand_width a in
     let va = operand_value s a in
@@ -216,7 +265,9 @@ op-half cpu (Unary operation a) at s r half good form clear =
     let w = operand_width a in
     let v = operand_value s a in
     let outcome = unary_outcome operation w (accumulator_in w s) (upper_in w s) v s.flags in
-    let fits = outcome-fits operation w (accumulator_in w s) (upper_in w s) v s.flags (accumulator-below w s form) (value-fits s a good form) in
+    let fits =
+    outcome-fits operation w (accumulator_in w s) (upper_in w s) v s.flags (accumulator-below w s form)
+    (value-fits s a good form) in
     ap (λ t. half_in t r half) (unary-form operation w a v at s)
     ∙ outcome-half outcome a at s r half form.registers.count
     (unary-spares operation a r half (accumulator_in w s) (upper_in w s) v s.flags fits clear)
@@ -224,7 +275,8 @@ op-half cpu (Shift operation a count) at s r half good form clear =
     let w = operand_width a in
     let result = shift_result operation w (operand_value s a) (count_in cpu count s) s.flags in
     operand-half a result.0 (with_flags result.1 s) r half form.registers.count
-    (shift-below operation w (operand_value s a) (count_in cpu count s) s.flags (value-fits s a good.operand form)) clear
+    (shift-below operation w (operand_value s a) (count_in cpu count s) s.flags
+    (value-fits s a good.operand form)) clear
 op-half cpu (Mov to from) at s r half good form clear =
     operand-half to (operand_value s from) s r half form.registers.count
     (of_width (operand_width from) (operand_width to) _ (sym good.widths) (value-fits s from good.second form)) clear
@@ -233,7 +285,8 @@ op-half cpu (Xchg a b) at s r half good form clear =
     let first = of_width (operand_width b) (operand_width a) _ (sym good.widths) (value-fits s b good.second form) in
     let second = of_width (operand_width a) (operand_width b) _ good.widths (value-fits s a good.first form) in
     let t = with_operand s a (operand_value s b) in
-    operand-half b (operand_value s a) t r half (operand-count a (operand_value s b) s ∙ form.registers.count) second none.1
+    operand-half b (operand_value s a) t r half
+    (operand-count a (operand_value s b) s ∙ form.registers.count) second none.1
     ∙ operand-half a (operand_value s b) s r half form.registers.count first none.0
 op-half cpu (Lea to ea) at s r half good form clear = half-other s to r (offset_of s ea) half clear
 op-half cpu (Imul3 to a constant) at s r half good form clear =
@@ -279,7 +332,10 @@ operand-flags (Mem byte_width ea) v s = refl
 operand-flags (Mem word_width ea) v s = refl
 operand-flags (Const width constant) v s = refl
 
-unary-flag : (operation : UnaryName) (a : Operand) (cpu : Cpu) (at : ℕ) (s : State) (flag : FlagName) → unary_writes_flag operation flag ≡ false → flag_in (op_step cpu (Unary operation a) at s).flags flag ≡ flag_in s.flags flag
+unary-flag :
+    (operation : UnaryName) (a : Operand) (cpu : Cpu) (at : ℕ) (s : State) (flag : FlagName)
+    → unary_writes_flag operation flag ≡ false
+    → flag_in (op_step cpu (Unary operation a) at s).flags flag ≡ flag_in s.flags flag
 unfolding increment_of decrement_of
 unary-flag Inc a cpu at s Cf clear = ap (λ f. flag_in f Cf) (operand-flags a _ _)
 unary-flag Inc a cpu at s Zf clear = cc
@@ -297,21 +353,33 @@ unary-flag Div a cpu at s flag clear = cc
 unary-flag Idiv a cpu at s flag clear = cc
 
 -- by none nothing changes
-unless-flags : (count : ℕ) (a r : ℕ) (was flags : Flags) → (count == 0) ≡ true → (unless_zero count (a, was) (r, flags)).1 ≡ was
+unless-flags :
+    (count : ℕ) (a r : ℕ) (was flags : Flags) → (count == 0) ≡ true → (unless_zero count (a, was) (r, flags)).1 ≡ was
 unless-flags count a r was flags none = ap (λ b. (if b then (let x : ℕ × Flags = (a, was) in x) else (r, flags)).1) none
 
-unless-flag : (count : ℕ) (a r : ℕ) (was flags : Flags) (flag : FlagName) → flag_in flags flag ≡ flag_in was flag → flag_in (unless_zero count (a, was) (r, flags)).1 flag ≡ flag_in was flag
+unless-flag :
+    (count : ℕ) (a r : ℕ) (was flags : Flags) (flag : FlagName) → flag_in flags flag ≡ flag_in was flag
+    → flag_in (unless_zero count (a, was) (r, flags)).1 flag ≡ flag_in was flag
 unless-flag count a r was flags flag same =
-    elim (count == 0) as (λ b. flag_in (if b then (let x : ℕ × Flags = (a, was) in x) else (r, flags)).1 flag ≡ flag_in was flag) [ true ↦ refl | false ↦ same ]
+    elim (count == 0) as (λ b.
+    flag_in (if b then (let x : ℕ × Flags = (a, was) in x) else (r, flags)).1 flag ≡ flag_in was flag) [
+      | true ↦ refl
+      | false ↦ same
+    ]
 
-rotated-flag : (was : Flags) (carry overflow : Bool) (flag : FlagName) → is_carry_or_overflow flag ≡ false → flag_in (rotate_flags was carry overflow) flag ≡ flag_in was flag
+rotated-flag :
+    (was : Flags) (carry overflow : Bool) (flag : FlagName) → is_carry_or_overflow flag ≡ false
+    → flag_in (rotate_flags was carry overflow) flag ≡ flag_in was flag
 rotated-flag was carry overflow Cf clear = cc
 rotated-flag was carry overflow Zf clear = refl
 rotated-flag was carry overflow Sf clear = refl
 rotated-flag was carry overflow Of clear = cc
 
 -- a rotate leaves ZF and SF
-rotation-flag : (operation : ShiftName) (w : Width) (a count : ℕ) (was : Flags) (flag : FlagName) → shift_writes_flag operation flag ≡ false → flag_in (shift_result operation w a count was).1 flag ≡ flag_in was flag
+rotation-flag :
+    (operation : ShiftName) (w : Width) (a count : ℕ) (was : Flags) (flag : FlagName)
+    → shift_writes_flag operation flag ≡ false
+    → flag_in (shift_result operation w a count was).1 flag ≡ flag_in was flag
 unfolding left_rotation_of right_rotation_of left_turn_of right_turn_of
 rotation-flag Rol w a count was flag clear = unless-flag count a _ was _ flag (rotated-flag was _ _ flag clear)
 rotation-flag Ror w a count was flag clear = unless-flag count a _ was _ flag (rotated-flag was _ _ flag clear)
@@ -322,7 +390,9 @@ rotation-flag Shr w a count was flag clear = cc
 rotation-flag Sar w a count was flag clear = cc
 
 -- a shift or rotate by a constant 0 leaves all
-still-flags : (operation : ShiftName) (w : Width) (a number : ℕ) (was : Flags) → MayCount operation (ConstCount number) → (number % 32 == 0) ≡ true → (shift_result operation w a (number % 32) was).1 ≡ was
+still-flags :
+    (operation : ShiftName) (w : Width) (a number : ℕ) (was : Flags) → MayCount operation (ConstCount number)
+    → (number % 32 == 0) ≡ true → (shift_result operation w a (number % 32) was).1 ≡ was
 unfolding left_rotation_of right_rotation_of shl_of shr_of sar_of
 still-flags Rol w a number was may none = unless-flags (number % 32) a _ was _ none
 still-flags Ror w a number was may none = unless-flags (number % 32) a _ was _ none
@@ -332,23 +402,36 @@ still-flags Shl w a number was may none = unless-flags (number % 32) a _ was _ n
 still-flags Shr w a number was may none = unless-flags (number % 32) a _ was _ none
 still-flags Sar w a number was may none = unless-flags (number % 32) a _ was _ none
 
-never-flags : (operation : ShiftName) (w : Width) (a : ℕ) (count : Count) (cpu : Cpu) (s : State) → MayCount operation count → never_shifts count ≡ true → (shift_result operation w a (count_in cpu count s) s.flags).1 ≡ s.flags
+never-flags :
+    (operation : ShiftName) (w : Width) (a : ℕ) (count : Count) (cpu : Cpu) (s : State) → MayCount operation count
+    → never_shifts count ≡ true → (shift_result operation w a (count_in cpu count s) s.flags).1 ≡ s.flags
 never-flags operation w a One cpu s may none = cc
 never-flags operation w a Cl cpu s may none = cc
 never-flags operation w a (ConstCount number) cpu s may none = still-flags operation w a number s.flags may none
 
-shifted-flag : (writes never : Bool) (operation : ShiftName) (w : Width) (a : ℕ) (count : Count) (cpu : Cpu) (s : State) (flag : FlagName) → MayCount operation count → shift_writes_flag operation flag ≡ writes → never_shifts count ≡ never → (writes && not never) ≡ false → flag_in (shift_result operation w a (count_in cpu count s) s.flags).1 flag ≡ flag_in s.flags flag
-shifted-flag true true operation w a count cpu s flag may p q clear = ap (λ f. flag_in f flag) (never-flags operation w a count cpu s may q)
+shifted-flag :
+    (writes never : Bool) (operation : ShiftName) (w : Width) (a : ℕ) (count : Count) (cpu : Cpu) (s : State)
+    (flag : FlagName) → MayCount operation count → shift_writes_flag operation flag ≡ writes → never_shifts count ≡ never
+    → (writes && not never) ≡ false
+    → flag_in (shift_result operation w a (count_in cpu count s) s.flags).1 flag ≡ flag_in s.flags flag
+shifted-flag true true operation w a count cpu s flag may p q clear =
+    ap (λ f. flag_in f flag) (never-flags operation w a count cpu s may q)
 shifted-flag true false operation w a count cpu s flag may p q clear = cc
-shifted-flag false never operation w a count cpu s flag may p q clear = rotation-flag operation w a (count_in cpu count s) s.flags flag p
+shifted-flag false never operation w a count cpu s flag may p q clear =
+    rotation-flag operation w a (count_in cpu count s) s.flags flag p
 
-carry-flag : (was : Flags) (carry : Bool) (flag : FlagName) → is_carry flag ≡ false → flag_in (record was { cf = carry }) flag ≡ flag_in was flag
+carry-flag :
+    (was : Flags) (carry : Bool) (flag : FlagName) → is_carry flag ≡ false
+    → flag_in (record was { cf = carry }) flag ≡ flag_in was flag
 carry-flag was carry Cf clear = cc
 carry-flag was carry Zf clear = refl
 carry-flag was carry Sf clear = refl
 carry-flag was carry Of clear = refl
 
-plain-flag : (operation : PlainName) (cpu : Cpu) (at : ℕ) (s : State) (flag : FlagName) → plain_writes_flag operation flag ≡ false → flag_in (op_step cpu (Plain operation) at s).flags flag ≡ flag_in s.flags flag
+plain-flag :
+    (operation : PlainName) (cpu : Cpu) (at : ℕ) (s : State) (flag : FlagName)
+    → plain_writes_flag operation flag ≡ false
+    → flag_in (op_step cpu (Plain operation) at s).flags flag ≡ flag_in s.flags flag
 plain-flag Nop cpu at s flag clear = refl
 plain-flag Cbw cpu at s flag clear = refl
 plain-flag Cwd cpu at s flag clear = refl
@@ -364,7 +447,8 @@ key-flags : (echo : Bool) (input : List ℕ) (s : State) → (with_key echo inpu
 key-flags echo [] s = refl
 key-flags echo (byte ∷ rest) s = refl
 
-chosen-flags : (so : Bool) (s t u : State) → t.flags ≡ s.flags → u.flags ≡ s.flags → (if so then t else u).flags ≡ s.flags
+chosen-flags :
+    (so : Bool) (s t u : State) → t.flags ≡ s.flags → u.flags ≡ s.flags → (if so then t else u).flags ≡ s.flags
 chosen-flags true s t u p q = p
 chosen-flags false s t u p q = q
 
@@ -381,7 +465,9 @@ dos-flags number at s =
     (chosen-flags (number == GETCH) s (key_step false s) string (key-flags false s.input s)
     (chosen-flags (number == PUTS) s (after_write (dos_string s) s) last refl refl))))
 
-op-flag : (cpu : Cpu) (op : Op) (at : ℕ) (s : State) (flag : FlagName) → IsOperation op → writes_flag op flag ≡ false → flag_in (op_step cpu op at s).flags flag ≡ flag_in s.flags flag
+op-flag :
+    (cpu : Cpu) (op : Op) (at : ℕ) (s : State) (flag : FlagName) → IsOperation op → writes_flag op flag ≡ false
+    → flag_in (op_step cpu op at s).flags flag ≡ flag_in s.flags flag
 op-flag cpu (Alu operation a b) at s flag good clear = cc
 op-flag cpu (Unary operation a) at s flag good clear = unary-flag operation a cpu at s flag clear
 op-flag cpu (Shift operation a count) at s flag good clear =

@@ -34,7 +34,9 @@ use Rattle.dcc_prog.proofs.AccessLaws.{agree-left, agree-right, operand_stores, 
 contains-next : (x y : ℕ) (xs : List ℕ) → Contains xs y → Contains (x ∷ xs) y
 contains-next x y xs has = (suc has.0, omega arith, has.2)
 
-stored-other : (stores : List Store) (memory : List ℕ) (address : ℕ) → ¬ Contains (addresses_stored stores) address → slice_index (stored stores memory) address ≡ slice_index memory address
+stored-other :
+    (stores : List Store) (memory : List ℕ) (address : ℕ) → ¬ Contains (addresses_stored stores) address
+    → slice_index (stored stores memory) address ≡ slice_index memory address
 stored-other [] memory address other = refl
 stored-other (store ∷ rest) memory address other =
     let apart : address ≢ store.address =
@@ -44,7 +46,8 @@ stored-other (store ∷ rest) memory address other =
     ∙ get_or-set_other memory store.address address store.byte 0 apart
 
 -- an act leaves memory alone but where it writes
-acts-leaves : (reads writes : List ℕ) (act : State → State) (s : State) → ActsBy reads writes act s → Leaves writes act s
+acts-leaves :
+    (reads writes : List ℕ) (act : State → State) (s : State) → ActsBy reads writes act s → Leaves writes act s
 acts-leaves reads writes act s acts address other =
     let memory : (act s).memory ≡ stored acts.stores s.memory =
     ap (λ (t : State). t.memory) (acts.alike s.memory (λ a has. refl)) in
@@ -57,14 +60,15 @@ set-either : (memory other : List ℕ) (at byte address : ℕ) → length memory
 set-either memory other at byte address sizes = elim (ℕ_discrete address at) [
   | yes same ↦ elim (dec_lt at (length other)) [
     | yes inside ↦ inl (
-      ap (λ k. slice_index (slice_set memory at byte) k) same
-      ∙ get_or-set_same memory at byte 0 (omega arith)
-      ∙ sym (get_or-set_same other at byte 0 inside)
-      ∙ ap (λ k. slice_index (slice_set other at byte) k) (sym same)
-    )
+        ap (λ k. slice_index (slice_set memory at byte) k) same
+        ∙ get_or-set_same memory at byte 0 (omega arith)
+        ∙ sym (get_or-set_same other at byte 0 inside)
+        ∙ ap (λ k. slice_index (slice_set other at byte) k) (sym same)
+        )
     | no outside ↦
         let first : slice_index (slice_set memory at byte) address ≡ 0 =
-        get_or_past (slice_set memory at byte) address 0 (omega (arith, length-set memory at byte, sizes, same, outside)) in
+        get_or_past (slice_set memory at byte) address 0
+        (omega (arith, length-set memory at byte, sizes, same, outside)) in
         let second : slice_index (slice_set other at byte) address ≡ 0 =
         get_or_past (slice_set other at byte) address 0 (omega (arith, length-set other at byte, same, outside)) in
         inl (first ∙ sym second)
@@ -104,7 +108,9 @@ operand_access : Direction → Width → Ea → ℕ → ℕ → Access
 operand_access direction width ea segment n =
     record { direction = direction; kind = kind_of ea; segment = segment; offset = n; size = bytes_in width }
 
-operand-same : (direction : Direction) (x : Operand) (memory : List ℕ) (s : State) → operand_accesses direction x (with_memory memory s) ≡ operand_accesses direction x s
+operand-same :
+    (direction : Direction) (x : Operand) (memory : List ℕ) (s : State)
+    → operand_accesses direction x (with_memory memory s) ≡ operand_accesses direction x s
 unfolding operand_access
 operand-same direction (Word r) memory s = refl
 operand-same direction (Byte r half) memory s = refl
@@ -113,14 +119,18 @@ operand-same direction (Mem width ea) memory s =
     ap (λ n. operand_access direction width ea (segment_of s ea) n ∷ []) (offset-same memory s ea)
 operand-same direction (Const width constant) memory s = refl
 
-result-same : (so : Bool) (x : Operand) (memory : List ℕ) (s : State) → result_accesses so x (with_memory memory s) ≡ result_accesses so x s
+result-same :
+    (so : Bool) (x : Operand) (memory : List ℕ) (s : State)
+    → result_accesses so x (with_memory memory s) ≡ result_accesses so x s
 result-same true x memory s = operand-same Writing x memory s
 result-same false x memory s = refl
 
 joined : {xs xs' ys ys' : List Access} → xs ≡ xs' → ys ≡ ys' → xs ++ ys ≡ xs' ++ ys'
 joined p q = cc
 
-exchange-same : (a b : Operand) (memory : List ℕ) (s : State) → AgreeAt (read_by (exchange_accesses a b s)) memory s.memory → exchange_accesses a b (with_memory memory s) ≡ exchange_accesses a b s
+exchange-same :
+    (a b : Operand) (memory : List ℕ) (s : State) → AgreeAt (read_by (exchange_accesses a b s)) memory s.memory
+    → exchange_accesses a b (with_memory memory s) ≡ exchange_accesses a b s
 exchange-same a b memory s agree =
     let t = with_memory memory s in
     let vb = operand_value s b in
@@ -138,12 +148,20 @@ exchange-same a b memory s agree =
     joined (operand-same Reading a memory s)
     (joined (operand-same Reading b memory s) (joined (operand-same Writing a memory s) last))
 
-string-read : (so : Bool) (memory : List ℕ) (s : State) → AgreeAt (read_by (if so then other_read (data_segment s) (word_in s Dx) (string_size s) ∷ [] else [])) memory s.memory → (if so then other_read (data_segment s) (word_in s Dx) (string_size (with_memory memory s)) ∷ [] else []) ≡ (if so then other_read (data_segment s) (word_in s Dx) (string_size s) ∷ [] else [])
+string-read :
+    (so : Bool) (memory : List ℕ) (s : State)
+    → AgreeAt
+    (read_by (if so then other_read (data_segment s) (word_in s Dx) (string_size s) ∷ [] else [])) memory s.memory
+    → (if so then other_read (data_segment s) (word_in s Dx) (string_size (with_memory memory s)) ∷ [] else [])
+    ≡ (if so then other_read (data_segment s) (word_in s Dx) (string_size s) ∷ [] else [])
 string-read true memory s agree =
-    ap (λ (l : List ℕ). other_read (data_segment s) (word_in s Dx) (min (length l + 1) STRING_MOST) ∷ []) (string-same memory s agree)
+    ap (λ (l : List ℕ). other_read (data_segment s) (word_in s Dx) (min (length l + 1) STRING_MOST) ∷ [])
+    (string-same memory s agree)
 string-read false memory s agree = refl
 
-plain-same : (operation : PlainName) (memory : List ℕ) (s : State) → plain_accesses operation (with_memory memory s) ≡ plain_accesses operation s
+plain-same :
+    (operation : PlainName) (memory : List ℕ) (s : State)
+    → plain_accesses operation (with_memory memory s) ≡ plain_accesses operation s
 plain-same Xlat memory s = refl
 plain-same operation memory s = refl
 
@@ -155,26 +173,32 @@ accesses-same (Unary operation a) s memory agree =
     joined (operand-same Reading a memory s) (result-same (writes_back operation) a memory s)
 accesses-same (Shift operation a count) s memory agree =
     joined (operand-same Reading a memory s) (operand-same Writing a memory s)
-accesses-same (Mov to from) s memory agree = joined (operand-same Reading from memory s) (operand-same Writing to memory s)
+accesses-same (Mov to from) s memory agree =
+    joined (operand-same Reading from memory s) (operand-same Writing to memory s)
 accesses-same (Xchg a b) s memory agree = exchange-same a b memory s agree
 accesses-same (Imul3 r a constant) s memory agree = operand-same Reading a memory s
 accesses-same (Push a) s memory agree = joined (operand-same Reading a memory s) refl
 accesses-same (Pop a) s memory agree =
-    ap (λ (l : List Access). stack_access Reading (word_in s Sp) s ∷ l) (operand-same Writing a memory (with_sp_raised 2 s))
+    ap (λ (l : List Access). stack_access Reading (word_in s Sp) s ∷ l)
+    (operand-same Writing a memory (with_sp_raised 2 s))
 accesses-same (Plain operation) s memory agree = plain-same operation memory s
 accesses-same Int21 s memory agree = string-read (word_in s Ax / 256 == PUTS) memory s agree
 accesses-same op s memory agree = refl
 
 -- Steps.
 
-found-acts : (cpu : Cpu) (found : Option Instr) (s : State) → HasRegisters s → ActsByAccesses (found_accesses found s) (instruction_step cpu found) s
+found-acts :
+    (cpu : Cpu) (found : Option Instr) (s : State) → HasRegisters s
+    → ActsByAccesses (found_accesses found s) (instruction_step cpu found) s
 found-acts cpu None s form = record { stores = []; addresses = refl; alike = λ memory agree. refl }
 found-acts cpu (Some instr) s form =
     let next : State = record s { ip = (s.ip + instr.len) % 65536 } in
     let acts = op-acts cpu instr.op s.ip next (record { count = form.count; words = form.words }) in
     record { stores = acts.stores; addresses = acts.addresses; alike = acts.alike }
 
-code-agrees : (s : State) (size : ℕ) (memory : List ℕ) → AgreeAt (code_addresses s size) memory s.memory → (k : ℕ) → k < size → code_byte (with_memory memory s) k ≡ code_byte s k
+code-agrees :
+    (s : State) (size : ℕ) (memory : List ℕ) → AgreeAt (code_addresses s size) memory s.memory → (k : ℕ) → k < size
+    → code_byte (with_memory memory s) k ≡ code_byte s k
 code-agrees s size memory agree k low =
     let address = λ (j : ℕ). physical (code_segment s) ((s.ip + j) % 65536) in
     let inside : k < length (code_addresses s size) = omega (arith, length-map-range_with_len address 0 size) in
@@ -190,18 +214,24 @@ code-index s (suc (suc (suc (suc zero)))) low = refl
 code-index s (suc (suc (suc (suc (suc zero))))) low = refl
 code-index s (suc (suc (suc (suc (suc (suc k)))))) low = absurd (omega arith)
 
-take-alike : (n : ℕ) (xs ys : List ℕ) → length xs ≡ length ys → ((k : ℕ) → k < n → get_or xs k 0 ≡ get_or ys k 0) → take n xs ≡ take n ys
+take-alike :
+    (n : ℕ) (xs ys : List ℕ) → length xs ≡ length ys → ((k : ℕ) → k < n → get_or xs k 0 ≡ get_or ys k 0)
+    → take n xs ≡ take n ys
 take-alike zero xs ys sizes same = refl
 take-alike (suc n) [] [] sizes same = refl
 take-alike (suc n) [] (y ∷ ys) sizes same = absurd (omega (arith, sizes))
 take-alike (suc n) (x ∷ xs) [] sizes same = absurd (omega (arith, sizes))
 take-alike (suc n) (x ∷ xs) (y ∷ ys) sizes same =
     let here : x ≡ y = same 0 (omega arith) in
-    let rest : take n xs ≡ take n ys = take-alike n xs ys (omega (arith, sizes)) (λ k low. same (suc k) (omega arith)) in
+    let rest : take n xs ≡ take n ys =
+    take-alike n xs ys (omega (arith, sizes)) (λ k low. same (suc k) (omega arith)) in
     cc
 
 -- the bytes that tell the instruction tell it in another memory too
-found-same : (cpu : Cpu) (s : State) (memory : List ℕ) (found : Option Instr) → instruction_at cpu s.ip (code_bytes s) ≡ found → AgreeAt (code_addresses s (fetched_size found)) memory s.memory → instruction_at cpu s.ip (code_bytes (with_memory memory s)) ≡ found
+found-same :
+    (cpu : Cpu) (s : State) (memory : List ℕ) (found : Option Instr) → instruction_at cpu s.ip (code_bytes s) ≡ found
+    → AgreeAt (code_addresses s (fetched_size found)) memory s.memory
+    → instruction_at cpu s.ip (code_bytes (with_memory memory s)) ≡ found
 found-same cpu s memory None is agree =
     let t = with_memory memory s in
     let bytes : take 6 (code_bytes t) ≡ take 6 (code_bytes s) =
@@ -217,17 +247,22 @@ found-same cpu s memory (Some instr) is agree =
     code-index t k within ∙ code-agrees s instr.len memory agree k low ∙ sym (code-index s k within)) in
     instruction-prefix cpu s.ip (code_bytes s) (code_bytes t) instr is bytes
 
-over-acts : (cpu : Cpu) (s : State) → is_over s.end ≡ true → ActsBy (step_reads cpu s) (written_by (step_accesses cpu s)) (step cpu) s
+over-acts :
+    (cpu : Cpu) (s : State) → is_over s.end ≡ true
+    → ActsBy (step_reads cpu s) (written_by (step_accesses cpu s)) (step cpu) s
 over-acts cpu s over = record {
   stores = [];
-  addresses = sym (ap (λ b. written_by (if b then [] else found_accesses (instruction_at cpu s.ip (code_bytes s)) s)) over);
+  addresses =
+      sym (ap (λ b. written_by (if b then [] else found_accesses (instruction_at cpu s.ip (code_bytes s)) s)) over);
   alike = λ memory agree.
       let t = with_memory memory s in
       ap (λ b. if b then t else instruction_step cpu (instruction_at cpu s.ip (code_bytes t)) t) over
       ∙ sym (ap (λ b. with_memory memory (if b then s else instruction_step cpu (instruction_at cpu s.ip (code_bytes s)) s)) over);
 }
 
-going-acts : (cpu : Cpu) (s : State) → HasRegisters s → is_over s.end ≡ false → ActsBy (step_reads cpu s) (written_by (step_accesses cpu s)) (step cpu) s
+going-acts :
+    (cpu : Cpu) (s : State) → HasRegisters s → is_over s.end ≡ false
+    → ActsBy (step_reads cpu s) (written_by (step_accesses cpu s)) (step cpu) s
 going-acts cpu s form going =
     let found = instruction_at cpu s.ip (code_bytes s) in
     let acts = found-acts cpu found s form in
@@ -239,14 +274,17 @@ going-acts cpu s form going =
           let t = with_memory memory s in
           let all : AgreeAt (found_reads found s) memory s.memory =
           subst (λ b. AgreeAt (if b then [] else found_reads found s) memory s.memory) going agree in
-          let same = found-same cpu s memory found refl (agree-left code (read_by (found_accesses found s)) memory s.memory all) in
+          let same =
+          found-same cpu s memory found refl (agree-left code (read_by (found_accesses found s)) memory s.memory all) in
           ap (λ b. if b then t else instruction_step cpu (instruction_at cpu s.ip (code_bytes t)) t) going
           ∙ ap (λ f. instruction_step cpu f t) same
           ∙ acts.alike memory (agree-right code (read_by (found_accesses found s)) memory s.memory all)
           ∙ sym (ap (λ b. with_memory (stored acts.stores memory) (if b then s else instruction_step cpu found s)) going);
     }
 
-either-acts : (cpu : Cpu) (s : State) → HasRegisters s → (over : Bool) → is_over s.end ≡ over → ActsBy (step_reads cpu s) (written_by (step_accesses cpu s)) (step cpu) s
+either-acts :
+    (cpu : Cpu) (s : State) → HasRegisters s → (over : Bool) → is_over s.end ≡ over
+    → ActsBy (step_reads cpu s) (written_by (step_accesses cpu s)) (step cpu) s
 either-acts cpu s form true e = over-acts cpu s e
 either-acts cpu s form false e = going-acts cpu s form e
 
@@ -256,7 +294,8 @@ steps-act = record { operation = op-acts; step = λ cpu s form. either-acts cpu 
 pub memory-kept : MemoryChangesAtWritesAlone
 memory-kept = record {
   operation = λ cpu op at s form.
-      acts-leaves (read_by (accesses op s)) (written_by (accesses op s)) (op_step cpu op at) s (op-acts cpu op at s form);
+      acts-leaves (read_by (accesses op s)) (written_by (accesses op s)) (op_step cpu op at) s
+      (op-acts cpu op at s form);
   step = λ cpu s form.
       acts-leaves (step_reads cpu s) (written_by (step_accesses cpu s)) (step cpu) s (steps-act.step cpu s form);
 }

@@ -34,7 +34,9 @@ abbrev pub alu_written : Bool → Operand → ℕ × Flags → State → State
 alu_written true x result s = with_result x result s
 alu_written false x result s = with_flags result.1 s
 
-pub alu-form : (operation : AluName) (w : Width) (x : Operand) (a b : ℕ) (s : State) → alu_step operation w x a b s ≡ alu_written (writes_operand operation) x (alu_result operation w a b s.flags.cf) s
+pub alu-form :
+    (operation : AluName) (w : Width) (x : Operand) (a b : ℕ) (s : State)
+    → alu_step operation w x a b s ≡ alu_written (writes_operand operation) x (alu_result operation w a b s.flags.cf) s
 alu-form Add w x a b s = refl
 alu-form Or w x a b s = refl
 alu-form Adc w x a b s = refl
@@ -71,11 +73,16 @@ outcome_step (in_operand result) w x at s = with_result x result s
 outcome_step (in_pair pair) w x at s = with_product w pair s
 outcome_step in_fault w x at s = with_end Divide at s
 
-division-form : (w : Width) (x : Operand) (at : ℕ) (division : Option (ℕ × ℕ)) (s : State) → with_division w at division s ≡ outcome_step (divided division) w x at s
+division-form :
+    (w : Width) (x : Operand) (at : ℕ) (division : Option (ℕ × ℕ)) (s : State)
+    → with_division w at division s ≡ outcome_step (divided division) w x at s
 division-form w x at None s = refl
 division-form w x at (Some division) s = refl
 
-pub unary-form : (operation : UnaryName) (w : Width) (x : Operand) (a at : ℕ) (s : State) → unary_step operation w x a at s ≡ outcome_step (unary_outcome operation w (accumulator_in w s) (upper_in w s) a s.flags) w x at s
+pub unary-form :
+    (operation : UnaryName) (w : Width) (x : Operand) (a at : ℕ) (s : State)
+    → unary_step operation w x a at s
+    ≡ outcome_step (unary_outcome operation w (accumulator_in w s) (upper_in w s) a s.flags) w x at s
 unary-form Inc w x a at s = refl
 unary-form Dec w x a at s = refl
 unary-form Neg w x a at s = refl

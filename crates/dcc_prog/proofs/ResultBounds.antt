@@ -61,7 +61,9 @@ xor-result : (w : Width) (a b : ℕ) → a < limit_of w → b < limit_of w → (
 unfolding exclusive_of
 xor-result w a b p q = xor-below w a b p q
 
-pub alu-below : (operation : AluName) (w : Width) (a b : ℕ) (carry : Bool) → a < limit_of w → b < limit_of w → (alu_result operation w a b carry).0 < limit_of w
+pub alu-below :
+    (operation : AluName) (w : Width) (a b : ℕ) (carry : Bool) → a < limit_of w → b < limit_of w
+    → (alu_result operation w a b carry).0 < limit_of w
 alu-below Add w a b carry p q = sum-below w a b false
 alu-below Or w a b carry p q = or-result w a b p q
 alu-below Adc w a b carry p q = sum-below w a b carry
@@ -74,9 +76,14 @@ alu-below Test w a b carry p q = and-result w a b p
 
 -- Shifts.
 
-unless-below : (w : Width) (count : ℕ) (a r : ℕ) (was flags : Flags) → a < limit_of w → r < limit_of w → (unless_zero count (a, was) (r, flags)).0 < limit_of w
+unless-below :
+    (w : Width) (count : ℕ) (a r : ℕ) (was flags : Flags) → a < limit_of w → r < limit_of w
+    → (unless_zero count (a, was) (r, flags)).0 < limit_of w
 unless-below w count a r was flags p q =
-    elim (count == 0) as (λ b. (if b then (let x : ℕ × Flags = (a, was) in x) else (r, flags)).0 < limit_of w) [ true ↦ p | false ↦ q ]
+    elim (count == 0) as (λ b. (if b then (let x : ℕ × Flags = (a, was) in x) else (r, flags)).0 < limit_of w) [
+      | true ↦ p
+      | false ↦ q
+    ]
 
 shl-below : (w : Width) (a count : ℕ) (was : Flags) → a < limit_of w → (shl_of w a count was).0 < limit_of w
 unfolding shl_of
@@ -123,7 +130,9 @@ rcr-below w a was p = half_fits w was.cf p
     half_fits word_width true q = omega arith
     half_fits word_width false q = omega arith
 
-pub shift-below : (shift : ShiftName) (w : Width) (a count : ℕ) (was : Flags) → a < limit_of w → (shift_result shift w a count was).0 < limit_of w
+pub shift-below :
+    (shift : ShiftName) (w : Width) (a count : ℕ) (was : Flags) → a < limit_of w
+    → (shift_result shift w a count was).0 < limit_of w
 shift-below Rol w a count was p = rol-below w a count was p
 shift-below Ror w a count was p = ror-below w a count was p
 shift-below Rcl w a count was p = rcl-below w a was
@@ -156,7 +165,8 @@ complement-below : (w : Width) (a : ℕ) → limit_of w - 1 - a < limit_of w
 complement-below byte_width a = omega arith
 complement-below word_width a = omega arith
 
-high-below : (w : Width) (low high a b : ℕ) → a < limit_of w → b < limit_of w → joined_of w high low ≡ a * b → high < limit_of w
+high-below :
+    (w : Width) (low high a b : ℕ) → a < limit_of w → b < limit_of w → joined_of w high low ≡ a * b → high < limit_of w
 high-below byte_width low high a b p q e =
     let first : a ≤ 255 = omega arith in
     let second : b ≤ 255 = omega arith in
@@ -187,7 +197,10 @@ zero-false : (a : ℕ) → (a == 0) ≡ false → 0 < a
 zero-false a e = grind (arith, nat_tests)
 
 -- a quotient that fits, and a remainder below the divisor
-quotient-fits : (w : Width) (dividend by : ℕ) (none large : Bool) → by < limit_of w → (none ≡ false → 0 < by) → (large ≡ false → dividend / by < limit_of w) → OutcomeFits w (divided (if none || large then None else Some (dividend / by, dividend % by)))
+quotient-fits :
+    (w : Width) (dividend by : ℕ) (none large : Bool) → by < limit_of w → (none ≡ false → 0 < by)
+    → (large ≡ false → dividend / by < limit_of w)
+    → OutcomeFits w (divided (if none || large then None else Some (dividend / by, dividend % by)))
 quotient-fits w dividend by true large p some small = tt
 quotient-fits w dividend by false true p some small = tt
 quotient-fits w dividend by false false p some small =
@@ -200,17 +213,24 @@ division-fits : (w : Width) (high low by : ℕ) → by < limit_of w → OutcomeF
 unfolding division_of
 division-fits w high low by p =
     let dividend = joined_of w high low in
-    quotient-fits w dividend by (by == 0) (nat_le (limit_of w) (dividend / by)) p (zero-false by) (nat_le-false (limit_of w) (dividend / by))
+    quotient-fits w dividend by (by == 0) (nat_le (limit_of w) (dividend / by)) p (zero-false by)
+    (nat_le-false (limit_of w) (dividend / by))
 
 signed_division-fits : (w : Width) (high low by : ℕ) → OutcomeFits w (divided (signed_division_of w high low by))
 unfolding signed_division_of
 signed_division-fits w high low by =
-    elim (by == 0 || not (fits_signed w (int_div (signed_joined_of w high low) (signed_of w by)))) as (λ b. OutcomeFits w (divided (if b then None else Some (wrapped_of w (int_div (signed_joined_of w high low) (signed_of w by)), wrapped_of w (int_rem (signed_joined_of w high low) (signed_of w by)))))) [
+    let dividend = signed_joined_of w high low in
+    let quotient = int_div dividend (signed_of w by) in
+    let remainder = int_rem dividend (signed_of w by) in
+    elim (by == 0 || not (fits_signed w quotient)) as (λ b.
+    OutcomeFits w (divided (if b then None else Some (wrapped_of w quotient, wrapped_of w remainder)))) [
       | true ↦ tt
-      | false ↦ (wrapped_below w _, wrapped_below w _)
+      | false ↦ (wrapped_below w quotient, wrapped_below w remainder)
     ]
 
-pub outcome-fits : (operation : UnaryName) (w : Width) (low high a : ℕ) (flags : Flags) → low < limit_of w → a < limit_of w → OutcomeFits w (unary_outcome operation w low high a flags)
+pub outcome-fits :
+    (operation : UnaryName) (w : Width) (low high a : ℕ) (flags : Flags) → low < limit_of w → a < limit_of w
+    → OutcomeFits w (unary_outcome operation w low high a flags)
 outcome-fits Inc w low high a flags p q = increment-below w a flags
 outcome-fits Dec w low high a flags p q = decrement-below w a flags
 outcome-fits Neg w low high a flags p q = negation-below w a
@@ -231,6 +251,7 @@ extension-below w a = elim (has_sign w a) as (λ b. (if b then limit_of w - 1 el
     top : (v : Width) → limit_of v - 1 < limit_of v
     top byte_width = omega arith
     top word_width = omega arith
+
     some : (v : Width) → 0 < limit_of v
     some byte_width = omega arith
     some word_width = omega arith

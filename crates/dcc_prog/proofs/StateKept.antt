@@ -43,7 +43,8 @@ set-below (x ∷ xs) (suc i) v zero n p q = q
 set-below (x ∷ xs) (suc i) v (suc j) n p q = set-below xs i v j n p q
 
 -- a state whose registers, memory and input are those of another one
-pub same-state : (s t : State) → t.regs ≡ s.regs → t.segs ≡ s.segs → t.memory ≡ s.memory → t.input ≡ s.input → IsState s → IsState t
+pub same-state :
+    (s t : State) → t.regs ≡ s.regs → t.segs ≡ s.segs → t.memory ≡ s.memory → t.input ≡ s.input → IsState s → IsState t
 same-state s t regs segs memory input form = record {
   registers = record {
     count = ap length regs ∙ form.registers.count;
@@ -69,7 +70,8 @@ word-state s r v fits form = record {
   input = form.input;
 }
 
-segment-state : (s : State) (number v : ℕ) → v < 65536 → IsState s → IsState (record s { segs = slice_set s.segs number v })
+segment-state :
+    (s : State) (number v : ℕ) → v < 65536 → IsState s → IsState (record s { segs = slice_set s.segs number v })
 segment-state s number v fits form = record {
   registers = record { count = form.registers.count; words = form.registers.words };
   segment_count = length-set s.segs number v ∙ form.segment_count;
@@ -79,7 +81,9 @@ segment-state s number v fits form = record {
   input = form.input;
 }
 
-byte-state : (s : State) (address byte : ℕ) → byte < 256 → IsState s → IsState (record s { memory = slice_set s.memory address byte })
+byte-state :
+    (s : State) (address byte : ℕ) → byte < 256 → IsState s
+    → IsState (record s { memory = slice_set s.memory address byte })
 byte-state s address byte fits form = record {
   registers = record { count = form.registers.count; words = form.registers.words };
   segment_count = form.segment_count;
@@ -89,7 +93,9 @@ byte-state s address byte fits form = record {
   input = form.input;
 }
 
-two_bytes-state : (s : State) (segment offset word : ℕ) → word < 65536 → IsState s → IsState (with_word_at_offset s segment offset word)
+two_bytes-state :
+    (s : State) (segment offset word : ℕ) → word < 65536 → IsState s
+    → IsState (with_word_at_offset s segment offset word)
 two_bytes-state s segment offset word fits form =
     let low : word % 256 < 256 = omega arith in
     let high : word / 256 < 256 = omega arith in
@@ -121,11 +127,14 @@ joined-below : (half : Half) (word byte : ℕ) → word < 65536 → byte < 256 �
 joined-below Low word byte p q = omega arith
 joined-below High word byte p q = omega arith
 
-pub half-state : (s : State) (r : Reg) (half : Half) (byte : ℕ) → byte < 256 → IsState s → IsState (with_word_in s r (word_with_half half (word_in s r) byte))
+pub half-state :
+    (s : State) (r : Reg) (half : Half) (byte : ℕ) → byte < 256 → IsState s
+    → IsState (with_word_in s r (word_with_half half (word_in s r) byte))
 half-state s r half byte fits form =
     word-state s r _ (joined-below half (word_in s r) byte (form.registers.words r) fits) form
 
-pub operand-state : (x : Operand) (v : ℕ) (s : State) → v < limit_of (operand_width x) → IsState s → IsState (with_operand s x v)
+pub operand-state :
+    (x : Operand) (v : ℕ) (s : State) → v < limit_of (operand_width x) → IsState s → IsState (with_operand s x v)
 operand-state (Word r) v s fits form = word-state s r v fits form
 operand-state (Byte r half) v s fits form = half-state s r half v fits form
 operand-state (Seg number) v s fits form = segment-state s number v fits form
@@ -136,26 +145,35 @@ operand-state (Const width constant) v s fits form = form
 flags-state : (s : State) (flags : Flags) → IsState s → IsState (with_flags flags s)
 flags-state s flags form = same-state s (with_flags flags s) refl refl refl refl form
 
-result-state : (x : Operand) (result : ℕ × Flags) (s : State) → result.0 < limit_of (operand_width x) → IsState s → IsState (with_result x result s)
+result-state :
+    (x : Operand) (result : ℕ × Flags) (s : State) → result.0 < limit_of (operand_width x) → IsState s
+    → IsState (with_result x result s)
 result-state x result s fits form = operand-state x result.0 (with_flags result.1 s) fits (flags-state s result.1 form)
 
 -- Operations.
 
-written-state : (so : Bool) (x : Operand) (result : ℕ × Flags) (s : State) → result.0 < limit_of (operand_width x) → IsState s → IsState (alu_written so x result s)
+written-state :
+    (so : Bool) (x : Operand) (result : ℕ × Flags) (s : State) → result.0 < limit_of (operand_width x) → IsState s
+    → IsState (alu_written so x result s)
 written-state true x result s fits form = result-state x result s fits form
 written-state false x result s fits form = flags-state s result.1 form
 
 pair-below : (low high : ℕ) → low < 256 → high < 256 → high * 256 + low < 65536
 pair-below low high p q = omega arith
 
-pair-state : (w : Width) (pair : ℕ × ℕ × Flags) (s : State) → OutcomeFits w (in_pair pair) → IsState s → IsState (with_product w pair s)
+pair-state :
+    (w : Width) (pair : ℕ × ℕ × Flags) (s : State) → OutcomeFits w (in_pair pair) → IsState s
+    → IsState (with_product w pair s)
 pair-state byte_width pair s fits form =
-    word-state (with_flags pair.2 s) Ax (pair.1 * 256 + pair.0) (pair-below pair.0 pair.1 fits.0 fits.1) (flags-state s pair.2 form)
+    word-state (with_flags pair.2 s) Ax (pair.1 * 256 + pair.0) (pair-below pair.0 pair.1 fits.0 fits.1)
+    (flags-state s pair.2 form)
 pair-state word_width pair s fits form =
     let t = with_flags pair.2 s in
     word-state (with_word_in t Ax pair.0) Dx pair.1 fits.1 (word-state t Ax pair.0 fits.0 (flags-state s pair.2 form))
 
-outcome-state : (outcome : Outcome) (x : Operand) (at : ℕ) (s : State) → OutcomeFits (operand_width x) outcome → IsState s → IsState (outcome_step outcome (operand_width x) x at s)
+outcome-state :
+    (outcome : Outcome) (x : Operand) (at : ℕ) (s : State) → OutcomeFits (operand_width x) outcome → IsState s
+    → IsState (outcome_step outcome (operand_width x) x at s)
 outcome-state (in_operand result) x at s fits form = result-state x result s fits form
 outcome-state (in_pair pair) x at s fits form = pair-state (operand_width x) pair s fits form
 outcome-state in_fault x at s fits form = same-state s _ refl refl refl refl form
@@ -184,7 +202,8 @@ word-operand x v width fits = subst (λ w. v < limit_of w) (sym width) fits
 pub of_width : (w v : Width) (a : ℕ) → w ≡ v → a < limit_of w → a < limit_of v
 of_width w v a e fits = subst (λ (u : Width). a < limit_of u) e fits
 
-plain-state : (operation : PlainName) (cpu : Cpu) (at : ℕ) (s : State) → IsState s → IsState (op_step cpu (Plain operation) at s)
+plain-state :
+    (operation : PlainName) (cpu : Cpu) (at : ℕ) (s : State) → IsState s → IsState (op_step cpu (Plain operation) at s)
 plain-state Nop cpu at s form = form
 plain-state Cbw cpu at s form = word-state s Ax _ (sign_extension-below (half_of_word Low (word_in s Ax))) form
 plain-state Cwd cpu at s form = word-state s Dx _ (extension-below word_width (word_in s Ax)) form
@@ -204,10 +223,13 @@ loop-state also target s form =
 
 -- DOS calls.
 
-key-state : (echo : Bool) (input : List ℕ) (s : State) → ((k : ℕ) → slice_index input k < 256) → IsState s → IsState (with_key echo input s)
+key-state :
+    (echo : Bool) (input : List ℕ) (s : State) → ((k : ℕ) → slice_index input k < 256) → IsState s
+    → IsState (with_key echo input s)
 key-state echo [] s bytes form =
     let fits : END_OF_INPUT < 256 = omega arith in
-    same-state (with_al END_OF_INPUT s) (with_key echo [] s) refl refl refl refl (half-state s Ax Low END_OF_INPUT fits form)
+    same-state (with_al END_OF_INPUT s) (with_key echo [] s) refl refl refl refl
+    (half-state s Ax Low END_OF_INPUT fits form)
 key-state echo (byte ∷ rest) s bytes form =
     let left : State = record s { input = rest } in
     let taken : IsState left = record {
@@ -218,7 +240,8 @@ key-state echo (byte ∷ rest) s bytes form =
       memory = form.memory;
       input = λ k. bytes (suc k);
     } in
-    same-state (with_al byte left) (with_key echo (byte ∷ rest) s) refl refl refl refl (half-state left Ax Low byte (bytes 0) taken)
+    same-state (with_al byte left) (with_key echo (byte ∷ rest) s) refl refl refl refl
+    (half-state left Ax Low byte (bytes 0) taken)
 
 -- one of two states
 chosen-state : (so : Bool) (s t : State) → IsState s → IsState t → IsState (if so then s else t)
@@ -232,15 +255,20 @@ dos-state number at s form =
     let key : State = if number == GETCH then key_step false s else string in
     let echoed : State = if number == GETCHE then key_step true s else key in
     let leave : State = if number == EXIT then with_end (Exit (word_in s Ax % 256)) at s else echoed in
-    chosen-state (number == PUTC) (after_write (word_in s Dx % 256 ∷ []) s) leave (same-state s _ refl refl refl refl form)
-    (chosen-state (number == EXIT) (with_end (Exit (word_in s Ax % 256)) at s) echoed (same-state s _ refl refl refl refl form)
+    chosen-state (number == PUTC) (after_write (word_in s Dx % 256 ∷ []) s) leave
+    (same-state s _ refl refl refl refl form)
+    (chosen-state (number == EXIT) (with_end (Exit (word_in s Ax % 256)) at s) echoed
+    (same-state s _ refl refl refl refl form)
     (chosen-state (number == GETCHE) (key_step true s) key (key-state true s.input s form.input form)
     (chosen-state (number == GETCH) (key_step false s) string (key-state false s.input s form.input form)
-    (chosen-state (number == PUTS) (after_write (dos_string s) s) last (same-state s _ refl refl refl refl form) (same-state s _ refl refl refl refl form)))))
+    (chosen-state (number == PUTS) (after_write (dos_string s) s) last (same-state s _ refl refl refl refl form)
+    (same-state s _ refl refl refl refl form)))))
 
 -- All operations.
 
-op-state : (cpu : Cpu) (op : Op) (at : ℕ) (s : State) → IsOperation op → s.ip < 65536 → IsState s → IsState (op_step cpu op at s)
+op-state :
+    (cpu : Cpu) (op : Op) (at : ℕ) (s : State) → IsOperation op → s.ip < 65536 → IsState s
+    → IsState (op_step cpu op at s)
 op-state cpu (Alu operation a b) at s good ip form =
     let w = operand_width a in
     let va = operand_value s a in
@@ -255,33 +283,40 @@ op-state cpu (Unary operation a) at s good ip form =
     let outcome = unary_outcome operation w (accumulator_in w s) (upper_in w s) v s.flags in
     subst IsState (sym (unary-form operation w a v at s))
     (outcome-state outcome a at s
-    (outcome-fits operation w (accumulator_in w s) (upper_in w s) v s.flags (accumulator-below w s form) (value-fits s a good form)) form)
+    (outcome-fits operation w (accumulator_in w s) (upper_in w s) v s.flags (accumulator-below w s form)
+    (value-fits s a good form)) form)
 op-state cpu (Shift operation a count) at s good ip form =
     let w = operand_width a in
     let v = operand_value s a in
     let n = count_in cpu count s in
-    result-state a (shift_result operation w v n s.flags) s (shift-below operation w v n s.flags (value-fits s a good.operand form)) form
+    result-state a (shift_result operation w v n s.flags) s
+    (shift-below operation w v n s.flags (value-fits s a good.operand form)) form
 op-state cpu (Mov to from) at s good ip form =
     operand-state to (operand_value s from) s
     (of_width (operand_width from) (operand_width to) _ (sym good.widths) (value-fits s from good.second form)) form
 op-state cpu (Xchg a b) at s good ip form =
     let first = of_width (operand_width b) (operand_width a) _ (sym good.widths) (value-fits s b good.second form) in
     let second = of_width (operand_width a) (operand_width b) _ good.widths (value-fits s a good.first form) in
-    operand-state b (operand_value s a) (with_operand s a (operand_value s b)) second (operand-state a (operand_value s b) s first form)
+    operand-state b (operand_value s a) (with_operand s a (operand_value s b)) second
+    (operand-state a (operand_value s b) s first form)
 op-state cpu (Lea r ea) at s good ip form =
     let fits : offset_of s ea < 65536 = omega arith in
     word-state s r (offset_of s ea) fits form
 op-state cpu (Imul3 r a constant) at s good ip form =
     let product = signed_product_of word_width (operand_value s a) constant in
-    word-state (with_flags product.2 s) r product.0 (signed_product-below word_width (operand_value s a) constant).0 (flags-state s product.2 form)
+    word-state (with_flags product.2 s) r product.0 (signed_product-below word_width (operand_value s a) constant).0
+    (flags-state s product.2 form)
 op-state cpu (Push a) at s good ip form =
-    pushed-state (operand_value s a) s (of_width (operand_width a) word_width _ good.width (value-fits s a good.operand form)) form
+    pushed-state (operand_value s a) s
+    (of_width (operand_width a) word_width _ good.width (value-fits s a good.operand form)) form
 op-state cpu (Pop a) at s good ip form =
-    operand-state a (top_word s) (with_sp_raised 2 s) (word-operand a (top_word s) good.width (top-below s form)) (raised-state 2 s form)
+    operand-state a (top_word s) (with_sp_raised 2 s) (word-operand a (top_word s) good.width (top-below s form))
+    (raised-state 2 s form)
 op-state cpu (Enter count) at s good ip form =
     let t = after_push (word_in s Bp) s in
     let pushed = pushed-state (word_in s Bp) s (form.registers.words Bp) form in
-    raised-state (65536 - count) (with_word_in t Bp (word_in t Sp)) (word-state t Bp (word_in t Sp) (pushed.registers.words Sp) pushed)
+    raised-state (65536 - count) (with_word_in t Bp (word_in t Sp))
+    (word-state t Bp (word_in t Sp) (pushed.registers.words Sp) pushed)
 op-state cpu Leave at s good ip form =
     let t = with_word_in s Sp (word_in s Bp) in
     let moved = word-state s Sp (word_in s Bp) (form.registers.words Bp) form in
@@ -294,8 +329,10 @@ op-state cpu (LoopE target) at s good ip form = loop-state s.flags.zf target s f
 op-state cpu (LoopNe target) at s good ip form = loop-state (not s.flags.zf) target s form
 op-state cpu (Jcxz target) at s good ip form = same-state s _ refl refl refl refl form
 op-state cpu (Table r offset) at s good ip form = same-state s _ refl refl refl refl form
-op-state cpu (Call target) at s good ip form = same-state (after_push s.ip s) _ refl refl refl refl (pushed-state s.ip s ip form)
-op-state cpu (Ret count) at s good ip form = same-state (with_sp_raised (2 + count) s) _ refl refl refl refl (raised-state (2 + count) s form)
+op-state cpu (Call target) at s good ip form =
+    same-state (after_push s.ip s) _ refl refl refl refl (pushed-state s.ip s ip form)
+op-state cpu (Ret count) at s good ip form =
+    same-state (with_sp_raised (2 + count) s) _ refl refl refl refl (raised-state (2 + count) s form)
 op-state cpu Int21 at s good ip form = dos-state (word_in s Ax / 256) at s form
 
 -- Steps.
@@ -309,7 +346,9 @@ code-bytes s form (suc (suc (suc (suc zero)))) = form.memory _
 code-bytes s form (suc (suc (suc (suc (suc zero))))) = form.memory _
 code-bytes s form (suc (suc (suc (suc (suc (suc k)))))) = omega arith
 
-found-state : (cpu : Cpu) (found : Option Instr) (s : State) → IfSome found (λ instr. IsOperation instr.op) → IsState s → IsState (instruction_step cpu found s)
+found-state :
+    (cpu : Cpu) (found : Option Instr) (s : State) → IfSome found (λ instr. IsOperation instr.op) → IsState s
+    → IsState (instruction_step cpu found s)
 found-state cpu None s good form = same-state s _ refl refl refl refl form
 found-state cpu (Some instr) s good form =
     let next : State = record s { ip = (s.ip + instr.len) % 65536 } in

@@ -124,8 +124,8 @@ plain_accesses Xlat s =
     other_read (data_segment s) ((word_in s Bx + half_of_word Low (word_in s Ax)) % 65536) 1 ∷ []
 plain_accesses operation s = []
 
--- The accesses of an operation, with the instruction pointer after it: an operand is read before it is pushed, and a word
--- is popped before it is stored. A shift or rotate by 0 reads and writes its operand too.
+-- The accesses of an operation, with the instruction pointer after it: an operand is read before it is pushed, and a
+-- word is popped before it is stored. A shift or rotate by 0 reads and writes its operand too.
 abbrev pub accesses : Op → State → List Access
 accesses (AluOp operation a b) s =
     operand_accesses Reading a s
