@@ -1,17 +1,16 @@
 -- Accesses of small operations in one state.
-use Rattle.std.proofs.Common.{◌≡◌, ℕ, zero, suc, ◌+◌, ◌%◌, ◌<◌, true, List, [], ◌∷◌, Option, Some, None, refl, ap, arith}
+use Rattle.std.proofs.Common.{◌≡◌, ℕ, zero, suc, ◌+◌, ◌%◌, ◌<◌, true, [], ◌∷◌, Option, Some, None, refl, ap, arith}
 use Rattle.dcc_run.specs.End.{Running}
 use Rattle.dcc_num.specs.declared.Width.TheVariants.{Byte as byte_width, Word as word_width}
 use Rattle.dcc_num.specs.declared.Reg.{Reg}
 use Rattle.dcc_num.specs.declared.Reg.TheVariants.{Ax, Dx, Bx, Bp, Si}
 use Rattle.dcc_num.specs.declared.Half.TheVariants.{Low}
-use Rattle.dcc_num.specs.declared.dos.TheConstants.{PUTS}
 use Rattle.dcc_num.specs.Numbers.{no_flags}
 use Rattle.dcc_prog.specs.declared.instr.Shift.TheVariants.{Shl}
 use Rattle.dcc_prog.specs.declared.instr.Count.TheVariants.{Cl}
 use Rattle.dcc_prog.specs.declared.instr.Plain.TheVariants.{Xlat}
 use Rattle.dcc_prog.specs.declared.instr.Ea.{Ea}
-use Rattle.dcc_prog.specs.declared.instr.Operand.TheVariants.{Word, Byte, Mem}
+use Rattle.dcc_prog.specs.declared.instr.Operand.TheVariants.{Byte, Mem}
 use Rattle.dcc_prog.specs.declared.instr.Op.TheVariants.{Shift as ShiftOp, Mov, Push, Pop, Enter, Leave, Plain as PlainOp, Table, Call, Ret, Int21}
 use Rattle.dcc_prog.specs.Dos.{is_not_dollar}
 use Rattle.dcc_prog.specs.Machine.{State, word_in, byte_in, data_segment}

@@ -1,11 +1,10 @@
 -- The accesses of an operation tell what its step does to memory and takes from it.
-use Rattle.std.proofs.Common.{◌≡◌, ◌≢◌, ℕ, zero, suc, ◌+◌, ◌/◌, ◌%◌, ◌<◌, Bool, true, false, List, [], ◌∷◌, ◌++◌, map, length, min, get_or, Option, Some, None, refl, sym, ap, ◌∙◌, subst, append_assoc, arith}
-use Rattle.std.proofs.Math.Nat.{mod-eq_of_lt}
+use Rattle.std.proofs.Common.{◌≡◌, ℕ, zero, suc, ◌+◌, ◌/◌, ◌%◌, ◌<◌, Bool, true, false, List, [], ◌∷◌, ◌++◌, map, length, min, Option, Some, None, refl, sym, ap, ◌∙◌, subst, append_assoc, arith}
 use Rattle.std.proofs.lemmas.List.{append-nil, map-append, get_or-set_same}
 use Rattle.std.proofs.lemmas.List.Elements.{Contains-append_left, Contains-append_right}
 use Rattle.std.proofs.lemmas.List.FromFn.{get_or-map-range_with_len, length-map-range_with_len}
 use Rattle.std.proofs.lemmas.List.Sums.{take_while-cons}
-use Rattle.std.specs.Prelude.{◌-◌, slice_index, slice_set, Contains, if◌then◌else◌, ◌==◌, cond, not}
+use Rattle.std.specs.Prelude.{slice_index, slice_set, Contains, if◌then◌else◌, ◌==◌, cond}
 use Rattle.std.specs.List.{range_with_len, take_while}
 use Rattle.dcc_num.specs.declared.Width.{Width}
 use Rattle.dcc_num.specs.declared.Width.TheVariants.{Byte as byte_width, Word as word_width}
@@ -31,11 +30,11 @@ use Rattle.dcc_prog.specs.declared.instr.Op.{Op}
 use Rattle.dcc_prog.specs.declared.instr.Op.TheVariants.{Alu, Unary, Shift, Mov, Xchg, Lea, Imul3, Push, Pop, Enter, Leave, Plain, Jump, Branch, Loop, LoopE, LoopNe, Jcxz, Table, Call, Ret, Int21}
 use Rattle.dcc_run.specs.End.{Exit, Outside}
 use Rattle.dcc_prog.specs.Machine.{State, reg_number, word_in, with_word_in, half_of_word, part_of, offset_of, segment_of, physical, byte_in, word_at_offset, with_byte_in, with_word_at_offset, operand_value, operand_width, with_operand, code_segment, stack_segment, data_segment}
-use Rattle.dcc_prog.specs.Operations.{with_end, with_al, after_jump, with_flags, with_result, accumulator_in, upper_in, count_in, shift_result, alu_step, unary_step, shift_step, with_sp_raised, after_push, top_word, with_product}
+use Rattle.dcc_prog.specs.Operations.{with_end, with_al, after_jump, with_flags, with_result, accumulator_in, upper_in, count_in, shift_result, alu_step, unary_step, with_sp_raised, after_push, top_word, with_product}
 use Rattle.dcc_prog.specs.Dos.{bytes_from, dos_string, is_not_dollar, dos_step, with_key, key_step, after_write}
 use Rattle.dcc_prog.specs.Step.{op_step}
 use Rattle.dcc_prog.specs.Writes.{writes_operand}
-use Rattle.dcc_prog.specs.Access.{Direction, Reading, Writing, Access, operand_accesses, result_accesses, writes_back, exchange_accesses, accesses, stack_access, push_access, other_read, string_size, dos_accesses, plain_accesses, address_in, addresses_of, read_in, written_in, read_by, written_by, with_memory, AgreeAt, Store, stored, ActsByAccesses}
+use Rattle.dcc_prog.specs.Access.{Reading, Writing, Access, operand_accesses, result_accesses, writes_back, accesses, stack_access, push_access, other_read, string_size, dos_accesses, plain_accesses, address_in, addresses_of, read_in, written_in, read_by, written_by, with_memory, AgreeAt, Store, stored, ActsByAccesses}
 use Rattle.dcc_prog.specs.StateForm.{HasRegisters}
 use Rattle.dcc_prog.proofs.OperationForms.{alu_result, alu_written, alu-form, Outcome, in_operand, in_pair, in_fault, divided, unary_outcome, outcome_step, unary-form}
 

@@ -1,9 +1,9 @@
 -- What an operation doesn't write stays as it was.
-use Rattle.std.proofs.Common.{◌≡◌, ◌≢◌, ℕ, zero, suc, ◌+◌, ◌-◌, ◌*◌, ◌/◌, ◌%◌, ◌<◌, Bool, true, false, List, [], ◌∷◌, length, get_or, set, Option, Some, None, refl, sym, ap, ◌∙◌, subst, arith, length-set}
+use Rattle.std.proofs.Common.{◌≡◌, ◌≢◌, ℕ, ◌+◌, ◌*◌, ◌/◌, ◌%◌, ◌<◌, Bool, true, false, List, [], ◌∷◌, length, Option, Some, None, refl, sym, ap, ◌∙◌, subst, arith, length-set}
 use Rattle.std.proofs.lemmas.Bool.{eqb-true, eq-eqb}
 use Rattle.std.proofs.lemmas.List.{get_or-set_other}
 use Rattle.std.proofs.lemmas.Grind.{get_or-set_at}
-use Rattle.std.specs.Prelude.{not, ◌&&◌, ◌||◌, slice_index, slice_set, if◌then◌else◌, ◌==◌}
+use Rattle.std.specs.Prelude.{not, ◌&&◌, ◌||◌, slice_index, if◌then◌else◌, ◌==◌}
 use Rattle.dcc_run.specs.End.{Exit, Outside}
 use Rattle.dcc_num.specs.declared.Width.{Width}
 use Rattle.dcc_num.specs.declared.Width.TheVariants.{Byte as byte_width, Word as word_width}
@@ -20,7 +20,6 @@ use Rattle.dcc_num.specs.Sum.{increment_of, decrement_of}
 use Rattle.dcc_num.specs.Shift.{unless_zero, rotate_flags, left_rotation_of, right_rotation_of, left_turn_of, right_turn_of, shl_of, shr_of, sar_of}
 use Rattle.dcc_num.specs.Product.{signed_product_of}
 use Rattle.dcc_prog.specs.declared.cpu.Cpu.{Cpu}
-use Rattle.dcc_prog.specs.declared.instr.Alu.{Alu as AluName}
 use Rattle.dcc_prog.specs.declared.instr.Shift.{Shift as ShiftName}
 use Rattle.dcc_prog.specs.declared.instr.Shift.TheVariants.{Rol, Ror, Rcl, Rcr, Shl, Shr, Sar}
 use Rattle.dcc_prog.specs.declared.instr.Count.{Count}
@@ -33,13 +32,13 @@ use Rattle.dcc_prog.specs.declared.instr.Operand.{Operand}
 use Rattle.dcc_prog.specs.declared.instr.Operand.TheVariants.{Word, Byte, Seg, Mem, Const}
 use Rattle.dcc_prog.specs.declared.instr.Op.{Op}
 use Rattle.dcc_prog.specs.declared.instr.Op.TheVariants.{Alu, Unary, Shift, Mov, Xchg, Lea, Imul3, Push, Pop, Enter, Leave, Plain, Jump, Branch, Loop, LoopE, LoopNe, Jcxz, Table, Call, Ret, Int21}
-use Rattle.dcc_prog.specs.Machine.{State, reg_number, word_in, with_word_in, half_of_word, word_with_half, data_segment, byte_in, offset_of, operand_value, operand_width, with_operand}
-use Rattle.dcc_prog.specs.Operations.{with_end, with_flags, with_result, with_al, accumulator_in, upper_in, with_pair, with_product, count_in, shift_result, after_push, top_word, with_sp_raised, loop_step}
+use Rattle.dcc_prog.specs.Machine.{State, reg_number, word_in, with_word_in, half_of_word, word_with_half, offset_of, operand_value, operand_width, with_operand}
+use Rattle.dcc_prog.specs.Operations.{with_end, with_flags, accumulator_in, upper_in, with_product, count_in, shift_result, after_push, top_word, with_sp_raised}
 use Rattle.dcc_prog.specs.Dos.{dos_step, dos_string, with_key, key_step, after_write}
 use Rattle.dcc_prog.specs.Step.{op_step}
-use Rattle.dcc_prog.specs.WellFormed.{IsOperand, IsOperation, MayCount}
+use Rattle.dcc_prog.specs.WellFormed.{IsOperation, MayCount}
 use Rattle.dcc_prog.specs.Writes.{is_same_register, is_same_half, is_half_of, writes_operand, is_in_pair, is_carry, is_carry_or_overflow, unary_writes_half, plain_writes_half, writes_half, unary_writes_flag, shift_writes_flag, never_shifts, plain_writes_flag, writes_flag}
-use Rattle.dcc_prog.specs.StateForm.{HasRegisters, IsState}
+use Rattle.dcc_prog.specs.StateForm.{IsState}
 use Rattle.dcc_prog.specs.LocationLaws.{half_in, flag_in, WhatIsNotWrittenStays}
 use Rattle.dcc_prog.proofs.OperationForms.{alu_result, alu_written, alu-form, Outcome, in_operand, in_pair, in_fault, divided, unary_outcome, outcome_step, unary-form}
 use Rattle.dcc_prog.proofs.ResultBounds.{alu-below, shift-below, OutcomeFits, outcome-fits, sign_extension-low}

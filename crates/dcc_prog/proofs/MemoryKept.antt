@@ -1,7 +1,6 @@
 -- What follows from how an act touches memory; the steps of the machine.
-use Rattle.std.proofs.Common.{◌≡◌, ◌≢◌, ◌⊎◌, inl, inr, ℕ, zero, suc, ◌+◌, ◌/◌, ◌%◌, ◌<◌, ◌≤◌, Bool, true, false, List, [], ◌∷◌, ◌++◌, map, length, min, take, get_or, Option, Some, None, refl, sym, ap, ◌∙◌, subst, arith, length-set}
+use Rattle.std.proofs.Common.{◌≡◌, ◌≢◌, inl, inr, ℕ, zero, suc, ◌+◌, ◌/◌, ◌%◌, ◌<◌, Bool, true, false, List, [], ◌∷◌, ◌++◌, length, min, take, get_or, Option, Some, None, refl, sym, ap, ◌∙◌, subst, arith, length-set}
 use Rattle.std.proofs.lemmas.List.{get_or-set_same, get_or-set_other, get_or_past}
-use Rattle.std.proofs.lemmas.List.Elements.{Contains-append_left, Contains-append_right}
 use Rattle.std.proofs.lemmas.List.FromFn.{get_or-map-range_with_len, length-map-range_with_len}
 use Rattle.std.proofs.Math.Decide.{ℕ_discrete, dec_lt}
 use Rattle.std.specs.Prelude.{slice_index, slice_set, Contains, if◌then◌else◌, ◌==◌}
@@ -15,7 +14,6 @@ use Rattle.dcc_prog.specs.declared.instr.Plain.TheVariants.{Xlat}
 use Rattle.dcc_prog.specs.declared.instr.Operand.{Operand}
 use Rattle.dcc_prog.specs.declared.instr.Operand.TheVariants.{Word, Byte, Seg, Mem, Const}
 use Rattle.dcc_prog.specs.declared.instr.Ea.{Ea}
-use Rattle.dcc_prog.specs.declared.instr.Op.{Op}
 use Rattle.dcc_prog.specs.declared.instr.Op.TheVariants.{Alu, Unary, Shift, Mov, Xchg, Imul3, Push, Pop, Plain, Int21}
 use Rattle.dcc_prog.specs.declared.instr.Instr.{Instr}
 use Rattle.dcc_prog.specs.Table.{instruction_at}
@@ -24,7 +22,7 @@ use Rattle.dcc_prog.specs.Operations.{with_sp_raised}
 use Rattle.dcc_prog.specs.Step.{code_byte, code_bytes, op_step, instruction_step, step}
 use Rattle.dcc_prog.specs.StateForm.{HasRegisters}
 use Rattle.dcc_prog.specs.Writes.{writes_operand}
-use Rattle.dcc_prog.specs.Access.{Direction, Reading, Writing, Kind, Access, kind_of, bytes_in, operand_accesses, result_accesses, writes_back, accesses, exchange_accesses, push_access, stack_access, other_read, string_size, dos_accesses, plain_accesses, found_accesses, step_accesses, fetched_size, code_addresses, found_reads, step_reads, read_by, written_by, with_memory, AgreeAt, Store, stored, ActsBy, ActsByAccesses}
+use Rattle.dcc_prog.specs.Access.{Direction, Reading, Writing, Access, kind_of, bytes_in, operand_accesses, result_accesses, writes_back, accesses, exchange_accesses, stack_access, other_read, string_size, plain_accesses, found_accesses, step_accesses, fetched_size, code_addresses, found_reads, step_reads, read_by, written_by, with_memory, AgreeAt, Store, stored, ActsBy, ActsByAccesses}
 use Rattle.dcc_prog.specs.MemoryLaws.{Leaves, IsAlikeOrLeft, StepsActByAccesses, MemoryChangesAtWritesAlone, BytesAreAlikeOrLeft, AccessesDependOnReads}
 use Rattle.dcc_prog.proofs.TableLaws.{instruction-length, instruction-prefix}
 use Rattle.dcc_prog.proofs.AccessLaws.{agree-left, agree-right, operand_stores, operand-stores, agree-first, agree-second, value-same, offset-same, string-same, addresses_stored, op-acts}

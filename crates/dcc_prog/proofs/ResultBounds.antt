@@ -1,5 +1,5 @@
 -- Results fit their width.
-use Rattle.std.proofs.Common.{◌≡◌, ℕ, zero, suc, ◌+◌, ◌-◌, ◌*◌, ◌/◌, ◌%◌, ◌^◌, ◌<◌, ◌≤◌, Bool, true, false, Option, Some, None, ℤ, pos, negsuc, bit_and, bit_or, bit_xor, refl, ap, subst, arith}
+use Rattle.std.proofs.Common.{◌≡◌, ℕ, ◌+◌, ◌-◌, ◌*◌, ◌/◌, ◌%◌, ◌^◌, ◌<◌, ◌≤◌, Bool, true, false, Some, None, bit_and, bit_or, bit_xor, refl, arith}
 use Rattle.std.proofs.lemmas.Nat.{or_of_8, or_of_16, xor_of_8, xor_of_16, and_le_l}
 use Rattle.std.proofs.Math.Nat.{div-le_self, mul-le-mul}
 use Rattle.std.proofs.lemmas.Bool.Decides.{nat_tests}
@@ -9,7 +9,7 @@ use Rattle.std.specs.Prelude.{int_div, int_rem, if◌then◌else◌, ◌==◌, �
 use Rattle.dcc_num.specs.declared.Width.{Width}
 use Rattle.dcc_num.specs.declared.Width.TheVariants.{Byte as byte_width, Word as word_width}
 use Rattle.dcc_num.specs.declared.Flags.{Flags}
-use Rattle.dcc_num.specs.Numbers.{bits_of, limit_of, half_of, has_sign, fits_signed, sign_extension_of, signed_of, wrapped_of, halved_of}
+use Rattle.dcc_num.specs.Numbers.{bits_of, limit_of, half_of, has_sign, fits_signed, sign_extension_of, signed_of, wrapped_of}
 use Rattle.dcc_num.specs.Sum.{sum_of, difference_of, negation_of, increment_of, decrement_of}
 use Rattle.dcc_num.specs.Logic.{conjunction_of, disjunction_of, exclusive_of}
 use Rattle.dcc_num.specs.Shift.{unless_zero, shl_of, shr_of, sar_of, turned_of, left_rotation_of, right_rotation_of, left_turn_of, right_turn_of}

@@ -21,13 +21,13 @@ use Rattle.dcc_prog.specs.declared.instr.Op.{Op}
 use Rattle.dcc_prog.specs.declared.instr.Op.TheVariants.{Alu, Unary, Shift, Mov, Xchg, Lea, Imul3, Push, Pop, Enter, Leave, Plain, Jump, Branch, Loop, LoopE, LoopNe, Jcxz, Table, Call, Ret, Int21}
 use Rattle.dcc_prog.specs.declared.instr.Instr.{Instr}
 use Rattle.dcc_prog.specs.Table.{instruction_at}
-use Rattle.dcc_prog.specs.Machine.{State, reg_number, word_in, with_word_in, half_of_word, word_with_half, data_segment, stack_segment, physical, byte_in, word_at_offset, with_byte_in, with_word_at_offset, offset_of, segment_of, operand_value, operand_width, with_operand}
-use Rattle.dcc_prog.specs.Operations.{with_end, with_flags, with_result, with_al, accumulator_in, upper_in, with_pair, with_product, count_in, shift_result, after_push, top_word, with_sp_raised}
+use Rattle.dcc_prog.specs.Machine.{State, reg_number, word_in, with_word_in, half_of_word, word_with_half, stack_segment, physical, byte_in, word_at_offset, with_byte_in, with_word_at_offset, offset_of, segment_of, operand_value, operand_width, with_operand}
+use Rattle.dcc_prog.specs.Operations.{with_end, with_flags, with_result, with_al, accumulator_in, upper_in, with_product, count_in, shift_result, after_push, top_word, with_sp_raised}
 use Rattle.dcc_prog.specs.Dos.{dos_step, dos_string, with_key, key_step, after_write}
-use Rattle.dcc_prog.specs.Step.{code_byte, code_bytes, op_step, instruction_step, step, loop_step}
+use Rattle.dcc_prog.specs.Step.{code_bytes, op_step, instruction_step, step, loop_step}
 use Rattle.dcc_prog.specs.WellFormed.{IsOperand, IsOperation}
 use Rattle.dcc_prog.specs.Writes.{writes_operand}
-use Rattle.dcc_prog.specs.StateForm.{HasRegisters, IsState, StepsKeepStates}
+use Rattle.dcc_prog.specs.StateForm.{IsState, StepsKeepStates}
 use Rattle.dcc_prog.proofs.WellFormedLaws.{AreBytes, found-operation}
 use Rattle.dcc_prog.proofs.OperationForms.{alu_result, alu_written, alu-form, Outcome, in_operand, in_pair, in_fault, unary_outcome, outcome_step, unary-form}
 use Rattle.dcc_prog.proofs.ResultBounds.{alu-below, shift-below, OutcomeFits, outcome-fits, signed_product-below, extension-below, sign_extension-below}

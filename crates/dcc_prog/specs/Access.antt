@@ -10,7 +10,6 @@ use Rattle.dcc_num.specs.declared.Reg.TheVariants.{Ax, Dx, Bx, Sp, Bp}
 use Rattle.dcc_num.specs.declared.Half.TheVariants.{Low}
 use Rattle.dcc_num.specs.declared.dos.TheConstants.{PUTS, STRING_MOST}
 use Rattle.dcc_prog.specs.declared.cpu.Cpu.{Cpu}
-use Rattle.dcc_prog.specs.declared.instr.Alu.{Alu}
 use Rattle.dcc_prog.specs.declared.instr.Unary.{Unary}
 use Rattle.dcc_prog.specs.declared.instr.Unary.TheVariants.{Inc, Dec, Neg, Not}
 use Rattle.dcc_prog.specs.declared.instr.Plain.{Plain}

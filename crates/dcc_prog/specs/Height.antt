@@ -1,6 +1,6 @@
 -- Stack heights: by how many bytes SP lies below its value at the entry of a procedure, as trails tell it. A height
 -- below 0 says that SP lies above that value.
-use Rattle.std.specs.Prelude.{◌≡◌, ◌≢◌, ◌⊎◌, ℕ, ℤ, pos, neg_ℤ, ◌+ℤ◌, ◌-ℤ◌, ◌<ℤ◌, int_lt, Bool, true, false, ◌||◌, if◌then◌else◌, List, [], ◌∷◌, Option, Some, None}
+use Rattle.std.specs.Prelude.{◌≡◌, ◌≢◌, ◌⊎◌, ℕ, ℤ, pos, neg_ℤ, ◌+ℤ◌, ◌-ℤ◌, ◌<ℤ◌, int_lt, Bool, true, false, ◌||◌, List, [], ◌∷◌, Option, Some, None}
 use Rattle.dcc_num.specs.declared.Width.TheVariants.{Word as word_width}
 use Rattle.dcc_num.specs.declared.Reg.TheVariants.{Sp, Bp}
 use Rattle.dcc_num.specs.declared.Half.TheVariants.{Low}

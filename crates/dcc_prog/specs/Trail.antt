@@ -5,7 +5,7 @@
 use Rattle.std.specs.Prelude.{◌≡◌, ℕ, ◌+◌, ◌*◌, ◌/◌, ◌%◌, ◌==◌, Bool, true, false, not, ◌&&◌, if◌then◌else◌, List, [], ◌∷◌, take, drop, map, Contains, Option, Some, None, option_map}
 use Rattle.std.specs.List.{range_with_len}
 use Rattle.dcc_num.specs.declared.Reg.{Reg}
-use Rattle.dcc_num.specs.declared.Reg.TheVariants.{Ax, Cx, Dx, Bx, Sp, Bp, Si, Di}
+use Rattle.dcc_num.specs.declared.Reg.TheVariants.{Ax, Sp, Bp}
 use Rattle.dcc_num.specs.declared.Half.TheVariants.{Low, High}
 use Rattle.dcc_num.specs.declared.dos.TheConstants.{EXIT}
 use Rattle.dcc_prog.specs.declared.image.Image.{Image}
