@@ -1,6 +1,6 @@
 -- The accesses of an operation to memory: the bytes that it reads and writes there, in the order of the machine. The
 -- instruction's own bytes are none of them.
-use Rattle.std.specs.Prelude.{◌≡◌, ℕ, ◌+◌, ◌/◌, ◌%◌, ◌==◌, Bool, true, false, ◌&&◌, if◌then◌else◌, List, [], ◌∷◌, ◌++◌, length, map, min, slice_index, slice_set, Contains, Option, Some, None}
+use Rattle.std.specs.Prelude.{◌≡◌, ℕ, ◌+◌, ◌/◌, ◌%◌, ◌==◌, Bool, true, false, ◌&&◌, if◌then◌else◌, List, [], ◌∷◌, ◌++◌, length, map, min, slice_index, slice_set, Contains, Option, Some, None, is_none}
 use Rattle.std.specs.List.{range_with_len}
 use Rattle.dcc_run.specs.End.{is_over}
 use Rattle.dcc_num.specs.declared.Width.{Width}
@@ -53,12 +53,12 @@ abbrev pub bytes_in : Width → ℕ
 bytes_in byte_width = 1
 bytes_in word_width = 2
 
-abbrev pub is_none : Option Reg → Bool
-is_none None = true
-is_none (Some r) = false
+-- BP plus a displacement, without an index
+abbrev pub is_direct : Ea → Bool
+is_direct ea = is_bp ea.base && is_none ea.index
 
 abbrev pub kind_of : Ea → Kind
-kind_of ea = if is_bp ea.base && is_none ea.index then OfFrame else Other
+kind_of ea = if is_direct ea then OfFrame else Other
 
 -- an operand is read or written: one access, where it lies in memory
 abbrev pub operand_accesses : Direction → Operand → State → List Access

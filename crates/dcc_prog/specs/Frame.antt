@@ -3,7 +3,7 @@
 -- address stands at 2, and at height h SP stands at 2 - h.
 use Rattle.std.specs.Prelude.{◌≡◌, ◌≢◌, ◌≤◌, ◌<◌, ◌⊎◌, ℕ, ◌+◌, ◌*◌, ◌/◌, ℤ, pos, ◌+ℤ◌, ◌-ℤ◌, neg_ℤ, ◌<ℤ◌, ◌≤ℤ◌, Bool, true, false, not, ◌&&◌, if◌then◌else◌, Option, Some, None, is_some}
 use Rattle.dcc_num.specs.declared.Width.{Width}
-use Rattle.dcc_num.specs.declared.Width.TheVariants.{Byte as byte_width, Word as word_width}
+use Rattle.dcc_num.specs.declared.Width.TheVariants.{Word as word_width}
 use Rattle.dcc_num.specs.declared.Reg.TheVariants.{Sp, Bp}
 use Rattle.dcc_num.specs.Numbers.{signed_of}
 use Rattle.dcc_prog.specs.declared.image.Image.{Image}
@@ -13,7 +13,7 @@ use Rattle.dcc_prog.specs.declared.instr.Operand.{Operand}
 use Rattle.dcc_prog.specs.declared.instr.Operand.TheVariants.{Word, Mem}
 use Rattle.dcc_prog.specs.declared.instr.Op.{Op}
 use Rattle.dcc_prog.specs.declared.instr.Op.TheVariants.{Alu, Unary, Shift, Mov, Xchg, Lea, Imul3, Push, Pop, Call}
-use Rattle.dcc_prog.specs.Machine.{is_bp}
+use Rattle.dcc_prog.specs.Access.{bytes_in, is_direct}
 use Rattle.dcc_prog.specs.Trail.{StandsAt, IsNode, IsEntry}
 use Rattle.dcc_prog.specs.FrameForm.{is_framed, copies_bp, address_uses_bp}
 use Rattle.dcc_prog.specs.Height.{ReachesRet, HasHeight}
@@ -41,10 +41,6 @@ argument_word number = span_of (pos (4 + 2 * number)) 2
 
 -- Memory operands.
 
-abbrev pub byte_count : Width → ℕ
-byte_count byte_width = 1
-byte_count word_width = 2
-
 abbrev pub memory_of : Operand → Option (Width × Ea)
 memory_of (Mem width ea) = Some (width, ea)
 memory_of operand = None
@@ -65,10 +61,6 @@ memory_operand (Push a) = memory_of a
 memory_operand (Pop a) = memory_of a
 memory_operand op = None
 
--- BP plus a displacement, without an index
-abbrev pub is_direct : Ea → Bool
-is_direct ea = is_bp ea.base && not (is_some ea.index)
-
 -- the displacement of an address, taken as a signed word
 abbrev pub offset_in_frame : Ea → ℤ
 offset_in_frame ea = signed_of word_width ea.disp
@@ -83,7 +75,7 @@ pub data IsDirectAccess (image : Image) (layout : Layout) (entry at : ℕ) : Spa
       → StandsAt image layout at op
       → memory_operand op ≡ Some (width, ea)
       → is_direct ea ≡ true
-      → IsDirectAccess image layout entry at (span_of (offset_in_frame ea) (byte_count width))
+      → IsDirectAccess image layout entry at (span_of (offset_in_frame ea) (bytes_in width))
 
 -- From this byte on addresses may be computed: by LEA of another register than SP from an address with BP, by an operand
 -- with BP and an index, or by `mov r,bp`, which exposes all bytes between SP and BP.
