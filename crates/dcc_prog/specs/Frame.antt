@@ -1,6 +1,6 @@
--- The frames of procedures, byte by byte: which bytes are used together, and whose address may be computed. Offsets count
--- from the frame's base less 4, which is BP's value in a framed procedure: argument j is the word at 4 + 2 * j, the return
--- address stands at 2, and at height h SP stands at 2 - h.
+-- The frames of procedures, byte by byte: which bytes are used together, and whose address may be computed. Offsets
+-- count from the frame's base less 4, which is BP's value in a framed procedure: argument j is the word at 4 + 2 * j,
+-- the return address stands at 2, and at height h SP stands at 2 - h.
 use Rattle.std.specs.Prelude.{◌≡◌, ◌≢◌, ◌≤◌, ◌<◌, ◌⊎◌, ℕ, ◌+◌, ◌*◌, ◌/◌, ℤ, pos, ◌+ℤ◌, ◌-ℤ◌, neg_ℤ, ◌<ℤ◌, ◌≤ℤ◌, Bool, true, false, not, ◌&&◌, if◌then◌else◌, Option, Some, None, is_some}
 use Rattle.dcc_num.specs.declared.Width.{Width}
 use Rattle.dcc_num.specs.declared.Width.TheVariants.{Word as word_width}
@@ -77,8 +77,8 @@ pub data IsDirectAccess (image : Image) (layout : Layout) (entry at : ℕ) : Spa
       → is_direct ea ≡ true
       → IsDirectAccess image layout entry at (span_of (offset_in_frame ea) (bytes_in width))
 
--- From this byte on addresses may be computed: by LEA of another register than SP from an address with BP, by an operand
--- with BP and an index, or by `mov r,bp`, which exposes all bytes between SP and BP.
+-- From this byte on addresses may be computed: by LEA of another register than SP from an address with BP, by an
+-- operand with BP and an index, or by `mov r,bp`, which exposes all bytes between SP and BP.
 pub data StartsExposure (image : Image) (layout : Layout) (entry at : ℕ) : ℤ → Type 0 where
   by_lea :
       {r : _} {ea : Ea}
@@ -167,7 +167,11 @@ pub data IsUsed (image : Image) (layout : Layout) (entry at : ℕ) (span : Span)
 
 -- bytes that belong together: those that an instruction uses together, and the word of each argument
 pub data IsPiece (image : Image) (layout : Layout) (entry : ℕ) : Span → Type 0 where
-  used : {at : ℕ} {span : Span} → IsNode image layout entry at → IsUsed image layout entry at span → IsPiece image layout entry span
+  used :
+      {at : ℕ} {span : Span}
+      → IsNode image layout entry at
+      → IsUsed image layout entry at span
+      → IsPiece image layout entry span
   argument :
       {count number : ℕ}
       → HasArguments image layout entry count
@@ -214,7 +218,9 @@ pub data IsExposureStart (image : Image) (layout : Layout) (entry : ℕ) : ℤ �
 
 -- so many bytes directly below BP are exposed: from the least start below BP on
 pub data HasExposedLocal (image : Image) (layout : Layout) (entry : ℕ) : ℕ → Type 0 where
-  no_local : ((start : ℤ) → IsExposureStart image layout entry start → pos 0 ≤ℤ start) → HasExposedLocal image layout entry 0
+  no_local :
+      ((start : ℤ) → IsExposureStart image layout entry start → pos 0 ≤ℤ start)
+      → HasExposedLocal image layout entry 0
   local :
       {count : ℕ}
       → 0 < count
@@ -243,7 +249,8 @@ pub record IsOutsideFrame (image : Image) (layout : Layout) (entry : ℕ) (heigh
   pub no_argument : ¬ ((pos 4 ≤ℤ span.first) × (span.end ≤ℤ pos (4 + 2 * count)))
   pub no_local : ¬ (((pos 2 -ℤ height) ≤ℤ span.first) × (span.end ≤ℤ pos 0))
 
--- addresses of the frame can't be told in the data segment: the stack lies apart from it, or the procedure sets up no BP
+-- addresses of the frame can't be told in the data segment: the stack lies apart from it, or the procedure sets up no
+-- BP
 abbrev pub LacksAddresses : Image → Layout → ℕ → Type 0
 LacksAddresses image layout entry = (layout.delta ≢ 0) ⊎ (is_framed image layout entry ≡ false)
 

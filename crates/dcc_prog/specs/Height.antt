@@ -110,14 +110,14 @@ is_frame_work (Mov (Word Sp) (Word Bp)) = true
 is_frame_work (Lea Sp ea) = true
 is_frame_work op = false
 
--- the operation needs a frame that is set up: these, SUB of a constant from SP, a move of SP that lowers it, `mov r,bp`,
--- and an operand in the frame
+-- the operation needs a frame that is set up: these, SUB of a constant from SP, a move of SP that lowers it,
+-- `mov r,bp`, and an operand in the frame
 abbrev pub needs_frame : Op → Bool
 needs_frame op =
     is_frame_work op || is_sp_sub op || is_above_zero (lowering_of op) || copies_bp op || uses_bp_address op
 
--- In a framed procedure a form stands at a height at which it is none: one that needs the frame at height 0, or `pop bp`
--- at another height than 2. What sets the frame up, at the entry, is the one exception.
+-- In a framed procedure a form stands at a height at which it is none: one that needs the frame at height 0, or
+-- `pop bp` at another height than 2. What sets the frame up, at the entry, is the one exception.
 pub record IsMisplaced (image : Image) (layout : Layout) (entry at : ℕ) : Type 0 where
   pub framed : is_framed image layout entry ≡ true
   pub inner : at ≢ entry
