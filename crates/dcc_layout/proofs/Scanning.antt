@@ -1,6 +1,7 @@
 -- How the search for a prelude goes on: what it has passed and what it keeps.
 use Rattle.std.proofs.Common.{◌≡◌, ℕ, ◌+◌, true, false, List, [], ◌∷◌, ◌++◌, refl, sym, ap, ◌∙◌, subst, append_assoc}
 use Rattle.std.proofs.lemmas.List.{append-nil}
+use Rattle.dcc_prog.specs.declared.cpu.Cpu.{Cpu}
 use Rattle.dcc_prog.specs.declared.image.Image.{Image}
 use Rattle.dcc_prog.specs.declared.instr.Instr.{Instr}
 use Rattle.dcc_prog.specs.MzImage.{IsLoaded}
@@ -16,19 +17,19 @@ use Rattle.dcc_layout.specs.Registers.{registers_of, state_of}
 use Rattle.dcc_layout.specs.Prelude.{IsLeft}
 
 -- the run so far is cut after the last instruction after which a prelude may end, whose values are kept
-pub record Scanned (image : Image) (at : ℕ) (registers : Registers) (kept : Prelude) : Type 0 where
+pub record Scanned (cpu : Cpu) (image : Image) (at : ℕ) (registers : Registers) (kept : Prelude) : Type 0 where
   pub front : List Instr
   pub rest : List Instr
-  pub run : IsRun (code_of image) image.ip (front ++ rest)
+  pub run : IsRun cpu (code_of image) image.ip (front ++ rest)
   pub ends : ends_prelude front ≡ true
   pub none : none_ends rest ≡ true
   pub at_is : at ≡ end_of image.ip (front ++ rest)
-  pub registers_are : registers ≡ registers_of (executed (start_state image []) (front ++ rest))
+  pub registers_are : registers ≡ registers_of (executed cpu (start_state image []) (front ++ rest))
   pub kept_end : kept.end ≡ end_of image.ip front
-  pub kept_registers : kept.registers ≡ registers_of (executed (start_state image []) front)
+  pub kept_registers : kept.registers ≡ registers_of (executed cpu (start_state image []) front)
 
-pub scanned-start : (image : Image) (at : ℕ) (registers : Registers) (kept : Prelude) → at ≡ image.ip → registers ≡ registers_of (start_state image []) → kept.end ≡ at → kept.registers ≡ registers → Scanned image at registers kept
-scanned-start image at registers kept a r e k = record {
+pub scanned-start : (cpu : Cpu) (image : Image) (at : ℕ) (registers : Registers) (kept : Prelude) → at ≡ image.ip → registers ≡ registers_of (start_state image []) → kept.end ≡ at → kept.registers ≡ registers → Scanned cpu image at registers kept
+scanned-start cpu image at registers kept a r e k = record {
   front = [];
   rest = [];
   run = tt;
@@ -41,69 +42,69 @@ scanned-start image at registers kept a r e k = record {
 }
 
 -- registers after an operation of a prelude, wherever else the state differs
-registers-step : (instr : Instr) (s : State) (registers next : Registers) → is_prelude_form instr.op ≡ true → registers ≡ registers_of s → next ≡ registers_of (op_step instr.op 0 (state_of registers)) → next ≡ registers_of (op_step instr.op 0 s)
-registers-step instr s registers next form before after =
-    after ∙ ap (λ (r : Registers). registers_of (op_step instr.op 0 (state_of r))) before
-    ∙ ap registers_of (form-step instr.op 0 0 s (state_of (registers_of s)) form)
+registers-step : (cpu : Cpu) (instr : Instr) (s : State) (registers next : Registers) → is_prelude_form instr.op ≡ true → registers ≡ registers_of s → next ≡ registers_of (op_step cpu instr.op 0 (state_of registers)) → next ≡ registers_of (op_step cpu instr.op 0 s)
+registers-step cpu instr s registers next form before after =
+    after ∙ ap (λ (r : Registers). registers_of (op_step cpu instr.op 0 (state_of r))) before
+    ∙ ap registers_of (form-step cpu instr.op 0 0 s (state_of (registers_of s)) form)
 
-module _ (image : Image) (at next : ℕ) (registers after : Registers) (kept : Prelude) (instr : Instr) (before : Scanned image at registers kept) (is : IsFormAt (code_of image) at instr) (next_is : next ≡ at + instr.len) (made : after ≡ registers_of (op_step instr.op 0 (state_of registers))) where
+module _ (cpu : Cpu) (image : Image) (at next : ℕ) (registers after : Registers) (kept : Prelude) (instr : Instr) (before : Scanned cpu image at registers kept) (is : IsFormAt cpu (code_of image) at instr) (next_is : next ≡ at + instr.len) (made : after ≡ registers_of (op_step cpu instr.op 0 (state_of registers))) where
   -- the run with the instruction
-  longer-run : IsRun (code_of image) image.ip (before.front ++ before.rest ++ instr ∷ [])
+  longer-run : IsRun cpu (code_of image) image.ip (before.front ++ before.rest ++ instr ∷ [])
   longer-run =
-      let here : IsFormAt (code_of image) (end_of image.ip (before.front ++ before.rest)) instr = subst (λ a. IsFormAt (code_of image) a instr) before.at_is is in
-      run-append (code_of image) image.ip (before.front ++ before.rest) (instr ∷ []) before.run (here, tt)
+      let here : IsFormAt cpu (code_of image) (end_of image.ip (before.front ++ before.rest)) instr = subst (λ a. IsFormAt cpu (code_of image) a instr) before.at_is is in
+      run-append cpu (code_of image) image.ip (before.front ++ before.rest) (instr ∷ []) before.run (here, tt)
 
   longer-end : next ≡ end_of image.ip (before.front ++ before.rest ++ instr ∷ [])
   longer-end =
       next_is ∙ ap (λ a. a + instr.len) before.at_is
       ∙ sym (end_of-append image.ip (before.front ++ before.rest) (instr ∷ []))
 
-  longer-registers : after ≡ registers_of (executed (start_state image []) (before.front ++ before.rest ++ instr ∷ []))
+  longer-registers : after ≡ registers_of (executed cpu (start_state image []) (before.front ++ before.rest ++ instr ∷ []))
   longer-registers =
-      registers-step instr (executed (start_state image []) (before.front ++ before.rest)) registers after is.form before.registers_are made
-      ∙ ap registers_of (sym (executed-push (start_state image []) (before.front ++ before.rest) instr))
+      registers-step cpu instr (executed cpu (start_state image []) (before.front ++ before.rest)) registers after is.form before.registers_are made
+      ∙ ap registers_of (sym (executed-push cpu (start_state image []) (before.front ++ before.rest) instr))
 
   -- an instruction after which no prelude may end
-  pub scanned-passed : may_end_prelude instr.op ≡ false → Scanned image next after kept
+  pub scanned-passed : may_end_prelude instr.op ≡ false → Scanned cpu image next after kept
   scanned-passed stays =
       let joins = append_assoc before.front before.rest (instr ∷ []) in
       record {
         front = before.front;
         rest = before.rest ++ instr ∷ [];
-        run = subst (λ l. IsRun (code_of image) image.ip l) joins longer-run;
+        run = subst (λ l. IsRun cpu (code_of image) image.ip l) joins longer-run;
         ends = before.ends;
         none = none_ends-push before.rest instr before.none stays;
         at_is = longer-end ∙ ap (end_of image.ip) joins;
-        registers_are = longer-registers ∙ ap (λ l. registers_of (executed (start_state image []) l)) joins;
+        registers_are = longer-registers ∙ ap (λ l. registers_of (executed cpu (start_state image []) l)) joins;
         kept_end = before.kept_end;
         kept_registers = before.kept_registers;
       }
 
   -- an instruction after which a prelude may end
-  pub scanned-kept : (new : Prelude) → may_end_prelude instr.op ≡ true → new.end ≡ next → new.registers ≡ after → Scanned image next after new
+  pub scanned-kept : (new : Prelude) → may_end_prelude instr.op ≡ true → new.end ≡ next → new.registers ≡ after → Scanned cpu image next after new
   scanned-kept new ends e r =
       let whole = before.front ++ before.rest ++ instr ∷ [] in
       let none = append-nil whole in
       record {
         front = whole;
         rest = [];
-        run = subst (λ l. IsRun (code_of image) image.ip l) (sym none) longer-run;
+        run = subst (λ l. IsRun cpu (code_of image) image.ip l) (sym none) longer-run;
         ends = ends_prelude-push (before.front ++ before.rest) instr ends;
         none = refl;
         at_is = longer-end ∙ ap (end_of image.ip) (sym none);
-        registers_are = longer-registers ∙ ap (λ l. registers_of (executed (start_state image []) l)) (sym none);
+        registers_are = longer-registers ∙ ap (λ l. registers_of (executed cpu (start_state image []) l)) (sym none);
         kept_end = e ∙ longer-end;
         kept_registers = r ∙ longer-registers;
       }
 
 -- where the run can't go on, what is kept is what the prelude leaves
-pub scanned-end : (image : Image) (at : ℕ) (registers : Registers) (kept : Prelude) → IsLoaded image → Scanned image at registers kept → NoFormAt (code_of image) at → IsLeft image kept
-scanned-end image at registers kept loaded s none =
-    let stop : NoFormAt (code_of image) (end_of image.ip (s.front ++ s.rest)) = subst (λ a. NoFormAt (code_of image) a) s.at_is none in
-    let run = run-of_append (code_of image) image.ip s.front s.rest s.run in
+pub scanned-end : (cpu : Cpu) (image : Image) (at : ℕ) (registers : Registers) (kept : Prelude) → IsLoaded image → Scanned cpu image at registers kept → NoFormAt cpu (code_of image) at → IsLeft cpu image kept
+scanned-end cpu image at registers kept loaded s none =
+    let stop : NoFormAt cpu (code_of image) (end_of image.ip (s.front ++ s.rest)) = subst (λ a. NoFormAt cpu (code_of image) a) s.at_is none in
+    let run = run-of_append cpu (code_of image) image.ip s.front s.rest s.run in
     record {
       prelude = s.front;
-      is_prelude = prelude-is (code_of image) image.ip s.front s.rest s.run stop s.ends s.none;
-      registers = s.kept_registers ∙ ap registers_of (sym (state_after-is image s.front loaded run));
+      is_prelude = prelude-is cpu (code_of image) image.ip s.front s.rest s.run stop s.ends s.none;
+      registers = s.kept_registers ∙ ap registers_of (sym (state_after-is cpu image s.front loaded run));
       end = s.kept_end;
     }

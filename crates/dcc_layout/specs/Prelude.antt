@@ -1,5 +1,6 @@
 -- What the code keeps of a prelude.
 use Rattle.std.specs.Prelude.{◌≡◌, List}
+use Rattle.dcc_prog.specs.declared.cpu.Cpu.{Cpu}
 use Rattle.dcc_prog.specs.declared.image.Image.{Image}
 use Rattle.dcc_prog.specs.declared.instr.Instr.{Instr}
 use Rattle.dcc_prog.specs.Code.{code_of}
@@ -7,9 +8,9 @@ use Rattle.dcc_prog.specs.Layout.{IsPrelude, end_of, state_after}
 use Rattle.dcc_layout.specs.declared.prelude.Prelude.{Prelude}
 use Rattle.dcc_layout.specs.Registers.{registers_of}
 
--- these are the registers that the image's prelude leaves, and the offset after it
-pub record IsLeft (image : Image) (left : Prelude) : Type 0 where
+-- these are the registers that the image's prelude leaves on the processor, and the offset after it
+pub record IsLeft (cpu : Cpu) (image : Image) (left : Prelude) : Type 0 where
   pub prelude : List Instr
-  pub is_prelude : IsPrelude (code_of image) image.ip prelude
-  pub registers : left.registers ≡ registers_of (state_after image prelude)
+  pub is_prelude : IsPrelude cpu (code_of image) image.ip prelude
+  pub registers : left.registers ≡ registers_of (state_after cpu image prelude)
   pub end : left.end ≡ end_of image.ip prelude

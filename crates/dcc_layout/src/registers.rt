@@ -4,13 +4,13 @@ ghost use Rattle.std.specs.Prelude.{◌≡◌, ◌<◌, true, []};
 ghost use Rattle.dcc_num.specs.Numbers.{limit_of};
 ghost use Rattle.dcc_prog.specs.Layout.{is_prelude_form};
 ghost use Rattle.dcc_prog.specs.Machine.{start_state, word_in, stack_segment, data_segment, operand_value, operand_width, with_operand};
-ghost use Rattle.dcc_prog.specs.Operations.{with_result, count_in};
+ghost use Rattle.dcc_prog.specs.Operations.{with_result, taken_count, count_in};
 ghost use Rattle.dcc_prog.specs.Step.{op_step};
 ghost use Rattle.dcc_prog.specs.WellFormed.{IsOperand, IsOperation};
 ghost use Rattle.dcc_layout.specs.Registers.{has_no_memory, state_of, registers_of};
 
 use dcc_num::{Flags, Half, NO_FLAGS, Reg, Width, add, shl, sub};
-use dcc_prog::{Alu, DS, Image, Op, Operand, PREFIX_SEGMENT, SS};
+use dcc_prog::{Alu, Count, Cpu, DS, Image, Op, Operand, PREFIX_SEGMENT, SS};
 
 /// The registers and flags of a machine.
 #[derive(Clone, Copy)]
@@ -102,22 +102,22 @@ impl Registers {
         self.put(operand, outcome.0);
     }
 
-    // The count of a shift: CL, or 1.
-    fn count(&self, by_cl: bool) -> u8
-        ensures { result ≡ count_in by_cl (state_of self.now) }
+    // How far a shift goes on the processor.
+    fn count(&self, cpu: Cpu, count: Count) -> u8
+        ensures { result ≡ count_in cpu count (state_of self.now) }
     {
-        if by_cl {
-            Half::Low.of(self.regs[Reg::Cx as usize])
-        } else {
-            1
+        match count {
+            Count::One => 1,
+            Count::Cl => taken_count(cpu, Half::Low.of(self.regs[Reg::Cx as usize])),
+            Count::Const(number) => number % 32,
         }
     }
 
-    /// Makes an operation that may stand in a prelude.
-    pub fn execute(&mut self, op: Op)
+    /// Makes an operation that may stand in a prelude, on the processor.
+    pub fn execute(&mut self, cpu: Cpu, op: Op)
         requires form { is_prelude_form op ≡ true }
         requires operation { IsOperation op }
-        ensures { self.new ≡ registers_of (op_step op 0 (state_of self.old)) }
+        ensures { self.new ≡ registers_of (op_step cpu op 0 (state_of self.old)) }
     {
         match op {
             Op::Mov(to, from) => self.put(to, self.value(from)),
@@ -129,11 +129,22 @@ impl Registers {
                 let outcome = sub(Width::Word, self.value(a), self.value(b), false);
                 self.put_result(a, outcome);
             }
-            Op::Shift(_, a, by_cl) => {
-                let outcome = shl(Width::Word, self.value(a), self.count(by_cl), self.flags);
+            Op::Shift(_, a, count) => {
+                let count = self.count(cpu, count);
+                let outcome = shl(Width::Word, self.value(a), count, self.flags);
                 self.put_result(a, outcome);
             }
             _ => {}
         }
+    }
+}
+
+// How far the processor goes by a number in CL.
+fn taken_count(cpu: Cpu, number: u8) -> u8
+    ensures { result ≡ taken_count cpu number }
+{
+    match cpu {
+        Cpu::I8086 => number,
+        Cpu::I186 => number % 32,
     }
 }

@@ -10,7 +10,7 @@ ghost use Rattle.dcc_layout.specs.Refusal.{IsRefusal};
 
 use crate::prelude::{Prelude, prelude_of};
 use dcc_prog::construct::NO_LAYOUT;
-use dcc_prog::{Image, Layout, Refusal};
+use dcc_prog::{Cpu, Image, Layout, Refusal};
 use std::alloc::Global;
 
 // The highest data segment of a layout.
@@ -50,13 +50,14 @@ fn code_end(image: &Image, ds: u16) -> u32
     distance(image.cs, ds).min(image.code_len)
 }
 
-// The layout after a prelude, if one holds. A data segment above the code segment was written by
-// the prelude, since DS begins below the code.
-fn layout_after(image: &Image, prelude: &Prelude) -> Option<Layout>
+// The layout for the processor after a prelude, if one holds. A data segment above the code segment was written by the
+// prelude, since DS begins below the code.
+fn layout_after(image: &Image, prelude: &Prelude, cpu: Cpu) -> Option<Layout>
     requires loaded { IsLoaded image.now }
-    requires left { IsLeft image.now prelude.now }
+    requires left { IsLeft cpu image.now prelude.now }
+    ensures processor { IfSome result (λ layout. layout.cpu ≡ cpu) }
     ensures layout { IfSome result (HasLayout image.now) }
-    ensures none { result ≡ None → (layout : Layout) → ¬ HasLayout image.now layout }
+    ensures none { result ≡ None → (layout : Layout) → layout.cpu ≡ cpu → ¬ HasLayout image.now layout }
 {
     let registers = &prelude.registers;
     let ds = registers.ds();
@@ -72,6 +73,7 @@ fn layout_after(image: &Image, prelude: &Prelude) -> Option<Layout>
         return None;
     }
     Some(Layout {
+        cpu,
         ds,
         delta,
         lo,
@@ -83,23 +85,24 @@ fn layout_after(image: &Image, prelude: &Prelude) -> Option<Layout>
     })
 }
 
-/// The layout of a loaded program: what its prelude leaves in registers and flags, and where its
-/// data, its stack and its code lie.
+/// The layout of a loaded program for the processor: what its prelude leaves in registers and flags, and where its data,
+/// its stack and its code lie.
 ///
-/// Offsets and `delta` count bytes. Where no layout holds of the program, it is refused as
-/// construct 1 at the entry. Nothing else is refused, and no memory is taken.
-pub fn layout(alloc: Global, image: &Image) -> Result<Layout, Refusal>
+/// Offsets and `delta` count bytes. Where no layout for the processor holds of the program, it is refused as construct 1
+/// at the entry. Nothing else is refused, and no memory is taken.
+pub fn layout(alloc: Global, image: &Image, cpu: Cpu) -> Result<Layout, Refusal>
     requires { IsLoaded image.now }
+    ensures processor { IfOk result (λ layout. layout.cpu ≡ cpu) }
     ensures layout { IfOk result (HasLayout image.now) }
-    ensures refused { IfErr result (IsRefusal image.now) }
+    ensures refused { IfErr result (IsRefusal cpu image.now) }
 
-    // A program that has a layout gets it, and one that has none is refused.
-    ensures lays_out { (layout : Layout) → HasLayout image.now layout → result ≡ Ok layout }
-    ensures refuses { (at : ℕ) → IsConstruct NO_LAYOUT image.now at
+    // A program that has a layout for the processor gets it, and one that has none is refused.
+    ensures lays_out { (layout : Layout) → layout.cpu ≡ cpu → HasLayout image.now layout → result ≡ Ok layout }
+    ensures refuses { (at : ℕ) → IsConstruct cpu NO_LAYOUT image.now at
         → result ≡ Err (Refusal.Construct NO_LAYOUT at) }
 {
     let _ = alloc;
-    layout_after(image, &prelude_of(image)).ok_or(Refusal::Construct {
+    layout_after(image, &prelude_of(image, cpu), cpu).ok_or(Refusal::Construct {
         kind: NO_LAYOUT,
         at: image.ip,
     })

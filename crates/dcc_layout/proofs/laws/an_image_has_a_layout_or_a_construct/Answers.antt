@@ -6,9 +6,9 @@ use Rattle.dcc_layout.proofs.laws.an_image_has_a_layout_or_a_construct.Goals as 
 
 pub returns : goal.returns
 returns c = record {
-  one = λ image. elim (layout_or_none image) [
-    | inl found ↦ inl (record { layout = found.0; holds = found.1 })
+  one = λ cpu image. elim (layout_or_none cpu image) [
+    | inl found ↦ inl (record { layout = found.0; runs_on = found.1; holds = found.2 })
     | inr none ↦ inr (lacks_layout none)
   ];
-  not_both = λ image some construct. (lacks-layout image image.ip construct).none some.layout some.holds;
+  not_both = λ cpu image some construct. (lacks-layout cpu image image.ip construct).none some.layout some.runs_on some.holds;
 }

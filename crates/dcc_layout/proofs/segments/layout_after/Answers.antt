@@ -3,39 +3,39 @@ use Rattle.std.proofs.lemmas.Result.{OkIff-decides}
 use Rattle.dcc_prog.specs.Layout.{lowest_of_stack}
 use Rattle.dcc_prog.proofs.MzImageLaws.{length-loaded, code_len-loaded}
 use Rattle.dcc_layout.proofs.Casts.{same-number}
-use Rattle.dcc_layout.proofs.Values.{values-of_layout, layout-of_values}
+use Rattle.dcc_layout.proofs.Values.{values-of, layout-of_values}
 use Rattle.dcc_layout.proofs.segments.layout_after.Goals as goal
 use Rattle.dcc_layout.proofs.segments.layout_after.Goals.{then-lo-hi-via-then-lo-hi, then-lo-hi-via-else-lo-hi+then-from-code_end}
 
 pub returns-then-ds-image-clause-none : goal.returns-then-ds-image-clause-none
-returns-then-ds-image-clause-none c e layout h =
-    let v = values-of_layout c.args.image.now c.args.prelude.now layout c.requires.left h in
+returns-then-ds-image-clause-none c e layout runs_on h =
+    let v = values-of c.args.cpu c.args.image.now c.args.prelude.now layout c.requires.left runs_on h in
     elim c.then-ds-image.either [
       | inl low ↦ absurd (omega (arith, v.ds, c.ds-ds.ensures, h.small.code_below, low))
       | inr high ↦ absurd (omega (arith, v.ds, c.ds-ds.ensures, h.small.ds_fits, high.1))
     ]
 
 pub returns-in_err-checked_sub-clause-none : goal.returns-in_err-checked_sub-clause-none
-returns-in_err-checked_sub-clause-none c e layout h =
-    let v = values-of_layout c.args.image.now c.args.prelude.now layout c.requires.left h in
+returns-in_err-checked_sub-clause-none c e layout runs_on h =
+    let v = values-of c.args.cpu c.args.image.now c.args.prelude.now layout c.requires.left runs_on h in
     absurd (c.in_err-checked_sub.ensures (omega (arith, v.delta, c.ds-ds.ensures, c.ss.ensures)))
 
 pub returns-in_err-delta-clause-none : goal.returns-in_err-delta-clause-none
-returns-in_err-delta-clause-none c e layout h =
-    let v = values-of_layout c.args.image.now c.args.prelude.now layout c.requires.left h in
+returns-in_err-delta-clause-none c e layout runs_on h =
+    let v = values-of c.args.cpu c.args.image.now c.args.prelude.now layout c.requires.left runs_on h in
     absurd (c.in_err-delta.ensures (omega (arith, v.delta, c.ds-ds.ensures, c.ss.ensures, h.small.delta_fits)))
 
 pub returns-in_err-hi-clause-none : goal.returns-in_err-hi-clause-none
-returns-in_err-hi-clause-none c e layout h =
-    let v = values-of_layout c.args.image.now c.args.prelude.now layout c.requires.left h in
+returns-in_err-hi-clause-none c e layout runs_on h =
+    let v = values-of c.args.cpu c.args.image.now c.args.prelude.now layout c.requires.left runs_on h in
     absurd (c.in_err-hi.ensures (omega (arith, v.delta, v.hi, c.ds-ds.ensures, c.ss.ensures, c.sp.ensures, h.small.hi_fits)))
 
 pub lowest_of_stack-requires : goal.lowest_of_stack-requires
 lowest_of_stack-requires c = length-loaded c.args.image.now c.requires.loaded
 
 pub returns-in_err-lo-clause-none : goal.returns-in_err-lo-clause-none
-returns-in_err-lo-clause-none c e layout h =
-    let v = values-of_layout c.args.image.now c.args.prelude.now layout c.requires.left h in
+returns-in_err-lo-clause-none c e layout runs_on h =
+    let v = values-of c.args.cpu c.args.image.now c.args.prelude.now layout c.requires.left runs_on h in
     let lo = v.lo ∙ ap (lowest_of_stack c.args.image.now) (sym c.ds-ds.ensures) ∙ sym c.lowest_of_stack.ensures in
     let fits : c.lowest_of_stack.result < 65536 = omega (arith, lo, h.small.has_stack, h.small.hi_fits) in
     let decides = OkIff-decides c.try_from.result (c.lowest_of_stack.result < 65536) c.lowest_of_stack.result c.try_from.ensures in
@@ -43,8 +43,8 @@ returns-in_err-lo-clause-none c e layout h =
     cc
 
 pub returns-in_err-start_ip-clause-none : goal.returns-in_err-start_ip-clause-none
-returns-in_err-start_ip-clause-none c e layout h =
-    let v = values-of_layout c.args.image.now c.args.prelude.now layout c.requires.left h in
+returns-in_err-start_ip-clause-none c e layout runs_on h =
+    let v = values-of c.args.cpu c.args.image.now c.args.prelude.now layout c.requires.left runs_on h in
     let short = code_len-loaded c.args.image.now c.requires.loaded in
     let fits : c.args.prelude.now.end < 65536 = omega (arith, v.start_ip, v.code_end, h.small.has_code, short) in
     let decides = OkIff-decides c.try_from-2.result (c.args.prelude.now.end < 65536) c.args.prelude.now.end c.try_from-2.ensures in
@@ -52,8 +52,8 @@ returns-in_err-start_ip-clause-none c e layout h =
     cc
 
 pub returns-then-lo-hi-clause-none : goal.returns-then-lo-hi-clause-none
-returns-then-lo-hi-clause-none c e layout h =
-    let v = values-of_layout c.args.image.now c.args.prelude.now layout c.requires.left h in
+returns-then-lo-hi-clause-none c e layout runs_on h =
+    let v = values-of c.args.cpu c.args.image.now c.args.prelude.now layout c.requires.left runs_on h in
     let short = code_len-loaded c.args.image.now c.requires.loaded in
     let lo = v.lo ∙ ap (lowest_of_stack c.args.image.now) (sym c.ds-ds.ensures) ∙ sym c.lowest_of_stack.ensures in
     let end = v.code_end ∙ ap (λ n. min ((n - c.args.image.now.cs) * 16) c.args.image.now.code_len) (sym c.ds-ds.ensures) ∙ sym c.code_end-code_end.ensures in
