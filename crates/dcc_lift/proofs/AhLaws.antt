@@ -10,21 +10,23 @@ use Rattle.dcc_num.specs.declared.Reg.{Reg}
 use Rattle.dcc_num.specs.declared.Reg.TheVariants.{Ax, Cx, Dx, Bx, Sp, Bp, Si, Di}
 use Rattle.dcc_num.specs.declared.Half.{Half as HalfName}
 use Rattle.dcc_num.specs.declared.Half.TheVariants.{Low, High}
+use Rattle.dcc_prog.specs.declared.cpu.Cpu.{Cpu}
 use Rattle.dcc_prog.specs.declared.instr.Operand.{Operand}
 use Rattle.dcc_prog.specs.declared.instr.Operand.TheVariants.{Word, Byte, Seg, Mem, Const as Constant}
 use Rattle.dcc_prog.specs.declared.instr.Alu.{Alu}
 use Rattle.dcc_prog.specs.declared.instr.Alu.TheVariants.{Add, Or, Adc, Sbb, And, Sub, Xor, Cmp, Test}
 use Rattle.dcc_prog.specs.declared.instr.Shift.{Shift}
 use Rattle.dcc_prog.specs.declared.instr.Shift.TheVariants.{Rol, Ror, Rcl, Rcr, Shl, Shr, Sar}
+use Rattle.dcc_prog.specs.declared.instr.Count.{Count}
 use Rattle.dcc_prog.specs.declared.instr.Unary.{Unary}
 use Rattle.dcc_prog.specs.declared.instr.Unary.TheVariants.{Inc, Dec, Neg, Not, Mul, Imul, Div, Idiv}
 use Rattle.dcc_prog.specs.declared.instr.Plain.{Plain}
 use Rattle.dcc_prog.specs.declared.instr.Plain.TheVariants.{Nop, Cbw, Cwd, Xlat, Clc, Stc, Cmc, Cli, Sti, Cld}
 use Rattle.dcc_prog.specs.declared.instr.Op.{Op}
-use Rattle.dcc_prog.specs.declared.instr.Op.TheVariants.{Alu as AluOp, Unary as UnaryOp, Shift as ShiftOp, Mov, Xchg, Plain as PlainOp, Loop, LoopE, LoopNe, Int21}
+use Rattle.dcc_prog.specs.declared.instr.Op.TheVariants.{Alu as AluOp, Unary as UnaryOp, Shift as ShiftOp, Mov, Xchg, Imul3, Plain as PlainOp, Loop, LoopE, LoopNe, Int21}
 use Rattle.dcc_prog.specs.declared.instr.Instr.{Instr}
 use Rattle.dcc_prog.specs.Machine.{operand_width}
-use Rattle.dcc_prog.specs.Writes.{is_same_register, is_same_half, is_half_of, writes_operand, is_in_pair, unary_writes_half, plain_writes_half, writes_half}
+use Rattle.dcc_prog.specs.Writes.{is_same_register, is_same_half, is_half_of, writes_operand, is_in_pair, unary_writes_half, plain_writes_half, never_shifts, writes_half}
 use Rattle.dcc_prog.specs.Trail.{constant_to_ah, ah_after}
 use Rattle.dcc_ir.specs.declared.syntax.Loc.{Loc}
 use Rattle.dcc_ir.specs.declared.syntax.Loc.TheVariants.{Half}
@@ -32,8 +34,9 @@ use Rattle.dcc_ir.specs.Location.{same_location, Values, with_value}
 use Rattle.dcc_ir.specs.Tree.{Expr, Stmt, Set, Fetch, Store, Div as Divide, Call, Dos}
 use Rattle.dcc_ir.specs.Value.{Scene, value_of}
 use Rattle.dcc_lift.specs.Mirrors.{executed}
-use Rattle.dcc_lift.specs.Expressions.{operand_expr, result, bit, count}
-use Rattle.dcc_lift.specs.Statements.{taking, result_taking, word_taking, storing, alu_working, alu_storing, unary_stmts, shift_working, mov_stmts, exchanging, xchg_stmts, plain_stmts, op_stmts}
+use Rattle.dcc_lift.specs.Expressions.{operand_expr, number as number_expr, result, product, bit, count_expr}
+use Rattle.dcc_lift.specs.Statements.{taking, result_taking, word_taking, storing, alu_working, alu_storing, unary_stmts, product_working, triple_product, shift_working, staying, shifting, mov_stmts, exchanging, xchg_stmts, plain_stmts, op_stmts}
+use Rattle.dcc_lift.proofs.ListTests.{of_either}
 
 -- the statement sets AH
 sets_ah : Stmt → Bool
@@ -93,22 +96,22 @@ working-unset Cmp word_width = refl
 working-unset Test byte_width = refl
 working-unset Test word_width = refl
 
-shifting-unset : (operation : Shift) (w : Width) (by_cl : Bool) → list_any sets_ah (shift_working operation w by_cl) ≡ false
+shift_working-unset : (operation : Shift) (w : Width) (count : Count) → list_any sets_ah (shift_working operation w count) ≡ false
 unfolding sets_ah
-shifting-unset Rol byte_width by_cl = refl
-shifting-unset Rol word_width by_cl = refl
-shifting-unset Ror byte_width by_cl = refl
-shifting-unset Ror word_width by_cl = refl
-shifting-unset Rcl byte_width by_cl = refl
-shifting-unset Rcl word_width by_cl = refl
-shifting-unset Rcr byte_width by_cl = refl
-shifting-unset Rcr word_width by_cl = refl
-shifting-unset Shl byte_width by_cl = refl
-shifting-unset Shl word_width by_cl = refl
-shifting-unset Shr byte_width by_cl = refl
-shifting-unset Shr word_width by_cl = refl
-shifting-unset Sar byte_width by_cl = refl
-shifting-unset Sar word_width by_cl = refl
+shift_working-unset Rol byte_width count = refl
+shift_working-unset Rol word_width count = refl
+shift_working-unset Ror byte_width count = refl
+shift_working-unset Ror word_width count = refl
+shift_working-unset Rcl byte_width count = refl
+shift_working-unset Rcl word_width count = refl
+shift_working-unset Rcr byte_width count = refl
+shift_working-unset Rcr word_width count = refl
+shift_working-unset Shl byte_width count = refl
+shift_working-unset Shl word_width count = refl
+shift_working-unset Shr byte_width count = refl
+shift_working-unset Shr word_width count = refl
+shift_working-unset Sar byte_width count = refl
+shift_working-unset Sar word_width count = refl
 
 -- an operand of which AH is no part
 word-unset : (r : Reg) (first : ℕ) (e : Expr) → is_same_register Ax r ≡ false → list_any sets_ah (word_taking r first e) ≡ false
@@ -147,6 +150,24 @@ storing-unset (Byte r half) h = ap (λ b. b || false) (half-unset r half h)
 storing-unset (Seg n) h = refl
 storing-unset (Mem width ea) h = refl
 storing-unset (Constant width c) h = refl
+
+staying-unset : (w : Width) (a : Operand) → is_half_of Ax High a ≡ false → list_any sets_ah (staying w a) ≡ false
+staying-unset w a h = neither (result_taking w (operand_expr a)) (storing a) (result-unset w (operand_expr a)) (storing-unset a h)
+
+shifting-unset : (cpu : Cpu) (operation : Shift) (w : Width) (a : Operand) (count : Count) → is_half_of Ax High a ≡ false → list_any sets_ah (shifting cpu operation w a count) ≡ false
+shifting-unset cpu operation w a count h =
+    neither (taking w (operand_expr a) (count_expr cpu w count)) (shift_working operation w count ++ storing a) (taking-unset w (operand_expr a) (count_expr cpu w count))
+    (neither (shift_working operation w count) (storing a) (shift_working-unset operation w count) (storing-unset a h))
+
+product-unset : list_any sets_ah (product_working word_width true) ≡ false
+unfolding sets_ah
+product-unset = refl
+
+triple-unset : (r : Reg) (a : Operand) (constant : ℕ) → is_same_register Ax r ≡ false → list_any sets_ah (triple_product r a constant) ≡ false
+triple-unset r a constant h =
+    neither (taking word_width (operand_expr a) (number_expr word_width constant)) (product_working word_width true ++ word_taking r 0 (product word_width))
+    (taking-unset word_width (operand_expr a) (number_expr word_width constant))
+    (neither (product_working word_width true) (word_taking r 0 (product word_width)) product-unset (word-unset r 0 (product word_width) h))
 
 alu-storing-unset : (operation : Alu) (a : Operand) → (writes_operand operation && is_half_of Ax High a) ≡ false → list_any sets_ah (alu_storing operation a) ≡ false
 unfolding sets_ah
@@ -241,38 +262,38 @@ plain-unset Sti h = refl
 plain-unset Cld h = refl
 
 -- an operation that does not write AH has no statement that sets it
-unset : (op : Op) (number : Option ℕ) → op ≢ Int21 → writes_half op Ax High ≡ false → list_any sets_ah (op_stmts op number) ≡ false
+unset : (cpu : Cpu) (op : Op) (number : Option ℕ) → op ≢ Int21 → writes_half op Ax High ≡ false → list_any sets_ah (op_stmts cpu op number) ≡ false
 unfolding sets_ah
-unset (AluOp operation a b) number d w =
+unset cpu (AluOp operation a b) number d w =
     neither (taking (operand_width a) (operand_expr a) (operand_expr b)) (alu_working operation (operand_width a) ++ alu_storing operation a)
     (taking-unset (operand_width a) (operand_expr a) (operand_expr b))
     (neither (alu_working operation (operand_width a)) (alu_storing operation a) (working-unset operation (operand_width a)) (alu-storing-unset operation a w))
-unset (UnaryOp operation a) number d w = unary-unset operation (operand_width a) a refl w
-unset (ShiftOp operation a by_cl) number d w =
-    neither (taking (operand_width a) (operand_expr a) (count (operand_width a) by_cl)) (shift_working operation (operand_width a) by_cl ++ storing a)
-    (taking-unset (operand_width a) (operand_expr a) (count (operand_width a) by_cl))
-    (neither (shift_working operation (operand_width a) by_cl) (storing a) (shifting-unset operation (operand_width a) by_cl) (storing-unset a w))
-unset (Mov to from) number d w = mov-unset to from w
-unset (Xchg a b) number d w = xchg-unset a b w
-unset (PlainOp operation) number d w = plain-unset operation w
-unset (Loop target) number d w = refl
-unset (LoopE target) number d w = refl
-unset (LoopNe target) number d w = refl
-unset Int21 number d w = absurd (d refl)
-unset _ number d w = refl
+unset cpu (UnaryOp operation a) number d w = unary-unset operation (operand_width a) a refl w
+unset cpu (ShiftOp operation a count) number d w =
+    of_either (λ stmts. list_any sets_ah stmts ≡ false) (never_shifts count) (staying (operand_width a) a) (shifting cpu operation (operand_width a) a count)
+    (staying-unset (operand_width a) a w) (shifting-unset cpu operation (operand_width a) a count w)
+unset cpu (Imul3 r a constant) number d w = triple-unset r a constant w
+unset cpu (Mov to from) number d w = mov-unset to from w
+unset cpu (Xchg a b) number d w = xchg-unset a b w
+unset cpu (PlainOp operation) number d w = plain-unset operation w
+unset cpu (Loop target) number d w = refl
+unset cpu (LoopE target) number d w = refl
+unset cpu (LoopNe target) number d w = refl
+unset cpu Int21 number d w = absurd (d refl)
+unset cpu _ number d w = refl
 
 -- the constant that is moved to AH stands there
-moved : (op : Op) (number : Option ℕ) (scene : Scene) (n : ℕ) → constant_to_ah op ≡ Some n → (executed (op_stmts op number) scene).values (Half Ax High) ≡ n
-moved (Mov (Byte Ax High) (Constant width c)) number scene n e = cc
-moved (Mov (Word Ax) (Constant width c)) number scene n e = cc
-moved _ number scene n e = cc
+moved : (cpu : Cpu) (op : Op) (number : Option ℕ) (scene : Scene) (n : ℕ) → constant_to_ah op ≡ Some n → (executed (op_stmts cpu op number) scene).values (Half Ax High) ≡ n
+moved cpu (Mov (Byte Ax High) (Constant width c)) number scene n e = cc
+moved cpu (Mov (Word Ax) (Constant width c)) number scene n e = cc
+moved cpu _ number scene n e = cc
 
 -- what is known of AH after an instruction holds of the location after its statements
-pub ah-after : (instr : Instr) (number : Option ℕ) (scene : Scene) (known : Option ℕ) → instr.op ≢ Int21
+pub ah-after : (cpu : Cpu) (instr : Instr) (number : Option ℕ) (scene : Scene) (known : Option ℕ) → instr.op ≢ Int21
     → ((n : ℕ) → known ≡ Some n → scene.values (Half Ax High) ≡ n) → (n : ℕ) → ah_after (Some instr) known ≡ Some n
-    → (executed (op_stmts instr.op number) scene).values (Half Ax High) ≡ n
-ah-after instr number scene known d holds n e = both (writes_half instr.op Ax High) refl e
+    → (executed (op_stmts cpu instr.op number) scene).values (Half Ax High) ≡ n
+ah-after cpu instr number scene known d holds n e = both (writes_half instr.op Ax High) refl e
   where
-    both : (b : Bool) → writes_half instr.op Ax High ≡ b → (if b then constant_to_ah instr.op else known) ≡ Some n → (executed (op_stmts instr.op number) scene).values (Half Ax High) ≡ n
-    both true w k = moved instr.op number scene n k
-    both false w k = kept (op_stmts instr.op number) scene (unset instr.op number d w) ∙ holds n k
+    both : (b : Bool) → writes_half instr.op Ax High ≡ b → (if b then constant_to_ah instr.op else known) ≡ Some n → (executed (op_stmts cpu instr.op number) scene).values (Half Ax High) ≡ n
+    both true w k = moved cpu instr.op number scene n k
+    both false w k = kept (op_stmts cpu instr.op number) scene (unset cpu instr.op number d w) ∙ holds n k

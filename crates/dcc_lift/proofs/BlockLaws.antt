@@ -2,6 +2,7 @@
 use Rattle.std.proofs.Common.{◌≡◌, ℕ, zero, suc, Bool, true, false, ◌&&◌, ◌||◌, ◌==◌, if◌then◌else◌, ◌⊎◌, inl, inr, List, [], ◌∷◌, map, slice_get, Option, Some, None, All, refl, sym, ap, ap₂, ◌∙◌, subst, true≢false, eqb-true, eq-eqb}
 use Rattle.std.specs.List.{list_any}
 use Rattle.std.proofs.lemmas.List.Elements.{All-nil, All-cons}
+use Rattle.dcc_prog.specs.declared.cpu.Cpu.{Cpu}
 use Rattle.dcc_prog.specs.declared.procedure.Node.{Node}
 use Rattle.dcc_ir.specs.Tree.{Expr, Exit, Goto, If, Stop, Block}
 use Rattle.dcc_ir.specs.Flow.{targets, stands_at, has_edge}
@@ -14,17 +15,17 @@ use Rattle.dcc_lift.proofs.ChainLaws.{is_leader, has_successor, entry_is_leader,
 
 -- Blocks by their places.
 
-module _ (nodes : Nodes) (entry : ℕ) where
+module _ (cpu : Cpu) (nodes : Nodes) (entry : ℕ) where
   -- the offsets of the blocks
-  pub blocks_at : (places : List ℕ) (blocks : List Block) → AreBlocksAt nodes entry places blocks → map (λ (b : Block). b.at) blocks ≡ places
+  pub blocks_at : (places : List ℕ) (blocks : List Block) → AreBlocksAt cpu nodes entry places blocks → map (λ (b : Block). b.at) blocks ≡ places
   blocks_at [] [] are = refl
   blocks_at [] (block ∷ blocks) are = absurd are
   blocks_at (at ∷ places) [] are = absurd are
   blocks_at (at ∷ places) (block ∷ blocks) are = ap₂ (λ x xs. x ∷ xs) are.0.at_is (blocks_at places blocks are.1)
 
   -- what each block has that begins at one of the offsets all have
-  pub blocks_all : (P : Block → Type 0) (places : List ℕ) (blocks : List Block) → AreBlocksAt nodes entry places blocks
-      → ((at : ℕ) (block : Block) → list_any (λ x. x == at) places ≡ true → IsBlockAt nodes entry at block → P block) → All P blocks
+  pub blocks_all : (P : Block → Type 0) (places : List ℕ) (blocks : List Block) → AreBlocksAt cpu nodes entry places blocks
+      → ((at : ℕ) (block : Block) → list_any (λ x. x == at) places ≡ true → IsBlockAt cpu nodes entry at block → P block) → All P blocks
   blocks_all P [] [] are each = All-nil P
   blocks_all P [] (block ∷ blocks) are each = absurd are
   blocks_all P (at ∷ places) [] are each = absurd are
@@ -33,7 +34,7 @@ module _ (nodes : Nodes) (entry : ℕ) where
       (blocks_all P places blocks are.1 (λ a b inside. each a b (or_there (at == a) (list_any (λ x. x == a) places) inside)))
 
   -- the blocks stand at the offsets, in their order
-  pub blocks_stand : (places : List ℕ) (blocks : List Block) (a : ℕ) → AreBlocksAt nodes entry places blocks → list_any (λ block. block.at == a) blocks ≡ list_any (λ x. x == a) places
+  pub blocks_stand : (places : List ℕ) (blocks : List Block) (a : ℕ) → AreBlocksAt cpu nodes entry places blocks → list_any (λ block. block.at == a) blocks ≡ list_any (λ x. x == a) places
   blocks_stand [] [] a are = refl
   blocks_stand [] (block ∷ blocks) a are = absurd are
   blocks_stand (at ∷ places) [] a are = absurd are
@@ -42,7 +43,7 @@ module _ (nodes : Nodes) (entry : ℕ) where
       ∙ ap (λ b. (at == a) || b) (blocks_stand places blocks a are.1)
 
   -- the block at the place of an offset stands at that offset; where no block begins, there is none
-  pub block_stands : (places : List ℕ) (blocks : List Block) (s b : ℕ) → AreBlocksAt nodes entry places blocks
+  pub block_stands : (places : List ℕ) (blocks : List Block) (s b : ℕ) → AreBlocksAt cpu nodes entry places blocks
       → stands_at (slice_get blocks (place_in places s)) b ≡ (list_any (λ x. x == s) places && (s == b))
   block_stands [] [] s b are = refl
   block_stands [] (block ∷ blocks) s b are = absurd are
@@ -58,26 +59,26 @@ module _ (nodes : Nodes) (entry : ℕ) where
   pub record HasBlock (blocks : List Block) (place at : ℕ) : Type 0 where
     pub block : Block
     pub found : slice_get blocks place ≡ Some block
-    pub is_block : IsBlockAt nodes entry at block
+    pub is_block : IsBlockAt cpu nodes entry at block
 
-  pub block_found : (places : List ℕ) (blocks : List Block) (a : ℕ) → AreBlocksAt nodes entry places blocks → list_any (λ x. x == a) places ≡ true → HasBlock blocks (place_in places a) a
+  pub block_found : (places : List ℕ) (blocks : List Block) (a : ℕ) → AreBlocksAt cpu nodes entry places blocks → list_any (λ x. x == a) places ≡ true → HasBlock blocks (place_in places a) a
   block_found [] blocks a are e = absurd (true≢false (sym e))
   block_found (at ∷ places) [] a are e = absurd are
   block_found (at ∷ places) (block ∷ blocks) a are e = go (at == a) refl e (λ f. block_found places blocks a are.1 f)
     where
       go : (c : Bool) → (at == a) ≡ c → (c || list_any (λ x. x == a) places) ≡ true → (list_any (λ x. x == a) places ≡ true → HasBlock blocks (place_in places a) a)
           → HasBlock (block ∷ blocks) (if c then 0 else suc (place_in places a)) a
-      go true t e later = record { block = block; found = refl; is_block = subst (λ n. IsBlockAt nodes entry n block) (eqb-true at a t) are.0 }
+      go true t e later = record { block = block; found = refl; is_block = subst (λ n. IsBlockAt cpu nodes entry n block) (eqb-true at a t) are.0 }
       go false n e later = let there = later e in record { block = there.block; found = there.found; is_block = there.is_block }
 
   -- each block of the list begins at its own offset
-  pub block_is : (places : List ℕ) (blocks : List Block) (place : ℕ) (block : Block) → AreBlocksAt nodes entry places blocks → slice_get blocks place
-      ≡ Some block → IsBlockAt nodes entry block.at block
+  pub block_is : (places : List ℕ) (blocks : List Block) (place : ℕ) (block : Block) → AreBlocksAt cpu nodes entry places blocks → slice_get blocks place
+      ≡ Some block → IsBlockAt cpu nodes entry block.at block
   block_is places [] place block are e = absurd (cc)
   block_is [] (first ∷ blocks) place block are e = absurd are
   block_is (at ∷ places) (first ∷ blocks) zero block are e =
       let same : first ≡ block = cc in
-      subst (λ (x : Block). IsBlockAt nodes entry x.at x) same (subst (λ n. IsBlockAt nodes entry n first) (sym are.0.at_is) are.0)
+      subst (λ (x : Block). IsBlockAt cpu nodes entry x.at x) same (subst (λ n. IsBlockAt cpu nodes entry n first) (sym are.0.at_is) are.0)
   block_is (at ∷ places) (first ∷ blocks) (suc place) block are e = block_is places blocks place block are.1 e
 
 -- Exits.
@@ -154,22 +155,22 @@ pub record IsFromLeader (nodes : Nodes) (entry a b : ℕ) : Type 0 where
   pub to_leader : is_leader nodes entry b ≡ true
   pub goes : has_successor nodes (last_of a rest) b ≡ true
 
-module _ (nodes : Nodes) (entry prelude : ℕ) (sound : AreSound nodes entry prelude) (first : Block) (first_at : first.at ≡ prelude)
-    (first_exit : first.exit ≡ Goto (block_place nodes entry entry)) (blocks : List Block) (are : AreBlocksAt nodes entry (leaders nodes entry) blocks) where
+module _ (cpu : Cpu) (nodes : Nodes) (entry prelude : ℕ) (sound : AreSound nodes entry prelude) (first : Block) (first_at : first.at ≡ prelude)
+    (first_exit : first.exit ≡ Goto (block_place nodes entry entry)) (blocks : List Block) (are : AreBlocksAt cpu nodes entry (leaders nodes entry) blocks) where
   -- there are blocks at the prelude's offset and at the leaders
   pub has_block : (a : ℕ) → list_any (λ block. block.at == a) (first ∷ blocks) ≡ ((prelude == a) || is_leader nodes entry a)
   has_block a =
       ap (λ n. (n == a) || list_any (λ block. block.at == a) blocks) first_at
-      ∙ ap (λ b. (prelude == a) || b) (blocks_stand nodes entry (leaders nodes entry) blocks a are)
+      ∙ ap (λ b. (prelude == a) || b) (blocks_stand cpu nodes entry (leaders nodes entry) blocks a are)
 
   -- the block of a leader is found at its place
-  pub leader_block : (a : ℕ) → is_leader nodes entry a ≡ true → HasBlock nodes entry (first ∷ blocks) (block_place nodes entry a) a
+  pub leader_block : (a : ℕ) → is_leader nodes entry a ≡ true → HasBlock cpu nodes entry (first ∷ blocks) (block_place nodes entry a) a
   leader_block a leader =
-      let there = block_found nodes entry (leaders nodes entry) blocks a are leader in
+      let there = block_found cpu nodes entry (leaders nodes entry) blocks a are leader in
       record { block = there.block; found = there.found; is_block = there.is_block }
 
   stands : (s b : ℕ) → stands_at (slice_get (first ∷ blocks) (block_place nodes entry s)) b ≡ (is_leader nodes entry s && (s == b))
-  stands s b = block_stands nodes entry (leaders nodes entry) blocks s b are
+  stands s b = block_stands cpu nodes entry (leaders nodes entry) blocks s b are
 
   -- the prelude's block goes to that of the entry
   pub first_edge : (b : ℕ) → has_edge (first ∷ blocks) first b ≡ (entry == b)
@@ -180,7 +181,7 @@ module _ (nodes : Nodes) (entry prelude : ℕ) (sound : AreSound nodes entry pre
       ∙ ap (λ c. c && (entry == b)) (entry_is_leader nodes entry prelude sound)
 
   -- the block of a leader goes to those at the successors of its last instruction
-  pub block_edge : (block : Block) (at b : ℕ) (is : IsBlockAt nodes entry at block) → has_edge (first ∷ blocks) block b ≡ (is_leader nodes entry b && has_successor nodes (last_of at is.rest) b)
+  pub block_edge : (block : Block) (at b : ℕ) (is : IsBlockAt cpu nodes entry at block) → has_edge (first ∷ blocks) block b ≡ (is_leader nodes entry b && has_successor nodes (last_of at is.rest) b)
   block_edge block at b is =
       let succ = successors_in (node_in nodes (last_of at is.rest)) in
       ap (list_any (λ place. stands_at (slice_get (first ∷ blocks) place) b)) (ap targets is.exit_is ∙ targets_at nodes entry prelude sound (last_of at is.rest))
@@ -202,11 +203,11 @@ module _ (nodes : Nodes) (entry prelude : ℕ) (sound : AreSound nodes entry pre
     | inr t ↦
         let from = passing (λ block. (block.at == a) && has_edge (first ∷ blocks) block b) blocks t in
         let here : from.element.at ≡ a = eqb-true from.element.at a (and_left (from.element.at == a) (has_edge (first ∷ blocks) from.element b) from.passes) in
-        let is : IsBlockAt nodes entry a from.element =
-        subst (λ n. IsBlockAt nodes entry n from.element) here (block_is nodes entry (leaders nodes entry) blocks from.place from.element are from.found) in
+        let is : IsBlockAt cpu nodes entry a from.element =
+        subst (λ n. IsBlockAt cpu nodes entry n from.element) here (block_is cpu nodes entry (leaders nodes entry) blocks from.place from.element are from.found) in
         let both = sym (block_edge from.element a b is) ∙ and_right (from.element.at == a) (has_edge (first ∷ blocks) from.element b) from.passes in
         inr (record {
-          leader = sym (blocks_stand nodes entry (leaders nodes entry) blocks a are) ∙ any_at (λ block. block.at == a) blocks from.place from.element from.found (eq-eqb from.element.at a here);
+          leader = sym (blocks_stand cpu nodes entry (leaders nodes entry) blocks a are) ∙ any_at (λ block. block.at == a) blocks from.place from.element from.found (eq-eqb from.element.at a here);
           rest = is.rest;
           chain = is.chain;
           to_leader = and_left (is_leader nodes entry b) (has_successor nodes (last_of a is.rest) b) both;

@@ -27,14 +27,14 @@ pub instruction-below : (image : Image) (layout : Layout) (at : ℕ) (instr : In
 instruction-below image layout at instr placed found =
     let code = code_of image in
     let e : ℕ = layout.code_end in
-    let bounds = instruction-length at (drop at (take e code)) instr found in
+    let bounds = instruction-length layout.cpu at (drop at (take e code)) instr found in
     let len = length-drop at (take e code) in
     let cut = length-take e code in
     let whole = length-code_of image placed in
     (bounds.0, omega (arith, bounds.0, bounds.1, len, cut, whole, placed.short))
 
 -- an instruction of the whole code that ends at the code's end or before stands in the code
-pub instruction-within : (image : Image) (layout : Layout) (at : ℕ) (instr : Instr) → instruction_at at (drop at (code_of image)) ≡ Some instr
+pub instruction-within : (image : Image) (layout : Layout) (at : ℕ) (instr : Instr) → instruction_at layout.cpu at (drop at (code_of image)) ≡ Some instr
     → at + instr.len ≤ layout.code_end → instruction_in image layout at ≡ Some instr
 instruction-within image layout at instr found within =
     let code = code_of image in
@@ -44,7 +44,7 @@ instruction-within image layout at instr found within =
     let cut : drop at (take e code) ≡ take more (drop at code) = ap (λ n. drop at (take n code)) whole ∙ drop-take at more code in
     let same : take instr.len (drop at (take e code)) ≡ take instr.len (drop at code) =
     ap (take instr.len) cut ∙ take-take instr.len more (drop at code) (omega (arith, within)) in
-    instruction-prefix at (drop at code) (drop at (take e code)) instr found same
+    instruction-prefix layout.cpu at (drop at code) (drop at (take e code)) instr found same
 
 -- Bytes.
 

@@ -2,6 +2,7 @@
 use Rattle.std.proofs.Common.{◌≡◌, ◌<◌, ℕ, true, false, ◌&&◌, ◌||◌, ◌==◌, ◌⊎◌, inl, inr, List, [], ◌∷◌, refl, sym, ap, ◌∙◌, subst, true≢false, eqb-true, lt_trans, arith}
 use Rattle.std.specs.List.{list_any}
 use Rattle.std.proofs.lemmas.List.Elements.{All-weaker}
+use Rattle.dcc_prog.specs.declared.cpu.Cpu.{Cpu}
 use Rattle.dcc_prog.specs.declared.image.Image.{Image}
 use Rattle.dcc_prog.specs.declared.procedure.Layout.{Layout}
 use Rattle.dcc_prog.specs.declared.procedure.Node.{Node}
@@ -28,8 +29,8 @@ use Rattle.dcc_lift.proofs.BlockLaws.{has_block, leader_block, goes_between, edg
 abbrev pub nodes_flow : Nodes → ℕ → Flow
 nodes_flow nodes entry = record { start = entry; has = is_node nodes; goes = goes_on nodes }
 
-module _ (nodes : Nodes) (entry prelude : ℕ) (sound : AreSound nodes entry prelude) (graph : Graph) (first : Block) (first_at : first.at ≡ prelude)
-    (first_exit : first.exit ≡ Goto (block_place nodes entry entry)) (blocks : List Block) (are : AreBlocksAt nodes entry (leaders nodes entry) blocks)
+module _ (cpu : Cpu) (nodes : Nodes) (entry prelude : ℕ) (sound : AreSound nodes entry prelude) (graph : Graph) (first : Block) (first_at : first.at ≡ prelude)
+    (first_exit : first.exit ≡ Goto (block_place nodes entry entry)) (blocks : List Block) (are : AreBlocksAt cpu nodes entry (leaders nodes entry) blocks)
     (graph_is : graph.blocks ≡ first ∷ blocks) where
   abbrev P : Flow
   P = after_prelude prelude (nodes_flow nodes entry)
@@ -38,7 +39,7 @@ module _ (nodes : Nodes) (entry prelude : ℕ) (sound : AreSound nodes entry pre
   Q = flow_of graph
 
   q_has : (a : ℕ) → Q.has a ≡ ((prelude == a) || is_leader nodes entry a)
-  q_has a = ap (list_any (λ block. block.at == a)) graph_is ∙ has_block nodes entry prelude sound first first_at first_exit blocks are a
+  q_has a = ap (list_any (λ block. block.at == a)) graph_is ∙ has_block cpu nodes entry prelude sound first first_at first_exit blocks are a
 
   q_goes : (a b : ℕ) → Q.goes a b ≡ goes_between (first ∷ blocks) a b
   q_goes a b = ap (λ all. goes_between all a b) graph_is
@@ -147,7 +148,7 @@ module _ (nodes : Nodes) (entry prelude : ℕ) (sound : AreSound nodes entry pre
   -- Edges between blocks.
 
   edge_leads : (a b : ℕ) → Q.goes a b ≡ true → Leads P Q a b
-  edge_leads a b e = elim (edge_cases nodes entry prelude sound first first_at first_exit blocks are a b (sym (q_goes a b) ∙ e)) [
+  edge_leads a b e = elim (edge_cases cpu nodes entry prelude sound first first_at first_exit blocks are a b (sym (q_goes a b) ∙ e)) [
     | inl way ↦ ([], subst (λ n. P.goes n b ≡ true) (sym way.0) (subst (λ n. P.goes prelude n ≡ true) (sym way.1) prelude_to_entry))
     | inr from ↦ (from.rest, chain_path from.rest a b from.chain from.goes)
   ]
@@ -173,8 +174,8 @@ module _ (nodes : Nodes) (entry prelude : ℕ) (sound : AreSound nodes entry pre
 
   leader_leads : (a b : ℕ) → is_leader nodes entry a ≡ true → is_leader nodes entry b ≡ true → Leads P Q a b → Q.goes a b ≡ true
   leader_leads a b leader to_leader leads =
-      let is = (leader_block nodes entry prelude sound first first_at first_exit blocks are a leader).is_block in
-      q_goes a b ∙ leader_goes nodes entry prelude sound first first_at first_exit blocks are a b (record {
+      let is = (leader_block cpu nodes entry prelude sound first first_at first_exit blocks are a leader).is_block in
+      q_goes a b ∙ leader_goes cpu nodes entry prelude sound first first_at first_exit blocks are a b (record {
         leader = leader;
         rest = is.rest;
         chain = is.chain;
@@ -188,7 +189,7 @@ module _ (nodes : Nodes) (entry prelude : ℕ) (sound : AreSound nodes entry pre
         let here : prelude ≡ a = eqb-true prelude a t in
         let there : b ≡ entry = prelude_leads leads.0 b (subst (λ n. IsPath P.goes (λ y. Q.has y ≡ false) n leads.0 b) (sym here) leads.1) in
         subst (λ n. Q.goes n b ≡ true) here (subst (λ n. Q.goes prelude n ≡ true) (sym there)
-        (q_goes prelude entry ∙ prelude_goes nodes entry prelude sound first first_at first_exit blocks are))
+        (q_goes prelude entry ∙ prelude_goes cpu nodes entry prelude sound first first_at first_exit blocks are))
     | inr leader ↦ elim (or_cases (prelude == b) (is_leader nodes entry b) (sym (q_has b) ∙ hb)) [
       | inl t ↦
           let last = path_last P.goes (λ y. Q.has y ≡ false) a leads.0 b leads.1 in
@@ -234,9 +235,9 @@ module _ (image : Image) (layout : Layout) (start : Proc) (p : Program) (transla
       let graph = the_graph image layout start p translation in
       let flow = translation_flow image layout start p translation entry_is in
       let contracts : IsContraction (after_prelude image.ip (nodes_flow start.nodes.entries layout.start_ip)) (flow_of graph) =
-      contraction start.nodes.entries layout.start_ip image.ip sound graph first refl refl translation.blocks translation.blocks_are refl in
+      contraction layout.cpu start.nodes.entries layout.start_ip image.ip sound graph first refl refl translation.blocks translation.blocks_are refl in
       let one : HaveOneEdge (after_prelude image.ip (nodes_flow start.nodes.entries layout.start_ip)) (flow_of graph) =
-      one_edge start.nodes.entries layout.start_ip image.ip sound graph first refl refl translation.blocks translation.blocks_are refl in
+      one_edge layout.cpu start.nodes.entries layout.start_ip image.ip sound graph first refl refl translation.blocks translation.blocks_are refl in
       record {
         contraction = subst (λ q. IsContraction (after_prelude image.ip (procedure_flow start)) q) (sym flow)
             (subst (λ n. IsContraction (after_prelude image.ip (nodes_flow start.nodes.entries n)) (flow_of graph)) (sym entry_is) contracts);

@@ -60,7 +60,7 @@ same-key false byte = refl
 -- what a run of an instruction of INT 21h leaves: it is passed, or both runs end
 pub data IsDone (image : Image) (layout : Layout) (graph : Graph) (graphs : List Graph) (fill : ℕ) (node : Node) (s : Machine) (t : Inner) (at : ℕ) (before : List ℕ) : Type 0 where
   goes_on : IsPassed image layout graph graphs fill node s t at before → IsDone image layout graph graphs fill node s t at before
-  ends : IsLeft graphs fill node s t → IsDone image layout graph graphs fill node s t at before
+  ends : IsLeft layout.cpu graphs fill node s t → IsDone image layout graph graphs fill node s t at before
 
 module _ (image : Image) (layout : Layout) (graph : Graph) (nodes : Nodes) (placed : IsPlaced image) (widths : graph.bits ≡ temporary_bits)
     (graphs : List Graph) (fill : ℕ) (s : Machine) (t : Inner) (at : ℕ) (before : List ℕ) (node : Node) (both : BothStand image layout graph s t at before)
@@ -72,18 +72,18 @@ module _ (image : Image) (layout : Layout) (graph : Graph) (nodes : Nodes) (plac
   small = both.fits.values (Half Ax Low)
 
   -- the machine makes the call that the number tells
-  stepped : (n : ℕ) → node.number ≡ Some n → step s ≡ dos_step n s.ip following
+  stepped : (n : ℕ) → node.number ≡ Some n → step layout.cpu s ≡ dos_step n s.ip following
   unfolding following
   stepped n number =
       let known : known_ah image layout before ≡ Some n = is.told int before both.trail ∙ number in
       let ah : word_in s Ax / 256 ≡ n = word_high s t.running.values Ax refl small both.mirrors ∙ both.ah n known in
       step-is image layout graph s t at before node.instr placed both is.stands
-      ∙ ap (λ op. op_step op s.ip (record s { ip = next_of s.ip node.instr })) int
+      ∙ ap (λ op. op_step layout.cpu op s.ip (record s { ip = next_of s.ip node.instr })) int
       ∙ ap (λ k. dos_step k s.ip (record s { ip = next_of s.ip node.instr })) ah
 
   -- the statement that stands for it
-  stmts-are : (n : ℕ) → node.number ≡ Some n → node_stmts (Some node) ≡ dos_stmts (Some n)
-  stmts-are n number = ap₂ (λ op k. op_stmts op k) int number
+  stmts-are : (n : ℕ) → node.number ≡ Some n → node_stmts layout.cpu (Some node) ≡ dos_stmts (Some n)
+  stmts-are n number = ap₂ (λ op k. op_stmts layout.cpu op k) int number
 
   -- where it goes
   goes : (n : ℕ) → node.number ≡ Some n → node.succ.items ≡ op_successors Int21 (next_of s.ip node.instr) (Some n) []
@@ -114,7 +114,7 @@ module _ (image : Image) (layout : Layout) (graph : Graph) (nodes : Nodes) (plac
   -- then the instruction is passed
   done : (n : ℕ) → node.number ≡ Some n → (v : Inner) → op_successors Int21 (next_of s.ip node.instr) (Some n) [] ≡ next_of s.ip node.instr ∷ []
       → ((rest : List Stmt) → block_step graphs fill (dos_stmts (Some n) ++ rest) t ≡ block_step graphs fill rest v)
-      → Left (step s) v → IsPassed image layout graph graphs fill node s t at before
+      → Left (step layout.cpu s) v → IsPassed image layout graph graphs fill node s t at before
   done n number v onward runs left =
       let to : ℕ = next_of s.ip node.instr in
       let one = goes n number ∙ onward in
@@ -126,7 +126,7 @@ module _ (image : Image) (layout : Layout) (graph : Graph) (nodes : Nodes) (plac
         single = λ _. one;
         tested = λ test e. absurd (no-some (sym untested ∙ e));
         stand = record {
-          holds = code-kept image layout.code_end s (step s) both.holds left.memory (ap (λ l. slice_index l 1) left.segs);
+          holds = code-kept image layout.code_end s (step layout.cpu s) both.holds left.memory (ap (λ l. slice_index l 1) left.segs);
           ip_is = left.ip;
           running = left.running;
           trail = (subst (λ l. Contains l to) (is.succ before both.trail) contained, both.trail);
@@ -164,7 +164,7 @@ module _ (image : Image) (layout : Layout) (graph : Graph) (nodes : Nodes) (plac
         graph_is = refl;
         block_is = refl;
         going = both.going;
-        mirrors = mirrors_state s (step s) t.running.values (ap (λ u. u.regs) st) (ap (λ u. u.flags) st) both.mirrors;
+        mirrors = mirrors_state s (step layout.cpu s) t.running.values (ap (λ u. u.regs) st) (ap (λ u. u.flags) st) both.mirrors;
         fits = both.fits;
         input = both.input ∙ sym (ap (λ u. u.input) st);
         events = ap₂ (λ l b. l ++ Wrote b ∷ []) both.events (sym low) ∙ sym (ap (λ u. u.events) st);
@@ -173,7 +173,7 @@ module _ (image : Image) (layout : Layout) (graph : Graph) (nodes : Nodes) (plac
       })
 
   -- 4Ch
-  leave-done : node.number ≡ Some 0x4C → IsLeft graphs fill node s t
+  leave-done : node.number ≡ Some 0x4C → IsLeft layout.cpu graphs fill node s t
   unfolding following
   leave-done number =
       let code : ℕ = t.running.values (Half Ax Low) in
@@ -190,7 +190,7 @@ module _ (image : Image) (layout : Layout) (graph : Graph) (nodes : Nodes) (plac
       }
 
   -- 01h and 08h, with what is left of the input
-  key-left : (echo : Bool) (input : List ℕ) → s.input ≡ input → step s ≡ with_key echo input following → Left (step s) (keyed echo (Some (Half Ax Low)) input t)
+  key-left : (echo : Bool) (input : List ℕ) → s.input ≡ input → step layout.cpu s ≡ with_key echo input following → Left (step layout.cpu s) (keyed echo (Some (Half Ax Low)) input t)
   unfolding following
   key-left echo [] e st = record {
     memory = ap (λ u. u.memory) st;
@@ -239,7 +239,7 @@ module _ (image : Image) (layout : Layout) (graph : Graph) (nodes : Nodes) (plac
   unfolding following
   key-done echo n number onward runs key_is =
       let v : Inner = keyed echo (Some (Half Ax Low)) t.input t in
-      let st : step s ≡ with_key echo t.input following = stepped n number ∙ key_is following ∙ ap (λ l. with_key echo l following) (sym both.input) in
+      let st : step layout.cpu s ≡ with_key echo t.input following = stepped n number ∙ key_is following ∙ ap (λ l. with_key echo l following) (sym both.input) in
       done n number v onward
       (λ rest. runs rest ∙ ap (λ e. if is_over e then v else block_step graphs fill rest v) (key-going echo t.input))
       (key-left echo t.input (sym both.input) st)

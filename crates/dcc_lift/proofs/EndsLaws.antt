@@ -13,7 +13,7 @@ use Rattle.dcc_prog.specs.declared.instr.Op.TheVariants.{Table, Ret, Int21}
 use Rattle.dcc_prog.specs.MzImage.{IsLoaded}
 use Rattle.dcc_prog.specs.Layout.{HasLayout}
 use Rattle.dcc_prog.specs.Trail.{next_of, known_ah, op_successors}
-use Rattle.dcc_prog.specs.Found.{AreFound}
+use Rattle.dcc_lift.proofs.OneProcedure.{IsOneFound}
 use Rattle.dcc_ir.specs.Tree.{Stmt, Exit, Switch, Ret as RetExit, Block, Graph, Program}
 use Rattle.dcc_ir.specs.Ends.{IsNeverStuck, is_exit_call, stops_soundly, is_ret, is_switch, HasSoundEnds}
 use Rattle.dcc_ir.proofs.UnstuckLaws.{never_stuck, no_switch_places}
@@ -45,7 +45,7 @@ ends-run Int21 next (Some n) l e = (refl, ap Some (eqb-true n 0x4C (by (n == 0x4
     by false e = absurd (cc)
 ends-run op next ah l e = absurd (cc)
 
-module _ (image : Image) (layout : Layout) (procs : List Proc) (loaded : IsLoaded image) (has : HasLayout image layout) (are : AreFound image layout procs)
+module _ (image : Image) (layout : Layout) (procs : List Proc) (loaded : IsLoaded image) (has : HasLayout image layout) (are : IsOneFound image layout procs)
     (p : Program) (translation : IsTranslation image layout are.start p) where
   abbrev nodes : Nodes
   nodes = are.start.nodes.entries
@@ -57,34 +57,34 @@ module _ (image : Image) (layout : Layout) (procs : List Proc) (loaded : IsLoade
   sound = found-sound image layout procs loaded has are
 
   -- an instruction that goes on nowhere is that call
-  call-ends : (at : ℕ) (node : Node) → node_in nodes at ≡ Some node → node.succ.items ≡ [] → list_any is_exit_call (stmts_at nodes at) ≡ true
+  call-ends : (at : ℕ) (node : Node) → node_in nodes at ≡ Some node → node.succ.items ≡ [] → list_any is_exit_call (stmts_at layout.cpu nodes at) ≡ true
   call-ends at node found none =
       let is = listed-instruction image layout procs loaded has are at node found in
       let there = contained-node image layout procs loaded has are at (contained_node nodes at (node_in_has nodes at node found)) in
       let succ = successors-are image layout nodes at node there.before is there.trail in
       let x = ends-run node.instr.op (next_of at node.instr) (known_ah image layout there.before) is.liftable (sym succ ∙ none) in
       let number : node.number ≡ Some 0x4C = sym (is.told x.0 there.before there.trail) ∙ x.1 in
-      ap (λ o. list_any is_exit_call (node_stmts o)) found ∙ ap₂ (λ op n. list_any is_exit_call (op_stmts op n)) x.0 number
+      ap (λ o. list_any is_exit_call (node_stmts layout.cpu o)) found ∙ ap₂ (λ op n. list_any is_exit_call (op_stmts layout.cpu op n)) x.0 number
 
   -- the statements of a block's last instruction are among the block's
-  last-stmts : (rest : List ℕ) (at : ℕ) → list_any is_exit_call (stmts_at nodes (last_of at rest)) ≡ true → list_any is_exit_call (flat_map (stmts_at nodes) (at ∷ rest)) ≡ true
-  last-stmts [] at here = list_any-append is_exit_call (stmts_at nodes at) [] ∙ or_here (list_any is_exit_call (stmts_at nodes at)) false here
+  last-stmts : (rest : List ℕ) (at : ℕ) → list_any is_exit_call (stmts_at layout.cpu nodes (last_of at rest)) ≡ true → list_any is_exit_call (flat_map (stmts_at layout.cpu nodes) (at ∷ rest)) ≡ true
+  last-stmts [] at here = list_any-append is_exit_call (stmts_at layout.cpu nodes at) [] ∙ or_here (list_any is_exit_call (stmts_at layout.cpu nodes at)) false here
   last-stmts (next ∷ rest) at here =
-      let later : List Stmt = flat_map (stmts_at nodes) (next ∷ rest) in
-      list_any-append is_exit_call (stmts_at nodes at) later
-      ∙ or_there (list_any is_exit_call (stmts_at nodes at)) (list_any is_exit_call later) (last-stmts rest next here)
+      let later : List Stmt = flat_map (stmts_at layout.cpu nodes) (next ∷ rest) in
+      list_any-append is_exit_call (stmts_at layout.cpu nodes at) later
+      ∙ or_there (list_any is_exit_call (stmts_at layout.cpu nodes at)) (list_any is_exit_call later) (last-stmts rest next here)
 
-  block-stops : (at : ℕ) (block : Block) → is_leader nodes entry at ≡ true → IsBlockAt nodes entry at block → stops_soundly block.stmts block.exit ≡ true
+  block-stops : (at : ℕ) (block : Block) → is_leader nodes entry at ≡ true → IsBlockAt layout.cpu nodes entry at block → stops_soundly block.stmts block.exit ≡ true
   block-stops at block leader is =
       let last : ℕ = last_of at is.rest in
       let found = node_in_some nodes last (last_node nodes entry image.ip sound is.rest at is.chain (leader_node nodes entry image.ip sound at leader)) in
       ap₂ stops_soundly is.stmts_are is.exit_is
       ∙ by found.0 found.1 (exit_at nodes entry last) (exit_forms nodes entry image.ip sound last found.0 found.1)
     where
-      by : (node : Node) → node_in nodes (last_of at is.rest) ≡ Some node → (exit : Exit) → IsExitOf nodes entry node exit → stops_soundly (flat_map (stmts_at nodes) (at ∷ is.rest)) exit ≡ true
-      by node found exit (stops none succ e) = ap (stops_soundly (flat_map (stmts_at nodes) (at ∷ is.rest))) e ∙ last-stmts is.rest at (call-ends (last_of at is.rest) node found succ)
-      by node found exit (goes none succ e) = ap (stops_soundly (flat_map (stmts_at nodes) (at ∷ is.rest))) e
-      by node found exit (parts some succ e) = ap (stops_soundly (flat_map (stmts_at nodes) (at ∷ is.rest))) e
+      by : (node : Node) → node_in nodes (last_of at is.rest) ≡ Some node → (exit : Exit) → IsExitOf nodes entry node exit → stops_soundly (flat_map (stmts_at layout.cpu nodes) (at ∷ is.rest)) exit ≡ true
+      by node found exit (stops none succ e) = ap (stops_soundly (flat_map (stmts_at layout.cpu nodes) (at ∷ is.rest))) e ∙ last-stmts is.rest at (call-ends (last_of at is.rest) node found succ)
+      by node found exit (goes none succ e) = ap (stops_soundly (flat_map (stmts_at layout.cpu nodes) (at ∷ is.rest))) e
+      by node found exit (parts some succ e) = ap (stops_soundly (flat_map (stmts_at layout.cpu nodes) (at ∷ is.rest))) e
 
   -- a block that has the form neither returns nor switches
   exit-form : (block : Block) → is_lifted_block block ≡ true → is_lifted_exit block.exit ≡ true
@@ -109,7 +109,7 @@ module _ (image : Image) (layout : Layout) (procs : List Proc) (loaded : IsLoade
       let one : (P : Graph → Type 0) → P graph → All P p.graphs = λ P h. subst (All P) (sym (graphs_are image layout are.start p translation)) (one_all P graph h) in
       let stops : All (λ (b : Block). stops_soundly b.stmts b.exit ≡ true) graph.blocks =
       All-cons (λ (b : Block). stops_soundly b.stmts b.exit ≡ true) (prelude_block image layout nodes) translation.blocks refl
-      (blocks_all nodes entry (λ b. stops_soundly b.stmts b.exit ≡ true) (leaders nodes entry) translation.blocks translation.blocks_are block-stops) in
+      (blocks_all layout.cpu nodes entry (λ b. stops_soundly b.stmts b.exit ≡ true) (leaders nodes entry) translation.blocks translation.blocks_are block-stops) in
       let ends : HasSoundEnds p = record {
         stops = one (λ g. All (λ b. stops_soundly b.stmts b.exit ≡ true) g.blocks) stops;
         returns =

@@ -1,6 +1,6 @@
 -- How many statements on flags an operation's statements have: one at most that sets a flag, where the operation may write
 -- it, and one at most that sets none, where CF goes into the result.
-use Rattle.std.proofs.Common.{◌≡◌, ◌≤◌, ℕ, Bool, true, false, cond, ◌&&◌, ◌||◌, ◌==◌, if◌then◌else◌, List, [], ◌∷◌, ◌++◌, All, Option, Some, None, refl, sym, ◌∙◌, subst, true≢false, leb-true, arith}
+use Rattle.std.proofs.Common.{◌≡◌, ◌≤◌, ℕ, Bool, true, false, not, cond, ◌&&◌, ◌||◌, ◌==◌, if◌then◌else◌, List, [], ◌∷◌, ◌++◌, All, Option, Some, None, refl, sym, ◌∙◌, subst, true≢false, leb-true, arith}
 use Rattle.std.specs.Prelude.{nat_le, count_by, flat_map}
 use Rattle.std.specs.List.{list_all}
 use Rattle.dcc_num.specs.declared.Width.{Width}
@@ -11,6 +11,8 @@ use Rattle.dcc_num.specs.declared.FlagName.{FlagName}
 use Rattle.dcc_num.specs.declared.FlagName.TheVariants.{Cf, Zf, Sf, Of}
 use Rattle.dcc_num.specs.declared.Half.{Half as HalfName}
 use Rattle.dcc_num.specs.declared.Half.TheVariants.{Low}
+use Rattle.dcc_prog.specs.declared.cpu.Cpu.{Cpu}
+use Rattle.dcc_prog.specs.declared.cpu.Cpu.TheVariants.{I8086, I186}
 use Rattle.dcc_prog.specs.declared.image.Image.{Image}
 use Rattle.dcc_prog.specs.declared.procedure.Layout.{Layout}
 use Rattle.dcc_prog.specs.declared.procedure.Node.{Node}
@@ -19,6 +21,8 @@ use Rattle.dcc_prog.specs.declared.instr.Alu.{Alu}
 use Rattle.dcc_prog.specs.declared.instr.Alu.TheVariants.{Add, Or, Adc, Sbb, And, Sub, Xor, Cmp, Test}
 use Rattle.dcc_prog.specs.declared.instr.Shift.{Shift}
 use Rattle.dcc_prog.specs.declared.instr.Shift.TheVariants.{Rol, Ror, Rcl, Rcr, Shl, Shr, Sar}
+use Rattle.dcc_prog.specs.declared.instr.Count.{Count}
+use Rattle.dcc_prog.specs.declared.instr.Count.TheVariants.{One, Cl, Const as ConstCount}
 use Rattle.dcc_prog.specs.declared.instr.Unary.{Unary}
 use Rattle.dcc_prog.specs.declared.instr.Unary.TheVariants.{Inc, Dec, Neg, Not, Mul, Imul, Div as DivOp, Idiv}
 use Rattle.dcc_prog.specs.declared.instr.Plain.{Plain}
@@ -26,14 +30,15 @@ use Rattle.dcc_prog.specs.declared.instr.Plain.TheVariants.{Nop, Cbw, Cwd, Xlat,
 use Rattle.dcc_prog.specs.declared.instr.Operand.{Operand}
 use Rattle.dcc_prog.specs.declared.instr.Operand.TheVariants.{Word, Byte, Seg, Mem, Const as Constant}
 use Rattle.dcc_prog.specs.declared.instr.Op.{Op}
-use Rattle.dcc_prog.specs.declared.instr.Op.TheVariants.{Alu as AluOp, Unary as UnaryOp, Shift as ShiftOp, Mov, Xchg, Lea, Push, Pop, Plain as PlainOp, Jump, Branch, Loop, LoopE, LoopNe, Jcxz, Table, Call, Ret, Int21}
+use Rattle.dcc_prog.specs.declared.instr.Op.TheVariants.{Alu as AluOp, Unary as UnaryOp, Shift as ShiftOp, Mov, Xchg, Lea, Imul3, Push, Pop, Enter, Leave, Plain as PlainOp, Jump, Branch, Loop, LoopE, LoopNe, Jcxz, Table, Call, Ret, Int21}
 use Rattle.dcc_prog.specs.Machine.{operand_width}
-use Rattle.dcc_prog.specs.Writes.{writes_flag}
+use Rattle.dcc_prog.specs.Writes.{shift_writes_flag, never_shifts, writes_flag}
+use Rattle.dcc_prog.specs.Wanted.{is_turn}
 use Rattle.dcc_ir.specs.declared.syntax.Loc.TheVariants.{Half}
 use Rattle.dcc_ir.specs.Tree.{Expr, Get, Stmt, Dos, Block, Program}
-use Rattle.dcc_lift.specs.Expressions.{operand_expr}
-use Rattle.dcc_lift.specs.Statements.{taking, alu_working, alu_storing, alu_stmts, unary_stmts, shift_stmts, mov_stmts, xchg_stmts, plain_stmts, dos_stmts, op_stmts}
-use Rattle.dcc_lift.specs.Form.{is_on_flags, is_setter_of, is_other_flag_stmt, has_carry_in, graph_stmts, HasFewFlagStmts}
+use Rattle.dcc_lift.specs.Expressions.{operand_expr, count_expr}
+use Rattle.dcc_lift.specs.Statements.{taking, storing, alu_working, alu_storing, alu_stmts, triple_product, unary_stmts, shift_working, staying, shifting, shift_stmts, mov_stmts, xchg_stmts, plain_stmts, dos_stmts, op_stmts}
+use Rattle.dcc_lift.specs.Form.{is_general, is_on_flags, is_setter_of, is_other_flag_stmt, has_carry_in, graph_stmts, HasFewFlagStmts}
 use Rattle.dcc_lift.specs.Liftable.{is_register, is_source, is_lifted_unary, is_liftable}
 use Rattle.dcc_lift.specs.Blocks.{Nodes}
 use Rattle.dcc_lift.specs.Translation.{prelude_block, IsTranslation}
@@ -44,13 +49,16 @@ use Rattle.dcc_lift.proofs.TranslationLaws.{the_graph, graphs_are}
 use Rattle.dcc_lift.proofs.Totals.{total, total-is, total-append}
 use Rattle.dcc_lift.proofs.Members.{blocks-counted}
 
--- no more than one of the statements sets the flag, and none where the operation leaves it
-abbrev pub set_few : Op → List Stmt → FlagName → Bool
-set_few op stmts flag = nat_le (count_by (is_setter_of flag) stmts) (cond (writes_flag op flag) 1 0)
+-- no more than one of the statements sets the flag, and none where it is left
+abbrev pub set_few : (FlagName → Bool) → List Stmt → FlagName → Bool
+set_few writes stmts flag = nat_le (count_by (is_setter_of flag) stmts) (cond (writes flag) 1 0)
 
--- the statements have no more on flags than is claimed of the operation
+-- the statements have no more on flags than is claimed: which flags they write, and whether CF goes into the result
+abbrev pub are_within : (FlagName → Bool) → Bool → List Stmt → Bool
+are_within writes carry_in stmts = list_all (set_few writes stmts) (Cf ∷ Zf ∷ Sf ∷ Of ∷ []) && nat_le (count_by is_other_flag_stmt stmts) (cond carry_in 1 0)
+
 abbrev pub are_few : Op → List Stmt → Bool
-are_few op stmts = list_all (set_few op stmts) (Cf ∷ Zf ∷ Sf ∷ Of ∷ []) && nat_le (count_by is_other_flag_stmt stmts) (cond (has_carry_in op) 1 0)
+are_few op stmts = are_within (writes_flag op) (has_carry_in op) stmts
 
 -- Pieces that stand whatever the operands are.
 
@@ -96,37 +104,23 @@ unary_byte-few Imul r half = refl
 unary_byte-few DivOp r half = refl
 unary_byte-few Idiv r half = refl
 
-shift_word-few : (operation : Shift) (r : Reg) (by_cl : Bool) → are_few (ShiftOp operation (Word r) by_cl) (shift_stmts operation word_width (Word r) by_cl) ≡ true
-shift_word-few Rol r true = refl
-shift_word-few Rol r false = refl
-shift_word-few Ror r true = refl
-shift_word-few Ror r false = refl
-shift_word-few Rcl r true = refl
-shift_word-few Rcl r false = refl
-shift_word-few Rcr r true = refl
-shift_word-few Rcr r false = refl
-shift_word-few Shl r true = refl
-shift_word-few Shl r false = refl
-shift_word-few Shr r true = refl
-shift_word-few Shr r false = refl
-shift_word-few Sar r true = refl
-shift_word-few Sar r false = refl
+-- the flags that a shift or rotate writes; one that never shifts writes none
+abbrev shift_flags_written : Shift → Bool → FlagName → Bool
+shift_flags_written operation never flag = shift_writes_flag operation flag && not never
 
-shift_byte-few : (operation : Shift) (r : Reg) (half : HalfName) (by_cl : Bool) → are_few (ShiftOp operation (Byte r half) by_cl) (shift_stmts operation byte_width (Byte r half) by_cl) ≡ true
-shift_byte-few Rol r half true = refl
-shift_byte-few Rol r half false = refl
-shift_byte-few Ror r half true = refl
-shift_byte-few Ror r half false = refl
-shift_byte-few Rcl r half true = refl
-shift_byte-few Rcl r half false = refl
-shift_byte-few Rcr r half true = refl
-shift_byte-few Rcr r half false = refl
-shift_byte-few Shl r half true = refl
-shift_byte-few Shl r half false = refl
-shift_byte-few Shr r half true = refl
-shift_byte-few Shr r half false = refl
-shift_byte-few Sar r half true = refl
-shift_byte-few Sar r half false = refl
+shift_word-few : (r : Reg) (count : Count) (operation : Shift)
+    → are_within (shift_flags_written operation false) (is_turn operation) (shift_working operation word_width count ++ storing (Word r)) ≡ true
+shift_word-few r One Rol = refl
+shift_word-few r Cl Rol = refl
+shift_word-few r (ConstCount n) Rol = refl
+shift_word-few r _ _ = refl
+
+shift_byte-few : (r : Reg) (half : HalfName) (count : Count) (operation : Shift)
+    → are_within (shift_flags_written operation false) (is_turn operation) (shift_working operation byte_width count ++ storing (Byte r half)) ≡ true
+shift_byte-few r half One Rol = refl
+shift_byte-few r half Cl Rol = refl
+shift_byte-few r half (ConstCount n) Rol = refl
+shift_byte-few r half _ _ = refl
 
 plain-few : (operation : Plain) → are_few (PlainOp operation) (plain_stmts operation) ≡ true
 plain-few Nop = refl
@@ -150,16 +144,17 @@ operand-apart (Mem w ea) = refl
 operand-apart (Constant w constant) = refl
 
 -- what takes operands into temporaries adds none
-taking-few : (op : Op) (w : Width) (a b : Expr) (stmts : List Stmt) → is_on_flags a ≡ false → is_on_flags b ≡ false → are_few op stmts ≡ true → are_few op (taking w a b ++ stmts) ≡ true
-taking-few op byte_width a b stmts p q h = rw (p, q) h
-taking-few op word_width a b stmts p q h = rw (p, q) h
+taking-few : (writes : FlagName → Bool) (carry_in : Bool) (w : Width) (a b : Expr) (stmts : List Stmt) → is_on_flags a ≡ false → is_on_flags b ≡ false
+    → are_within writes carry_in stmts ≡ true → are_within writes carry_in (taking w a b ++ stmts) ≡ true
+taking-few writes carry_in byte_width a b stmts p q h = rw (p, q) h
+taking-few writes carry_in word_width a b stmts p q h = rw (p, q) h
 
 alu-few : (operation : Alu) (a b : Operand) → is_register a ≡ true → are_few (AluOp operation a b) (alu_stmts operation a b) ≡ true
 alu-few operation (Word r) b s =
-    taking-few (AluOp operation (Word r) b) word_width (operand_expr (Word r)) (operand_expr b) (alu_working operation word_width ++ alu_storing operation (Word r))
+    taking-few (writes_flag (AluOp operation (Word r) b)) (has_carry_in (AluOp operation (Word r) b)) word_width (operand_expr (Word r)) (operand_expr b) (alu_working operation word_width ++ alu_storing operation (Word r))
     refl (operand-apart b) (alu_word-few operation r b)
 alu-few operation (Byte r half) b s =
-    taking-few (AluOp operation (Byte r half) b) byte_width (operand_expr (Byte r half)) (operand_expr b) (alu_working operation byte_width ++ alu_storing operation (Byte r half))
+    taking-few (writes_flag (AluOp operation (Byte r half) b)) (has_carry_in (AluOp operation (Byte r half) b)) byte_width (operand_expr (Byte r half)) (operand_expr b) (alu_working operation byte_width ++ alu_storing operation (Byte r half))
     refl (operand-apart b) (alu_byte-few operation r half b)
 alu-few operation (Seg number) b s = absurd (true≢false (sym s))
 alu-few operation (Mem w ea) b s = absurd (true≢false (sym s))
@@ -172,12 +167,49 @@ unary-few operation (Seg number) s = absurd (true≢false (sym s))
 unary-few operation (Mem w ea) s = absurd (true≢false (sym s))
 unary-few operation (Constant w constant) s = absurd (true≢false (sym s))
 
-shift-few : (operation : Shift) (a : Operand) (by_cl : Bool) → is_register a ≡ true → are_few (ShiftOp operation a by_cl) (shift_stmts operation (operand_width a) a by_cl) ≡ true
-shift-few operation (Word r) by_cl s = shift_word-few operation r by_cl
-shift-few operation (Byte r half) by_cl s = shift_byte-few operation r half by_cl
-shift-few operation (Seg number) by_cl s = absurd (true≢false (sym s))
-shift-few operation (Mem w ea) by_cl s = absurd (true≢false (sym s))
-shift-few operation (Constant w constant) by_cl s = absurd (true≢false (sym s))
+count-apart : (cpu : Cpu) (w : Width) (count : Count) → is_on_flags (count_expr cpu w count) ≡ false
+count-apart I8086 byte_width Cl = refl
+count-apart I8086 word_width Cl = refl
+count-apart I186 byte_width Cl = refl
+count-apart I186 word_width Cl = refl
+count-apart cpu w One = refl
+count-apart cpu w (ConstCount n) = refl
+
+staying-few : (operation : Shift) (a : Operand) → is_register a ≡ true → are_within (shift_flags_written operation true) (is_turn operation) (staying (operand_width a) a) ≡ true
+staying-few Rol (Word r) s = refl
+staying-few Rol (Byte r half) s = refl
+staying-few operation (Seg number) s = absurd (true≢false (sym s))
+staying-few operation (Mem w ea) s = absurd (true≢false (sym s))
+staying-few operation (Constant w constant) s = absurd (true≢false (sym s))
+staying-few _ _ s = refl
+
+shifting-few : (cpu : Cpu) (operation : Shift) (a : Operand) (count : Count) → is_register a ≡ true
+    → are_within (shift_flags_written operation false) (is_turn operation) (shifting cpu operation (operand_width a) a count) ≡ true
+shifting-few cpu operation (Word r) count s =
+    taking-few (shift_flags_written operation false) (is_turn operation) word_width (operand_expr (Word r)) (count_expr cpu word_width count)
+    (shift_working operation word_width count ++ storing (Word r)) refl (count-apart cpu word_width count) (shift_word-few r count operation)
+shifting-few cpu operation (Byte r half) count s =
+    taking-few (shift_flags_written operation false) (is_turn operation) byte_width (operand_expr (Byte r half)) (count_expr cpu byte_width count)
+    (shift_working operation byte_width count ++ storing (Byte r half)) refl (count-apart cpu byte_width count) (shift_byte-few r half count operation)
+shifting-few cpu operation (Seg number) count s = absurd (true≢false (sym s))
+shifting-few cpu operation (Mem w ea) count s = absurd (true≢false (sym s))
+shifting-few cpu operation (Constant w constant) count s = absurd (true≢false (sym s))
+
+shift-few : (cpu : Cpu) (operation : Shift) (a : Operand) (count : Count) → is_register a ≡ true
+    → are_few (ShiftOp operation a count) (shift_stmts cpu operation (operand_width a) a count) ≡ true
+shift-few cpu operation a count s = by (never_shifts count)
+  where
+    by : (b : Bool) → are_within (shift_flags_written operation b) (is_turn operation)
+        (if b then staying (operand_width a) a else shifting cpu operation (operand_width a) a count) ≡ true
+    by true = staying-few operation a s
+    by false = shifting-few cpu operation a count s
+
+triple-few : (r : Reg) (a : Operand) (constant : ℕ) → is_register a ≡ true → are_few (Imul3 r a constant) (triple_product r a constant) ≡ true
+triple-few r (Word q) constant s = refl
+triple-few r (Byte q half) constant s = refl
+triple-few r (Seg number) constant s = absurd (true≢false (sym s))
+triple-few r (Mem w ea) constant s = absurd (true≢false (sym s))
+triple-few r (Constant w c) constant s = absurd (true≢false (sym s))
 
 mov-few : (a b : Operand) → are_few (Mov a b) (mov_stmts a b) ≡ true
 mov-few (Word r) (Word q) = refl
@@ -209,26 +241,29 @@ dos-few (Some n) = go (n == 0x02) (n == 0x4C) ((n == 0x01) || (n == 0x08))
     go false false false = refl
 
 -- all operations
-op-few : (op : Op) (number : Option ℕ) → is_liftable op ≡ true → are_few op (op_stmts op number) ≡ true
-op-few (AluOp operation a b) number lifted = alu-few operation a b (and_left (is_register a) (is_source b) lifted)
-op-few (UnaryOp operation a) number lifted = unary-few operation a (and_right (is_lifted_unary operation) (is_register a) lifted)
-op-few (ShiftOp operation a by_cl) number lifted = shift-few operation a by_cl lifted
-op-few (Mov a b) number lifted = mov-few a b
-op-few (Xchg a b) number lifted = xchg-few a b
-op-few (Lea r ea) number lifted = refl
-op-few (Push a) number lifted = refl
-op-few (Pop a) number lifted = refl
-op-few (PlainOp operation) number lifted = plain-few operation
-op-few (Jump target) number lifted = refl
-op-few (Branch tested target) number lifted = refl
-op-few (Loop target) number lifted = refl
-op-few (LoopE target) number lifted = refl
-op-few (LoopNe target) number lifted = refl
-op-few (Jcxz target) number lifted = refl
-op-few (Table r offset) number lifted = refl
-op-few (Call target) number lifted = refl
-op-few (Ret count) number lifted = refl
-op-few Int21 number lifted = dos-few number
+op-few : (cpu : Cpu) (op : Op) (number : Option ℕ) → is_liftable op ≡ true → are_few op (op_stmts cpu op number) ≡ true
+op-few cpu (AluOp operation a b) number lifted = alu-few operation a b (and_left (is_register a) (is_source b) lifted)
+op-few cpu (UnaryOp operation a) number lifted = unary-few operation a (and_right (is_lifted_unary operation) (is_register a) lifted)
+op-few cpu (ShiftOp operation a count) number lifted = shift-few cpu operation a count lifted
+op-few cpu (Imul3 r a constant) number lifted = triple-few r a constant (and_right (is_general r) (is_register a) lifted)
+op-few cpu (Enter count) number lifted = refl
+op-few cpu Leave number lifted = refl
+op-few cpu (Mov a b) number lifted = mov-few a b
+op-few cpu (Xchg a b) number lifted = xchg-few a b
+op-few cpu (Lea r ea) number lifted = refl
+op-few cpu (Push a) number lifted = refl
+op-few cpu (Pop a) number lifted = refl
+op-few cpu (PlainOp operation) number lifted = plain-few operation
+op-few cpu (Jump target) number lifted = refl
+op-few cpu (Branch tested target) number lifted = refl
+op-few cpu (Loop target) number lifted = refl
+op-few cpu (LoopE target) number lifted = refl
+op-few cpu (LoopNe target) number lifted = refl
+op-few cpu (Jcxz target) number lifted = refl
+op-few cpu (Table r offset) number lifted = refl
+op-few cpu (Call target) number lifted = refl
+op-few cpu (Ret count) number lifted = refl
+op-few cpu Int21 number lifted = dos-few number
 
 -- Counts.
 
@@ -246,20 +281,20 @@ of-flag test Of all =
     and_left (test Of) true (and_right (test Sf) (test Of && true)
     (and_right (test Zf) (test Sf && (test Of && true)) (and_right (test Cf) (test Zf && (test Sf && (test Of && true))) all)))
 
-module _ (op : Op) (number : Option ℕ) (lifted : is_liftable op ≡ true) where
+module _ (cpu : Cpu) (op : Op) (number : Option ℕ) (lifted : is_liftable op ≡ true) where
   abbrev stmts : List Stmt
-  stmts = op_stmts op number
+  stmts = op_stmts cpu op number
 
   op-setters : (flag : FlagName) → total (counted (is_setter_of flag)) stmts ≤ cond (writes_flag op flag) 1 0
   op-setters flag =
-      let few = and_left (list_all (set_few op stmts) (Cf ∷ Zf ∷ Sf ∷ Of ∷ [])) (nat_le (count_by is_other_flag_stmt stmts) (cond (has_carry_in op) 1 0)) (op-few op number lifted) in
+      let few = and_left (list_all (set_few (writes_flag op) stmts) (Cf ∷ Zf ∷ Sf ∷ Of ∷ [])) (nat_le (count_by is_other_flag_stmt stmts) (cond (has_carry_in op) 1 0)) (op-few cpu op number lifted) in
       subst (λ n. n ≤ cond (writes_flag op flag) 1 0) (total-is (counted (is_setter_of flag)) stmts)
-      (leb-true (count_by (is_setter_of flag) stmts) (cond (writes_flag op flag) 1 0) (of-flag (set_few op stmts) flag few))
+      (leb-true (count_by (is_setter_of flag) stmts) (cond (writes_flag op flag) 1 0) (of-flag (set_few (writes_flag op) stmts) flag few))
 
   op-others : total (counted is_other_flag_stmt) stmts ≤ cond (has_carry_in op) 1 0
   op-others =
       let others = count_by is_other_flag_stmt stmts in
-      let few = and_right (list_all (set_few op stmts) (Cf ∷ Zf ∷ Sf ∷ Of ∷ [])) (nat_le others (cond (has_carry_in op) 1 0)) (op-few op number lifted) in
+      let few = and_right (list_all (set_few (writes_flag op) stmts) (Cf ∷ Zf ∷ Sf ∷ Of ∷ [])) (nat_le others (cond (has_carry_in op) 1 0)) (op-few cpu op number lifted) in
       subst (λ n. n ≤ cond (has_carry_in op) 1 0) (total-is (counted is_other_flag_stmt) stmts) (leb-true others (cond (has_carry_in op) 1 0) few)
 
 -- the block of the prelude has none
@@ -272,14 +307,14 @@ prelude-others image layout nodes = refl
 module _ (image : Image) (layout : Layout) (start : Proc) (p : Program) (given : IsLiftableProcedure image layout start) (is : IsTranslation image layout start p) where
   -- a count of the graph's statements is no more than one of the instructions
   graph-counted : (test : Stmt → Bool) (does : Op → Bool) → total (counted test) (prelude_block image layout start.nodes.entries).stmts ≡ 0
-      → ((op : Op) (number : Option ℕ) → is_liftable op ≡ true → total (counted test) (op_stmts op number) ≤ cond (does op) 1 0)
+      → ((op : Op) (number : Option ℕ) → is_liftable op ≡ true → total (counted test) (op_stmts layout.cpu op number) ≤ cond (does op) 1 0)
       → count_by test (graph_stmts (the_graph image layout start p is)) ≤ count_by (λ (found : ℕ × Node). does found.1.instr.op) start.nodes.entries
   graph-counted test does none few =
       let nodes = start.nodes.entries in
       let first = (prelude_block image layout nodes).stmts in
       let rest = flat_map (λ (b : Block). b.stmts) is.blocks in
       let whole = total-is (counted test) (first ++ rest) ∙ total-append (counted test) first rest in
-      let later = blocks-counted (λ node. cond (does node.instr.op) 1 0) nodes layout.start_ip image.ip given.sound given.nodes (counted test)
+      let later = blocks-counted (λ node. cond (does node.instr.op) 1 0) layout.cpu nodes layout.start_ip image.ip given.sound given.nodes (counted test)
       (λ found one. few found.1.instr.op found.1.number one.lifted) is.blocks is.blocks_are in
       subst (λ n. count_by test (graph_stmts (the_graph image layout start p is)) ≤ n) (sym (total-is (λ (found : ℕ × Node). cond (does found.1.instr.op) 1 0) nodes))
       (subst (λ n. n ≤ total (λ (found : ℕ × Node). cond (does found.1.instr.op) 1 0) nodes) (sym whole) (omega (arith, none, later)))
@@ -287,8 +322,8 @@ module _ (image : Image) (layout : Layout) (start : Proc) (p : Program) (given :
   graph-few : HasFewFlagStmts start (the_graph image layout start p is)
   graph-few = record {
     setters = λ flag. graph-counted (is_setter_of flag) (λ op. writes_flag op flag) (prelude-setters image layout start.nodes.entries flag)
-        (λ op number lifted. op-setters op number lifted flag);
-    others = graph-counted is_other_flag_stmt has_carry_in (prelude-others image layout start.nodes.entries) op-others;
+        (λ op number lifted. op-setters layout.cpu op number lifted flag);
+    others = graph-counted is_other_flag_stmt has_carry_in (prelude-others image layout start.nodes.entries) (op-others layout.cpu);
   }
 
   -- the program has few statements on flags

@@ -10,6 +10,8 @@ use Rattle.dcc_num.specs.declared.Reg.TheVariants.{Ax, Cx, Dx}
 use Rattle.dcc_num.specs.declared.Half.{Half as HalfName}
 use Rattle.dcc_num.specs.declared.Half.TheVariants.{Low, High}
 use Rattle.dcc_num.specs.declared.FlagName.TheVariants.{Zf}
+use Rattle.dcc_prog.specs.declared.cpu.Cpu.{Cpu}
+use Rattle.dcc_prog.specs.declared.cpu.Cpu.TheVariants.{I8086, I186}
 use Rattle.dcc_prog.specs.declared.image.Image.{Image}
 use Rattle.dcc_prog.specs.declared.procedure.Layout.{Layout}
 use Rattle.dcc_prog.specs.declared.procedure.Node.{Node}
@@ -18,6 +20,8 @@ use Rattle.dcc_prog.specs.declared.instr.Alu.{Alu}
 use Rattle.dcc_prog.specs.declared.instr.Alu.TheVariants.{Add, Or, Adc, Sbb, And, Sub, Xor, Cmp, Test}
 use Rattle.dcc_prog.specs.declared.instr.Shift.{Shift}
 use Rattle.dcc_prog.specs.declared.instr.Shift.TheVariants.{Rol, Ror, Rcl, Rcr, Shl, Shr, Sar}
+use Rattle.dcc_prog.specs.declared.instr.Count.{Count}
+use Rattle.dcc_prog.specs.declared.instr.Count.TheVariants.{One, Cl, Const as ConstCount}
 use Rattle.dcc_prog.specs.declared.instr.Unary.{Unary}
 use Rattle.dcc_prog.specs.declared.instr.Unary.TheVariants.{Inc, Dec, Neg, Not, Mul, Imul, Div as DivOp, Idiv}
 use Rattle.dcc_prog.specs.declared.instr.Cond.{Cond}
@@ -27,19 +31,20 @@ use Rattle.dcc_prog.specs.declared.instr.Plain.TheVariants.{Nop, Cbw, Cwd, Xlat,
 use Rattle.dcc_prog.specs.declared.instr.Operand.{Operand}
 use Rattle.dcc_prog.specs.declared.instr.Operand.TheVariants.{Word, Byte, Seg, Mem, Const as Constant}
 use Rattle.dcc_prog.specs.declared.instr.Op.{Op}
-use Rattle.dcc_prog.specs.declared.instr.Op.TheVariants.{Alu as AluOp, Unary as UnaryOp, Shift as ShiftOp, Mov, Xchg, Lea, Push, Pop, Plain as PlainOp, Jump, Branch, Loop, LoopE, LoopNe, Jcxz, Table, Call, Ret, Int21}
+use Rattle.dcc_prog.specs.declared.instr.Op.TheVariants.{Alu as AluOp, Unary as UnaryOp, Shift as ShiftOp, Mov, Xchg, Lea, Imul3, Push, Pop, Enter, Leave, Plain as PlainOp, Jump, Branch, Loop, LoopE, LoopNe, Jcxz, Table, Call, Ret, Int21}
 use Rattle.dcc_prog.specs.Machine.{operand_width}
+use Rattle.dcc_prog.specs.Writes.{never_shifts}
 use Rattle.dcc_ir.specs.declared.syntax.Loc.TheVariants.{Half}
 use Rattle.dcc_ir.specs.declared.syntax.BinOp.TheVariants.{And as AndOp}
 use Rattle.dcc_ir.specs.Tree.{Expr, Const, Get, Binary, Stmt, Set, Dos, Block, Program}
-use Rattle.dcc_lift.specs.Expressions.{operand_expr, condition, goes_round, flag, negated, is_zero, word_of}
-use Rattle.dcc_lift.specs.Statements.{taking, alu_working, alu_storing, alu_stmts, unary_stmts, shift_stmts, mov_stmts, xchg_stmts, plain_stmts, dos_stmts, op_stmts, op_test, exit_to}
+use Rattle.dcc_lift.specs.Expressions.{operand_expr, product, count_expr, condition, goes_round, flag, negated, is_zero, word_of}
+use Rattle.dcc_lift.specs.Statements.{taking, word_taking, storing, alu_working, alu_storing, alu_stmts, product_working, triple_product, unary_stmts, shift_working, staying, shifting, shift_stmts, mov_stmts, xchg_stmts, plain_stmts, dos_stmts, op_stmts, op_test, exit_to}
 use Rattle.dcc_lift.specs.Form.{is_general, is_lifted_expr, is_lifted_stmt, is_lifted_exit, is_lifted_block, HasForm}
 use Rattle.dcc_lift.specs.Liftable.{is_register, is_source, is_lifted_unary, is_liftable}
 use Rattle.dcc_lift.specs.Blocks.{Nodes, node_in, node_stmts, stmts_at, block_place, node_exit, exit_at, last_of, IsBlockAt, AreBlocksAt, leaders}
 use Rattle.dcc_lift.specs.Translation.{prelude_block, IsTranslation}
 use Rattle.dcc_lift.specs.Lifting.{IsLiftableNode, IsLiftableProcedure}
-use Rattle.dcc_lift.proofs.ListTests.{and_left, and_right, and_both}
+use Rattle.dcc_lift.proofs.ListTests.{and_left, and_right, and_both, of_either}
 use Rattle.dcc_lift.proofs.NodeLaws.{node_in_holds}
 use Rattle.dcc_lift.proofs.ProgramLaws.{one_all}
 use Rattle.dcc_lift.proofs.TranslationLaws.{the_graph, graphs_are}
@@ -114,37 +119,14 @@ unary_byte-form Imul r half g = rw g refl
 unary_byte-form DivOp r half g = refl
 unary_byte-form Idiv r half g = refl
 
-shift_word-form : (operation : Shift) (r : Reg) (by_cl : Bool) → is_general r ≡ true → are_lifted (shift_stmts operation word_width (Word r) by_cl) ≡ true
-shift_word-form Rol r true g = rw g refl
-shift_word-form Rol r false g = rw g refl
-shift_word-form Ror r true g = rw g refl
-shift_word-form Ror r false g = rw g refl
-shift_word-form Rcl r true g = rw g refl
-shift_word-form Rcl r false g = rw g refl
-shift_word-form Rcr r true g = rw g refl
-shift_word-form Rcr r false g = rw g refl
-shift_word-form Shl r true g = rw g refl
-shift_word-form Shl r false g = rw g refl
-shift_word-form Shr r true g = rw g refl
-shift_word-form Shr r false g = rw g refl
-shift_word-form Sar r true g = rw g refl
-shift_word-form Sar r false g = rw g refl
-
-shift_byte-form : (operation : Shift) (r : Reg) (half : HalfName) (by_cl : Bool) → is_general r ≡ true → are_lifted (shift_stmts operation byte_width (Byte r half) by_cl) ≡ true
-shift_byte-form Rol r half true g = rw g refl
-shift_byte-form Rol r half false g = rw g refl
-shift_byte-form Ror r half true g = rw g refl
-shift_byte-form Ror r half false g = rw g refl
-shift_byte-form Rcl r half true g = rw g refl
-shift_byte-form Rcl r half false g = rw g refl
-shift_byte-form Rcr r half true g = rw g refl
-shift_byte-form Rcr r half false g = rw g refl
-shift_byte-form Shl r half true g = rw g refl
-shift_byte-form Shl r half false g = rw g refl
-shift_byte-form Shr r half true g = rw g refl
-shift_byte-form Shr r half false g = rw g refl
-shift_byte-form Sar r half true g = rw g refl
-shift_byte-form Sar r half false g = rw g refl
+shift_working-form : (w : Width) (count : Count) (operation : Shift) → are_lifted (shift_working operation w count) ≡ true
+shift_working-form byte_width One Rol = refl
+shift_working-form byte_width Cl Rol = refl
+shift_working-form byte_width (ConstCount n) Rol = refl
+shift_working-form word_width One Rol = refl
+shift_working-form word_width Cl Rol = refl
+shift_working-form word_width (ConstCount n) Rol = refl
+shift_working-form _ _ _ = refl
 
 plain-form : (operation : Plain) → are_lifted (plain_stmts operation) ≡ true
 plain-form Nop = refl
@@ -221,12 +203,38 @@ unary-form operation (Seg number) s = absurd (true≢false (sym s))
 unary-form operation (Mem w ea) s = absurd (true≢false (sym s))
 unary-form operation (Constant w constant) s = absurd (true≢false (sym s))
 
-shift-form : (operation : Shift) (a : Operand) (by_cl : Bool) → is_register a ≡ true → are_lifted (shift_stmts operation (operand_width a) a by_cl) ≡ true
-shift-form operation (Word r) by_cl s = shift_word-form operation r by_cl s
-shift-form operation (Byte r half) by_cl s = shift_byte-form operation r half by_cl s
-shift-form operation (Seg number) by_cl s = absurd (true≢false (sym s))
-shift-form operation (Mem w ea) by_cl s = absurd (true≢false (sym s))
-shift-form operation (Constant w constant) by_cl s = absurd (true≢false (sym s))
+-- the count of a shift
+count-form : (cpu : Cpu) (w : Width) (count : Count) → is_lifted_expr (count_expr cpu w count) ≡ true
+count-form I8086 byte_width Cl = refl
+count-form I8086 word_width Cl = refl
+count-form I186 byte_width Cl = refl
+count-form I186 word_width Cl = refl
+count-form cpu w One = refl
+count-form cpu w (ConstCount n) = refl
+
+staying-form : (a : Operand) → is_register a ≡ true → are_lifted (staying (operand_width a) a) ≡ true
+staying-form (Word r) s = rw s refl
+staying-form (Byte r half) s = rw s refl
+staying-form (Seg number) s = absurd (true≢false (sym s))
+staying-form (Mem w ea) s = absurd (true≢false (sym s))
+staying-form (Constant w constant) s = absurd (true≢false (sym s))
+
+shifting-form : (cpu : Cpu) (operation : Shift) (a : Operand) (count : Count) → is_register a ≡ true → are_lifted (shifting cpu operation (operand_width a) a count) ≡ true
+shifting-form cpu operation a count s =
+    let w = operand_width a in
+    let taken = taking-form w (operand_expr a) (count_expr cpu w count) (source-form a (register-source a s)) (count-form cpu w count) in
+    let worked = lifted-append (shift_working operation w count) (storing a) (shift_working-form w count operation) (alu_storing-form Add a s) in
+    lifted-append (taking w (operand_expr a) (count_expr cpu w count)) (shift_working operation w count ++ storing a) taken worked
+
+shift-form : (cpu : Cpu) (operation : Shift) (a : Operand) (count : Count) → is_register a ≡ true → are_lifted (shift_stmts cpu operation (operand_width a) a count) ≡ true
+shift-form cpu operation a count s =
+    of_either (λ stmts. are_lifted stmts ≡ true) (never_shifts count) (staying (operand_width a) a) (shifting cpu operation (operand_width a) a count)
+    (staying-form a s) (shifting-form cpu operation a count s)
+
+triple-form : (r : Reg) (a : Operand) (constant : ℕ) → is_general r ≡ true → is_register a ≡ true → are_lifted (triple_product r a constant) ≡ true
+triple-form r a constant g s =
+    lifted-append (taking word_width (operand_expr a) (Const 16 constant)) (product_working word_width true ++ word_taking r 0 (product word_width))
+    (taking-form word_width (operand_expr a) (Const 16 constant) (source-form a (register-source a s)) refl) (rw g refl)
 
 halves-form : (r : Reg) (low high : Expr) → is_general r ≡ true → is_lifted_expr low ≡ true → is_lifted_expr high ≡ true
     → are_lifted (Set (Half r Low) low ∷ Set (Half r High) high ∷ []) ≡ true
@@ -272,26 +280,29 @@ dos-form (Some n) = go (n == 0x02) (n == 0x4C) (n == 0x01 || n == 0x08) refl ref
     go false false false e f g = refl
 
 -- all operations
-pub op-form : (op : Op) (number : Option ℕ) → is_liftable op ≡ true → are_lifted (op_stmts op number) ≡ true
-op-form (AluOp operation a b) number lifted = alu-form operation a b (and_left (is_register a) (is_source b) lifted) (and_right (is_register a) (is_source b) lifted)
-op-form (UnaryOp operation a) number lifted = unary-form operation a (and_right (is_lifted_unary operation) (is_register a) lifted)
-op-form (ShiftOp operation a by_cl) number lifted = shift-form operation a by_cl lifted
-op-form (Mov a b) number lifted = mov-form a b (and_left (is_register a) (is_source b) lifted) (and_right (is_register a) (is_source b) lifted)
-op-form (Xchg a b) number lifted = xchg-form a b (and_left (is_register a) (is_register b) lifted) (and_right (is_register a) (is_register b) lifted)
-op-form (Lea r ea) number lifted = refl
-op-form (Push a) number lifted = refl
-op-form (Pop a) number lifted = refl
-op-form (PlainOp operation) number lifted = plain-form operation
-op-form (Jump target) number lifted = refl
-op-form (Branch tested target) number lifted = refl
-op-form (Loop target) number lifted = refl
-op-form (LoopE target) number lifted = refl
-op-form (LoopNe target) number lifted = refl
-op-form (Jcxz target) number lifted = refl
-op-form (Table r offset) number lifted = refl
-op-form (Call target) number lifted = refl
-op-form (Ret count) number lifted = refl
-op-form Int21 number lifted = dos-form number
+pub op-form : (cpu : Cpu) (op : Op) (number : Option ℕ) → is_liftable op ≡ true → are_lifted (op_stmts cpu op number) ≡ true
+op-form cpu (AluOp operation a b) number lifted = alu-form operation a b (and_left (is_register a) (is_source b) lifted) (and_right (is_register a) (is_source b) lifted)
+op-form cpu (UnaryOp operation a) number lifted = unary-form operation a (and_right (is_lifted_unary operation) (is_register a) lifted)
+op-form cpu (ShiftOp operation a count) number lifted = shift-form cpu operation a count lifted
+op-form cpu (Imul3 r a constant) number lifted = triple-form r a constant (and_left (is_general r) (is_register a) lifted) (and_right (is_general r) (is_register a) lifted)
+op-form cpu (Enter count) number lifted = refl
+op-form cpu Leave number lifted = refl
+op-form cpu (Mov a b) number lifted = mov-form a b (and_left (is_register a) (is_source b) lifted) (and_right (is_register a) (is_source b) lifted)
+op-form cpu (Xchg a b) number lifted = xchg-form a b (and_left (is_register a) (is_register b) lifted) (and_right (is_register a) (is_register b) lifted)
+op-form cpu (Lea r ea) number lifted = refl
+op-form cpu (Push a) number lifted = refl
+op-form cpu (Pop a) number lifted = refl
+op-form cpu (PlainOp operation) number lifted = plain-form operation
+op-form cpu (Jump target) number lifted = refl
+op-form cpu (Branch tested target) number lifted = refl
+op-form cpu (Loop target) number lifted = refl
+op-form cpu (LoopE target) number lifted = refl
+op-form cpu (LoopNe target) number lifted = refl
+op-form cpu (Jcxz target) number lifted = refl
+op-form cpu (Table r offset) number lifted = refl
+op-form cpu (Call target) number lifted = refl
+op-form cpu (Ret count) number lifted = refl
+op-form cpu Int21 number lifted = dos-form number
 
 -- the test of an operation with two successors
 test-form : (op : Op) (test : Expr) → op_test op ≡ Some test → is_lifted_expr test ≡ true
@@ -314,17 +325,17 @@ exit-form (Some e) (x ∷ y ∷ z ∷ places) form = refl
 
 -- Blocks.
 
-module _ (nodes : Nodes) (entry : ℕ) (each : All IsLiftableNode nodes) where
-  stmts-form : (at : ℕ) → are_lifted (stmts_at nodes at) ≡ true
+module _ (cpu : Cpu) (nodes : Nodes) (entry : ℕ) (each : All IsLiftableNode nodes) where
+  stmts-form : (at : ℕ) → are_lifted (stmts_at cpu nodes at) ≡ true
   stmts-form at = go (node_in nodes at) refl
     where
-      go : (o : Option Node) → node_in nodes at ≡ o → are_lifted (node_stmts o) ≡ true
+      go : (o : Option Node) → node_in nodes at ≡ o → are_lifted (node_stmts cpu o) ≡ true
       go None e = refl
-      go (Some node) e = op-form node.instr.op node.number (node_in_holds IsLiftableNode nodes at node each e).lifted
+      go (Some node) e = op-form cpu node.instr.op node.number (node_in_holds IsLiftableNode nodes at node each e).lifted
 
-  chain-form : (places : List ℕ) → are_lifted (flat_map (stmts_at nodes) places) ≡ true
+  chain-form : (places : List ℕ) → are_lifted (flat_map (stmts_at cpu nodes) places) ≡ true
   chain-form [] = refl
-  chain-form (at ∷ places) = lifted-append (stmts_at nodes at) (flat_map (stmts_at nodes) places) (stmts-form at) (chain-form places)
+  chain-form (at ∷ places) = lifted-append (stmts_at cpu nodes at) (flat_map (stmts_at cpu nodes) places) (stmts-form at) (chain-form places)
 
   end-form : (at : ℕ) → is_lifted_exit (exit_at nodes entry at) ≡ true
   end-form at = go (node_in nodes at)
@@ -333,13 +344,13 @@ module _ (nodes : Nodes) (entry : ℕ) (each : All IsLiftableNode nodes) where
       go None = refl
       go (Some node) = exit-form (op_test node.instr.op) (map (block_place nodes entry) node.succ.items) (test-form node.instr.op)
 
-  block-form : (at : ℕ) (block : Block) → IsBlockAt nodes entry at block → is_lifted_block block ≡ true
+  block-form : (at : ℕ) (block : Block) → IsBlockAt cpu nodes entry at block → is_lifted_block block ≡ true
   block-form at block is =
       and_both (are_lifted block.stmts) (is_lifted_exit block.exit)
       (ap are_lifted is.stmts_are ∙ chain-form (at ∷ is.rest))
       (ap is_lifted_exit is.exit_is ∙ end-form (last_of at is.rest))
 
-  blocks-form : (places : List ℕ) (blocks : List Block) → AreBlocksAt nodes entry places blocks → list_all is_lifted_block blocks ≡ true
+  blocks-form : (places : List ℕ) (blocks : List Block) → AreBlocksAt cpu nodes entry places blocks → list_all is_lifted_block blocks ≡ true
   blocks-form [] [] are = refl
   blocks-form [] (block ∷ blocks) are = absurd are
   blocks-form (at ∷ places) [] are = absurd are
@@ -355,7 +366,7 @@ pub translation-form : (image : Image) (layout : Layout) (start : Proc) (p : Pro
 translation-form image layout start p given is =
     let nodes = start.nodes.entries in
     let first = prelude_block image layout nodes in
-    let rest = blocks-form nodes layout.start_ip given.nodes (leaders nodes layout.start_ip) is.blocks is.blocks_are in
+    let rest = blocks-form layout.cpu nodes layout.start_ip given.nodes (leaders nodes layout.start_ip) is.blocks is.blocks_are in
     let graph = the_graph image layout start p is in
     let all : list_all is_lifted_block (first ∷ is.blocks) ≡ true =
     and_both (is_lifted_block first) (list_all is_lifted_block is.blocks) (prelude-form image layout nodes) rest in

@@ -28,12 +28,13 @@ use Rattle.dcc_prog.proofs.WellFormedLaws.{instruction-operation}
 use Rattle.dcc_prog.specs.Built.{is_unbuilt, operation, string}
 use Rattle.dcc_prog.specs.declared.refusal.LimitName.TheVariants.{Instructions}
 use Rattle.dcc_prog.specs.Limit.{instructions}
-use Rattle.dcc_prog.specs.Found.{IsNodeFound, IsListed, AreFound}
+use Rattle.dcc_prog.specs.Found.{IsNodeFound, IsListed}
 use Rattle.dcc_lift.specs.Statements.{op_test}
 use Rattle.dcc_lift.specs.Blocks.{node_in}
 use Rattle.dcc_lift.specs.Sound.{offsets_of, AgreesWith, AreSound}
 use Rattle.dcc_lift.proofs.NodeLaws.{is_node, node_in_some, node_in_has, node_in_holds, node_in_found, ascending_differ, node_contained, contained_node}
 use Rattle.dcc_lift.specs.Lifting.{IsLiftableNode, IsLiftableProcedure}
+use Rattle.dcc_lift.proofs.OneProcedure.{IsOneFound}
 use Rattle.dcc_lift.proofs.PreludeWords.{layout-words}
 use Rattle.dcc_lift.proofs.Standing.{is_lifted_number, IsInstruction}
 use Rattle.dcc_lift.proofs.TableLaws.{instruction-liftable}
@@ -60,7 +61,7 @@ or_left false b p = absurd (true≢false (sym p))
 form-goes_on : (op : Op) (next : ℕ) (ah : Option ℕ) (targets : List ℕ) → is_prelude_form op ≡ true → op_successors op next ah targets ≡ next ∷ []
 form-goes_on (Mov to from) next ah targets form = refl
 form-goes_on (AluOp kind a b) next ah targets form = refl
-form-goes_on (ShiftOp kind a by_cl) next ah targets form = refl
+form-goes_on (ShiftOp kind a count) next ah targets form = refl
 form-goes_on (PlainOp kind) next ah targets form = refl
 form-goes_on op next ah targets form = absurd (true≢false (sym form))
 
@@ -70,7 +71,7 @@ ending-refused (Mov (Seg number) from) form ends = inl refl
 ending-refused (Mov (Word Sp) from) form ends = inr refl
 ending-refused (AluOp Add (Word Sp) b) form ends = inr refl
 ending-refused (AluOp Sub (Word Sp) b) form ends = inr refl
-ending-refused (ShiftOp Shl (Word Sp) by_cl) form ends = inr refl
+ending-refused (ShiftOp Shl (Word Sp) count) form ends = inr refl
 ending-refused (PlainOp Cli) form ends = inl refl
 ending-refused (PlainOp Sti) form ends = inl refl
 ending-refused (PlainOp Cld) form ends = inl refl
@@ -105,11 +106,11 @@ lifted-number n known other = without (n == 0x01) (n == 0x02) (n == 0x08) (n == 
     without false false false false true h k = refl
     without false false false false false h k = h
 
-module _ (image : Image) (layout : Layout) (procs : List Proc) (are : AreFound image layout procs) where
+module _ (image : Image) (layout : Layout) (procs : List Proc) (are : IsOneFound image layout procs) where
   -- What stands at a node.
 
   pub node-built : (at : ℕ) (instr : Instr) → IsNode image layout layout.start_ip at → instruction_in image layout at ≡ Some instr → is_unbuilt instr.op ≡ false
-  node-built at instr node e = untrue (is_unbuilt instr.op) (λ h. are.built at (record { node = node; unbuilt = operation (instr, e, refl) h }))
+  node-built at instr node e = untrue (is_unbuilt instr.op) (λ h. are.built at (record { entry = layout.start_ip; is_entry = start; node = node; unbuilt = operation (instr, e, refl) h }))
 
   pub node-user : (at : ℕ) (instr : Instr) → IsNode image layout layout.start_ip at → instruction_in image layout at ≡ Some instr → is_system instr.op ≡ false
   node-user at instr node e =
@@ -142,7 +143,7 @@ module _ (image : Image) (layout : Layout) (procs : List Proc) (are : AreFound i
       let known : is_dos_number n ≡ true = true-of (is_dos_number n) (λ unknown. node-told at node (other_number ah unknown)) in
       let other : (n == 0x09) ≡ false = untrue (n == 0x09) (λ nine.
       let is_nine : n ≡ 0x09 = eqb-true n 0x09 nine in
-      are.built at (record { node = node; unbuilt = string (subst (λ k. HasAh image layout layout.start_ip at (Some k)) is_nine ah) })) in
+      are.built at (record { entry = layout.start_ip; is_entry = start; node = node; unbuilt = string (subst (λ k. HasAh image layout layout.start_ip at (Some k)) is_nine ah) })) in
       (n, refl, lifted-number n known other)
 
   -- where a trail that ends at a node goes on
@@ -158,7 +159,7 @@ module _ (image : Image) (layout : Layout) (procs : List Proc) (are : AreFound i
 
   -- a node at an instruction of a prelude leads to the last one, which is refused
   run-unreached :
-      (at : ℕ) (run : List Instr) → IsRun (code_of image) at run → end_of at run ≤ layout.code_end → end_of at run < 65536
+      (at : ℕ) (run : List Instr) → IsRun layout.cpu (code_of image) at run → end_of at run ≤ layout.code_end → end_of at run < 65536
       → 0 < length run → ends_prelude run ≡ true → ¬ IsNode image layout layout.start_ip at
   run-unreached at [] run within small some ends node = absurd (omega arith)
   run-unreached at (instr ∷ []) run within small some ends node =
@@ -168,7 +169,7 @@ module _ (image : Image) (layout : Layout) (procs : List Proc) (are : AreFound i
         | inr unbuilt ↦ true≢false (sym unbuilt ∙ node-built at instr node here)
       ]
   run-unreached at (instr ∷ second ∷ rest) run within small some ends node =
-      let above : at + instr.len ≤ end_of (at + instr.len) (second ∷ rest) = run-above (code_of image) (second ∷ rest) (at + instr.len) run.1 in
+      let above : at + instr.len ≤ end_of (at + instr.len) (second ∷ rest) = run-above layout.cpu (code_of image) (second ∷ rest) (at + instr.len) run.1 in
       let here : instruction_in image layout at ≡ Some instr = instruction-within image layout at instr run.0.found (omega (arith, above, within)) in
       let next : next_of at instr ≡ at + instr.len = let low : at + instr.len < 65536 = omega (arith, above, small) in mod-eq_of_lt low in
       let goes : successors image layout (at ∷ node.before) ≡ (at + instr.len) ∷ [] =
@@ -180,7 +181,7 @@ module _ (image : Image) (layout : Layout) (procs : List Proc) (are : AreFound i
       (node-successor image layout layout.start_ip (at + instr.len) (at ∷ node.before) node.trail there)
 
   places-unreached :
-      (at : ℕ) (run : List Instr) (k : ℕ) → IsRun (code_of image) at run → end_of at run ≤ layout.code_end → end_of at run < 65536
+      (at : ℕ) (run : List Instr) (k : ℕ) → IsRun layout.cpu (code_of image) at run → end_of at run ≤ layout.code_end → end_of at run < 65536
       → ends_prelude run ≡ true → k < length run → ¬ IsNode image layout layout.start_ip (offset_in k run at)
   places-unreached at run zero is within small ends inside = run-unreached at run is within small (omega arith) ends
   places-unreached at [] (suc k) is within small ends inside = absurd (omega arith)
@@ -190,7 +191,7 @@ module _ (image : Image) (layout : Layout) (procs : List Proc) (are : AreFound i
 
 -- What is found.
 
-module _ (image : Image) (layout : Layout) (procs : List Proc) (loaded : IsLoaded image) (has : HasLayout image layout) (are : AreFound image layout procs) where
+module _ (image : Image) (layout : Layout) (procs : List Proc) (loaded : IsLoaded image) (has : HasLayout image layout) (are : IsOneFound image layout procs) where
   -- no instruction of the procedure stands where one of the prelude does
   pub prelude-unreached : (k : ℕ) → k < length has.prelude → ¬ IsNode image layout layout.start_ip (offset_in k has.prelude image.ip)
   prelude-unreached k inside =
@@ -289,9 +290,9 @@ module _ (image : Image) (layout : Layout) (procs : List Proc) (loaded : IsLoade
       record {
         found = e;
         stands = is.instr;
-        liftable = instruction-liftable at (drop at code) node.instr is.instr (node-built image layout procs are at node.instr is.node is.instr)
+        liftable = instruction-liftable layout.cpu at (drop at code) node.instr is.instr (node-built image layout procs are at node.instr is.node is.instr)
             (node-user image layout procs are at node.instr is.node is.instr);
-        operation = instruction-operation at (drop at code) node.instr bytes is.instr;
+        operation = instruction-operation layout.cpu at (drop at code) node.instr bytes is.instr;
         number = λ dos. node-number image layout procs are at node.instr node.number is.node is.instr dos (is.number dos is.node.before is.node.trail);
         told = is.number;
         succ = is.succ;
@@ -315,8 +316,8 @@ module _ (image : Image) (layout : Layout) (procs : List Proc) (loaded : IsLoade
       let code = code_within image layout in
       let bytes = bytes-dropped at code (code-bytes image layout (loaded-bytes image loaded)) in
       record {
-        lifted = instruction-liftable at (drop at code) instr is.instr (node-built image layout procs are at instr is.node is.instr) (node-user image layout procs are at instr is.node is.instr);
-        operation = instruction-operation at (drop at code) instr bytes is.instr;
+        lifted = instruction-liftable layout.cpu at (drop at code) instr is.instr (node-built image layout procs are at instr is.node is.instr) (node-user image layout procs are at instr is.node is.instr);
+        operation = instruction-operation layout.cpu at (drop at code) instr bytes is.instr;
       }
 
   -- what is found is lifted

@@ -27,6 +27,7 @@ pub mod Members
 pub mod FlagCounts
 pub mod CodeBounds
 pub mod PreludeWords
+pub mod OneProcedure
 pub mod FoundSound
 pub mod TrailFlow
 pub mod Standing

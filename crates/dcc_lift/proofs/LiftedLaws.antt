@@ -6,7 +6,7 @@ use Rattle.dcc_prog.specs.declared.procedure.Layout.{Layout}
 use Rattle.dcc_prog.specs.declared.procedure.Proc.{Proc}
 use Rattle.dcc_prog.specs.MzImage.{IsLoaded}
 use Rattle.dcc_prog.specs.Layout.{HasLayout}
-use Rattle.dcc_prog.specs.Found.{AreFound}
+use Rattle.dcc_lift.proofs.OneProcedure.{IsOneFound}
 use Rattle.dcc_ir.specs.Tree.{Program}
 use Rattle.dcc_ir.specs.WellFormed.{is_stmt}
 use Rattle.dcc_lift.specs.Statements.{op_stmts}
@@ -16,7 +16,7 @@ use Rattle.dcc_lift.specs.Lifted.{ShadowsMachine, MachineKeepsPace, IsLifted, Is
 use Rattle.dcc_lift.proofs.MirrorLaws.{values_fit}
 use Rattle.dcc_lift.proofs.OperationMirrors.{OthersMirror, op_mirrors, op_keeps, op_single, op_tested}
 use Rattle.dcc_lift.proofs.ShiftMirrors.{shift_op_mirrors}
-use Rattle.dcc_lift.proofs.ProductMirrors.{mul_op_mirrors, imul_op_mirrors, cbw_op_mirrors, cwd_op_mirrors}
+use Rattle.dcc_lift.proofs.ProductMirrors.{mul_op_mirrors, imul_op_mirrors, triple_op_mirrors, cbw_op_mirrors, cwd_op_mirrors}
 use Rattle.dcc_lift.proofs.StatementLaws.{op-well_formed, op-step}
 use Rattle.dcc_lift.proofs.ProgramLaws.{translation-well_formed, translation-shallow}
 use Rattle.dcc_lift.proofs.FormLaws.{translation-form}
@@ -34,26 +34,27 @@ use Rattle.dcc_lift.proofs.RunLaws.{run-shadows, machine-paced}
 -- shifts, products and sign extensions
 others : OthersMirror
 others = record {
-  shift = λ s scene at number operation a by_cl fits bits m well l. shift_op_mirrors s scene at number operation a by_cl fits bits m well l;
+  shift = λ cpu s scene at number operation a count fits bits m well l. shift_op_mirrors cpu s scene at number operation a count fits bits m well l;
   mul = mul_op_mirrors;
   imul = imul_op_mirrors;
-  cbw = λ s scene at number fits bits m. cbw_op_mirrors s scene at number fits m;
-  cwd = λ s scene at number fits bits m. cwd_op_mirrors s scene at number fits m;
+  triple = triple_op_mirrors;
+  cbw = λ cpu s scene at number fits bits m. cbw_op_mirrors cpu s scene at number fits m;
+  cwd = λ cpu s scene at number fits bits m. cwd_op_mirrors cpu s scene at number fits m;
 }
 
 -- all operations that are lifted do what their statements do
 pub operations-lifted : AreLifted
 operations-lifted = record {
   mirrors = op_mirrors others;
-  fits = λ op number scene l well other bits fits. values_fit (op_stmts op number) scene
-      (subst (λ b. list_all (is_stmt b) (op_stmts op number) ≡ true) (sym bits) (op-well_formed op number l well)) fits;
+  fits = λ cpu op number scene l well other bits fits. values_fit (op_stmts cpu op number) scene
+      (subst (λ b. list_all (is_stmt b) (op_stmts cpu op number) ≡ true) (sym bits) (op-well_formed cpu op number l well)) fits;
   keeps = op_keeps;
   single = op_single;
-  tested = λ op number at s ah scene test l well other bits fits m e. op_tested op number at s ah scene test m e;
-  runs = λ op number graphs fill rest t l well other going. op-step graphs fill op number rest t l well other going;
+  tested = λ cpu op number at s ah scene test l well other bits fits m e. op_tested cpu op number at s ah scene test m e;
+  runs = λ cpu op number graphs fill rest t l well other going. op-step cpu graphs fill op number rest t l well other going;
 }
 
-module _ (image : Image) (layout : Layout) (procs : List Proc) (loaded : IsLoaded image) (has : HasLayout image layout) (are : AreFound image layout procs)
+module _ (image : Image) (layout : Layout) (procs : List Proc) (loaded : IsLoaded image) (has : HasLayout image layout) (are : IsOneFound image layout procs)
     (p : Program) (translation : IsTranslation image layout are.start p) where
   shadows-machine : ShadowsMachine image layout p
   shadows-machine fill input small bytes = run-shadows operations-lifted image layout procs loaded has are p translation fill input bytes

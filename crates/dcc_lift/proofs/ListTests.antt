@@ -1,5 +1,5 @@
 -- Laws of tests and of the lists in which one passes.
-use Rattle.std.proofs.Common.{◌≡◌, ℕ, zero, suc, ◌<◌, Bool, true, false, cond, ◌&&◌, ◌||◌, not, ◌==◌, ◌⊎◌, inl, inr, List, [], ◌∷◌, map, filter, flat_map, Some, slice_get, get_or, length, Contains, refl, sym, ap, ◌∙◌, true≢false, eqb-true, eq-eqb, arith}
+use Rattle.std.proofs.Common.{◌≡◌, ℕ, zero, suc, ◌<◌, Bool, true, false, cond, ◌&&◌, ◌||◌, not, if◌then◌else◌, ◌==◌, ◌⊎◌, inl, inr, List, [], ◌∷◌, map, filter, flat_map, Some, slice_get, get_or, length, Contains, refl, sym, ap, ◌∙◌, true≢false, eqb-true, eq-eqb, arith}
 use Rattle.std.specs.List.{list_any}
 use Rattle.std.proofs.lemmas.List.Folds.{list_any-append}
 use Rattle.dcc_ir.proofs.PathLaws.{decided, or_false}
@@ -43,6 +43,11 @@ not_true false e = refl
 
 pub same_number : (n : ℕ) → (n == n) ≡ true
 same_number n = eq-eqb n n refl
+
+-- what holds of two values holds of the one that is chosen
+pub of_either : {X : Type 0} (P : X → Type 0) (b : Bool) (x y : X) → P x → P y → P (if b then x else y)
+of_either P true x y p q = p
+of_either P false x y p q = q
 
 -- two tests that pass each where the other does are one
 pub same_test : (a b : Bool) → (a ≡ true → b ≡ true) → (b ≡ true → a ≡ true) → a ≡ b

@@ -4,6 +4,7 @@ use Rattle.std.proofs.Common.{◌≡◌, ◌≤◌, ◌<◌, ℕ, zero, suc, ◌
 use Rattle.std.specs.Prelude.{flat_map}
 use Rattle.std.specs.List.{list_all}
 use Rattle.std.proofs.lemmas.List.Elements.{All-head, All-tail}
+use Rattle.dcc_prog.specs.declared.cpu.Cpu.{Cpu}
 use Rattle.dcc_prog.specs.declared.procedure.Node.{Node}
 use Rattle.dcc_ir.specs.Tree.{Stmt, Block}
 use Rattle.dcc_ir.proofs.PathLaws.{decided, clash, or_left, or_right}
@@ -17,11 +18,11 @@ use Rattle.dcc_lift.proofs.ChainLaws.{has_successor, IsJoined, joined, joined_fr
 use Rattle.dcc_lift.proofs.Totals.{total, one, times, add-le, total-append, total-none, total-split, times-filter, filter-all}
 
 -- the instructions of blocks, one block after another
-abbrev pub members : (nodes : Nodes) (entry : ℕ) (places : List ℕ) (blocks : List Block) → AreBlocksAt nodes entry places blocks → List ℕ
-members nodes entry [] [] are = []
-members nodes entry [] (block ∷ blocks) are = absurd are
-members nodes entry (at ∷ places) [] are = absurd are
-members nodes entry (at ∷ places) (block ∷ blocks) are = (at ∷ are.0.rest) ++ members nodes entry places blocks are.1
+abbrev pub members : (cpu : Cpu) (nodes : Nodes) (entry : ℕ) (places : List ℕ) (blocks : List Block) → AreBlocksAt cpu nodes entry places blocks → List ℕ
+members cpu nodes entry [] [] are = []
+members cpu nodes entry [] (block ∷ blocks) are = absurd are
+members cpu nodes entry (at ∷ places) [] are = absurd are
+members cpu nodes entry (at ∷ places) (block ∷ blocks) are = (at ∷ are.0.rest) ++ members cpu nodes entry places blocks are.1
 
 -- How often an offset is listed.
 
@@ -42,7 +43,7 @@ listed-once (found ∷ nodes) c differ = go (found.0 == c) refl (listed-once nod
         omega (arith, rest)
     go false e later = omega (arith, later)
 
-module _ (nodes : Nodes) (entry prelude : ℕ) (sound : AreSound nodes entry prelude) where
+module _ (cpu : Cpu) (nodes : Nodes) (entry prelude : ℕ) (sound : AreSound nodes entry prelude) where
   -- an instruction that joins the block of the one before it follows that one in each chain
   followed : (x : ℕ) (j : IsJoined nodes entry x) (rest : List ℕ) (at : ℕ) → IsChain nodes entry at rest → times x rest ≤ times j.from (at ∷ rest)
   followed x j [] at chain = omega arith
@@ -71,14 +72,14 @@ module _ (nodes : Nodes) (entry prelude : ℕ) (sound : AreSound nodes entry pre
   abbrev Begin : List ℕ → Type 0
   Begin places = list_all (λ at. not (joins nodes entry at)) places ≡ true
 
-  members-joined : (x : ℕ) → joins nodes entry x ≡ true → (j : IsJoined nodes entry x) → (places : List ℕ) (blocks : List Block) (are : AreBlocksAt nodes entry places blocks)
-      → Begin places → times x (members nodes entry places blocks are) ≤ times j.from (members nodes entry places blocks are)
+  members-joined : (x : ℕ) → joins nodes entry x ≡ true → (j : IsJoined nodes entry x) → (places : List ℕ) (blocks : List Block) (are : AreBlocksAt cpu nodes entry places blocks)
+      → Begin places → times x (members cpu nodes entry places blocks are) ≤ times j.from (members cpu nodes entry places blocks are)
   members-joined x t j [] [] are begin = omega arith
   members-joined x t j [] (block ∷ blocks) are begin = absurd are
   members-joined x t j (at ∷ places) [] are begin = absurd are
   members-joined x t j (at ∷ places) (block ∷ blocks) are begin =
       let rest = are.0.rest in
-      let more = members nodes entry places blocks are.1 in
+      let more = members cpu nodes entry places blocks are.1 in
       let begins = not_true (joins nodes entry at) (and_left (not (joins nodes entry at)) (list_all (λ a. not (joins nodes entry a)) places) begin) in
       let here : one (at == x) ≡ 0 = ap one (ne_eqb at x (λ same. clash t (subst (λ n. joins nodes entry n ≡ false) same begins))) in
       let follows = followed x j rest at are.0.chain in
@@ -89,22 +90,22 @@ module _ (nodes : Nodes) (entry prelude : ℕ) (sound : AreSound nodes entry pre
       let right = total-append (λ n. one (n == j.from)) (at ∷ rest) more in
       subst (λ n. n ≤ times j.from ((at ∷ rest) ++ more)) (sym left) (subst (λ n. times x (at ∷ rest) + times x more ≤ n) (sym right) whole)
 
-  members-first : (x : ℕ) → joins nodes entry x ≡ false → (places : List ℕ) (blocks : List Block) (are : AreBlocksAt nodes entry places blocks)
-      → times x (members nodes entry places blocks are) ≡ times x places
+  members-first : (x : ℕ) → joins nodes entry x ≡ false → (places : List ℕ) (blocks : List Block) (are : AreBlocksAt cpu nodes entry places blocks)
+      → times x (members cpu nodes entry places blocks are) ≡ times x places
   members-first x begins [] [] are = refl
   members-first x begins [] (block ∷ blocks) are = absurd are
   members-first x begins (at ∷ places) [] are = absurd are
   members-first x begins (at ∷ places) (block ∷ blocks) are =
       let rest = are.0.rest in
-      let more = members nodes entry places blocks are.1 in
+      let more = members cpu nodes entry places blocks are.1 in
       let none = unfollowed x begins rest (chain_inner nodes entry prelude sound rest at are.0.chain) in
       let later = members-first x begins places blocks are.1 in
       let left : times x ((at ∷ rest) ++ more) ≡ times x (at ∷ rest) + times x more = total-append (λ n. one (n == x)) (at ∷ rest) more in
       left ∙ omega (arith, none, later)
 
   -- each instruction stands in one block at most
-  module _ (blocks : List Block) (are : AreBlocksAt nodes entry (leaders nodes entry) blocks) where
-    once_below : (bound x : ℕ) → x < bound → times x (members nodes entry (leaders nodes entry) blocks are) ≤ 1
+  module _ (blocks : List Block) (are : AreBlocksAt cpu nodes entry (leaders nodes entry) blocks) where
+    once_below : (bound x : ℕ) → x < bound → times x (members cpu nodes entry (leaders nodes entry) blocks are) ≤ 1
     once_below zero x less = absurd (omega (arith, less))
     once_below (suc bound) x less = elim (decided (joins nodes entry x)) [
       | inl t ↦
@@ -120,7 +121,7 @@ module _ (nodes : Nodes) (entry prelude : ℕ) (sound : AreSound nodes entry pre
           subst (λ n. n ≤ 1) (sym first) (omega (arith, fewer, one_there))
     ]
 
-    pub members-once : (x : ℕ) → times x (members nodes entry (leaders nodes entry) blocks are) ≤ 1
+    pub members-once : (x : ℕ) → times x (members cpu nodes entry (leaders nodes entry) blocks are) ≤ 1
     members-once x = once_below (suc x) x (omega arith)
 
 -- Sums over instructions.
@@ -150,32 +151,32 @@ module _ (f : Node → ℕ) where
       bound (suc zero) k less p q = omega (arith, p, q)
       bound (suc (suc n)) k less p q = absurd (omega (arith, less))
 
-  module _ (nodes : Nodes) (entry prelude : ℕ) (sound : AreSound nodes entry prelude) (each : All IsLiftableNode nodes) (count : Stmt → ℕ)
-      (few : (found : ℕ × Node) → IsLiftableNode found → total count (op_stmts found.1.instr.op found.1.number) ≤ f found.1) where
-    stmts-few : (at : ℕ) → total count (stmts_at nodes at) ≤ weight (node_in nodes at)
+  module _ (cpu : Cpu) (nodes : Nodes) (entry prelude : ℕ) (sound : AreSound nodes entry prelude) (each : All IsLiftableNode nodes) (count : Stmt → ℕ)
+      (few : (found : ℕ × Node) → IsLiftableNode found → total count (op_stmts cpu found.1.instr.op found.1.number) ≤ f found.1) where
+    stmts-few : (at : ℕ) → total count (stmts_at cpu nodes at) ≤ weight (node_in nodes at)
     stmts-few at = go (node_in nodes at) refl
       where
-        go : (o : Option Node) → node_in nodes at ≡ o → total count (node_stmts o) ≤ weight o
+        go : (o : Option Node) → node_in nodes at ≡ o → total count (node_stmts cpu o) ≤ weight o
         go None e = omega arith
         go (Some node) e = few (at, node) (node_in_holds IsLiftableNode nodes at node each e)
 
-    chain-few : (places : List ℕ) → total count (flat_map (stmts_at nodes) places) ≤ total (λ at. weight (node_in nodes at)) places
+    chain-few : (places : List ℕ) → total count (flat_map (stmts_at cpu nodes) places) ≤ total (λ at. weight (node_in nodes at)) places
     chain-few [] = omega arith
     chain-few (at ∷ places) =
-        let left = total-append count (stmts_at nodes at) (flat_map (stmts_at nodes) places) in
+        let left = total-append count (stmts_at cpu nodes at) (flat_map (stmts_at cpu nodes) places) in
         subst (λ n. n ≤ weight (node_in nodes at) + total (λ at. weight (node_in nodes at)) places) (sym left)
-        (add-le (total count (stmts_at nodes at)) (weight (node_in nodes at)) (total count (flat_map (stmts_at nodes) places)) (total (λ at. weight (node_in nodes at)) places)
+        (add-le (total count (stmts_at cpu nodes at)) (weight (node_in nodes at)) (total count (flat_map (stmts_at cpu nodes) places)) (total (λ at. weight (node_in nodes at)) places)
         (stmts-few at) (chain-few places))
 
-    blocks-few : (places : List ℕ) (blocks : List Block) (are : AreBlocksAt nodes entry places blocks)
-        → total count (flat_map (λ (b : Block). b.stmts) blocks) ≤ total (λ at. weight (node_in nodes at)) (members nodes entry places blocks are)
+    blocks-few : (places : List ℕ) (blocks : List Block) (are : AreBlocksAt cpu nodes entry places blocks)
+        → total count (flat_map (λ (b : Block). b.stmts) blocks) ≤ total (λ at. weight (node_in nodes at)) (members cpu nodes entry places blocks are)
     blocks-few [] [] are = omega arith
     blocks-few [] (block ∷ blocks) are = absurd are
     blocks-few (at ∷ places) [] are = absurd are
     blocks-few (at ∷ places) (block ∷ blocks) are =
         let w : ℕ → ℕ = λ at. weight (node_in nodes at) in
         let rest = are.0.rest in
-        let more = members nodes entry places blocks are.1 in
+        let more = members cpu nodes entry places blocks are.1 in
         let later = flat_map (λ (b : Block). b.stmts) blocks in
         let here : total count block.stmts ≤ total w (at ∷ rest) = subst (λ stmts. total count stmts ≤ total w (at ∷ rest)) (sym are.0.stmts_are) (chain-few (at ∷ rest)) in
         let whole = add-le (total count block.stmts) (total w (at ∷ rest)) (total count later) (total w more) here (blocks-few places blocks are.1) in
@@ -183,9 +184,9 @@ module _ (f : Node → ℕ) where
         (subst (λ n. total count block.stmts + total count later ≤ n) (sym (total-append w (at ∷ rest) more)) whole)
 
     -- what the statements of all blocks count is no more than what the instructions do
-    pub blocks-counted : (blocks : List Block) → AreBlocksAt nodes entry (leaders nodes entry) blocks
+    pub blocks-counted : (blocks : List Block) → AreBlocksAt cpu nodes entry (leaders nodes entry) blocks
         → total count (flat_map (λ (b : Block). b.stmts) blocks) ≤ total (λ found. f found.1) nodes
     blocks-counted blocks are =
         let here = blocks-few (leaders nodes entry) blocks are in
-        let all = spread nodes (members nodes entry (leaders nodes entry) blocks are) (members-once nodes entry prelude sound blocks are) in
+        let all = spread nodes (members cpu nodes entry (leaders nodes entry) blocks are) (members-once cpu nodes entry prelude sound blocks are) in
         omega (arith, here, all)

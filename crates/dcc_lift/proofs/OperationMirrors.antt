@@ -6,18 +6,21 @@ use Rattle.dcc_num.specs.declared.Width.{Width}
 use Rattle.dcc_num.specs.declared.Width.TheVariants.{Byte as byte_width, Word as word_width}
 use Rattle.dcc_num.specs.declared.Flags.{Flags}
 use Rattle.dcc_num.specs.declared.FlagName.TheVariants.{Zf}
+use Rattle.dcc_num.specs.declared.Reg.{Reg}
 use Rattle.dcc_num.specs.declared.Reg.TheVariants.{Cx}
+use Rattle.dcc_prog.specs.declared.cpu.Cpu.{Cpu}
 use Rattle.dcc_prog.specs.declared.instr.Alu.{Alu}
 use Rattle.dcc_prog.specs.declared.instr.Alu.TheVariants.{Add, Or, Adc, Sbb, And, Sub, Xor, Cmp, Test}
 use Rattle.dcc_prog.specs.declared.instr.Unary.{Unary}
 use Rattle.dcc_prog.specs.declared.instr.Unary.TheVariants.{Inc, Dec, Neg, Not, Mul, Imul, Div, Idiv}
 use Rattle.dcc_prog.specs.declared.instr.Shift.{Shift}
+use Rattle.dcc_prog.specs.declared.instr.Count.{Count}
 use Rattle.dcc_prog.specs.declared.instr.Plain.{Plain}
 use Rattle.dcc_prog.specs.declared.instr.Plain.TheVariants.{Nop, Cbw, Cwd, Xlat, Clc, Stc, Cmc, Cli, Sti, Cld}
 use Rattle.dcc_prog.specs.declared.instr.Operand.{Operand}
 use Rattle.dcc_prog.specs.declared.instr.Operand.TheVariants.{Word, Byte, Seg, Mem, Const as Constant}
 use Rattle.dcc_prog.specs.declared.instr.Op.{Op}
-use Rattle.dcc_prog.specs.declared.instr.Op.TheVariants.{Alu as AluOp, Unary as UnaryOp, Shift as ShiftOp, Mov, Xchg, Lea, Push, Pop, Plain as PlainOp, Jump, Branch, Loop, LoopE, LoopNe, Jcxz, Table, Call, Ret, Int21}
+use Rattle.dcc_prog.specs.declared.instr.Op.TheVariants.{Alu as AluOp, Unary as UnaryOp, Shift as ShiftOp, Mov, Xchg, Lea, Imul3, Push, Pop, Enter, Leave, Plain as PlainOp, Jump, Branch, Loop, LoopE, LoopNe, Jcxz, Table, Call, Ret, Int21}
 use Rattle.dcc_prog.specs.declared.instr.Cond.{Cond}
 use Rattle.dcc_prog.specs.Machine.{State, word_in, operand_value, operand_width, with_operand}
 use Rattle.dcc_prog.specs.Operations.{with_flags, with_result, with_product, alu_step, unary_step, shift_result, count_in, plain_step, holds}
@@ -116,197 +119,214 @@ plain_stays Cld s l = absurd (true≢false (sym l))
 abbrev is_straight : Op → Bool
 is_straight (AluOp operation a b) = true
 is_straight (UnaryOp operation a) = true
-is_straight (ShiftOp operation a by_cl) = true
+is_straight (ShiftOp operation a count) = true
 is_straight (Mov to from) = true
 is_straight (Xchg a b) = true
+is_straight (Imul3 r a constant) = true
 is_straight (PlainOp operation) = true
 is_straight op = false
 
-straight_stays : (op : Op) (at : ℕ) (s : State) → is_liftable op ≡ true → is_straight op ≡ true → StaysAt s (op_step op at s)
-straight_stays (AluOp operation a b) at s l i = alu_stays operation (operand_width a) a (operand_value s a) (operand_value s b) s (and_parts (is_register a) (is_source b) l).0
-straight_stays (UnaryOp operation a) at s l i = let both = and_parts (is_lifted_unary operation) (is_register a) l in unary_stays operation (operand_width a) a (operand_value s a) at s both.0 both.1
-straight_stays (ShiftOp operation a by_cl) at s l i = result_stays a (shift_result operation (operand_width a) (operand_value s a) (count_in by_cl s) s.flags) s l
-straight_stays (Mov to from) at s l i = operand_stays to (operand_value s from) s (and_parts (is_register to) (is_source from) l).0
-straight_stays (Xchg a b) at s l i =
+straight_stays : (cpu : Cpu) (op : Op) (at : ℕ) (s : State) → is_liftable op ≡ true → is_straight op ≡ true → StaysAt s (op_step cpu op at s)
+straight_stays cpu (AluOp operation a b) at s l i = alu_stays operation (operand_width a) a (operand_value s a) (operand_value s b) s (and_parts (is_register a) (is_source b) l).0
+straight_stays cpu (UnaryOp operation a) at s l i = let both = and_parts (is_lifted_unary operation) (is_register a) l in unary_stays operation (operand_width a) a (operand_value s a) at s both.0 both.1
+straight_stays cpu (ShiftOp operation a count) at s l i = result_stays a (shift_result operation (operand_width a) (operand_value s a) (count_in cpu count s) s.flags) s l
+straight_stays cpu (Mov to from) at s l i = operand_stays to (operand_value s from) s (and_parts (is_register to) (is_source from) l).0
+straight_stays cpu (Xchg a b) at s l i =
     let both = and_parts (is_register a) (is_register b) l in
     stays_through (operand_stays a (operand_value s b) s both.0) (operand_stays b (operand_value s a) (with_operand s a (operand_value s b)) both.1)
-straight_stays (PlainOp operation) at s l i = plain_stays operation s l
-straight_stays _ at s l i = absurd (true≢false (sym i))
+straight_stays cpu (Imul3 r a constant) at s l i = record { rest = record { memory = refl; segs = refl; input = refl; events = refl; end = refl }; ip = refl }
+straight_stays cpu (PlainOp operation) at s l i = plain_stays operation s l
+straight_stays cpu _ at s l i = absurd (true≢false (sym i))
 
 -- memory, segments, input, output and end stay
-pub op_keeps : (op : Op) (at : ℕ) (s : State) → is_liftable op ≡ true → op ≢ Int21 → KeepsRest s (op_step op at s)
-op_keeps (Jump target) at s l n = record { memory = refl; segs = refl; input = refl; events = refl; end = refl }
-op_keeps (Branch tested target) at s l n = record { memory = refl; segs = refl; input = refl; events = refl; end = refl }
-op_keeps (Loop target) at s l n = record { memory = refl; segs = refl; input = refl; events = refl; end = refl }
-op_keeps (LoopE target) at s l n = record { memory = refl; segs = refl; input = refl; events = refl; end = refl }
-op_keeps (LoopNe target) at s l n = record { memory = refl; segs = refl; input = refl; events = refl; end = refl }
-op_keeps (Jcxz target) at s l n = record { memory = refl; segs = refl; input = refl; events = refl; end = refl }
-op_keeps (AluOp operation a b) at s l n = (straight_stays (AluOp operation a b) at s l refl).rest
-op_keeps (UnaryOp operation a) at s l n = (straight_stays (UnaryOp operation a) at s l refl).rest
-op_keeps (ShiftOp operation a by_cl) at s l n = (straight_stays (ShiftOp operation a by_cl) at s l refl).rest
-op_keeps (Mov to from) at s l n = (straight_stays (Mov to from) at s l refl).rest
-op_keeps (Xchg a b) at s l n = (straight_stays (Xchg a b) at s l refl).rest
-op_keeps (PlainOp operation) at s l n = (straight_stays (PlainOp operation) at s l refl).rest
-op_keeps Int21 at s l n = absurd (n refl)
-op_keeps (Lea r ea) at s l n = absurd (true≢false (sym l))
-op_keeps (Push a) at s l n = absurd (true≢false (sym l))
-op_keeps (Pop a) at s l n = absurd (true≢false (sym l))
-op_keeps (Table r offset) at s l n = absurd (true≢false (sym l))
-op_keeps (Call target) at s l n = absurd (true≢false (sym l))
-op_keeps (Ret count) at s l n = absurd (true≢false (sym l))
+pub op_keeps : (cpu : Cpu) (op : Op) (at : ℕ) (s : State) → is_liftable op ≡ true → op ≢ Int21 → KeepsRest s (op_step cpu op at s)
+op_keeps cpu (Jump target) at s l n = record { memory = refl; segs = refl; input = refl; events = refl; end = refl }
+op_keeps cpu (Branch tested target) at s l n = record { memory = refl; segs = refl; input = refl; events = refl; end = refl }
+op_keeps cpu (Loop target) at s l n = record { memory = refl; segs = refl; input = refl; events = refl; end = refl }
+op_keeps cpu (LoopE target) at s l n = record { memory = refl; segs = refl; input = refl; events = refl; end = refl }
+op_keeps cpu (LoopNe target) at s l n = record { memory = refl; segs = refl; input = refl; events = refl; end = refl }
+op_keeps cpu (Jcxz target) at s l n = record { memory = refl; segs = refl; input = refl; events = refl; end = refl }
+op_keeps cpu (AluOp operation a b) at s l n = (straight_stays cpu (AluOp operation a b) at s l refl).rest
+op_keeps cpu (UnaryOp operation a) at s l n = (straight_stays cpu (UnaryOp operation a) at s l refl).rest
+op_keeps cpu (ShiftOp operation a count) at s l n = (straight_stays cpu (ShiftOp operation a count) at s l refl).rest
+op_keeps cpu (Mov to from) at s l n = (straight_stays cpu (Mov to from) at s l refl).rest
+op_keeps cpu (Xchg a b) at s l n = (straight_stays cpu (Xchg a b) at s l refl).rest
+op_keeps cpu (Imul3 r a constant) at s l n = (straight_stays cpu (Imul3 r a constant) at s l refl).rest
+op_keeps cpu (PlainOp operation) at s l n = (straight_stays cpu (PlainOp operation) at s l refl).rest
+op_keeps cpu (Enter count) at s l n = absurd (true≢false (sym l))
+op_keeps cpu Leave at s l n = absurd (true≢false (sym l))
+op_keeps cpu Int21 at s l n = absurd (n refl)
+op_keeps cpu (Lea r ea) at s l n = absurd (true≢false (sym l))
+op_keeps cpu (Push a) at s l n = absurd (true≢false (sym l))
+op_keeps cpu (Pop a) at s l n = absurd (true≢false (sym l))
+op_keeps cpu (Table r offset) at s l n = absurd (true≢false (sym l))
+op_keeps cpu (Call target) at s l n = absurd (true≢false (sym l))
+op_keeps cpu (Ret count) at s l n = absurd (true≢false (sym l))
 
 -- Where it goes on.
 
-next_is : (op : Op) (at : ℕ) (s : State) → is_liftable op ≡ true → is_straight op ≡ true → s.ip ∷ [] ≡ (op_step op at s).ip ∷ []
-next_is op at s l i = ap (λ (k : ℕ). k ∷ []) (sym (straight_stays op at s l i).ip)
+next_is : (cpu : Cpu) (op : Op) (at : ℕ) (s : State) → is_liftable op ≡ true → is_straight op ≡ true → s.ip ∷ [] ≡ (op_step cpu op at s).ip ∷ []
+next_is cpu op at s l i = ap (λ (k : ℕ). k ∷ []) (sym (straight_stays cpu op at s l i).ip)
 
 -- without a test: to its only successor
-pub op_single : (op : Op) (at : ℕ) (s : State) (ah : Option ℕ) → is_liftable op ≡ true → op ≢ Int21 → op_test op ≡ None → op_successors op s.ip ah [] ≡ (op_step op at s).ip ∷ []
-op_single (AluOp operation a b) at s ah l n e = next_is (AluOp operation a b) at s l refl
-op_single (UnaryOp operation a) at s ah l n e = next_is (UnaryOp operation a) at s l refl
-op_single (ShiftOp operation a by_cl) at s ah l n e = next_is (ShiftOp operation a by_cl) at s l refl
-op_single (Mov to from) at s ah l n e = next_is (Mov to from) at s l refl
-op_single (Xchg a b) at s ah l n e = next_is (Xchg a b) at s l refl
-op_single (PlainOp operation) at s ah l n e = next_is (PlainOp operation) at s l refl
-op_single (Jump target) at s ah l n e = refl
-op_single (Branch tested target) at s ah l n e = absurd (let clash = e in cc)
-op_single (Loop target) at s ah l n e = absurd (let clash = e in cc)
-op_single (LoopE target) at s ah l n e = absurd (let clash = e in cc)
-op_single (LoopNe target) at s ah l n e = absurd (let clash = e in cc)
-op_single (Jcxz target) at s ah l n e = absurd (let clash = e in cc)
-op_single Int21 at s ah l n e = absurd (n refl)
-op_single (Lea r ea) at s ah l n e = absurd (true≢false (sym l))
-op_single (Push a) at s ah l n e = absurd (true≢false (sym l))
-op_single (Pop a) at s ah l n e = absurd (true≢false (sym l))
-op_single (Table r offset) at s ah l n e = absurd (true≢false (sym l))
-op_single (Call target) at s ah l n e = absurd (true≢false (sym l))
-op_single (Ret count) at s ah l n e = absurd (true≢false (sym l))
+pub op_single : (cpu : Cpu) (op : Op) (at : ℕ) (s : State) (ah : Option ℕ) → is_liftable op ≡ true → op ≢ Int21 → op_test op ≡ None → op_successors op s.ip ah [] ≡ (op_step cpu op at s).ip ∷ []
+op_single cpu (AluOp operation a b) at s ah l n e = next_is cpu (AluOp operation a b) at s l refl
+op_single cpu (UnaryOp operation a) at s ah l n e = next_is cpu (UnaryOp operation a) at s l refl
+op_single cpu (ShiftOp operation a count) at s ah l n e = next_is cpu (ShiftOp operation a count) at s l refl
+op_single cpu (Mov to from) at s ah l n e = next_is cpu (Mov to from) at s l refl
+op_single cpu (Xchg a b) at s ah l n e = next_is cpu (Xchg a b) at s l refl
+op_single cpu (Imul3 r a constant) at s ah l n e = next_is cpu (Imul3 r a constant) at s l refl
+op_single cpu (PlainOp operation) at s ah l n e = next_is cpu (PlainOp operation) at s l refl
+op_single cpu (Enter count) at s ah l n e = absurd (true≢false (sym l))
+op_single cpu Leave at s ah l n e = absurd (true≢false (sym l))
+op_single cpu (Jump target) at s ah l n e = refl
+op_single cpu (Branch tested target) at s ah l n e = absurd (let clash = e in cc)
+op_single cpu (Loop target) at s ah l n e = absurd (let clash = e in cc)
+op_single cpu (LoopE target) at s ah l n e = absurd (let clash = e in cc)
+op_single cpu (LoopNe target) at s ah l n e = absurd (let clash = e in cc)
+op_single cpu (Jcxz target) at s ah l n e = absurd (let clash = e in cc)
+op_single cpu Int21 at s ah l n e = absurd (n refl)
+op_single cpu (Lea r ea) at s ah l n e = absurd (true≢false (sym l))
+op_single cpu (Push a) at s ah l n e = absurd (true≢false (sym l))
+op_single cpu (Pop a) at s ah l n e = absurd (true≢false (sym l))
+op_single cpu (Table r offset) at s ah l n e = absurd (true≢false (sym l))
+op_single cpu (Call target) at s ah l n e = absurd (true≢false (sym l))
+op_single cpu (Ret count) at s ah l n e = absurd (true≢false (sym l))
 
 -- the state goes on to the target where the test has the value 1, else to the next instruction
-abbrev Goes : Op → Option ℕ → ℕ → State → Option ℕ → Scene → Expr → Type 0
-Goes op number at s ah scene test =
-    (target : ℕ) × (op_successors op s.ip ah [] ≡ target ∷ s.ip ∷ []) × ((op_step op at s).ip ≡ (if value_of (executed (op_stmts op number) scene) test == 1 then target else s.ip))
+abbrev Goes : Cpu → Op → Option ℕ → ℕ → State → Option ℕ → Scene → Expr → Type 0
+Goes cpu op number at s ah scene test =
+    (target : ℕ) × (op_successors op s.ip ah [] ≡ target ∷ s.ip ∷ []) × ((op_step cpu op at s).ip ≡ (if value_of (executed (op_stmts cpu op number) scene) test == 1 then target else s.ip))
 
-branch_goes : (tested : Cond) (target : ℕ) (number : Option ℕ) (at : ℕ) (s : State) (ah : Option ℕ) (scene : Scene) → Mirrors s scene.values
-    → Goes (Branch tested target) number at s ah scene (condition tested)
-branch_goes tested target number at s ah scene m = (target, refl, chosen_by _ target s.ip (holds tested s.flags) (condition_value tested s scene m))
+branch_goes : (cpu : Cpu) (tested : Cond) (target : ℕ) (number : Option ℕ) (at : ℕ) (s : State) (ah : Option ℕ) (scene : Scene) → Mirrors s scene.values
+    → Goes cpu (Branch tested target) number at s ah scene (condition tested)
+branch_goes cpu tested target number at s ah scene m = (target, refl, chosen_by _ target s.ip (holds tested s.flags) (condition_value tested s scene m))
 
 -- CX is not 0 after it was lowered
 not_done : State → Bool
 not_done s = not ((word_in s Cx + 65535) % 65536 == 0)
 
-loop_goes : (target : ℕ) (number : Option ℕ) (at : ℕ) (s : State) (ah : Option ℕ) (scene : Scene) → Mirrors s scene.values → Goes (Loop target) number at s ah scene goes_round
+loop_goes : (cpu : Cpu) (target : ℕ) (number : Option ℕ) (at : ℕ) (s : State) (ah : Option ℕ) (scene : Scene) → Mirrors s scene.values → Goes cpu (Loop target) number at s ah scene goes_round
 unfolding not_done
-loop_goes target number at s ah scene m = (target, refl, chosen_by _ target s.ip (not_done s) (round_value s scene m))
+loop_goes cpu target number at s ah scene m = (target, refl, chosen_by _ target s.ip (not_done s) (round_value s scene m))
 
-loop_equal_goes : (target : ℕ) (number : Option ℕ) (at : ℕ) (s : State) (ah : Option ℕ) (scene : Scene) → Mirrors s scene.values
-    → Goes (LoopE target) number at s ah scene (Binary AndOp 1 (flag Zf) goes_round)
+loop_equal_goes : (cpu : Cpu) (target : ℕ) (number : Option ℕ) (at : ℕ) (s : State) (ah : Option ℕ) (scene : Scene) → Mirrors s scene.values
+    → Goes cpu (LoopE target) number at s ah scene (Binary AndOp 1 (flag Zf) goes_round)
 unfolding not_done
-loop_equal_goes target number at s ah scene m = (target, refl, chosen_by _ target s.ip (s.flags.zf && not_done s) (and_value _ _ s.flags.zf (not_done s) m.zero (round_value s scene m)))
+loop_equal_goes cpu target number at s ah scene m = (target, refl, chosen_by _ target s.ip (s.flags.zf && not_done s) (and_value _ _ s.flags.zf (not_done s) m.zero (round_value s scene m)))
 
-loop_unequal_goes : (target : ℕ) (number : Option ℕ) (at : ℕ) (s : State) (ah : Option ℕ) (scene : Scene) → Mirrors s scene.values
-    → Goes (LoopNe target) number at s ah scene (Binary AndOp 1 (negated (flag Zf)) goes_round)
+loop_unequal_goes : (cpu : Cpu) (target : ℕ) (number : Option ℕ) (at : ℕ) (s : State) (ah : Option ℕ) (scene : Scene) → Mirrors s scene.values
+    → Goes cpu (LoopNe target) number at s ah scene (Binary AndOp 1 (negated (flag Zf)) goes_round)
 unfolding not_done
-loop_unequal_goes target number at s ah scene m =
+loop_unequal_goes cpu target number at s ah scene m =
     (target, refl, chosen_by _ target s.ip (not s.flags.zf && not_done s) (and_value _ _ (not s.flags.zf) (not_done s) (negated_value _ s.flags.zf m.zero) (round_value s scene m)))
 
-zero_goes : (target : ℕ) (number : Option ℕ) (at : ℕ) (s : State) (ah : Option ℕ) (scene : Scene) → Mirrors s scene.values → Goes (Jcxz target) number at s ah scene (is_zero word_width (word_of Cx))
-zero_goes target number at s ah scene m = (target, refl, chosen_by _ target s.ip (word_in s Cx == 0) (zero_value s scene m))
+zero_goes : (cpu : Cpu) (target : ℕ) (number : Option ℕ) (at : ℕ) (s : State) (ah : Option ℕ) (scene : Scene) → Mirrors s scene.values → Goes cpu (Jcxz target) number at s ah scene (is_zero word_width (word_of Cx))
+zero_goes cpu target number at s ah scene m = (target, refl, chosen_by _ target s.ip (word_in s Cx == 0) (zero_value s scene m))
 
 -- with a test: to one of its two successors, by what the test gives after the statements
-pub op_tested : (op : Op) (number : Option ℕ) (at : ℕ) (s : State) (ah : Option ℕ) (scene : Scene) (test : Expr) → Mirrors s scene.values → op_test op ≡ Some test
-    → (target : ℕ) × (op_successors op s.ip ah [] ≡ target ∷ s.ip ∷ []) × ((op_step op at s).ip ≡ (if value_of (executed (op_stmts op number) scene) test == 1 then target else s.ip))
-op_tested (Branch tested target) number at s ah scene test m e =
+pub op_tested : (cpu : Cpu) (op : Op) (number : Option ℕ) (at : ℕ) (s : State) (ah : Option ℕ) (scene : Scene) (test : Expr) → Mirrors s scene.values → op_test op ≡ Some test
+    → (target : ℕ) × (op_successors op s.ip ah [] ≡ target ∷ s.ip ∷ []) × ((op_step cpu op at s).ip ≡ (if value_of (executed (op_stmts cpu op number) scene) test == 1 then target else s.ip))
+op_tested cpu (Branch tested target) number at s ah scene test m e =
     let same : condition tested ≡ test = cc in
-    subst (Goes (Branch tested target) number at s ah scene) same (branch_goes tested target number at s ah scene m)
-op_tested (Loop target) number at s ah scene test m e =
+    subst (Goes cpu (Branch tested target) number at s ah scene) same (branch_goes cpu tested target number at s ah scene m)
+op_tested cpu (Loop target) number at s ah scene test m e =
     let same : goes_round ≡ test = cc in
-    subst (Goes (Loop target) number at s ah scene) same (loop_goes target number at s ah scene m)
-op_tested (LoopE target) number at s ah scene test m e =
+    subst (Goes cpu (Loop target) number at s ah scene) same (loop_goes cpu target number at s ah scene m)
+op_tested cpu (LoopE target) number at s ah scene test m e =
     let same : Binary AndOp 1 (flag Zf) goes_round ≡ test = cc in
-    subst (Goes (LoopE target) number at s ah scene) same (loop_equal_goes target number at s ah scene m)
-op_tested (LoopNe target) number at s ah scene test m e =
+    subst (Goes cpu (LoopE target) number at s ah scene) same (loop_equal_goes cpu target number at s ah scene m)
+op_tested cpu (LoopNe target) number at s ah scene test m e =
     let same : Binary AndOp 1 (negated (flag Zf)) goes_round ≡ test = cc in
-    subst (Goes (LoopNe target) number at s ah scene) same (loop_unequal_goes target number at s ah scene m)
-op_tested (Jcxz target) number at s ah scene test m e =
+    subst (Goes cpu (LoopNe target) number at s ah scene) same (loop_unequal_goes cpu target number at s ah scene m)
+op_tested cpu (Jcxz target) number at s ah scene test m e =
     let same : is_zero word_width (word_of Cx) ≡ test = cc in
-    subst (Goes (Jcxz target) number at s ah scene) same (zero_goes target number at s ah scene m)
-op_tested (AluOp operation a b) number at s ah scene test m e = absurd (let clash = e in cc)
-op_tested (UnaryOp operation a) number at s ah scene test m e = absurd (let clash = e in cc)
-op_tested (ShiftOp operation a by_cl) number at s ah scene test m e = absurd (let clash = e in cc)
-op_tested (Mov to from) number at s ah scene test m e = absurd (let clash = e in cc)
-op_tested (Xchg a b) number at s ah scene test m e = absurd (let clash = e in cc)
-op_tested (PlainOp operation) number at s ah scene test m e = absurd (let clash = e in cc)
-op_tested (Jump target) number at s ah scene test m e = absurd (let clash = e in cc)
-op_tested Int21 number at s ah scene test m e = absurd (let clash = e in cc)
-op_tested (Lea r ea) number at s ah scene test m e = absurd (let clash = e in cc)
-op_tested (Push a) number at s ah scene test m e = absurd (let clash = e in cc)
-op_tested (Pop a) number at s ah scene test m e = absurd (let clash = e in cc)
-op_tested (Table r offset) number at s ah scene test m e = absurd (let clash = e in cc)
-op_tested (Call target) number at s ah scene test m e = absurd (let clash = e in cc)
-op_tested (Ret count) number at s ah scene test m e = absurd (let clash = e in cc)
+    subst (Goes cpu (Jcxz target) number at s ah scene) same (zero_goes cpu target number at s ah scene m)
+op_tested cpu (AluOp operation a b) number at s ah scene test m e = absurd (let clash = e in cc)
+op_tested cpu (UnaryOp operation a) number at s ah scene test m e = absurd (let clash = e in cc)
+op_tested cpu (ShiftOp operation a count) number at s ah scene test m e = absurd (let clash = e in cc)
+op_tested cpu (Mov to from) number at s ah scene test m e = absurd (let clash = e in cc)
+op_tested cpu (Xchg a b) number at s ah scene test m e = absurd (let clash = e in cc)
+op_tested cpu (Imul3 r a constant) number at s ah scene test m e = absurd (let clash = e in cc)
+op_tested cpu (PlainOp operation) number at s ah scene test m e = absurd (let clash = e in cc)
+op_tested cpu (Enter count) number at s ah scene test m e = absurd (let clash = e in cc)
+op_tested cpu Leave number at s ah scene test m e = absurd (let clash = e in cc)
+op_tested cpu (Jump target) number at s ah scene test m e = absurd (let clash = e in cc)
+op_tested cpu Int21 number at s ah scene test m e = absurd (let clash = e in cc)
+op_tested cpu (Lea r ea) number at s ah scene test m e = absurd (let clash = e in cc)
+op_tested cpu (Push a) number at s ah scene test m e = absurd (let clash = e in cc)
+op_tested cpu (Pop a) number at s ah scene test m e = absurd (let clash = e in cc)
+op_tested cpu (Table r offset) number at s ah scene test m e = absurd (let clash = e in cc)
+op_tested cpu (Call target) number at s ah scene test m e = absurd (let clash = e in cc)
+op_tested cpu (Ret count) number at s ah scene test m e = absurd (let clash = e in cc)
 
 -- What the values mirror.
 
 -- shifts, products and sign extensions, which are proved by themselves
 pub record OthersMirror : Type 0 where
-  pub shift : (s : State) (scene : Scene) (at : ℕ) (number : Option ℕ) (operation : Shift) (a : Operand) (by_cl : Bool)
-      → Fits scene → scene.bits ≡ temporary_bits → Mirrors s scene.values → IsOperation (ShiftOp operation a by_cl) → is_liftable (ShiftOp operation a by_cl) ≡ true
-      → Mirrors (op_step (ShiftOp operation a by_cl) at s) (executed (op_stmts (ShiftOp operation a by_cl) number) scene).values
-  pub mul : (s : State) (scene : Scene) (at : ℕ) (number : Option ℕ) (a : Operand)
+  pub shift : (cpu : Cpu) (s : State) (scene : Scene) (at : ℕ) (number : Option ℕ) (operation : Shift) (a : Operand) (count : Count)
+      → Fits scene → scene.bits ≡ temporary_bits → Mirrors s scene.values → IsOperation (ShiftOp operation a count) → is_liftable (ShiftOp operation a count) ≡ true
+      → Mirrors (op_step cpu (ShiftOp operation a count) at s) (executed (op_stmts cpu (ShiftOp operation a count) number) scene).values
+  pub mul : (cpu : Cpu) (s : State) (scene : Scene) (at : ℕ) (number : Option ℕ) (a : Operand)
       → Fits scene → scene.bits ≡ temporary_bits → Mirrors s scene.values → IsOperation (UnaryOp Mul a) → is_liftable (UnaryOp Mul a) ≡ true
-      → Mirrors (op_step (UnaryOp Mul a) at s) (executed (op_stmts (UnaryOp Mul a) number) scene).values
-  pub imul : (s : State) (scene : Scene) (at : ℕ) (number : Option ℕ) (a : Operand)
+      → Mirrors (op_step cpu (UnaryOp Mul a) at s) (executed (op_stmts cpu (UnaryOp Mul a) number) scene).values
+  pub imul : (cpu : Cpu) (s : State) (scene : Scene) (at : ℕ) (number : Option ℕ) (a : Operand)
       → Fits scene → scene.bits ≡ temporary_bits → Mirrors s scene.values → IsOperation (UnaryOp Imul a) → is_liftable (UnaryOp Imul a) ≡ true
-      → Mirrors (op_step (UnaryOp Imul a) at s) (executed (op_stmts (UnaryOp Imul a) number) scene).values
-  pub cbw : (s : State) (scene : Scene) (at : ℕ) (number : Option ℕ) → Fits scene → scene.bits ≡ temporary_bits → Mirrors s scene.values
-      → Mirrors (op_step (PlainOp Cbw) at s) (executed (op_stmts (PlainOp Cbw) number) scene).values
-  pub cwd : (s : State) (scene : Scene) (at : ℕ) (number : Option ℕ) → Fits scene → scene.bits ≡ temporary_bits → Mirrors s scene.values
-      → Mirrors (op_step (PlainOp Cwd) at s) (executed (op_stmts (PlainOp Cwd) number) scene).values
+      → Mirrors (op_step cpu (UnaryOp Imul a) at s) (executed (op_stmts cpu (UnaryOp Imul a) number) scene).values
+  pub triple : (cpu : Cpu) (s : State) (scene : Scene) (at : ℕ) (number : Option ℕ) (r : Reg) (a : Operand) (constant : ℕ)
+      → Fits scene → scene.bits ≡ temporary_bits → Mirrors s scene.values → IsOperation (Imul3 r a constant) → is_liftable (Imul3 r a constant) ≡ true
+      → Mirrors (op_step cpu (Imul3 r a constant) at s) (executed (op_stmts cpu (Imul3 r a constant) number) scene).values
+  pub cbw : (cpu : Cpu) (s : State) (scene : Scene) (at : ℕ) (number : Option ℕ) → Fits scene → scene.bits ≡ temporary_bits → Mirrors s scene.values
+      → Mirrors (op_step cpu (PlainOp Cbw) at s) (executed (op_stmts cpu (PlainOp Cbw) number) scene).values
+  pub cwd : (cpu : Cpu) (s : State) (scene : Scene) (at : ℕ) (number : Option ℕ) → Fits scene → scene.bits ≡ temporary_bits → Mirrors s scene.values
+      → Mirrors (op_step cpu (PlainOp Cwd) at s) (executed (op_stmts cpu (PlainOp Cwd) number) scene).values
 
-unary_mirrors : OthersMirror → (operation : Unary) (a : Operand) (number : Option ℕ) (at : ℕ) (s : State) (scene : Scene) → is_liftable (UnaryOp operation a) ≡ true → IsOperation (UnaryOp operation a)
-    → scene.bits ≡ temporary_bits → Fits scene → Mirrors s scene.values → Mirrors (op_step (UnaryOp operation a) at s) (executed (op_stmts (UnaryOp operation a) number) scene).values
-unary_mirrors others Inc a number at s scene l ok bits fits m = inc_mirrors a s scene l ok fits m
-unary_mirrors others Dec a number at s scene l ok bits fits m = dec_mirrors a s scene l ok fits m
-unary_mirrors others Neg a number at s scene l ok bits fits m = neg_mirrors a s scene l ok fits m
-unary_mirrors others Not a number at s scene l ok bits fits m = not_mirrors a s scene l ok fits m
-unary_mirrors others Mul a number at s scene l ok bits fits m = others.mul s scene at number a fits bits m ok l
-unary_mirrors others Imul a number at s scene l ok bits fits m = others.imul s scene at number a fits bits m ok l
-unary_mirrors others Div a number at s scene l ok bits fits m = absurd (true≢false (sym l))
-unary_mirrors others Idiv a number at s scene l ok bits fits m = absurd (true≢false (sym l))
+unary_mirrors : OthersMirror → (cpu : Cpu) (operation : Unary) (a : Operand) (number : Option ℕ) (at : ℕ) (s : State) (scene : Scene) → is_liftable (UnaryOp operation a) ≡ true → IsOperation (UnaryOp operation a)
+    → scene.bits ≡ temporary_bits → Fits scene → Mirrors s scene.values → Mirrors (op_step cpu (UnaryOp operation a) at s) (executed (op_stmts cpu (UnaryOp operation a) number) scene).values
+unary_mirrors others cpu Inc a number at s scene l ok bits fits m = inc_mirrors a s scene l ok fits m
+unary_mirrors others cpu Dec a number at s scene l ok bits fits m = dec_mirrors a s scene l ok fits m
+unary_mirrors others cpu Neg a number at s scene l ok bits fits m = neg_mirrors a s scene l ok fits m
+unary_mirrors others cpu Not a number at s scene l ok bits fits m = not_mirrors a s scene l ok fits m
+unary_mirrors others cpu Mul a number at s scene l ok bits fits m = others.mul cpu s scene at number a fits bits m ok l
+unary_mirrors others cpu Imul a number at s scene l ok bits fits m = others.imul cpu s scene at number a fits bits m ok l
+unary_mirrors others cpu Div a number at s scene l ok bits fits m = absurd (true≢false (sym l))
+unary_mirrors others cpu Idiv a number at s scene l ok bits fits m = absurd (true≢false (sym l))
 
-plain_mirrors : OthersMirror → (operation : Plain) (number : Option ℕ) (at : ℕ) (s : State) (scene : Scene) → is_liftable (PlainOp operation) ≡ true
-    → scene.bits ≡ temporary_bits → Fits scene → Mirrors s scene.values → Mirrors (op_step (PlainOp operation) at s) (executed (op_stmts (PlainOp operation) number) scene).values
-plain_mirrors others Nop number at s scene l bits fits m = m
-plain_mirrors others Cbw number at s scene l bits fits m = others.cbw s scene at number fits bits m
-plain_mirrors others Cwd number at s scene l bits fits m = others.cwd s scene at number fits bits m
-plain_mirrors others Clc number at s scene l bits fits m = clc_mirrors s scene m
-plain_mirrors others Stc number at s scene l bits fits m = stc_mirrors s scene m
-plain_mirrors others Cmc number at s scene l bits fits m = cmc_mirrors s scene m
-plain_mirrors others Xlat number at s scene l bits fits m = absurd (true≢false (sym l))
-plain_mirrors others Cli number at s scene l bits fits m = absurd (true≢false (sym l))
-plain_mirrors others Sti number at s scene l bits fits m = absurd (true≢false (sym l))
-plain_mirrors others Cld number at s scene l bits fits m = absurd (true≢false (sym l))
+plain_mirrors : OthersMirror → (cpu : Cpu) (operation : Plain) (number : Option ℕ) (at : ℕ) (s : State) (scene : Scene) → is_liftable (PlainOp operation) ≡ true
+    → scene.bits ≡ temporary_bits → Fits scene → Mirrors s scene.values → Mirrors (op_step cpu (PlainOp operation) at s) (executed (op_stmts cpu (PlainOp operation) number) scene).values
+plain_mirrors others cpu Nop number at s scene l bits fits m = m
+plain_mirrors others cpu Cbw number at s scene l bits fits m = others.cbw cpu s scene at number fits bits m
+plain_mirrors others cpu Cwd number at s scene l bits fits m = others.cwd cpu s scene at number fits bits m
+plain_mirrors others cpu Clc number at s scene l bits fits m = clc_mirrors s scene m
+plain_mirrors others cpu Stc number at s scene l bits fits m = stc_mirrors s scene m
+plain_mirrors others cpu Cmc number at s scene l bits fits m = cmc_mirrors s scene m
+plain_mirrors others cpu Xlat number at s scene l bits fits m = absurd (true≢false (sym l))
+plain_mirrors others cpu Cli number at s scene l bits fits m = absurd (true≢false (sym l))
+plain_mirrors others cpu Sti number at s scene l bits fits m = absurd (true≢false (sym l))
+plain_mirrors others cpu Cld number at s scene l bits fits m = absurd (true≢false (sym l))
 
 -- after the statements of an operation the values mirror the machine after the operation
-pub op_mirrors : OthersMirror → (op : Op) (number : Option ℕ) (at : ℕ) (s : State) (scene : Scene) → is_liftable op ≡ true → IsOperation op → op ≢ Int21
-    → scene.bits ≡ temporary_bits → Fits scene → Mirrors s scene.values → Mirrors (op_step op at s) (executed (op_stmts op number) scene).values
-op_mirrors others (AluOp operation a b) number at s scene l ok n bits fits m = let both = and_parts (is_register a) (is_source b) l in alu_mirrors operation a b s scene both.0 both.1 ok fits m
-op_mirrors others (UnaryOp operation a) number at s scene l ok n bits fits m = unary_mirrors others operation a number at s scene l ok bits fits m
-op_mirrors others (ShiftOp operation a by_cl) number at s scene l ok n bits fits m = others.shift s scene at number operation a by_cl fits bits m ok l
-op_mirrors others (Mov to from) number at s scene l ok n bits fits m = let both = and_parts (is_register to) (is_source from) l in mov_mirrors to from s scene both.0 both.1 ok fits m
-op_mirrors others (Xchg a b) number at s scene l ok n bits fits m = let both = and_parts (is_register a) (is_register b) l in xchg_mirrors a b s scene both.0 both.1 ok fits m
-op_mirrors others (PlainOp operation) number at s scene l ok n bits fits m = plain_mirrors others operation number at s scene l bits fits m
-op_mirrors others (Jump target) number at s scene l ok n bits fits m = mirrors_state _ _ _ refl refl m
-op_mirrors others (Branch tested target) number at s scene l ok n bits fits m = mirrors_state _ _ _ refl refl m
-op_mirrors others (Loop target) number at s scene l ok n bits fits m = loop_mirrors true target s scene fits m
-op_mirrors others (LoopE target) number at s scene l ok n bits fits m = loop_mirrors s.flags.zf target s scene fits m
-op_mirrors others (LoopNe target) number at s scene l ok n bits fits m = loop_mirrors (not s.flags.zf) target s scene fits m
-op_mirrors others (Jcxz target) number at s scene l ok n bits fits m = mirrors_state _ _ _ refl refl m
-op_mirrors others Int21 number at s scene l ok n bits fits m = absurd (n refl)
-op_mirrors others (Lea r ea) number at s scene l ok n bits fits m = absurd (true≢false (sym l))
-op_mirrors others (Push a) number at s scene l ok n bits fits m = absurd (true≢false (sym l))
-op_mirrors others (Pop a) number at s scene l ok n bits fits m = absurd (true≢false (sym l))
-op_mirrors others (Table r offset) number at s scene l ok n bits fits m = absurd (true≢false (sym l))
-op_mirrors others (Call target) number at s scene l ok n bits fits m = absurd (true≢false (sym l))
-op_mirrors others (Ret count) number at s scene l ok n bits fits m = absurd (true≢false (sym l))
+pub op_mirrors : OthersMirror → (cpu : Cpu) (op : Op) (number : Option ℕ) (at : ℕ) (s : State) (scene : Scene) → is_liftable op ≡ true → IsOperation op → op ≢ Int21
+    → scene.bits ≡ temporary_bits → Fits scene → Mirrors s scene.values → Mirrors (op_step cpu op at s) (executed (op_stmts cpu op number) scene).values
+op_mirrors others cpu (AluOp operation a b) number at s scene l ok n bits fits m = let both = and_parts (is_register a) (is_source b) l in alu_mirrors operation a b s scene both.0 both.1 ok fits m
+op_mirrors others cpu (UnaryOp operation a) number at s scene l ok n bits fits m = unary_mirrors others cpu operation a number at s scene l ok bits fits m
+op_mirrors others cpu (ShiftOp operation a count) number at s scene l ok n bits fits m = others.shift cpu s scene at number operation a count fits bits m ok l
+op_mirrors others cpu (Mov to from) number at s scene l ok n bits fits m = let both = and_parts (is_register to) (is_source from) l in mov_mirrors to from s scene both.0 both.1 ok fits m
+op_mirrors others cpu (Xchg a b) number at s scene l ok n bits fits m = let both = and_parts (is_register a) (is_register b) l in xchg_mirrors a b s scene both.0 both.1 ok fits m
+op_mirrors others cpu (Imul3 r a constant) number at s scene l ok n bits fits m = others.triple cpu s scene at number r a constant fits bits m ok l
+op_mirrors others cpu (PlainOp operation) number at s scene l ok n bits fits m = plain_mirrors others cpu operation number at s scene l bits fits m
+op_mirrors others cpu (Jump target) number at s scene l ok n bits fits m = mirrors_state _ _ _ refl refl m
+op_mirrors others cpu (Branch tested target) number at s scene l ok n bits fits m = mirrors_state _ _ _ refl refl m
+op_mirrors others cpu (Loop target) number at s scene l ok n bits fits m = loop_mirrors true target s scene fits m
+op_mirrors others cpu (LoopE target) number at s scene l ok n bits fits m = loop_mirrors s.flags.zf target s scene fits m
+op_mirrors others cpu (LoopNe target) number at s scene l ok n bits fits m = loop_mirrors (not s.flags.zf) target s scene fits m
+op_mirrors others cpu (Jcxz target) number at s scene l ok n bits fits m = mirrors_state _ _ _ refl refl m
+op_mirrors others cpu Int21 number at s scene l ok n bits fits m = absurd (n refl)
+op_mirrors others cpu (Lea r ea) number at s scene l ok n bits fits m = absurd (true≢false (sym l))
+op_mirrors others cpu (Push a) number at s scene l ok n bits fits m = absurd (true≢false (sym l))
+op_mirrors others cpu (Pop a) number at s scene l ok n bits fits m = absurd (true≢false (sym l))
+op_mirrors others cpu (Enter count) number at s scene l ok n bits fits m = absurd (true≢false (sym l))
+op_mirrors others cpu Leave number at s scene l ok n bits fits m = absurd (true≢false (sym l))
+op_mirrors others cpu (Table r offset) number at s scene l ok n bits fits m = absurd (true≢false (sym l))
+op_mirrors others cpu (Call target) number at s scene l ok n bits fits m = absurd (true≢false (sym l))
+op_mirrors others cpu (Ret count) number at s scene l ok n bits fits m = absurd (true≢false (sym l))

@@ -8,6 +8,7 @@ use Rattle.dcc_num.specs.declared.Width.TheVariants.{Word as word_width}
 use Rattle.dcc_num.specs.declared.Flags.{Flags}
 use Rattle.dcc_num.specs.Numbers.{limit_of}
 use Rattle.dcc_num.specs.Shift.{shl_of}
+use Rattle.dcc_prog.specs.declared.cpu.Cpu.{Cpu}
 use Rattle.dcc_prog.specs.declared.image.Image.{Image}
 use Rattle.dcc_prog.specs.declared.procedure.Layout.{Layout}
 use Rattle.dcc_prog.specs.declared.instr.Alu.TheVariants.{Add, Sub}
@@ -76,48 +77,48 @@ unfolding shl_of
 shifted-below a count flags small = either-below (count == 0) (a, flags) _ small (omega arith)
 
 -- an operation of a prelude leaves words
-form-words : (op : Op) (at : ℕ) (s : State) → is_prelude_form op ≡ true → IsOperation op → HasWords s → HasWords (op_step op at s)
-form-words (Mov (Word r) (Const width c)) at s form well h =
+form-words : (cpu : Cpu) (op : Op) (at : ℕ) (s : State) → is_prelude_form op ≡ true → IsOperation op → HasWords s → HasWords (op_step cpu op at s)
+form-words cpu (Mov (Word r) (Const width c)) at s form well h =
     let fits : c < 65536 = subst (λ w. c < limit_of w) (sym well.widths) well.second in
     word-taken s _ (reg_number r) c refl refl fits h
-form-words (Mov (Byte r half) (Const width c)) at s form well h =
+form-words cpu (Mov (Byte r half) (Const width c)) at s form well h =
     let fits : c < 256 = subst (λ w. c < limit_of w) (sym well.widths) well.second in
     word-taken s _ (reg_number r) (word_with_half half (word_in s r) c) refl refl (half-taken half (word_in s r) c (h.words (reg_number r)) fits) h
-form-words (Mov (Word r) (Word q)) at s form well h =
+form-words cpu (Mov (Word r) (Word q)) at s form well h =
     word-taken s _ (reg_number r) (word_in s q) refl refl (h.words (reg_number q)) h
-form-words (Mov (Byte r half) (Byte q part)) at s form well h =
+form-words cpu (Mov (Byte r half) (Byte q part)) at s form well h =
     let byte = half_of_word part (word_in s q) in
     let fits : byte < 256 = half-byte part (word_in s q) (h.words (reg_number q)) in
     word-taken s _ (reg_number r) (word_with_half half (word_in s r) byte) refl refl (half-taken half (word_in s r) byte (h.words (reg_number r)) fits) h
-form-words (Mov (Word r) (Seg number)) at s form well h =
+form-words cpu (Mov (Word r) (Seg number)) at s form well h =
     word-taken s _ (reg_number r) (slice_index s.segs number) refl refl (h.segments number) h
-form-words (Mov (Seg number) (Word r)) at s form well h = record {
+form-words cpu (Mov (Seg number) (Word r)) at s form well h = record {
   eight = h.eight;
   words = h.words;
   segments = words-set s.segs number (word_in s r) h.segments (h.words (reg_number r));
 }
-form-words (AluOp Add (Word r) (Word q)) at s form well h =
+form-words cpu (AluOp Add (Word r) (Word q)) at s form well h =
     word-taken s _ (reg_number r) _ refl refl (sum_below word_width (word_in s r) (word_in s q) false) h
-form-words (AluOp Add (Word r) (Const width c)) at s form well h =
+form-words cpu (AluOp Add (Word r) (Const width c)) at s form well h =
     word-taken s _ (reg_number r) _ refl refl (sum_below word_width (word_in s r) c false) h
-form-words (AluOp Sub (Word r) (Word q)) at s form well h =
+form-words cpu (AluOp Sub (Word r) (Word q)) at s form well h =
     word-taken s _ (reg_number r) _ refl refl (difference_below word_width (word_in s r) (word_in s q) false) h
-form-words (AluOp Sub (Word r) (Const width c)) at s form well h =
+form-words cpu (AluOp Sub (Word r) (Const width c)) at s form well h =
     word-taken s _ (reg_number r) _ refl refl (difference_below word_width (word_in s r) c false) h
-form-words (ShiftOp Shl (Word r) by_cl) at s form well h =
-    word-taken s _ (reg_number r) _ refl refl (shifted-below (word_in s r) (count_in by_cl s) s.flags (h.words (reg_number r))) h
-form-words (PlainOp Nop) at s form well h = h
-form-words (PlainOp Cli) at s form well h = h
-form-words (PlainOp Sti) at s form well h = h
-form-words (PlainOp Cld) at s form well h = h
-form-words op at s form well h = cc
+form-words cpu (ShiftOp Shl (Word r) count) at s form well h =
+    word-taken s _ (reg_number r) _ refl refl (shifted-below (word_in s r) (count_in cpu count s) s.flags (h.words (reg_number r))) h
+form-words cpu (PlainOp Nop) at s form well h = h
+form-words cpu (PlainOp Cli) at s form well h = h
+form-words cpu (PlainOp Sti) at s form well h = h
+form-words cpu (PlainOp Cld) at s form well h = h
+form-words cpu op at s form well h = cc
 
 -- and so does a run
-run-words : (code : List ℕ) (at : ℕ) (run : List Instr) (s : State) → AreBytes code → IsRun code at run → HasWords s → HasWords (executed s run)
-run-words code at [] s bytes is h = h
-run-words code at (instr ∷ rest) s bytes is h =
-    let well : IsOperation instr.op = instruction-operation at (drop at code) instr (bytes-dropped at code bytes) is.0.found in
-    run-words code (at + instr.len) rest (op_step instr.op 0 s) bytes is.1 (form-words instr.op 0 s is.0.form well h)
+run-words : (cpu : Cpu) (code : List ℕ) (at : ℕ) (run : List Instr) (s : State) → AreBytes code → IsRun cpu code at run → HasWords s → HasWords (executed cpu s run)
+run-words cpu code at [] s bytes is h = h
+run-words cpu code at (instr ∷ rest) s bytes is h =
+    let well : IsOperation instr.op = instruction-operation cpu at (drop at code) instr (bytes-dropped at code bytes) is.0.found in
+    run-words cpu code (at + instr.len) rest (op_step cpu instr.op 0 s) bytes is.1 (form-words cpu instr.op 0 s is.0.form well h)
 
 -- the registers at the start
 start-registers : (sp : ℕ) → sp < 65536 → (i : ℕ) → slice_index (0 ∷ 0 ∷ 0 ∷ 0 ∷ sp ∷ 0 ∷ 0 ∷ 0 ∷ []) i < 65536
@@ -151,12 +152,12 @@ start-words image loaded =
     }
 
 module _ (image : Image) (layout : Layout) (loaded : IsLoaded image) (has : HasLayout image layout) where
-  following-words : HasWords (executed (start_state image []) has.prelude)
-  following-words = run-words (code_of image) image.ip has.prelude (start_state image []) (whole-bytes image (loaded-bytes image loaded)) has.is_prelude.run (start-words image loaded)
+  following-words : HasWords (executed layout.cpu (start_state image []) has.prelude)
+  following-words = run-words layout.cpu (code_of image) image.ip has.prelude (start_state image []) (whole-bytes image (loaded-bytes image loaded)) has.is_prelude.run (start-words image loaded)
 
   -- the layout's registers are those after the prelude's instructions
-  pub layout-registers : layout.regs ≡ (executed (start_state image []) has.prelude).regs
-  layout-registers = has.left.regs ∙ ap (λ (s : State). s.regs) (state_after-is image has.prelude loaded has.is_prelude.run)
+  pub layout-registers : layout.regs ≡ (executed layout.cpu (start_state image []) has.prelude).regs
+  layout-registers = has.left.regs ∙ ap (λ (s : State). s.regs) (state_after-is layout.cpu image has.prelude loaded has.is_prelude.run)
 
   -- they are eight words
   pub layout-eight : length layout.regs ≡ 8

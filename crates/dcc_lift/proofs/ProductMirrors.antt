@@ -4,29 +4,33 @@ use Rattle.std.specs.Prelude.{Option, List}
 use Rattle.std.specs.Int.{from_bool}
 use Rattle.dcc_num.specs.declared.Width.{Width}
 use Rattle.dcc_num.specs.declared.Width.TheVariants.{Byte as byte_width, Word as word_width}
+use Rattle.dcc_num.specs.declared.Reg.{Reg}
 use Rattle.dcc_num.specs.declared.Reg.TheVariants.{Ax, Dx}
 use Rattle.dcc_num.specs.declared.Half.TheVariants.{Low, High}
 use Rattle.dcc_num.specs.declared.FlagName.{FlagName}
 use Rattle.dcc_num.specs.declared.FlagName.TheVariants.{Cf, Zf, Sf, Of}
 use Rattle.dcc_num.specs.Numbers.{bits_of, limit_of, signed_of, halved_of, wrapped_of, sign_extension_of}
 use Rattle.dcc_num.specs.Product.{product_of, signed_product_of, product_flags, extension_of}
+use Rattle.dcc_prog.specs.declared.cpu.Cpu.{Cpu}
 use Rattle.dcc_prog.specs.declared.instr.Operand.{Operand}
 use Rattle.dcc_prog.specs.declared.instr.Operand.TheVariants.{Word, Byte}
-use Rattle.dcc_prog.specs.declared.instr.Op.TheVariants.{Unary as UnaryOp, Plain as PlainOp}
+use Rattle.dcc_prog.specs.declared.instr.Op.TheVariants.{Unary as UnaryOp, Imul3, Plain as PlainOp}
 use Rattle.dcc_prog.specs.declared.instr.Unary.TheVariants.{Mul, Imul}
 use Rattle.dcc_prog.specs.declared.instr.Plain.TheVariants.{Cbw, Cwd}
 use Rattle.dcc_prog.specs.Machine.{State, word_in, with_word_in, half_of_word, word_with_half, operand_value, operand_width}
-use Rattle.dcc_prog.specs.Operations.{with_flags, with_pair, with_product, accumulator_in, plain_step}
+use Rattle.dcc_prog.specs.Operations.{with_flags, with_pair, with_product, accumulator_in, imul3_step, plain_step}
 use Rattle.dcc_prog.specs.Step.{op_step}
-use Rattle.dcc_prog.specs.WellFormed.{IsOperand, IsOperation}
+use Rattle.dcc_prog.specs.WellFormed.{IsOperand, AreFactors, IsOperation}
 use Rattle.dcc_ir.specs.declared.syntax.Loc.TheVariants.{Half, Flag, Temp}
 use Rattle.dcc_ir.specs.Location.{Values, with_value, location_width}
 use Rattle.dcc_ir.specs.Value.{Scene, value_of, Fits, signed_at, pattern_at}
 use Rattle.dcc_lift.specs.Temporaries.{temporary_bits, left_place, right_place, product_place}
-use Rattle.dcc_lift.specs.Expressions.{operand_expr, accumulator, double, multiplied, needs_upper_half}
-use Rattle.dcc_lift.specs.Statements.{taking, multiplying, product_storing, plain_stmts, op_stmts}
+use Rattle.dcc_lift.specs.Expressions.{operand_expr, number as number_expr, accumulator, double, multiplied, needs_upper_half}
+use Rattle.dcc_lift.specs.Statements.{taking, product_working, multiplying, triple_product, product_storing, plain_stmts, op_stmts}
+use Rattle.dcc_lift.specs.Form.{is_general}
 use Rattle.dcc_lift.specs.Mirrors.{Mirrors, executed}
-use Rattle.dcc_lift.specs.Liftable.{is_register, is_liftable}
+use Rattle.dcc_lift.specs.Liftable.{is_register, is_source, is_liftable}
+use Rattle.dcc_lift.proofs.ListTests.{and_right}
 use Rattle.dcc_lift.proofs.MirrorLaws.{mirrors_temp, mirrors_flags, mirrors_word, mirrors_half}
 use Rattle.dcc_lift.proofs.ProductValues.{product_fits, product_small, needs_half, product_pattern, pattern_small, pattern_low, pattern_high, needs_signed_half, extended_low, extended_high, extended_below, extension_is}
 use Rattle.dcc_lift.proofs.OperandMirrors.{register_source, operand_read, operand_below}
@@ -65,6 +69,17 @@ signed_needed_is w scene p is small =
     ap (λ (n : ℕ). 2 ^ 1 - 1 - from_bool (nat_eq (pattern_at (double w) (signed_at (bits_of w) (n / 2 ^ 0 % 2 ^ bits_of w))) n)) is
     ∙ negated_bit (nat_eq (pattern_at (double w) (signed_at (bits_of w) (p / 2 ^ 0 % 2 ^ bits_of w))) p) ∙ ap (λ (b : Bool). from_bool (not b)) (needs_signed_half w p small)
 
+-- a product of signed numbers has another upper half than the extension of its lower one
+abbrev overflows : Width → ℤ → Bool
+overflows w z = not (nat_eq (wrapped_of w (halved_of z (bits_of w))) (extension_of w (wrapped_of w z)))
+
+signed_needed : (w : Width) (scene : Scene) (z : ℤ) → scene.values (product_place w) ≡ pattern_at (double w) z → value_of scene (needs_upper_half w true) ≡ from_bool (overflows w z)
+signed_needed w scene z is =
+    let p : ℕ = pattern_at (double w) z in
+    signed_needed_is w scene p is (pattern_small w z)
+    ∙ ap (λ (n : ℕ). from_bool (not (nat_eq n (extension_of w (p % limit_of w))))) (pattern_high w z)
+    ∙ ap (λ (n : ℕ). from_bool (not (nat_eq (wrapped_of w (halved_of z (bits_of w))) (extension_of w n)))) (pattern_low w z)
+
 -- a product goes to its registers
 product_stored : (w : Width) (s : State) (scene : Scene) (p low high : ℕ) → Mirrors s scene.values → scene.values (product_place w) ≡ p → p < 2 ^ double w
     → low ≡ p % limit_of w → high ≡ p / limit_of w → Mirrors (with_pair w low high s) (executed (product_storing w) scene).values
@@ -83,7 +98,30 @@ place_taken : (w : Width) (values : Values) (v : ℕ) → with_value values (pro
 place_taken byte_width values v = refl
 place_taken word_width values v = refl
 
--- a multiplication: p is the product, needed whether it needs its upper half
+-- after a product and its flags are made: p is the product, needed whether it needs its upper half
+record IsMade (w : Width) (s : State) (p : ℕ) (needed : Bool) (scene : Scene) : Type 0 where
+  mirrors : Mirrors (with_flags (product_flags needed) s) scene.values
+  product : scene.values (product_place w) ≡ p
+
+product_made : (w : Width) (signed : Bool) (s : State) (first : Scene) (p : ℕ) (needed : Bool) → Shows s first → value_of first (multiplied w signed) ≡ p
+    → ((seen : Scene) → seen.values (product_place w) ≡ p → value_of seen (needs_upper_half w signed) ≡ from_bool needed)
+    → IsMade w s p needed (executed (product_working w signed) first)
+product_made w signed s first p needed shown made told =
+    let v0 : ℕ = value_of first (multiplied w signed) in
+    let scene0 : Scene = with_values first (with_value first.values (product_place w) v0) in
+    let p0 : scene0.values (product_place w) ≡ p = place_taken w first.values v0 ∙ made in
+    let v1 : ℕ = value_of scene0 (needs_upper_half w signed) in
+    let values1 : Values = with_value (with_value (with_value scene0.values (Flag Of) v1) (Flag Sf) 0) (Flag Zf) 0 in
+    let scene1 : Scene = with_values scene0 values1 in
+    let p1 : scene1.values (product_place w) ≡ p =
+    place_kept w (with_value (with_value scene0.values (Flag Of) v1) (Flag Sf) 0) Zf 0 ∙ place_kept w (with_value scene0.values (Flag Of) v1) Sf 0 ∙ place_kept w scene0.values Of v1 ∙ p0 in
+    let v2 : ℕ = value_of scene1 (needs_upper_half w signed) in
+    record {
+      mirrors = mirrors_flags s scene0.values (product_flags needed) v1 0 0 v2 (told scene0 p0) refl refl (told scene1 p1) (shows_product w s first v0 shown).mirrors;
+      product = place_kept w values1 Cf v2 ∙ p1;
+    }
+
+-- a multiplication
 multiplied_shown : (w : Width) (signed : Bool) (s : State) (scene : Scene) (a : Operand) (p low high : ℕ) (needed : Bool) → is_register a ≡ true → Fits scene
     → scene.bits ≡ temporary_bits → Mirrors s scene.values
     → ((seen : Scene) → Holds w seen (accumulator_in w s) (operand_value s a) → value_of seen (multiplied w signed) ≡ p)
@@ -95,20 +133,8 @@ multiplied_shown w signed s scene a p low high needed g fits bits mirrors made t
     let start : Shows s first × Holds w first (accumulator_in w s) (operand_value s a) =
     begun w s scene (accumulator w) (operand_expr a) (accumulator_in w s) (operand_value s a) fits bits mirrors (accumulator_read w s scene fits mirrors)
     (operand_after w scene (value_of scene (accumulator w)) a ∙ operand_read s scene a (register_source a g) fits mirrors) in
-    let v0 : ℕ = value_of first (multiplied w signed) in
-    let scene0 : Scene = with_values first (with_value first.values (product_place w) v0) in
-    let p0 : scene0.values (product_place w) ≡ p = place_taken w first.values v0 ∙ made first start.1 in
-    let v1 : ℕ = value_of scene0 (needs_upper_half w signed) in
-    let values1 : Values = with_value (with_value (with_value scene0.values (Flag Of) v1) (Flag Sf) 0) (Flag Zf) 0 in
-    let scene1 : Scene = with_values scene0 values1 in
-    let p1 : scene1.values (product_place w) ≡ p =
-    place_kept w (with_value (with_value scene0.values (Flag Of) v1) (Flag Sf) 0) Zf 0 ∙ place_kept w (with_value scene0.values (Flag Of) v1) Sf 0 ∙ place_kept w scene0.values Of v1 ∙ p0 in
-    let v2 : ℕ = value_of scene1 (needs_upper_half w signed) in
-    let scene2 : Scene = with_values scene1 (with_value values1 (Flag Cf) v2) in
-    let p2 : scene2.values (product_place w) ≡ p = place_kept w values1 Cf v2 ∙ p1 in
-    let kept : Mirrors (with_flags (product_flags needed) s) scene2.values =
-    mirrors_flags s scene0.values (product_flags needed) v1 0 0 v2 (told scene0 p0) refl refl (told scene1 p1) (shows_product w s first v0 start.0).mirrors in
-    product_stored w (with_flags (product_flags needed) s) scene2 p low high kept p2 small el eh
+    let done = product_made w signed s first p needed start.0 (made first start.1) told in
+    product_stored w (with_flags (product_flags needed) s) (executed (product_working w signed) first) p low high done.mirrors done.product small el eh
 
 -- the values mirror the machine after a multiplication
 pub mul_mirrors : (a : Operand) (s : State) (scene : Scene) → is_register a ≡ true → IsOperand a → Fits scene → scene.bits ≡ temporary_bits → Mirrors s scene.values
@@ -136,25 +162,47 @@ imul_mirrors a s scene g ok fits bits mirrors =
     let first : x < limit_of w = accumulator_below w s scene fits mirrors in
     let second : y < limit_of w = operand_below s scene a (register_source a g) ok fits mirrors in
     let z : ℤ = signed_of w x *ℤ signed_of w y in
-    let whole : ℕ = pattern_at (double w) z in
-    let low : ℕ = wrapped_of w z in
-    let high : ℕ = wrapped_of w (halved_of z (bits_of w)) in
-    let small : whole < 2 ^ double w = pattern_small w z in
-    let halves : not (nat_eq (whole / limit_of w) (extension_of w (whole % limit_of w))) ≡ not (nat_eq high (extension_of w low)) =
-    ap (λ (n : ℕ). not (nat_eq n (extension_of w (whole % limit_of w)))) (pattern_high w z) ∙ ap (λ (n : ℕ). not (nat_eq high (extension_of w n))) (pattern_low w z) in
-    multiplied_shown w true s scene a whole low high (not (nat_eq high (extension_of w low))) g fits bits mirrors
-    (λ seen h. signed_product_is w seen x y h first second) (λ seen is. signed_needed_is w seen whole is small ∙ ap from_bool halves) small (sym (pattern_low w z)) (sym (pattern_high w z))
+    multiplied_shown w true s scene a (pattern_at (double w) z) (wrapped_of w z) (wrapped_of w (halved_of z (bits_of w))) (overflows w z) g fits bits mirrors
+    (λ seen h. signed_product_is w seen x y h first second) (λ seen is. signed_needed w seen z is) (pattern_small w z) (sym (pattern_low w z)) (sym (pattern_high w z))
+
+-- of three operands: the register takes the lower word
+pub triple_mirrors : (r : Reg) (a : Operand) (constant : ℕ) (s : State) (scene : Scene) → is_register a ≡ true → AreFactors a constant → Fits scene → scene.bits
+    ≡ temporary_bits → Mirrors s scene.values → Mirrors (imul3_step r a constant s) (executed (triple_product r a constant) scene).values
+unfolding signed_product_of
+triple_mirrors r a constant s scene g ok fits bits mirrors =
+    let x : ℕ = operand_value s a in
+    let source : is_source a ≡ true = register_source a g in
+    let first : x < limit_of word_width = subst (λ (w : Width). x < limit_of w) ok.width (operand_below s scene a source ok.operand fits mirrors) in
+    let z : ℤ = signed_of word_width x *ℤ signed_of word_width constant in
+    let p : ℕ = pattern_at (double word_width) z in
+    let taken : Scene = executed (taking word_width (operand_expr a) (number_expr word_width constant)) scene in
+    let start : Shows s taken × Holds word_width taken x constant =
+    begun word_width s scene (operand_expr a) (number_expr word_width constant) x constant fits bits mirrors (operand_read s scene a source fits mirrors) refl in
+    let done = product_made word_width true s taken p (overflows word_width z) start.0 (signed_product_is word_width taken x constant start.1 first ok.fits)
+    (λ seen is. signed_needed word_width seen z is) in
+    let made : Scene = executed (product_working word_width true) taken in
+    mirrors_word (with_flags (product_flags (overflows word_width z)) s) made.values r (wrapped_of word_width z) (made.values (Temp 6) / 2 ^ 0 % 2 ^ 8) (made.values (Temp 6) / 2 ^ 8 % 2 ^ 8)
+    (sym (pattern_low word_width z) ∙ word_of_product (made.values (Temp 6)) p done.product) done.mirrors
+  where
+    word_of_product : (v p : ℕ) → v ≡ p → p % limit_of word_width ≡ v / 2 ^ 8 % 2 ^ 8 * 256 + v / 2 ^ 0 % 2 ^ 8
+    word_of_product v p is = omega (arith, is)
 
 -- the same of the operations
-pub mul_op_mirrors : (s : State) (scene : Scene) (at : ℕ) (number : Option ℕ) (a : Operand)
+pub mul_op_mirrors : (cpu : Cpu) (s : State) (scene : Scene) (at : ℕ) (number : Option ℕ) (a : Operand)
     → Fits scene → scene.bits ≡ temporary_bits → Mirrors s scene.values → IsOperation (UnaryOp Mul a) → is_liftable (UnaryOp Mul a) ≡ true
-    → Mirrors (op_step (UnaryOp Mul a) at s) (executed (op_stmts (UnaryOp Mul a) number) scene).values
-mul_op_mirrors s scene at number a fits bits mirrors ok liftable = mul_mirrors a s scene liftable ok fits bits mirrors
+    → Mirrors (op_step cpu (UnaryOp Mul a) at s) (executed (op_stmts cpu (UnaryOp Mul a) number) scene).values
+mul_op_mirrors cpu s scene at number a fits bits mirrors ok liftable = mul_mirrors a s scene liftable ok fits bits mirrors
 
-pub imul_op_mirrors : (s : State) (scene : Scene) (at : ℕ) (number : Option ℕ) (a : Operand)
+pub imul_op_mirrors : (cpu : Cpu) (s : State) (scene : Scene) (at : ℕ) (number : Option ℕ) (a : Operand)
     → Fits scene → scene.bits ≡ temporary_bits → Mirrors s scene.values → IsOperation (UnaryOp Imul a) → is_liftable (UnaryOp Imul a) ≡ true
-    → Mirrors (op_step (UnaryOp Imul a) at s) (executed (op_stmts (UnaryOp Imul a) number) scene).values
-imul_op_mirrors s scene at number a fits bits mirrors ok liftable = imul_mirrors a s scene liftable ok fits bits mirrors
+    → Mirrors (op_step cpu (UnaryOp Imul a) at s) (executed (op_stmts cpu (UnaryOp Imul a) number) scene).values
+imul_op_mirrors cpu s scene at number a fits bits mirrors ok liftable = imul_mirrors a s scene liftable ok fits bits mirrors
+
+pub triple_op_mirrors : (cpu : Cpu) (s : State) (scene : Scene) (at : ℕ) (number : Option ℕ) (r : Reg) (a : Operand) (constant : ℕ)
+    → Fits scene → scene.bits ≡ temporary_bits → Mirrors s scene.values → IsOperation (Imul3 r a constant) → is_liftable (Imul3 r a constant) ≡ true
+    → Mirrors (op_step cpu (Imul3 r a constant) at s) (executed (op_stmts cpu (Imul3 r a constant) number) scene).values
+triple_op_mirrors cpu s scene at number r a constant fits bits mirrors ok liftable =
+    triple_mirrors r a constant s scene (and_right (is_general r) (is_register a) liftable) ok fits bits mirrors
 
 -- Sign extensions.
 
@@ -188,10 +236,10 @@ cwd_mirrors s scene fits mirrors =
     mirrors_word s (with_value scene.values (Temp 6) v) Dx (extension_of word_width (word_in s Ax)) (v / 2 ^ 16 % 2 ^ 8) (v / 2 ^ 24 % 2 ^ 8) e (mirrors_temp s scene.values 6 v mirrors)
 
 -- the same of the operations
-pub cbw_op_mirrors : (s : State) (scene : Scene) (at : ℕ) (number : Option ℕ) → Fits scene → Mirrors s scene.values
-    → Mirrors (op_step (PlainOp Cbw) at s) (executed (op_stmts (PlainOp Cbw) number) scene).values
-cbw_op_mirrors s scene at number fits mirrors = cbw_mirrors s scene fits mirrors
+pub cbw_op_mirrors : (cpu : Cpu) (s : State) (scene : Scene) (at : ℕ) (number : Option ℕ) → Fits scene → Mirrors s scene.values
+    → Mirrors (op_step cpu (PlainOp Cbw) at s) (executed (op_stmts cpu (PlainOp Cbw) number) scene).values
+cbw_op_mirrors cpu s scene at number fits mirrors = cbw_mirrors s scene fits mirrors
 
-pub cwd_op_mirrors : (s : State) (scene : Scene) (at : ℕ) (number : Option ℕ) → Fits scene → Mirrors s scene.values
-    → Mirrors (op_step (PlainOp Cwd) at s) (executed (op_stmts (PlainOp Cwd) number) scene).values
-cwd_op_mirrors s scene at number fits mirrors = cwd_mirrors s scene fits mirrors
+pub cwd_op_mirrors : (cpu : Cpu) (s : State) (scene : Scene) (at : ℕ) (number : Option ℕ) → Fits scene → Mirrors s scene.values
+    → Mirrors (op_step cpu (PlainOp Cwd) at s) (executed (op_stmts cpu (PlainOp Cwd) number) scene).values
+cwd_op_mirrors cpu s scene at number fits mirrors = cwd_mirrors s scene fits mirrors

@@ -133,23 +133,23 @@ module _ (image : Image) (layout : Layout) (start : Proc) (p : Program) (loaded 
   -- the block of a leader has a place in the graph
   place-fits : (at : ℕ) → is_leader nodes entry at ≡ true → block_place nodes entry at < count
   place-fits at leader =
-      let there = block_found nodes entry (leaders nodes entry) is.blocks at is.blocks_are leader in
+      let there = block_found layout.cpu nodes entry (leaders nodes entry) is.blocks at is.blocks_are leader in
       let inside = slice_get_within is.blocks _ there.block there.found in
       omega (arith, inside)
 
-  node-sound : (at : ℕ) → AreSoundStmts (stmts_at nodes at)
+  node-sound : (at : ℕ) → AreSoundStmts (stmts_at layout.cpu nodes at)
   node-sound at = go (node_in nodes at) refl
     where
-      go : (o : Option Node) → node_in nodes at ≡ o → AreSoundStmts (node_stmts o)
+      go : (o : Option Node) → node_in nodes at ≡ o → AreSoundStmts (node_stmts layout.cpu o)
       go None e = record { each = refl }
-      go (Some node) e = let one = node_in_holds IsLiftableNode nodes at node given.nodes e in stmts-sound node.instr.op node.number one.lifted one.operation
+      go (Some node) e = let one = node_in_holds IsLiftableNode nodes at node given.nodes e in stmts-sound layout.cpu node.instr.op node.number one.lifted one.operation
 
-  chain-sound : (places : List ℕ) → AreSoundStmts (flat_map (stmts_at nodes) places)
+  chain-sound : (places : List ℕ) → AreSoundStmts (flat_map (stmts_at layout.cpu nodes) places)
   chain-sound [] = record { each = refl }
-  chain-sound (at ∷ places) = sound-append (stmts_at nodes at) (flat_map (stmts_at nodes) places) (node-sound at) (chain-sound places)
+  chain-sound (at ∷ places) = sound-append (stmts_at layout.cpu nodes at) (flat_map (stmts_at layout.cpu nodes) places) (node-sound at) (chain-sound places)
 
   -- a block's last instruction goes on to leaders
-  exit-good : (at : ℕ) (block : Block) → is_leader nodes entry at ≡ true → (b : IsBlockAt nodes entry at block) → IsGoodExit count block.exit
+  exit-good : (at : ℕ) (block : Block) → is_leader nodes entry at ≡ true → (b : IsBlockAt layout.cpu nodes entry at block) → IsGoodExit count block.exit
   exit-good at block leader b =
       let last : ℕ = last_of at b.rest in
       let found = node_in_some nodes last (last_node nodes entry image.ip given.sound b.rest at b.chain (leader_node nodes entry image.ip given.sound at leader)) in
@@ -176,7 +176,7 @@ module _ (image : Image) (layout : Layout) (start : Proc) (p : Program) (loaded 
         stmts = prelude-sound image layout nodes given.words;
         exit = goto-good count (block_place nodes entry entry) (place-fits entry (entry_is_leader nodes entry image.ip given.sound));
       })
-      (blocks_all nodes entry (IsGoodBlock count) (leaders nodes entry) is.blocks is.blocks_are (λ at block leader b. record {
+      (blocks_all layout.cpu nodes entry (IsGoodBlock count) (leaders nodes entry) is.blocks is.blocks_are (λ at block leader b. record {
         at = subst (λ n. n < 65536) (sym b.at_is) (leader_below nodes entry image.ip given.sound at leader);
         stmts = subst AreSoundStmts (sym b.stmts_are) (chain-sound (at ∷ b.rest));
         exit = exit-good at block leader b;
@@ -189,7 +189,7 @@ module _ (image : Image) (layout : Layout) (start : Proc) (p : Program) (loaded 
       (λ m. same_test (image.ip == m) (m == image.ip) (λ t. eq-eqb m image.ip (sym (eqb-true image.ip m t))) (λ t. eq-eqb image.ip m (sym (eqb-true m image.ip t)))) (leaders nodes entry)
       ∙ prelude_no_leader nodes entry image.ip given.sound in
       let rises = increasing_leaders nodes entry (increasing_offsets nodes given.sound.ascending) in
-      subst (λ xs. all_differ (image.ip ∷ xs) ≡ true) (sym (blocks_at nodes entry (leaders nodes entry) is.blocks is.blocks_are))
+      subst (λ xs. all_differ (image.ip ∷ xs) ≡ true) (sym (blocks_at layout.cpu nodes entry (leaders nodes entry) is.blocks is.blocks_are))
       (and_both (not (list_any (λ m. image.ip == m) (leaders nodes entry))) (all_differ (leaders nodes entry)) (ap not flip)
       (ascending-differ (leaders nodes entry) (AllPairs-from_increasing (leaders nodes entry) rises)))
 

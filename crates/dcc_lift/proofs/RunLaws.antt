@@ -22,7 +22,7 @@ use Rattle.dcc_prog.specs.Step.{step as machine_step}
 use Rattle.dcc_prog.specs.MzImage.{IsLoaded}
 use Rattle.dcc_prog.specs.Code.{code_of}
 use Rattle.dcc_prog.specs.Layout.{HasLayout}
-use Rattle.dcc_prog.specs.Found.{AreFound}
+use Rattle.dcc_lift.proofs.OneProcedure.{IsOneFound}
 use Rattle.dcc_prog.specs.Watch.{InProcedures, Watch, procedures_after, stage_after, watch_step, place_of, watched_machine, first_watch}
 use Rattle.dcc_prog.proofs.FetchLaws.{IsPlaced}
 use Rattle.dcc_prog.proofs.PreludeOffsets.{offset-far, offset-end, prelude-short, prelude-some, start-below}
@@ -65,7 +65,7 @@ or-true true = refl
 or-true false = refl
 
 module _ (laws : AreLifted) (image : Image) (layout : Layout) (procs : List Proc) (loaded : IsLoaded image) (has : HasLayout image layout)
-    (are : AreFound image layout procs) (p : Program) (translation : IsTranslation image layout are.start p) (fill : ℕ) where
+    (are : IsOneFound image layout procs) (p : Program) (translation : IsTranslation image layout are.start p) (fill : ℕ) where
   abbrev start : Proc
   start = are.start
 
@@ -104,7 +104,7 @@ module _ (laws : AreLifted) (image : Image) (layout : Layout) (procs : List Proc
     pub before : List ℕ
     pub both : BothStand image layout graph s t at before
     pub leader : is_leader nodes entry at ≡ true
-    pub is_block : IsBlockAt nodes entry at t.running.block
+    pub is_block : IsBlockAt layout.cpu nodes entry at t.running.block
     pub begins : t.running.begins ≡ true
     pub rest_is : t.running.rest ≡ t.running.block.stmts
 
@@ -171,12 +171,12 @@ module _ (laws : AreLifted) (image : Image) (layout : Layout) (procs : List Proc
 
   -- an instruction that is lifted leaves the machine within the procedure
   within-steps : (s : Machine) (t : Inner) (at : ℕ) (before : List ℕ) (both : BothStand image layout graph s t at before) (node : Node)
-      → IsInstruction image layout nodes at node → watch_step layout (within s) ≡ within (machine_step s)
+      → IsInstruction image layout nodes at node → watch_step layout (within s) ≡ within (machine_step layout.cpu s)
   within-steps s t at before both node is =
       watch_moves layout (within s) (not-over s both.running) refl
-      ∙ ap (λ found. record { machine = machine_step s; stage = stage_after layout found (machine_step s).ip (InProcedures (entry ∷ [])) })
+      ∙ ap (λ found. record { machine = machine_step layout.cpu s; stage = stage_after layout found (machine_step layout.cpu s).ip (InProcedures (entry ∷ [])) })
       (fetched image layout graph s t at before node.instr placed both is.stands)
-      ∙ ap (λ entries. record { machine = machine_step s; stage = InProcedures entries }) (no-call node.instr.op (entry ∷ []) is.liftable)
+      ∙ ap (λ entries. record { machine = machine_step layout.cpu s; stage = InProcedures entries }) (no-call node.instr.op (entry ∷ []) is.liftable)
 
   -- the machine's steps through what is left of a block, one and so many further ones, and where both runs then are
   record Through (further : ℕ) (s : Machine) (v : Inner) : Type 0 where
@@ -221,30 +221,30 @@ module _ (laws : AreLifted) (image : Image) (layout : Layout) (procs : List Proc
         one-place true m n = refl
         one-place false m n = refl
 
-    last-through : IsChain nodes entry at [] → t.running.block.exit ≡ exit_at nodes entry at → Through 0 s (block_step p.graphs fill (stmts_at nodes at ++ []) t)
+    last-through : IsChain nodes entry at [] → t.running.block.exit ≡ exit_at nodes entry at → Through 0 s (block_step p.graphs fill (stmts_at layout.cpu nodes at ++ []) t)
     last-through chain exit_is = record {
       quiet = quiet_once machine (within s);
-      comes = subst (λ w. ComesTo machine inner InBlock w (block_step p.graphs fill (stmts_at nodes at ++ []) t))
+      comes = subst (λ w. ComesTo machine inner InBlock w (block_step p.graphs fill (stmts_at layout.cpu nodes at ++ []) t))
           (sym (within-steps s t at before both node is)) (come (instruction-done s t at before both node is));
     }
       where
-        stmts : stmts_at nodes at ≡ node_stmts (Some node)
-        stmts = ap node_stmts is.found
+        stmts : stmts_at layout.cpu nodes at ≡ node_stmts layout.cpu (Some node)
+        stmts = ap (node_stmts layout.cpu) is.found
 
-        come : IsDone image layout graph p.graphs fill node s t at before → ComesTo machine inner InBlock (within (machine_step s)) (block_step p.graphs fill (stmts_at nodes at ++ []) t)
+        come : IsDone image layout graph p.graphs fill node s t at before → ComesTo machine inner InBlock (within (machine_step layout.cpu s)) (block_step p.graphs fill (stmts_at layout.cpu nodes at ++ []) t)
         come (goes_on x) =
             let went : has_successor nodes at x.to ≡ true = ap (list_any (λ n. n == x.to)) (succ-of at node is.found) ∙ any_contained node.succ.items x.to x.goes in
             let leader : is_leader nodes entry x.to ≡ true = last_goes_to_leaders nodes entry image.ip sound at [] x.to chain went in
-            let run : block_step p.graphs fill (stmts_at nodes at ++ []) t ≡ going_to (block_place nodes entry x.to) x.next =
+            let run : block_step p.graphs fill (stmts_at layout.cpu nodes at ++ []) t ≡ going_to (block_place nodes entry x.to) x.next =
             ap (λ l. block_step p.graphs fill (l ++ []) t) stmts
             ∙ x.runs []
             ∙ ap (λ b. exit_step b.exit x.next) x.block
             ∙ ap (λ ex. exit_step ex x.next) exit_is
             ∙ last-goes x (exit_at nodes entry at) (exit_forms nodes entry image.ip sound at node is.found) in
             still_related (record {
-              state_of = machine_step s;
+              state_of = machine_step layout.cpu s;
               same = refl;
-              at_block = subst (AtBlock (machine_step s)) (sym run) (arrived (machine_step s) x.next x.to (at ∷ before) x.stand leader);
+              at_block = subst (AtBlock (machine_step layout.cpu s)) (sym run) (arrived (machine_step layout.cpu s) x.next x.to (at ∷ before) x.stand leader);
             })
         come (ends x) =
             both_over (ap is_over x.machine)
@@ -254,7 +254,7 @@ module _ (laws : AreLifted) (image : Image) (layout : Layout) (procs : List Proc
   -- the steps through what is left of a block
   chain-through : (rest : List ℕ) (s : Machine) (t : Inner) (at : ℕ) (before : List ℕ) → BothStand image layout graph s t at before
       → IsChain nodes entry at rest → t.running.block.exit ≡ exit_at nodes entry (last_of at rest)
-      → Through (length rest) s (block_step p.graphs fill (flat_map (stmts_at nodes) (at ∷ rest)) t)
+      → Through (length rest) s (block_step p.graphs fill (flat_map (stmts_at layout.cpu nodes) (at ∷ rest)) t)
   chain-through [] s t at before both chain exit_is =
       let x = node-instruction image layout procs loaded has are at (record { before = before; trail = both.trail }) in
       last-through s t at before both x.0 x.1 chain exit_is
@@ -264,25 +264,25 @@ module _ (laws : AreLifted) (image : Image) (layout : Layout) (procs : List Proc
       let is : IsInstruction image layout nodes at node = x.1 in
       let onwards = onward_tells nodes entry image.ip sound at next chain.0 in
       let succ : node.succ.items ≡ next ∷ [] = sym (succ-of at node is.found) ∙ onwards.succ in
-      let stmts : stmts_at nodes at ≡ node_stmts (Some node) = ap node_stmts is.found in
+      let stmts : stmts_at layout.cpu nodes at ≡ node_stmts layout.cpu (Some node) = ap (node_stmts layout.cpu) is.found in
       let steps = sym (within-steps s t at before both node is) in
       elim (instruction-done s t at before both node is) [
         | ends y ↦ absurd (one-of-none next node.succ.items succ y.none)
         | goes_on y ↦
-            let stand : BothStand image layout graph (machine_step s) y.next next (at ∷ before) =
-            subst (λ n. BothStand image layout graph (machine_step s) y.next n (at ∷ before)) (only-to s t at before node y next succ) y.stand in
-            let later = chain-through rest (machine_step s) y.next next (at ∷ before) stand chain.1 (ap (λ b. b.exit) y.block ∙ exit_is) in
-            let run : block_step p.graphs fill (flat_map (stmts_at nodes) (at ∷ next ∷ rest)) t ≡ block_step p.graphs fill (flat_map (stmts_at nodes) (next ∷ rest)) y.next =
-            ap (λ l. block_step p.graphs fill (l ++ flat_map (stmts_at nodes) (next ∷ rest)) t) stmts ∙ y.runs (flat_map (stmts_at nodes) (next ∷ rest)) in
-            let here : IsQuiet machine (within (machine_step s)) = record {
+            let stand : BothStand image layout graph (machine_step layout.cpu s) y.next next (at ∷ before) =
+            subst (λ n. BothStand image layout graph (machine_step layout.cpu s) y.next n (at ∷ before)) (only-to s t at before node y next succ) y.stand in
+            let later = chain-through rest (machine_step layout.cpu s) y.next next (at ∷ before) stand chain.1 (ap (λ b. b.exit) y.block ∙ exit_is) in
+            let run : block_step p.graphs fill (flat_map (stmts_at layout.cpu nodes) (at ∷ next ∷ rest)) t ≡ block_step p.graphs fill (flat_map (stmts_at layout.cpu nodes) (next ∷ rest)) y.next =
+            ap (λ l. block_step p.graphs fill (l ++ flat_map (stmts_at layout.cpu nodes) (next ∷ rest)) t) stmts ∙ y.runs (flat_map (stmts_at layout.cpu nodes) (next ∷ rest)) in
+            let here : IsQuiet machine (within (machine_step layout.cpu s)) = record {
               unmarked = ap (λ a. kept_mark (has_block p) (Some (place a))) stand.ip_is ∙ ap (λ b. if b then Some (place next) else None) (inner-has at next onwards);
-              running = not-over (machine_step s) stand.running;
+              running = not-over (machine_step layout.cpu s) stand.running;
               clean = refl;
             } in
             record {
               quiet = quiet_before machine (suc (length rest)) (within s) (subst (IsQuiet machine) steps here) (subst (IsQuietUntil machine (suc (length rest))) steps later.quiet);
               comes = subst (λ v. ComesTo machine inner InBlock (state machine (suc (suc (length rest))) (within s)) v) (sym run)
-                  (subst (λ w. ComesTo machine inner InBlock (state machine (suc (length rest)) w) (block_step p.graphs fill (flat_map (stmts_at nodes) (next ∷ rest)) y.next)) steps later.comes);
+                  (subst (λ w. ComesTo machine inner InBlock (state machine (suc (length rest)) w) (block_step p.graphs fill (flat_map (stmts_at layout.cpu nodes) (next ∷ rest)) y.next)) steps later.comes);
             }
       ]
     where
@@ -317,8 +317,8 @@ module _ (laws : AreLifted) (image : Image) (layout : Layout) (procs : List Proc
       let b = x.at_block in
       let block = b.is_block in
       let y = chain-through block.rest s t b.at b.before b.both block.chain block.exit_is in
-      let stmts : t.running.rest ≡ flat_map (stmts_at nodes) (b.at ∷ block.rest) = b.rest_is ∙ block.stmts_are in
-      let step_is : inner_step p fill t ≡ block_step p.graphs fill (flat_map (stmts_at nodes) (b.at ∷ block.rest)) t =
+      let stmts : t.running.rest ≡ flat_map (stmts_at layout.cpu nodes) (b.at ∷ block.rest) = b.rest_is ∙ block.stmts_are in
+      let step_is : inner_step p fill t ≡ block_step p.graphs fill (flat_map (stmts_at layout.cpu nodes) (b.at ∷ block.rest)) t =
       ap (λ e. if is_over e then t else block_step p.graphs fill t.running.rest t) b.both.going ∙ ap (λ l. block_step p.graphs fill l t) stmts in
       record {
         alike = record {
@@ -414,7 +414,7 @@ module _ (laws : AreLifted) (image : Image) (layout : Layout) (procs : List Proc
     pub machine-paced : KeepsPace machine (first_watch image input) steps_at_start steps_between
     unfolding start-matched
     machine-paced =
-        let up = offset-far (code_of image) far has.prelude image.ip has.is_prelude.run (omega arith) in
+        let up = offset-far layout.cpu (code_of image) far has.prelude image.ip has.is_prelude.run (omega arith) in
         let end = offset-end has.prelude image.ip in
         let short = prelude-short image layout loaded has in
         let le : far ≤ steps_at_start = omega (arith, up, end, short) in

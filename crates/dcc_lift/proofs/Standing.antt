@@ -5,6 +5,7 @@ use Rattle.std.specs.Prelude.{slice_index, if◌then◌else◌, ◌==◌, ◌||�
 use Rattle.dcc_run.specs.End.{Running, Exit as ExitWith, is_over}
 use Rattle.dcc_num.specs.declared.Reg.TheVariants.{Ax}
 use Rattle.dcc_num.specs.declared.Half.TheVariants.{High}
+use Rattle.dcc_prog.specs.declared.cpu.Cpu.{Cpu}
 use Rattle.dcc_prog.specs.declared.image.Image.{Image}
 use Rattle.dcc_prog.specs.declared.procedure.Layout.{Layout}
 use Rattle.dcc_prog.specs.declared.procedure.Node.{Node}
@@ -43,18 +44,18 @@ pub record KeepsRest (s t : Machine) : Type 0 where
 
 -- of all operations but INT 21h that are lifted: what their statements do, and where they go
 pub record AreLifted : Type 0 where
-  pub mirrors : (op : Op) (number : Option ℕ) (at : ℕ) (s : Machine) (scene : Scene) → is_liftable op ≡ true → IsOperation op → op ≢ Int21
-      → scene.bits ≡ temporary_bits → Fits scene → Mirrors s scene.values → Mirrors (op_step op at s) (executed (op_stmts op number) scene).values
-  pub fits : (op : Op) (number : Option ℕ) (scene : Scene) → is_liftable op ≡ true → IsOperation op → op ≢ Int21
-      → scene.bits ≡ temporary_bits → Fits scene → Fits (record scene { values = (executed (op_stmts op number) scene).values })
-  pub keeps : (op : Op) (at : ℕ) (s : Machine) → is_liftable op ≡ true → op ≢ Int21 → KeepsRest s (op_step op at s)
-  pub single : (op : Op) (at : ℕ) (s : Machine) (ah : Option ℕ) → is_liftable op ≡ true → op ≢ Int21 → op_test op ≡ None
-      → op_successors op s.ip ah [] ≡ (op_step op at s).ip ∷ []
-  pub tested : (op : Op) (number : Option ℕ) (at : ℕ) (s : Machine) (ah : Option ℕ) (scene : Scene) (test : Expr) → is_liftable op ≡ true → IsOperation op → op ≢ Int21
+  pub mirrors : (cpu : Cpu) (op : Op) (number : Option ℕ) (at : ℕ) (s : Machine) (scene : Scene) → is_liftable op ≡ true → IsOperation op → op ≢ Int21
+      → scene.bits ≡ temporary_bits → Fits scene → Mirrors s scene.values → Mirrors (op_step cpu op at s) (executed (op_stmts cpu op number) scene).values
+  pub fits : (cpu : Cpu) (op : Op) (number : Option ℕ) (scene : Scene) → is_liftable op ≡ true → IsOperation op → op ≢ Int21
+      → scene.bits ≡ temporary_bits → Fits scene → Fits (record scene { values = (executed (op_stmts cpu op number) scene).values })
+  pub keeps : (cpu : Cpu) (op : Op) (at : ℕ) (s : Machine) → is_liftable op ≡ true → op ≢ Int21 → KeepsRest s (op_step cpu op at s)
+  pub single : (cpu : Cpu) (op : Op) (at : ℕ) (s : Machine) (ah : Option ℕ) → is_liftable op ≡ true → op ≢ Int21 → op_test op ≡ None
+      → op_successors op s.ip ah [] ≡ (op_step cpu op at s).ip ∷ []
+  pub tested : (cpu : Cpu) (op : Op) (number : Option ℕ) (at : ℕ) (s : Machine) (ah : Option ℕ) (scene : Scene) (test : Expr) → is_liftable op ≡ true → IsOperation op → op ≢ Int21
       → scene.bits ≡ temporary_bits → Fits scene → Mirrors s scene.values → op_test op ≡ Some test
-      → (target : ℕ) × (op_successors op s.ip ah [] ≡ target ∷ s.ip ∷ []) × ((op_step op at s).ip ≡ (if value_of (executed (op_stmts op number) scene) test == 1 then target else s.ip))
-  pub runs : (op : Op) (number : Option ℕ) (graphs : List Graph) (fill : ℕ) (rest : List Stmt) (t : Inner) → is_liftable op ≡ true → IsOperation op → op ≢ Int21 → t.end ≡ Running
-      → block_step graphs fill (op_stmts op number ++ rest) t ≡ block_step graphs fill rest (after_sets (op_stmts op number) t)
+      → (target : ℕ) × (op_successors op s.ip ah [] ≡ target ∷ s.ip ∷ []) × ((op_step cpu op at s).ip ≡ (if value_of (executed (op_stmts cpu op number) scene) test == 1 then target else s.ip))
+  pub runs : (cpu : Cpu) (op : Op) (number : Option ℕ) (graphs : List Graph) (fill : ℕ) (rest : List Stmt) (t : Inner) → is_liftable op ≡ true → IsOperation op → op ≢ Int21 → t.end ≡ Running
+      → block_step graphs fill (op_stmts cpu op number ++ rest) t ≡ block_step graphs fill rest (after_sets (op_stmts cpu op number) t)
 
 -- The instructions of the procedure.
 
@@ -95,33 +96,33 @@ pub record IsPassed (image : Image) (layout : Layout) (graph : Graph) (graphs : 
   pub goes : Contains node.succ.items to
   pub single : op_test node.instr.op ≡ None → node.succ.items ≡ to ∷ []
   pub tested : (test : Expr) → op_test node.instr.op ≡ Some test → (target : ℕ) × (other : ℕ) × (node.succ.items ≡ target ∷ other ∷ []) × (to ≡ (if value_in next test == 1 then target else other))
-  pub stand : BothStand image layout graph (step s) next to (at ∷ before)
+  pub stand : BothStand image layout graph (step layout.cpu s) next to (at ∷ before)
   pub block : next.running.block ≡ t.running.block
-  pub runs : (rest : List Stmt) → block_step graphs fill (node_stmts (Some node) ++ rest) t ≡ block_step graphs fill rest next
+  pub runs : (rest : List Stmt) → block_step graphs fill (node_stmts layout.cpu (Some node) ++ rest) t ≡ block_step graphs fill rest next
 
 -- both runs end with the same exit code
-pub record IsLeft (graphs : List Graph) (fill : ℕ) (node : Node) (s : Machine) (t : Inner) : Type 0 where
+pub record IsLeft (cpu : Cpu) (graphs : List Graph) (fill : ℕ) (node : Node) (s : Machine) (t : Inner) : Type 0 where
   pub code : ℕ
-  pub machine : (step s).end ≡ ExitWith code
-  pub events : (step s).events ≡ s.events
-  pub ends : (rest : List Stmt) → (block_step graphs fill (node_stmts (Some node) ++ rest) t).end ≡ ExitWith code
-  pub inner_events : (rest : List Stmt) → (block_step graphs fill (node_stmts (Some node) ++ rest) t).events ≡ t.events
+  pub machine : (step cpu s).end ≡ ExitWith code
+  pub events : (step cpu s).events ≡ s.events
+  pub ends : (rest : List Stmt) → (block_step graphs fill (node_stmts cpu (Some node) ++ rest) t).end ≡ ExitWith code
+  pub inner_events : (rest : List Stmt) → (block_step graphs fill (node_stmts cpu (Some node) ++ rest) t).events ≡ t.events
   pub none : node.succ.items ≡ []
 
 -- The step.
 
 -- the machine reads the instruction, and makes its step
 pub fetched : (image : Image) (layout : Layout) (graph : Graph) (s : Machine) (t : Inner) (at : ℕ) (before : List ℕ) (instr : Instr) → IsPlaced image
-    → BothStand image layout graph s t at before → instruction_in image layout at ≡ Some instr → instruction_at s.ip (code_bytes s) ≡ Some instr
+    → BothStand image layout graph s t at before → instruction_in image layout at ≡ Some instr → instruction_at layout.cpu s.ip (code_bytes s) ≡ Some instr
 fetched image layout graph s t at before instr placed both found =
-    fetched-instruction image layout.code_end s instr placed both.holds (ap (λ a. instruction_in image layout a) both.ip_is ∙ found)
+    fetched-instruction layout.cpu image layout.code_end s instr placed both.holds (ap (λ a. instruction_in image layout a) both.ip_is ∙ found)
 
 pub step-is : (image : Image) (layout : Layout) (graph : Graph) (s : Machine) (t : Inner) (at : ℕ) (before : List ℕ) (instr : Instr) → IsPlaced image
     → BothStand image layout graph s t at before → instruction_in image layout at ≡ Some instr
-    → step s ≡ op_step instr.op s.ip (record s { ip = next_of s.ip instr })
+    → step layout.cpu s ≡ op_step layout.cpu instr.op s.ip (record s { ip = next_of s.ip instr })
 step-is image layout graph s t at before instr placed both found =
-    ap (λ e. if is_over e then s else instruction_step (instruction_at s.ip (code_bytes s)) s) both.running
-    ∙ ap (λ o. instruction_step o s) (fetched image layout graph s t at before instr placed both found)
+    ap (λ e. if is_over e then s else instruction_step layout.cpu (instruction_at layout.cpu s.ip (code_bytes s)) s) both.running
+    ∙ ap (λ o. instruction_step layout.cpu o s) (fetched image layout graph s t at before instr placed both found)
 
 pub no-some : {A : Type 0} {x : A} → None ≡ Some x → ⊥
 no-some e = cc
@@ -167,7 +168,7 @@ module _ (laws : AreLifted) (image : Image) (layout : Layout) (graph : Graph) (n
   -- an instruction that is no INT 21h
   module _ (other : node.instr.op ≢ Int21) where
     moved : Machine
-    moved = op_step node.instr.op s.ip following
+    moved = op_step layout.cpu node.instr.op s.ip following
 
     mirrored : Mirrors following t.running.values
     unfolding following
@@ -184,18 +185,18 @@ module _ (laws : AreLifted) (image : Image) (layout : Layout) (graph : Graph) (n
     trail-on to c = (subst (λ l. Contains l to) (is.succ before both.trail) c, both.trail)
 
     next-state : Inner
-    next-state = after_sets (op_stmts node.instr.op node.number) t
+    next-state = after_sets (op_stmts layout.cpu node.instr.op node.number) t
 
     passed-mirrors : Mirrors moved next-state.running.values
     unfolding moved next-state
-    passed-mirrors = laws.mirrors node.instr.op node.number s.ip following (scene_of t) is.liftable is.operation other bits-are both.fits mirrored
+    passed-mirrors = laws.mirrors layout.cpu node.instr.op node.number s.ip following (scene_of t) is.liftable is.operation other bits-are both.fits mirrored
 
-    goes-to : (to : ℕ) → step s ≡ moved → (step s).ip ≡ to → Contains node.succ.items to → BothStand image layout graph (step s) next-state to (at ∷ before)
+    goes-to : (to : ℕ) → step layout.cpu s ≡ moved → (step layout.cpu s).ip ≡ to → Contains node.succ.items to → BothStand image layout graph (step layout.cpu s) next-state to (at ∷ before)
     unfolding moved next-state following
     goes-to to stepped ip contained =
-        let rest = laws.keeps node.instr.op s.ip following is.liftable other in
+        let rest = laws.keeps layout.cpu node.instr.op s.ip following is.liftable other in
         record {
-          holds = code-kept image layout.code_end s (step s) both.holds (ap (λ u. u.memory) stepped ∙ rest.memory)
+          holds = code-kept image layout.code_end s (step layout.cpu s) both.holds (ap (λ u. u.memory) stepped ∙ rest.memory)
               (ap code_segment stepped ∙ ap (λ l. slice_index l 1) rest.segs);
           ip_is = ip;
           running = ap (λ u. u.end) stepped ∙ rest.end ∙ both.running;
@@ -203,18 +204,18 @@ module _ (laws : AreLifted) (image : Image) (layout : Layout) (graph : Graph) (n
           graph_is = both.graph_is;
           going = both.going;
           mirrors = subst (λ u. Mirrors u next-state.running.values) (sym stepped) passed-mirrors;
-          fits = laws.fits node.instr.op node.number (scene_of t) is.liftable is.operation other bits-are both.fits;
+          fits = laws.fits layout.cpu node.instr.op node.number (scene_of t) is.liftable is.operation other bits-are both.fits;
           input = both.input ∙ sym (ap (λ u. u.input) stepped ∙ rest.input);
           events = both.events ∙ sym (ap (λ u. u.events) stepped ∙ rest.events);
           bytes = subst (All (λ byte. byte < 256)) (sym (ap (λ u. u.input) stepped ∙ rest.input)) both.bytes;
           ah = λ n e.
-              ah-after node.instr node.number (scene_of t) (known_ah image layout before) other both.ah n
+              ah-after layout.cpu node.instr node.number (scene_of t) (known_ah image layout before) other both.ah n
               (sym (ap (λ found. ah_after found (known_ah image layout before)) is.stands) ∙ e);
         }
 
-    passed-runs : (graphs : List Graph) (fill : ℕ) (rest : List Stmt) → block_step graphs fill (node_stmts (Some node) ++ rest) t ≡ block_step graphs fill rest next-state
+    passed-runs : (graphs : List Graph) (fill : ℕ) (rest : List Stmt) → block_step graphs fill (node_stmts layout.cpu (Some node) ++ rest) t ≡ block_step graphs fill rest next-state
     unfolding next-state
-    passed-runs graphs fill rest = laws.runs node.instr.op node.number graphs fill rest t is.liftable is.operation other both.going
+    passed-runs graphs fill rest = laws.runs layout.cpu node.instr.op node.number graphs fill rest t is.liftable is.operation other both.going
 
     -- the instruction is passed
     pub passed : (graphs : List Graph) (fill : ℕ) → IsPassed image layout graph graphs fill node s t at before
@@ -226,8 +227,8 @@ module _ (laws : AreLifted) (image : Image) (layout : Layout) (graph : Graph) (n
         let ip = ap (λ u. u.ip) stepped in
         elim (op_test node.instr.op) as (λ o. op_test node.instr.op ≡ o → IsPassed image layout graph graphs fill node s t at before) [
           | None ↦ λ none.
-              let one = succ ∙ laws.single node.instr.op s.ip following ah is.liftable other none in
-              let to : ℕ = (op_step node.instr.op s.ip following).ip in
+              let one = succ ∙ laws.single layout.cpu node.instr.op s.ip following ah is.liftable other none in
+              let to : ℕ = (op_step layout.cpu node.instr.op s.ip following).ip in
               let contained : Contains node.succ.items to = subst (λ l. Contains l to) (sym one) (first-of-one to) in
               record {
                 to = to;
@@ -240,9 +241,9 @@ module _ (laws : AreLifted) (image : Image) (layout : Layout) (graph : Graph) (n
                 runs = passed-runs graphs fill;
               }
           | Some test ↦ λ some.
-              let x = laws.tested node.instr.op node.number s.ip following ah (scene_of t) test is.liftable is.operation other bits-are both.fits mirrored some in
-              let same : executed (op_stmts node.instr.op node.number) (scene_of t) ≡ scene_of next-state = executed_values (op_stmts node.instr.op node.number) (scene_of t) in
-              let to : ℕ = (op_step node.instr.op s.ip following).ip in
+              let x = laws.tested layout.cpu node.instr.op node.number s.ip following ah (scene_of t) test is.liftable is.operation other bits-are both.fits mirrored some in
+              let same : executed (op_stmts layout.cpu node.instr.op node.number) (scene_of t) ≡ scene_of next-state = executed_values (op_stmts layout.cpu node.instr.op node.number) (scene_of t) in
+              let to : ℕ = (op_step layout.cpu node.instr.op s.ip following).ip in
               let goes : to ≡ (if value_in next-state test == 1 then x.0 else following.ip) = x.2 ∙ ap (λ scene. if value_of scene test == 1 then x.0 else following.ip) same in
               let two = succ ∙ x.1 in
               let contained : Contains node.succ.items to = subst (λ l. Contains l to) (sym two) (chosen-of-two (value_in next-state test == 1) x.0 following.ip to goes) in

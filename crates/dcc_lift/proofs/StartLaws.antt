@@ -161,15 +161,15 @@ module _ (image : Image) (layout : Layout) (start : Proc) (p : Program) (fill : 
 
   -- the machine after the prelude
   abbrev pub after_prelude : Machine
-  after_prelude = at_offset image input (executed_run (start_state image []) has.prelude) layout.start_ip
+  after_prelude = at_offset image input (executed_run layout.cpu (start_state image []) has.prelude) layout.start_ip
 
-  pub prelude-steps : after machine_step (length has.prelude) (start_state image input) ≡ after_prelude
+  pub prelude-steps : after (machine_step layout.cpu) (length has.prelude) (start_state image input) ≡ after_prelude
   prelude-steps =
-      steps-from_start image input has.prelude loaded has.is_prelude.run
-      ∙ ap (λ a. at_offset image input (executed_run (start_state image []) has.prelude) a) (sym has.left.start_ip)
+      steps-from_start layout.cpu image input has.prelude loaded has.is_prelude.run
+      ∙ ap (λ a. at_offset image input (executed_run layout.cpu (start_state image []) has.prelude) a) (sym has.left.start_ip)
 
-  layout-flags : layout.flags ≡ (executed_run (start_state image []) has.prelude).flags
-  layout-flags = has.left.flags ∙ ap (λ (s : Machine). s.flags) (state_after-is image has.prelude loaded has.is_prelude.run)
+  layout-flags : layout.flags ≡ (executed_run layout.cpu (start_state image []) has.prelude).flags
+  layout-flags = has.left.flags ∙ ap (λ (s : Machine). s.flags) (state_after-is layout.cpu image has.prelude loaded has.is_prelude.run)
 
   -- both runs stand at the procedure's entry
   pub begun-stand : layout.start_ip < 65536 → BothStand image layout graph after_prelude set_up layout.start_ip []
@@ -180,7 +180,7 @@ module _ (image : Image) (layout : Layout) (start : Proc) (p : Program) (fill : 
       record {
         holds = code-kept image layout.code_end (start_state image input) after_prelude
             (code-part image image.code_len layout.code_end (start_state image input) (start-holds image input placed) ends) refl
-            (executed-code (code_of image) image.ip has.prelude (start_state image []) has.is_prelude.run);
+            (executed-code layout.cpu (code_of image) image.ip has.prelude (start_state image []) has.is_prelude.run);
         ip_is = mod-eq_of_lt below;
         running = refl;
         trail = refl;

@@ -14,6 +14,8 @@ use Rattle.dcc_num.specs.declared.Reg.TheVariants.{Ax, Cx, Dx}
 use Rattle.dcc_num.specs.declared.Half.TheVariants.{Low, High}
 use Rattle.dcc_num.specs.declared.FlagName.{FlagName}
 use Rattle.dcc_num.specs.declared.FlagName.TheVariants.{Cf, Zf, Sf, Of}
+use Rattle.dcc_prog.specs.declared.cpu.Cpu.{Cpu}
+use Rattle.dcc_prog.specs.declared.cpu.Cpu.TheVariants.{I8086, I186}
 use Rattle.dcc_prog.specs.declared.image.Image.{Image}
 use Rattle.dcc_prog.specs.declared.procedure.Layout.{Layout}
 use Rattle.dcc_num.specs.declared.Half.{Half as HalfName}
@@ -22,6 +24,8 @@ use Rattle.dcc_prog.specs.declared.instr.Alu.{Alu}
 use Rattle.dcc_prog.specs.declared.instr.Alu.TheVariants.{Add, Or, Adc, Sbb, And, Sub, Xor, Cmp, Test}
 use Rattle.dcc_prog.specs.declared.instr.Shift.{Shift}
 use Rattle.dcc_prog.specs.declared.instr.Shift.TheVariants.{Rol, Ror, Rcl, Rcr, Shl, Shr, Sar}
+use Rattle.dcc_prog.specs.declared.instr.Count.{Count}
+use Rattle.dcc_prog.specs.declared.instr.Count.TheVariants.{One, Cl, Const as ConstCount}
 use Rattle.dcc_prog.specs.declared.instr.Unary.{Unary}
 use Rattle.dcc_prog.specs.declared.instr.Unary.TheVariants.{Inc, Dec, Neg, Not, Mul, Imul, Div as DivOp, Idiv}
 use Rattle.dcc_prog.specs.declared.instr.Cond.{Cond}
@@ -31,9 +35,10 @@ use Rattle.dcc_prog.specs.declared.instr.Plain.TheVariants.{Nop, Cbw, Cwd, Xlat,
 use Rattle.dcc_prog.specs.declared.instr.Operand.{Operand}
 use Rattle.dcc_prog.specs.declared.instr.Operand.TheVariants.{Word, Byte, Seg, Mem, Const as Constant}
 use Rattle.dcc_prog.specs.declared.instr.Op.{Op}
-use Rattle.dcc_prog.specs.declared.instr.Op.TheVariants.{Alu as AluOp, Unary as UnaryOp, Shift as ShiftOp, Mov, Xchg, Lea, Push, Pop, Plain as PlainOp, Jump, Branch, Loop, LoopE, LoopNe, Jcxz, Table, Call, Ret, Int21}
+use Rattle.dcc_prog.specs.declared.instr.Op.TheVariants.{Alu as AluOp, Unary as UnaryOp, Shift as ShiftOp, Mov, Xchg, Lea, Imul3, Push, Pop, Enter, Leave, Plain as PlainOp, Jump, Branch, Loop, LoopE, LoopNe, Jcxz, Table, Call, Ret, Int21}
 use Rattle.dcc_prog.specs.Machine.{reg_number, operand_width}
-use Rattle.dcc_prog.specs.WellFormed.{IsOperand, AreOperands, IsOperation}
+use Rattle.dcc_prog.specs.WellFormed.{IsOperand, AreOperands, AreFactors, IsOperation}
+use Rattle.dcc_prog.specs.Writes.{never_shifts}
 use Rattle.dcc_ir.specs.declared.syntax.Loc.TheVariants.{Half}
 use Rattle.dcc_ir.specs.declared.syntax.BinOp.TheVariants.{And as AndOp}
 use Rattle.dcc_ir.specs.Tree.{Expr, Const, Get, Binary, Stmt, Set, Fetch, Store, Div, Call as CallStmt, Dos, Exit, Graph, Program}
@@ -43,12 +48,14 @@ use Rattle.dcc_ir.specs.Use.{exprs_of}
 use Rattle.dcc_ir.specs.Run.{State, is_call, scene_of, value_in, setting, block_step}
 use Rattle.dcc_ir.specs.Measure.{depth_of}
 use Rattle.dcc_lift.specs.Temporaries.{temporary_bits}
-use Rattle.dcc_lift.specs.Expressions.{operand_expr, condition, goes_round, flag, negated, is_zero, word_of}
-use Rattle.dcc_lift.specs.Statements.{taking, alu_working, alu_storing, alu_stmts, unary_stmts, shift_stmts, mov_stmts, xchg_stmts, plain_stmts, dos_stmts, op_stmts, op_test}
+use Rattle.dcc_lift.specs.Expressions.{operand_expr, product, count_expr, condition, goes_round, flag, negated, is_zero, word_of}
+use Rattle.dcc_lift.specs.Statements.{taking, word_taking, storing, alu_working, alu_storing, alu_stmts, product_working, triple_product, unary_stmts, shift_working, staying, shifting, shift_stmts, mov_stmts, xchg_stmts, plain_stmts, dos_stmts, op_stmts, op_test}
+use Rattle.dcc_lift.specs.Form.{is_general}
 use Rattle.dcc_lift.specs.Mirrors.{executed}
 use Rattle.dcc_lift.specs.Liftable.{is_register, is_source, is_lifted_unary, is_liftable}
 use Rattle.dcc_lift.specs.Blocks.{Nodes}
 use Rattle.dcc_lift.specs.Translation.{general_registers, register_starting, flag_starting, flags_starting, prelude_block}
+use Rattle.dcc_lift.proofs.ListTests.{of_either}
 
 -- Tests.
 
@@ -147,37 +154,14 @@ unary_byte-sound Imul r half = refl
 unary_byte-sound DivOp r half = refl
 unary_byte-sound Idiv r half = refl
 
-shift_word-sound : (operation : Shift) (r : Reg) (by_cl : Bool) → are_sound (shift_stmts operation word_width (Word r) by_cl) ≡ true
-shift_word-sound Rol r true = refl
-shift_word-sound Rol r false = refl
-shift_word-sound Ror r true = refl
-shift_word-sound Ror r false = refl
-shift_word-sound Rcl r true = refl
-shift_word-sound Rcl r false = refl
-shift_word-sound Rcr r true = refl
-shift_word-sound Rcr r false = refl
-shift_word-sound Shl r true = refl
-shift_word-sound Shl r false = refl
-shift_word-sound Shr r true = refl
-shift_word-sound Shr r false = refl
-shift_word-sound Sar r true = refl
-shift_word-sound Sar r false = refl
-
-shift_byte-sound : (operation : Shift) (r : Reg) (half : HalfName) (by_cl : Bool) → are_sound (shift_stmts operation byte_width (Byte r half) by_cl) ≡ true
-shift_byte-sound Rol r half true = refl
-shift_byte-sound Rol r half false = refl
-shift_byte-sound Ror r half true = refl
-shift_byte-sound Ror r half false = refl
-shift_byte-sound Rcl r half true = refl
-shift_byte-sound Rcl r half false = refl
-shift_byte-sound Rcr r half true = refl
-shift_byte-sound Rcr r half false = refl
-shift_byte-sound Shl r half true = refl
-shift_byte-sound Shl r half false = refl
-shift_byte-sound Shr r half true = refl
-shift_byte-sound Shr r half false = refl
-shift_byte-sound Sar r half true = refl
-shift_byte-sound Sar r half false = refl
+shift_working-sound : (w : Width) (count : Count) (operation : Shift) → are_sound (shift_working operation w count) ≡ true
+shift_working-sound byte_width One Rol = refl
+shift_working-sound byte_width Cl Rol = refl
+shift_working-sound byte_width (ConstCount n) Rol = refl
+shift_working-sound word_width One Rol = refl
+shift_working-sound word_width Cl Rol = refl
+shift_working-sound word_width (ConstCount n) Rol = refl
+shift_working-sound _ _ _ = refl
 
 plain-sound : (operation : Plain) → are_sound (plain_stmts operation) ≡ true
 plain-sound Nop = refl
@@ -233,9 +217,9 @@ deeper width e h =
     let up : nat_le (depth_of e) 7 ≡ true = le-true (depth_of e) 7 (omega (arith, low)) in
     both (is_expr_of temporary_bits width e) (nat_le (depth_of e) 7) p.0 up
 
-taking-sound : (w : Width) (a b : Expr) → is_sound_expr 2 (bits_of w) a ≡ true → is_sound_expr 2 (bits_of w) b ≡ true → are_sound (taking w a b) ≡ true
-taking-sound byte_width a b p q = both (is_sound_expr 7 8 a) (is_sound_expr 7 8 b && true) (deeper 8 a p) (both (is_sound_expr 7 8 b) true (deeper 8 b q) refl)
-taking-sound word_width a b p q = both (is_sound_expr 7 16 a) (is_sound_expr 7 16 b && true) (deeper 16 a p) (both (is_sound_expr 7 16 b) true (deeper 16 b q) refl)
+taking-sound : (w : Width) (a b : Expr) → is_sound_expr 7 (bits_of w) a ≡ true → is_sound_expr 7 (bits_of w) b ≡ true → are_sound (taking w a b) ≡ true
+taking-sound byte_width a b p q = both (is_sound_expr 7 8 a) (is_sound_expr 7 8 b && true) p (both (is_sound_expr 7 8 b) true q refl)
+taking-sound word_width a b p q = both (is_sound_expr 7 16 a) (is_sound_expr 7 16 b && true) p (both (is_sound_expr 7 16 b) true q refl)
 
 alu_storing-sound : (operation : Alu) (a : Operand) → is_register a ≡ true → are_sound (alu_storing operation a) ≡ true
 alu_storing-sound operation (Word r) s = alu_storing_word-sound operation r
@@ -256,7 +240,7 @@ alu-sound operation a b s t well =
     let w = operand_width a in
     let first = source-sound a (register-source a s) well.first in
     let second = subst (λ v. is_sound_expr 2 (bits_of v) (operand_expr b) ≡ true) (sym well.widths) (source-sound b t well.second) in
-    let taken = taking-sound w (operand_expr a) (operand_expr b) first second in
+    let taken = taking-sound w (operand_expr a) (operand_expr b) (deeper (bits_of w) (operand_expr a) first) (deeper (bits_of w) (operand_expr b) second) in
     let worked = sets-append (alu_working operation w) (alu_storing operation a) (alu_working-sound operation w) (alu_storing-sound operation a s) in
     sets-append (taking w (operand_expr a) (operand_expr b)) (alu_working operation w ++ alu_storing operation a) taken worked
 
@@ -267,12 +251,43 @@ unary-sound operation (Seg number) s = absurd (true≢false (sym s))
 unary-sound operation (Mem w ea) s = absurd (true≢false (sym s))
 unary-sound operation (Constant w constant) s = absurd (true≢false (sym s))
 
-shift-sound : (operation : Shift) (a : Operand) (by_cl : Bool) → is_register a ≡ true → are_sound (shift_stmts operation (operand_width a) a by_cl) ≡ true
-shift-sound operation (Word r) by_cl s = shift_word-sound operation r by_cl
-shift-sound operation (Byte r half) by_cl s = shift_byte-sound operation r half by_cl
-shift-sound operation (Seg number) by_cl s = absurd (true≢false (sym s))
-shift-sound operation (Mem w ea) by_cl s = absurd (true≢false (sym s))
-shift-sound operation (Constant w constant) by_cl s = absurd (true≢false (sym s))
+-- the count of a shift
+count-sound : (cpu : Cpu) (w : Width) (count : Count) → is_sound_expr 7 (bits_of w) (count_expr cpu w count) ≡ true
+count-sound I8086 byte_width Cl = refl
+count-sound I8086 word_width Cl = refl
+count-sound I186 byte_width Cl = refl
+count-sound I186 word_width Cl = refl
+count-sound cpu byte_width One = refl
+count-sound cpu word_width One = refl
+count-sound cpu byte_width (ConstCount n) = deeper 8 (Const 8 (n % 32)) (constant-sound byte_width (n % 32) (omega arith))
+count-sound cpu word_width (ConstCount n) = deeper 16 (Const 16 (n % 32)) (constant-sound word_width (n % 32) (omega arith))
+
+-- a register takes its own value
+staying-sound : (a : Operand) → is_register a ≡ true → are_sound (staying (operand_width a) a) ≡ true
+staying-sound (Word r) s = refl
+staying-sound (Byte r half) s = refl
+staying-sound (Seg number) s = absurd (true≢false (sym s))
+staying-sound (Mem w ea) s = absurd (true≢false (sym s))
+staying-sound (Constant w constant) s = absurd (true≢false (sym s))
+
+shifting-sound : (cpu : Cpu) (operation : Shift) (a : Operand) (count : Count) → is_register a ≡ true → IsOperand a → are_sound (shifting cpu operation (operand_width a) a count) ≡ true
+shifting-sound cpu operation a count s fits =
+    let w = operand_width a in
+    let taken = taking-sound w (operand_expr a) (count_expr cpu w count) (deeper (bits_of w) (operand_expr a) (source-sound a (register-source a s) fits)) (count-sound cpu w count) in
+    let worked = sets-append (shift_working operation w count) (storing a) (shift_working-sound w count operation) (alu_storing-sound Add a s) in
+    sets-append (taking w (operand_expr a) (count_expr cpu w count)) (shift_working operation w count ++ storing a) taken worked
+
+shift-sound : (cpu : Cpu) (operation : Shift) (a : Operand) (count : Count) → is_register a ≡ true → IsOperand a → are_sound (shift_stmts cpu operation (operand_width a) a count) ≡ true
+shift-sound cpu operation a count s fits =
+    of_either (λ stmts. are_sound stmts ≡ true) (never_shifts count) (staying (operand_width a) a) (shifting cpu operation (operand_width a) a count)
+    (staying-sound a s) (shifting-sound cpu operation a count s fits)
+
+triple-sound : (r : Reg) (a : Operand) (constant : ℕ) → is_register a ≡ true → AreFactors a constant → are_sound (triple_product r a constant) ≡ true
+triple-sound r a constant s well =
+    let first = subst (λ v. is_sound_expr 2 (bits_of v) (operand_expr a) ≡ true) well.width (source-sound a (register-source a s) well.operand) in
+    let second = constant-sound word_width constant well.fits in
+    sets-append (taking word_width (operand_expr a) (Const 16 constant)) (product_working word_width true ++ word_taking r 0 (product word_width))
+    (taking-sound word_width (operand_expr a) (Const 16 constant) (deeper 16 (operand_expr a) first) (deeper 16 (Const 16 constant) second)) refl
 
 -- a word goes half by half
 halves-sound : (r : Reg) (low high : ℕ) → low < 256 → high < 256
@@ -306,29 +321,32 @@ xchg-sound (Byte r half) (Byte q other) = refl
 xchg-sound a b = refl
 
 -- all operations but INT 21h
-pub op-sound : (op : Op) (number : Option ℕ) → is_liftable op ≡ true → IsOperation op → ¬ (op ≡ Int21) → are_sound (op_stmts op number) ≡ true
-op-sound (AluOp operation a b) number lifted well other =
+pub op-sound : (cpu : Cpu) (op : Op) (number : Option ℕ) → is_liftable op ≡ true → IsOperation op → ¬ (op ≡ Int21) → are_sound (op_stmts cpu op number) ≡ true
+op-sound cpu (AluOp operation a b) number lifted well other =
     let places = parts (is_register a) (is_source b) lifted in alu-sound operation a b places.0 places.1 well
-op-sound (UnaryOp operation a) number lifted well other =
+op-sound cpu (UnaryOp operation a) number lifted well other =
     unary-sound operation a (parts (is_lifted_unary operation) (is_register a) lifted).1
-op-sound (ShiftOp operation a by_cl) number lifted well other = shift-sound operation a by_cl lifted
-op-sound (Mov a b) number lifted well other =
+op-sound cpu (ShiftOp operation a count) number lifted well other = shift-sound cpu operation a count lifted well.operand
+op-sound cpu (Imul3 r a constant) number lifted well other = triple-sound r a constant (parts (is_general r) (is_register a) lifted).1 well
+op-sound cpu (Enter count) number lifted well other = refl
+op-sound cpu Leave number lifted well other = refl
+op-sound cpu (Mov a b) number lifted well other =
     let places = parts (is_register a) (is_source b) lifted in mov-sound a b places.0 places.1 well
-op-sound (Xchg a b) number lifted well other = xchg-sound a b
-op-sound (Lea r ea) number lifted well other = refl
-op-sound (Push a) number lifted well other = refl
-op-sound (Pop a) number lifted well other = refl
-op-sound (PlainOp operation) number lifted well other = plain-sound operation
-op-sound (Jump target) number lifted well other = refl
-op-sound (Branch tested target) number lifted well other = refl
-op-sound (Loop target) number lifted well other = refl
-op-sound (LoopE target) number lifted well other = refl
-op-sound (LoopNe target) number lifted well other = refl
-op-sound (Jcxz target) number lifted well other = refl
-op-sound (Table r offset) number lifted well other = refl
-op-sound (Call target) number lifted well other = refl
-op-sound (Ret count) number lifted well other = refl
-op-sound Int21 number lifted well other = absurd (other refl)
+op-sound cpu (Xchg a b) number lifted well other = xchg-sound a b
+op-sound cpu (Lea r ea) number lifted well other = refl
+op-sound cpu (Push a) number lifted well other = refl
+op-sound cpu (Pop a) number lifted well other = refl
+op-sound cpu (PlainOp operation) number lifted well other = plain-sound operation
+op-sound cpu (Jump target) number lifted well other = refl
+op-sound cpu (Branch tested target) number lifted well other = refl
+op-sound cpu (Loop target) number lifted well other = refl
+op-sound cpu (LoopE target) number lifted well other = refl
+op-sound cpu (LoopNe target) number lifted well other = refl
+op-sound cpu (Jcxz target) number lifted well other = refl
+op-sound cpu (Table r offset) number lifted well other = refl
+op-sound cpu (Call target) number lifted well other = refl
+op-sound cpu (Ret count) number lifted well other = refl
+op-sound cpu Int21 number lifted well other = absurd (other refl)
 
 -- the test of an operation with two successors
 pub test-sound : (op : Op) (test : Expr) → op_test op ≡ Some test → is_sound_expr 7 1 test ≡ true
@@ -384,9 +402,9 @@ dos-sound (Some n) =
     let ending = by_test (n == 0x4C) (ends n) _ (at_number n 0x4C ends (record { each = refl })) reading in
     by_test (n == 0x02) (writes n) _ (at_number n 0x02 writes (record { each = refl })) ending
 
-pub stmts-sound : (op : Op) (number : Option ℕ) → is_liftable op ≡ true → IsOperation op → AreSoundStmts (op_stmts op number)
-stmts-sound Int21 number lifted well = dos-sound number
-stmts-sound op number lifted well = sets-sound (op_stmts op number) (op-sound op number lifted well (λ e. cc))
+pub stmts-sound : (cpu : Cpu) (op : Op) (number : Option ℕ) → is_liftable op ≡ true → IsOperation op → AreSoundStmts (op_stmts cpu op number)
+stmts-sound cpu Int21 number lifted well = dos-sound number
+stmts-sound cpu op number lifted well = sets-sound (op_stmts cpu op number) (op-sound cpu op number lifted well (λ e. cc))
 
 -- What soundness gives.
 
@@ -466,8 +484,8 @@ shallow (stmt ∷ stmts) h =
 
 -- The same of an operation's statements, whatever the number of the DOS call is.
 
-pub op-well_formed : (op : Op) (number : Option ℕ) → is_liftable op ≡ true → IsOperation op → list_all (is_stmt temporary_bits) (op_stmts op number) ≡ true
-op-well_formed op number lifted well = well_formed (op_stmts op number) (stmts-sound op number lifted well)
+pub op-well_formed : (cpu : Cpu) (op : Op) (number : Option ℕ) → is_liftable op ≡ true → IsOperation op → list_all (is_stmt temporary_bits) (op_stmts cpu op number) ≡ true
+op-well_formed cpu op number lifted well = well_formed (op_stmts cpu op number) (stmts-sound cpu op number lifted well)
 
 -- Statements that set locations.
 
@@ -482,8 +500,8 @@ are_sound-sets (Set location e ∷ stmts) h =
 are_sound-sets (stmt ∷ stmts) h = absurd (true≢false (sym h))
 
 -- all operations but INT 21h
-pub op-sets : (op : Op) (number : Option ℕ) → is_liftable op ≡ true → IsOperation op → ¬ (op ≡ Int21) → All IsSet (op_stmts op number)
-op-sets op number lifted well other = are_sound-sets (op_stmts op number) (op-sound op number lifted well other)
+pub op-sets : (cpu : Cpu) (op : Op) (number : Option ℕ) → is_liftable op ≡ true → IsOperation op → ¬ (op ≡ Int21) → All IsSet (op_stmts cpu op number)
+op-sets cpu op number lifted well other = are_sound-sets (op_stmts cpu op number) (op-sound cpu op number lifted well other)
 
 -- the state after these statements
 abbrev pub after_sets : List Stmt → State → State
@@ -506,11 +524,11 @@ sets-step graphs fill (Dos number place argument ∷ stmts) rest t sets runs = a
 
 -- all operations but INT 21h
 pub op-step :
-    (graphs : List Graph) (fill : ℕ) (op : Op) (number : Option ℕ) (rest : List Stmt) (t : State) → is_liftable op ≡ true → IsOperation op
+    (cpu : Cpu) (graphs : List Graph) (fill : ℕ) (op : Op) (number : Option ℕ) (rest : List Stmt) (t : State) → is_liftable op ≡ true → IsOperation op
     → ¬ (op ≡ Int21) → t.end ≡ Running
-    → block_step graphs fill (op_stmts op number ++ rest) t ≡ block_step graphs fill rest (after_sets (op_stmts op number) t)
-op-step graphs fill op number rest t lifted well other runs =
-    sets-step graphs fill (op_stmts op number) rest t (op-sets op number lifted well other) runs
+    → block_step graphs fill (op_stmts cpu op number ++ rest) t ≡ block_step graphs fill rest (after_sets (op_stmts cpu op number) t)
+op-step cpu graphs fill op number rest t lifted well other runs =
+    sets-step graphs fill (op_stmts cpu op number) rest t (op-sets cpu op number lifted well other) runs
 
 -- The block of the prelude.
 

@@ -8,22 +8,26 @@ use Rattle.dcc_num.specs.declared.Reg.{Reg}
 use Rattle.dcc_num.specs.declared.Reg.TheVariants.{Ax, Cx, Dx, Bx, Sp, Bp, Si, Di}
 use Rattle.dcc_num.specs.declared.Half.TheVariants.{High}
 use Rattle.dcc_num.specs.Numbers.{limit_of}
+use Rattle.dcc_prog.specs.declared.cpu.Cpu.{Cpu}
+use Rattle.dcc_prog.specs.declared.cpu.Cpu.TheVariants.{I8086, I186}
 use Rattle.dcc_prog.specs.declared.image.Image.{Image}
 use Rattle.dcc_prog.specs.declared.procedure.Layout.{Layout}
 use Rattle.dcc_prog.specs.declared.instr.Alu.{Alu}
 use Rattle.dcc_prog.specs.declared.instr.Alu.TheVariants.{Test}
 use Rattle.dcc_prog.specs.declared.instr.Shift.{Shift}
+use Rattle.dcc_prog.specs.declared.instr.Count.{Count}
+use Rattle.dcc_prog.specs.declared.instr.Count.TheVariants.{One, Cl, Const as ConstCount}
 use Rattle.dcc_prog.specs.declared.instr.Unary.{Unary}
 use Rattle.dcc_prog.specs.declared.instr.Unary.TheVariants.{Inc, Dec, Neg, Not, Mul, Imul, Div, Idiv}
 use Rattle.dcc_prog.specs.declared.instr.Ea.{Ea}
 use Rattle.dcc_prog.specs.declared.instr.Operand.{Operand}
 use Rattle.dcc_prog.specs.declared.instr.Operand.TheVariants.{Word, Byte, Seg, Mem, Const}
 use Rattle.dcc_prog.specs.declared.instr.Op.{Op}
-use Rattle.dcc_prog.specs.declared.instr.Op.TheVariants.{Alu as AluOp, Unary as UnaryOp, Shift as ShiftOp, Mov, Xchg, Push, Pop, Plain as PlainOp, Jump, Loop, LoopE, LoopNe, Jcxz, Table, Call, Ret, Int21}
+use Rattle.dcc_prog.specs.declared.instr.Op.TheVariants.{Alu as AluOp, Unary as UnaryOp, Shift as ShiftOp, Mov, Xchg, Imul3, Push, Pop, Enter, Leave, Plain as PlainOp, Jump, Loop, LoopE, LoopNe, Jcxz, Table, Call, Ret, Int21}
 use Rattle.dcc_prog.specs.declared.instr.Plain.TheVariants.{Nop, Cbw, Cwd, Xlat, Clc, Stc, Cmc, Cli, Sti, Cld}
 use Rattle.dcc_prog.specs.declared.instr.Instr.{Instr}
 use Rattle.dcc_prog.specs.Operands.{word_register, register, rm_operand, mod_field, reg_field, address, width_of}
-use Rattle.dcc_prog.specs.Table.{Row, Parts, row_parts, row_instruction, arithmetic_rows, unary_rows, stack_rows, move_rows, control_rows, plain_rows, table, instruction_at, rm, rm8, rm16, reg, segment, r8, r16, al, ax, accumulator, imm8, imm16, imm, direct, target, destination, source, alu_of, unary_of, shift, shift_of, load_address, branch, condition_of, signed_condition_of}
+use Rattle.dcc_prog.specs.Table.{Row, Parts, row_parts, row_instruction, arithmetic_rows, unary_rows, stack_rows, move_rows, control_rows, plain_rows, later_rows, rows_besides, table, instruction_at, rm, rm8, rm16, reg, segment, r8, r16, al, ax, accumulator, imm8, imm16, imm, direct, target, destination, source, alu_of, unary_of, shift, constant_shift, triple_product, shift_of, load_address, branch, condition_of, signed_condition_of}
 use Rattle.dcc_prog.specs.Bytes.{byte_at}
 use Rattle.dcc_prog.specs.Writes.{writes_half}
 use Rattle.dcc_prog.specs.Trail.{code_within, instruction_in, constant_to_ah, ah_after, known_ah}
@@ -128,8 +132,13 @@ unary-regular Imul a p = λ built _. p built
 unary-regular Div a p = λ built _. absurd (true≢false built)
 unary-regular Idiv a p = λ built _. absurd (true≢false built)
 
-shift-regular : (operation : Shift) (a : Operand) (by_cl : Bool) → IsPlace a → IsRegular (ShiftOp operation a by_cl)
-shift-regular operation a by_cl p = λ built _. p built
+shift-regular : (operation : Shift) (a : Operand) (count : Count) → IsPlace a → IsRegular (ShiftOp operation a count)
+shift-regular operation a count p = λ built _. p built
+
+triple-regular : (r : Reg) (a : Operand) (constant : ℕ) → IsPlace (Word r) → IsPlace a → IsRegular (Imul3 r a constant)
+triple-regular r a constant p q = λ built _.
+    let parts = neither (is_memory_or_stack (Word r)) (is_memory_or_stack a) built in
+    both (is_general r) (is_register a) (p parts.0) (q parts.1)
 
 -- r/m and r, in either order
 either-places : (p : Parts) → IsPlace (destination p) × IsPlace (source p)
@@ -180,7 +189,7 @@ direct-of : (p : Parts) → IsPlace (direct p)
 direct-of p h = absurd (true≢false h)
 
 shift-row-regular : (p : Parts) → IsRegular (shift p)
-shift-row-regular p = shift-regular (shift_of (reg_field p.modrm)) (rm p) (p.opcode / 2 % 2 == 1) (rm-of p)
+shift-row-regular p = shift-regular (shift_of (reg_field p.modrm)) (rm p) (if p.opcode / 2 % 2 == 1 then Cl else One) (rm-of p)
 
 infixr 30 ◌▸◌
 ◌▸◌ : {A B : Type 0} → A → B → A × B
@@ -294,23 +303,50 @@ plain-regular =
     ▸ (λ p. of_prelude (PlainOp Cld) refl)
     ▸ tt
 
-table-regular : AreRegular table
+-- what the 80186 has besides
+
+constant-shift-regular : (p : Parts) → IsRegular (constant_shift p)
+constant-shift-regular p = shift-regular (shift_of (reg_field p.modrm)) (rm p) (ConstCount p.constant) (rm-of p)
+
+triple-row-regular : (p : Parts) → IsRegular (triple_product p)
+triple-row-regular p = triple-regular (word_register (reg_field p.modrm)) (rm16 p) p.constant (word-place (word_register (reg_field p.modrm))) (rm16-of p)
+
+later-regular : AreRegular later_rows
+later-regular =
+    (λ p. unbuilt (Push (imm16 p)) refl)
+    ▸ (λ p. unbuilt (Push (imm16 p)) refl)
+    ▸ triple-row-regular
+    ▸ triple-row-regular
+    ▸ constant-shift-regular
+    ▸ constant-shift-regular
+    ▸ constant-shift-regular
+    ▸ (λ p. unbuilt (Enter p.constant) refl)
+    ▸ (λ p. unbuilt Leave refl)
+    ▸ tt
+
+besides-regular : (cpu : Cpu) → AreRegular (rows_besides cpu)
+besides-regular I8086 = tt
+besides-regular I186 = later-regular
+
+table-regular : (cpu : Cpu) → AreRegular (table cpu)
 unfolding table
-table-regular =
-    let from_control = regular-append control_rows plain_rows control-regular plain-regular in
-    let from_move = regular-append move_rows (control_rows ++ plain_rows) move-regular from_control in
-    let from_stack = regular-append stack_rows (move_rows ++ control_rows ++ plain_rows) stack-regular from_move in
-    let from_unary = regular-append unary_rows (stack_rows ++ move_rows ++ control_rows ++ plain_rows) unary-rows-regular from_stack in
-    regular-append arithmetic_rows (unary_rows ++ stack_rows ++ move_rows ++ control_rows ++ plain_rows) arithmetic-regular from_unary
+table-regular cpu =
+    let more : List Row = rows_besides cpu in
+    let from_plain = regular-append plain_rows more plain-regular (besides-regular cpu) in
+    let from_control = regular-append control_rows (plain_rows ++ more) control-regular from_plain in
+    let from_move = regular-append move_rows (control_rows ++ plain_rows ++ more) move-regular from_control in
+    let from_stack = regular-append stack_rows (move_rows ++ control_rows ++ plain_rows ++ more) stack-regular from_move in
+    let from_unary = regular-append unary_rows (stack_rows ++ move_rows ++ control_rows ++ plain_rows ++ more) unary-rows-regular from_stack in
+    regular-append arithmetic_rows (unary_rows ++ stack_rows ++ move_rows ++ control_rows ++ plain_rows ++ more) arithmetic-regular from_unary
 
 -- an instruction of the table that is built and none of a prelude is lifted
 pub instruction-liftable :
-    (at : ℕ) (bytes : List ℕ) (instr : Instr) → instruction_at at bytes ≡ Some instr → is_unbuilt instr.op ≡ false
+    (cpu : Cpu) (at : ℕ) (bytes : List ℕ) (instr : Instr) → instruction_at cpu at bytes ≡ Some instr → is_unbuilt instr.op ≡ false
     → is_system instr.op ≡ false → is_liftable instr.op ≡ true
-instruction-liftable at bytes instr e =
-    let found = instruction-row at bytes instr e in
+instruction-liftable cpu at bytes instr e =
+    let found = instruction-row cpu at bytes instr e in
     let row = found.0 in
-    let regular : IsRegular (row_instruction row at bytes).op = regular-get table found.1.0 row table-regular found.1.1 (row_parts row at bytes) in
+    let regular : IsRegular (row_instruction row at bytes).op = regular-get (table cpu) found.1.0 row (table-regular cpu) found.1.1 (row_parts row at bytes) in
     subst (λ (i : Instr). IsRegular i.op) found.3 regular
 
 -- What is known of AH.
@@ -346,5 +382,5 @@ known-byte image layout [] n bytes e = cc
 known-byte image layout (at ∷ before) n bytes e =
     let code = code_within image layout in
     let rest : (i : ℕ) → byte_at (drop at code) i < 256 = λ i. subst (λ b. b < 256) (sym (get_or-drop at code i 0)) (bytes (at + i)) in
-    let well = found-operation at (drop at code) (instruction_in image layout at) rest refl in
+    let well = found-operation layout.cpu at (drop at code) (instruction_in image layout at) rest refl in
     after-byte (instruction_in image layout at) (known_ah image layout before) n well (λ m told. known-byte image layout before m bytes told) e

@@ -1,5 +1,6 @@
 -- What the temporaries hold while the statements of an instruction are executed.
-use Rattle.std.proofs.Common.{◌≡◌, refl, subst, sym, ℕ, ◌<◌, Bool, true, false, arith}
+use Rattle.std.proofs.Common.{◌≡◌, ◌∙◌, refl, subst, sym, ap, ℕ, ◌%◌, ◌<◌, arith}
+use Rattle.std.proofs.lemmas.Nat.{and_mask}
 use Rattle.dcc_num.specs.declared.Width.{Width}
 use Rattle.dcc_num.specs.declared.Width.TheVariants.{Byte as byte_width, Word as word_width}
 use Rattle.dcc_num.specs.declared.Reg.{Reg}
@@ -8,6 +9,10 @@ use Rattle.dcc_num.specs.declared.Half.{Half as HalfName}
 use Rattle.dcc_num.specs.declared.Half.TheVariants.{Low}
 use Rattle.dcc_num.specs.declared.FlagName.{FlagName}
 use Rattle.dcc_num.specs.Numbers.{limit_of}
+use Rattle.dcc_prog.specs.declared.cpu.Cpu.{Cpu}
+use Rattle.dcc_prog.specs.declared.cpu.Cpu.TheVariants.{I8086, I186}
+use Rattle.dcc_prog.specs.declared.instr.Count.{Count}
+use Rattle.dcc_prog.specs.declared.instr.Count.TheVariants.{One, Cl, Const as ConstCount}
 use Rattle.dcc_prog.specs.declared.instr.Operand.{Operand}
 use Rattle.dcc_prog.specs.declared.instr.Operand.TheVariants.{Word, Byte}
 use Rattle.dcc_prog.specs.Machine.{State}
@@ -17,7 +22,7 @@ use Rattle.dcc_ir.specs.Location.{Values, with_value}
 use Rattle.dcc_ir.specs.Tree.{Expr}
 use Rattle.dcc_ir.specs.Value.{Scene, value_of, Fits}
 use Rattle.dcc_lift.specs.Temporaries.{temporary_bits, left_place, right_place, result_place, product_place}
-use Rattle.dcc_lift.specs.Expressions.{operand_expr, count, accumulator}
+use Rattle.dcc_lift.specs.Expressions.{operand_expr, count_expr, accumulator}
 use Rattle.dcc_lift.specs.Statements.{taking, result_taking}
 use Rattle.dcc_lift.specs.Mirrors.{Mirrors, executed}
 use Rattle.dcc_lift.proofs.MirrorLaws.{mirrors_temp}
@@ -81,15 +86,20 @@ accumulator_below byte_width s scene fits m = operand_below s scene (Byte Ax Low
 accumulator_below word_width s scene fits m = operand_below s scene (Word Ax) refl tt fits m
 
 -- the count of a shift, after the left operand was taken
-pub count_read : (w : Width) (by_cl : Bool) (s : State) (scene : Scene) (v : ℕ) → Fits scene → Mirrors s scene.values
-    → value_of (with_values scene (with_value scene.values (left_place w) v)) (count w by_cl) ≡ count_in by_cl s
-count_read byte_width true s scene v fits m = operand_read s scene (Byte Cx Low) refl fits m
-count_read word_width true s scene v fits m = operand_read s scene (Byte Cx Low) refl fits m
-count_read w false s scene v fits m = refl
+pub count_read : (cpu : Cpu) (w : Width) (count : Count) (s : State) (scene : Scene) (v : ℕ) → Fits scene → Mirrors s scene.values
+    → value_of (with_values scene (with_value scene.values (left_place w) v)) (count_expr cpu w count) ≡ count_in cpu count s
+count_read I8086 byte_width Cl s scene v fits m = operand_read s scene (Byte Cx Low) refl fits m
+count_read I8086 word_width Cl s scene v fits m = operand_read s scene (Byte Cx Low) refl fits m
+count_read I186 byte_width Cl s scene v fits m = and_mask (scene.values (Half Cx Low)) 5 ∙ ap (λ n. n % 32) (operand_read s scene (Byte Cx Low) refl fits m)
+count_read I186 word_width Cl s scene v fits m = and_mask (scene.values (Half Cx Low)) 5 ∙ ap (λ n. n % 32) (operand_read s scene (Byte Cx Low) refl fits m)
+count_read cpu w One s scene v fits m = refl
+count_read cpu w (ConstCount n) s scene v fits m = refl
 
-pub count_below : (by_cl : Bool) (s : State) (scene : Scene) → Fits scene → Mirrors s scene.values → count_in by_cl s < 256
-count_below true s scene fits m = operand_below s scene (Byte Cx Low) refl tt fits m
-count_below false s scene fits m = omega arith
+pub count_below : (cpu : Cpu) (count : Count) (s : State) (scene : Scene) → Fits scene → Mirrors s scene.values → count_in cpu count s < 256
+count_below I8086 Cl s scene fits m = operand_below s scene (Byte Cx Low) refl tt fits m
+count_below I186 Cl s scene fits m = omega arith
+count_below cpu One s scene fits m = omega arith
+count_below cpu (ConstCount n) s scene fits m = omega arith
 
 -- Results.
 

@@ -1,6 +1,7 @@
 -- The flow graph of a procedure that is found is that of its trails.
 use Rattle.std.proofs.Common.{◌≡◌, ℕ, true, ◌==◌, ◌∷◌, Some, Contains, refl, sym, ap, ◌∙◌, subst}
 use Rattle.std.specs.List.{list_any}
+use Rattle.std.proofs.lemmas.List.Elements.{All-weaker}
 use Rattle.dcc_prog.specs.declared.image.Image.{Image}
 use Rattle.dcc_prog.specs.declared.procedure.Layout.{Layout}
 use Rattle.dcc_prog.specs.declared.procedure.Node.{Node}
@@ -63,4 +64,4 @@ module _ (image : Image) (layout : Layout) (proc : Proc) (is : IsFound image lay
 
 pub flow-of_trails : FlowIsOfTrails
 flow-of_trails image layout procs are =
-    subst (λ entry. IsFlowOfTrails image layout entry (procedure_flow are.start)) are.entry (found-flow image layout are.start are.found)
+    All-weaker (IsFound image layout) (λ (proc : Proc). IsFlowOfTrails image layout proc.entry (procedure_flow proc)) (found-flow image layout) procs are.found

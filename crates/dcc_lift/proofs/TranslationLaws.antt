@@ -58,12 +58,12 @@ module _ (image : Image) (layout : Layout) (start : Proc) (p : Program) (transla
   module _ (sound : AreSound start.nodes.entries layout.start_ip image.ip) where
     -- the block of a leader stands at its place in the graph
     pub block_at_leader : (at : ℕ) → is_leader start.nodes.entries layout.start_ip at ≡ true
-        → HasBlock start.nodes.entries layout.start_ip (the_graph).blocks (block_place start.nodes.entries layout.start_ip at) at
+        → HasBlock layout.cpu start.nodes.entries layout.start_ip (the_graph).blocks (block_place start.nodes.entries layout.start_ip at) at
     block_at_leader at leader =
-        leader_block start.nodes.entries layout.start_ip image.ip sound (prelude_block image layout start.nodes.entries) refl refl translation.blocks translation.blocks_are at leader
+        leader_block layout.cpu start.nodes.entries layout.start_ip image.ip sound (prelude_block image layout start.nodes.entries) refl refl translation.blocks translation.blocks_are at leader
 
     -- blocks begin at the prelude's offset and at the leaders
     pub program_has_block : (at : ℕ) → has_block p (record { entry = layout.start_ip; at = at }) ≡ ((image.ip == at) || is_leader start.nodes.entries layout.start_ip at)
     program_has_block at =
         ap (λ o. (flow_of (graph_or_none o)).has at) graph_found
-        ∙ graph_has_block start.nodes.entries layout.start_ip image.ip sound (prelude_block image layout start.nodes.entries) refl refl translation.blocks translation.blocks_are at
+        ∙ graph_has_block layout.cpu start.nodes.entries layout.start_ip image.ip sound (prelude_block image layout start.nodes.entries) refl refl translation.blocks translation.blocks_are at

@@ -156,26 +156,28 @@ neg_mirrors x s scene g ok fits m =
     none_below byte_width = omega arith
     none_below word_width = omega arith
 
+-- an operand takes the value of an expression, and no flag changes
+pub value_stored : (x : Operand) (s : State) (scene : Scene) (e : Expr) (v : ℕ) → is_register x ≡ true → Fits scene → Mirrors s scene.values → value_of scene e ≡ v
+    → v < limit_of (operand_width x) → Mirrors (with_operand s x v) (executed (result_taking (operand_width x) e ++ storing x) scene).values
+value_stored x s scene e v g fits m is small = through (operand_width x) refl
+  where
+    through : (w : Width) → operand_width x ≡ w → Mirrors (with_operand s x v) (executed (storing x) (setting (result_place w) e scene)).values
+    through byte_width same =
+        stored s (setting (result_place byte_width) e scene) x v g (λ r. fits.values (Half r Low)) small
+        (ap (λ u. (setting (result_place byte_width) e scene).values (result_place u)) same ∙ is) (mirrors_temp s scene.values 2 _ m)
+    through word_width same =
+        stored s (setting (result_place word_width) e scene) x v g (λ r. fits.values (Half r Low)) small
+        (ap (λ u. (setting (result_place word_width) e scene).values (result_place u)) same ∙ is) (mirrors_temp s scene.values 5 _ m)
+
 -- NOT sets no flags
 pub not_mirrors : (x : Operand) (s : State) (scene : Scene) → is_register x ≡ true → IsOperand x → Fits scene → Mirrors s scene.values
     → Mirrors (with_operand s x (limit_of (operand_width x) - 1 - operand_value s x)) (executed (unary_stmts Not (operand_width x) x) scene).values
 not_mirrors x s scene g ok fits m =
     let w = operand_width x in
-    let v = limit_of w - 1 - operand_value s x in
     let e : Expr = UnaryExpr NotOp (bits_of w) (operand_expr x) in
-    let is : value_of scene e ≡ v = ap (λ n. limit_of w - 1 - n) (operand_read s scene x (register_source x g) fits m) in
-    let small : v < limit_of w = below w (operand_value s x) in
-    not_stored w e v is small refl
+    let is : value_of scene e ≡ limit_of w - 1 - operand_value s x = ap (λ n. limit_of w - 1 - n) (operand_read s scene x (register_source x g) fits m) in
+    value_stored x s scene e (limit_of w - 1 - operand_value s x) g fits m is (below w (operand_value s x))
   where
     below : (w : Width) (n : ℕ) → limit_of w - 1 - n < limit_of w
     below byte_width n = omega arith
     below word_width n = omega arith
-
-    not_stored : (w : Width) (e : Expr) (v : ℕ) → value_of scene e ≡ v → v < limit_of (operand_width x) → operand_width x ≡ w
-        → Mirrors (with_operand s x v) (executed (storing x) (setting (result_place w) e scene)).values
-    not_stored byte_width e v is small same =
-        stored s (setting (result_place byte_width) e scene) x v g (λ r. fits.values (Half r Low)) small
-        (ap (λ u. (setting (result_place byte_width) e scene).values (result_place u)) same ∙ is) (mirrors_temp s scene.values 2 _ m)
-    not_stored word_width e v is small same =
-        stored s (setting (result_place word_width) e scene) x v g (λ r. fits.values (Half r Low)) small
-        (ap (λ u. (setting (result_place word_width) e scene).values (result_place u)) same ∙ is) (mirrors_temp s scene.values 5 _ m)

@@ -57,7 +57,7 @@ no_test nodes entry node exit next l (parts t s e) one = absurd (cc)
 module _ (image : Image) (layout : Layout) (nodes : Nodes) (prelude : ℕ) (sound : AreSound nodes layout.start_ip prelude)
     (instructions : (at : ℕ) (node : Node) → node_in nodes at ≡ Some node → IsInstruction image layout nodes at node)
     (reached : (at : ℕ) (node : Node) → node_in nodes at ≡ Some node → IsNode image layout layout.start_ip at)
-    (graph : Graph) (has : (at : ℕ) → is_leader nodes layout.start_ip at ≡ true → HasBlock nodes layout.start_ip graph.blocks (block_place nodes layout.start_ip at) at) where
+    (graph : Graph) (has : (at : ℕ) → is_leader nodes layout.start_ip at ≡ true → HasBlock layout.cpu nodes layout.start_ip graph.blocks (block_place nodes layout.start_ip at) at) where
   -- where an instruction goes on a trail does
   edge : (at : ℕ) (node : Node) → node_in nodes at ≡ Some node → (next : ℕ) → has_successor nodes at next ≡ true → IsEdge image layout layout.start_ip at next
   edge at node found next e =
@@ -77,17 +77,17 @@ module _ (image : Image) (layout : Layout) (nodes : Nodes) (prelude : ℕ) (soun
   -- what is wanted before the instructions of a chain, where at its end no more is wanted than after its last instruction
   chain_ahead : (End : Loc → Type 0) (rest : List ℕ) (at : ℕ) → IsChain nodes layout.start_ip at rest → is_node nodes at ≡ true
       → ((node : Node) → node_in nodes (last_of at rest) ≡ Some node → (l : Loc) → End l → IsWantedAfter image layout (last_of at rest) node.instr.op l)
-      → (l : Loc) → WantedWith End (flat_map (stmts_at nodes) (at ∷ rest)) l → IsWantedAt image layout at l
+      → (l : Loc) → WantedWith End (flat_map (stmts_at layout.cpu nodes) (at ∷ rest)) l → IsWantedAt image layout at l
   chain_ahead End [] at chain node ends l d =
       let found = node_in_some nodes at node in
       ahead image layout nodes at found.0 (instructions at found.0 found.1) (reached at found.0 found.1) End [] (λ to e. ends found.0 found.1 to e) l
-      (subst (λ o. WantedWith End (node_stmts o ++ []) l) found.1 d)
+      (subst (λ o. WantedWith End (node_stmts layout.cpu o ++ []) l) found.1 d)
   chain_ahead End (next ∷ rest) at chain node ends l d =
       let found = node_in_some nodes at node in
       let on = onward_tells nodes layout.start_ip prelude sound at next chain.0 in
-      ahead image layout nodes at found.0 (instructions at found.0 found.1) (reached at found.0 found.1) End (flat_map (stmts_at nodes) (next ∷ rest))
+      ahead image layout nodes at found.0 (instructions at found.0 found.1) (reached at found.0 found.1) End (flat_map (stmts_at layout.cpu nodes) (next ∷ rest))
       (λ to e. by_next next (edge at found.0 found.1 next on.goes) (chain_ahead End rest next chain.1 (node_in_has nodes next on.node.0 on.node.1) ends to e)) l
-      (subst (λ o. WantedWith End (node_stmts o ++ flat_map (stmts_at nodes) (next ∷ rest)) l) found.1 d)
+      (subst (λ o. WantedWith End (node_stmts layout.cpu o ++ flat_map (stmts_at layout.cpu nodes) (next ∷ rest)) l) found.1 d)
 
   -- the place among the targets of a chain's end is that of a leader to which its last instruction goes
   pub record GoesTo (last place : ℕ) : Type 0 where
@@ -108,7 +108,7 @@ module _ (image : Image) (layout : Layout) (nodes : Nodes) (prelude : ℕ) (soun
       }
 
   -- a block's locations that are wanted over less than so many blocks
-  block_ahead : (n : ℕ) (at : ℕ) (block : Block) → IsBlockAt nodes layout.start_ip at block → is_node nodes at ≡ true → (l : Loc)
+  block_ahead : (n : ℕ) (at : ℕ) (block : Block) → IsBlockAt layout.cpu nodes layout.start_ip at block → is_node nodes at ≡ true → (l : Loc)
       → WantedWith (WantedAtEnd graph n block) block.stmts l → IsWantedAt image layout at l
   block_ahead zero at block is node l d =
       chain_ahead (WantedAtEnd graph zero block) is.rest at is.chain node (λ node found to e. absurd e) l (subst (λ stmts. WantedWith (WantedAtEnd graph zero block) stmts l) is.stmts_are d)
@@ -116,7 +116,7 @@ module _ (image : Image) (layout : Layout) (nodes : Nodes) (prelude : ℕ) (soun
       chain_ahead (WantedAtEnd graph (suc n) block) is.rest at is.chain node (λ node found to e. ends (λ at block is node l d. block_ahead n at block is node l d) node found to e) l
       (subst (λ stmts. WantedWith (WantedAtEnd graph (suc n) block) stmts l) is.stmts_are d)
     where
-      ends : ((at : ℕ) (block : Block) → IsBlockAt nodes layout.start_ip at block → is_node nodes at ≡ true → (l : Loc)
+      ends : ((at : ℕ) (block : Block) → IsBlockAt layout.cpu nodes layout.start_ip at block → is_node nodes at ≡ true → (l : Loc)
           → WantedWith (WantedAtEnd graph n block) block.stmts l → IsWantedAt image layout at l)
           → (node : Node) → node_in nodes (last_of at is.rest) ≡ Some node → (to : Loc) → WantedAtEnd graph (suc n) block to → IsWantedAfter image layout (last_of at is.rest) node.instr.op to
       ends later node found to (inl c) = by_test (test_read nodes layout.start_ip node block.exit to
@@ -128,7 +128,7 @@ module _ (image : Image) (layout : Layout) (nodes : Nodes) (prelude : ℕ) (soun
           let same_place : slice_get graph.blocks e.0 ≡ Some there.block = subst (λ x. slice_get graph.blocks x ≡ Some there.block) target.place_is there.found in
           let same : there.block ≡ e.1 = cc (same_place, e.3) in
           by_next target.next (edge (last_of at is.rest) node found target.next target.goes)
-          (later target.next e.1 (subst (λ x. IsBlockAt nodes layout.start_ip target.next x) same there.is_block) (leader_node nodes layout.start_ip prelude sound target.next leader) to e.4)
+          (later target.next e.1 (subst (λ x. IsBlockAt layout.cpu nodes layout.start_ip target.next x) same there.is_block) (leader_node nodes layout.start_ip prelude sound target.next leader) to e.4)
 
   -- From the procedure to the graph.
 
@@ -167,7 +167,7 @@ module _ (image : Image) (layout : Layout) (nodes : Nodes) (prelude : ℕ) (soun
       (exit : block.exit ≡ exit_at nodes layout.start_ip (last_of at rest)) where
     -- what the instruction's test reads is wanted after its statements
     tested_after : (rest : List ℕ) → IsChain nodes layout.start_ip at rest → block.exit ≡ exit_at nodes layout.start_ip (last_of at rest) → (x : Loc) → reads_test (op_test node.instr.op) x ≡ true
-        → IsWantedIn graph block (flat_map (stmts_at nodes) rest) x
+        → IsWantedIn graph block (flat_map (stmts_at layout.cpu nodes) rest) x
     tested_after [] chain exit x r =
         tested (read_tested nodes layout.start_ip node block.exit x
         (subst (λ y. IsExitOf nodes layout.start_ip node y) (sym exit) (exit_forms nodes layout.start_ip prelude sound at node found)) r)
@@ -176,48 +176,48 @@ module _ (image : Image) (layout : Layout) (nodes : Nodes) (prelude : ℕ) (soun
         absurd (clash r (no_test nodes layout.start_ip node (exit_at nodes layout.start_ip at) next x
         (exit_forms nodes layout.start_ip prelude sound at node found) (subst (λ o. successors_in o ≡ next ∷ []) found on.succ)))
 
-    at_node : (l : Loc) → IsWantedIn graph block (op_stmts node.instr.op node.number ++ flat_map (stmts_at nodes) rest) l → IsWantedIn graph block (flat_map (stmts_at nodes) (at ∷ rest)) l
-    at_node l d = subst (λ o. IsWantedIn graph block (node_stmts o ++ flat_map (stmts_at nodes) rest) l) (sym found) d
+    at_node : (l : Loc) → IsWantedIn graph block (op_stmts layout.cpu node.instr.op node.number ++ flat_map (stmts_at layout.cpu nodes) rest) l → IsWantedIn graph block (flat_map (stmts_at layout.cpu nodes) (at ∷ rest)) l
+    at_node l d = subst (λ o. IsWantedIn graph block (node_stmts layout.cpu o ++ flat_map (stmts_at layout.cpu nodes) rest) l) (sym found) d
 
     -- the statements of INT 21h are those of its number
-    dos_node : (same : node.instr.op ≡ Int21) (l : Loc) (n : ℕ) → node.number ≡ Some n → IsWantedIn graph block (dos_stmts (Some n) ++ flat_map (stmts_at nodes) rest) l
-        → IsWantedIn graph block (op_stmts node.instr.op node.number ++ flat_map (stmts_at nodes) rest) l
-    dos_node same l n e d = subst (λ stmts. IsWantedIn graph block (stmts ++ flat_map (stmts_at nodes) rest) l) (sym (ap (λ op. op_stmts op node.number) same ∙ ap (op_stmts Int21) e)) d
+    dos_node : (same : node.instr.op ≡ Int21) (l : Loc) (n : ℕ) → node.number ≡ Some n → IsWantedIn graph block (dos_stmts (Some n) ++ flat_map (stmts_at layout.cpu nodes) rest) l
+        → IsWantedIn graph block (op_stmts layout.cpu node.instr.op node.number ++ flat_map (stmts_at layout.cpu nodes) rest) l
+    dos_node same l n e d = subst (λ stmts. IsWantedIn graph block (stmts ++ flat_map (stmts_at layout.cpu nodes) rest) l) (sym (ap (λ op. op_stmts layout.cpu op node.number) same ∙ ap (op_stmts layout.cpu Int21) e)) d
 
     -- what the instruction uses
-    used_here : (location : Location) → uses node.instr.op node.number location ≡ true → IsWantedIn graph block (flat_map (stmts_at nodes) (at ∷ rest)) (place_of location)
+    used_here : (location : Location) → uses node.instr.op node.number location ≡ true → IsWantedIn graph block (flat_map (stmts_at layout.cpu nodes) (at ∷ rest)) (place_of location)
     used_here location u = at_node (place_of location) (elim (is_dos node.instr.op) [
       | inl same ↦
           let number = (instructions at node found).number same in
-          dos_node same (place_of location) number.0 number.1 (dos_uses_wanted graph block (flat_map (stmts_at nodes) rest) number.0 number.2 location
+          dos_node same (place_of location) number.0 number.1 (dos_uses_wanted graph block (flat_map (stmts_at layout.cpu nodes) rest) number.0 number.2 location
           (sym (ap (λ op. uses op node.number location) same ∙ ap (λ m. uses Int21 m location) number.1) ∙ u))
       | inr other ↦
-          led graph block (op_stmts node.instr.op node.number) (flat_map (stmts_at nodes) rest) is_visible (reads_test (op_test node.instr.op)) (place_of location)
-          (sets node.instr.op node.number (instructions at node found).liftable other) (tested_after rest chain exit)
-          (uses_agree node.instr.op node.number location (instructions at node found).liftable other ∙ u)
+          led graph block (op_stmts layout.cpu node.instr.op node.number) (flat_map (stmts_at layout.cpu nodes) rest) is_visible (reads_test (op_test node.instr.op)) (place_of location)
+          (sets layout.cpu node.instr.op node.number (instructions at node found).liftable other) (tested_after rest chain exit)
+          (uses_agree layout.cpu node.instr.op node.number location (instructions at node found).liftable other ∙ u)
     ])
 
     -- what is made of it or left
-    made_here : (location to : Location) → node.instr.op ≢ Int21 → comes_from node.instr.op node.number location to ≡ true → IsWantedIn graph block (flat_map (stmts_at nodes) rest) (place_of to)
-        → IsWantedIn graph block (flat_map (stmts_at nodes) (at ∷ rest)) (place_of location)
+    made_here : (location to : Location) → node.instr.op ≢ Int21 → comes_from node.instr.op node.number location to ≡ true → IsWantedIn graph block (flat_map (stmts_at layout.cpu nodes) rest) (place_of to)
+        → IsWantedIn graph block (flat_map (stmts_at layout.cpu nodes) (at ∷ rest)) (place_of location)
     made_here location to other c d = at_node (place_of location)
-        (led graph block (op_stmts node.instr.op node.number) (flat_map (stmts_at nodes) rest) is_visible (alone (place_of to)) (place_of location)
-        (sets node.instr.op node.number (instructions at node found).liftable other)
-        (λ x e. subst (λ y. IsWantedIn graph block (flat_map (stmts_at nodes) rest) y) (sym (location_same x (place_of to) e)) d)
-        (agrees node.instr.op node.number location to (instructions at node found).liftable (instructions at node found).operation other ∙ c))
+        (led graph block (op_stmts layout.cpu node.instr.op node.number) (flat_map (stmts_at layout.cpu nodes) rest) is_visible (alone (place_of to)) (place_of location)
+        (sets layout.cpu node.instr.op node.number (instructions at node found).liftable other)
+        (λ x e. subst (λ y. IsWantedIn graph block (flat_map (stmts_at layout.cpu nodes) rest) y) (sym (location_same x (place_of to) e)) d)
+        (agrees layout.cpu node.instr.op node.number location to (instructions at node found).liftable (instructions at node found).operation other ∙ c))
 
-    kept_here : (location : Location) → node.instr.op ≡ Int21 → surely_writes node.instr.op node.number location ≡ false → IsWantedIn graph block (flat_map (stmts_at nodes) rest) (place_of location)
-        → IsWantedIn graph block (flat_map (stmts_at nodes) (at ∷ rest)) (place_of location)
+    kept_here : (location : Location) → node.instr.op ≡ Int21 → surely_writes node.instr.op node.number location ≡ false → IsWantedIn graph block (flat_map (stmts_at layout.cpu nodes) rest) (place_of location)
+        → IsWantedIn graph block (flat_map (stmts_at layout.cpu nodes) (at ∷ rest)) (place_of location)
     kept_here location same w d =
         let number = (instructions at node found).number same in
-        at_node (place_of location) (dos_node same (place_of location) number.0 number.1 (dos_keeps graph block (flat_map (stmts_at nodes) rest) number.0 number.2 location
+        at_node (place_of location) (dos_node same (place_of location) number.0 number.1 (dos_keeps graph block (flat_map (stmts_at layout.cpu nodes) rest) number.0 number.2 location
         (sym (ap (λ op. surely_writes op node.number location) same ∙ ap (λ m. surely_writes Int21 m location) number.1) ∙ w) d))
 
   -- What is wanted at an instruction is wanted in the graph wherever it stands in a block.
   abbrev pub WantsHere : ℕ → Location → Type 0
   WantsHere at location =
       (node : Node) → node_in nodes at ≡ Some node → (block : Block) (rest : List ℕ) → IsChain nodes layout.start_ip at rest → block.exit ≡ exit_at nodes layout.start_ip (last_of at rest)
-      → IsWantedIn graph block (flat_map (stmts_at nodes) (at ∷ rest)) (place_of location)
+      → IsWantedIn graph block (flat_map (stmts_at layout.cpu nodes) (at ∷ rest)) (place_of location)
 
   -- an instruction goes on to one that a block begins with
   goes_to_target : (at next : ℕ) → has_successor nodes at next ≡ true → Contains (targets (exit_at nodes layout.start_ip at)) (block_place nodes layout.start_ip next)
@@ -233,7 +233,7 @@ module _ (image : Image) (layout : Layout) (nodes : Nodes) (prelude : ℕ) (soun
 
   -- what is wanted at the next instruction is wanted after the statements of the one before
   wanted_on : (at next : ℕ) (location : Location) → has_successor nodes at next ≡ true → WantsHere next location → (block : Block) (rest : List ℕ) → IsChain nodes layout.start_ip at rest
-      → block.exit ≡ exit_at nodes layout.start_ip (last_of at rest) → IsWantedIn graph block (flat_map (stmts_at nodes) rest) (place_of location)
+      → block.exit ≡ exit_at nodes layout.start_ip (last_of at rest) → IsWantedIn graph block (flat_map (stmts_at layout.cpu nodes) rest) (place_of location)
   wanted_on at next location e later block [] chain exit =
       let leader = last_goes_to_leaders nodes layout.start_ip prelude sound at [] next chain e in
       let there = has next leader in
@@ -269,7 +269,7 @@ module _ (image : Image) (layout : Layout) (nodes : Nodes) (prelude : ℕ) (soun
       ]
 
   -- both ways, at a block that begins at a leader
-  pub block_wants : (at : ℕ) (block : Block) (location : Location) → is_leader nodes layout.start_ip at ≡ true → IsBlockAt nodes layout.start_ip at block
+  pub block_wants : (at : ℕ) (block : Block) (location : Location) → is_leader nodes layout.start_ip at ≡ true → IsBlockAt layout.cpu nodes layout.start_ip at block
       → IsWanted image layout layout.start_ip at location ↔ IsWantedIn graph block block.stmts (place_of location)
   block_wants at block location leader is =
       let node = leader_node nodes layout.start_ip prelude sound at leader in
@@ -290,9 +290,9 @@ module _ (image : Image) (layout : Layout) (start : Proc) (p : Program) (transla
   pub translation_wants : WantsTheSame image layout (the_graph image layout start p translation)
   translation_wants place block location e is_place =
       let nodes = start.nodes.entries in
-      let is = block_is nodes layout.start_ip (leaders nodes layout.start_ip) translation.blocks place block translation.blocks_are e in
+      let is = block_is layout.cpu nodes layout.start_ip (leaders nodes layout.start_ip) translation.blocks place block translation.blocks_are e in
       let leader : is_leader nodes layout.start_ip block.at ≡ true =
-      sym (blocks_stand nodes layout.start_ip (leaders nodes layout.start_ip) translation.blocks block.at translation.blocks_are)
+      sym (blocks_stand layout.cpu nodes layout.start_ip (leaders nodes layout.start_ip) translation.blocks block.at translation.blocks_are)
       ∙ any_at (λ other. other.at == block.at) translation.blocks place block e (same_number block.at) in
       block_wants image layout nodes image.ip sound instructions reached (the_graph image layout start p translation)
       (block_at_leader image layout start p translation sound) block.at block location leader is

@@ -5,7 +5,7 @@ use Rattle.dcc_prog.specs.declared.procedure.Layout.{Layout}
 use Rattle.dcc_prog.specs.declared.procedure.Proc.{Proc}
 use Rattle.dcc_prog.specs.MzImage.{IsLoaded}
 use Rattle.dcc_prog.specs.Layout.{HasLayout}
-use Rattle.dcc_prog.specs.Found.{AreFound}
+use Rattle.dcc_lift.proofs.OneProcedure.{IsOneFound}
 use Rattle.dcc_ir.specs.Tree.{Graph, Program}
 use Rattle.dcc_lift.specs.Translation.{IsTranslation}
 use Rattle.dcc_lift.specs.Demand.{WantsTheSame}
@@ -13,7 +13,7 @@ use Rattle.dcc_lift.proofs.NodeLaws.{contained_node, node_in_has}
 use Rattle.dcc_lift.proofs.FoundSound.{contained-node, found-sound, listed-instruction}
 use Rattle.dcc_lift.proofs.WantedChains.{program_wants}
 
-module _ (image : Image) (layout : Layout) (procs : List Proc) (loaded : IsLoaded image) (has : HasLayout image layout) (are : AreFound image layout procs)
+module _ (image : Image) (layout : Layout) (procs : List Proc) (loaded : IsLoaded image) (has : HasLayout image layout) (are : IsOneFound image layout procs)
     (p : Program) (translation : IsTranslation image layout are.start p) where
   -- at each block of the procedure the one graph of the program wants what the procedure wants
   pub found_wants : (graph : Graph) → p.graphs ≡ graph ∷ [] → WantsTheSame image layout graph

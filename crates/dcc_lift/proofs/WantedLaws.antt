@@ -71,37 +71,37 @@ module _ (image : Image) (layout : Layout) (nodes : Nodes) (at : ℕ) (node : No
 
   module _ (End : Loc → Type 0) (ys : List Stmt) (following : (to : Loc) → WantedWith End ys to → IsWantedAfter image layout at node.instr.op to) where
     -- an operation that is no INT 21h, where its test reads what is wanted
-    ahead_tested : node.instr.op ≢ Int21 → (l to : Loc) → before (op_stmts node.instr.op node.number) (alone to) l ≡ true → reads_test (op_test node.instr.op) to ≡ true → IsWantedAt image layout at l
+    ahead_tested : node.instr.op ≢ Int21 → (l to : Loc) → before (op_stmts layout.cpu node.instr.op node.number) (alone to) l ≡ true → reads_test (op_test node.instr.op) to ≡ true → IsWantedAt image layout at l
     ahead_tested other l to b t =
         let op = node.instr.op in
-        let stmts = op_stmts op node.number in
+        let stmts = op_stmts layout.cpu op node.number in
         let w : before stmts (reads_test (op_test op)) l ≡ true =
         before_weaker stmts (alone to) (reads_test (op_test op)) l
         (λ x e. subst (λ y. reads_test (op_test op) y ≡ true) (sym (location_same x to e)) t) b in
         let v : is_visible l ≡ true =
-        wanted_known stmts is_visible (reads_test (op_test op)) l (sets op node.number is.liftable other)
-        (λ x e. test_reads_known (op_test op) (known_after stmts is_visible) x (tests_known op node.number) e) w in
+        wanted_known stmts is_visible (reads_test (op_test op)) l (sets layout.cpu op node.number is.liftable other)
+        (λ x e. test_reads_known (op_test op) (known_after stmts is_visible) x (tests_known layout.cpu op node.number) e) w in
         let e : place_of (location_of l) ≡ l = placed l v in
         record {
           location = location_of l;
           is = e;
-          wanted = used has_operation (sym (uses_agree op node.number (location_of l) is.liftable other) ∙ subst (λ y. before stmts (reads_test (op_test op)) y ≡ true) (sym e) w);
+          wanted = used has_operation (sym (uses_agree layout.cpu op node.number (location_of l) is.liftable other) ∙ subst (λ y. before stmts (reads_test (op_test op)) y ≡ true) (sym e) w);
         }
 
     -- and where it is wanted at the next instruction
-    ahead_next : node.instr.op ≢ Int21 → (l to : Loc) → before (op_stmts node.instr.op node.number) (alone to) l ≡ true → (next : ℕ)
+    ahead_next : node.instr.op ≢ Int21 → (l to : Loc) → before (op_stmts layout.cpu node.instr.op node.number) (alone to) l ≡ true → (next : ℕ)
         → IsEdge image layout layout.start_ip at next → IsWantedAt image layout next to
         → IsWantedAt image layout at l
     ahead_next other l to b next edge there =
         let op = node.instr.op in
-        let stmts = op_stmts op node.number in
+        let stmts = op_stmts layout.cpu op node.number in
         let seen : is_visible to ≡ true = subst (λ y. is_visible y ≡ true) there.is (place_visible there.location) in
         let v : is_visible l ≡ true =
-        wanted_known stmts is_visible (alone to) l (sets op node.number is.liftable other)
+        wanted_known stmts is_visible (alone to) l (sets layout.cpu op node.number is.liftable other)
         (λ x e. known_stays stmts is_visible x (subst (λ y. is_visible y ≡ true) (sym (location_same x to e)) seen)) b in
         let e : place_of (location_of l) ≡ l = placed l v in
         let c : comes_from op node.number (location_of l) there.location ≡ true =
-        sym (agrees op node.number (location_of l) there.location is.liftable is.operation other)
+        sym (agrees layout.cpu op node.number (location_of l) there.location is.liftable is.operation other)
         ∙ subst (λ y. before stmts (alone y) (place_of (location_of l)) ≡ true) (sym there.is) (subst (λ y. before stmts (alone to) y ≡ true) (sym e) b) in
         record {
           location = location_of l;
@@ -116,18 +116,18 @@ module _ (image : Image) (layout : Layout) (nodes : Nodes) (at : ℕ) (node : No
           ];
         }
 
-    ahead_other : node.instr.op ≢ Int21 → (l : Loc) → WantedWith End (op_stmts node.instr.op node.number ++ ys) l → IsWantedAt image layout at l
+    ahead_other : node.instr.op ≢ Int21 → (l : Loc) → WantedWith End (op_stmts layout.cpu node.instr.op node.number ++ ys) l → IsWantedAt image layout at l
     ahead_other other l d =
-        let on = leads End (op_stmts node.instr.op node.number) ys is_visible l (sets node.instr.op node.number is.liftable other) d in
+        let on = leads End (op_stmts layout.cpu node.instr.op node.number) ys is_visible l (sets layout.cpu node.instr.op node.number is.liftable other) d in
         by_after on.0 on.1 (following on.0 on.2)
       where
-        by_after : (to : Loc) → before (op_stmts node.instr.op node.number) (alone to) l ≡ true → IsWantedAfter image layout at node.instr.op to → IsWantedAt image layout at l
+        by_after : (to : Loc) → before (op_stmts layout.cpu node.instr.op node.number) (alone to) l ≡ true → IsWantedAfter image layout at node.instr.op to → IsWantedAt image layout at l
         by_after to b (by_test t) = ahead_tested other l to b t
         by_after to b (by_next next edge there) = ahead_next other l to b next edge there
 
     -- INT 21h
-    ahead_dos : node.instr.op ≡ Int21 → (l : Loc) → WantedWith End (op_stmts node.instr.op node.number ++ ys) l → IsWantedAt image layout at l
-    ahead_dos same l d = by_wants (dos_wants n.0 n.2 End ys l (subst (λ stmts. WantedWith End (stmts ++ ys) l) (ap (λ op. op_stmts op node.number) same ∙ ap (op_stmts Int21) n.1) d))
+    ahead_dos : node.instr.op ≡ Int21 → (l : Loc) → WantedWith End (op_stmts layout.cpu node.instr.op node.number ++ ys) l → IsWantedAt image layout at l
+    ahead_dos same l d = by_wants (dos_wants n.0 n.2 End ys l (subst (λ stmts. WantedWith End (stmts ++ ys) l) (ap (λ op. op_stmts layout.cpu op node.number) same ∙ ap (op_stmts layout.cpu Int21) n.1) d))
       where
         n : (n : ℕ) × (node.number ≡ Some n) × (is_lifted_number n ≡ true)
         n = is.number same
@@ -151,7 +151,7 @@ module _ (image : Image) (layout : Layout) (nodes : Nodes) (at : ℕ) (node : No
         by_wants (kept f d) = by_after f (following l d)
 
     -- what is wanted before the statements of an instruction is wanted before it
-    pub ahead : (l : Loc) → WantedWith End (op_stmts node.instr.op node.number ++ ys) l → IsWantedAt image layout at l
+    pub ahead : (l : Loc) → WantedWith End (op_stmts layout.cpu node.instr.op node.number ++ ys) l → IsWantedAt image layout at l
     ahead l d = elim (is_dos node.instr.op) [
       | inl same ↦ ahead_dos same l d
       | inr other ↦ ahead_other other l d

@@ -7,10 +7,14 @@ use Rattle.dcc_num.specs.declared.Half.{Half as HalfName}
 use Rattle.dcc_num.specs.declared.Half.TheVariants.{Low, High}
 use Rattle.dcc_num.specs.declared.FlagName.{FlagName}
 use Rattle.dcc_num.specs.declared.FlagName.TheVariants.{Cf, Zf, Sf, Of}
+use Rattle.dcc_prog.specs.declared.cpu.Cpu.{Cpu}
+use Rattle.dcc_prog.specs.declared.cpu.Cpu.TheVariants.{I8086, I186}
 use Rattle.dcc_prog.specs.declared.instr.Alu.{Alu}
 use Rattle.dcc_prog.specs.declared.instr.Alu.TheVariants.{Add}
 use Rattle.dcc_prog.specs.declared.instr.Shift.{Shift}
 use Rattle.dcc_prog.specs.declared.instr.Shift.TheVariants.{Rol}
+use Rattle.dcc_prog.specs.declared.instr.Count.{Count}
+use Rattle.dcc_prog.specs.declared.instr.Count.TheVariants.{One, Cl, Const as ConstCount}
 use Rattle.dcc_prog.specs.declared.instr.Unary.{Unary}
 use Rattle.dcc_prog.specs.declared.instr.Unary.TheVariants.{Inc, Div, Idiv}
 use Rattle.dcc_prog.specs.declared.instr.Plain.{Plain}
@@ -20,10 +24,10 @@ use Rattle.dcc_prog.specs.declared.instr.Cond.TheVariants.{O, No, B}
 use Rattle.dcc_prog.specs.declared.instr.Operand.{Operand}
 use Rattle.dcc_prog.specs.declared.instr.Operand.TheVariants.{Word, Byte, Seg, Mem, Const as Constant}
 use Rattle.dcc_prog.specs.declared.instr.Op.{Op}
-use Rattle.dcc_prog.specs.declared.instr.Op.TheVariants.{Alu as AluOp, Unary as UnaryOp, Shift as ShiftOp, Mov, Xchg, Lea, Push, Pop, Plain as PlainOp, Jump, Branch, Loop, LoopE, LoopNe, Jcxz, Table, Call, Ret, Int21}
+use Rattle.dcc_prog.specs.declared.instr.Op.TheVariants.{Alu as AluOp, Unary as UnaryOp, Shift as ShiftOp, Mov, Xchg, Lea, Imul3, Push, Pop, Enter, Leave, Plain as PlainOp, Jump, Branch, Loop, LoopE, LoopNe, Jcxz, Table, Call, Ret, Int21}
 use Rattle.dcc_prog.specs.Machine.{operand_width}
 use Rattle.dcc_prog.specs.WellFormed.{IsOperation}
-use Rattle.dcc_prog.specs.Writes.{is_same_register}
+use Rattle.dcc_prog.specs.Writes.{is_same_register, never_shifts}
 use Rattle.dcc_prog.specs.Wanted.{Location, half_of, flag_of, is_flag, condition_uses, uses, makes, surely_writes}
 use Rattle.dcc_ir.specs.declared.syntax.Loc.{Loc}
 use Rattle.dcc_ir.specs.declared.syntax.Loc.TheVariants.{Half, Flag}
@@ -31,13 +35,14 @@ use Rattle.dcc_ir.specs.Location.{same_location}
 use Rattle.dcc_ir.specs.Tree.{Expr}
 use Rattle.dcc_ir.specs.Use.{reads_of}
 use Rattle.dcc_lift.specs.Expressions.{condition}
-use Rattle.dcc_lift.specs.Statements.{alu_stmts, unary_stmts, shift_stmts, mov_stmts, xchg_stmts, plain_stmts, counting, op_stmts, op_test}
+use Rattle.dcc_lift.specs.Statements.{alu_stmts, unary_stmts, triple_product, staying, shifting, shift_stmts, mov_stmts, xchg_stmts, plain_stmts, counting, op_stmts, op_test}
+use Rattle.dcc_lift.specs.Form.{is_general}
 use Rattle.dcc_lift.specs.Liftable.{is_register, is_source, is_lifted_unary, is_liftable}
 use Rattle.dcc_lift.specs.Demand.{place_of}
-use Rattle.dcc_lift.proofs.ListTests.{and_left, and_right, or_none}
+use Rattle.dcc_lift.proofs.ListTests.{and_left, and_right, or_none, of_either}
 use Rattle.dcc_lift.proofs.WantedStatements.{reads, before, alone, before_none, known_after, sets_first}
 use Rattle.dcc_lift.proofs.WantedMakes.{is_same, comes_from, operand_reads, alu_agrees}
-use Rattle.dcc_lift.proofs.WantedUnary.{unary_agrees}
+use Rattle.dcc_lift.proofs.WantedUnary.{unary_agrees, triple_agrees}
 use Rattle.dcc_lift.proofs.WantedShifts.{shift_agrees}
 use Rattle.dcc_lift.proofs.WantedMoves.{same_left, mov_agrees, xchg_agrees, plain_agrees, counting_agrees}
 
@@ -47,34 +52,37 @@ jump_agrees : (op : Op) (number : Option ℕ) (l to : Location) → makes op to 
 jump_agrees op number l to m s = same_left l to ∙ sym (ap (λ x. x || (is_same l to && not (surely_writes op number l))) m ∙ ap (λ x. is_same l to && not x) s)
 
 -- the statements of an operation make a location of what the operation makes it of, and leave what it leaves
-pub agrees : (op : Op) (number : Option ℕ) (l to : Location) → is_liftable op ≡ true → IsOperation op → op ≢ Int21
-    → before (op_stmts op number) (alone (place_of to)) (place_of l) ≡ comes_from op number l to
-agrees (AluOp operation a b) number l to g ok other = alu_agrees operation a b number l to (and_left (is_register a) (is_source b) g) (and_right (is_register a) (is_source b) g)
-agrees (UnaryOp operation a) number l to g ok other =
+pub agrees : (cpu : Cpu) (op : Op) (number : Option ℕ) (l to : Location) → is_liftable op ≡ true → IsOperation op → op ≢ Int21
+    → before (op_stmts cpu op number) (alone (place_of to)) (place_of l) ≡ comes_from op number l to
+agrees cpu (AluOp operation a b) number l to g ok other = alu_agrees operation a b number l to (and_left (is_register a) (is_source b) g) (and_right (is_register a) (is_source b) g)
+agrees cpu (UnaryOp operation a) number l to g ok other =
     unary_agrees operation a number l to (and_left (is_lifted_unary operation) (is_register a) g) (and_right (is_lifted_unary operation) (is_register a) g)
-agrees (ShiftOp operation a by_cl) number l to g ok other = shift_agrees operation a by_cl number l to g
-agrees (Mov a b) number l to g ok other = mov_agrees a b number l to (and_left (is_register a) (is_source b) g) (and_right (is_register a) (is_source b) g) ok.widths
-agrees (Xchg a b) number l to g ok other = xchg_agrees a b number l to (and_left (is_register a) (is_register b) g) (and_right (is_register a) (is_register b) g) ok.widths
-agrees (PlainOp operation) number l to g ok other = plain_agrees operation number l to g
-agrees (Jump target) number (half_of s k) to g ok other = jump_agrees (Jump target) number (half_of s k) to refl refl
-agrees (Jump target) number (flag_of f) to g ok other = jump_agrees (Jump target) number (flag_of f) to refl refl
-agrees (Branch tested target) number (half_of s k) to g ok other = jump_agrees (Branch tested target) number (half_of s k) to refl refl
-agrees (Branch tested target) number (flag_of f) to g ok other = jump_agrees (Branch tested target) number (flag_of f) to refl refl
-agrees (Jcxz target) number (half_of s k) to g ok other = jump_agrees (Jcxz target) number (half_of s k) to refl refl
-agrees (Jcxz target) number (flag_of f) to g ok other = jump_agrees (Jcxz target) number (flag_of f) to refl refl
-agrees (Loop target) number (half_of s k) to g ok other = counting_agrees number (half_of s k) to
-agrees (Loop target) number (flag_of f) to g ok other = counting_agrees number (flag_of f) to
-agrees (LoopE target) number (half_of s k) to g ok other = counting_agrees number (half_of s k) to
-agrees (LoopE target) number (flag_of f) to g ok other = counting_agrees number (flag_of f) to
-agrees (LoopNe target) number (half_of s k) to g ok other = counting_agrees number (half_of s k) to
-agrees (LoopNe target) number (flag_of f) to g ok other = counting_agrees number (flag_of f) to
-agrees Int21 number l to g ok other = absurd (other refl)
-agrees (Lea r ea) number l to g ok other = absurd (true≢false (sym g))
-agrees (Push a) number l to g ok other = absurd (true≢false (sym g))
-agrees (Pop a) number l to g ok other = absurd (true≢false (sym g))
-agrees (Table r offset) number l to g ok other = absurd (true≢false (sym g))
-agrees (Call target) number l to g ok other = absurd (true≢false (sym g))
-agrees (Ret count) number l to g ok other = absurd (true≢false (sym g))
+agrees cpu (ShiftOp operation a count) number l to g ok other = shift_agrees cpu operation a count number l to g ok.may
+agrees cpu (Imul3 r a constant) number l to g ok other = triple_agrees r a constant number l to (and_left (is_general r) (is_register a) g) (and_right (is_general r) (is_register a) g)
+agrees cpu (Enter count) number l to g ok other = absurd (true≢false (sym g))
+agrees cpu Leave number l to g ok other = absurd (true≢false (sym g))
+agrees cpu (Mov a b) number l to g ok other = mov_agrees a b number l to (and_left (is_register a) (is_source b) g) (and_right (is_register a) (is_source b) g) ok.widths
+agrees cpu (Xchg a b) number l to g ok other = xchg_agrees a b number l to (and_left (is_register a) (is_register b) g) (and_right (is_register a) (is_register b) g) ok.widths
+agrees cpu (PlainOp operation) number l to g ok other = plain_agrees operation number l to g
+agrees cpu (Jump target) number (half_of s k) to g ok other = jump_agrees (Jump target) number (half_of s k) to refl refl
+agrees cpu (Jump target) number (flag_of f) to g ok other = jump_agrees (Jump target) number (flag_of f) to refl refl
+agrees cpu (Branch tested target) number (half_of s k) to g ok other = jump_agrees (Branch tested target) number (half_of s k) to refl refl
+agrees cpu (Branch tested target) number (flag_of f) to g ok other = jump_agrees (Branch tested target) number (flag_of f) to refl refl
+agrees cpu (Jcxz target) number (half_of s k) to g ok other = jump_agrees (Jcxz target) number (half_of s k) to refl refl
+agrees cpu (Jcxz target) number (flag_of f) to g ok other = jump_agrees (Jcxz target) number (flag_of f) to refl refl
+agrees cpu (Loop target) number (half_of s k) to g ok other = counting_agrees number (half_of s k) to
+agrees cpu (Loop target) number (flag_of f) to g ok other = counting_agrees number (flag_of f) to
+agrees cpu (LoopE target) number (half_of s k) to g ok other = counting_agrees number (half_of s k) to
+agrees cpu (LoopE target) number (flag_of f) to g ok other = counting_agrees number (flag_of f) to
+agrees cpu (LoopNe target) number (half_of s k) to g ok other = counting_agrees number (half_of s k) to
+agrees cpu (LoopNe target) number (flag_of f) to g ok other = counting_agrees number (flag_of f) to
+agrees cpu Int21 number l to g ok other = absurd (other refl)
+agrees cpu (Lea r ea) number l to g ok other = absurd (true≢false (sym g))
+agrees cpu (Push a) number l to g ok other = absurd (true≢false (sym g))
+agrees cpu (Pop a) number l to g ok other = absurd (true≢false (sym g))
+agrees cpu (Table r offset) number l to g ok other = absurd (true≢false (sym g))
+agrees cpu (Call target) number l to g ok other = absurd (true≢false (sym g))
+agrees cpu (Ret count) number l to g ok other = absurd (true≢false (sym g))
 
 -- What is read.
 
@@ -108,15 +116,38 @@ unary_set _ Div g h = absurd (true≢false (sym g))
 unary_set _ Idiv g h = absurd (true≢false (sym g))
 unary_set _ _ g h = refl
 
-shift_set : (a : Operand) (by_cl : Bool) (operation : Shift) → is_register a ≡ true → sets_first (shift_stmts operation (operand_width a) a by_cl) is_visible ≡ true
-shift_set (Word r) true Rol g = refl
-shift_set (Word r) false Rol g = refl
-shift_set (Byte r half) true Rol g = refl
-shift_set (Byte r half) false Rol g = refl
-shift_set (Seg n) by_cl operation g = absurd (true≢false (sym g))
-shift_set (Mem width ea) by_cl operation g = absurd (true≢false (sym g))
-shift_set (Constant width c) by_cl operation g = absurd (true≢false (sym g))
-shift_set _ _ _ g = refl
+staying_set : (a : Operand) → is_register a ≡ true → sets_first (staying (operand_width a) a) is_visible ≡ true
+staying_set (Word r) g = refl
+staying_set (Byte r half) g = refl
+staying_set (Seg n) g = absurd (true≢false (sym g))
+staying_set (Mem width ea) g = absurd (true≢false (sym g))
+staying_set (Constant width c) g = absurd (true≢false (sym g))
+
+shifting_set : (a : Operand) (count : Count) (cpu : Cpu) (operation : Shift) → is_register a ≡ true → sets_first (shifting cpu operation (operand_width a) a count) is_visible ≡ true
+shifting_set (Word r) One cpu Rol g = refl
+shifting_set (Word r) Cl I8086 Rol g = refl
+shifting_set (Word r) Cl I186 Rol g = refl
+shifting_set (Word r) (ConstCount n) cpu Rol g = refl
+shifting_set (Byte r half) One cpu Rol g = refl
+shifting_set (Byte r half) Cl I8086 Rol g = refl
+shifting_set (Byte r half) Cl I186 Rol g = refl
+shifting_set (Byte r half) (ConstCount n) cpu Rol g = refl
+shifting_set (Seg n) count cpu operation g = absurd (true≢false (sym g))
+shifting_set (Mem width ea) count cpu operation g = absurd (true≢false (sym g))
+shifting_set (Constant width c) count cpu operation g = absurd (true≢false (sym g))
+shifting_set _ _ _ _ g = refl
+
+shift_set : (cpu : Cpu) (a : Operand) (count : Count) (operation : Shift) → is_register a ≡ true → sets_first (shift_stmts cpu operation (operand_width a) a count) is_visible ≡ true
+shift_set cpu a count operation g =
+    of_either (λ stmts. sets_first stmts is_visible ≡ true) (never_shifts count) (staying (operand_width a) a) (shifting cpu operation (operand_width a) a count)
+    (staying_set a g) (shifting_set a count cpu operation g)
+
+triple_set : (r : Reg) (a : Operand) (constant : ℕ) → is_register a ≡ true → sets_first (triple_product r a constant) is_visible ≡ true
+triple_set r (Word q) constant g = refl
+triple_set r (Byte q half) constant g = refl
+triple_set r (Seg n) constant g = absurd (true≢false (sym g))
+triple_set r (Mem width ea) constant g = absurd (true≢false (sym g))
+triple_set r (Constant width c) constant g = absurd (true≢false (sym g))
 
 mov_set : (a b : Operand) → is_source b ≡ true → sets_first (mov_stmts a b) is_visible ≡ true
 mov_set (Word r) (Word q) h = refl
@@ -138,15 +169,16 @@ plain_set Nop = refl
 plain_set _ = refl
 
 -- the statements of an operation read no temporary before they set it
-pub sets : (op : Op) (number : Option ℕ) → is_liftable op ≡ true → op ≢ Int21 → sets_first (op_stmts op number) is_visible ≡ true
-sets (AluOp operation a b) number g other = alu_set b a operation (and_left (is_register a) (is_source b) g) (and_right (is_register a) (is_source b) g)
-sets (UnaryOp operation a) number g other = unary_set a operation (and_left (is_lifted_unary operation) (is_register a) g) (and_right (is_lifted_unary operation) (is_register a) g)
-sets (ShiftOp operation a by_cl) number g other = shift_set a by_cl operation g
-sets (Mov a b) number g other = mov_set a b (and_right (is_register a) (is_source b) g)
-sets (Xchg a b) number g other = xchg_set a b
-sets (PlainOp operation) number g other = plain_set operation
-sets Int21 number g other = absurd (other refl)
-sets _ number g other = refl
+pub sets : (cpu : Cpu) (op : Op) (number : Option ℕ) → is_liftable op ≡ true → op ≢ Int21 → sets_first (op_stmts cpu op number) is_visible ≡ true
+sets cpu (AluOp operation a b) number g other = alu_set b a operation (and_left (is_register a) (is_source b) g) (and_right (is_register a) (is_source b) g)
+sets cpu (UnaryOp operation a) number g other = unary_set a operation (and_left (is_lifted_unary operation) (is_register a) g) (and_right (is_lifted_unary operation) (is_register a) g)
+sets cpu (ShiftOp operation a count) number g other = shift_set cpu a count operation g
+sets cpu (Imul3 r a constant) number g other = triple_set r a constant (and_right (is_general r) (is_register a) g)
+sets cpu (Mov a b) number g other = mov_set a b (and_right (is_register a) (is_source b) g)
+sets cpu (Xchg a b) number g other = xchg_set a b
+sets cpu (PlainOp operation) number g other = plain_set operation
+sets cpu Int21 number g other = absurd (other refl)
+sets cpu _ number g other = refl
 
 -- Tests.
 
@@ -164,13 +196,13 @@ condition_known : (tested : Cond) → list_all is_visible (reads_of (condition t
 condition_known O = refl
 condition_known _ = refl
 
-pub tests_known : (op : Op) (number : Option ℕ) → test_known (op_test op) (known_after (op_stmts op number) is_visible) ≡ true
-tests_known (Branch tested target) number = condition_known tested
-tests_known (Loop target) number = refl
-tests_known (LoopE target) number = refl
-tests_known (LoopNe target) number = refl
-tests_known (Jcxz target) number = refl
-tests_known _ number = refl
+pub tests_known : (cpu : Cpu) (op : Op) (number : Option ℕ) → test_known (op_test op) (known_after (op_stmts cpu op number) is_visible) ≡ true
+tests_known cpu (Branch tested target) number = condition_known tested
+tests_known cpu (Loop target) number = refl
+tests_known cpu (LoopE target) number = refl
+tests_known cpu (LoopNe target) number = refl
+tests_known cpu (Jcxz target) number = refl
+tests_known cpu _ number = refl
 
 condition_reads : (tested : Cond) (l : Location) → reads (place_of l) (condition tested) ≡ condition_uses tested l
 condition_reads O (half_of s k) = refl
@@ -201,17 +233,17 @@ zero_uses Sf = refl
 zero_uses Of = refl
 
 -- an operation uses what its test reads
-pub uses_agree : (op : Op) (number : Option ℕ) (l : Location) → is_liftable op ≡ true → op ≢ Int21 → before (op_stmts op number) (reads_test (op_test op)) (place_of l) ≡ uses op number l
-uses_agree (Branch tested target) number l g other = condition_reads tested l
-uses_agree (Loop target) number (half_of s k) g other = counter_uses s k
-uses_agree (Loop target) number (flag_of f) g other = refl
-uses_agree (LoopE target) number (half_of s k) g other = counter_uses s k ∙ sym (or_none (is_same_register s Cx))
-uses_agree (LoopE target) number (flag_of f) g other = zero_uses f
-uses_agree (LoopNe target) number (half_of s k) g other = counter_uses s k ∙ sym (or_none (is_same_register s Cx))
-uses_agree (LoopNe target) number (flag_of f) g other = zero_uses f
-uses_agree (Jcxz target) number (half_of s k) g other = operand_reads (Word Cx) (half_of s k) refl ∙ or_none (is_same_register s Cx)
-uses_agree (Jcxz target) number (flag_of f) g other = refl
-uses_agree (AluOp operation a b) number l g other = before_none (alu_stmts operation a b) (place_of l) ∙ alu_uses operation a b number l (and_left (is_register a) (is_source b) g)
+pub uses_agree : (cpu : Cpu) (op : Op) (number : Option ℕ) (l : Location) → is_liftable op ≡ true → op ≢ Int21 → before (op_stmts cpu op number) (reads_test (op_test op)) (place_of l) ≡ uses op number l
+uses_agree cpu (Branch tested target) number l g other = condition_reads tested l
+uses_agree cpu (Loop target) number (half_of s k) g other = counter_uses s k
+uses_agree cpu (Loop target) number (flag_of f) g other = refl
+uses_agree cpu (LoopE target) number (half_of s k) g other = counter_uses s k ∙ sym (or_none (is_same_register s Cx))
+uses_agree cpu (LoopE target) number (flag_of f) g other = zero_uses f
+uses_agree cpu (LoopNe target) number (half_of s k) g other = counter_uses s k ∙ sym (or_none (is_same_register s Cx))
+uses_agree cpu (LoopNe target) number (flag_of f) g other = zero_uses f
+uses_agree cpu (Jcxz target) number (half_of s k) g other = operand_reads (Word Cx) (half_of s k) refl ∙ or_none (is_same_register s Cx)
+uses_agree cpu (Jcxz target) number (flag_of f) g other = refl
+uses_agree cpu (AluOp operation a b) number l g other = before_none (alu_stmts operation a b) (place_of l) ∙ alu_uses operation a b number l (and_left (is_register a) (is_source b) g)
   where
     alu_uses : (operation : Alu) (a b : Operand) (number : Option ℕ) (l : Location) → is_register a ≡ true → false ≡ uses (AluOp operation a b) number l
     alu_uses operation (Word r) b number l g = refl
@@ -219,7 +251,7 @@ uses_agree (AluOp operation a b) number l g other = before_none (alu_stmts opera
     alu_uses operation (Seg n) b number l g = absurd (true≢false (sym g))
     alu_uses operation (Mem width ea) b number l g = absurd (true≢false (sym g))
     alu_uses operation (Constant width c) b number l g = absurd (true≢false (sym g))
-uses_agree (UnaryOp operation a) number l g other =
+uses_agree cpu (UnaryOp operation a) number l g other =
     before_none (unary_stmts operation (operand_width a) a) (place_of l)
     ∙ unary_uses operation a number l (and_left (is_lifted_unary operation) (is_register a) g) (and_right (is_lifted_unary operation) (is_register a) g)
   where
@@ -232,15 +264,16 @@ uses_agree (UnaryOp operation a) number l g other =
     unary_uses _ (Mem width ea) number l g h = absurd (true≢false (sym h))
     unary_uses _ (Constant width c) number l g h = absurd (true≢false (sym h))
     unary_uses _ _ number l g h = refl
-uses_agree (ShiftOp operation a by_cl) number l g other = before_none (shift_stmts operation (operand_width a) a by_cl) (place_of l) ∙ shift_uses operation a by_cl number l g
+uses_agree cpu (Imul3 r a constant) number l g other = before_none (triple_product r a constant) (place_of l)
+uses_agree cpu (ShiftOp operation a count) number l g other = before_none (shift_stmts cpu operation (operand_width a) a count) (place_of l) ∙ shift_uses operation a count number l g
   where
-    shift_uses : (operation : Shift) (a : Operand) (by_cl : Bool) (number : Option ℕ) (l : Location) → is_register a ≡ true → false ≡ uses (ShiftOp operation a by_cl) number l
-    shift_uses operation (Word r) by_cl number l g = refl
-    shift_uses operation (Byte r half) by_cl number l g = refl
-    shift_uses operation (Seg n) by_cl number l g = absurd (true≢false (sym g))
-    shift_uses operation (Mem width ea) by_cl number l g = absurd (true≢false (sym g))
-    shift_uses operation (Constant width c) by_cl number l g = absurd (true≢false (sym g))
-uses_agree (Mov a b) number l g other = before_none (mov_stmts a b) (place_of l) ∙ mov_uses a b number l (and_left (is_register a) (is_source b) g)
+    shift_uses : (operation : Shift) (a : Operand) (count : Count) (number : Option ℕ) (l : Location) → is_register a ≡ true → false ≡ uses (ShiftOp operation a count) number l
+    shift_uses operation (Word r) count number l g = refl
+    shift_uses operation (Byte r half) count number l g = refl
+    shift_uses operation (Seg n) count number l g = absurd (true≢false (sym g))
+    shift_uses operation (Mem width ea) count number l g = absurd (true≢false (sym g))
+    shift_uses operation (Constant width c) count number l g = absurd (true≢false (sym g))
+uses_agree cpu (Mov a b) number l g other = before_none (mov_stmts a b) (place_of l) ∙ mov_uses a b number l (and_left (is_register a) (is_source b) g)
   where
     mov_uses : (a b : Operand) (number : Option ℕ) (l : Location) → is_register a ≡ true → false ≡ uses (Mov a b) number l
     mov_uses (Word r) b number l g = refl
@@ -248,7 +281,7 @@ uses_agree (Mov a b) number l g other = before_none (mov_stmts a b) (place_of l)
     mov_uses (Seg n) b number l g = absurd (true≢false (sym g))
     mov_uses (Mem width ea) b number l g = absurd (true≢false (sym g))
     mov_uses (Constant width c) b number l g = absurd (true≢false (sym g))
-uses_agree (Xchg a b) number l g other = before_none (xchg_stmts a b) (place_of l) ∙ xchg_uses a b number l (and_left (is_register a) (is_register b) g) (and_right (is_register a) (is_register b) g)
+uses_agree cpu (Xchg a b) number l g other = before_none (xchg_stmts a b) (place_of l) ∙ xchg_uses a b number l (and_left (is_register a) (is_register b) g) (and_right (is_register a) (is_register b) g)
   where
     xchg_uses : (a b : Operand) (number : Option ℕ) (l : Location) → is_register a ≡ true → is_register b ≡ true → false ≡ uses (Xchg a b) number l
     xchg_uses (Word r) (Word q) number l g h = refl
@@ -261,12 +294,14 @@ uses_agree (Xchg a b) number l g other = before_none (xchg_stmts a b) (place_of 
     xchg_uses _ (Seg n) number l g h = absurd (true≢false (sym h))
     xchg_uses _ (Mem width ea) number l g h = absurd (true≢false (sym h))
     xchg_uses _ (Constant width c) number l g h = absurd (true≢false (sym h))
-uses_agree (PlainOp operation) number l g other = before_none (plain_stmts operation) (place_of l)
-uses_agree (Jump target) number l g other = refl
-uses_agree Int21 number l g other = absurd (other refl)
-uses_agree (Lea r ea) number l g other = absurd (true≢false (sym g))
-uses_agree (Push a) number l g other = absurd (true≢false (sym g))
-uses_agree (Pop a) number l g other = absurd (true≢false (sym g))
-uses_agree (Table r offset) number l g other = absurd (true≢false (sym g))
-uses_agree (Call target) number l g other = absurd (true≢false (sym g))
-uses_agree (Ret count) number l g other = absurd (true≢false (sym g))
+uses_agree cpu (PlainOp operation) number l g other = before_none (plain_stmts operation) (place_of l)
+uses_agree cpu (Jump target) number l g other = refl
+uses_agree cpu Int21 number l g other = absurd (other refl)
+uses_agree cpu (Lea r ea) number l g other = absurd (true≢false (sym g))
+uses_agree cpu (Push a) number l g other = absurd (true≢false (sym g))
+uses_agree cpu (Pop a) number l g other = absurd (true≢false (sym g))
+uses_agree cpu (Enter count) number l g other = absurd (true≢false (sym g))
+uses_agree cpu Leave number l g other = absurd (true≢false (sym g))
+uses_agree cpu (Table r offset) number l g other = absurd (true≢false (sym g))
+uses_agree cpu (Call target) number l g other = absurd (true≢false (sym g))
+uses_agree cpu (Ret count) number l g other = absurd (true≢false (sym g))

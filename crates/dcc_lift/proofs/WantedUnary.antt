@@ -8,19 +8,21 @@ use Rattle.dcc_num.specs.declared.FlagName.{FlagName}
 use Rattle.dcc_num.specs.declared.FlagName.TheVariants.{Cf, Zf, Sf, Of}
 use Rattle.dcc_num.specs.Numbers.{bits_of}
 use Rattle.dcc_prog.specs.declared.instr.Operand.{Operand}
+use Rattle.dcc_prog.specs.declared.instr.Operand.TheVariants.{Word}
 use Rattle.dcc_prog.specs.declared.instr.Unary.{Unary}
 use Rattle.dcc_prog.specs.declared.instr.Unary.TheVariants.{Inc, Dec, Neg, Not, Mul, Imul, Div, Idiv}
-use Rattle.dcc_prog.specs.declared.instr.Op.TheVariants.{Unary as UnaryOp}
+use Rattle.dcc_prog.specs.declared.instr.Op.TheVariants.{Unary as UnaryOp, Imul3}
 use Rattle.dcc_prog.specs.Machine.{operand_width}
-use Rattle.dcc_prog.specs.Writes.{is_in_pair, is_carry}
-use Rattle.dcc_prog.specs.Wanted.{Location, half_of, flag_of, is_part, is_read, is_accumulator, unary_makes, unary_reads, surely_writes}
+use Rattle.dcc_prog.specs.Writes.{is_same_register, is_in_pair, is_carry, is_carry_or_overflow}
+use Rattle.dcc_prog.specs.Wanted.{Location, half_of, flag_of, is_part, is_read, is_accumulator, unary_makes, unary_reads, makes, surely_writes}
 use Rattle.dcc_ir.specs.declared.syntax.Loc.{Loc}
 use Rattle.dcc_ir.specs.declared.syntax.Loc.TheVariants.{Half, Flag}
 use Rattle.dcc_ir.specs.declared.syntax.UnOp.TheVariants.{Not as NotOp}
-use Rattle.dcc_ir.specs.Tree.{Expr, Stmt, Set, Unary as UnaryExpr}
+use Rattle.dcc_ir.specs.Tree.{Expr, Stmt, Unary as UnaryExpr}
 use Rattle.dcc_lift.specs.Temporaries.{left_place, right_place, result_place, product_place}
-use Rattle.dcc_lift.specs.Expressions.{operand_expr, number, bit, sum, difference, accumulator, multiplied, needs_upper_half}
-use Rattle.dcc_lift.specs.Statements.{taking, storing, result_taking, sum_flags, difference_flags, subtracting, flags_taking, carry_taking, product_storing, multiplying, unary_stmts}
+use Rattle.dcc_lift.specs.Expressions.{operand_expr, product, number, sum, difference, accumulator}
+use Rattle.dcc_lift.specs.Statements.{taking, word_taking, storing, result_taking, sum_flags, difference_flags, subtracting, product_storing, product_working, multiplying, triple_product, unary_stmts}
+use Rattle.dcc_lift.specs.Form.{is_general}
 use Rattle.dcc_lift.specs.Liftable.{is_register, is_lifted_unary}
 use Rattle.dcc_lift.specs.Demand.{place_of}
 use Rattle.dcc_lift.proofs.OperandMirrors.{register_source}
@@ -210,33 +212,40 @@ inverted byte_width e u (flag_of f) = refl
 inverted word_width e u (half_of s k) = refl
 inverted word_width e u (flag_of f) = refl
 
-inverted_reads : (a : Operand) (l : Location) → is_register a ≡ true → reads (place_of l) (UnaryExpr NotOp (bits_of (operand_width a)) (operand_expr a)) ≡ is_read l a
-inverted_reads a l g = operand_reads a l (register_source a g)
-
-inverted_made : (a : Operand) (to : Location) → is_part to a ≡ unary_makes Not a to
-inverted_made a (half_of t j) = refl
-inverted_made a (flag_of f) = refl
-
-inverted_left : (a : Operand) (n : Option ℕ) (l to : Location) → is_register a ≡ true → before (storing a) (alone (place_of to)) (place_of l)
-    ≡ (is_same l to && not (surely_writes (UnaryOp Not a) n l))
-inverted_left a n (half_of s k) to g = stored_half a s k to g
-inverted_left a n (flag_of f) to g = stored_flag a f (alone (place_of to)) ∙ place_same (flag_of f) to ∙ sym (and_true (is_same (flag_of f) to))
+inverted_left : (a : Operand) (l to : Location) → is_register a ≡ true → before (storing a) (alone (place_of to)) (place_of l) ≡ (is_same l to && not (is_part l a))
+inverted_left a (half_of s k) to g = stored_half a s k to g
+inverted_left a (flag_of f) to g = stored_flag a f (alone (place_of to)) ∙ place_same (flag_of f) to ∙ sym (and_true (is_same (flag_of f) to))
 
 inverted_joined : (x m k : Bool) → ((x && m) || k) ≡ ((m && x) || k)
 inverted_joined x m k = grind arith
 
-not_agrees : (a : Operand) (number : Option ℕ) (l to : Location) → is_register a ≡ true
-    → before (unary_stmts Not (operand_width a) a) (alone (place_of to)) (place_of l) ≡ comes_from (UnaryOp Not a) number l to
-not_agrees a n l to g =
+-- an operand takes a value that is made of it
+pub through_agrees : (a : Operand) (e : Expr) (l to : Location) → is_register a ≡ true → reads (place_of l) e ≡ is_read l a
+    → before (result_taking (operand_width a) e ++ storing a) (alone (place_of to)) (place_of l) ≡ ((is_part to a && is_read l a) || (is_same l to && not (is_part l a)))
+through_agrees a e l to g read =
     let w = operand_width a in
-    let e : Expr = UnaryExpr NotOp (bits_of w) (operand_expr a) in
     let u : Loc → Bool = before (storing a) (alone (place_of to)) in
     before_both (result_taking w e) (storing a) (alone (place_of to)) (place_of l)
     ∙ inverted w e u l
-    ∙ ap (λ b. (b && u (result_place w)) || u (place_of l)) (inverted_reads a l g)
-    ∙ ap (λ b. (is_read l a && b) || u (place_of l)) (stored_result a to g ∙ inverted_made a to)
-    ∙ ap (λ b. (is_read l a && unary_makes Not a to) || b) (inverted_left a n l to g)
-    ∙ inverted_joined (is_read l a) (unary_makes Not a to) (is_same l to && not (surely_writes (UnaryOp Not a) n l))
+    ∙ ap (λ b. (b && u (result_place w)) || u (place_of l)) read
+    ∙ ap (λ b. (is_read l a && b) || u (place_of l)) (stored_result a to g)
+    ∙ ap (λ b. (is_read l a && is_part to a) || b) (inverted_left a l to g)
+    ∙ inverted_joined (is_read l a) (is_part to a) (is_same l to && not (is_part l a))
+
+not_makes : (a : Operand) (to : Location) → is_part to a ≡ unary_makes Not a to
+not_makes a (half_of t j) = refl
+not_makes a (flag_of f) = refl
+
+not_writes : (a : Operand) (n : Option ℕ) (l : Location) → is_part l a ≡ surely_writes (UnaryOp Not a) n l
+not_writes a n (half_of s k) = refl
+not_writes a n (flag_of f) = refl
+
+not_agrees : (a : Operand) (number : Option ℕ) (l to : Location) → is_register a ≡ true
+    → before (unary_stmts Not (operand_width a) a) (alone (place_of to)) (place_of l) ≡ comes_from (UnaryOp Not a) number l to
+not_agrees a n l to g =
+    through_agrees a (UnaryExpr NotOp (bits_of (operand_width a)) (operand_expr a)) l to g (operand_reads a l (register_source a g))
+    ∙ ap (λ b. (b && is_read l a) || (is_same l to && not (is_part l a))) (not_makes a to)
+    ∙ ap (λ b. (unary_makes Not a to && is_read l a) || (is_same l to && not b)) (not_writes a n l)
 
 -- Products.
 
@@ -255,11 +264,7 @@ product_half : (w : Width) (s : Reg) (k : HalfName) (u : Loc → Bool) → befor
 product_half byte_width s k u = grind arith
 product_half word_width s k u = grind arith
 
--- what works on the product: the flags, and the storing
-abbrev product_working : Width → Bool → List Stmt
-product_working w signed =
-    Set (product_place w) (multiplied w signed)
-    ∷ (flags_taking (needs_upper_half w signed) (bit 0) (bit 0) ++ carry_taking (needs_upper_half w signed))
+-- What works on the product.
 
 product_left : (w : Width) (signed : Bool) (u : Loc → Bool) → u (left_place w) ≡ false → before (product_working w signed) u (left_place w) ≡ ((u (Flag Of) || u (Flag Cf)) || u (product_place w))
 product_left byte_width false u e = grind arith
@@ -349,6 +354,59 @@ product_agrees signed a l to g =
     ∙ ap (λ b. (is_accumulator w l && unary_makes Mul a to) || ((is_read l a && b) || v (place_of l))) second
     ∙ ap (λ b. (is_accumulator w l && unary_makes Mul a to) || ((is_read l a && unary_makes Mul a to) || b)) stays
     ∙ product_joined (is_accumulator w l) (is_read l a) (unary_makes Mul a to) (is_same l to && not (surely_writes (UnaryOp Mul a) None l))
+
+-- The product of three operands.
+
+-- what is made of the operand
+abbrev triple_made : Reg → Location → Bool
+triple_made r (half_of t j) = is_same_register t r
+triple_made r (flag_of f) = is_carry_or_overflow f
+
+triple_result : (r : Reg) (to : Location) → is_general r ≡ true → before (word_taking r 0 (product word_width)) (alone (place_of to)) (product_place word_width) ≡ is_part to (Word r)
+triple_result r (half_of t j) g = stored_result (Word r) (half_of t j) g
+triple_result r (flag_of f) g = stored_result (Word r) (flag_of f) g
+
+triple_flags : (to : Location) (r : Reg) (u : Loc → Bool) → ((f : FlagName) → u (Flag f) ≡ is_same (flag_of f) to)
+    → ((u (Flag Of) || u (Flag Cf)) || is_part to (Word r)) ≡ triple_made r to
+triple_flags (half_of t j) r u h = simp h
+triple_flags (flag_of Cf) r u h = simp h
+triple_flags (flag_of Zf) r u h = simp h
+triple_flags (flag_of Sf) r u h = simp h
+triple_flags (flag_of Of) r u h = simp h
+
+triple_stays : (r : Reg) (a : Operand) (constant : ℕ) (number : Option ℕ) (l to : Location) → is_general r ≡ true
+    → before (product_working word_width true) (before (word_taking r 0 (product word_width)) (alone (place_of to))) (place_of l)
+    ≡ (is_same l to && not (surely_writes (Imul3 r a constant) number l))
+triple_stays r a constant number (half_of s k) to g =
+    product_kept word_width true (before (word_taking r 0 (product word_width)) (alone (place_of to))) s k ∙ stored_half (Word r) s k to g
+triple_stays r a constant number (flag_of f) to g =
+    product_flag word_width true f (before (word_taking r 0 (product word_width)) (alone (place_of to))) ∙ sym (and_false (is_same (flag_of f) to))
+
+triple_makes : (r : Reg) (a : Operand) (constant : ℕ) (to l : Location) → (triple_made r to && is_read l a) ≡ makes (Imul3 r a constant) to l
+triple_makes r a constant (half_of t j) l = refl
+triple_makes r a constant (flag_of f) l = refl
+
+pub triple_agrees : (r : Reg) (a : Operand) (constant : ℕ) (number : Option ℕ) (l to : Location) → is_general r ≡ true → is_register a ≡ true
+    → before (triple_product r a constant) (alone (place_of to)) (place_of l) ≡ comes_from (Imul3 r a constant) number l to
+triple_agrees r a constant n l to g h =
+    let w = word_width in
+    let stores : List Stmt = word_taking r 0 (product w) in
+    let u : Loc → Bool = before stores (alone (place_of to)) in
+    let v : Loc → Bool = before (product_working w true ++ stores) (alone (place_of to)) in
+    let made : v (left_place w) ≡ triple_made r to =
+    before_both (product_working w true) stores (alone (place_of to)) (left_place w)
+    ∙ product_left w true u (stored_left (Word r) (alone (place_of to)) g ∙ no_left to w)
+    ∙ ap (λ b. (u (Flag Of) || u (Flag Cf)) || b) (triple_result r to g)
+    ∙ triple_flags to r u (λ f. stored_flag (Word r) f (alone (place_of to)) ∙ place_same (flag_of f) to) in
+    let stays : v (place_of l) ≡ (is_same l to && not (surely_writes (Imul3 r a constant) n l)) =
+    before_both (product_working w true) stores (alone (place_of to)) (place_of l) ∙ triple_stays r a constant n l to g in
+    before_both (taking w (operand_expr a) (number w constant)) (product_working w true ++ stores) (alone (place_of to)) (place_of l)
+    ∙ taken w (operand_expr a) (number w constant) v l refl
+    ∙ ap (λ b. (b && v (left_place w)) || (false || v (place_of l))) (operand_reads a l (register_source a h))
+    ∙ ap (λ b. (is_read l a && b) || (false || v (place_of l))) made
+    ∙ ap (λ b. (is_read l a && triple_made r to) || (false || b)) stays
+    ∙ one_joined (is_read l a) (triple_made r to) (is_same l to && not (surely_writes (Imul3 r a constant) n l))
+    ∙ ap (λ b. b || (is_same l to && not (surely_writes (Imul3 r a constant) n l))) (triple_makes r a constant to l)
 
 imul_makes : (a : Operand) (to : Location) → unary_makes Mul a to ≡ unary_makes Imul a to
 imul_makes a (half_of t j) = refl

@@ -2,6 +2,7 @@
 -- the block of the one before it where nothing else leads to it. This stands between the procedure and the code; the
 -- public contract tells what the blocks are by paths.
 use Rattle.std.specs.Prelude.{◌≡◌, ℕ, suc, ◌==◌, nat_lt, Bool, true, false, not, ◌&&◌, if◌then◌else◌, List, [], ◌∷◌, map, filter, flat_map, Option, Some, None}
+use Rattle.dcc_prog.specs.declared.cpu.Cpu.{Cpu}
 use Rattle.dcc_prog.specs.declared.procedure.Node.{Node}
 use Rattle.dcc_ir.specs.Tree.{Stmt, Exit, Stop, Block}
 use Rattle.dcc_lift.specs.Statements.{op_stmts, op_test, exit_to}
@@ -67,12 +68,12 @@ block_place nodes entry at = suc (place_in (leaders nodes entry) at)
 
 -- Statements.
 
-abbrev pub node_stmts : Option Node → List Stmt
-node_stmts None = []
-node_stmts (Some node) = op_stmts node.instr.op node.number
+abbrev pub node_stmts : Cpu → Option Node → List Stmt
+node_stmts cpu None = []
+node_stmts cpu (Some node) = op_stmts cpu node.instr.op node.number
 
-abbrev pub stmts_at : Nodes → ℕ → List Stmt
-stmts_at nodes at = node_stmts (node_in nodes at)
+abbrev pub stmts_at : Cpu → Nodes → ℕ → List Stmt
+stmts_at cpu nodes at = node_stmts cpu (node_in nodes at)
 
 abbrev pub node_exit : Nodes → ℕ → Option Node → Exit
 node_exit nodes entry None = Stop
@@ -87,17 +88,17 @@ abbrev pub last_of : ℕ → List ℕ → ℕ
 last_of at [] = at
 last_of at (next ∷ rest) = last_of next rest
 
--- the block that begins at an offset
-pub record IsBlockAt (nodes : Nodes) (entry at : ℕ) (block : Block) : Type 0 where
+-- the block that begins at an offset, on a processor
+pub record IsBlockAt (cpu : Cpu) (nodes : Nodes) (entry at : ℕ) (block : Block) : Type 0 where
   pub rest : List ℕ
   pub chain : IsChain nodes entry at rest
   pub at_is : block.at ≡ at
-  pub stmts_are : block.stmts ≡ flat_map (stmts_at nodes) (at ∷ rest)
+  pub stmts_are : block.stmts ≡ flat_map (stmts_at cpu nodes) (at ∷ rest)
   pub exit_is : block.exit ≡ exit_at nodes entry (last_of at rest)
 
 -- the blocks that begin at these offsets, in their order
-abbrev pub AreBlocksAt : Nodes → ℕ → List ℕ → List Block → Type 0
-AreBlocksAt nodes entry [] [] = Unit {0}
-AreBlocksAt nodes entry (at ∷ places) (block ∷ blocks) =
-    IsBlockAt nodes entry at block × AreBlocksAt nodes entry places blocks
-AreBlocksAt nodes entry _ _ = ⊥
+abbrev pub AreBlocksAt : Cpu → Nodes → ℕ → List ℕ → List Block → Type 0
+AreBlocksAt cpu nodes entry [] [] = Unit {0}
+AreBlocksAt cpu nodes entry (at ∷ places) (block ∷ blocks) =
+    IsBlockAt cpu nodes entry at block × AreBlocksAt cpu nodes entry places blocks
+AreBlocksAt cpu nodes entry _ _ = ⊥

@@ -1,5 +1,5 @@
 -- The expressions that stand for the values of instructions.
-use Rattle.std.specs.Prelude.{ℕ, ◌+◌, ◌-◌, Bool, true, false, if◌then◌else◌}
+use Rattle.std.specs.Prelude.{ℕ, ◌+◌, ◌-◌, ◌%◌, Bool, true, false, if◌then◌else◌}
 use Rattle.dcc_num.specs.declared.Width.{Width}
 use Rattle.dcc_num.specs.declared.Width.TheVariants.{Byte as byte_width, Word as word_width}
 use Rattle.dcc_num.specs.declared.Reg.{Reg}
@@ -8,8 +8,12 @@ use Rattle.dcc_num.specs.declared.Half.TheVariants.{Low, High}
 use Rattle.dcc_num.specs.declared.FlagName.{FlagName}
 use Rattle.dcc_num.specs.declared.FlagName.TheVariants.{Cf, Zf, Sf, Of}
 use Rattle.dcc_num.specs.Numbers.{bits_of}
+use Rattle.dcc_prog.specs.declared.cpu.Cpu.{Cpu}
+use Rattle.dcc_prog.specs.declared.cpu.Cpu.TheVariants.{I8086, I186}
 use Rattle.dcc_prog.specs.declared.instr.Operand.{Operand}
 use Rattle.dcc_prog.specs.declared.instr.Operand.TheVariants.{Word, Byte, Const as Constant}
+use Rattle.dcc_prog.specs.declared.instr.Count.{Count}
+use Rattle.dcc_prog.specs.declared.instr.Count.TheVariants.{One, Cl, Const as ConstCount}
 use Rattle.dcc_prog.specs.declared.instr.Cond.{Cond}
 use Rattle.dcc_prog.specs.declared.instr.Cond.TheVariants.{O, No, B, Ae, Z, Nz, Be, A, S, Ns, L, Ge, Le, G}
 use Rattle.dcc_ir.specs.declared.syntax.Loc.TheVariants.{Half, Flag}
@@ -137,16 +141,25 @@ abbrev pub cl_at : Width → Expr
 cl_at byte_width = Get (Half Cx Low)
 cl_at word_width = Widen false 16 (Get (Half Cx Low))
 
-abbrev pub count : Width → Bool → Expr
-count w by_cl = if by_cl then cl_at w else number w 1
+-- as the processor takes it: the 80186 by its five lowest bits
+abbrev pub taken_cl : Cpu → Width → Expr
+taken_cl I8086 w = cl_at w
+taken_cl I186 w = at_width And w (cl_at w) (number w 31)
+
+abbrev pub count_expr : Cpu → Width → Count → Expr
+count_expr cpu w One = number w 1
+count_expr cpu w Cl = taken_cl cpu w
+count_expr cpu w (ConstCount n) = number w (n % 32)
 
 -- a flag: where the count is in CL and 0, it stays
-abbrev pub unless_zero : Width → Bool → FlagName → Expr → Expr
-unless_zero w by_cl f e = if by_cl then Choose (is_zero w (right w)) (flag f) e else e
+abbrev pub unless_zero : Width → Count → FlagName → Expr → Expr
+unless_zero w Cl f e = Choose (is_zero w (right w)) (flag f) e
+unless_zero w count f e = e
 
 -- a bit for a count of 1; for others it is 0
-abbrev pub if_one : Width → Bool → Expr → Expr
-if_one w by_cl e = if by_cl then Binary And 1 (at_width Eq w (right w) (number w 1)) e else e
+abbrev pub if_one : Width → Count → Expr → Expr
+if_one w One e = e
+if_one w count e = Binary And 1 (at_width Eq w (right w) (number w 1)) e
 
 abbrev pub shifted : BinOp → Width → Expr
 shifted operator w = at_width operator w (left w) (right w)

@@ -4,13 +4,12 @@
 -- statements are on flags.
 use Rattle.std.specs.Prelude.{◌≡◌, ◌≤◌, ℕ, ◌==◌, Bool, true, false, ◌&&◌, ◌||◌, not, List, Option, Some, None, flat_map, count_by}
 use Rattle.std.specs.List.{list_any, list_all}
-use Rattle.dcc_num.specs.declared.Reg.{Reg}
-use Rattle.dcc_num.specs.declared.Reg.TheVariants.{Sp, Bp}
 use Rattle.dcc_num.specs.declared.FlagName.{FlagName}
 use Rattle.dcc_prog.specs.declared.procedure.Node.{Node}
 use Rattle.dcc_prog.specs.declared.procedure.Proc.{Proc}
 use Rattle.dcc_prog.specs.declared.instr.Op.{Op}
 use Rattle.dcc_prog.specs.declared.instr.Op.TheVariants.{Alu as AluOp, Shift as ShiftOp}
+pub use Rattle.dcc_prog.specs.Trail.{is_general}
 use Rattle.dcc_prog.specs.Writes.{writes_flag}
 use Rattle.dcc_prog.specs.Wanted.{takes_carry, is_turn}
 use Rattle.dcc_ir.specs.declared.syntax.Loc.{Loc}
@@ -21,19 +20,13 @@ use Rattle.dcc_ir.specs.Use.{parts_of, writes_of}
 use Rattle.dcc_ir.specs.Measure.{is_truth}
 use Rattle.dcc_ir.specs.WellFormed.{is_division}
 
--- a word register whose halves are locations: all but SP and BP
-abbrev pub is_general : Reg → Bool
-is_general Sp = false
-is_general Bp = false
-is_general r = true
-
--- a half of such a register, a flag or a temporary
+-- a half of a general register, a flag or a temporary
 abbrev pub is_lifted_location : Loc → Bool
 is_lifted_location (Half r half) = is_general r
 is_lifted_location (Cell number half) = false
 is_lifted_location location = true
 
--- a half of such a register
+-- a half of a general register
 abbrev pub is_lifted_half : Loc → Bool
 is_lifted_half (Half r half) = is_general r
 is_lifted_half location = false
@@ -108,7 +101,7 @@ is_other_flag_stmt stmt = is_flag_stmt stmt && not (list_any is_flag_location (w
 -- ADC, SBB, RCL and RCR: CF goes into their result
 abbrev pub has_carry_in : Op → Bool
 has_carry_in (AluOp operation a b) = takes_carry operation
-has_carry_in (ShiftOp operation a by_cl) = is_turn operation
+has_carry_in (ShiftOp operation a count) = is_turn operation
 has_carry_in op = false
 
 abbrev pub graph_stmts : Graph → List Stmt

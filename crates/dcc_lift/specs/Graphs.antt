@@ -10,7 +10,7 @@ use Rattle.dcc_lift.specs.Translation.{prelude_block}
 -- the block of the prelude, and after it those of the instructions
 pub record IsGraphOf (image : Image) (layout : Layout) (nodes : Nodes) (g : Graph) : Type 0 where
   pub blocks : List Block
-  pub blocks_are : AreBlocksAt nodes layout.start_ip (leaders nodes layout.start_ip) blocks
+  pub blocks_are : AreBlocksAt layout.cpu nodes layout.start_ip (leaders nodes layout.start_ip) blocks
   pub graph_is : g ≡ record {
     entry = layout.start_ip;
     params = [];

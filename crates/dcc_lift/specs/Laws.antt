@@ -1,5 +1,5 @@
 -- Laws of what the contract speaks of.
-use Rattle.std.specs.Prelude.{◌≡◌, ℕ, true, ◌↔◌, List}
+use Rattle.std.specs.Prelude.{◌≡◌, ℕ, true, ◌↔◌, List, All}
 use Rattle.dcc_prog.specs.declared.image.Image.{Image}
 use Rattle.dcc_prog.specs.declared.procedure.Layout.{Layout}
 use Rattle.dcc_prog.specs.declared.procedure.Proc.{Proc}
@@ -14,8 +14,8 @@ pub record IsFlowOfTrails (image : Image) (layout : Layout) (entry : ℕ) (flow 
   pub nodes : (a : ℕ) → (flow.has a ≡ true) ↔ IsNode image layout entry a
   pub edges : (a b : ℕ) → (flow.goes a b ≡ true) ↔ IsEdge image layout entry a b
 
--- the flow graph of the procedure that is found is that of the trails from the entry after the prelude
+-- the flow graph of each procedure that is found is that of the trails from its entry
 abbrev pub FlowIsOfTrails : Type 0
 FlowIsOfTrails =
-    (image : Image) (layout : Layout) (procs : List Proc) → (are : AreFound image layout procs)
-    → IsFlowOfTrails image layout layout.start_ip (procedure_flow are.start)
+    (image : Image) (layout : Layout) (procs : List Proc) → AreFound image layout procs
+    → All (λ proc. IsFlowOfTrails image layout proc.entry (procedure_flow proc)) procs

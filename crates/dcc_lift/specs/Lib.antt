@@ -15,6 +15,7 @@ pub mod Incoming
 pub mod Writing
 pub mod Known
 pub mod Graphs
+pub use Rattle.dcc_prog.specs.Built
 pub use Rattle.dcc_prog.specs.Found
 pub use Rattle.dcc_prog.specs.Layout
 pub use Rattle.dcc_prog.specs.MzImage

@@ -7,7 +7,7 @@ use Rattle.dcc_prog.specs.declared.instr.Plain.TheVariants.{Xlat}
 use Rattle.dcc_prog.specs.declared.instr.Operand.{Operand}
 use Rattle.dcc_prog.specs.declared.instr.Operand.TheVariants.{Word, Byte, Const}
 use Rattle.dcc_prog.specs.declared.instr.Op.{Op}
-use Rattle.dcc_prog.specs.declared.instr.Op.TheVariants.{Alu as AluOp, Unary as UnaryOp, Shift as ShiftOp, Mov, Xchg, Plain as PlainOp, Jump, Branch, Loop, LoopE, LoopNe, Jcxz, Int21}
+use Rattle.dcc_prog.specs.declared.instr.Op.TheVariants.{Alu as AluOp, Unary as UnaryOp, Shift as ShiftOp, Mov, Xchg, Imul3, Plain as PlainOp, Jump, Branch, Loop, LoopE, LoopNe, Jcxz, Int21}
 use Rattle.dcc_prog.specs.Layout.{is_control}
 use Rattle.dcc_lift.specs.Form.{is_general}
 
@@ -36,9 +36,10 @@ is_lifted_plain operation = not (is_control operation)
 abbrev pub is_liftable : Op → Bool
 is_liftable (AluOp operation a b) = is_register a && is_source b
 is_liftable (UnaryOp operation a) = is_lifted_unary operation && is_register a
-is_liftable (ShiftOp operation a by_cl) = is_register a
+is_liftable (ShiftOp operation a count) = is_register a
 is_liftable (Mov to from) = is_register to && is_source from
 is_liftable (Xchg a b) = is_register a && is_register b
+is_liftable (Imul3 r a constant) = is_general r && is_register a
 is_liftable (PlainOp operation) = is_lifted_plain operation
 is_liftable (Jump target) = true
 is_liftable (Branch condition target) = true

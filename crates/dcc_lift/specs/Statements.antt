@@ -7,10 +7,13 @@ use Rattle.dcc_num.specs.declared.Reg.TheVariants.{Ax, Cx, Dx}
 use Rattle.dcc_num.specs.declared.Half.TheVariants.{Low, High}
 use Rattle.dcc_num.specs.declared.FlagName.TheVariants.{Cf, Zf, Sf, Of}
 use Rattle.dcc_num.specs.Numbers.{bits_of}
+use Rattle.dcc_prog.specs.declared.cpu.Cpu.{Cpu}
 use Rattle.dcc_prog.specs.declared.instr.Alu.{Alu}
 use Rattle.dcc_prog.specs.declared.instr.Alu.TheVariants.{Add, Or, Adc, Sbb, And, Sub, Xor, Cmp, Test}
 use Rattle.dcc_prog.specs.declared.instr.Shift.{Shift}
 use Rattle.dcc_prog.specs.declared.instr.Shift.TheVariants.{Rol, Ror, Rcl, Rcr, Shl, Shr, Sar}
+use Rattle.dcc_prog.specs.declared.instr.Count.{Count}
+use Rattle.dcc_prog.specs.declared.instr.Count.TheVariants.{One}
 use Rattle.dcc_prog.specs.declared.instr.Unary.{Unary}
 use Rattle.dcc_prog.specs.declared.instr.Unary.TheVariants.{Inc, Dec, Neg, Not, Mul, Imul}
 use Rattle.dcc_prog.specs.declared.instr.Plain.{Plain}
@@ -18,8 +21,9 @@ use Rattle.dcc_prog.specs.declared.instr.Plain.TheVariants.{Cbw, Cwd, Clc, Stc, 
 use Rattle.dcc_prog.specs.declared.instr.Operand.{Operand}
 use Rattle.dcc_prog.specs.declared.instr.Operand.TheVariants.{Word, Byte, Const as Constant}
 use Rattle.dcc_prog.specs.declared.instr.Op.{Op}
-use Rattle.dcc_prog.specs.declared.instr.Op.TheVariants.{Alu as AluOp, Unary as UnaryOp, Shift as ShiftOp, Mov, Xchg, Plain as PlainOp, Branch, Loop, LoopE, LoopNe, Jcxz, Int21}
+use Rattle.dcc_prog.specs.declared.instr.Op.TheVariants.{Alu as AluOp, Unary as UnaryOp, Shift as ShiftOp, Mov, Xchg, Imul3, Plain as PlainOp, Branch, Loop, LoopE, LoopNe, Jcxz, Int21}
 use Rattle.dcc_prog.specs.Machine.{operand_width}
+use Rattle.dcc_prog.specs.Writes.{never_shifts}
 use Rattle.dcc_ir.specs.declared.syntax.Loc.{Loc}
 use Rattle.dcc_ir.specs.declared.syntax.Loc.TheVariants.{Half, Flag}
 use Rattle.dcc_ir.specs.declared.syntax.UnOp.TheVariants.{Not as NotOp}
@@ -27,7 +31,7 @@ use Rattle.dcc_ir.specs.declared.syntax.BinOp.{BinOp}
 use Rattle.dcc_ir.specs.declared.syntax.BinOp.TheVariants.{Sub as SubOp, And as AndOp, Or as OrOp, Xor as XorOp, Shl as ShlOp, Shr as ShrOp, Sar as SarOp, Eq as EqOp}
 use Rattle.dcc_ir.specs.Tree.{Expr, Const, Get, Unary as UnaryExpr, Binary, Widen, Part, Stmt, Set, Dos, Exit, Goto, If, Stop}
 use Rattle.dcc_lift.specs.Temporaries.{left_place, right_place, result_place, product_place}
-use Rattle.dcc_lift.specs.Expressions.{word_of, operand_expr, left, right, result, product, at_width, number, bit, flag, negated, is_zero, sign, below_sign, lowest, sum, sum_and_carry, carry_out, carry_out_of_both, sum_overflow, difference, difference_and_borrow, borrow_out, borrow_out_of_both, difference_overflow, difference_overflow_of_both, count, unless_zero, if_one, shifted, nearly_shifted, rotated_left, rotated_right, turned_left, turned_right, accumulator, multiplied, needs_upper_half, condition, goes_round}
+use Rattle.dcc_lift.specs.Expressions.{word_of, operand_expr, left, right, result, product, at_width, number, bit, flag, negated, is_zero, sign, below_sign, lowest, sum, sum_and_carry, carry_out, carry_out_of_both, sum_overflow, difference, difference_and_borrow, borrow_out, borrow_out_of_both, difference_overflow, difference_overflow_of_both, count_expr, unless_zero, if_one, shifted, nearly_shifted, rotated_left, rotated_right, turned_left, turned_right, accumulator, multiplied, needs_upper_half, condition, goes_round}
 
 -- Pieces.
 
@@ -107,12 +111,21 @@ abbrev pub product_storing : Width → List Stmt
 product_storing byte_width = word_taking Ax 0 (product byte_width)
 product_storing word_width = word_taking Ax 0 (product word_width) ++ word_taking Dx 16 (product word_width)
 
+-- what a multiplication does to the product and the flags
+abbrev pub product_working : Width → Bool → List Stmt
+product_working w signed =
+    Set (product_place w) (multiplied w signed)
+    ∷ (flags_taking (needs_upper_half w signed) (bit 0) (bit 0) ++ carry_taking (needs_upper_half w signed))
+
 abbrev pub multiplying : Width → Bool → Operand → List Stmt
 multiplying w signed a =
-    taking w (accumulator w) (operand_expr a)
-    ++ (Set (product_place w) (multiplied w signed)
-    ∷ (flags_taking (needs_upper_half w signed) (bit 0) (bit 0)
-    ++ (carry_taking (needs_upper_half w signed) ++ product_storing w)))
+    taking w (accumulator w) (operand_expr a) ++ (product_working w signed ++ product_storing w)
+
+-- the register takes the lower word of the signed product of an operand and a constant
+abbrev pub triple_product : Reg → Operand → ℕ → List Stmt
+triple_product r a constant =
+    taking word_width (operand_expr a) (number word_width constant)
+    ++ (product_working word_width true ++ word_taking r 0 (product word_width))
 
 abbrev pub unary_stmts : Unary → Width → Operand → List Stmt
 unary_stmts Inc w a =
@@ -128,50 +141,59 @@ unary_stmts operation w a = []
 -- Shifts and rotates.
 
 -- the flags of a shift
-abbrev pub shift_flags : Width → Bool → Expr → Expr → List Stmt
-shift_flags w by_cl overflow carry =
+abbrev pub shift_flags : Width → Count → Expr → Expr → List Stmt
+shift_flags w count overflow carry =
     flags_taking
-    (unless_zero w by_cl Of overflow)
-    (unless_zero w by_cl Sf (sign w (result w)))
-    (unless_zero w by_cl Zf (is_zero w (result w)))
-    ++ carry_taking (unless_zero w by_cl Cf carry)
+    (unless_zero w count Of overflow)
+    (unless_zero w count Sf (sign w (result w)))
+    (unless_zero w count Zf (is_zero w (result w)))
+    ++ carry_taking (unless_zero w count Cf carry)
 
 -- those of a rotate
-abbrev pub rotate_flags : Width → Bool → Expr → Expr → List Stmt
-rotate_flags w by_cl overflow carry =
-    Set (Flag Of) (unless_zero w by_cl Of overflow) ∷ carry_taking (unless_zero w by_cl Cf carry)
+abbrev pub rotate_flags : Width → Count → Expr → Expr → List Stmt
+rotate_flags w count overflow carry =
+    Set (Flag Of) (unless_zero w count Of overflow) ∷ carry_taking (unless_zero w count Cf carry)
 
-abbrev pub shift_working : Shift → Width → Bool → List Stmt
-shift_working Shl w by_cl =
+abbrev pub shift_working : Shift → Width → Count → List Stmt
+shift_working Shl w count =
     result_taking w (shifted ShlOp w)
-    ++ shift_flags w by_cl
-    (if_one w by_cl (Binary XorOp 1 (sign w (nearly_shifted ShlOp w)) (sign w (result w))))
+    ++ shift_flags w count
+    (if_one w count (Binary XorOp 1 (sign w (nearly_shifted ShlOp w)) (sign w (result w))))
     (sign w (nearly_shifted ShlOp w))
-shift_working Shr w by_cl =
+shift_working Shr w count =
     result_taking w (shifted ShrOp w)
-    ++ shift_flags w by_cl (if_one w by_cl (sign w (left w))) (lowest (nearly_shifted ShrOp w))
-shift_working Sar w by_cl =
-    result_taking w (shifted SarOp w) ++ shift_flags w by_cl (bit 0) (lowest (nearly_shifted SarOp w))
-shift_working Rol w by_cl =
+    ++ shift_flags w count (if_one w count (sign w (left w))) (lowest (nearly_shifted ShrOp w))
+shift_working Sar w count =
+    result_taking w (shifted SarOp w) ++ shift_flags w count (bit 0) (lowest (nearly_shifted SarOp w))
+shift_working Rol w count =
     result_taking w (rotated_left w)
-    ++ rotate_flags w by_cl
-    (if_one w by_cl (Binary XorOp 1 (lowest (result w)) (sign w (result w))))
+    ++ rotate_flags w count
+    (if_one w count (Binary XorOp 1 (lowest (result w)) (sign w (result w))))
     (lowest (result w))
-shift_working Ror w by_cl =
+shift_working Ror w count =
     result_taking w (rotated_right w)
-    ++ rotate_flags w by_cl
-    (if_one w by_cl (Binary XorOp 1 (sign w (result w)) (below_sign w (result w))))
+    ++ rotate_flags w count
+    (if_one w count (Binary XorOp 1 (sign w (result w)) (below_sign w (result w))))
     (sign w (result w))
-shift_working Rcl w by_cl =
+shift_working Rcl w count =
     result_taking w (turned_left w)
-    ++ rotate_flags w false (Binary XorOp 1 (sign w (left w)) (sign w (result w))) (sign w (left w))
-shift_working Rcr w by_cl =
+    ++ rotate_flags w One (Binary XorOp 1 (sign w (left w)) (sign w (result w))) (sign w (left w))
+shift_working Rcr w count =
     result_taking w (turned_right w)
-    ++ rotate_flags w false (Binary XorOp 1 (sign w (result w)) (below_sign w (result w))) (lowest (left w))
+    ++ rotate_flags w One (Binary XorOp 1 (sign w (result w)) (below_sign w (result w))) (lowest (left w))
 
-abbrev pub shift_stmts : Shift → Width → Operand → Bool → List Stmt
-shift_stmts operation w a by_cl =
-    taking w (operand_expr a) (count w by_cl) ++ (shift_working operation w by_cl ++ storing a)
+-- an operand takes its own value, and the flags stay
+abbrev pub staying : Width → Operand → List Stmt
+staying w a = result_taking w (operand_expr a) ++ storing a
+
+abbrev pub shifting : Cpu → Shift → Width → Operand → Count → List Stmt
+shifting cpu operation w a count =
+    taking w (operand_expr a) (count_expr cpu w count) ++ (shift_working operation w count ++ storing a)
+
+-- by a constant that is 0 modulo 32 nothing is shifted
+abbrev pub shift_stmts : Cpu → Shift → Width → Operand → Count → List Stmt
+shift_stmts cpu operation w a count =
+    if never_shifts count then staying w a else shifting cpu operation w a count
 
 -- Moves. They go half by half.
 
@@ -218,18 +240,19 @@ dos_stmts (Some number) =
     else []
 
 -- All operations that are built; INT 21h has the number of its call.
-abbrev pub op_stmts : Op → Option ℕ → List Stmt
-op_stmts (AluOp operation a b) number = alu_stmts operation a b
-op_stmts (UnaryOp operation a) number = unary_stmts operation (operand_width a) a
-op_stmts (ShiftOp operation a by_cl) number = shift_stmts operation (operand_width a) a by_cl
-op_stmts (Mov to from) number = mov_stmts to from
-op_stmts (Xchg a b) number = xchg_stmts a b
-op_stmts (PlainOp operation) number = plain_stmts operation
-op_stmts (Loop target) number = counting
-op_stmts (LoopE target) number = counting
-op_stmts (LoopNe target) number = counting
-op_stmts Int21 number = dos_stmts number
-op_stmts op number = []
+abbrev pub op_stmts : Cpu → Op → Option ℕ → List Stmt
+op_stmts cpu (AluOp operation a b) number = alu_stmts operation a b
+op_stmts cpu (UnaryOp operation a) number = unary_stmts operation (operand_width a) a
+op_stmts cpu (ShiftOp operation a count) number = shift_stmts cpu operation (operand_width a) a count
+op_stmts cpu (Mov to from) number = mov_stmts to from
+op_stmts cpu (Xchg a b) number = xchg_stmts a b
+op_stmts cpu (Imul3 r a constant) number = triple_product r a constant
+op_stmts cpu (PlainOp operation) number = plain_stmts operation
+op_stmts cpu (Loop target) number = counting
+op_stmts cpu (LoopE target) number = counting
+op_stmts cpu (LoopNe target) number = counting
+op_stmts cpu Int21 number = dos_stmts number
+op_stmts cpu op number = []
 
 -- Ends.
 

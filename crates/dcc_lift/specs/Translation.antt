@@ -50,7 +50,7 @@ data_image image layout = take 65536 (drop ((layout.ds - load_segment) * 16) ima
 -- the program that stands for the procedure
 pub record IsTranslation (image : Image) (layout : Layout) (start : Proc) (p : Program) : Type 0 where
   pub blocks : List Block
-  pub blocks_are : AreBlocksAt start.nodes.entries layout.start_ip (leaders start.nodes.entries layout.start_ip) blocks
+  pub blocks_are : AreBlocksAt layout.cpu start.nodes.entries layout.start_ip (leaders start.nodes.entries layout.start_ip) blocks
   pub program_is : p ≡ record {
     graphs = record {
       entry = layout.start_ip;

@@ -6,7 +6,7 @@ ghost use Rattle.dcc_lift.specs.Blocks as spec;
 ghost use Rattle.dcc_lift.specs.Known.{nodes_of, KnowsEdges};
 
 use crate::edges::{Incoming, edges_of};
-use dcc_prog::Node;
+use dcc_prog::{Cpu, Node};
 use indexmap::IndexMap;
 use std::alloc::{AllocError, Global};
 
@@ -14,6 +14,8 @@ use std::alloc::{AllocError, Global};
 #[derive(Drop)]
 pub struct Instructions<'a> {
     pub nodes: &'a IndexMap<u16, Node>,
+    /// The processor that runs it.
+    pub cpu: Cpu,
     /// The offset at which the procedure begins.
     pub start: u16,
     /// By offset.
@@ -25,15 +27,18 @@ impl<'a> Instructions<'a> {
     pub fn new(
         alloc: Global,
         nodes: &'a IndexMap<u16, Node>,
+        cpu: Cpu,
         start: u16,
     ) -> Result<Instructions<'a>, AllocError>
         ensures nodes { IfOk result (λ instructions. nodes_of instructions ≡ nodes.entry.now.entries) }
+        ensures cpu { IfOk result (λ instructions. instructions.cpu ≡ cpu) }
         ensures start { IfOk result (λ instructions. instructions.start ≡ start) }
         ensures edges { IfOk result KnowsEdges }
     {
         let incoming = edges_of(alloc, nodes)?;
         Ok(Instructions {
             nodes,
+            cpu,
             start,
             incoming,
         })

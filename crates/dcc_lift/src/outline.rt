@@ -96,10 +96,10 @@ impl<'a> Outline<'a> {
     // Writes the statements of the instruction at an offset.
     fn write(&self, writer: &mut Writer, at: u16) -> Result<(), AllocError>
         ensures { OnOk result (written writer.new
-            ≡ written writer.old ++ spec.stmts_at (nodes_of self.now.instructions) at) }
+            ≡ written writer.old ++ spec.stmts_at self.now.instructions.cpu (nodes_of self.now.instructions) at) }
     {
         match self.instructions.at(at) {
-            Some(node) => writer.operation(node.instr.op, node.number),
+            Some(node) => writer.operation(self.instructions.cpu, node.instr.op, node.number),
             None => Ok(()),
         }
     }
@@ -108,7 +108,8 @@ impl<'a> Outline<'a> {
     fn block(&self, alloc: Global, at: u16) -> Result<Block, AllocError>
         requires { KnowsLeaders self.now }
         ensures { IfOk result (λ block.
-            IsBlockAt (nodes_of self.now.instructions) self.now.instructions.start at (block_of block)) }
+            IsBlockAt self.now.instructions.cpu
+            (nodes_of self.now.instructions) self.now.instructions.start at (block_of block)) }
     {
         let mut writer = Writer::new(alloc);
         self.write(&mut writer, at)?;
@@ -129,7 +130,7 @@ impl<'a> Outline<'a> {
     pub fn blocks(&self, alloc: Global) -> Result<Vec<Block>, AllocError>
         requires { KnowsLeaders self.now }
         ensures { IfOk result (λ blocks.
-            AreBlocksAt (nodes_of self.now.instructions) self.now.instructions.start
+            AreBlocksAt self.now.instructions.cpu (nodes_of self.now.instructions) self.now.instructions.start
             self.now.leaders.items (map block_of blocks.items)) }
     {
         let mut blocks = Vec::new(alloc);

@@ -80,15 +80,33 @@ impl Writer {
         self.take_flags(overflow, bit(false), bit(false))
     }
 
+    // The product of the factors, and its flags.
+    fn product_working(&mut self, w: Width, signed: bool) -> Result<(), AllocError>
+        ensures { OnOk result (written self.new ≡ written self.old ++ spec.product_working w signed) }
+    {
+        let maker = self.maker(w);
+        self.set(product_place(w), maker.multiplied(signed)?)?;
+        self.take_product_flags(w, signed)?;
+        self.take_carry(maker.needs_upper_half(signed)?)
+    }
+
     /// MUL, or IMUL where the numbers are signed.
     pub fn multiply(&mut self, w: Width, signed: bool, a: Operand) -> Result<(), AllocError>
         ensures { OnOk result (written self.new ≡ written self.old ++ spec.multiplying w signed a) }
     {
-        let maker = self.maker(w);
         self.take_factors(w, a)?;
-        self.set(product_place(w), maker.multiplied(signed)?)?;
-        self.take_product_flags(w, signed)?;
-        self.take_carry(maker.needs_upper_half(signed)?)?;
+        self.product_working(w, signed)?;
         self.store_product(w)
+    }
+
+    /// IMUL of three operands: the register takes the lower word of the product.
+    pub fn triple_product(&mut self, r: Reg, a: Operand, constant: u16) -> Result<(), AllocError>
+        ensures { OnOk result (written self.new ≡ written self.old ++ spec.triple_product r a constant) }
+    {
+        let w = Width::Word;
+        let maker = self.maker(w);
+        self.take_operands(w, maker.operand(a)?, maker.number(u32::from(constant)))?;
+        self.product_working(w, true)?;
+        self.take_word(r, 0, product_place(w))
     }
 }

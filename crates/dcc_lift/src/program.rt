@@ -5,6 +5,7 @@ ghost use Rattle.dcc_prog.specs.MzImage.{IsLoaded};
 ghost use Rattle.dcc_prog.specs.Layout.{HasLayout};
 ghost use Rattle.dcc_prog.specs.declared.procedure.Proc.{Proc};
 ghost use Rattle.dcc_prog.specs.Found.{IsFound, AreFound};
+ghost use Rattle.dcc_prog.specs.Built.{IsBuilt};
 ghost use Rattle.dcc_ir.specs.Views.{block_of, graph_of, program_of};
 ghost use Rattle.dcc_ir.specs.Tree as tree;
 ghost use Rattle.dcc_lift.specs.Translation as spec;
@@ -92,7 +93,7 @@ fn graph(alloc: Global, image: &Image, layout: &Layout, start: &Proc) -> Result<
     requires { IsFound image.now layout.now start.now }
     ensures { IfOk result (λ graph. IsGraphOf image.now layout.now start.now.nodes.entries (graph_of graph)) }
 {
-    let instructions = Instructions::new(alloc, &start.nodes, layout.start_ip)?;
+    let instructions = Instructions::new(alloc, &start.nodes, layout.cpu, layout.start_ip)?;
     let outline = Outline::new(alloc, instructions)?;
     let mut blocks = outline.blocks(alloc)?;
     let first = prelude_block(alloc, image, layout, &outline)?;
@@ -147,7 +148,8 @@ fn translate(
 /// the flags and seven temporaries, and the image's data segment. Its run visits its blocks as the machine comes to
 /// their places, with the same events at the console and the same end, as long as that one is clean.
 ///
-/// The procedures are those that the search gives for the image and its layout.
+/// The procedures are those that the search gives for the image and its layout, and each instruction that is reached is
+/// built; so there is one procedure.
 pub fn lift(
     alloc: Global,
     image: &Image,
@@ -157,6 +159,7 @@ pub fn lift(
     requires loaded { IsLoaded image.now }
     requires layout { HasLayout image.now layout.now }
     requires found { AreFound image.now layout.now procs.now.items }
+    requires built { IsBuilt image.now layout.now }
     ensures lifted { IfOk result (λ program. IsLiftOf image.now layout.now procs.now.items (program_of program)) }
 {
     translate(alloc, image, layout, procs)

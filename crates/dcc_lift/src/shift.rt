@@ -1,7 +1,8 @@
 //! Shifts and rotates. The right operand is the count.
 
-ghost use Rattle.std.specs.Prelude.{◌≡◌, ◌++◌, [], ◌∷◌, false, OnOk, IfOk};
+ghost use Rattle.std.specs.Prelude.{◌≡◌, ◌++◌, [], ◌∷◌, OnOk, IfOk};
 ghost use Rattle.dcc_prog.specs.Machine as machine;
+ghost use Rattle.dcc_prog.specs.Writes as writes;
 ghost use Rattle.dcc_ir.specs.Views.{expr_of};
 ghost use Rattle.dcc_ir.specs.Tree as tree;
 ghost use Rattle.dcc_lift.specs.Expressions as expressions;
@@ -12,8 +13,18 @@ use crate::expression::{Maker, bit, flag, half};
 use crate::writer::Writer;
 use dcc_ir::{BinOp, Expr, Loc};
 use dcc_num::{FlagName, Half, Reg, Width};
-use dcc_prog::{Operand, Shift};
+use dcc_prog::{Count, Cpu, Operand, Shift};
 use std::alloc::AllocError;
+
+// By a constant that is 0 modulo 32 nothing is shifted.
+fn never_shifts(count: Count) -> bool
+    ensures { result ≡ writes.never_shifts count }
+{
+    match count {
+        Count::Const(number) => number % 32 == 0,
+        Count::One | Count::Cl => false,
+    }
+}
 
 impl Maker {
     // CL as a number of the width.
@@ -27,34 +38,50 @@ impl Maker {
         }
     }
 
-    // The count: CL or 1.
-    fn count(self, by_cl: bool) -> Result<Expr, AllocError>
-        ensures { IfOk result (λ e. expr_of e ≡ expressions.count self.w by_cl) }
+    // CL as the processor takes it: the 80186 by its five lowest bits.
+    fn taken_cl(self, cpu: Cpu) -> Result<Expr, AllocError>
+        ensures { IfOk result (λ e. expr_of e ≡ expressions.taken_cl cpu self.w) }
     {
-        if by_cl { self.cl() } else { Ok(self.number(1)) }
+        match cpu {
+            Cpu::I8086 => self.cl(),
+            Cpu::I186 => self.at_width(BinOp::And, self.cl()?, self.number(31)),
+        }
+    }
+
+    // The count.
+    fn count(self, cpu: Cpu, count: Count) -> Result<Expr, AllocError>
+        ensures { IfOk result (λ e. expr_of e ≡ expressions.count_expr cpu self.w count) }
+    {
+        match count {
+            Count::One => Ok(self.number(1)),
+            Count::Cl => self.taken_cl(cpu),
+            Count::Const(number) => Ok(self.number(u32::from(number % 32))),
+        }
     }
 
     // A flag, which stays where the count is in CL and 0.
-    fn unless_zero(self, by_cl: bool, f: FlagName, e: Expr) -> Result<Expr, AllocError>
-        ensures { IfOk result (λ set. expr_of set ≡ expressions.unless_zero self.w by_cl f (expr_of e)) }
+    fn unless_zero(self, count: Count, f: FlagName, e: Expr) -> Result<Expr, AllocError>
+        ensures { IfOk result (λ set. expr_of set ≡ expressions.unless_zero self.w count f (expr_of e)) }
     {
-        if by_cl {
-            let stays = self.is_zero(self.right())?;
-            self.choose(stays, flag(f), e)
-        } else {
-            Ok(e)
+        match count {
+            Count::Cl => {
+                let stays = self.is_zero(self.right())?;
+                self.choose(stays, flag(f), e)
+            }
+            Count::One | Count::Const(_) => Ok(e),
         }
     }
 
     // A bit for a count of 1; for others it is 0.
-    fn if_one(self, by_cl: bool, e: Expr) -> Result<Expr, AllocError>
-        ensures { IfOk result (λ bit. expr_of bit ≡ expressions.if_one self.w by_cl (expr_of e)) }
+    fn if_one(self, count: Count, e: Expr) -> Result<Expr, AllocError>
+        ensures { IfOk result (λ bit. expr_of bit ≡ expressions.if_one self.w count (expr_of e)) }
     {
-        if by_cl {
-            let one = self.at_width(BinOp::Eq, self.right(), self.number(1))?;
-            self.binary(BinOp::And, 1, one, e)
-        } else {
-            Ok(e)
+        match count {
+            Count::One => Ok(e),
+            Count::Cl | Count::Const(_) => {
+                let one = self.at_width(BinOp::Eq, self.right(), self.number(1))?;
+                self.binary(BinOp::And, 1, one, e)
+            }
         }
     }
 
@@ -165,14 +192,14 @@ impl Writer {
     fn take_shift_flag(
         &mut self,
         w: Width,
-        by_cl: bool,
+        count: Count,
         f: FlagName,
         e: Expr,
     ) -> Result<(), AllocError>
         ensures { OnOk result (written self.new
-            ≡ written self.old ++ tree.Set (Loc.Flag f) (expressions.unless_zero w by_cl f (expr_of e)) ∷ []) }
+            ≡ written self.old ++ tree.Set (Loc.Flag f) (expressions.unless_zero w count f (expr_of e)) ∷ []) }
     {
-        let set = self.maker(w).unless_zero(by_cl, f, e)?;
+        let set = self.maker(w).unless_zero(count, f, e)?;
         self.set(Loc::Flag(f), set)
     }
 
@@ -180,136 +207,153 @@ impl Writer {
     fn shift_flags(
         &mut self,
         w: Width,
-        by_cl: bool,
+        count: Count,
         overflow: Expr,
         carry: Expr,
     ) -> Result<(), AllocError>
         ensures { OnOk result (written self.new
-            ≡ written self.old ++ spec.shift_flags w by_cl (expr_of overflow) (expr_of carry)) }
+            ≡ written self.old ++ spec.shift_flags w count (expr_of overflow) (expr_of carry)) }
     {
         let maker = self.maker(w);
-        self.take_shift_flag(w, by_cl, FlagName::Of, overflow)?;
-        self.take_shift_flag(w, by_cl, FlagName::Sf, maker.sign(maker.result())?)?;
-        self.take_shift_flag(w, by_cl, FlagName::Zf, maker.is_zero(maker.result())?)?;
-        self.take_shift_flag(w, by_cl, FlagName::Cf, carry)
+        self.take_shift_flag(w, count, FlagName::Of, overflow)?;
+        self.take_shift_flag(w, count, FlagName::Sf, maker.sign(maker.result())?)?;
+        self.take_shift_flag(w, count, FlagName::Zf, maker.is_zero(maker.result())?)?;
+        self.take_shift_flag(w, count, FlagName::Cf, carry)
     }
 
     // Those of a rotate.
     fn rotate_flags(
         &mut self,
         w: Width,
-        by_cl: bool,
+        count: Count,
         overflow: Expr,
         carry: Expr,
     ) -> Result<(), AllocError>
         ensures { OnOk result (written self.new
-            ≡ written self.old ++ spec.rotate_flags w by_cl (expr_of overflow) (expr_of carry)) }
+            ≡ written self.old ++ spec.rotate_flags w count (expr_of overflow) (expr_of carry)) }
     {
-        self.take_shift_flag(w, by_cl, FlagName::Of, overflow)?;
-        self.take_shift_flag(w, by_cl, FlagName::Cf, carry)
+        self.take_shift_flag(w, count, FlagName::Of, overflow)?;
+        self.take_shift_flag(w, count, FlagName::Cf, carry)
     }
 
     // SHL.
-    fn shl(&mut self, w: Width, by_cl: bool) -> Result<(), AllocError>
-        ensures { OnOk result (written self.new ≡ written self.old ++ spec.shift_working Shift.Shl w by_cl) }
+    fn shl(&mut self, w: Width, count: Count) -> Result<(), AllocError>
+        ensures { OnOk result (written self.new ≡ written self.old ++ spec.shift_working Shift.Shl w count) }
     {
         let maker = self.maker(w);
         self.take_result(w, maker.combined(BinOp::Shl)?)?;
         let differ = maker.differs_from_sign(maker.out_at_top()?)?;
-        let overflow = maker.if_one(by_cl, differ)?;
-        self.shift_flags(w, by_cl, overflow, maker.out_at_top()?)
+        let overflow = maker.if_one(count, differ)?;
+        self.shift_flags(w, count, overflow, maker.out_at_top()?)
     }
 
     // SHR.
-    fn shr(&mut self, w: Width, by_cl: bool) -> Result<(), AllocError>
-        ensures { OnOk result (written self.new ≡ written self.old ++ spec.shift_working Shift.Shr w by_cl) }
+    fn shr(&mut self, w: Width, count: Count) -> Result<(), AllocError>
+        ensures { OnOk result (written self.new ≡ written self.old ++ spec.shift_working Shift.Shr w count) }
     {
         let maker = self.maker(w);
         self.take_result(w, maker.combined(BinOp::Shr)?)?;
-        let overflow = maker.if_one(by_cl, maker.sign(maker.left())?)?;
+        let overflow = maker.if_one(count, maker.sign(maker.left())?)?;
         let carry = maker.lowest(maker.nearly_shifted(BinOp::Shr)?)?;
-        self.shift_flags(w, by_cl, overflow, carry)
+        self.shift_flags(w, count, overflow, carry)
     }
 
     // SAR.
-    fn sar(&mut self, w: Width, by_cl: bool) -> Result<(), AllocError>
-        ensures { OnOk result (written self.new ≡ written self.old ++ spec.shift_working Shift.Sar w by_cl) }
+    fn sar(&mut self, w: Width, count: Count) -> Result<(), AllocError>
+        ensures { OnOk result (written self.new ≡ written self.old ++ spec.shift_working Shift.Sar w count) }
     {
         let maker = self.maker(w);
         self.take_result(w, maker.combined(BinOp::Sar)?)?;
         let carry = maker.lowest(maker.nearly_shifted(BinOp::Sar)?)?;
-        self.shift_flags(w, by_cl, bit(false), carry)
+        self.shift_flags(w, count, bit(false), carry)
     }
 
     // ROL.
-    fn rol(&mut self, w: Width, by_cl: bool) -> Result<(), AllocError>
-        ensures { OnOk result (written self.new ≡ written self.old ++ spec.shift_working Shift.Rol w by_cl) }
+    fn rol(&mut self, w: Width, count: Count) -> Result<(), AllocError>
+        ensures { OnOk result (written self.new ≡ written self.old ++ spec.shift_working Shift.Rol w count) }
     {
         let maker = self.maker(w);
         self.take_result(w, maker.rotated_left()?)?;
         let differ = maker.differs_from_sign(maker.lowest(maker.result())?)?;
-        let overflow = maker.if_one(by_cl, differ)?;
+        let overflow = maker.if_one(count, differ)?;
         let carry = maker.lowest(maker.result())?;
-        self.rotate_flags(w, by_cl, overflow, carry)
+        self.rotate_flags(w, count, overflow, carry)
     }
 
     // ROR.
-    fn ror(&mut self, w: Width, by_cl: bool) -> Result<(), AllocError>
-        ensures { OnOk result (written self.new ≡ written self.old ++ spec.shift_working Shift.Ror w by_cl) }
+    fn ror(&mut self, w: Width, count: Count) -> Result<(), AllocError>
+        ensures { OnOk result (written self.new ≡ written self.old ++ spec.shift_working Shift.Ror w count) }
     {
         let maker = self.maker(w);
         self.take_result(w, maker.rotated_right()?)?;
-        let overflow = maker.if_one(by_cl, maker.top_bits_differ()?)?;
+        let overflow = maker.if_one(count, maker.top_bits_differ()?)?;
         let carry = maker.sign(maker.result())?;
-        self.rotate_flags(w, by_cl, overflow, carry)
+        self.rotate_flags(w, count, overflow, carry)
     }
 
     // RCL, by one place alone.
     fn rcl(&mut self, w: Width) -> Result<(), AllocError>
-        ensures { OnOk result (written self.new ≡ written self.old ++ spec.shift_working Shift.Rcl w false) }
+        ensures { OnOk result (written self.new ≡ written self.old ++ spec.shift_working Shift.Rcl w Count.One) }
     {
         let maker = self.maker(w);
         self.take_result(w, maker.turned_left()?)?;
         let overflow = maker.differs_from_sign(maker.sign(maker.left())?)?;
         let carry = maker.sign(maker.left())?;
-        self.rotate_flags(w, false, overflow, carry)
+        self.rotate_flags(w, Count::One, overflow, carry)
     }
 
     // RCR, by one place alone.
     fn rcr(&mut self, w: Width) -> Result<(), AllocError>
-        ensures { OnOk result (written self.new ≡ written self.old ++ spec.shift_working Shift.Rcr w false) }
+        ensures { OnOk result (written self.new ≡ written self.old ++ spec.shift_working Shift.Rcr w Count.One) }
     {
         let maker = self.maker(w);
         self.take_result(w, maker.turned_right()?)?;
         let overflow = maker.top_bits_differ()?;
         let carry = maker.lowest(maker.left())?;
-        self.rotate_flags(w, false, overflow, carry)
+        self.rotate_flags(w, Count::One, overflow, carry)
     }
 
     // What a shift or rotate does to the result and the flags.
-    fn shift_working(&mut self, operation: Shift, w: Width, by_cl: bool) -> Result<(), AllocError>
-        ensures { OnOk result (written self.new ≡ written self.old ++ spec.shift_working operation w by_cl) }
+    fn shift_working(&mut self, operation: Shift, w: Width, count: Count) -> Result<(), AllocError>
+        ensures { OnOk result (written self.new ≡ written self.old ++ spec.shift_working operation w count) }
     {
         match operation {
-            Shift::Shl => self.shl(w, by_cl),
-            Shift::Shr => self.shr(w, by_cl),
-            Shift::Sar => self.sar(w, by_cl),
-            Shift::Rol => self.rol(w, by_cl),
-            Shift::Ror => self.ror(w, by_cl),
+            Shift::Shl => self.shl(w, count),
+            Shift::Shr => self.shr(w, count),
+            Shift::Sar => self.sar(w, count),
+            Shift::Rol => self.rol(w, count),
+            Shift::Ror => self.ror(w, count),
             Shift::Rcl => self.rcl(w),
             Shift::Rcr => self.rcr(w),
         }
     }
 
-    /// A shift or rotate.
-    pub fn shift(&mut self, operation: Shift, a: Operand, by_cl: bool) -> Result<(), AllocError>
+    // An operand takes its own value.
+    fn stay(&mut self, w: Width, a: Operand) -> Result<(), AllocError>
+        ensures { OnOk result (written self.new ≡ written self.old ++ spec.staying w a) }
+    {
+        self.take_result(w, self.maker(w).operand(a)?)?;
+        self.store(a)
+    }
+
+    /// A shift or rotate on a processor.
+    pub fn shift(
+        &mut self,
+        cpu: Cpu,
+        operation: Shift,
+        a: Operand,
+        count: Count,
+    ) -> Result<(), AllocError>
         ensures { OnOk result (written self.new
-            ≡ written self.old ++ spec.shift_stmts operation (machine.operand_width a) a by_cl) }
+            ≡ written self.old ++ spec.shift_stmts cpu operation (machine.operand_width a) a count) }
     {
         let w = a.width();
+        if never_shifts(count) {
+            return self.stay(w, a);
+        }
         let maker = self.maker(w);
-        self.take_operands(w, maker.operand(a)?, maker.count(by_cl)?)?;
-        self.shift_working(operation, w, by_cl)?;
+        self.take_operands(w, maker.operand(a)?, maker.count(cpu, count)?)?;
+        self.shift_working(operation, w, count)?;
         self.store(a)
     }
 }

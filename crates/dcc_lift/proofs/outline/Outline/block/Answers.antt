@@ -7,11 +7,11 @@ use Rattle.dcc_lift.proofs.outline.Outline.block.Goals as goal
 
 pub loop-next-preserved : goal.loop-next-preserved
 loop-next-preserved c =
-    begun-more (nodes_of c.args.self.now.instructions) c.args.self.now.instructions.start c.args.at c.loop-next.last c.in-Some.next
+    begun-more c.args.self.now.instructions.cpu (nodes_of c.args.self.now.instructions) c.args.self.now.instructions.start c.args.at c.loop-next.last c.in-Some.next
     (written c.loop-next.writer) (written c.write-in-Some.new.writer) c.loop-next.invariant (sym c.in-Some.ensures.onward) c.in_ok-write-2.ensures
 
 pub returns : goal.returns
 returns c =
-    begun-all (nodes_of c.args.self.now.instructions) c.args.self.now.instructions.start c.args.at c.loop-next.last (written c.loop-next.writer)
+    begun-all c.args.self.now.instructions.cpu (nodes_of c.args.self.now.instructions) c.args.self.now.instructions.start c.args.at c.loop-next.last (written c.loop-next.writer)
     (block_of (record { at = c.args.at; stmts = c.loop-next.writer.stmts; end = c.in_ok-end.end })) c.loop-next.invariant
     (sym c.onward.ensures.onward ∙ c.in_default.is) refl refl c.in_ok-end.ensures

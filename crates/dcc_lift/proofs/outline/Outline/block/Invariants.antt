@@ -6,7 +6,7 @@ use Rattle.dcc_lift.proofs.BegunLaws.{IsBegun}
 use Rattle.dcc_lift.proofs.outline.Outline.block.Given as goal
 
 abbrev pub invariant-loop-next : goal.invariant-loop-next
-invariant-loop-next l = IsBegun (nodes_of l.self.instructions) l.self.instructions.start l.at l.last (written l.writer)
+invariant-loop-next l = IsBegun l.self.instructions.cpu (nodes_of l.self.instructions) l.self.instructions.start l.at l.last (written l.writer)
 
 abbrev pub decreases-loop-next : goal.decreases-loop-next
 decreases-loop-next l = 65536 - l.last

@@ -7,4 +7,4 @@ use Rattle.dcc_lift.proofs.outline.Outline.blocks.Given as goal
 
 abbrev pub invariant-loop-at : goal.invariant-loop-at
 invariant-loop-at l =
-    AreBlocksAt (nodes_of l.self.instructions) l.self.instructions.start (take l.at-index l.self.leaders.items) (map block_of l.blocks.items)
+    AreBlocksAt l.self.instructions.cpu (nodes_of l.self.instructions) l.self.instructions.start (take l.at-index l.self.leaders.items) (map block_of l.blocks.items)
