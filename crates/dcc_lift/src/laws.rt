@@ -3,7 +3,7 @@
 
 ghost use Rattle.dcc_lift.specs.Laws.{FlowIsOfTrails};
 
-/// The flow graph of the procedure that is found is that of its trails: it has their nodes and
+/// The flow graph of each procedure that is found is that of its trails: it has their nodes and
 /// their edges, and no others.
 pub fn flow_is_of_trails()
     ensures { FlowIsOfTrails }
