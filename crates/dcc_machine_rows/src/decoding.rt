@@ -1,18 +1,33 @@
-//! Encodings with the instructions that an independent decoder of the 8086 gives for them.
+//! Encodings with the instructions that an independent decoder of both processors gives for them.
 
 use dcc_decode::decode;
 use dcc_num::Half::{High, Low};
 use dcc_num::Reg::{Ax, Bp, Bx, Cx, Di, Dx, Si, Sp};
 use dcc_num::{Reg, Width};
 use dcc_prog::Operand::{Byte, Seg, Word};
-use dcc_prog::{Alu, Cond, Ea, Instr, Op, Operand, Plain, Shift, Unary};
+use dcc_prog::{Alu, Cond, Count, Cpu, Ea, Instr, Op, Operand, Plain, Shift, Unary};
 
-// Whether all of the bytes are an instruction with this operation.
-fn decodes(code: &[u8], op: Op) -> bool {
-    match decode(code, 0) {
+// Whether all of the bytes are an instruction of the processor with this operation.
+fn decodes_on(cpu: Cpu, code: &[u8], op: Op) -> bool {
+    match decode(code, 0, cpu) {
         Some(instr) => instr.op == op && usize::from(instr.len) == code.len(),
         None => false,
     }
+}
+
+// Whether they are that on both processors.
+fn decodes(code: &[u8], op: Op) -> bool {
+    decodes_on(Cpu::I8086, code, op) && decodes_on(Cpu::I186, code, op)
+}
+
+// Whether they are that on the 80186, and no instruction of the 8086.
+fn decodes_later(code: &[u8], op: Op) -> bool {
+    decodes_on(Cpu::I186, code, op) && decode(code, 0, Cpu::I8086).is_none()
+}
+
+// Whether they are an instruction of neither processor.
+fn is_none(code: &[u8]) -> bool {
+    decode(code, 0, Cpu::I8086).is_none() && decode(code, 0, Cpu::I186).is_none()
 }
 
 fn byte(value: u16) -> Operand {
@@ -95,13 +110,18 @@ fn groups_go_by_the_reg_field(rt: HostRuntime) {
             Op::Unary(Unary::Dec, word_at(None, None, 0x10))
         )
     );
-    assert!(rt; decodes(b"\xd0\xe1", Op::Shift(Shift::Shl, Byte(Cx, Low), false)));
-    assert!(rt; decodes(b"\xd1\xd8", Op::Shift(Shift::Rcr, Word(Ax), false)));
-    assert!(rt; decodes(b"\xd3\xe0", Op::Shift(Shift::Shl, Word(Ax), true)));
+    assert!(rt;
+        decodes(
+            b"\xd0\xe1",
+            Op::Shift(Shift::Shl, Byte(Cx, Low), Count::One)
+        )
+    );
+    assert!(rt; decodes(b"\xd1\xd8", Op::Shift(Shift::Rcr, Word(Ax), Count::One)));
+    assert!(rt; decodes(b"\xd3\xe0", Op::Shift(Shift::Shl, Word(Ax), Count::Cl)));
     assert!(rt;
         decodes(
             b"\xd2\xbe\x00\x01",
-            Op::Shift(Shift::Sar, byte_at(Some(Bp), None, 0x100), true)
+            Op::Shift(Shift::Sar, byte_at(Some(Bp), None, 0x100), Count::Cl)
         )
     );
 }
@@ -184,48 +204,80 @@ fn targets_are_counted_from_the_next_instruction(rt: HostRuntime) {
 }
 
 #[test]
+fn the_80186_has_more_instructions(rt: HostRuntime) {
+    assert!(rt; decodes_later(b"\x68\x34\x12", Op::Push(word(0x1234))));
+    assert!(rt; decodes_later(b"\x6a\xfe", Op::Push(word(0xfffe))));
+    assert!(rt; decodes_later(b"\x69\xc3\x34\x12", Op::Imul3(Ax, Word(Bx), 0x1234)));
+    assert!(rt; decodes_later(b"\x6b\xc3\x06", Op::Imul3(Ax, Word(Bx), 6)));
+    assert!(rt;
+        decodes_later(
+            b"\x6b\x06\x10\x00\xff",
+            Op::Imul3(Ax, word_at(None, None, 0x10), 0xffff)
+        )
+    );
+    assert!(rt;
+        decodes_later(
+            b"\xc1\xe0\x04",
+            Op::Shift(Shift::Shl, Word(Ax), Count::Const(4))
+        )
+    );
+    assert!(rt;
+        decodes_later(
+            b"\xc0\x2e\x00\x00\x21",
+            Op::Shift(Shift::Shr, byte_at(None, None, 0), Count::Const(0x21))
+        )
+    );
+    assert!(rt; decodes_later(b"\xc8\x02\x00\x00", Op::Enter(2)));
+    assert!(rt; decodes_later(b"\xc9", Op::Leave));
+}
+
+#[test]
 fn other_bytes_are_no_instruction(rt: HostRuntime) {
-    assert!(rt; decode(b"", 0).is_none());
-    assert!(rt; decode(b"\xb8\x34", 0).is_none());
-    assert!(rt; decode(b"\x54", 0).is_none());
-    assert!(rt; decode(b"\x7a\x00", 0).is_none());
-    assert!(rt; decode(b"\x82\xc0\x00", 0).is_none());
-    assert!(rt; decode(b"\x8c\xe0", 0).is_none());
-    assert!(rt; decode(b"\x8e\xc8", 0).is_none());
-    assert!(rt; decode(b"\x8e\x06\x00\x00", 0).is_none());
-    assert!(rt; decode(b"\x8d\xc0", 0).is_none());
-    assert!(rt; decode(b"\x8f\xc4", 0).is_none());
-    assert!(rt; decode(b"\x8f\xc8", 0).is_none());
-    assert!(rt; decode(b"\xc0\xe0\x01", 0).is_none());
-    assert!(rt; decode(b"\xd2\xd0", 0).is_none());
-    assert!(rt; decode(b"\xd0\xf0", 0).is_none());
-    assert!(rt; decode(b"\xf6\xc8", 0).is_none());
-    assert!(rt; decode(b"\xfe\x10", 0).is_none());
-    assert!(rt; decode(b"\xff\xf4", 0).is_none());
-    assert!(rt; decode(b"\xff\x26\x00\x00", 0).is_none());
-    assert!(rt; decode(b"\xcd\x20", 0).is_none());
-    assert!(rt; decode(b"\xcd", 0).is_none());
-    assert!(rt; decode(b"\x2e\xff\xa6\x00\x00", 0).is_none());
-    assert!(rt; decode(b"\x8b\x06\x00", 0).is_none());
+    assert!(rt; is_none(b""));
+    assert!(rt; is_none(b"\xb8\x34"));
+    assert!(rt; is_none(b"\x54"));
+    assert!(rt; is_none(b"\x7a\x00"));
+    assert!(rt; is_none(b"\x82\xc0\x00"));
+    assert!(rt; is_none(b"\x8c\xe0"));
+    assert!(rt; is_none(b"\x8e\xc8"));
+    assert!(rt; is_none(b"\x8e\x06\x00\x00"));
+    assert!(rt; is_none(b"\x8d\xc0"));
+    assert!(rt; is_none(b"\x8f\xc4"));
+    assert!(rt; is_none(b"\x8f\xc8"));
+    assert!(rt; is_none(b"\xd2\xd0"));
+    assert!(rt; is_none(b"\xd0\xf0"));
+    assert!(rt; is_none(b"\xf6\xc8"));
+    assert!(rt; is_none(b"\xfe\x10"));
+    assert!(rt; is_none(b"\xff\xf4"));
+    assert!(rt; is_none(b"\xff\x26\x00\x00"));
+    assert!(rt; is_none(b"\xcd\x20"));
+    assert!(rt; is_none(b"\xcd"));
+    assert!(rt; is_none(b"\x2e\xff\xa6\x00\x00"));
+    assert!(rt; is_none(b"\x8b\x06\x00"));
+    assert!(rt; is_none(b"\xc8\x02\x00\x01"));
+    assert!(rt; is_none(b"\xc8\x02\x00"));
+    assert!(rt; is_none(b"\xc0\xd0\x01"));
+    assert!(rt; is_none(b"\xc0\xf0\x01"));
+    assert!(rt; is_none(b"\x69\xc3\x34"));
 }
 
 #[test]
 fn an_index_is_an_offset(rt: HostRuntime) {
     let code = [0xb4, 0x4c, 0xeb, 0xfc];
     assert!(rt;
-        decode(&code, 2)
+        decode(&code, 2, Cpu::I8086)
             == Some(Instr {
                 op: Op::Jump(0),
                 len: 2
             })
     );
     assert!(rt;
-        decode(&code, 3)
+        decode(&code, 3, Cpu::I8086)
             == Some(Instr {
                 op: Op::Plain(Plain::Cld),
                 len: 1
             })
     );
-    assert!(rt; decode(&code, 4).is_none());
-    assert!(rt; decode(&code, 0xffff).is_none());
+    assert!(rt; decode(&code, 4, Cpu::I8086).is_none());
+    assert!(rt; decode(&code, 0xffff, Cpu::I8086).is_none());
 }

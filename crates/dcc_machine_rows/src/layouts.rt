@@ -6,7 +6,7 @@ ghost use Rattle.dcc_prog.specs.MzImage.{IsLoaded};
 use dcc_layout::layout;
 use dcc_mz::load;
 use dcc_num::Flags;
-use dcc_prog::{Image, Refusal, construct};
+use dcc_prog::{Cpu, Image, Refusal, construct};
 use std::alloc::Global;
 use std::process::Abort;
 use std::test::Fail;
@@ -165,25 +165,144 @@ fn layouts() -> &'static [LayoutRow] {
     &LAYOUTS
 }
 
+// Whether the program has the row's layout for the processor.
+fn lays_out(rt: &impl Abort, alloc: Global, cpu: Cpu, row: &LayoutRow) -> Result<(), Fail> {
+    let (start, bytes, places, regs, flags) = row;
+    let image = image_of(rt, alloc, *start, bytes)?;
+    let layout = layout(alloc, &image, cpu)?;
+    let found = [
+        u32::from(layout.ds),
+        u32::from(layout.delta),
+        u32::from(layout.lo),
+        u32::from(layout.hi),
+        u32::from(layout.start_ip),
+        layout.code_end,
+    ];
+    let Flags { cf, zf, sf, of } = layout.flags;
+    assert!(rt; layout.cpu == cpu);
+    assert_eq!(rt; found, *places);
+    assert_eq!(rt; layout.regs, *regs);
+    assert_eq!(rt; [cf, zf, sf, of], *flags);
+    Ok(())
+}
+
 #[test]
 fn a_prelude_sets_segments_stack_and_registers(rt: HostRuntime) -> Result<(), Fail> {
-    let alloc = rt.alloc();
-    for (start, bytes, places, regs, flags) in layouts() {
-        let image = image_of(&rt, alloc, *start, bytes)?;
-        let layout = layout(alloc, &image)?;
-        let found = [
-            u32::from(layout.ds),
-            u32::from(layout.delta),
-            u32::from(layout.lo),
-            u32::from(layout.hi),
-            u32::from(layout.start_ip),
-            layout.code_end,
-        ];
-        let Flags { cf, zf, sf, of } = layout.flags;
-        assert_eq!(rt; found, *places);
-        assert_eq!(rt; layout.regs, *regs);
-        assert_eq!(rt; [cf, zf, sf, of], *flags);
+    for row in layouts() {
+        lays_out(&rt, rt.alloc(), Cpu::I8086, row)?;
+        lays_out(&rt, rt.alloc(), Cpu::I186, row)?;
     }
+    Ok(())
+}
+
+// The stack segment begins where the data does.
+const STACK_IN_DATA: Start = Start {
+    ss: 2,
+    sp: 0x0200,
+    ..START
+};
+
+// A shift of AX by a constant gives SP its value.
+const SHIFT_BY_CONSTANT: &[u8] =
+    b"\xB8\x02\x00\x8E\xD8\xB8\x10\x00\xC1\xE0\x04\x8B\xE0\xB4\x4C\xCD\x21";
+
+// A shift of BX by 36, a constant.
+const CONSTANT_MODULO: &[u8] =
+    b"\xB8\x02\x00\x8E\xD8\xBB\x11\x00\xC1\xE3\x24\x8E\xC3\xB4\x4C\xCD\x21";
+
+// A shift of BX by 36, which CL holds.
+const CL_MODULO: &[u8] =
+    b"\xB8\x02\x00\x8E\xD8\xBB\x11\x00\xB1\x24\xD3\xE3\x8E\xC3\xB4\x4C\xCD\x21";
+
+// A prelude of the 8086 ends before a shift by a constant; the 80186 takes each count modulo 32.
+static BY_PROCESSOR: [(Cpu, LayoutRow); 6] = [
+    (
+        Cpu::I8086,
+        (
+            STACK_IN_DATA,
+            SHIFT_BY_CONSTANT,
+            [0x0112, 0, 0, 512, 5, 17],
+            [0x0112, 0, 0, 0, 0x0200, 0, 0, 0],
+            [false, false, false, false],
+        ),
+    ),
+    (
+        Cpu::I186,
+        (
+            STACK_IN_DATA,
+            SHIFT_BY_CONSTANT,
+            [0x0112, 0, 0, 256, 13, 17],
+            [0x0100, 0, 0, 0, 0x0100, 0, 0, 0],
+            [false, false, false, false],
+        ),
+    ),
+    (
+        Cpu::I8086,
+        (
+            STACK_IN_DATA,
+            CONSTANT_MODULO,
+            [0x0112, 0, 0, 512, 5, 17],
+            [0x0112, 0, 0, 0, 0x0200, 0, 0, 0],
+            [false, false, false, false],
+        ),
+    ),
+    (
+        Cpu::I186,
+        (
+            STACK_IN_DATA,
+            CONSTANT_MODULO,
+            [0x0112, 0, 0, 512, 13, 17],
+            [0x0112, 0, 0, 0x0110, 0x0200, 0, 0, 0],
+            [false, false, false, false],
+        ),
+    ),
+    (
+        Cpu::I8086,
+        (
+            STACK_IN_DATA,
+            CL_MODULO,
+            [0x0112, 0, 0, 512, 14, 18],
+            [0x0112, 0x0024, 0, 0, 0x0200, 0, 0, 0],
+            [false, true, false, false],
+        ),
+    ),
+    (
+        Cpu::I186,
+        (
+            STACK_IN_DATA,
+            CL_MODULO,
+            [0x0112, 0, 0, 512, 14, 18],
+            [0x0112, 0x0024, 0, 0x0110, 0x0200, 0, 0, 0],
+            [false, false, false, false],
+        ),
+    ),
+];
+
+fn by_processor() -> &'static [(Cpu, LayoutRow)] {
+    &BY_PROCESSOR
+}
+
+#[test]
+fn each_processor_shifts_in_its_way(rt: HostRuntime) -> Result<(), Fail> {
+    for (cpu, row) in by_processor() {
+        lays_out(&rt, rt.alloc(), *cpu, row)?;
+    }
+    Ok(())
+}
+
+// A shift by a constant stands before the move to DS.
+#[test]
+fn a_program_may_have_a_layout_for_the_80186_alone(rt: HostRuntime) -> Result<(), Fail> {
+    let alloc = rt.alloc();
+    let start = Start { ss: 0x1010, ..AT_3 };
+    let bytes = b"\0\0\0\xB8\x12\x01\xC1\xE0\x04\x8E\xD8\xB4\x4C\xCD\x21";
+    let image = image_of(&rt, alloc, start, bytes)?;
+    let refusal = Refusal::Construct {
+        kind: construct::NO_LAYOUT,
+        at: start.ip,
+    };
+    assert_eq!(rt; layout(alloc, &image, Cpu::I8086).err(), Some(refusal));
+    assert_eq!(rt; layout(alloc, &image, Cpu::I186)?.ds, 0x1120);
     Ok(())
 }
 
@@ -266,7 +385,8 @@ fn a_program_without_a_layout_is_refused_at_its_entry(rt: HostRuntime) -> Result
             kind: construct::NO_LAYOUT,
             at: start.ip,
         };
-        assert_eq!(rt; layout(alloc, &image).err(), Some(refusal));
+        assert_eq!(rt; layout(alloc, &image, Cpu::I8086).err(), Some(refusal));
+        assert_eq!(rt; layout(alloc, &image, Cpu::I186).err(), Some(refusal));
     }
     Ok(())
 }
