@@ -2,14 +2,16 @@
 
 use dcc_io::{MemSink, MemSource};
 use dcc_num::Reg;
-use dcc_prog::{Image, LOAD_SEGMENT};
+use dcc_prog::{Cpu, Image, LOAD_SEGMENT};
 use dcc_step::{Machine, Stepped};
 use std::alloc::{AllocError, Global};
 use std::process::Abort;
 use std::test::Fail;
 
+const PROCESSORS: [Cpu; 2] = [Cpu::I8086, Cpu::I186];
+
 // A machine with this code from the load segment on, and a stack in segment 0300h.
-fn machine(rt: &impl Abort, alloc: Global, code: &[u8]) -> Result<Machine, AllocError> {
+fn machine(rt: &impl Abort, alloc: Global, code: &[u8], cpu: Cpu) -> Result<Machine, AllocError> {
     let bytes = code.to_vec(alloc)?;
     assert!(rt; bytes.len() <= 64);
     let image = Image {
@@ -20,7 +22,7 @@ fn machine(rt: &impl Abort, alloc: Global, code: &[u8]) -> Result<Machine, Alloc
         ss: 0x0300,
         sp: 0x0100,
     };
-    Machine::new(alloc, &image)
+    Machine::new(alloc, &image, cpu)
 }
 
 // The word registers by number.
@@ -40,19 +42,21 @@ fn registers(machine: &Machine) -> [u16; 8] {
 // The code, a number of steps, the word registers after them, IP, and the answer.
 type Case<'a> = (&'a [u8], u64, [u16; 8], u16, Stepped);
 
-// Runs the code on an empty input; it must write nothing.
+// Runs the code on an empty input, by each processor; it must write nothing.
 fn check_case(rt: &impl Abort, alloc: Global, case: Case) -> Result<(), Fail> {
     let (code, steps, regs, ip, answer) = case;
-    let mut machine = machine(rt, alloc, code)?;
-    let mut input = MemSource::new(Vec::new(alloc), Vec::new(alloc), 1);
-    let mut out = MemSink::new(alloc, Vec::new(alloc), 1);
-    assert_eq!(rt;
-        machine.run(&mut input, &mut out, steps),
-        answer,
-        "{code:?}"
-    );
-    assert_eq!(rt; (registers(&machine), machine.ip()), (regs, ip), "{code:?}");
-    assert!(rt; out.taken().is_empty(), "{code:?}");
+    for cpu in PROCESSORS {
+        let mut machine = machine(rt, alloc, code, cpu)?;
+        let mut input = MemSource::new(Vec::new(alloc), Vec::new(alloc), 1);
+        let mut out = MemSink::new(alloc, Vec::new(alloc), 1);
+        assert_eq!(rt;
+            machine.run(&mut input, &mut out, steps),
+            answer,
+            "{code:?}"
+        );
+        assert_eq!(rt; (registers(&machine), machine.ip()), (regs, ip), "{code:?}");
+        assert!(rt; out.taken().is_empty(), "{code:?}");
+    }
     Ok(())
 }
 
@@ -357,9 +361,55 @@ const SAYS_HELLO: [u8; 22] = [
     b'h', b'e', b'l', b'l', b'o', b'$',
 ];
 
+// Shifts 1 by 32 in CL, and exits with what is left of it.
+const SHIFTS_BY_32: [u8; 16] = [
+    0xB8, 0x11, 0x01, 0x8E, 0xD8, 0xB8, 0x01, 0x00, 0xB1, 0x20, 0xD3, 0xE0, 0xB4, 0x4C, 0xCD, 0x21,
+];
+
+// Calls a procedure that keeps a byte in a frame made by ENTER, writes it, and gives the frame up by LEAVE.
+const KEEPS_A_BYTE: [u8; 30] = [
+    0xB8, 0x12, 0x01, 0x8E, 0xD8, 0xE8, 0x05, 0x00, 0xB8, 0x00, 0x4C, 0xCD, 0x21, 0xC8, 0x02, 0x00,
+    0x00, 0xC6, 0x46, 0xFE, 0x2A, 0x8A, 0x56, 0xFE, 0xB4, 0x02, 0xCD, 0x21, 0xC9, 0xC3,
+];
+
+// Exits with the product of BX and a constant.
+const MULTIPLIES_BY_6: [u8; 15] = [
+    0xB8, 0x11, 0x01, 0x8E, 0xD8, 0xBB, 0x07, 0x00, 0x6B, 0xC3, 0x06, 0xB4, 0x4C, 0xCD, 0x21,
+];
+
+#[test]
+fn processors_differ_in_counts_and_in_instructions(rt: HostRuntime) -> Result<(), Fail> {
+    let alloc = rt.alloc();
+    for (code, cpu, answer, output) in [
+        (SHIFTS_BY_32.as_slice(), Cpu::I8086, Stepped::Exit(0), ""),
+        (SHIFTS_BY_32.as_slice(), Cpu::I186, Stepped::Exit(1), ""),
+        (
+            KEEPS_A_BYTE.as_slice(),
+            Cpu::I8086,
+            Stepped::Outside(0x0D),
+            "",
+        ),
+        (KEEPS_A_BYTE.as_slice(), Cpu::I186, Stepped::Exit(0), "*"),
+        (
+            MULTIPLIES_BY_6.as_slice(),
+            Cpu::I8086,
+            Stepped::Outside(0x08),
+            "",
+        ),
+        (MULTIPLIES_BY_6.as_slice(), Cpu::I186, Stepped::Exit(42), ""),
+    ] {
+        let mut machine = machine(&rt, alloc, code, cpu)?;
+        let mut input = MemSource::new(Vec::new(alloc), Vec::new(alloc), 1);
+        let mut out = MemSink::new(alloc, Vec::new(alloc), 1);
+        assert_eq!(rt; machine.run(&mut input, &mut out, 100), answer, "{code:?}");
+        assert_eq!(rt; out.taken().as_slice(), output.as_bytes(), "{code:?}");
+    }
+    Ok(())
+}
+
 #[test]
 fn a_loaded_program_starts_with_its_registers_and_memory(rt: HostRuntime) -> Result<(), Fail> {
-    let machine = machine(&rt, rt.alloc(), &PRINTS_A)?;
+    let machine = machine(&rt, rt.alloc(), &PRINTS_A, Cpu::I8086)?;
     assert_eq!(rt; registers(&machine), [0, 0, 0, 0, 0x0100, 0, 0, 0]);
     assert_eq!(rt; machine.ip(), 0);
     for (at, byte) in [
@@ -399,7 +449,7 @@ fn calls_read_and_write(rt: HostRuntime) -> Result<(), Fail> {
         ),
         (SAYS_HELLO.as_slice(), "", 0, 3, Stepped::OutFault, "he"),
     ] {
-        let mut machine = machine(&rt, alloc, code)?;
+        let mut machine = machine(&rt, alloc, code, Cpu::I8086)?;
         let mut input = MemSource::new(keys.as_bytes().to_vec(alloc)?, [read].to_vec(alloc)?, 1);
         let mut out = MemSink::new(alloc, [write].to_vec(alloc)?, 1);
         assert_eq!(rt; machine.run(&mut input, &mut out, 100), answer, "{code:?}");
@@ -411,7 +461,7 @@ fn calls_read_and_write(rt: HostRuntime) -> Result<(), Fail> {
 #[test]
 fn a_refused_step_is_made_when_it_is_asked_for_again(rt: HostRuntime) -> Result<(), Fail> {
     let alloc = rt.alloc();
-    let mut machine = machine(&rt, alloc, &ECHOES_TWO)?;
+    let mut machine = machine(&rt, alloc, &ECHOES_TWO, Cpu::I8086)?;
     let mut input = MemSource::new(b"ab".to_vec(alloc)?, [1].to_vec(alloc)?, 1);
     let mut out = MemSink::new(alloc, [2].to_vec(alloc)?, 1);
     assert_eq!(rt; machine.run(&mut input, &mut out, 100), Stepped::InFault);
@@ -434,7 +484,7 @@ fn a_string_without_an_end_has_the_bytes_of_a_whole_segment(rt: HostRuntime) -> 
         0xB8, 0x00, 0x80, 0x8E, 0xD8, 0xC6, 0x06, 0x00, 0x00, 0x07, 0xBA, 0xFF, 0xFF, 0xB4, 0x09,
         0xCD, 0x21,
     ];
-    let mut machine = machine(&rt, alloc, &code)?;
+    let mut machine = machine(&rt, alloc, &code, Cpu::I8086)?;
     let mut input = MemSource::new(Vec::new(alloc), Vec::new(alloc), 1);
     let mut out = MemSink::new(alloc, Vec::new(alloc), 1);
     assert_eq!(rt; machine.run(&mut input, &mut out, 6), Stepped::Running);
