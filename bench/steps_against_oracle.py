@@ -7,10 +7,10 @@ REFERENCE is a folder with a Python package dccref, which is no part of this rep
 image. For each processor STEPS single steps (100,000) are drawn: registers, flags, keys, and an instruction of any row
 of the table or other bytes, on a memory of random bytes that goes through all of them. Then PROGRAMS programs (2,000)
 run to the end or for 2,000 steps: those of the reference's generator, and random instructions of all rows with jumps to
-their instructions. Compared are the answer, all registers, the flags, the instruction pointer, what is written to
-memory, the output, and what is left of the input; and the whole memory every 1,000 single steps and after each program.
-The machine is run unproved, by `rt try`, from a copy of the crates, in which it gets two functions more that set and
-tell its state. Prints the number of differences, and the first of them; the status is 1 if there is one.
+their instructions. Compared are the answer, all registers, the flags, the instruction pointer, the bytes of memory that
+the reference wrote, the output, and what is left of the input; and the whole memory every 1,000 single steps and every
+100 programs. The machine is run unproved, by `rt try`, from a copy of the crates, in which it gets two functions more
+that set and tell its state. Prints the number of differences, and the first of them; the status is 1 if there is one.
 """
 import pathlib
 import random
@@ -24,7 +24,9 @@ from tried import tried
 DEPENDENCIES = "dcc_num dcc_prog dcc_step dcc_io anyhow"
 PROCESSORS = ["8086", "186"]
 MOST_STEPS = 2_000
-WHOLE_EVERY = 1_000
+STEPS_TO_WHOLE = 1_000
+PROGRAMS_TO_WHOLE = 100
+DOS_NUMBERS = [0x01, 0x02, 0x02, 0x08, 0x09, 0x4C]
 LOADED_AT = 0x1100
 MEMORY = 1 << 20
 
@@ -165,13 +167,12 @@ impl Sum {
     }
 }
 
-// One trial: sets a state if the file says so, runs, and tells whether all is as the file says.
+// One trial: sets the state and the code, runs, and tells whether all is as the file says.
 fn is_alike(alloc: Global, machine: &mut Machine, file: &mut Reader) -> Result<bool, Error> {
-    if file.number(1) == 1 {
-        let probe = file.probe();
-        let code = file.bytes(alloc, 6)?;
-        machine.set_probe(probe, code.as_slice());
-    }
+    let probe = file.probe();
+    let size = file.number(2) as usize;
+    let code = file.bytes(alloc, size)?;
+    machine.set_probe(probe, code.as_slice());
     let count = file.number(1) as usize;
     let keys = file.bytes(alloc, count)?;
     let mut input = MemSource::new(keys, Vec::new(alloc), 1);
@@ -192,7 +193,7 @@ fn is_alike(alloc: Global, machine: &mut Machine, file: &mut Reader) -> Result<b
     }
     alike = out.taken().len() as u32 == file.number(4) && alike;
     alike = sum.number() == file.number(4) && alike;
-    for _ in 0..file.number(1) {
+    for _ in 0..file.number(4) {
         let place = file.number(4);
         alike = u32::from(machine.byte(place)) == file.number(1) && alike;
     }
@@ -206,23 +207,21 @@ fn is_alike(alloc: Global, machine: &mut Machine, file: &mut Reader) -> Result<b
     Ok(alike)
 }
 
-// The machine with the image that stands in the file.
+// The machine with the processor and the memory that stand in the file.
 fn loaded(alloc: Global, file: &mut Reader) -> Result<Machine, Error> {
     let cpu = if file.number(1) == 0 {
         Cpu::I8086
     } else {
         Cpu::I186
     };
-    let (cs, ip, ss, sp) = (file.word(), file.word(), file.word(), file.word());
     let size = file.number(4);
-    let bytes = file.bytes(alloc, size as usize)?;
     let image = Image {
-        bytes,
-        code_len: size.min(0x10000),
-        cs,
-        ip,
-        ss,
-        sp,
+        bytes: file.bytes(alloc, size as usize)?,
+        code_len: 0x1_0000,
+        cs: 0,
+        ip: 0,
+        ss: 0,
+        sp: 0,
     };
     Ok(Machine::new(alloc, &image, cpu)?)
 }
@@ -234,17 +233,15 @@ fn main(rt: HostRuntime) -> Result<(), Error> {
             bytes: fs::read(&rt, path)?,
             at: 0,
         };
-        let (mut made, mut differ, mut first) = (0u32, 0u32, 0u32);
-        for _ in 0..file.number(4) {
-            let mut machine = loaded(alloc, &mut file)?;
-            for _ in 0..file.number(4) {
-                if !is_alike(alloc, &mut machine, &mut file)? {
-                    if differ == 0 {
-                        first = made;
-                    }
-                    differ += 1;
+        let mut machine = loaded(alloc, &mut file)?;
+        let made = file.number(4);
+        let (mut differ, mut first) = (0u32, 0u32);
+        for trial in 0..made {
+            if !is_alike(alloc, &mut machine, &mut file)? {
+                if differ == 0 {
+                    first = trial;
                 }
-                made += 1;
+                differ += 1;
             }
         }
         println!(rt; "trials {made} differ {differ} first {first}")?;
@@ -314,22 +311,26 @@ class Trials:
         code = self.drawn(self.draw.choice(self.firsts))
         if code[0] == 0xCD and self.draw.random() < 0.8:
             low = machine.regs["Ax"] & 0xFF
-            machine.regs["Ax"] = self.draw.choice([0x01, 0x02, 0x08, 0x09, 0x4C]) * 256 + low
+            machine.regs["Ax"] = self.draw.choice(DOS_NUMBERS) * 256 + low
         return (code + self.draw.randbytes(6))[:6]
 
-    def outcome(self, machine, keys, steps, whole):
-        """Runs the reference, and tells what came out."""
+    def trial(self, machine, code, steps, whole):
+        """A trial of these bytes at the instruction pointer, with what comes out."""
+        told = self.stated(machine) + words([len(code)]) + code
+        for k, byte in enumerate(code):
+            machine.mem[machine.place(1, machine.ip + k)] = byte
+        keys = self.draw.randbytes(self.draw.randrange(4))
+        places = set()
         machine.input, machine.taken, machine.out = keys, 0, bytearray()
-        places = []
-        if not whole or steps == 1:
-            machine.hook = lambda access: places.extend(self.places(machine, access))
+        machine.hook = lambda access: places.update(self.places(machine, access))
         answer = machine.run(steps)
         machine.hook = None
         kind = ["running", "exit", "divide", "outside"].index(answer[0])
-        told = bytes([kind]) + words([answer[1] if len(answer) > 1 else 0]) + self.stated(machine)
+        told += bytes([len(keys)]) + keys + words([steps])
+        told += bytes([kind]) + words([answer[1] if len(answer) > 1 else 0]) + self.stated(machine)
         told += bytes([len(keys) - machine.taken])
-        told += struct.pack("<II", len(machine.out), zlib.adler32(machine.out))
-        told += bytes([len(places)]) + b"".join(struct.pack("<IB", place, machine.mem[place]) for place in places)
+        told += struct.pack("<III", len(machine.out), zlib.adler32(machine.out), len(places))
+        told += b"".join(struct.pack("<IB", place, machine.mem[place]) for place in sorted(places))
         return told + (b"\x01" + struct.pack("<I", zlib.adler32(machine.mem)) if whole else b"\x00")
 
     def places(self, machine, access):
@@ -339,20 +340,15 @@ class Trials:
         segment = ("Es", "Cs", "Ss", "Ds").index(access.segment)
         return [machine.place(segment, access.offset + k) for k in range(access.size)]
 
-    def keys(self, most):
-        """Random keys."""
-        return self.draw.randbytes(self.draw.randrange(most))
-
-    def head(self, image):
-        """The processor and the image, as the file has them."""
-        head = bytes([PROCESSORS.index(self.cpu)]) + words([image.cs, image.ip, image.ss, image.sp])
-        return head + struct.pack("<I", len(image.bytes)) + image.bytes
+    def begun(self, count):
+        """The reference on a random memory, and the head of a file of so many trials on it."""
+        image = self.image(self.draw.randbytes(MEMORY - LOADED_AT), 0x10000, 0, 0, 0, 0)
+        head = bytes([PROCESSORS.index(self.cpu)]) + struct.pack("<I", len(image.bytes)) + image.bytes
+        return self.machine(image, self.cpu), [head, struct.pack("<I", count)]
 
     def steps(self, count):
-        """The file of so many single steps on one memory."""
-        image = self.image(self.draw.randbytes(MEMORY - LOADED_AT), 0x10000, 0x110, 0, 0x110, 0)
-        machine = self.machine(image, self.cpu)
-        parts = [struct.pack("<I", 1), self.head(image), struct.pack("<I", count)]
+        """The file of so many single steps."""
+        machine, parts = self.begun(count)
         for number in range(1, count + 1):
             self.state(machine)
             if self.seen and self.draw.random() < 0.1:
@@ -361,12 +357,7 @@ class Trials:
             else:
                 code = self.code(machine)
             self.seen.append((machine.ip, code))
-            parts += [b"\x01", self.stated(machine), code]
-            for k, byte in enumerate(code):
-                machine.mem[machine.place(1, machine.ip + k)] = byte
-            keys = self.keys(3)
-            parts += [bytes([len(keys)]), keys, words([1])]
-            parts.append(self.outcome(machine, keys, 1, number % WHOLE_EVERY == 0 or number == count))
+            parts.append(self.trial(machine, code, 1, number % STEPS_TO_WHOLE == 0 or number == count))
         return b"".join(parts)
 
     def program(self):
@@ -377,9 +368,7 @@ class Trials:
             if code[0] in (0x8E, 0xC2, 0xC3, 0x2E) and self.draw.random() < 0.9:
                 continue
             if code[0] == 0xCD:
-                # A string is mostly as long as memory allows, so it is rare.
-                number = 0x09 if self.draw.random() < 0.02 else self.draw.choice([0x01, 0x02, 0x02, 0x02, 0x08, 0x4C])
-                parts.append(bytes([0xB4, number]))
+                parts.append(bytes([0xB4, self.draw.choice(DOS_NUMBERS)]))
             parts.append(code)
         parts.append(b"\xB4\x4C\xCD\x21")
         starts = [sum(map(len, parts[:place])) for place in range(len(parts))]
@@ -392,19 +381,19 @@ class Trials:
         return b"".join(parts)
 
     def programs(self, count, generated):
-        """The file of so many programs; every third is one of the reference's generator."""
-        parts = [struct.pack("<I", count)]
-        for number in range(count):
+        """The file of so many programs, each loaded over the memory that the one before left; every third is one of the
+        reference's generator."""
+        machine, parts = self.begun(count)
+        for number in range(1, count + 1):
             if number % 3 == 0:
                 image = generated(self.draw.randrange(1 << 64), self.draw.randrange(1, 200))
             else:
-                code = self.program()
-                image = self.image(code, len(code), 0x110, 0, 0x1000, 0x1000)
-            machine = self.machine(image, self.cpu)
-            keys = self.keys(20)
-            parts += [self.head(image), struct.pack("<I", 1), b"\x00"]
-            parts += [bytes([len(keys)]), keys, words([MOST_STEPS])]
-            parts.append(self.outcome(machine, keys, MOST_STEPS, True))
+                image = self.image(self.program(), 0, 0x110, 0, 0x1000, 0x1000)
+            fresh = self.machine(image, self.cpu)
+            machine.regs, machine.seg, machine.flags, machine.ip = fresh.regs, fresh.seg, fresh.flags, fresh.ip
+            machine.end = ("running",)
+            whole = number % PROGRAMS_TO_WHOLE == 0 or number == count
+            parts.append(self.trial(machine, image.bytes, MOST_STEPS, whole))
         return b"".join(parts)
 
 
