@@ -8,7 +8,7 @@ use Rattle.std.proofs.lemmas.List.Elements.{All-nil, All-push, All-weaker, All-f
 use Rattle.std.proofs.lemmas.List.Folds.{list_all-append}
 use Rattle.std.proofs.lemmas.List.FromFn.{length-range_with_len, get_or-range_with_len}
 use Rattle.dcc_ir.specs.declared.syntax.Block.{Block as BlockOf}
-use Rattle.dcc_ir.specs.Tree.{Exit, Stop, Block, Graph}
+use Rattle.dcc_ir.specs.Tree.{Stop, Block, Graph}
 use Rattle.dcc_ir.specs.Views.{stmt_of, exit_of, block_of}
 use Rattle.dcc_ir.specs.WellFormed.{is_stmt, is_exit, is_block, is_width, is_put, jumps_after_call, all_differ, IsGraph}
 use Rattle.dcc_flow.specs.Edges.{is_in}
