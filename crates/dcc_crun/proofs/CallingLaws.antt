@@ -51,10 +51,10 @@ pub target_place : (m : Moment) (program : Program) (row : CallRow) (line : ℕ)
     outcome_of (option_map (target_named names.locals)) r ≡ result_target (scope_over names scene) e) →
     result_target (scope_of tree s) call.place ≡ outcome_of (option_map (target_named (locals_declared s.frame.function))) r
 target_place m program row line tree points s now call scene r same is =
-    let fits = fits_here tree points program.globals.items m s call.program_is.globals call.state in
+    let fits = fits_here tree points program.globals.items m s call.at.program_is.globals call.at.state in
     sym (is (names_at tree s) call.place call.place_stands (subst (Fits (names_at tree s)) (sym same) fits)
     ∙ ap (λ sc. result_target (scope_over (names_at tree s) sc) call.place) same
-    ∙ ap (λ sc. result_target sc call.place) (scope_here tree points program.globals.items m s call.program_is.globals call.state))
+    ∙ ap (λ sc. result_target sc call.place) (scope_here tree points program.globals.items m s call.at.program_is.globals call.at.state))
 
 pub target_lands : (m : Moment) (program : Program) (row : CallRow) (line : ℕ) (tree : Tree) (points : ℕ → List Continuation) (s now : State)
     (call : CallsAny m program row line tree points s now) (scene : Scene) (target : Option Place) → scene ≡ scene_in m program.globals.items →
@@ -62,7 +62,7 @@ pub target_lands : (m : Moment) (program : Program) (row : CallRow) (line : ℕ)
     IsTargetIf (locals_declared s.frame.function) target
 target_lands m program row line tree points s now call scene target same is =
     is (names_at tree s) call.place call.place_stands
-    (subst (Fits (names_at tree s)) (sym same) (fits_here tree points program.globals.items m s call.program_is.globals call.state))
+    (subst (Fits (names_at tree s)) (sym same) (fits_here tree points program.globals.items m s call.at.program_is.globals call.at.state))
 
 pub target_ended : (m : Moment) (program : Program) (row : CallRow) (line : ℕ) (tree : Tree) (points : ℕ → List Continuation) (s now : State)
     (call : CallsAny m program row line tree points s now) (why : NoValue) → result_target (scope_of tree s) call.place ≡ nothing_of why →
@@ -90,8 +90,8 @@ dos_from m mid program row dos target line globals arguments same_globals same_a
     let is_dos : dos_of call.word ≡ Some (dos_call dos) = subst (λ (k : Callee). IsCallee tree call.word k) callee call.callee in (
       s,
       record {
-        globals_are = subst (AreGlobals tree) (sym same_globals) call.program_is.globals;
-        state = call.state;
+        globals_are = subst (AreGlobals tree) (sym same_globals) call.at.program_is.globals;
+        state = call.at.state;
         lands = lands tree points s now call;
         exprs = call.exprs;
         stand = subst (StandAll (names_at tree s) call.exprs) (sym same_arguments) call.stand;
@@ -106,7 +106,7 @@ dos_from m mid program row dos target line globals arguments same_globals same_a
           state = running_moved tree points mid now row.next done.0;
           rest =
               subst (λ k. Goes tree (points mid.call.procedure) row.next k) (sym done.1)
-              (subst (λ p. Goes tree (points p) row.next s.rest) (sym aside.procedure) call.goes);
+              (subst (λ p. Goes tree (points p) row.next s.rest) (sym aside.procedure) call.at.goes);
         };
       },
     )
@@ -123,10 +123,7 @@ function_from m now_m program row number target line callee place lands tree poi
     let is = subst (λ (k : Callee). IsCallee tree call.word k) callee call.callee in (
       s,
       record {
-        program_is = call.program_is;
-        state = call.state;
-        running = call.running;
-        goes = call.goes;
+        at = call.at;
         lands = lands tree points s now call;
         exprs = call.exprs;
         stand = call.stand;

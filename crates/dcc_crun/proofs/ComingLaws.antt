@@ -223,10 +223,12 @@ call_performs program procedure line action m now row is tree points s after cal
     subst (λ (a : Action). Acts tree s.frame.function (points m.call.procedure) procedure.labels.items call.own line a) is call.acts in (
       goes_on acts.to s,
       record {
-        program_is = call.program_is;
-        state = running_on tree points m s acts.to call.state;
-        running = call.running;
-        goes = acts.goes;
+        at = record {
+          program_is = call.program_is;
+          state = running_on tree points m s acts.to call.state;
+          running = call.running;
+          goes = acts.goes;
+        };
         place = acts.place;
         word = acts.word;
         exprs = acts.arguments;

@@ -1,10 +1,11 @@
 -- What DOS calls do.
 use Rattle.std.proofs.Common.{◌≡◌, ℕ, ◌≤◌, ◌%◌, Bool, true, false, List, [], ◌∷◌, ◌++◌, Option, Some, None, refl, sym, ap, ◌∙◌, subst, arith}
-use Rattle.std.specs.Prelude.{is_some, option_map, Result, Ok, Err}
+use Rattle.std.specs.Prelude.{is_some, option_map, Result, Ok, Err, OnOk, OnErr}
 use Rattle.dcc_run.specs.End.{Exit, Stuck}
 use Rattle.dcc_run.specs.Event.{Event, MetEnd, taken_by, writes}
 use Rattle.dcc_run.proofs.EventLaws.{written-writes, taken-writes}
 use Rattle.std.specs.Result.{IsErrAnd}
+use Rattle.dcc_io.specs.declared.outside.Failed.{Failed}
 use Rattle.dcc_io.specs.Count.{Rose}
 use Rattle.dcc_io.specs.Told.{append_told, prepend_told, AppendsProperPrefix}
 use Rattle.dcc_io.proofs.ToldLemmas.{prepend_told-nil}
@@ -22,20 +23,22 @@ use Rattle.dcc_value.specs.declared.expression.Resolved.{Resolved}
 use Rattle.dcc_value.specs.declared.expression.Target.{Target as Place}
 use Rattle.dcc_prepare.specs.declared.program.Dos.{Dos as DosCall}
 use Rattle.dcc_prepare.specs.declared.program.Dos.TheVariants.{Putc as calls_putc, Getche as calls_getche, Getch as calls_getch, Puts as calls_puts, Leave as calls_leave}
+use Rattle.dcc_crun.specs.declared.ending.Ending.TheVariants.{Exit as KeptExit}
 use Rattle.dcc_crun.specs.declared.ending.Stop.{Stop}
 use Rattle.dcc_crun.specs.declared.ending.Stop.TheVariants.{Refused}
 use Rattle.dcc_crun.specs.declared.moment.Moment.{Moment}
 use Rattle.dcc_value.specs.Evaluation.{outcome_of, typed}
 use Rattle.dcc_value.specs.Resolved.{Names, Scene, Fits, scope_over, target_named}
 use Rattle.dcc_prepare.specs.Points.{locals_declared, StandAll, dos_call}
-use Rattle.dcc_crun.specs.Ending.{refusal_of}
+use Rattle.dcc_crun.specs.Ending.{refusal_of, write_stop}
 use Rattle.dcc_crun.specs.Standing.{IsTargetIf, IsRunning}
 use Rattle.dcc_console.specs.declared.fault.Fault.{Fault}
 use Rattle.dcc_console.specs.declared.fault.Fault.TheVariants.{Input as ReadFault, Output as WriteFault}
 use Rattle.dcc_console.specs.Key.{key_events, TakesKey, next_byte, no_byte, IsUntaken, IsCutKey, IsRefusedKey}
 use Rattle.dcc_console.specs.Scene.{told_bytes}
 use Rattle.dcc_console.proofs.KeyLaws.{key-taken}
-use Rattle.dcc_crun.specs.Doing.{scene_in, AreGlobals, names_at, IsEnded, end_at, single, Kept, CallsForKey, CallsDos, Does, Halts, CannotRead, CannotWrite, ComesTo, StaysIfRefused, Counts}
+use Rattle.dcc_crun.specs.Doing.{scene_in, names_at, IsKept, IsEnded, end_at, single, Kept, CallsForKey, CallsDos, IsArgument, IsSole, Does, CannotRead, CannotWrite, ComesTo, StaysIfRefused, Counts}
+use Rattle.dcc_crun.proofs.StepLaws.{made_faults, write_faults}
 use Rattle.dcc_crun.proofs.MomentLaws.{fits_here, scope_here, ended, goes_further, takes-quiet, takes-rest}
 
 -- Bytes.
@@ -66,13 +69,7 @@ byte_argument scope (e ∷ f ∷ es) w is = absurd (none_given (λ v. Undefined)
 
 -- The argument of a call.
 
--- this is what the arguments of a call come to that takes one
-abbrev pub IsArgument : List Bound → Moment → DosCall → List Resolved → Result Held NoValue → Type 0
-IsArgument globals m dos arguments r =
-    (tree : Tree) (points : ℕ → List Continuation) (s : State) (es : List Expr) → AreGlobals tree globals → IsRunning tree points m s → StandAll (names_at tree s) es arguments →
-    arguments_of (scope_of tree s) (dos_signature (dos_call dos)).params es ≡ outcome_of single r
-
--- so it is where it is in each scene
+-- the arguments of a call come to what they come to in each scene
 pub argument_is : (globals : List Bound) (m : Moment) (dos : DosCall) (arguments : List Resolved) (r : Result Held NoValue) (type : CType) (scene : Scene) → scene ≡ scene_in m globals →
     type ∷ [] ≡ (dos_signature (dos_call dos)).params →
     ((names : Names) (es : List Expr) → StandAll names es arguments → Fits names scene → outcome_of single r ≡ arguments_of (scope_over names scene) (type ∷ []) es) →
@@ -123,14 +120,20 @@ module _ (globals : List Bound) (m : Moment) (dos : DosCall) (target : Option Pl
       by None none step = step
       by (Some to) none step = cc
 
--- a call of which something wants a result that it does not give halts
-pub result_halts : (globals : List Bound) (m : Moment) (dos : DosCall) (target : Option Place) (arguments : List Resolved) (line : ℕ) (v : Held) → IsArgument globals m dos arguments (Ok v) →
-    is_some target ≡ true → (left taken : Option (List ℕ)) → Halts (CallsDos m globals dos target arguments line) (Stuck line) left taken left taken
-result_halts globals m dos target arguments line v is some left taken = record {
-  ends = λ tree points s now call. result_missed globals m dos target arguments line tree points s now call v is some;
-  same_left = refl;
-  same_taken = refl;
-}
+-- what a call comes to whose argument gives nothing
+pub sole_err : (globals : List Bound) (m : Moment) (dos : DosCall) (target : Option Place) (arguments : List Resolved) (r : Result Held NoValue) (why : NoValue) →
+    IsErrAnd r (λ y. y ≡ why) → IsArgument globals m dos arguments (Err why) → IsSole globals m dos target arguments r
+sole_err globals m dos target arguments (Ok v) why is argument = absurd is
+sole_err globals m dos target arguments (Err y) why is argument = λ line tree points s now call.
+    subst (λ (w : NoValue). IsEnded s now (end_at line w)) (sym is) (call_ended globals m dos target arguments line tree points s now call why argument)
+
+-- the types that the call takes, by which one it is
+pub takes_as : (dos other : DosCall) → dos ≡ other → (dos_signature (dos_call other)).params ≡ (dos_signature (dos_call dos)).params
+takes_as dos other is = ap (λ (d : DosCall). (dos_signature (dos_call d)).params) (sym is)
+
+argument_at : (dos other : DosCall) (scope : Scope) (es : List Expr) (o : Outcome (List Value)) → dos ≡ other →
+    arguments_of scope (dos_signature (dos_call dos)).params es ≡ o → arguments_of scope (dos_signature (dos_call other)).params es ≡ o
+argument_at dos other scope es o is comes = ap (λ types. arguments_of scope types es) (takes_as dos other is) ∙ comes
 
 -- Writes.
 
@@ -139,25 +142,39 @@ abbrev pub WritesOnly : List Bound → Moment → DosCall → Option Place → L
 WritesOnly globals m dos target arguments line bytes =
     (tree : Tree) (points : ℕ → List Continuation) (s now : State) → CallsDos m globals dos target arguments line tree points s now → now ≡ with_events (writes bytes) s
 
-pub putc_writes : (globals : List Bound) (m : Moment) (target : Option Place) (arguments : List Resolved) (line : ℕ) (v : Held) → IsArgument globals m calls_putc arguments (Ok v) →
-    is_some target ≡ false → WritesOnly globals m calls_putc target arguments line (v.bits % 256 ∷ [])
-putc_writes globals m target arguments line v is none tree points s now call =
-    let byte = byte_argument (scope_of tree s) call.exprs (typed v) (is tree points s call.exprs call.globals_are call.state call.stand) in
-    call_made globals m calls_putc target arguments line tree points s now call v is none ∙ ap (λ (b : ℕ). with_events (writes (b ∷ [])) s) (sym byte)
+pub putc_writes : (globals : List Bound) (m : Moment) (target : Option Place) (arguments : List Resolved) (line : ℕ) (v : Held) (dos : DosCall) →
+    dos ≡ calls_putc → IsSole globals m dos target arguments (Ok v) → WritesOnly globals m dos target arguments line (v.bits % 256 ∷ [])
+putc_writes globals m target arguments line v dos is sole tree points s now call =
+    let byte = byte_argument (scope_of tree s) call.exprs (typed v) (argument_at dos calls_putc (scope_of tree s) call.exprs (Gives (typed v ∷ [])) is (sole.0 tree points s call.exprs call.globals_are call.state call.stand)) in
+    call_made globals m dos target arguments line tree points s now call v sole.0 sole.1
+    ∙ ap (λ (d : DosCall). dos_step (dos_call d) None (typed v ∷ []) line s) is
+    ∙ ap (λ (b : ℕ). with_events (writes (b ∷ [])) s) (sym byte)
 
-pub puts_writes : (globals : List Bound) (m : Moment) (target : Option Place) (arguments : List Resolved) (line : ℕ) (v : Held) (memory : List ℕ) → memory ≡ m.memory.items →
-    IsArgument globals m calls_puts arguments (Ok v) → is_some target ≡ false → WritesOnly globals m calls_puts target arguments line (string_at memory v.bits)
-puts_writes globals m target arguments line v memory same is none tree points s now call =
-    call_made globals m calls_puts target arguments line tree points s now call v is none
+pub puts_writes : (globals : List Bound) (m : Moment) (target : Option Place) (arguments : List Resolved) (line : ℕ) (v : Held) (dos : DosCall) (memory : List ℕ) →
+    memory ≡ m.memory.items →
+    dos ≡ calls_puts → IsSole globals m dos target arguments (Ok v) → WritesOnly globals m dos target arguments line (string_at memory v.bits)
+puts_writes globals m target arguments line v dos memory same is sole tree points s now call =
+    call_made globals m dos target arguments line tree points s now call v sole.0 sole.1
+    ∙ ap (λ (d : DosCall). dos_step (dos_call d) None (typed v ∷ []) line s) is
     ∙ ap (λ (l : List ℕ). with_events (writes (string_at l v.bits)) s) (sym call.state.memory ∙ sym same)
 
 -- the call that ends the run
-pub leave_exits : (globals : List Bound) (m : Moment) (target : Option Place) (arguments : List Resolved) (line : ℕ) (tree : Tree) (points : ℕ → List Continuation) (s now : State) →
-    (call : CallsDos m globals calls_leave target arguments line tree points s now) (v : Held) → IsArgument globals m calls_leave arguments (Ok v) → is_some target ≡ false →
-    now ≡ with_end (Exit (v.bits % 256)) s
-leave_exits globals m target arguments line tree points s now call v is none =
-    let byte = byte_argument (scope_of tree s) call.exprs (typed v) (is tree points s call.exprs call.globals_are call.state call.stand) in
-    call_made globals m calls_leave target arguments line tree points s now call v is none ∙ ap (λ (b : ℕ). with_end (Exit b) s) (sym byte)
+pub leave_exits : (globals : List Bound) (m : Moment) (target : Option Place) (arguments : List Resolved) (line : ℕ) (v : Held) (dos : DosCall) →
+    dos ≡ calls_leave → IsSole globals m dos target arguments (Ok v) →
+    (tree : Tree) (points : ℕ → List Continuation) (s now : State) → CallsDos m globals dos target arguments line tree points s now →
+    IsKept tree points (record m { end = KeptExit (v.bits % 256) }) s now
+leave_exits globals m target arguments line v dos is sole tree points s now call =
+    let byte = byte_argument (scope_of tree s) call.exprs (typed v) (argument_at dos calls_leave (scope_of tree s) call.exprs (Gives (typed v ∷ [])) is (sole.0 tree points s call.exprs call.globals_are call.state call.stand)) in
+    let same : now ≡ record s { end = Exit (v.bits % 256) } =
+    call_made globals m dos target arguments line tree points s now call v sole.0 sole.1
+    ∙ ap (λ (d : DosCall). dos_step (dos_call d) None (typed v ∷ []) line s) is
+    ∙ ap (λ (b : ℕ). with_end (Exit b) s) (sym byte) in
+    subst (λ (t : State). IsKept tree points (record m { end = KeptExit (v.bits % 256) }) s t) (sym same)
+    (record {
+      state = record { call = call.state.call; waiting = call.state.waiting; fill = call.state.fill; memory = call.state.memory; end = refl };
+      rest = refl;
+      quiet = record { input = refl; events = refl };
+    })
 
 -- writes take nothing of the input
 nothing-taken : (left : Option (List ℕ)) (bytes : List ℕ) → left ≡ prepend_told (taken_by (writes bytes)) left
@@ -192,6 +209,25 @@ dos_unwritten globals m dos target arguments line bytes left taken taken_now is 
   took = nothing-taken left bytes;
   part = subst (AppendsProperPrefix taken taken_now) (sym (written-writes bytes)) part;
 }
+
+-- a write that is all that a call does, and what is told of it
+pub dos_written : (globals : List Bound) (m : Moment) (dos : DosCall) (target : Option Place) (arguments : List Resolved) (line : ℕ)
+    (bytes : List ℕ) (left taken taken_now : Option (List ℕ)) (written : Result (Unit {0}) Failed) (told : Result (Unit {0}) Stop) →
+    WritesOnly globals m dos target arguments line bytes → told ≡ write_stop written →
+    OnOk written (taken_now ≡ append_told taken bytes) → OnErr written (AppendsProperPrefix taken taken_now bytes) →
+    ComesTo line told (CallsDos m globals dos target arguments line) (Kept m) left taken left taken_now
+dos_written globals m dos target arguments line bytes left taken taken_now written told is same whole part =
+    subst (λ (r : Result (Unit {0}) Stop). ComesTo line r (CallsDos m globals dos target arguments line) (Kept m) left taken left taken_now) (sym same) (by written whole part)
+  where
+    by : (w : Result (Unit {0}) Failed) → OnOk w (taken_now ≡ append_told taken bytes) → OnErr w (AppendsProperPrefix taken taken_now bytes) →
+        ComesTo line (write_stop w) (CallsDos m globals dos target arguments line) (Kept m) left taken left taken_now
+    by (Ok done) whole part = dos_writes globals m dos target arguments line bytes left taken taken_now is whole
+    by (Err failed) whole part = dos_unwritten globals m dos target arguments line bytes left taken taken_now is part
+
+pub written_faults : {reads writes writes_now : ℕ} (written : Result (Unit {0}) Failed) (told : Result (Unit {0}) Stop) → told ≡ write_stop written →
+    writes ≤ writes_now → OnErr written (Rose writes writes_now) → Counts told reads reads writes writes_now
+written_faults (Ok done) told same grows rose = made_faults told same (omega arith) grows
+written_faults (Err failed) told same grows rose = write_faults told same grows rose
 
 -- Keys.
 

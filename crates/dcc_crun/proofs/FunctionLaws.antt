@@ -54,7 +54,7 @@ pub called : (m : Moment) (program : Program) (row : CallRow) (number : ℕ) (ta
     procedure ≡ get_or program.procedures.items number procedure → number < length program.procedures.items →
     IsProcedure tree call.f (points number) procedure
 called m program row number target line procedure tree points s now call here within =
-    let has : HasProcedure tree call.f (points number) program number = call.program_is.procedures number call.f call.here in
+    let has : HasProcedure tree call.f (points number) program number = call.at.program_is.procedures number call.f call.here in
     let found : slice_get program.procedures.items number ≡ Some procedure = slice_get_read program.procedures.items _ number procedure refl within here in
     let same : has.procedure ≡ procedure = some_same _ _ (sym has.here ∙ found) in
     subst (IsProcedure tree call.f (points number)) same has.is
@@ -66,7 +66,7 @@ pub not_called : (m : Moment) (program : Program) (row : CallRow) (number : ℕ)
     (tree : Tree) (points : ℕ → List Continuation) (s now : State) → CallsFunction m program row number target line tree points s now →
     length program.procedures.items ≤ number → ⊥
 not_called m program row number target line tree points s now call past =
-    let has : HasProcedure tree call.f (points number) program number = call.program_is.procedures number call.f call.here in
+    let has : HasProcedure tree call.f (points number) program number = call.at.program_is.procedures number call.f call.here in
     let within = slice_get_within program.procedures.items number has.procedure has.here in
     omega arith
 
@@ -78,8 +78,8 @@ pub function_arguments : (m : Moment) (program : Program) (row : CallRow) (numbe
     ≡ resolved_arguments (scene_in m program.globals.items) (map (λ (p : Variable). p.ty) procedure.params.items) row.arguments.items
 function_arguments m program row number target line procedure tree points s now call is =
     let globals = program.globals.items in
-    let fits = fits_here tree points globals m s call.program_is.globals call.state in
-    ap (λ sc. arguments_of sc (param_types call.f) call.exprs) (sym (scope_here tree points globals m s call.program_is.globals call.state))
+    let fits = fits_here tree points globals m s call.at.program_is.globals call.at.state in
+    ap (λ sc. arguments_of sc (param_types call.f) call.exprs) (sym (scope_here tree points globals m s call.at.program_is.globals call.at.state))
     ∙ sym (arguments_are (names_at tree s) (scene_in m globals) (param_types call.f) call.exprs row.arguments.items call.stand fits)
     ∙ ap (λ ts. resolved_arguments (scene_in m globals) ts row.arguments.items) (sym (types_same procedure.params.items call.f.params is.params.kinds))
 

@@ -1,5 +1,5 @@
 -- What statements do to the state of a run while they are executed.
-use Rattle.std.specs.Prelude.{◌≡◌, ℕ, Bool, List, [], ◌∷◌, ◌++◌, map, Option, Some, Result, Ok, Err, IsErrOf, Vec, option_map, slice_get}
+use Rattle.std.specs.Prelude.{◌≡◌, ℕ, Bool, List, [], ◌∷◌, ◌++◌, map, Option, Some, Result, Ok, Err, IsErrOf, Vec, option_map, is_some, false, slice_get}
 use Rattle.std.specs.Global.{Global}
 use Rattle.dcc_run.specs.End.{End, Running as running, Divide as divided, Stuck as stuck}
 use Rattle.dcc_run.specs.Event.{Event, written_by, taken_by}
@@ -27,7 +27,7 @@ use Rattle.dcc_prepare.specs.declared.program.Action.TheVariants.{Call}
 use Rattle.dcc_prepare.specs.declared.program.Procedure.{Procedure}
 use Rattle.dcc_prepare.specs.declared.program.Program.{Program}
 use Rattle.dcc_crun.specs.declared.moment.Moment.{Moment}
-use Rattle.dcc_value.specs.Evaluation.{typed, bindings_named}
+use Rattle.dcc_value.specs.Evaluation.{typed, bindings_named, outcome_of}
 use Rattle.dcc_value.specs.Resolved.{Names, Scene, evaluated, target_named}
 use Rattle.dcc_prepare.specs.Points.{names_in, locals_declared, Goes, Acts, StandsIf, StandAll, IsCallee, dos_call}
 use Rattle.dcc_prepare.specs.Programs.{IsProgram, IsProcedure}
@@ -250,14 +250,34 @@ pub record CallsDos (m : Moment) (globals : List Bound) (dos : DosCall) (target 
   pub is : now ≡ on (arguments_of (scope_of tree s) (dos_signature (dos_call dos)).params exprs) line s
       (λ vs. dos_step (dos_call dos) (option_map (target_named (locals_declared s.frame.function)) target) vs line s)
 
--- a call of a function of the text
-pub record CallsFunction (m : Moment) (program : Program) (row : CallRow) (number : ℕ) (target : Option Place)
-    (line : ℕ)
-    (tree : Tree) (points : ℕ → List Continuation) (s now : State) : Type 0 where
+-- the arguments of a call of a DOS function come to this, where it takes one
+abbrev pub IsArgument : List Bound → Moment → DosCall → List Resolved → Result Held NoValue → Type 0
+IsArgument globals m dos arguments r =
+    (tree : Tree) (points : ℕ → List Continuation) (s : State) (es : List Expr) → AreGlobals tree globals →
+    IsRunning tree points m s → StandAll (names_at tree s) es arguments →
+    arguments_of (scope_of tree s) (dos_signature (dos_call dos)).params es ≡ outcome_of single r
+
+-- What a call of a DOS function comes to that takes an argument and gives nothing: the value of the argument, where
+-- nothing wants a result; or else the end of the run.
+abbrev pub IsSole : List Bound → Moment → DosCall → Option Place → List Resolved → Result Held NoValue → Type 0
+IsSole globals m dos target arguments (Ok v) = IsArgument globals m dos arguments (Ok v) × (is_some target ≡ false)
+IsSole globals m dos target arguments (Err why) =
+    (line : ℕ) (tree : Tree) (points : ℕ → List Continuation) (s now : State) →
+    CallsDos m globals dos target arguments line tree points s now → IsEnded s now (end_at line why)
+
+-- the moment stands for a state that goes on, at a call of this program after which it goes on at the row's next point
+pub record IsAtCall (program : Program) (row : CallRow) (m : Moment)
+    (tree : Tree) (points : ℕ → List Continuation) (s : State) : Type 0 where
   pub program_is : IsProgram tree points program
   pub state : IsRunning tree points m s
   pub running : s.end ≡ running
   pub goes : Goes tree (points m.call.procedure) row.next s.rest
+
+-- a call of a function of the text
+pub record CallsFunction (m : Moment) (program : Program) (row : CallRow) (number : ℕ) (target : Option Place)
+    (line : ℕ)
+    (tree : Tree) (points : ℕ → List Continuation) (s now : State) : Type 0 where
+  pub at : IsAtCall program row m tree points s
   pub lands : IsTargetIf (locals_declared s.frame.function) target
   pub exprs : List Expr
   pub stand : StandAll (names_at tree s) exprs row.arguments.items
@@ -269,10 +289,7 @@ pub record CallsFunction (m : Moment) (program : Program) (row : CallRow) (numbe
 -- a call
 pub record CallsAny (m : Moment) (program : Program) (row : CallRow) (line : ℕ)
     (tree : Tree) (points : ℕ → List Continuation) (s now : State) : Type 0 where
-  pub program_is : IsProgram tree points program
-  pub state : IsRunning tree points m s
-  pub running : s.end ≡ running
-  pub goes : Goes tree (points m.call.procedure) row.next s.rest
+  pub at : IsAtCall program row m tree points s
   pub place : Option Expr
   pub word : Word
   pub exprs : List Expr

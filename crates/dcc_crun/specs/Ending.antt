@@ -1,7 +1,9 @@
 -- How a run has ended, and what steps answer.
+use Rattle.std.specs.Prelude.{Result, Ok, Err}
 use Rattle.dcc_run.specs.End.{End, Running as running, Exit as exited, Divide as divided, Stuck as stuck}
 use Rattle.dcc_value.specs.declared.value.NoValue.{NoValue}
 use Rattle.dcc_value.specs.declared.value.NoValue.TheVariants.{Divides as Faults, Undefined as Meaningless}
+use Rattle.dcc_io.specs.declared.outside.Failed.{Failed}
 use Rattle.dcc_console.specs.declared.fault.Fault.{Fault}
 use Rattle.dcc_console.specs.declared.fault.Fault.TheVariants.{Input as ReadFault, Output as WriteFault}
 use Rattle.dcc_crun.specs.declared.ending.CStepped.{CStepped}
@@ -11,7 +13,7 @@ use Rattle.dcc_crun.specs.declared.ending.Ending.TheVariants.{Running, Exit, Div
 use Rattle.dcc_crun.specs.declared.ending.Refusal.{Refusal}
 use Rattle.dcc_crun.specs.declared.ending.Refusal.TheVariants.{Input, Output, Memory}
 use Rattle.dcc_crun.specs.declared.ending.Stop.{Stop}
-use Rattle.dcc_crun.specs.declared.ending.Stop.TheVariants.{Divides, Undefined}
+use Rattle.dcc_crun.specs.declared.ending.Stop.TheVariants.{Divides, Undefined, Refused}
 
 -- the end of the run that the code keeps
 abbrev pub end_of : Ending → End
@@ -36,6 +38,11 @@ stop_of Meaningless = Undefined
 abbrev pub refusal_of : Fault → Refusal
 refusal_of ReadFault = Input
 refusal_of WriteFault = Output
+
+-- a write that fails stops what a statement does
+abbrev pub write_stop : Result (Unit {0}) Failed → Result (Unit {0}) Stop
+write_stop (Ok done) = Ok done
+write_stop (Err failed) = Err (Refused Output)
 
 -- what a step answers that is refused
 abbrev pub fault_answer_of : Refusal → CStepped

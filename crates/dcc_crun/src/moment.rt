@@ -7,21 +7,24 @@ ghost use Rattle.dcc_c.specs.Types.{plain};
 ghost use Rattle.dcc_c.specs.Tree.{Word, Expr, Assign, Return, Function, Tree};
 ghost use Rattle.dcc_c.specs.Value.{number, is_zero, converted, given, and_then, Gives, Target as Place};
 ghost use Rattle.dcc_c.specs.Placement.{below};
+ghost use Rattle.dcc_c.specs.Dos.{dos_signature};
 ghost use Rattle.dcc_c.specs.Run.{Continuation, State, takes, result_step, back_step, close_step, enter_step, arguments_of, result_target, stmt_step};
 ghost use Rattle.dcc_value.specs.Evaluation.{typed, itself, outcome_of};
 ghost use Rattle.dcc_value.specs.Resolved.{Names, Fits, Stands, IsTargetIn, scene_of, scope_over, evaluated, target_named};
-ghost use Rattle.dcc_prepare.specs.Points.{Goes, StandsIf, StandAll, case_point, label_point, locals_declared};
+ghost use Rattle.dcc_prepare.specs.Points.{Goes, StandsIf, StandAll, case_point, label_point, locals_declared, dos_call};
+ghost use Rattle.dcc_prepare.specs.declared.program.Dos.{Dos as DosCall};
 ghost use Rattle.dcc_prepare.specs.Programs.{IsProgram, IsProcedure};
 ghost use Rattle.dcc_console.specs.Counts.{CountsFaults};
 ghost use Rattle.dcc_crun.specs.Standing.{IsTargetIf, IsRunning};
-ghost use Rattle.dcc_crun.specs.Doing.{scene_in, names_at, AreGlobals, single, ArgumentsAre, resolved_arguments, IsSame, StaysAt, StepsAside, Keeps, Led, IsLed, Kept, Stood, ComesTo, StaysIfRefused, CallsForKey, CallsDos, CallsFunction, CallsAny, IsNoCall, Stays, Performs, Steps, Does, Refuses, Counts};
+ghost use Rattle.dcc_crun.specs.Doing.{scene_in, names_at, AreGlobals, single, ArgumentsAre, resolved_arguments, IsSame, StaysAt, StepsAside, Keeps, Led, IsLed, Kept, Stood, ComesTo, StaysIfRefused, CallsForKey, CallsDos, CallsFunction, CallsAny, IsNoCall, Stays, Performs, Steps, Does, Refuses, Counts, IsSole};
+ghost use Rattle.dcc_crun.specs.Ending.{write_stop};
 
 use crate::call::{Call, Waiting};
 use crate::dos::put_string;
 use crate::ending::{Ending, Refusal, Stop};
 use dcc_c::{Base, CType};
 use dcc_console::take_key;
-use dcc_io::{Sink, Source, put_all};
+use dcc_io::{Failed, Sink, Source, put_all};
 use dcc_prepare::program::{Action, CallRow, Callee, Case, Dos, Label, Procedure, Program, Row};
 use dcc_value::expression::{Resolved, Target, take};
 use dcc_value::value::{NoValue, Value, converted, is_zero, number};
@@ -130,6 +133,16 @@ fn argument_values(
         return Err(Stop::Undefined);
     }
     Ok(values)
+}
+
+// What a write comes to.
+fn write_stop(written: Result<(), Failed>) -> Result<(), Stop>
+    ensures { result ≡ write_stop written }
+{
+    match written {
+        Ok(()) => Ok(()),
+        Err(Failed) => Err(Stop::Refused(Refusal::Output)),
+    }
 }
 
 // Where the result goes, where it goes anywhere.
@@ -365,71 +378,22 @@ impl Moment {
         Ok(())
     }
 
-    // The DOS call that writes a byte.
-    fn putc<O: Sink>(
+    // The value of the only argument of a DOS call that gives nothing.
+    fn sole_value(
         &self,
         globals: &[Binding],
+        base: Base,
         target: Option<Target>,
         arguments: &[Resolved],
-        out: &mut O,
-    ) -> Result<(), Stop>
-        ensures comes { (line : ℕ) (left : Option (List ℕ)) →
-            ComesTo line result (CallsDos self.now globals.now Dos.Putc target arguments.now line) (Kept self.now)
-            left (O.taken out.old) left (O.taken out.new) }
-        ensures faults { (count : ℕ) → Counts result count count (O.faults out.old) (O.faults out.new) }
+    ) -> Result<Value, NoValue>
+        ensures { (dos : DosCall) → plain base ∷ [] ≡ (dos_signature (dos_call dos)).params →
+            IsSole globals.now self.now dos target arguments.now result }
     {
-        let v = only_argument(&self.scene(globals), CType::plain(Base::Uchar), arguments)?;
-        if target.is_some() {
-            return Err(Stop::Undefined);
-        }
-        let byte = (v.bits % 256) as u8;
-        let Ok(()) = put_all(out, &[byte]) else {
-            return Err(Stop::Refused(Refusal::Output));
-        };
-        Ok(())
-    }
-
-    // The DOS call that writes a string.
-    fn puts<O: Sink>(
-        &self,
-        globals: &[Binding],
-        target: Option<Target>,
-        arguments: &[Resolved],
-        out: &mut O,
-    ) -> Result<(), Stop>
-        ensures comes { (line : ℕ) (left : Option (List ℕ)) →
-            ComesTo line result (CallsDos self.now globals.now Dos.Puts target arguments.now line) (Kept self.now)
-            left (O.taken out.old) left (O.taken out.new) }
-        ensures faults { (count : ℕ) → Counts result count count (O.faults out.old) (O.faults out.new) }
-    {
-        let v = only_argument(&self.scene(globals), CType::plain(Base::Uint), arguments)?;
-        if target.is_some() {
-            return Err(Stop::Undefined);
-        }
-        let Ok(()) = put_string(&self.memory, v.bits, out) else {
-            return Err(Stop::Refused(Refusal::Output));
-        };
-        Ok(())
-    }
-
-    // The DOS call that ends the run.
-    fn leave(
-        &mut self,
-        globals: &[Binding],
-        target: Option<Target>,
-        arguments: &[Resolved],
-    ) -> Result<(), NoValue>
-        ensures state { (tree : Tree) (points : ℕ → List Continuation) (s now : State) (line : ℕ) →
-            CallsDos self.old globals.now Dos.Leave target arguments.now line tree points s now →
-            Keeps tree points line result self.new s now }
-        ensures at { StepsAside self.old self.new }
-    {
-        let v = only_argument(&self.scene(globals), CType::plain(Base::Uchar), arguments)?;
+        let v = only_argument(&self.scene(globals), CType::plain(base), arguments)?;
         if target.is_some() {
             return Err(NoValue::Undefined);
         }
-        self.end = Ending::Exit((v.bits % 256) as u8);
-        Ok(())
+        Ok(v)
     }
 
     // A DOS call.
@@ -454,9 +418,19 @@ impl Moment {
             Dos::Getche if arguments.is_empty() => self.key(true, target, input, out),
             Dos::Getch if arguments.is_empty() => self.key(false, target, input, out),
             Dos::Getche | Dos::Getch => Err(Stop::Undefined),
-            Dos::Putc => self.putc(globals, target, arguments, out),
-            Dos::Puts => self.puts(globals, target, arguments, out),
-            Dos::Leave => Ok(self.leave(globals, target, arguments)?),
+            Dos::Putc => {
+                let byte = self.sole_value(globals, Base::Uchar, target, arguments)?;
+                write_stop(put_all(out, &[(byte.bits % 256) as u8]))
+            }
+            Dos::Puts => {
+                let string = self.sole_value(globals, Base::Uint, target, arguments)?;
+                write_stop(put_string(&self.memory, string.bits, out))
+            }
+            Dos::Leave => {
+                let code = self.sole_value(globals, Base::Uchar, target, arguments)?;
+                self.end = Ending::Exit((code.bits % 256) as u8);
+                Ok(())
+            }
         }
     }
 

@@ -6,3 +6,4 @@ pub mod SourceLaws
 pub mod Sums
 pub mod WordLaws
 pub mod WorkLaws
+pub mod PlainGraphs

@@ -3,7 +3,7 @@ use Rattle.std.proofs.Common.{◌≡◌, ◌≢◌, ℕ, ◌+◌, ◌-◌, ◌*�
 use Rattle.std.specs.Prelude.{◌==◌}
 use Rattle.std.specs.Int.{bit_at, bit_not}
 use Rattle.std.proofs.lemmas.Bool.{false≢true, cases_Bool, cases_eq, cases_lt, eqb-true, eq-eqb, or_parts, not-false}
-use Rattle.std.proofs.lemmas.List.{ext_get_or, length-set, length-replicate, get_or-replicate, get_or-set_same, get_or-set_other, set-get_or, get_or_past}
+use Rattle.std.proofs.lemmas.List.{ext_get_or, get_or_read, length-set, length-replicate, get_or-replicate, get_or-set_same, get_or-set_other, set-get_or, get_or_past}
 use Rattle.std.proofs.lemmas.List.Elements.{All-set, All-replicate, All-get_or, All-from_get_or}
 use Rattle.std.proofs.lemmas.List.FromFn.{length-map-range_with_len, get_or-map-range_with_len, fill_by_all}
 use Rattle.std.proofs.lemmas.Nat.{or_lt, and_le_l}
@@ -306,23 +306,71 @@ pub length_flowed : (words used out written : List ℕ) → length (flowed_words
 length_flowed words used out written =
     length-map-range_with_len (λ k. flowed_word (get_or words k 0) (get_or used k 0) (get_or out k 0) (get_or written k 0)) 0 (length words)
 
--- what words are after they have flowed, where all four lists have one length
-pub record Flowing (words after used out written : List ℕ) (len ul ol wl : ℕ) : Type 0 where
-  pub are : AreWords after len
-  pub places : bits_in after len ≡ flowed (bits_in words len) (bits_in used ul) (bits_in out ol) (bits_in written wl)
-  pub differs : (b : Bool) → MatchBool b (after ≢ words) (after ≡ words) → b ≡ differ (bits_in words len) (bits_in after len)
+-- Words that keep a list.
 
-pub flowing : (words after used out written : List ℕ) (len ul ol wl : ℕ) → AreWords words len → AreWords used ul → AreWords out ol → AreWords written wl
-    → ul ≡ len → ol ≡ len → wl ≡ len → after ≡ flowed_words words used out written → Flowing words after used out written len ul ol wl
-flowing words after used out written len ul ol wl a u o w e f g is =
-    let uses = subst (AreWords used) e u in
-    let outs = subst (AreWords out) f o in
-    let writes = subst (AreWords written) g w in
-    subst (λ n. Flowing words after used out written len n ol wl) (sym e)
-    (subst (λ n. Flowing words after used out written len len n wl) (sym f)
-    (subst (λ n. Flowing words after used out written len len len n) (sym g)
-    (subst (λ l. Flowing words l used out written len len len len) (sym is) (record {
-      are = flowed_are words used out written len a uses outs writes;
-      places = flowed_bits words used out written len a uses outs writes;
-      differs = flowed_differ words used out written len a uses outs writes;
-    }))))
+pub record Keep (words : List ℕ) (len : ℕ) (bits : List Bool) : Type 0 where
+  pub are : AreWords words len
+  pub view : bits_in words len ≡ bits
+
+keep_len : {words : List ℕ} {len : ℕ} {bits : List Bool} → Keep words len bits → length bits ≡ len
+keep_len {words} {len} k = sym (ap length k.view) ∙ length_bits words len
+
+pub same_count :
+    {words others : List ℕ} {len other : ℕ} {bits list : List Bool}
+    → Keep words len bits → Keep others other list → length list ≡ length bits → length others ≡ length words
+same_count k o e = o.are.count ∙ ap words_for (sym (keep_len o) ∙ e ∙ keep_len k) ∙ sym k.are.count
+
+-- the word of a place
+pub place_word : {words : List ℕ} {len : ℕ} {bits : List Bool} → Keep words len bits → (i : ℕ) → i < length bits → i / 64 < length words
+place_word {words} {len} k i inside = word_within words len i k.are.count (omega (arith, keep_len k))
+
+pub place_bit : {words : List ℕ} {len : ℕ} {bits : List Bool} → Keep words len bits → (i : ℕ) → i < length bits → bit_in words i ≡ bit bits i
+place_bit {words} {len} k i inside =
+    sym (bit_at_place words len i (omega (arith, keep_len k))) ∙ ap (λ l. bit l i) k.view
+
+-- The word of a place takes its bit.
+pub record SetsPlace (words : List ℕ) (len : ℕ) (bits : List Bool) (i word : ℕ) : Type 0 where
+  pub are : AreWords (slice_set words (i / 64) word) len
+  pub places : bits_in (slice_set words (i / 64) word) len ≡ slice_set bits i true
+
+pub set_place :
+    {words : List ℕ} {len : ℕ} {bits : List Bool} → Keep words len bits → (i word : ℕ) → i < length bits
+    → word ≡ get_or words (i / 64) word → SetsPlace words len bits i (bit_or word (1 * 2 ^ (i % 64) % 2 ^ 64))
+set_place {words} {len} {bits} k i word inside is =
+    let below : i < len = omega (arith, keep_len k) in
+    let read : word ≡ get_or words (i / 64) 0 = get_or_read words (i / 64) word (place_word k i inside) is 0 in
+    subst (λ w. SetsPlace words len bits i (bit_or w (1 * 2 ^ (i % 64) % 2 ^ 64))) (sym read) (record {
+      are = set_words words len i k.are below;
+      places = set_bits words len i k.are below ∙ ap (λ l. slice_set l i true) k.view;
+    })
+
+-- Words flow as the lists do that they keep.
+pub record Flowing (words after : List ℕ) (len : ℕ) (bits used out written : List Bool) : Type 0 where
+  pub are : AreWords after len
+  pub places : bits_in after len ≡ flowed bits used out written
+  pub differs : (b : Bool) → MatchBool b (after ≢ words) (after ≡ words) → b ≡ differ bits (bits_in after len)
+
+-- the same words keep a list of that length
+keep_same : {words others : List ℕ} {len other : ℕ} {bits list : List Bool}
+    → Keep words len bits → Keep others other list → length list ≡ length bits → Keep others len list
+keep_same {others = others} {list = list} k o e =
+    subst (λ n. Keep others n list) (sym (keep_len o) ∙ e ∙ keep_len k) o
+
+pub flowing :
+    {words uses outs writes : List ℕ} {len ul ol wl : ℕ} {bits used out written : List Bool}
+    → Keep words len bits → Keep uses ul used → Keep outs ol out → Keep writes wl written
+    → length used ≡ length bits → length out ≡ length bits → length written ≡ length bits
+    → (now : List ℕ) → now ≡ flowed_words words uses outs writes → Flowing words now len bits used out written
+flowing {words} {uses} {outs} {writes} {len = len} {bits = bits} {used = used} {out = out} {written = written} k u o w e f g now is =
+    let us = keep_same k u e in
+    let os = keep_same k o f in
+    let ws = keep_same k w g in
+    subst (λ l. Flowing words l len bits used out written) (sym is) (record {
+      are = flowed_are words uses outs writes len k.are us.are os.are ws.are;
+      places = flowed_bits words uses outs writes len k.are us.are os.are ws.are
+          ∙ ap (λ l. flowed l (bits_in uses len) (bits_in outs len) (bits_in writes len)) k.view
+          ∙ ap (λ l. flowed bits l (bits_in outs len) (bits_in writes len)) us.view
+          ∙ ap (λ l. flowed bits used l (bits_in writes len)) os.view ∙ ap (flowed bits used out) ws.view;
+      differs = λ b told. flowed_differ words uses outs writes len k.are us.are os.are ws.are b told
+          ∙ ap (λ l. differ l (bits_in (flowed_words words uses outs writes) len)) k.view;
+    })

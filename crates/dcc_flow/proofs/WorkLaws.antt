@@ -583,63 +583,83 @@ module _ (next : List (List ℕ)) (used written : List (List Bool)) (len : ℕ) 
       ∙ ap (λ n. total (λ s. length (get_or sources s [])) n * (len + 1)) (sym same)
       ∙ ap (λ x. x * (len + 1)) (total_entries sources)
 
--- One turn of the loop, as its code has it.
+-- A turn of the loop, as its code has it: the last block that waits, the blocks before it, what it uses and writes.
+pub record Turn (next sources : List (List ℕ)) (used written : List (List Bool)) (len : ℕ) (w : Work) (block : ℕ)
+    (rest tos : List ℕ) (uses writes : List Bool) : Type 0 where
+  pub predecessors : ArePredecessors next sources
+  pub going : Going next used written len w
+  pub waits : w.pending ≡ rest ++ block ∷ []
+  pub tos_is : tos ≡ get_or sources block []
+  pub uses_is : uses ≡ get_or used block []
+  pub writes_is : writes ≡ get_or written block []
+
+-- the steps that flowing from a block takes: so many for each block before it
+abbrev pub weight : List (List ℕ) → ℕ → ℕ
+weight sources s = length (get_or sources s [])
+
+module _ {next sources : List (List ℕ)} {used written : List (List Bool)} {len : ℕ} {w : Work} {block : ℕ}
+    {rest tos : List ℕ} {uses writes : List Bool}
+    (t : Turn next sources used written len w block rest tos uses writes) where
+  turn : Turned next used written len w (spread_from (record w { pending = rest }) block uses writes tos) block
+  turn =
+      let popped : Work = record w { pending = rest } in
+      let inside = last_inside next used written len w block rest t.waits t.going.kept in
+      subst (λ l. Turned next used written len w (spread_from popped block uses writes l) block) (sym t.tos_is)
+      (subst (λ u. Turned next used written len w (spread_from popped block u writes (get_or sources block [])) block)
+      (sym t.uses_is)
+      (subst
+      (λ v. Turned next used written len w (spread_from popped block (get_or used block []) v (get_or sources block [])) block)
+      (sym t.writes_is)
+      (turned next used written len (get_or sources block []) w block rest (λ c. t.predecessors.exact c block inside)
+      t.waits t.going)))
+
+  pub turn_going :
+      (last : Work) → last ≡ spread_from (record w { pending = rest }) block uses writes tos
+      → Going next used written len last
+  turn_going last e = subst (Going next used written len) (sym e) turn.going
+
+  pub turn_less :
+      (last : Work) → last ≡ spread_from (record w { pending = rest }) block uses writes tos
+      → rank next used written len last < rank next used written len w
+  turn_less last e =
+      subst (λ x. rank next used written len x < rank next used written len w) (sym e)
+      (rank_less next used written len w (spread_from (record w { pending = rest }) block uses writes tos) block turn)
+
+  -- the steps of the turn
+  turn_cost : (before now bound m : ℕ) → now ≤ before + length tos * m
+      → before + cost next used written len (weight sources) w * m ≤ bound
+      → now + cost next used written len (weight sources) (spread_from (record w { pending = rest }) block uses writes tos) * m
+      ≤ bound
+  turn_cost before now bound m le all =
+      let after = spread_from (record w { pending = rest }) block uses writes tos in
+      let less = cost_less next used written len (weight sources) w after block turn in
+      let times = mul-le-mul_right m less in
+      let over = spread_over (cost next used written len (weight sources) after) (weight sources block) m in
+      let same = ap (λ n. n * m) (ap length t.tos_is) in
+      omega (arith, le, all, times, over, same)
+
+  pub turn_steps :
+      (last : Work) → last ≡ spread_from (record w { pending = rest }) block uses writes tos
+      → (before now bound m : ℕ) → now ≤ before + length tos * m
+      → before + cost next used written len (weight sources) w * m ≤ bound
+      → now + cost next used written len (weight sources) last * m ≤ bound
+  turn_steps last e before now bound m le all =
+      subst (λ x. now + cost next used written len (weight sources) x * m ≤ bound) (sym e)
+      (turn_cost before now bound m le all)
+
+  pub turn_bound : (before now bound m : ℕ) → now ≤ before + length tos * m
+      → before + cost next used written len (weight sources) w * m ≤ bound → now ≤ bound
+  turn_bound before now bound m le all = let done = turn_cost before now bound m le all in omega (arith, done)
+
 module _ (next sources : List (List ℕ)) (used written : List (List Bool)) (len : ℕ) (are : ArePredecessors next sources) where
-  weight : ℕ → ℕ
-  weight s = length (get_or sources s [])
-
-  module _ (w : Work) (block : ℕ) (rest : List ℕ) (is : w.pending ≡ rest ++ block ∷ []) (h : Going next used written len w)
-      (tos : List ℕ) (uses writes : List Bool) (tos_is : tos ≡ get_or sources block []) (uses_is : uses ≡ get_or used block []) (writes_is : writes ≡ get_or written block []) where
-    after : Work
-    after = spread_from (record w { pending = rest }) block uses writes tos
-
-    turn : Turned next used written len w after block
-    unfolding after
-    turn =
-        let inside = last_inside next used written len w block rest is h.kept in
-        subst (λ l. Turned next used written len w (spread_from (record w { pending = rest }) block uses writes l) block) (sym tos_is)
-        (subst (λ u. Turned next used written len w (spread_from (record w { pending = rest }) block u writes (get_or sources block [])) block) (sym uses_is)
-        (subst (λ v. Turned next used written len w (spread_from (record w { pending = rest }) block (get_or used block []) v (get_or sources block [])) block) (sym writes_is)
-        (turned next used written len (get_or sources block []) w block rest (λ c. are.exact c block inside) is h)))
-
-    pub turn_going : (last : Work) → last ≡ spread_from (record w { pending = rest }) block uses writes tos → Going next used written len last
-    unfolding after
-    turn_going last e = subst (Going next used written len) (sym e) turn.going
-
-    pub turn_less : (last : Work) → last ≡ spread_from (record w { pending = rest }) block uses writes tos → rank next used written len last < rank next used written len w
-    unfolding after
-    turn_less last e = subst (λ x. rank next used written len x < rank next used written len w) (sym e) (rank_less next used written len w after block turn)
-
-    -- the steps of the turn
-    turn_cost : (before now bound m : ℕ) → now ≤ before + length tos * m → before + cost next used written len weight w * m ≤ bound
-        → now + cost next used written len weight after * m ≤ bound
-    unfolding weight
-    turn_cost before now bound m le all =
-        let less = cost_less next used written len weight w after block turn in
-        let size = ap length tos_is in
-        let times = mul-le-mul_right m less in
-        let over = spread_over (cost next used written len weight after) (length (get_or sources block [])) m in
-        let same = ap (λ n. n * m) size in
-        omega (arith, le, all, times, over, same)
-
-    pub turn_steps : (last : Work) → last ≡ spread_from (record w { pending = rest }) block uses writes tos → (before now bound m : ℕ) → now ≤ before + length tos * m
-        → before + cost next used written len (λ s. length (get_or sources s [])) w * m ≤ bound → now + cost next used written len (λ s. length (get_or sources s [])) last * m ≤ bound
-    unfolding weight after
-    turn_steps last e before now bound m le all =
-        subst (λ x. now + cost next used written len (λ s. length (get_or sources s [])) x * m ≤ bound) (sym e) (turn_cost before now bound m le all)
-
-    pub turn_bound : (before now bound m : ℕ) → now ≤ before + length tos * m → before + cost next used written len (λ s. length (get_or sources s [])) w * m ≤ bound → now ≤ bound
-    unfolding weight
-    turn_bound before now bound m le all = let done = turn_cost before now bound m le all in omega (arith, done)
-
   pub start_steps : (first : Work) (count before m : ℕ) → first ≡ first_work count len → count ≡ length next → entries sources ≤ entries next
-      → before + cost next used written len (λ s. length (get_or sources s [])) first * m ≤ before + entries next * (len + 1) * m
+      → before + cost next used written len (weight sources) first * m ≤ before + entries next * (len + 1) * m
   start_steps first count before m e c few =
       let is = first_cost next used written len sources are.len in
       let same : first ≡ first_work (length next) len = e ∙ ap (λ n. first_work n len) c in
-      let all : cost next used written len (λ s. length (get_or sources s [])) first ≡ entries sources * (len + 1) = ap (cost next used written len (λ s. length (get_or sources s []))) same ∙ is in
+      let all : cost next used written len (weight sources) first ≡ entries sources * (len + 1) = ap (cost next used written len (weight sources)) same ∙ is in
       let le : entries sources * (len + 1) ≤ entries next * (len + 1) = mul-le-mul_right (len + 1) few in
-      let times : cost next used written len (λ s. length (get_or sources s [])) first * m ≤ entries next * (len + 1) * m = mul-le-mul_right m (omega (arith, all, le)) in
+      let times : cost next used written len (weight sources) first * m ≤ entries next * (len + 1) * m = mul-le-mul_right m (omega (arith, all, le)) in
       omega (arith, times)
 
   pub start_going : (first : Work) (count : ℕ) → first ≡ first_work count len → count ≡ length next → Going next used written len first

@@ -8,7 +8,7 @@ use Rattle.dcc_c.specs.Tree.{Lines, Variable as DeclaredVariable}
 use Rattle.dcc_c.specs.Placement.{param_places, local_places, is_register, is_auto, wants_place, bytes_of, below}
 use Rattle.dcc_c.specs.Views.{variable_of}
 use Rattle.dcc_prepare.specs.declared.program.Variable.{Variable}
-use Rattle.dcc_prepare.specs.Placing.{ArePlaced}
+use Rattle.dcc_prepare.specs.Placing.{IsNextParam, ArePlaced}
 use Rattle.dcc_prepare.specs.Programs.{AreVariables, Kind, place_in, kind_of, declared_kind}
 
 -- the type that the variable is declared with
@@ -91,3 +91,16 @@ pub next-free : (body : Lines) (base number : ℕ) (placed : Bool) (v : Declared
     is_register v.class ≡ false → (placed || wants_place body v) ≡ false →
     None ∷ param_places body base (number + 1) false params ≡ param_places body base number placed (v ∷ params)
 next-free body base number placed v params e w = rw e (rw w refl)
+
+-- a stack argument, of the type that it is declared with, stands two bytes before the next one
+pub stack_param : (body : Lines) (v : DeclaredVariable) (placed now_placed : Bool) (number offset : ℕ) (x : Variable) →
+    offset ≡ (2 * number) % 65536 → x.ty ≡ v.type → x.is_array ≡ is_some v.len →
+    ((base : ℕ) (params : List DeclaredVariable) →
+    place_in base x ∷ param_places body base (number + 1) now_placed params ≡ param_places body base number placed (v ∷ params)) →
+    IsNextParam body v placed number (record { variable = x; placed = now_placed; offset = (offset + 2) % 65536 })
+stack_param body v placed now_placed number offset x at type is_array places = record {
+  kind = same_kind x v type is_array;
+  next = number + 1;
+  at = omega (arith, at);
+  places = places;
+}

@@ -108,22 +108,6 @@ fn read_after_star(r: &mut Reader<'_>, alloc: Global, calls: usize) -> Got<Parti
     Ok(PartialExpr::Unary(at, CUn::Deref, Box::new(alloc, operand)?))
 }
 
-// Reads the value of an assignment after its `=`.
-fn read_assignment(
-    r: &mut Reader<'_>,
-    alloc: Global,
-    calls: usize,
-    place: PartialExpr,
-) -> Got<PartialStmt>
-    ensures { IfOk result (λ stmt. reading.got (stmt_of stmt) (reader_of r.new)
-        ≡ statements.assignment_of calls (expr_of place) (reader_of r.old)) }
-{
-    let e = read_value(r, alloc, calls)?;
-    r.take_mark(Mark::Semicolon);
-    let done = !r.is_stopped();
-    Ok(PartialStmt::Assign(place, Some(e), done))
-}
-
 // Reads what takes a value at a place: an assignment, or a call with a result.
 fn read_assigned(
     r: &mut Reader<'_>,
@@ -142,7 +126,10 @@ fn read_assigned(
     if r.sees_name_and(Mark::OpenParenthesis) {
         return read_call(r, alloc, calls, Some(place));
     }
-    read_assignment(r, alloc, calls, place)
+    let e = read_value(r, alloc, calls)?;
+    r.take_mark(Mark::Semicolon);
+    let done = !r.is_stopped();
+    Ok(PartialStmt::Assign(place, Some(e), done))
 }
 
 /// Reads an assignment or a call.

@@ -419,21 +419,6 @@ pub fn read_unary(
     Ok(measured_unary(r, alloc, calls, inside)?.expr)
 }
 
-/// Reads an expression, which must stand here.
-pub fn read_expr(
-    r: &mut Reader<'_>,
-    alloc: Global,
-    calls: usize,
-    inside: Inside,
-) -> Got<PartialExpr>
-    requires operators { inside.operators + calls ≤ 2 ^ 64 }
-    requires opened { inside.opened + calls ≤ 2 ^ 64 }
-    ensures { IfOk result (λ e. reading.got (expr_of e) (reader_of r.new)
-        ≡ reading.read_expr calls (inside_of inside) (reader_of r.old)) }
-{
-    Ok(measured_expr(r, alloc, calls, inside)?.expr)
-}
-
 /// Reads a whole expression.
 pub fn read_value(r: &mut Reader<'_>, alloc: Global, calls: usize) -> Got<PartialExpr>
     ensures { IfOk result (λ e. reading.got (expr_of e) (reader_of r.new)
@@ -444,7 +429,7 @@ pub fn read_value(r: &mut Reader<'_>, alloc: Global, calls: usize) -> Got<Partia
         operators: 0,
         opened: 0,
     };
-    read_expr(r, alloc, calls, inside)
+    Ok(measured_expr(r, alloc, calls, inside)?.expr)
 }
 
 /// Reads a whole expression inside the parentheses of a statement.
@@ -457,7 +442,7 @@ pub fn read_enclosed(r: &mut Reader<'_>, alloc: Global, calls: usize) -> Got<Par
         operators: 0,
         opened: 1,
     };
-    read_expr(r, alloc, calls, inside)
+    Ok(measured_expr(r, alloc, calls, inside)?.expr)
 }
 
 /// Reads an expression in parentheses.

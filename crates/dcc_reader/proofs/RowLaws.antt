@@ -1,5 +1,5 @@
 -- The partial trees of statements with blocks, by the lists of their statements and arms.
-use Rattle.std.proofs.Common.{◌≡◌, Bool, List, Vec, Global, map, refl, sym, ap, ◌∙◌}
+use Rattle.std.proofs.Common.{◌≡◌, ℕ, ◌+◌, ◌<◌, Bool, List, Vec, Global, length, map, drop, get_or, refl, sym, ap, ◌∙◌}
 use mathlib.Core.Former.{Count}
 use Rattle.dcc_c.specs.Partial.{IfOf, WhileOf, DoWhileOf, ForeverOf, SwitchOf, PartialArms, row, cases}
 use Rattle.dcc_reader.specs.declared.partial.PartialExpr.{PartialExpr}
@@ -7,6 +7,7 @@ use Rattle.dcc_reader.specs.declared.partial.PartialStmt.{PartialStmt, If, If', 
 use Rattle.dcc_reader.specs.declared.partial.Row.{Row}
 use Rattle.dcc_reader.specs.declared.partial.PartialArm.{PartialArm, PartialArm', out-PartialArm, outs-PartialArm'}
 use Rattle.dcc_reader.specs.PartialViews.{case_of, expr_of, stmt_of, lines_of, lines_of_row, arm_before, arms_of, arms_of_row}
+use Rattle.dcc_reader.proofs.LeftLaws.{next-left}
 
 row-lines : {n : _} (rows : Row_of-Row n) → lines_of (items-the_row-Row n rows) ≡ lines_of_row rows
 row-lines end_of-Row = refl
@@ -46,6 +47,12 @@ arm-parts (PartialArm' numbers default n body) arms =
     let shown = ap lines_of (items_shown-the_row-Row-0 n body) ∙ row-lines body in
     ap (λ lines. cases (map case_of numbers.items) default lines arms) (sym shown)
     ∙ ap (λ parts. cases (map case_of parts.numbers.items) parts.default (lines_of parts.body.items) arms) (sym (outs-PartialArm' numbers default n body))
+
+-- the first of the arms that are left, by the record of its parts
+pub arm-left : {Y : Type 0} (F : PartialArms → Y) (arms : List PartialArm) (i : ℕ) (a : PartialArm) → i < length arms → a ≡ get_or arms i a →
+    F (arms_of (drop i arms))
+    ≡ F (cases (map case_of (out-PartialArm a).numbers.items) (out-PartialArm a).default (lines_of (out-PartialArm a).body.items) (arms_of (drop (i + 1) arms)))
+arm-left F arms i a within is = next-left (λ l. F (arms_of l)) arms i a within is ∙ ap F (arm-parts a (arms_of (drop (i + 1) arms)))
 
 pub if-tree : (e : PartialExpr) (done : Bool) (body otherwise : Vec Row Global) →
     stmt_of (If e done body otherwise) ≡ IfOf (expr_of e) done (lines_of body.items) (lines_of otherwise.items)

@@ -4,7 +4,7 @@ use Rattle.dcc_c.specs.Kinds.{of_depth, offence, only_if, first_after}
 use Rattle.dcc_c.specs.Offences.{own_offences, lines_offences, inner_offences, arms_inner, case_offences, case_numbers, default_offences}
 use Rattle.dcc_c.proofs.refusals.FirstRules.{first-append}
 use Rattle.dcc_reader.specs.PartialViews.{stmt_of, lines_of, arms_of}
-use Rattle.dcc_reader.proofs.RowLaws.{arm-parts, if-tree, while-tree, do_while-tree, forever-tree, switch-tree}
+use Rattle.dcc_reader.proofs.RowLaws.{arm-left, if-tree, while-tree, do_while-tree, forever-tree, switch-tree}
 use Rattle.dcc_reader.specs.Told.{told}
 use Rattle.dcc_check.proofs.TellLaws.{step-told, then-told}
 use Rattle.dcc_reader.proofs.LeftLaws.{next-left}
@@ -39,12 +39,9 @@ pub check_arms-loop-arm-preserved : goal.check_arms-loop-arm-preserved
 check_arms-loop-arm-preserved t c = λ s blocks is room.
     let arms = c.args.arms.now in
     let i = c.loop-arm.arm-index in
-    let within : i < length arms = omega arith in
-    let a = c.arm-item.result in
     let rest = arms_of (drop (i + 1) arms) in
     let parts =
-    next-left (λ l. arms_inner s blocks (arms_of l)) arms i a within c.arm-item.is
-    ∙ ap (arms_inner s blocks) (arm-parts a rest)
+    arm-left (arms_inner s blocks) arms i c.arm-item.result (omega arith) c.arm-item.is
     ∙ ap (λ l. lines_offences s blocks (lines_of l) ++ arms_inner s blocks rest) (sym c.deref.ensures.value) in
     step-told (told c.loop-arm.first) (told c.check_lines.new.first) (first_after (told c.args.first.now) (arms_inner s blocks (arms_of arms)))
     (lines_offences s blocks (lines_of c.deref.result.now)) (arms_inner s blocks rest) (arms_inner s blocks (arms_of (drop i arms)))

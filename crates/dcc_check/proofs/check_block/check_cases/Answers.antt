@@ -6,24 +6,18 @@ use Rattle.dcc_c.specs.Kinds.{of_name, offence, only_if, first_after}
 use Rattle.dcc_c.specs.Offences.{case_offences, case_numbers}
 use Rattle.dcc_reader.specs.declared.partial.CaseAt.{CaseAt}
 use Rattle.dcc_reader.specs.PartialViews.{case_of, arms_of}
-use Rattle.dcc_reader.proofs.RowLaws.{arm-parts}
+use Rattle.dcc_reader.proofs.RowLaws.{arm-left}
 use Rattle.dcc_reader.specs.Told.{told}
 use Rattle.dcc_check.proofs.TellLaws.{step-told}
-use Rattle.dcc_reader.proofs.LeftLaws.{next-left}
 use Rattle.dcc_check.proofs.CaseLaws.{known-more, not-not}
 use Rattle.dcc_check.proofs.check_block.check_cases.Goals as goal
 
 pub loop-number-init : goal.loop-number-init
 loop-number-init c =
-    let arms = c.args.arms.now in
-    let i = c.loop-arm.arm-index in
-    let within : i < length arms = omega arith in
-    let a = c.arm-item.result in
-    let rest = arms_of (drop (i + 1) arms) in
+    let rest = arms_of (drop (c.loop-arm.arm-index + 1) c.args.arms.now) in
     let invariant = c.loop-arm.invariant in
     let parts =
-    next-left (λ l. case_numbers (arms_of l)) arms i a within c.arm-item.is
-    ∙ ap case_numbers (arm-parts a rest)
+    arm-left case_numbers c.args.arms.now c.loop-arm.arm-index c.arm-item.result (omega arith) c.arm-item.is
     ∙ ap (λ l. map case_of l ++ case_numbers rest) (sym c.deref-number-items.ensures.value) in
     (invariant.0, (invariant.1.0, ap (λ l. first_after (told c.loop-arm.first) (case_offences invariant.0 l)) (sym parts) ∙ invariant.1.1))
 

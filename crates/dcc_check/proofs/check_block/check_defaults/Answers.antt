@@ -1,13 +1,12 @@
-use Rattle.std.proofs.Common.{◌+◌, ◌<◌, false, true, length, map, drop, sym, ap, ◌∙◌, arith}
+use Rattle.std.proofs.Common.{◌+◌, false, true, map, drop, sym, ap, ◌∙◌, arith}
 use Rattle.dcc_c.specs.Kinds.{of_name, offence, only_if, first_after}
 use Rattle.dcc_c.specs.Offences.{default_offences}
 use Rattle.dcc_c.specs.Partial.{cases}
 use Rattle.dcc_reader.specs.declared.partial.PartialArm.{out-PartialArm}
 use Rattle.dcc_reader.specs.PartialViews.{case_of, lines_of, arms_of}
-use Rattle.dcc_reader.proofs.RowLaws.{arm-parts}
+use Rattle.dcc_reader.proofs.RowLaws.{arm-left}
 use Rattle.dcc_reader.specs.Told.{told}
 use Rattle.dcc_check.proofs.TellLaws.{step-told, no-some}
-use Rattle.dcc_reader.proofs.LeftLaws.{next-left}
 use Rattle.dcc_check.proofs.check_block.check_defaults.Goals as goal
 use Rattle.dcc_check.proofs.check_block.check_defaults.Goals.{in-Some, in_default}
 
@@ -16,15 +15,11 @@ loop-arm-preserved c =
     let arms = c.args.arms.now in
     let i = c.loop-arm.arm-index in
     let known = c.loop-arm.is_known in
-    let within : i < length arms = omega arith in
-    let a = c.arm-item.result in
-    let parts_of_arm = out-PartialArm a in
+    let parts_of_arm = out-PartialArm c.arm-item.result in
     let rest = arms_of (drop (i + 1) arms) in
     let end = first_after (told c.args.first.now) (default_offences false (arms_of arms)) in
     let whole = default_offences known (arms_of (drop i arms)) in
-    let parts =
-    next-left (λ l. default_offences known (arms_of l)) arms i a within c.arm-item.is
-    ∙ ap (default_offences known) (arm-parts a rest) in
+    let parts = arm-left (default_offences known) arms i c.arm-item.result (omega arith) c.arm-item.is in
     elim c.match-arm.branch [
       | in-Some w ↦
           let offends = only_if known (offence of_name w.in-Some.at) in

@@ -1,4 +1,4 @@
-use Rattle.std.proofs.Common.{◌≡◌, ◌<◌, ◌-◌, ℕ, Bool, false, List, [], ◌∷◌, ◌++◌, length, replicate, reverse, take, Some, ap, sym, ◌∙◌, subst, arith}
+use Rattle.std.proofs.Common.{◌≡◌, ◌<◌, ◌-◌, ℕ, Bool, false, List, [], ◌∷◌, ◌++◌, length, replicate, reverse, take, All, Some, ap, sym, ◌∙◌, subst, arith}
 use Rattle.std.proofs.lemmas.List.Elements.{All-pop}
 use Rattle.dcc_ir.specs.Views.{graph_of}
 use Rattle.dcc_flow.specs.Edges.{rows, AreWithin}
@@ -22,12 +22,16 @@ loop-last-init c =
     let some : 0 < length next = omega (arith, ap length c.in_ok-next.ensures, length_successors (graph_of c.args.g.now), c.requires.begins) in
     subst (StandsAt next) (sym is) (stands_first next some)
 
+-- the block that was begun last is one of the graph
+last_inside : (next : List (List ℕ)) (begun rest : List (ℕ × ℕ)) (last : ℕ × ℕ) → begun ≡ rest ++ last ∷ []
+    → All (λ f. f.0 < length next) begun → last.0 < length next
+last_inside next begun rest last is all = (All-pop (λ (f : ℕ × ℕ). f.0 < length next) begun rest (Some last) is all).1
+
 pub go_on-requires-clause-block : goal.go_on-requires-clause-block
 go_on-requires-clause-block c =
     let next = rows c.in_ok-next.next.items in
-    let last : c.in-Some.last.0 < length next = (All-pop (λ (f : ℕ × ℕ). f.0 < length next) c.loop-last.search.begun.items
-    c.pop.new.self.items (Some c.in-Some.last) c.in-Some.ensures.items c.loop-last.invariant.inside).1 in
-    omega (arith, last, length_rows c.in_ok-next.next.items)
+    let inside = last_inside next _ _ _ c.in-Some.ensures.items c.loop-last.invariant.inside in
+    omega (arith, inside, length_rows c.in_ok-next.next.items)
 
 pub go_on-requires-clause-next : goal.go_on-requires-clause-next
 go_on-requires-clause-next c = subst AreWithin (sym c.in_ok-next.ensures) (successors_within (graph_of c.args.g.now) c.requires)
@@ -36,8 +40,7 @@ pub loop-last-smaller : goal.loop-last-smaller
 loop-last-smaller c =
     let next = rows c.in_ok-next.next.items in
     let within = subst AreWithin (sym c.in_ok-next.ensures) (successors_within (graph_of c.args.g.now) c.requires) in
-    let inside : c.in-Some.last.0 < length next = (All-pop (λ (f : ℕ × ℕ). f.0 < length next) c.loop-last.search.begun.items
-    c.pop.new.self.items (Some c.in-Some.last) c.in-Some.ensures.items c.loop-last.invariant.inside).1 in
+    let inside = last_inside next _ _ _ c.in-Some.ensures.items c.loop-last.invariant.inside in
     let popped : Search = record { seen = c.loop-last.search.seen.items; begun = c.pop.new.self.items; finished = c.loop-last.search.finished.items } in
     let less = less_left next popped c.in-Some.last.0 c.in-Some.last.1 within c.loop-last.invariant.count inside in
     let now : left next (search_of c.go_on.new.self) < left next (record popped { begun = popped.begun ++ c.in-Some.last ∷ [] }) =
@@ -48,8 +51,7 @@ pub loop-last-preserved : goal.loop-last-preserved
 loop-last-preserved c =
     let next = rows c.in_ok-next.next.items in
     let within = subst AreWithin (sym c.in_ok-next.ensures) (successors_within (graph_of c.args.g.now) c.requires) in
-    let inside : c.in-Some.last.0 < length next = (All-pop (λ (f : ℕ × ℕ). f.0 < length next) c.loop-last.search.begun.items
-    c.pop.new.self.items (Some c.in-Some.last) c.in-Some.ensures.items c.loop-last.invariant.inside).1 in
+    let inside = last_inside next _ _ _ c.in-Some.ensures.items c.loop-last.invariant.inside in
     let popped : Search = record { seen = c.loop-last.search.seen.items; begun = c.pop.new.self.items; finished = c.loop-last.search.finished.items } in
     let before : StandsAt next (record popped { begun = popped.begun ++ c.in-Some.last ∷ [] }) =
     subst (λ l. StandsAt next (record popped { begun = l })) c.in-Some.ensures.items c.loop-last.invariant in

@@ -1,7 +1,9 @@
-use Rattle.std.proofs.Common.{◌≡◌, ℕ, Bool, true, false, ◌+◌, ◌<◌, List, map, drop, length, get_or, sym, ap, ◌∙◌, arith}
+use Rattle.std.proofs.Common.{◌≡◌, ℕ, Bool, true, false, ◌+◌, ◌<◌, List, Vec, Global, Option, map, drop, length, get_or, sym, ap, ◌∙◌, arith}
 use Rattle.std.proofs.lemmas.List.{at_drop_more}
 use Rattle.std.specs.Prelude.{◌||◌}
 use Rattle.std.specs.List.{list_any}
+use Rattle.dcc_c.specs.declared.syntax.CExpr.{CExpr}
+use Rattle.dcc_c.specs.declared.syntax.CStmt.{CStmt, If as IfOf, Switch as SwitchOf}
 use Rattle.dcc_c.specs.declared.syntax.Line.{Line}
 use Rattle.dcc_c.specs.declared.syntax.Arm.{Arm, out-Arm}
 use Rattle.dcc_c.specs.Tree.{Word, no_arms, arm}
@@ -79,56 +81,49 @@ stmt_takes-returns-else-expr_takes-4 t c =
     ∙ ap (λ x. x || lines_take name (lines_of body.items)) (sym (sym c.expr_takes-in-DoWhile.ensures ∙ c.if-expr_takes-4.false))
     ∙ ap (stmt_takes name) (sym (do_while-tree c.in-DoWhile.e body) ∙ ap stmt_of (sym c.in-DoWhile.is))
 
+-- an `if` whose condition takes nothing, where it is known of its body what that takes
+if_takes : (name : Word) (stmt : CStmt) (e : CExpr) (body otherwise : Vec Line Global) (first all : Bool) → stmt ≡ IfOf e body otherwise →
+    expr_takes name (expr_of e) ≡ false → lines_take name (lines_of body.items) ≡ first →
+    all ≡ (first || lines_take name (lines_of otherwise.items)) → all ≡ stmt_takes name (stmt_of stmt)
+if_takes name stmt e body otherwise first all is no_head has_first has =
+    let second = lines_take name (lines_of otherwise.items) in
+    has
+    ∙ ap (λ x. x || second) (sym has_first)
+    ∙ ap (λ x. x || (lines_take name (lines_of body.items) || second)) (sym no_head)
+    ∙ ap (stmt_takes name) (sym (if-tree e body otherwise) ∙ ap stmt_of (sym is))
+
 pub stmt_takes-returns-then-lines_take : goal.stmt_takes-returns-then-lines_take
 stmt_takes-returns-then-lines_take t c =
-    let name = c.args.name.now in
-    let e = c.in-If.e in
-    let body = c.in-If.body in
-    let otherwise = c.in-If.otherwise in
-    let first = lines_take name (lines_of body.items) in
-    let second = lines_take name (lines_of otherwise.items) in
-    let is = c.lines_take.ensures ∙ ap (λ ls. lines_take name (lines_of ls)) c.deref-else-expr_takes-2.ensures.value in
-    c.if-lines_take.true
-    ∙ ap (λ x. x || second) (sym (sym is ∙ c.if-lines_take.true))
-    ∙ ap (λ x. x || (first || second)) (sym (sym c.expr_takes-in-If.ensures ∙ c.if-expr_takes-2.false))
-    ∙ ap (stmt_takes name) (sym (if-tree e body otherwise) ∙ ap stmt_of (sym c.in-If.is))
+    let is = c.lines_take.ensures ∙ ap (λ ls. lines_take c.args.name.now (lines_of ls)) c.deref-else-expr_takes-2.ensures.value in
+    if_takes c.args.name.now _ c.in-If.e c.in-If.body c.in-If.otherwise true _ c.in-If.is
+    (sym c.expr_takes-in-If.ensures ∙ c.if-expr_takes-2.false) (sym is ∙ c.if-lines_take.true) c.if-lines_take.true
 
 pub stmt_takes-returns-else-lines_take : goal.stmt_takes-returns-else-lines_take
 stmt_takes-returns-else-lines_take t c =
-    let name = c.args.name.now in
-    let e = c.in-If.e in
-    let body = c.in-If.body in
-    let otherwise = c.in-If.otherwise in
-    let first = lines_take name (lines_of body.items) in
-    let second = lines_take name (lines_of otherwise.items) in
-    let is = c.lines_take.ensures ∙ ap (λ ls. lines_take name (lines_of ls)) c.deref-else-expr_takes-2.ensures.value in
-    c.lines_take-else-lines_take.ensures ∙ ap (λ ls. lines_take name (lines_of ls)) c.deref-else-lines_take.ensures.value
-    ∙ ap (λ x. x || second) (sym (sym is ∙ c.if-lines_take.false))
-    ∙ ap (λ x. x || (first || second)) (sym (sym c.expr_takes-in-If.ensures ∙ c.if-expr_takes-2.false))
-    ∙ ap (stmt_takes name) (sym (if-tree e body otherwise) ∙ ap stmt_of (sym c.in-If.is))
+    let is = c.lines_take.ensures ∙ ap (λ ls. lines_take c.args.name.now (lines_of ls)) c.deref-else-expr_takes-2.ensures.value in
+    if_takes c.args.name.now _ c.in-If.e c.in-If.body c.in-If.otherwise false _ c.in-If.is
+    (sym c.expr_takes-in-If.ensures ∙ c.if-expr_takes-2.false) (sym is ∙ c.if-lines_take.false)
+    (c.lines_take-else-lines_take.ensures ∙ ap (λ ls. lines_take c.args.name.now (lines_of ls)) c.deref-else-lines_take.ensures.value)
+
+-- a `switch` whose value takes nothing, where it is known of its arms what they take
+switch_takes : (name : Word) (stmt : CStmt) (e : CExpr) (arms : Vec Arm Global) (last : Option Arm) (first all : Bool) → stmt ≡ SwitchOf e arms last →
+    expr_takes name (expr_of e) ≡ false → arms_take name (arms_of arms.items) ≡ first →
+    all ≡ (first || arms_take name (arms_if last)) → all ≡ stmt_takes name (stmt_of stmt)
+switch_takes name stmt e arms last first all is no_head has_first has =
+    let second = arms_take name (arms_if last) in
+    has
+    ∙ ap (λ x. x || second) (sym has_first)
+    ∙ ap (λ x. x || (arms_take name (arms_of arms.items) || second)) (sym no_head)
+    ∙ ap (stmt_takes name) (sym (switch-tree e arms last) ∙ ap stmt_of (sym is))
 
 pub stmt_takes-returns-then-arms_take : goal.stmt_takes-returns-then-arms_take
 stmt_takes-returns-then-arms_take t c =
-    let name = c.args.name.now in
-    let arms = c.in-Switch.arms in
-    let last = c.in-Switch.last in
-    let first = arms_take name (arms_of arms.items) in
-    let second = arms_take name (arms_if last) in
-    let is = c.arms_take.ensures ∙ ap (λ l. arms_take name (arms_of l)) c.deref-else-expr_takes-5.ensures.value in
-    c.if-arms_take.true
-    ∙ ap (λ x. x || second) (sym (sym is ∙ c.if-arms_take.true))
-    ∙ ap (λ x. x || (first || second)) (sym (sym c.expr_takes-in-Switch.ensures ∙ c.if-expr_takes-5.false))
-    ∙ ap (stmt_takes name) (sym (switch-tree c.in-Switch.e arms last) ∙ ap stmt_of (sym c.in-Switch.is))
+    let is = c.arms_take.ensures ∙ ap (λ l. arms_take c.args.name.now (arms_of l)) c.deref-else-expr_takes-5.ensures.value in
+    switch_takes c.args.name.now _ c.in-Switch.e c.in-Switch.arms c.in-Switch.last true _ c.in-Switch.is
+    (sym c.expr_takes-in-Switch.ensures ∙ c.if-expr_takes-5.false) (sym is ∙ c.if-arms_take.true) c.if-arms_take.true
 
 pub stmt_takes-returns-else-arms_take : goal.stmt_takes-returns-else-arms_take
 stmt_takes-returns-else-arms_take t c =
-    let name = c.args.name.now in
-    let arms = c.in-Switch.arms in
-    let last = c.in-Switch.last in
-    let first = arms_take name (arms_of arms.items) in
-    let second = arms_take name (arms_if last) in
-    let is = c.arms_take.ensures ∙ ap (λ l. arms_take name (arms_of l)) c.deref-else-expr_takes-5.ensures.value in
-    c.default_takes.ensures
-    ∙ ap (λ x. x || second) (sym (sym is ∙ c.if-arms_take.false))
-    ∙ ap (λ x. x || (first || second)) (sym (sym c.expr_takes-in-Switch.ensures ∙ c.if-expr_takes-5.false))
-    ∙ ap (stmt_takes name) (sym (switch-tree c.in-Switch.e arms last) ∙ ap stmt_of (sym c.in-Switch.is))
+    let is = c.arms_take.ensures ∙ ap (λ l. arms_take c.args.name.now (arms_of l)) c.deref-else-expr_takes-5.ensures.value in
+    switch_takes c.args.name.now _ c.in-Switch.e c.in-Switch.arms c.in-Switch.last false _ c.in-Switch.is
+    (sym c.expr_takes-in-Switch.ensures ∙ c.if-expr_takes-5.false) (sym is ∙ c.if-arms_take.false) c.default_takes.ensures

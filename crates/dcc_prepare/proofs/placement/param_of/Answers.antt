@@ -2,7 +2,7 @@ use Rattle.std.proofs.Common.{◌≡◌, true, false, ◌+◌, ◌*◌, ◌%◌,
 use Rattle.std.specs.Prelude.{option_map}
 use Rattle.dcc_c.specs.Placement.{param_places}
 use Rattle.dcc_c.specs.Views.{lines_of, variable_of}
-use Rattle.dcc_prepare.proofs.PlacementLaws.{same_kind, next-placed, next-free}
+use Rattle.dcc_prepare.proofs.PlacementLaws.{stack_param, next-placed, next-free}
 use Rattle.dcc_prepare.proofs.placement.param_of.Goals as goal
 
 pub returns-then-needs_place : goal.returns-then-needs_place
@@ -10,27 +10,19 @@ returns-then-needs_place c number at =
     let body = lines_of c.args.body.now in
     let v = variable_of c.args.param.now in
     let made = c.variable-then-needs_place in
-    record {
-      kind = same_kind made.result v made.ensures.kind made.ensures.array;
-      next = number + 1;
-      at = omega (arith, at);
-      places = λ base params.
-          let here : (base + c.args.offset) % 65536 ≡ (base + 2 * number) % 65536 = omega (arith, at) in
-          ap (λ o. option_map (λ offset. (base + offset) % 65536) o ∷ param_places body base (number + 1) true params) made.ensures.offset
-          ∙ ap (λ n. Some n ∷ param_places body base (number + 1) true params) here
-          ∙ next-placed body base number c.args.placed v params (sym c.is_register.ensures ∙ c.if-is_register.false) (sym c.needs_place.ensures ∙ c.if-needs_place.true);
-    }
+    stack_param body v c.args.placed true number c.args.offset made.result at made.ensures.kind made.ensures.array
+    (λ base params.
+    let here : (base + c.args.offset) % 65536 ≡ (base + 2 * number) % 65536 = omega (arith, at) in
+    ap (λ o. option_map (λ offset. (base + offset) % 65536) o ∷ param_places body base (number + 1) true params) made.ensures.offset
+    ∙ ap (λ n. Some n ∷ param_places body base (number + 1) true params) here
+    ∙ next-placed body base number c.args.placed v params (sym c.is_register.ensures ∙ c.if-is_register.false) (sym c.needs_place.ensures ∙ c.if-needs_place.true))
 
 pub returns : goal.returns
 returns c number at =
     let body = lines_of c.args.body.now in
     let v = variable_of c.args.param.now in
     let made = c.variable-2 in
-    record {
-      kind = same_kind made.result v made.ensures.kind made.ensures.array;
-      next = number + 1;
-      at = omega (arith, at);
-      places = λ base params.
-          ap (λ o. option_map (λ offset. (base + offset) % 65536) o ∷ param_places body base (number + 1) false params) made.ensures.offset
-          ∙ next-free body base number c.args.placed v params (sym c.is_register.ensures ∙ c.if-is_register.false) (sym c.needs_place.ensures ∙ c.if-needs_place.false);
-    }
+    stack_param body v c.args.placed false number c.args.offset made.result at made.ensures.kind made.ensures.array
+    (λ base params.
+    ap (λ o. option_map (λ offset. (base + offset) % 65536) o ∷ param_places body base (number + 1) false params) made.ensures.offset
+    ∙ next-free body base number c.args.placed v params (sym c.is_register.ensures ∙ c.if-is_register.false) (sym c.needs_place.ensures ∙ c.if-needs_place.false))

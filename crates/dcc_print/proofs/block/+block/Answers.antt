@@ -1,5 +1,7 @@
-use Rattle.std.proofs.Common.{◌≡◌, ℕ, ◌+◌, ◌-◌, ◌<◌, ◌++◌, [], ◌∷◌, codes, List, get_or, length, take, drop, string_bytes, OnOk, sym, ap, ◌∙◌, subst, arith, append_assoc, length-drop}
+use Rattle.std.proofs.Common.{◌≡◌, ℕ, ◌+◌, ◌-◌, ◌<◌, ◌++◌, [], ◌∷◌, codes, List, Vec, Global, get_or, length, take, drop, string_bytes, OnOk, sym, ap, ◌∙◌, subst, arith, append_assoc, length-drop}
 use Rattle.std.proofs.lemmas.List.{at_drop_more, take_all, append-nil}
+use Rattle.dcc_c.specs.declared.syntax.CExpr.{CExpr}
+use Rattle.dcc_c.specs.declared.syntax.CStmt.{CStmt, If as IfOf}
 use Rattle.dcc_c.specs.declared.syntax.Line.{Line}
 use Rattle.dcc_c.specs.declared.syntax.Arm.{Arm, out-Arm}
 use Rattle.dcc_c.specs.Tree.{If, While, DoWhile, Forever, Switch, line, arm, no_arms, Word}
@@ -118,6 +120,15 @@ push_lines-loop-i-preserved t c =
       label = λ label. label-step depth own in_force item.line stmt rest left is own_is after.depth (sym c.is_label-is_after_label.ensures ∙ label);
     }
 
+-- the tree of an `if`, by the statements that its blocks lend
+if-lent : (stmt : CStmt) (e : CExpr) (body otherwise : Vec Line Global) (first second : List Line) → first ≡ body.items → second ≡ otherwise.items →
+    stmt ≡ IfOf e body otherwise → If (expr_of e) (lines_of first) (lines_of second) ≡ stmt_of stmt
+if-lent stmt e body otherwise first second of_body of_otherwise is =
+    ap (λ l. If (expr_of e) (lines_of l) (lines_of second)) of_body
+    ∙ ap (λ l. If (expr_of e) (lines_of body.items) (lines_of l)) of_otherwise
+    ∙ sym (if-tree e body otherwise)
+    ∙ ap stmt_of (sym is)
+
 pub push_stmt-returns-in-If-clause-text : goal.push_stmt-returns-in-If-clause-text
 push_stmt-returns-in-If-clause-text t c =
     let braces = c.args.braces in
@@ -128,11 +139,7 @@ push_stmt-returns-in-If-clause-text t c =
     let head = indentation braces ++ written_test (codes "if") (expr_of c.in-If.e) in
     let inner = written_lines (1 + braces) depth body in
     let last = indentation braces ++ codes "}\n" in
-    let tree =
-    ap (λ l. If (expr_of c.in-If.e) (lines_of l) otherwise) c.deref-in-If.ensures.value
-    ∙ ap (λ l. If (expr_of c.in-If.e) (lines_of c.in-If.body.items) (lines_of l)) c.deref-in-If-2.ensures.value
-    ∙ sym (if-tree c.in-If.e c.in-If.body c.in-If.otherwise)
-    ∙ ap stmt_of (sym c.in-If.is) in
+    let tree = if-lent _ c.in-If.e c.in-If.body c.in-If.otherwise _ _ c.deref-in-If.ensures.value c.deref-in-If-2.ensures.value c.in-If.is in
     append-on_ok c.push_else.result old _ _ (head ++ inner) _ _
     (c.in_ok-middle-in-If.ensures.text ∙ ap (λ l. l ++ inner) c.in_ok-push_test-in-If.ensures ∙ append_assoc old head inner)
     (append_assoc head inner _
@@ -145,11 +152,7 @@ push_stmt-returns-in-If-clause-depth t c =
     let depth = c.args.depth in
     let body = lines_of c.deref-in-If.result.now in
     let otherwise = lines_of c.deref-in-If-2.result.now in
-    let tree =
-    ap (λ l. If (expr_of c.in-If.e) (lines_of l) otherwise) c.deref-in-If.ensures.value
-    ∙ ap (λ l. If (expr_of c.in-If.e) (lines_of c.in-If.body.items) (lines_of l)) c.deref-in-If-2.ensures.value
-    ∙ sym (if-tree c.in-If.e c.in-If.body c.in-If.otherwise)
-    ∙ ap stmt_of (sym c.in-If.is) in
+    let tree = if-lent _ c.in-If.e c.in-If.body c.in-If.otherwise _ _ c.deref-in-If.ensures.value c.deref-in-If-2.ensures.value c.in-If.is in
     depth-on_ok c.push_else.result _ _
     (ap (λ n. depth_after n (stmts_in otherwise)) c.in_ok-middle-in-If.ensures.depth
     ∙ sym (depth_after-append depth (stmts_in body) (stmts_in otherwise))

@@ -1,7 +1,7 @@
 use Rattle.std.proofs.Common.{◌≡◌, ◌+◌, ◌<◌, ◌++◌, length, map, drop, OnOk, sym, ap, subst, ◌∙◌, append_assoc, arith}
 use Rattle.dcc_c.specs.Offences.{label_list, labels_of, labels_in_arms}
 use Rattle.dcc_reader.specs.PartialViews.{stmt_of, lines_of, arms_of}
-use Rattle.dcc_reader.proofs.RowLaws.{arm-parts, if-tree, while-tree, do_while-tree, forever-tree, switch-tree}
+use Rattle.dcc_reader.proofs.RowLaws.{arm-left, if-tree, while-tree, do_while-tree, forever-tree, switch-tree}
 use Rattle.dcc_reader.specs.WordViews.{lent_word}
 use Rattle.dcc_reader.proofs.LeftLaws.{next-left, step-listed}
 use Rattle.dcc_reader.proofs.labels.+labels.Goals as goal
@@ -20,12 +20,9 @@ pub push_arm_labels-loop-arm-preserved : goal.push_arm_labels-loop-arm-preserved
 push_arm_labels-loop-arm-preserved t c =
     let arms = c.args.arms.now in
     let i = c.loop-arm.arm-index in
-    let within : i < length arms = omega arith in
-    let a = c.arm-item.result in
     let rest = arms_of (drop (i + 1) arms) in
     let parts =
-    next-left (λ l. labels_in_arms (arms_of l)) arms i a within c.arm-item.is
-    ∙ ap labels_in_arms (arm-parts a rest)
+    arm-left labels_in_arms arms i c.arm-item.result (omega arith) c.arm-item.is
     ∙ ap (λ l. label_list (lines_of l) ++ labels_in_arms rest) (sym c.deref.ensures.value) in
     step-listed (map lent_word c.loop-arm.found.items) (map lent_word c.push_labels.new.found.items) (map lent_word c.args.found.now.items ++ labels_in_arms (arms_of arms))
     (label_list (lines_of c.deref.result.now)) (labels_in_arms rest) (labels_in_arms (arms_of (drop i arms)))

@@ -55,4 +55,4 @@ returns-clause-comes c line left taken =
     begins c.args.self.now c.enter.new.self c.args.program.now c.args.row.now c.args.number c.args.target line procedure c.in_ok-values.values.items tree points s now call is given
     (λ long.
     subst (λ (vs : List Held). IsLed tree points c.enter.new.self s (enter_step call.f c.args.row.now.depth (option_map (target_named (locals_declared s.frame.function)) c.args.target) (map typed vs) s)) c.deref-3.ensures.value
-    (c.in_ok-enter.ensures.state tree points s call.f call.state call.goes call.here is call.lands (ap length c.deref-3.ensures.value ∙ long))))
+    (c.in_ok-enter.ensures.state tree points s call.f call.at.state call.at.goes call.here is call.lands (ap length c.deref-3.ensures.value ∙ long))))

@@ -1,35 +1,25 @@
-use Rattle.std.proofs.Common.{◌≡◌, ◌<◌, ◌*◌, ◌/◌, ◌%◌, ◌^◌, ℕ, true, length, get_or, slice_set, ap, sym, ◌∙◌, subst, arith, bit_or}
-use Rattle.std.proofs.lemmas.List.{get_or_read}
-use Rattle.dcc_flow.specs.Words.{bits_in, AreWords}
-use Rattle.dcc_flow.proofs.WordLaws.{length_bits, word_within, set_words, set_bits}
+use Rattle.std.proofs.Common.{◌*◌, ◌%◌, ◌^◌, bit_or, arith}
+use Rattle.dcc_flow.proofs.WordLaws.{Keep, place_word, SetsPlace, set_place}
+use Rattle.dcc_flow.proofs.bits.Bits.set.Given.{Over}
+use Rattle.dcc_flow.proofs.bits.Bits.set.Goals.{After-index_mut}
 use Rattle.dcc_flow.proofs.bits.Bits.set.Goals as goal
 
 pub index_mut-requires : goal.index_mut-requires
 index_mut-requires g c =
-    let words = c.self.inside.words in
-    let whole = length_bits words.items c.self.inside.len in
-    let inside : c.args.i < c.self.inside.len = omega (arith, whole, ap length c.self.view_is) in
-    omega (arith, word_within words.items c.self.inside.len c.args.i c.self.invariant.count inside)
+    let keep : Keep c.self.inside.words.items c.self.inside.len c.args.self.now =
+    record { are = c.self.invariant; view = c.self.view_is } in
+    omega (arith, place_word keep c.args.i c.requires)
+
+facts : (g : Over) (c : After-index_mut g)
+    → SetsPlace c.self.inside.words.items c.self.inside.len c.args.self.now c.args.i
+    (bit_or c.index_mut.result.now (1 * 2 ^ (c.args.i % 64) % 2 ^ 64))
+facts g c =
+    let keep : Keep c.self.inside.words.items c.self.inside.len c.args.self.now =
+    record { are = c.self.invariant; view = c.self.view_is } in
+    set_place keep c.args.i c.index_mut.result.now c.requires c.index_mut.ensures.value
 
 pub invariant_of-self : goal.invariant_of-self
-invariant_of-self g c =
-    let words = c.self.inside.words in
-    let len = c.self.inside.len in
-    let whole = length_bits words.items len in
-    let inside : c.args.i < len = omega (arith, whole, ap length c.self.view_is) in
-    let within = word_within words.items len c.args.i c.self.invariant.count inside in
-    let read : c.index_mut.result.now ≡ get_or words.items (c.args.i / 64) 0 = get_or_read words.items (c.args.i / 64) c.index_mut.result.now within c.index_mut.ensures.value 0 in
-    subst (λ (w : ℕ). AreWords (slice_set words.items (c.args.i / 64) (bit_or w (1 * 2 ^ (c.args.i % 64) % 2 ^ 64))) len) (sym read)
-    (set_words words.items len c.args.i c.self.invariant inside)
+invariant_of-self g c = (facts g (goal.at.invariant_of-self g c).After-index_mut).are
 
 pub returns-clause-bits : goal.returns-clause-bits
-returns-clause-bits g c =
-    let words = c.self.inside.words in
-    let len = c.self.inside.len in
-    let whole = length_bits words.items len in
-    let inside : c.args.i < len = omega (arith, whole, ap length c.self.view_is) in
-    let within = word_within words.items len c.args.i c.self.invariant.count inside in
-    let read : c.index_mut.result.now ≡ get_or words.items (c.args.i / 64) 0 = get_or_read words.items (c.args.i / 64) c.index_mut.result.now within c.index_mut.ensures.value 0 in
-    ap (λ (w : ℕ). bits_in (slice_set words.items (c.args.i / 64) (bit_or w (1 * 2 ^ (c.args.i % 64) % 2 ^ 64))) len) read
-    ∙ set_bits words.items len c.args.i c.self.invariant inside
-    ∙ ap (λ l. slice_set l c.args.i true) c.self.view_is
+returns-clause-bits g c = (facts g (goal.at.returns-clause-bits g c).After-index_mut).places
