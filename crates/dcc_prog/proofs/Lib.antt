@@ -20,6 +20,10 @@ pub mod MemoryKept
 pub mod ResultBounds
 pub mod StateKept
 pub mod LocationKept
+pub mod AlikeValues
+pub mod AlikeHalves
+pub mod AlikeFlags
+pub mod AlikeMade
 mod Examples
 mod DivisionExamples
 mod LayoutExamples

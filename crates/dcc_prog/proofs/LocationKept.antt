@@ -60,7 +60,7 @@ pub word-other :
 word-other s q r v other =
     get_or-set_other s.regs (reg_number q) (reg_number r) v 0 (apart (reg_number r) (reg_number q) other)
 
-half-other :
+pub half-other :
     (s : State) (q r : Reg) (v : ℕ) (half : Half) → is_same_register r q ≡ false
     → half_in (with_word_in s q v) r half ≡ half_in s r half
 half-other s q r v half other = ap (half_of_word half) (word-other s q r v other)
@@ -119,7 +119,7 @@ operand-half (Mem byte_width ea) v s r half count fits clear = refl
 operand-half (Mem word_width ea) v s r half count fits clear = refl
 operand-half (Const width constant) v s r half count fits clear = refl
 
-operand-count : (x : Operand) (v : ℕ) (s : State) → length (with_operand s x v).regs ≡ length s.regs
+pub operand-count : (x : Operand) (v : ℕ) (s : State) → length (with_operand s x v).regs ≡ length s.regs
 operand-count (Word r) v s = length-set s.regs (reg_number r) v
 operand-count (Byte r half) v s = length-set s.regs (reg_number r) (word_with_half half (word_in s r) v)
 operand-count (Seg number) v s = refl
@@ -249,7 +249,7 @@ dos-half number at s r half form clear =
 
 -- All operations.
 
-op-half :
+pub op-half :
     (cpu : Cpu) (op : Op) (at : ℕ) (s : State) (r : Reg) (half : Half) → IsOperation op → IsState s
     → writes_half op r half ≡ false → half_in (op_step cpu op at s) r half ≡ half_in s r half
 op-half cpu (Alu operation a b) at s r half good form clear =
@@ -464,7 +464,7 @@ dos-flags number at s =
     (chosen-flags (number == GETCH) s (key_step false s) string (key-flags false s.input s)
     (chosen-flags (number == PUTS) s (after_write (dos_string s) s) last refl refl))))
 
-op-flag :
+pub op-flag :
     (cpu : Cpu) (op : Op) (at : ℕ) (s : State) (flag : FlagName) → IsOperation op → writes_flag op flag ≡ false
     → flag_in (op_step cpu op at s).flags flag ≡ flag_in s.flags flag
 op-flag cpu (Alu operation a b) at s flag good clear = cc

@@ -27,3 +27,4 @@ pub mod StateForm
 pub mod Access
 pub mod MemoryLaws
 pub mod LocationLaws
+pub mod AlikeLaws

@@ -2,6 +2,7 @@
 //! proved for all.
 
 ghost use Rattle.dcc_prog.specs.StateForm.{StepsKeepStates};
+ghost use Rattle.dcc_prog.specs.AlikeLaws.{WhatIsMadeAlikeIsAlike};
 ghost use Rattle.dcc_prog.specs.LocationLaws.{WhatIsNotWrittenStays};
 ghost use Rattle.dcc_prog.specs.MemoryLaws.{StepsActByAccesses, MemoryChangesAtWritesAlone, BytesAreAlikeOrLeft, AccessesDependOnReads};
 
@@ -34,4 +35,9 @@ pub fn steps_keep_states()
 /// What an operation doesn't write, by the table of writes, stays as it was. The own step of a CALL writes SP alone.
 pub fn what_is_not_written_stays()
     ensures { WhatIsNotWrittenStays }
+{}
+
+/// Two states that agree in all that a location is made of agree in it after the step.
+pub fn what_is_made_alike_is_alike()
+    ensures { WhatIsMadeAlikeIsAlike }
 {}
