@@ -49,7 +49,8 @@ use Rattle.dcc_prog.proofs.AlikeHalves.{all_of, alu_reads, alu-results, factors-
 result-flags : (x : Operand) (result : ℕ × Flags) (s : State) → (with_result x result s).flags ≡ result.1
 result-flags x result s = operand-flags x result.0 (with_flags result.1 s)
 
-written-flags : (so : Bool) (x : Operand) (result : ℕ × Flags) (s : State) → (alu_written so x result s).flags ≡ result.1
+written-flags :
+    (so : Bool) (x : Operand) (result : ℕ × Flags) (s : State) → (alu_written so x result s).flags ≡ result.1
 written-flags true x result s = result-flags x result s
 written-flags false x result s = refl
 
@@ -76,7 +77,8 @@ alu-flag :
     (clear : Bool) (cpu : Cpu) (operation : AluName) (a b : Operand) (at : ℕ) (s t : State) (flag : FlagName)
     → AreTwo s t → (is_logic operation && is_carry_or_overflow flag) ≡ clear
     → AgreeWhere (makes (Alu operation a b) (flag_of flag)) s t
-    → flag_in (op_step cpu (Alu operation a b) at s).flags flag ≡ flag_in (op_step cpu (Alu operation a b) at t).flags flag
+    → flag_in (op_step cpu (Alu operation a b) at s).flags flag ≡ flag_in
+    (op_step cpu (Alu operation a b) at t).flags flag
 alu-flag clear cpu operation a b at s t flag two is made =
     let w = operand_width a in
     let first = alu_result operation w (operand_value s a) (operand_value s b) s.flags.cf in
@@ -130,10 +132,12 @@ product-flag :
     (w : Width) (a b c d : ℕ) (flag : FlagName) → (is_carry_or_overflow flag ≡ true → (a ≡ c) × (b ≡ d))
     → flag_in (product_of w a b).2 flag ≡ flag_in (product_of w c d).2 flag
 unfolding product_of
-product-flag w a b c d Cf same = let both = same refl in ap (λ n. (product_of w n b).2.cf) both.0 ∙ ap (λ n. (product_of w c n).2.cf) both.1
+product-flag w a b c d Cf same =
+    let both = same refl in ap (λ n. (product_of w n b).2.cf) both.0 ∙ ap (λ n. (product_of w c n).2.cf) both.1
 product-flag w a b c d Zf same = refl
 product-flag w a b c d Sf same = refl
-product-flag w a b c d Of same = let both = same refl in ap (λ n. (product_of w n b).2.of) both.0 ∙ ap (λ n. (product_of w c n).2.of) both.1
+product-flag w a b c d Of same =
+    let both = same refl in ap (λ n. (product_of w n b).2.of) both.0 ∙ ap (λ n. (product_of w c n).2.of) both.1
 
 signed_product-flag :
     (w : Width) (a b c d : ℕ) (flag : FlagName) → (is_carry_or_overflow flag ≡ true → (a ≡ c) × (b ≡ d))
@@ -161,14 +165,17 @@ unary-flag :
     → unary_writes_flag operation flag ≡ true → AgreeWhere (makes (Unary operation a) (flag_of flag)) s t
     → AgreeWhere (divides_by (Unary operation a)) s t
     → is_over (op_step cpu (Unary operation a) at s).end ≡ false
-    → flag_in (op_step cpu (Unary operation a) at s).flags flag ≡ flag_in (op_step cpu (Unary operation a) at t).flags flag
+    → flag_in (op_step cpu (Unary operation a) at s).flags flag ≡ flag_in
+    (op_step cpu (Unary operation a) at t).flags flag
 unary-flag cpu Inc a at s t flag two e made divided goes =
-    let value = value-alike s t a two.beside (all_of (unary_writes_flag Inc flag) (λ from. is_read from a) s t e made) in
+    let value =
+    value-alike s t a two.beside (all_of (unary_writes_flag Inc flag) (λ from. is_read from a) s t e made) in
     ap (λ f. flag_in f flag) (result-flags a (increment_of (operand_width a) (operand_value s a) s.flags) s)
     ∙ increment-flag (operand_width a) _ _ s.flags t.flags flag value e
     ∙ sym (ap (λ f. flag_in f flag) (result-flags a (increment_of (operand_width a) (operand_value t a) t.flags) t))
 unary-flag cpu Dec a at s t flag two e made divided goes =
-    let value = value-alike s t a two.beside (all_of (unary_writes_flag Dec flag) (λ from. is_read from a) s t e made) in
+    let value =
+    value-alike s t a two.beside (all_of (unary_writes_flag Dec flag) (λ from. is_read from a) s t e made) in
     ap (λ f. flag_in f flag) (result-flags a (decrement_of (operand_width a) (operand_value s a) s.flags) s)
     ∙ decrement-flag (operand_width a) _ _ s.flags t.flags flag value e
     ∙ sym (ap (λ f. flag_in f flag) (result-flags a (decrement_of (operand_width a) (operand_value t a) t.flags) t))
@@ -181,14 +188,16 @@ unary-flag cpu Not a at s t flag two e made divided goes = cc
 unary-flag cpu Mul a at s t flag two e made divided goes =
     let w = operand_width a in
     let same = λ (h : is_carry_or_overflow flag ≡ true).
-    factors-alike a s t two.beside (all_of (is_carry_or_overflow flag) (λ from. is_accumulator w from || is_read from a) s t h made) in
+    factors-alike a s t two.beside
+    (all_of (is_carry_or_overflow flag) (λ from. is_accumulator w from || is_read from a) s t h made) in
     ap (λ f. flag_in f flag) (product-step w (product_of w (accumulator_in w s) (operand_value s a)) s)
     ∙ product-flag w _ _ _ _ flag same
     ∙ sym (ap (λ f. flag_in f flag) (product-step w (product_of w (accumulator_in w t) (operand_value t a)) t))
 unary-flag cpu Imul a at s t flag two e made divided goes =
     let w = operand_width a in
     let same = λ (h : is_carry_or_overflow flag ≡ true).
-    factors-alike a s t two.beside (all_of (is_carry_or_overflow flag) (λ from. is_accumulator w from || is_read from a) s t h made) in
+    factors-alike a s t two.beside
+    (all_of (is_carry_or_overflow flag) (λ from. is_accumulator w from || is_read from a) s t h made) in
     ap (λ f. flag_in f flag) (product-step w (signed_product_of w (accumulator_in w s) (operand_value s a)) s)
     ∙ signed_product-flag w _ _ _ _ flag same
     ∙ sym (ap (λ f. flag_in f flag) (product-step w (signed_product_of w (accumulator_in w t) (operand_value t a)) t))
@@ -221,7 +230,8 @@ unary-flag cpu Idiv a at s t flag two e made divided goes =
 unless-flag :
     (count a r b q : ℕ) (was other flags flagged : Flags) (flag : FlagName)
     → ((count == 0) ≡ true → flag_in was flag ≡ flag_in other flag) → flag_in flags flag ≡ flag_in flagged flag
-    → flag_in (unless_zero count (a, was) (r, flags)).1 flag ≡ flag_in (unless_zero count (b, other) (q, flagged)).1 flag
+    → flag_in (unless_zero count (a, was) (r, flags)).1 flag ≡ flag_in
+    (unless_zero count (b, other) (q, flagged)).1 flag
 unless-flag count a r b q was other flags flagged flag still same = go (count == 0) still
   where
     go :
@@ -262,7 +272,9 @@ brings-right Cf e = e
 brings-right flag e = cc
 
 turn-flag :
-    (w : Width) (a b : ℕ) (was other : Flags) (flag : FlagName) → a ≡ b → (flag_of_overflow flag ≡ true → was.cf ≡ other.cf)
+    (w :
+    Width) (a b : ℕ) (was other : Flags) (flag : FlagName) → a ≡ b →
+    (flag_of_overflow flag ≡ true → was.cf ≡ other.cf)
     → is_carry_or_overflow flag ≡ true
     → (flag_in (left_turn_of w a was).1 flag ≡ flag_in (left_turn_of w b other).1 flag)
     × (flag_in (right_turn_of w a was).1 flag ≡ flag_in (right_turn_of w b other).1 flag)
@@ -273,9 +285,9 @@ turn-flag w a b was other Sf same carry e = cc
 turn-flag w a b was other Of same carry e =
     let brought = carry refl in (
       ap (λ k. differ (has_sign w k) (has_sign w ((2 * k + from_bool was.cf) % limit_of w))) same
-      ∙ ap (λ c. differ (has_sign w b) (has_sign w ((2 * b + from_bool c) % limit_of w))) brought,
+          ∙ ap (λ c. differ (has_sign w b) (has_sign w ((2 * b + from_bool c) % limit_of w))) brought,
       ap (λ k. top_bits_differ w (k / 2 + from_bool was.cf * half_limit w)) same
-      ∙ ap (λ c. top_bits_differ w (b / 2 + from_bool c * half_limit w)) brought,
+          ∙ ap (λ c. top_bits_differ w (b / 2 + from_bool c * half_limit w)) brought,
     )
 
 -- OF of SAR is clear where it is written
@@ -357,11 +369,13 @@ shift-made cpu operation a count at s t flag two e made passed =
       count = λ turned. count-alike cpu count s t (λ cl.
           agree (half_of Cx Low)
           (or-second (shift_reads operation (flag_of flag) && is_read (half_of Cx Low) a) _
-          (or-first (is_by_cl operation count && true) _ (and-both (is_by_cl operation count) true (by_cl turned cl) refl))));
+          (or-first (is_by_cl operation count && true) _
+          (and-both (is_by_cl operation count) true (by_cl turned cl) refl))));
       carry = λ h.
           agree (flag_of Cf)
           (or-second (shift_reads operation (flag_of flag) && is_read (flag_of Cf) a) _
-          (or-second (is_by_cl operation count && false) _ (and-both (brings_carry operation (flag_of flag)) true h refl)));
+          (or-second (is_by_cl operation count && false) _
+          (and-both (brings_carry operation (flag_of flag)) true h refl)));
       still = λ turned none. still_flag turned none (is_in_cl count) refl (never_shifts count) refl writes.1;
     } in
     ap (λ f. flag_in f flag) (result-flags a (shift_result operation w (operand_value s a) n s.flags) s)
@@ -381,7 +395,8 @@ shift-made cpu operation a count at s t flag two e made passed =
 imul3-flag :
     (cpu : Cpu) (to : Reg) (a : Operand) (constant at : ℕ) (s t : State) (flag : FlagName) → AreTwo s t
     → AgreeWhere (makes (Imul3 to a constant) (flag_of flag)) s t
-    → flag_in (op_step cpu (Imul3 to a constant) at s).flags flag ≡ flag_in (op_step cpu (Imul3 to a constant) at t).flags flag
+    → flag_in (op_step cpu (Imul3 to a constant) at s).flags flag ≡ flag_in
+    (op_step cpu (Imul3 to a constant) at t).flags flag
 imul3-flag cpu to a constant at s t flag two made =
     signed_product-flag word_width (operand_value s a) constant (operand_value t a) constant flag (λ h.
     (value-alike s t a two.beside (all_of (is_carry_or_overflow flag) (λ from. is_read from a) s t h made), refl))

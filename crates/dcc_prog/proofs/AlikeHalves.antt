@@ -59,7 +59,9 @@ result-alike x result other s t r half same first second e =
     ∙ ap (λ v. half_in (with_operand (with_flags other.1 t) x v) r half) same
 
 -- what both halves of one word are made of
-pub all_of : (a : Bool) (test : Location → Bool) (s t : State) → a ≡ true → AgreeWhere (λ from. a && test from) s t → AgreeWhere test s t
+pub all_of :
+    (a : Bool) (test : Location → Bool) (s t : State) → a ≡ true → AgreeWhere (λ from. a && test from) s t
+    → AgreeWhere test s t
 all_of a test s t e agree from h = agree from (and-both a (test from) e h)
 
 -- Operations on two operands.
@@ -78,7 +80,8 @@ alu-results operation a b s t beside agree =
     value-alike s t b beside (λ from e. agree from (or-second (is_read from a) _ (or-first (is_read from b) _ e))) in
     alu-alike operation (operand_width a) _ _ _ _ s.flags.cf t.flags.cf first second (λ takes.
     agree (flag_of Cf)
-    (or-second (is_read (flag_of Cf) a) _ (or-second (is_read (flag_of Cf) b) _ (and-both (takes_carry operation) true takes refl))))
+    (or-second (is_read (flag_of Cf) a) _
+    (or-second (is_read (flag_of Cf) b) _ (and-both (takes_carry operation) true takes refl))))
 
 alu-half :
     (cpu : Cpu) (operation : AluName) (a b : Operand) (at : ℕ) (s t : State) (r : Reg) (half : Half) → AreTwo s t
@@ -101,11 +104,11 @@ alu-half cpu operation a b at s t r half two e made =
 
 -- Operations on one operand.
 
-increment-alike : (w : Width) (a b : ℕ) (f g : Flags) → a ≡ b → (increment_of w a f).0 ≡ (increment_of w b g).0
+pub increment-alike : (w : Width) (a b : ℕ) (f g : Flags) → a ≡ b → (increment_of w a f).0 ≡ (increment_of w b g).0
 unfolding increment_of
 increment-alike w a b f g same = ap (λ n. (sum_of w n 1 false).0) same
 
-decrement-alike : (w : Width) (a b : ℕ) (f g : Flags) → a ≡ b → (decrement_of w a f).0 ≡ (decrement_of w b g).0
+pub decrement-alike : (w : Width) (a b : ℕ) (f g : Flags) → a ≡ b → (decrement_of w a f).0 ≡ (decrement_of w b g).0
 unfolding decrement_of
 decrement-alike w a b f g same = ap (λ n. (difference_of w n 1 false).0) same
 
@@ -123,7 +126,8 @@ division-alike w at (Some division) s t r half first second e goes =
 pub factors-alike :
     (a : Operand) (s t : State) → AgreeBeside s t
     → AgreeWhere (λ from. is_accumulator (operand_width a) from || is_read from a) s t
-    → (accumulator_in (operand_width a) s ≡ accumulator_in (operand_width a) t) × (operand_value s a ≡ operand_value t a)
+    → (accumulator_in (operand_width a) s ≡ accumulator_in (operand_width a) t) ×
+    (operand_value s a ≡ operand_value t a)
 factors-alike a s t beside agree = (
   accumulator-alike (operand_width a) s t (λ from e. agree from (or-first (is_accumulator (operand_width a) from) _ e)),
   value-alike s t a beside (λ from e. agree from (or-second (is_accumulator (operand_width a) from) _ e)),
@@ -172,17 +176,21 @@ unary-half cpu Not a at s t r half two e made divided goes =
 unary-half cpu Mul a at s t r half two e made divided goes =
     let w = operand_width a in
     let factors =
-    factors-alike a s t two.beside (all_of (is_in_pair w r) (λ from. is_accumulator w from || is_read from a) s t e made) in
-    let same : product_of w (accumulator_in w s) (operand_value s a) ≡ product_of w (accumulator_in w t) (operand_value t a) =
+    factors-alike a s t two.beside
+    (all_of (is_in_pair w r) (λ from. is_accumulator w from || is_read from a) s t e made) in
+    let same : product_of w (accumulator_in w s) (operand_value s a) ≡ product_of w (accumulator_in w t)
+    (operand_value t a) =
     ap (λ n. product_of w n (operand_value s a)) factors.0 ∙ ap (product_of w (accumulator_in w t)) factors.1 in
     pair-alike w _ s t r half two.first.registers.count two.second.registers.count e
     ∙ ap (λ p. half_in (with_product w p t) r half) same
 unary-half cpu Imul a at s t r half two e made divided goes =
     let w = operand_width a in
     let factors =
-    factors-alike a s t two.beside (all_of (is_in_pair w r) (λ from. is_accumulator w from || is_read from a) s t e made) in
+    factors-alike a s t two.beside
+    (all_of (is_in_pair w r) (λ from. is_accumulator w from || is_read from a) s t e made) in
     let same :
-    signed_product_of w (accumulator_in w s) (operand_value s a) ≡ signed_product_of w (accumulator_in w t) (operand_value t a) =
+    signed_product_of w (accumulator_in w s) (operand_value s a) ≡ signed_product_of w (accumulator_in w t)
+    (operand_value t a) =
     ap (λ n. signed_product_of w n (operand_value s a)) factors.0
     ∙ ap (signed_product_of w (accumulator_in w t)) factors.1 in
     pair-alike w _ s t r half two.first.registers.count two.second.registers.count e
@@ -265,7 +273,8 @@ shift-results cpu operation a count s t beside agree =
     agree (half_of Cx Low)
     (or-second (is_read (half_of Cx Low) a) _
     (or-first (is_by_cl operation count && true) _
-    (and-both (is_by_cl operation count) true (and-both (is_in_cl count) (not (is_turn operation)) cl (ap not still)) refl)))) in
+    (and-both (is_by_cl operation count) true
+    (and-both (is_in_cl count) (not (is_turn operation)) cl (ap not still)) refl)))) in
     let carried = λ (turns : is_turn operation ≡ true).
     agree (flag_of Cf)
     (or-second (is_read (flag_of Cf) a) _
@@ -275,7 +284,8 @@ shift-results cpu operation a count s t beside agree =
 shift-half :
     (cpu : Cpu) (operation : ShiftName) (a : Operand) (count : Count) (at : ℕ) (s t : State) (r : Reg) (half : Half)
     → AreTwo s t → is_half_of r half a ≡ true → AgreeWhere (makes (Shift operation a count) (half_of r half)) s t
-    → half_in (op_step cpu (Shift operation a count) at s) r half ≡ half_in (op_step cpu (Shift operation a count) at t) r half
+    → half_in (op_step cpu (Shift operation a count) at s) r half ≡ half_in
+    (op_step cpu (Shift operation a count) at t) r half
 shift-half cpu operation a count at s t r half two e made =
     let same =
     shift-results cpu operation a count s t two.beside
@@ -299,7 +309,7 @@ memory-alike w ea s t beside agree =
       | inr address ↦ agree from address
     ])
 
-same-moved :
+pub same-moved :
     (x : Operand) (v w : ℕ) (s t : State) (r : Reg) (half : Half) → v ≡ w → length s.regs ≡ 8 → length t.regs ≡ 8
     → is_half_of r half x ≡ true → half_in (with_operand s x v) r half ≡ half_in (with_operand t x w) r half
 same-moved x v w s t r half same first second e =
@@ -307,9 +317,12 @@ same-moved x v w s t r half same first second e =
 
 -- a half that an operand takes from another one, whose value is that in s and t
 moved-alike :
-    (x from : Operand) (s t u v : State) (r : Reg) (half : Half) → AgreeBeside s t → operand_width x ≡ operand_width from
-    → AgreeWhere (moves x from (half_of r half)) s t → length u.regs ≡ 8 → length v.regs ≡ 8 → is_half_of r half x ≡ true
-    → half_in (with_operand u x (operand_value s from)) r half ≡ half_in (with_operand v x (operand_value t from)) r half
+    (x from : Operand) (s t u v : State) (r : Reg)
+    (half : Half) → AgreeBeside s t → operand_width x ≡ operand_width from
+    → AgreeWhere
+    (moves x from (half_of r half)) s t → length u.regs ≡ 8 → length v.regs ≡ 8 → is_half_of r half x ≡ true
+    → half_in (with_operand u x (operand_value s from)) r half ≡ half_in
+    (with_operand v x (operand_value t from)) r half
 moved-alike (Word q) (Word p) s t u v r half beside widths agree first second e =
     taken-alike u v q r half (word_in s p) (word_in t p) first second e
     (agree (half_of p half)
@@ -321,7 +334,8 @@ moved-alike (Word q) (Seg number) s t u v r half beside widths agree first secon
 moved-alike (Word q) (Mem byte_width ea) s t u v r half beside widths agree first second e = cc
 moved-alike (Word q) (Mem word_width ea) s t u v r half beside widths agree first second e =
     same-moved (Word q) _ _ u v r half
-    (memory-alike word_width ea s t beside (all_of (is_same_register r q) (λ from. is_in_address from ea) s t e agree)) first second e
+    (memory-alike word_width ea s t beside
+    (all_of (is_same_register r q) (λ from. is_in_address from ea) s t e agree)) first second e
 moved-alike (Word q) (Const w constant) s t u v r half beside widths agree first second e =
     same-moved (Word q) constant constant u v r half refl first second e
 moved-alike (Byte q place) (Word p) s t u v r half beside widths agree first second e = cc
@@ -334,7 +348,8 @@ moved-alike (Byte q place) (Seg number) s t u v r half beside widths agree first
 moved-alike (Byte q place) (Mem byte_width ea) s t u v r half beside widths agree first second e =
     same-moved (Byte q place) _ _ u v r half
     (memory-alike byte_width ea s t beside
-    (all_of (is_same_register r q && is_same_half half place) (λ from. is_in_address from ea) s t e agree)) first second e
+    (all_of (is_same_register r q && is_same_half half place)
+    (λ from. is_in_address from ea) s t e agree)) first second e
 moved-alike (Byte q place) (Mem word_width ea) s t u v r half beside widths agree first second e = cc
 moved-alike (Byte q place) (Const w constant) s t u v r half beside widths agree first second e =
     same-moved (Byte q place) constant constant u v r half refl first second e
@@ -343,7 +358,8 @@ moved-alike (Mem w ea) from s t u v r half beside widths agree first second e = 
 moved-alike (Const w constant) from s t u v r half beside widths agree first second e = cc
 
 xchg-half :
-    (last : Bool) (cpu : Cpu) (a b : Operand) (at : ℕ) (s t : State) (r : Reg) (half : Half) → AreTwo s t → AreOperands a b
+    (last :
+    Bool) (cpu : Cpu) (a b : Operand) (at : ℕ) (s t : State) (r : Reg) (half : Half) → AreTwo s t → AreOperands a b
     → is_half_of r half b ≡ last → writes_half (Xchg a b) r half ≡ true
     → AgreeWhere (makes (Xchg a b) (half_of r half)) s t
     → half_in (op_step cpu (Xchg a b) at s) r half ≡ half_in (op_step cpu (Xchg a b) at t) r half
@@ -370,7 +386,7 @@ xchg-half false cpu a b at s t r half two good is e made =
 -- The stack.
 
 -- SP has risen or fallen
-raised-alike :
+pub raised-alike :
     (count : ℕ) (s t : State) (r : Reg) (half : Half) → AreTwo s t → is_same_register r Sp ≡ true
     → half_in (with_sp_raised count s) r half ≡ half_in (with_sp_raised count t) r half
 raised-alike count s t r half two e =
@@ -396,7 +412,8 @@ pop-half false cpu a at s t r half two width is e =
     (fits t two.second) is)
 
 -- SP after a push
-fallen-alike : (word other : ℕ) (s t : State) → AreTwo s t → word_in (after_push word s) Sp ≡ word_in (after_push other t) Sp
+pub fallen-alike :
+    (word other : ℕ) (s t : State) → AreTwo s t → word_in (after_push word s) Sp ≡ word_in (after_push other t) Sp
 fallen-alike word other s t two =
     word-taken s Sp Sp ((word_in s Sp + 65534) % 65536) two.first.registers.count refl
     ∙ ap (λ n. (n + 65534) % 65536) two.beside.sp
@@ -439,17 +456,22 @@ leave-half last cpu at s t r half two is e = go last is
   where
     a : State
     a = with_word_in s Sp (word_in s Bp)
+
     b : State
     b = with_word_in t Sp (word_in t Bp)
+
     first : length a.regs ≡ 8
     first = length-set s.regs 4 _ ∙ two.first.registers.count
+
     second : length b.regs ≡ 8
     second = length-set t.regs 4 _ ∙ two.second.registers.count
+
     sp : word_in a Sp ≡ word_in b Sp
     sp =
         word-taken s Sp Sp (word_in s Bp) two.first.registers.count refl
         ∙ two.beside.bp
         ∙ sym (word-taken t Sp Sp (word_in t Bp) two.second.registers.count refl)
+
     go :
         (so : Bool) → is_same_register r Bp ≡ so
         → half_in (op_step cpu Leave at s) r half ≡ half_in (op_step cpu Leave at t) r half
@@ -490,12 +512,14 @@ plain-half-alike Cwd cpu at s t r half two e made =
     taken-alike s t Dx r half _ _ two.first.registers.count two.second.registers.count e
     (ap (λ n. half_of_word half (extension_of word_width n)) ax)
 plain-half-alike Xlat cpu at s t r half two e made =
-    let reads = all_of (is_same_register r Ax && is_same_half half Low) (λ from. is_al from || is_half from Bx) s t e made in
+    let reads =
+    all_of (is_same_register r Ax && is_same_half half Low) (λ from. is_al from || is_half from Bx) s t e made in
     let al = reads (half_of Ax Low) refl in
     let bx = word-alike s t Bx (λ from h. reads from (or-second (is_al from) (is_half from Bx) h)) in
     let offset : (word_in s Bx + word_in s Ax % 256) % 65536 ≡ (word_in t Bx + word_in t Ax % 256) % 65536 =
     ap (λ n. (n + word_in s Ax % 256) % 65536) bx ∙ ap (λ n. (word_in t Bx + n) % 65536) al in
-    let byte : byte_in s (data_segment s) ((word_in s Bx + word_in s Ax % 256) % 65536) ≡ byte_in t (data_segment t) ((word_in t Bx + word_in t Ax % 256) % 65536) =
+    let byte : byte_in s (data_segment s) ((word_in s Bx + word_in s Ax % 256) % 65536) ≡ byte_in t (data_segment t)
+    ((word_in t Bx + word_in t Ax % 256) % 65536) =
     byte-alike s t (data_segment s) (data_segment t) _ _ two.beside.memory
     (ap (λ (l : List ℕ). slice_index l DS) two.beside.outside.segs) offset in
     same-moved (Byte Ax Low) _ _ s t r half byte two.first.registers.count two.second.registers.count e
@@ -548,7 +572,8 @@ no_byte : (n : ℕ) (number : ℕ) → (n == number) ≡ true → gives_byte (So
 no_byte n number e none = ap (λ k. gives_byte (Some k)) (eqb-true n number e) ∙ none
 
 dos-half-alike :
-    (n at : ℕ) (s t : State) (r : Reg) (half : Half) → AreTwo s t → (is_same_register r Ax && is_same_half half Low) ≡ true
+    (n at : ℕ) (s t : State) (r : Reg) (half : Half) → AreTwo s t →
+    (is_same_register r Ax && is_same_half half Low) ≡ true
     → (gives_byte (Some n) ≡ false → half_in s r half ≡ half_in t r half)
     → half_in (dos_step n at s) r half ≡ half_in (dos_step n at t) r half
 dos-half-alike n at s t r half two e kept =
@@ -557,25 +582,30 @@ dos-half-alike n at s t r half two e kept =
     let key : State → State = λ u. if n == GETCH then key_step false u else string u in
     let echoed : State → State = λ u. if n == GETCHE then key_step true u else key u in
     let leave : State → State = λ u. if n == EXIT then with_end (Exit (word_in u Ax % 256)) at u else echoed u in
-    chosen-alike (n == PUTC) (after_write (word_in s Dx % 256 ∷ []) s) (leave s) (after_write (word_in t Dx % 256 ∷ []) t) (leave t) r half
+    chosen-alike (n == PUTC) (after_write (word_in s Dx % 256 ∷ []) s) (leave s)
+    (after_write (word_in t Dx % 256 ∷ []) t) (leave t) r half
     (λ is. kept (no_byte n PUTC is refl)) (λ no_putc.
-    chosen-alike (n == EXIT) (with_end (Exit (word_in s Ax % 256)) at s) (echoed s) (with_end (Exit (word_in t Ax % 256)) at t) (echoed t) r half
+    chosen-alike (n == EXIT) (with_end (Exit (word_in s Ax % 256)) at s) (echoed s)
+    (with_end (Exit (word_in t Ax % 256)) at t) (echoed t) r half
     (λ is. kept (no_byte n EXIT is refl)) (λ no_exit.
     chosen-alike (n == GETCHE) (key_step true s) (key s) (key_step true t) (key t) r half
     (λ is. key_step-alike true s t r half two e) (λ no_getche.
     chosen-alike (n == GETCH) (key_step false s) (string s) (key_step false t) (string t) r half
     (λ is. key_step-alike false s t r half two e) (λ no_getch.
     chosen-alike (n == PUTS) (after_write (dos_string s) s) (last s) (after_write (dos_string t) t) (last t) r half
-    (λ is. kept (no_byte n PUTS is refl)) (λ no_puts. kept (or-neither (n == GETCHE) (n == GETCH) no_getche no_getch))))))
+    (λ is. kept (no_byte n PUTS is refl))
+    (λ no_puts. kept (or-neither (n == GETCHE) (n == GETCH) no_getche no_getch))))))
 
 -- All operations.
 
 pub half-made :
-    (cpu : Cpu) (op : Op) (at : ℕ) (number : Option ℕ) (s t : State) (r : Reg) (half : Half) → IsOperation op → AreTwo s t
+    (cpu :
+    Cpu) (op : Op) (at : ℕ) (number : Option ℕ) (s t : State) (r : Reg) (half : Half) → IsOperation op → AreTwo s t
     → IsCallNumber op number s → IsCallNumber op number t → writes_half op r half ≡ true
     → AreAlikeFor op number s t (half_of r half) → is_over (op_step cpu op at s).end ≡ false
     → half_in (op_step cpu op at s) r half ≡ half_in (op_step cpu op at t) r half
-half-made cpu (Alu operation a b) at number s t r half good two m n e alike goes = alu-half cpu operation a b at s t r half two e alike.made
+half-made cpu (Alu operation a b) at number s t r half good two m n e alike goes =
+    alu-half cpu operation a b at s t r half two e alike.made
 half-made cpu (Unary operation a) at number s t r half good two m n e alike goes =
     unary-half cpu operation a at s t r half two e alike.made alike.divided goes
 half-made cpu (Shift operation a count) at number s t r half good two m n e alike goes =
@@ -585,10 +615,12 @@ half-made cpu (Mov to from) at number s t r half good two m n e alike goes =
 half-made cpu (Xchg a b) at number s t r half good two m n e alike goes =
     xchg-half (is_half_of r half b) cpu a b at s t r half two good refl e alike.made
 half-made cpu (Lea to ea) at number s t r half good two m n e alike goes =
-    let offset = offset-alike s t ea (all_of (is_same_register r to) (λ from. is_in_address from ea) s t e alike.made) in
+    let offset =
+    offset-alike s t ea (all_of (is_same_register r to) (λ from. is_in_address from ea) s t e alike.made) in
     taken-alike s t to r half _ _ two.first.registers.count two.second.registers.count e (ap (half_of_word half) offset)
 half-made cpu (Imul3 to a constant) at number s t r half good two m n e alike goes =
-    let value = value-alike s t a two.beside (all_of (is_same_register r to) (λ from. is_read from a) s t e alike.made) in
+    let value =
+    value-alike s t a two.beside (all_of (is_same_register r to) (λ from. is_read from a) s t e alike.made) in
     let product = λ (n : ℕ). signed_product_of word_width n constant in
     let u = with_flags (product (operand_value s a)).2 s in
     let v = with_flags (product (operand_value t a)).2 t in
@@ -599,7 +631,8 @@ half-made cpu (Pop a) at number s t r half good two m n e alike goes =
     pop-half (is_half_of r half a) cpu a at s t r half two good.width refl e
 half-made cpu (Enter size) at number s t r half good two m n e alike goes =
     enter-half (is_same_register r Sp) cpu size at s t r half two refl e
-half-made cpu Leave at number s t r half good two m n e alike goes = leave-half (is_same_register r Bp) cpu at s t r half two refl e
+half-made cpu Leave at number s t r half good two m n e alike goes =
+    leave-half (is_same_register r Bp) cpu at s t r half two refl e
 half-made cpu (Plain operation) at number s t r half good two m n e alike goes =
     plain-half-alike operation cpu at s t r half two e alike.made
 half-made cpu (Jump target) at number s t r half good two m n e alike goes = cc
@@ -618,6 +651,8 @@ half-made cpu (Ret count) at number s t r half good two m n e alike goes = raise
 half-made cpu Int21 at number s t r half good two m n e alike goes =
     let is : word_in s Ax / 256 ≡ word_in t Ax / 256 = cc (m, n) in
     let given : gives_byte (Some (word_in s Ax / 256)) ≡ false → half_in s r half ≡ half_in t r half =
-    λ none. alike.passed (ap (λ k. not (gives_byte k && (is_same_register r Ax && is_same_half half Low))) m ∙ ap (λ b. not (b && (is_same_register r Ax && is_same_half half Low))) none) in
+    λ none. alike.passed
+    (ap (λ k. not (gives_byte k && (is_same_register r Ax && is_same_half half Low))) m
+    ∙ ap (λ b. not (b && (is_same_register r Ax && is_same_half half Low))) none) in
     dos-half-alike (word_in s Ax / 256) at s t r half two e given
     ∙ ap (λ k. half_in (dos_step k at t) r half) is

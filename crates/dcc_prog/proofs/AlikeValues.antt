@@ -83,7 +83,8 @@ part-alike :
 part-alike s t None agree = refl
 part-alike s t (Some r) agree = word-alike s t r agree
 
-pub offset-alike : (s t : State) (ea : Ea) → AgreeWhere (λ from. is_in_address from ea) s t → offset_of s ea ≡ offset_of t ea
+pub offset-alike :
+    (s t : State) (ea : Ea) → AgreeWhere (λ from. is_in_address from ea) s t → offset_of s ea ≡ offset_of t ea
 offset-alike s t ea agree =
     let base = part-alike s t ea.base (λ from e. agree from (or-first _ (is_half_of_some from ea.index) e)) in
     let index = part-alike s t ea.index (λ from e. agree from (or-second (is_half_of_some from ea.base) _ e)) in
@@ -93,7 +94,9 @@ pub segment-alike : (s t : State) (ea : Ea) → s.segs ≡ t.segs → segment_of
 segment-alike s t ea segs =
     ap (λ (l : List ℕ). if is_bp ea.base || is_bp ea.index then slice_index l SS else slice_index l DS) segs
 
-pub byte-alike : (s t : State) (segment other n m : ℕ) → s.memory ≡ t.memory → segment ≡ other → n ≡ m → byte_in s segment n ≡ byte_in t other m
+pub byte-alike :
+    (s t : State) (segment other n m : ℕ) → s.memory ≡ t.memory → segment ≡ other → n ≡ m
+    → byte_in s segment n ≡ byte_in t other m
 byte-alike s t segment other n m memory p q = cc
 
 pub word_at-alike :
@@ -101,11 +104,14 @@ pub word_at-alike :
     → word_at_offset s segment n ≡ word_at_offset t other m
 word_at-alike s t segment other n m memory p q =
     let low = byte-alike s t segment other n m memory p q in
-    let high = byte-alike s t segment other ((n + 1) % 65536) ((m + 1) % 65536) memory p (ap (λ k. (k + 1) % 65536) q) in
+    let high =
+    byte-alike s t segment other ((n + 1) % 65536) ((m + 1) % 65536) memory p (ap (λ k. (k + 1) % 65536) q) in
     cc
 
 -- what an operand holds
-pub value-alike : (s t : State) (x : Operand) → AgreeBeside s t → AgreeWhere (λ from. is_read from x) s t → operand_value s x ≡ operand_value t x
+pub value-alike :
+    (s t : State) (x : Operand) → AgreeBeside s t → AgreeWhere (λ from. is_read from x) s t
+    → operand_value s x ≡ operand_value t x
 value-alike s t (Word r) beside agree =
     word-alike s t r (λ from e. agree from (or-first (is_part from (Word r)) false (part from e)))
   where
@@ -120,32 +126,40 @@ value-alike s t (Seg number) beside agree = ap (λ (l : List ℕ). slice_index l
 value-alike s t (Mem byte_width ea) beside agree =
     byte-alike s t (segment_of s ea) (segment_of t ea) (offset_of s ea) (offset_of t ea) beside.memory
     (segment-alike s t ea beside.outside.segs)
-    (offset-alike s t ea (λ from e. agree from (or-second (is_part from (Mem byte_width ea)) (is_in_address from ea) e)))
+    (offset-alike s t ea
+    (λ from e. agree from (or-second (is_part from (Mem byte_width ea)) (is_in_address from ea) e)))
 value-alike s t (Mem word_width ea) beside agree =
     word_at-alike s t (segment_of s ea) (segment_of t ea) (offset_of s ea) (offset_of t ea) beside.memory
     (segment-alike s t ea beside.outside.segs)
-    (offset-alike s t ea (λ from e. agree from (or-second (is_part from (Mem word_width ea)) (is_in_address from ea) e)))
+    (offset-alike s t ea
+    (λ from e. agree from (or-second (is_part from (Mem word_width ea)) (is_in_address from ea) e)))
 value-alike s t (Const width constant) beside agree = refl
 
 -- AL or AX, and AH or DX
-pub accumulator-alike : (w : Width) (s t : State) → AgreeWhere (is_accumulator w) s t → accumulator_in w s ≡ accumulator_in w t
+pub accumulator-alike :
+    (w : Width) (s t : State) → AgreeWhere (is_accumulator w) s t → accumulator_in w s ≡ accumulator_in w t
 accumulator-alike byte_width s t agree = agree (half_of Ax Low) refl
 accumulator-alike word_width s t agree = word-alike s t Ax agree
 
-pub dividend-alike : (w : Width) (s t : State) → AgreeWhere (is_dividend w) s t → (accumulator_in w s ≡ accumulator_in w t) × (upper_in w s ≡ upper_in w t)
+pub dividend-alike :
+    (w : Width) (s t : State) → AgreeWhere (is_dividend w) s t
+    → (accumulator_in w s ≡ accumulator_in w t) × (upper_in w s ≡ upper_in w t)
 dividend-alike byte_width s t agree = (agree (half_of Ax Low) refl, agree (half_of Ax High) refl)
 dividend-alike word_width s t agree = (
   word-alike s t Ax (λ from e. agree from (or-first _ (is_half from Dx) e)),
   word-alike s t Dx (λ from e. agree from (or-second (is_half from Ax) _ e)),
 )
 
-pub count-alike : (cpu : Cpu) (count : Count) (s t : State) → (is_in_cl count ≡ true → AgreeIn (half_of Cx Low) s t) → count_in cpu count s ≡ count_in cpu count t
+pub count-alike :
+    (cpu : Cpu) (count : Count) (s t : State) → (is_in_cl count ≡ true → AgreeIn (half_of Cx Low) s t)
+    → count_in cpu count s ≡ count_in cpu count t
 count-alike cpu One s t agree = refl
 count-alike cpu Cl s t agree = ap (taken_count cpu) (agree refl)
 count-alike cpu (ConstCount number) s t agree = refl
 
 -- the word at the top of the stack
-pub top-alike : (s t : State) → s.segs ≡ t.segs → s.memory ≡ t.memory → word_in s Sp ≡ word_in t Sp → top_word s ≡ top_word t
+pub top-alike :
+    (s t : State) → s.segs ≡ t.segs → s.memory ≡ t.memory → word_in s Sp ≡ word_in t Sp → top_word s ≡ top_word t
 top-alike s t segs memory sp =
     word_at-alike s t (stack_segment s) (stack_segment t) (word_in s Sp) (word_in t Sp) memory
     (ap (λ (l : List ℕ). slice_index l SS) segs) sp
@@ -154,7 +168,8 @@ top-alike s t segs memory sp =
 
 pub alu-alike :
     (operation : AluName) (w : Width) (a b c d : ℕ) (carry other : Bool) → a ≡ c → b ≡ d
-    → (takes_carry operation ≡ true → carry ≡ other) → alu_result operation w a b carry ≡ alu_result operation w c d other
+    →
+    (takes_carry operation ≡ true → carry ≡ other) → alu_result operation w a b carry ≡ alu_result operation w c d other
 alu-alike Add w a b c d carry other p q h = cc
 alu-alike Or w a b c d carry other p q h = cc
 alu-alike Adc w a b c d carry other p q h = let same = h refl in cc
@@ -198,7 +213,8 @@ pub written-alike :
 written-alike (Word q) v s t r half first second e = taken-alike s t q r half v v first second e refl
 written-alike (Byte q place) v s t r half first second e =
     let both = and-parts (is_same_register r q) (is_same_half half place) e in
-    taken-alike s t q r half (word_with_half place (word_in s q) v) (word_with_half place (word_in t q) v) first second both.0
+    taken-alike s t q r half (word_with_half place (word_in s q) v)
+    (word_with_half place (word_in t q) v) first second both.0
     (half-named half place (word_in s q) (word_in t q) v both.1)
 written-alike (Seg number) v s t r half first second e = cc
 written-alike (Mem byte_width ea) v s t r half first second e = cc
@@ -215,9 +231,13 @@ pair-alike word_width pair s t r half first second e = go (is_same_register r Dx
   where
     a : State
     a = with_word_in (with_flags pair.2 s) Ax pair.0
+
     b : State
     b = with_word_in (with_flags pair.2 t) Ax pair.0
-    go : (upper : Bool) → is_same_register r Dx ≡ upper → half_in (with_word_in a Dx pair.1) r half ≡ half_in (with_word_in b Dx pair.1) r half
+
+    go :
+        (upper : Bool) → is_same_register r Dx ≡ upper
+        → half_in (with_word_in a Dx pair.1) r half ≡ half_in (with_word_in b Dx pair.1) r half
     go true same =
         taken-alike a b Dx r half pair.1 pair.1
         (length-set s.regs 0 pair.0 ∙ first) (length-set t.regs 0 pair.0 ∙ second) same refl

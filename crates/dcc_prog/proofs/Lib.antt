@@ -23,6 +23,7 @@ pub mod LocationKept
 pub mod AlikeValues
 pub mod AlikeHalves
 pub mod AlikeFlags
+pub mod AlikeUsed
 pub mod AlikeMade
 mod Examples
 mod DivisionExamples

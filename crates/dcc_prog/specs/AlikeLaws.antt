@@ -111,7 +111,7 @@ pub record AreAlikeOutside (op : Op) (s t after other : State) : Type 0 where
   pub pushed :
       (address : ℕ)
       → ((half : Half) (from : Location) → address ≡ pushed_at s half → is_pushed_of op half from ≡ true
-        → AgreeIn from s t)
+      → AgreeIn from s t)
       → slice_index after.memory address ≡ slice_index other.memory address
 
 abbrev pub WhatIsUsedAlikeShowsAlike : Type 0

@@ -2,7 +2,7 @@
 //! proved for all.
 
 ghost use Rattle.dcc_prog.specs.StateForm.{StepsKeepStates};
-ghost use Rattle.dcc_prog.specs.AlikeLaws.{WhatIsMadeAlikeIsAlike};
+ghost use Rattle.dcc_prog.specs.AlikeLaws.{WhatIsMadeAlikeIsAlike, WhatIsUsedAlikeShowsAlike, OneLocationChangesWhatIsMadeOfIt};
 ghost use Rattle.dcc_prog.specs.LocationLaws.{WhatIsNotWrittenStays};
 ghost use Rattle.dcc_prog.specs.MemoryLaws.{StepsActByAccesses, MemoryChangesAtWritesAlone, BytesAreAlikeOrLeft, AccessesDependOnReads};
 
@@ -40,4 +40,14 @@ pub fn what_is_not_written_stays()
 /// Two states that agree in all that a location is made of agree in it after the step.
 pub fn what_is_made_alike_is_alike()
     ensures { WhatIsMadeAlikeIsAlike }
+{}
+
+/// Two states that agree in all that an operation uses agree after it in all that is no location, but for a pushed word.
+pub fn what_is_used_alike_shows_alike()
+    ensures { WhatIsUsedAlikeShowsAlike }
+{}
+
+/// Changing one location changes only what is made of it, itself where it isn't surely written, and what it is used for.
+pub fn one_location_changes_what_is_made_of_it()
+    ensures { OneLocationChangesWhatIsMadeOfIt }
 {}
