@@ -266,7 +266,7 @@ alu-acts cpu operation a b at s =
           ∙ ap (λ n. alu_step operation w a va n t) second
           ∙ alu-form operation w a va vb t
           ∙ written-stores so a result s memory
-          ∙ ap (λ u. with_memory (stored (result_stores so a result.0 s) memory) u) (sym (alu-form operation w a va vb s));
+          ∙ ap (with_memory (stored (result_stores so a result.0 s) memory)) (sym (alu-form operation w a va vb s));
     }
 
 -- Operations on one operand.
@@ -331,10 +331,12 @@ unary-acts cpu operation a at s =
           let value = value-same memory s a (agree-first (operand_accesses Reading a s) writes memory s.memory agree) in
           ap (λ n. unary_step operation w a n at t) value
           ∙ unary-form operation w a v at t
-          ∙ ap (λ n. outcome_step (unary_outcome operation w n (upper_in w t) v s.flags) w a at t) (accumulator-same w memory s)
-          ∙ ap (λ n. outcome_step (unary_outcome operation w (accumulator_in w s) n v s.flags) w a at t) (upper-same w memory s)
+          ∙ ap (λ n. outcome_step (unary_outcome operation w n (upper_in w t) v s.flags) w a at t)
+          (accumulator-same w memory s)
+          ∙ ap (λ n. outcome_step (unary_outcome operation w (accumulator_in w s) n v s.flags) w a at t)
+          (upper-same w memory s)
           ∙ outcome-stores outcome w a at s memory
-          ∙ ap (λ u. with_memory (stored (outcome_stores outcome a s) memory) u) (sym (unary-form operation w a v at s));
+          ∙ ap (with_memory (stored (outcome_stores outcome a s) memory)) (sym (unary-form operation w a v at s));
     }
 
 count-same :

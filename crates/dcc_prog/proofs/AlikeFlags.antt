@@ -1,5 +1,5 @@
 -- Flags that an operation writes: what they are made of is alike in two states, so they are.
-use Rattle.std.proofs.Common.{◌≡◌, ◌⊎◌, inl, inr, ℕ, ◌+◌, ◌-◌, ◌*◌, ◌/◌, ◌%◌, ◌^◌, Bool, true, false, List, Option, Some, None, refl, sym, ap, ◌∙◌, subst, arith}
+use Rattle.std.proofs.Common.{◌≡◌, ℕ, ◌+◌, ◌*◌, ◌/◌, ◌%◌, Bool, true, false, Option, Some, None, refl, sym, ap, ◌∙◌}
 use Rattle.std.specs.Int.{from_bool}
 use Rattle.std.specs.Prelude.{not, ◌&&◌, ◌||◌, if◌then◌else◌, ◌==◌}
 use Rattle.dcc_run.specs.End.{is_over}
@@ -19,7 +19,7 @@ use Rattle.dcc_num.specs.Product.{product_of, signed_product_of}
 use Rattle.dcc_num.specs.Quotient.{division_of, signed_division_of}
 use Rattle.dcc_prog.specs.declared.cpu.Cpu.{Cpu}
 use Rattle.dcc_prog.specs.declared.instr.Alu.{Alu as AluName}
-use Rattle.dcc_prog.specs.declared.instr.Alu.TheVariants.{Add, Or, Adc, Sbb, And, Sub, Xor, Cmp, Test}
+use Rattle.dcc_prog.specs.declared.instr.Alu.TheVariants.{Or, And, Xor, Test}
 use Rattle.dcc_prog.specs.declared.instr.Shift.{Shift as ShiftName}
 use Rattle.dcc_prog.specs.declared.instr.Shift.TheVariants.{Rol, Ror, Rcl, Rcr, Shl, Shr, Sar}
 use Rattle.dcc_prog.specs.declared.instr.Count.{Count}
@@ -31,18 +31,16 @@ use Rattle.dcc_prog.specs.declared.instr.Plain.TheVariants.{Nop, Cbw, Cwd, Xlat,
 use Rattle.dcc_prog.specs.declared.instr.Operand.{Operand}
 use Rattle.dcc_prog.specs.declared.instr.Op.{Op}
 use Rattle.dcc_prog.specs.declared.instr.Op.TheVariants.{Alu, Unary, Shift, Mov, Xchg, Lea, Imul3, Push, Pop, Enter, Leave, Plain, Jump, Branch, Loop, LoopE, LoopNe, Jcxz, Table, Call, Ret, Int21}
-use Rattle.dcc_prog.specs.Machine.{State, operand_value, operand_width, with_operand}
+use Rattle.dcc_prog.specs.Machine.{State, operand_value, operand_width}
 use Rattle.dcc_prog.specs.Operations.{with_flags, with_result, accumulator_in, upper_in, with_product, with_division, count_in, shift_result}
 use Rattle.dcc_prog.specs.Step.{op_step}
-use Rattle.dcc_prog.specs.WellFormed.{IsOperation}
 use Rattle.dcc_prog.specs.Writes.{writes_operand, is_carry_or_overflow, unary_writes_flag, shift_writes_flag, never_shifts, plain_writes_flag, writes_flag}
-use Rattle.dcc_prog.specs.Wanted.{Location, half_of, flag_of, is_read, is_flag, is_accumulator, is_logic, takes_carry, alu_makes, is_cl, is_turn, is_in_cl, is_by_cl, is_constant_flag, brings_carry, shift_reads, shift_writes, shift_makes, plain_makes, makes, is_dividend}
-use Rattle.dcc_prog.specs.StateForm.{IsState}
+use Rattle.dcc_prog.specs.Wanted.{Location, half_of, flag_of, is_read, is_flag, is_accumulator, is_logic, is_cl, is_turn, is_in_cl, is_by_cl, brings_carry, shift_reads, plain_makes, makes}
 use Rattle.dcc_prog.specs.LocationLaws.{flag_in}
-use Rattle.dcc_prog.specs.AlikeLaws.{AgreeIn, AgreeBeside, divides_by, AreAlikeFor}
+use Rattle.dcc_prog.specs.AlikeLaws.{AgreeIn, divides_by, AreAlikeFor}
 use Rattle.dcc_prog.proofs.OperationForms.{alu_result, alu_written, alu-form}
 use Rattle.dcc_prog.proofs.LocationKept.{operand-flags}
-use Rattle.dcc_prog.proofs.AlikeValues.{and-both, and-parts, or-first, or-second, or-parts, AgreeWhere, AreTwo, value-alike, count-alike}
+use Rattle.dcc_prog.proofs.AlikeValues.{and-both, and-parts, or-first, or-second, AgreeWhere, AreTwo, value-alike, count-alike}
 use Rattle.dcc_prog.proofs.AlikeHalves.{all_of, alu_reads, alu-results, factors-alike, divided-alike}
 
 -- the flags after an operand has taken a result

@@ -1,5 +1,5 @@
 -- Halves that an operation writes: what they are made of is alike in two states, so they are.
-use Rattle.std.proofs.Common.{◌≡◌, ◌⊎◌, inl, inr, ℕ, ◌+◌, ◌-◌, ◌*◌, ◌/◌, ◌%◌, ◌<◌, Bool, true, false, List, [], ◌∷◌, length, Option, Some, None, refl, sym, ap, ◌∙◌, subst, arith, length-set}
+use Rattle.std.proofs.Common.{◌≡◌, inl, inr, ℕ, ◌+◌, ◌-◌, ◌*◌, ◌/◌, ◌%◌, ◌<◌, Bool, true, false, List, [], ◌∷◌, length, Option, Some, None, refl, sym, ap, ◌∙◌, subst, length-set}
 use Rattle.std.proofs.lemmas.Bool.{eqb-true}
 use Rattle.std.specs.Int.{from_bool}
 use Rattle.std.specs.Prelude.{not, ◌&&◌, ◌||◌, slice_index, if◌then◌else◌, ◌==◌}
@@ -33,17 +33,16 @@ use Rattle.dcc_prog.specs.declared.instr.Operand.TheVariants.{Word, Byte, Seg, M
 use Rattle.dcc_prog.specs.declared.instr.Ea.{Ea}
 use Rattle.dcc_prog.specs.declared.instr.Op.{Op}
 use Rattle.dcc_prog.specs.declared.instr.Op.TheVariants.{Alu, Unary, Shift, Mov, Xchg, Lea, Imul3, Push, Pop, Enter, Leave, Plain, Jump, Branch, Loop, LoopE, LoopNe, Jcxz, Table, Call, Ret, Int21}
-use Rattle.dcc_prog.specs.Machine.{State, word_in, with_word_in, half_of_word, data_segment, byte_in, offset_of, operand_value, operand_width, with_operand}
-use Rattle.dcc_prog.specs.Operations.{with_end, with_flags, with_result, with_al, alu_step, accumulator_in, upper_in, with_product, with_division, count_in, shift_result, after_push, top_word, with_sp_raised, loop_step}
+use Rattle.dcc_prog.specs.Machine.{State, word_in, with_word_in, half_of_word, data_segment, byte_in, operand_value, operand_width, with_operand}
+use Rattle.dcc_prog.specs.Operations.{with_end, with_flags, with_result, accumulator_in, upper_in, with_product, with_division, count_in, shift_result, after_push, top_word, with_sp_raised, loop_step}
 use Rattle.dcc_prog.specs.Dos.{dos_step, dos_string, with_key, key_step, after_write}
 use Rattle.dcc_prog.specs.Step.{op_step}
 use Rattle.dcc_prog.specs.WellFormed.{IsOperation, AreOperands}
-use Rattle.dcc_prog.specs.Writes.{is_same_register, is_same_half, is_half_of, writes_operand, is_in_pair, unary_writes_half, plain_writes_half, writes_half}
-use Rattle.dcc_prog.specs.Prepared.{is_division}
-use Rattle.dcc_prog.specs.Wanted.{Location, half_of, flag_of, is_part, is_half, is_in_address, is_in_address_of, is_read, is_flag, is_al, is_accumulator, takes_carry, unary_makes, unary_reads, is_cl, is_turn, is_in_cl, is_by_cl, moves, plain_makes, makes, unary_uses, is_dividend, gives_byte}
-use Rattle.dcc_prog.specs.StateForm.{HasRegisters, IsState}
+use Rattle.dcc_prog.specs.Writes.{is_same_register, is_same_half, is_half_of, writes_operand, is_in_pair, plain_writes_half, writes_half}
+use Rattle.dcc_prog.specs.Wanted.{Location, half_of, flag_of, is_part, is_half, is_in_address, is_read, is_flag, is_al, is_accumulator, takes_carry, is_cl, is_turn, is_in_cl, is_by_cl, moves, plain_makes, makes, is_dividend, gives_byte}
+use Rattle.dcc_prog.specs.StateForm.{IsState}
 use Rattle.dcc_prog.specs.LocationLaws.{half_in}
-use Rattle.dcc_prog.specs.AlikeLaws.{AgreeIn, AgreeOutside, AgreeBeside, IsCallNumber, passes, divides_by, AreAlikeFor}
+use Rattle.dcc_prog.specs.AlikeLaws.{AgreeBeside, IsCallNumber, divides_by, AreAlikeFor}
 use Rattle.dcc_prog.proofs.OperationForms.{alu_result, alu_written, alu-form}
 use Rattle.dcc_prog.proofs.StateKept.{value-fits, of_width, top-below}
 use Rattle.dcc_prog.proofs.LocationKept.{word-taken, word-other, half-other, operand-half, operand-count}
@@ -380,7 +379,8 @@ xchg-half false cpu a b at s t r half two good is e made =
     ∙ moved-alike a b s t s t r half two.beside good.widths
     (λ from h. made from (or-first (moves a b (half_of r half) from) (moves b a (half_of r half) from) h))
     two.first.registers.count two.second.registers.count part
-    ∙ sym (operand-half b (operand_value t a) v r half (operand-count a (operand_value t b) t ∙ two.second.registers.count)
+    ∙ sym (operand-half b (operand_value t a) v r half
+    (operand-count a (operand_value t b) t ∙ two.second.registers.count)
     (of_width (operand_width a) (operand_width b) _ good.widths (value-fits t a good.first two.second)) is)
 
 -- The stack.
@@ -611,7 +611,8 @@ half-made cpu (Unary operation a) at number s t r half good two m n e alike goes
 half-made cpu (Shift operation a count) at number s t r half good two m n e alike goes =
     shift-half cpu operation a count at s t r half two e alike.made
 half-made cpu (Mov to from) at number s t r half good two m n e alike goes =
-    moved-alike to from s t s t r half two.beside good.widths alike.made two.first.registers.count two.second.registers.count e
+    moved-alike to from s t s t r half two.beside good.widths alike.made two.first.registers.count
+    two.second.registers.count e
 half-made cpu (Xchg a b) at number s t r half good two m n e alike goes =
     xchg-half (is_half_of r half b) cpu a b at s t r half two good refl e alike.made
 half-made cpu (Lea to ea) at number s t r half good two m n e alike goes =

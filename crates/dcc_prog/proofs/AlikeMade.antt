@@ -1,6 +1,6 @@
 -- Two states that agree in all that a location is made of agree in it after the step; two states that differ in one
 -- location.
-use Rattle.std.proofs.Common.{◌≡◌, ℕ, Bool, true, false, Option, Some, None, refl, sym, ap, ◌∙◌, subst}
+use Rattle.std.proofs.Common.{◌≡◌, ℕ, Bool, true, false, Option, refl, sym, ap, ◌∙◌}
 use Rattle.std.specs.Prelude.{not, ◌&&◌}
 use Rattle.dcc_run.specs.End.{is_over}
 use Rattle.dcc_num.specs.declared.Reg.{Reg}
@@ -14,9 +14,8 @@ use Rattle.dcc_prog.specs.Step.{op_step}
 use Rattle.dcc_prog.specs.WellFormed.{IsOperation}
 use Rattle.dcc_prog.specs.Writes.{writes_half, writes_flag}
 use Rattle.dcc_prog.specs.Wanted.{Location, half_of, flag_of, is_by_cl, gives_byte, makes, uses}
-use Rattle.dcc_prog.specs.StateForm.{IsState}
 use Rattle.dcc_prog.specs.LocationLaws.{half_in, flag_in}
-use Rattle.dcc_prog.specs.AlikeLaws.{AgreeIn, AgreeBeside, IsCallNumber, passes, divides_by, AreAlikeFor, is_pushed_of, pushed_at, AgreeOutside, WhatIsMadeAlikeIsAlike, AgreeBut, OneLocationChangesWhatIsMadeOfIt}
+use Rattle.dcc_prog.specs.AlikeLaws.{IsCallNumber, passes, divides_by, AreAlikeFor, is_pushed_of, WhatIsMadeAlikeIsAlike, AgreeBut, OneLocationChangesWhatIsMadeOfIt}
 use Rattle.dcc_prog.proofs.LocationKept.{op-half, op-flag}
 use Rattle.dcc_prog.proofs.AlikeValues.{AgreeWhere, AreTwo}
 use Rattle.dcc_prog.proofs.AlikeHalves.{half-made}

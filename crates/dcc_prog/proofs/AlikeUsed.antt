@@ -1,5 +1,5 @@
 -- Two states that agree in all that an operation uses show no difference after its step.
-use Rattle.std.proofs.Common.{◌≡◌, ◌≢◌, ◌⊎◌, inl, inr, ℕ, ◌+◌, ◌-◌, ◌*◌, ◌/◌, ◌%◌, ◌<◌, ◌≤◌, Bool, true, false, List, [], ◌∷◌, ◌++◌, map, length, get_or, set, Option, Some, None, refl, sym, ap, ◌∙◌, subst, subst₂, arith, length-set}
+use Rattle.std.proofs.Common.{◌≡◌, ℕ, ◌+◌, ◌-◌, ◌/◌, ◌%◌, ◌<◌, Bool, true, false, List, [], ◌∷◌, ◌++◌, map, length, get_or, set, Option, Some, None, refl, sym, ap, ◌∙◌, subst, subst₂, arith, length-set}
 use Rattle.std.proofs.lemmas.Bool.{eqb-true}
 use Rattle.std.proofs.lemmas.List.{get_or-set_same, get_or-set_other, get_or_past}
 use Rattle.std.proofs.Math.Decide.{ℕ_discrete, dec_lt}
@@ -18,8 +18,7 @@ use Rattle.dcc_num.specs.declared.FlagName.{FlagName}
 use Rattle.dcc_num.specs.declared.FlagName.TheVariants.{Cf, Zf, Sf, Of}
 use Rattle.dcc_num.specs.declared.dos.TheConstants.{GETCHE, PUTC, GETCH, PUTS, EXIT, STRING_MOST}
 use Rattle.dcc_num.specs.Numbers.{limit_of, differ, no_flags}
-use Rattle.dcc_num.specs.Sum.{negation_of, increment_of, decrement_of}
-use Rattle.dcc_num.specs.Product.{product_of, signed_product_of}
+use Rattle.dcc_num.specs.Sum.{negation_of}
 use Rattle.dcc_num.specs.Quotient.{division_of, signed_division_of}
 use Rattle.dcc_prog.specs.declared.cpu.Cpu.{Cpu}
 use Rattle.dcc_prog.specs.declared.segment.TheConstants.{CS, SS, DS}
@@ -36,21 +35,20 @@ use Rattle.dcc_prog.specs.declared.instr.Operand.{Operand}
 use Rattle.dcc_prog.specs.declared.instr.Operand.TheVariants.{Word, Byte, Seg, Mem, Const}
 use Rattle.dcc_prog.specs.declared.instr.Op.{Op}
 use Rattle.dcc_prog.specs.declared.instr.Op.TheVariants.{Alu, Unary, Shift, Mov, Xchg, Lea, Imul3, Push, Pop, Enter, Leave, Plain, Jump, Branch, Loop, LoopE, LoopNe, Jcxz, Table, Call, Ret, Int21}
-use Rattle.dcc_prog.specs.Machine.{State, half_of_word, word_in, with_word_in, code_segment, stack_segment, data_segment, physical, byte_in, word_at_offset, with_byte_in, offset_of, segment_of, operand_value, operand_width, with_operand}
+use Rattle.dcc_prog.specs.Machine.{State, half_of_word, word_in, code_segment, stack_segment, data_segment, physical, offset_of, segment_of, operand_value, operand_width, with_operand}
 use Rattle.dcc_prog.specs.Operations.{with_end, with_flags, with_result, accumulator_in, upper_in, with_product, with_division, count_in, shift_result, after_push, top_word, with_sp_raised, holds, loop_step}
 use Rattle.dcc_prog.specs.Dos.{bytes_from, dos_string, is_not_dollar, dos_step, with_key, key_step, key_events, after_write}
 use Rattle.dcc_prog.specs.Step.{op_step}
 use Rattle.dcc_prog.specs.WellFormed.{IsOperation, AreOperands}
 use Rattle.dcc_prog.specs.Construct.{is_segment}
 use Rattle.dcc_prog.specs.Writes.{is_same_register, is_same_half, is_half_of, writes_operand}
-use Rattle.dcc_prog.specs.Wanted.{Location, half_of, flag_of, is_half, is_half_of_some, is_in_address, is_in_address_of, is_part, is_read, is_flag, is_al, is_dl, condition_uses, is_in_memory, dos_uses, stores_back, unary_uses, uses}
-use Rattle.dcc_prog.specs.StateForm.{IsState}
+use Rattle.dcc_prog.specs.Wanted.{Location, half_of, flag_of, is_half, is_half_of_some, is_in_address_of, is_part, is_read, condition_uses, is_in_memory, dos_uses, uses}
 use Rattle.dcc_prog.specs.LocationLaws.{half_in, flag_in}
-use Rattle.dcc_prog.specs.AlikeLaws.{AgreeIn, AgreeOutside, AgreeBeside, IsCallNumber, spares_segments, is_push, is_pushed_of, pushed_at, AreAlikeOutside, WhatIsUsedAlikeShowsAlike}
+use Rattle.dcc_prog.specs.AlikeLaws.{AgreeOutside, IsCallNumber, spares_segments, is_pushed_of, pushed_at, AreAlikeOutside, WhatIsUsedAlikeShowsAlike}
 use Rattle.dcc_prog.proofs.OperationForms.{alu_result, alu_written, alu-form}
 use Rattle.dcc_prog.proofs.StateKept.{value-fits, of_width}
 use Rattle.dcc_prog.proofs.LocationKept.{word-taken, half-other, operand-half, operand-flags}
-use Rattle.dcc_prog.proofs.AlikeValues.{and-both, and-parts, or-first, or-second, register-self, half-self, AgreeWhere, AreTwo, word-alike, offset-alike, segment-alike, word_at-alike, value-alike, top-alike, taken-alike}
+use Rattle.dcc_prog.proofs.AlikeValues.{and-both, and-parts, or-first, or-second, register-self, half-self, AgreeWhere, AreTwo, word-alike, offset-alike, segment-alike, word_at-alike, value-alike, top-alike}
 use Rattle.dcc_prog.proofs.AlikeHalves.{increment-alike, decrement-alike, all_of, alu_reads, alu-results, divided-alike, shift_value_reads, shift-results, memory-alike, same-moved, raised-alike, fallen-alike}
 
 -- Bytes and words that are stored.
@@ -453,7 +451,8 @@ push-bytes v w s t address two low high =
     let lengths : length (slice_set s.memory p (v % 256)) ≡ length (slice_set t.memory p (w % 256)) =
     length-set s.memory p (v % 256) ∙ sizes ∙ sym (length-set t.memory p (w % 256)) in
     ap (λ (l : List ℕ). slice_index l address) first
-    ∙ set-alike (slice_set s.memory p (v % 256)) (slice_set t.memory p (w % 256)) q (v / 256) (w / 256) address lengths inner high
+    ∙ set-alike (slice_set s.memory p (v % 256)) (slice_set t.memory p (w % 256)) q (v / 256) (w / 256) address lengths
+    inner high
     ∙ sym (ap (λ (l : List ℕ). slice_index l address) second)
 
 -- a half of the value of a word operand

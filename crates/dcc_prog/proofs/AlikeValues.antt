@@ -1,32 +1,30 @@
 -- Two states that agree in what is read: the same values, addresses and results.
-use Rattle.std.proofs.Common.{◌≡◌, ◌≢◌, ◌⊎◌, inl, inr, ℕ, zero, suc, ◌+◌, ◌-◌, ◌*◌, ◌/◌, ◌%◌, ◌<◌, Bool, true, false, List, [], ◌∷◌, length, get_or, set, Option, Some, None, refl, sym, ap, ◌∙◌, subst, arith, length-set}
-use Rattle.std.proofs.lemmas.Bool.{eqb-true, eq-eqb}
-use Rattle.std.specs.Prelude.{not, ◌&&◌, ◌||◌, slice_index, slice_set, if◌then◌else◌, ◌==◌}
+use Rattle.std.proofs.Common.{◌≡◌, ◌⊎◌, inl, inr, ℕ, ◌+◌, ◌/◌, ◌%◌, Bool, true, false, List, length, Option, Some, None, refl, sym, ap, ◌∙◌, arith, length-set}
+use Rattle.std.proofs.lemmas.Bool.{eq-eqb}
+use Rattle.std.specs.Prelude.{◌&&◌, ◌||◌, slice_index, if◌then◌else◌}
 use Rattle.dcc_num.specs.declared.Width.{Width}
 use Rattle.dcc_num.specs.declared.Width.TheVariants.{Byte as byte_width, Word as word_width}
 use Rattle.dcc_num.specs.declared.Reg.{Reg}
-use Rattle.dcc_num.specs.declared.Reg.TheVariants.{Ax, Cx, Dx, Bx, Sp, Bp, Si, Di}
+use Rattle.dcc_num.specs.declared.Reg.TheVariants.{Ax, Cx, Dx, Sp}
 use Rattle.dcc_num.specs.declared.Half.{Half}
 use Rattle.dcc_num.specs.declared.Half.TheVariants.{Low, High}
 use Rattle.dcc_num.specs.declared.Flags.{Flags}
-use Rattle.dcc_num.specs.declared.FlagName.TheVariants.{Cf}
 use Rattle.dcc_prog.specs.declared.cpu.Cpu.{Cpu}
 use Rattle.dcc_prog.specs.declared.segment.TheConstants.{SS, DS}
 use Rattle.dcc_prog.specs.declared.instr.Alu.{Alu as AluName}
 use Rattle.dcc_prog.specs.declared.instr.Alu.TheVariants.{Add, Or, Adc, Sbb, And, Sub, Xor, Cmp, Test}
-use Rattle.dcc_prog.specs.declared.instr.Shift.{Shift as ShiftName}
 use Rattle.dcc_prog.specs.declared.instr.Count.{Count}
 use Rattle.dcc_prog.specs.declared.instr.Count.TheVariants.{One, Cl, Const as ConstCount}
 use Rattle.dcc_prog.specs.declared.instr.Operand.{Operand}
 use Rattle.dcc_prog.specs.declared.instr.Operand.TheVariants.{Word, Byte, Seg, Mem, Const}
 use Rattle.dcc_prog.specs.declared.instr.Ea.{Ea}
-use Rattle.dcc_prog.specs.Machine.{State, reg_number, word_in, with_word_in, half_of_word, word_with_half, stack_segment, data_segment, physical, byte_in, word_at_offset, part_of, offset_of, segment_of, is_bp, operand_value, operand_width, with_operand}
+use Rattle.dcc_prog.specs.Machine.{State, reg_number, word_in, with_word_in, half_of_word, word_with_half, stack_segment, byte_in, word_at_offset, part_of, offset_of, segment_of, is_bp, operand_value, with_operand}
 use Rattle.dcc_prog.specs.Operations.{with_flags, with_product, accumulator_in, upper_in, count_in, taken_count, top_word}
 use Rattle.dcc_prog.specs.Writes.{is_same_register, is_same_half, is_half_of, is_in_pair}
-use Rattle.dcc_prog.specs.Wanted.{Location, half_of, flag_of, is_part, is_half, is_half_of_some, is_in_address, is_in_address_of, is_read, is_flag, is_al, is_accumulator, takes_carry, is_cl, is_turn, is_in_cl, is_by_cl, is_dividend}
-use Rattle.dcc_prog.specs.StateForm.{HasRegisters, IsState}
-use Rattle.dcc_prog.specs.LocationLaws.{half_in, flag_in}
-use Rattle.dcc_prog.specs.AlikeLaws.{AgreeIn, AgreeOutside, AgreeBeside}
+use Rattle.dcc_prog.specs.Wanted.{Location, half_of, flag_of, is_part, is_half, is_half_of_some, is_in_address, is_read, is_accumulator, takes_carry, is_in_cl, is_dividend}
+use Rattle.dcc_prog.specs.StateForm.{IsState}
+use Rattle.dcc_prog.specs.LocationLaws.{half_in}
+use Rattle.dcc_prog.specs.AlikeLaws.{AgreeIn, AgreeBeside}
 use Rattle.dcc_prog.proofs.OperationForms.{alu_result}
 use Rattle.dcc_prog.proofs.LocationKept.{word-taken, word-other}
 
@@ -69,7 +67,7 @@ pub record AreTwo (s t : State) : Type 0 where
   pub second : IsState t
   pub beside : AgreeBeside s t
 
-word-joined : (a b : ℕ) → a % 256 ≡ b % 256 → a / 256 ≡ b / 256 → a ≡ b
+pub word-joined : (a b : ℕ) → a % 256 ≡ b % 256 → a / 256 ≡ b / 256 → a ≡ b
 word-joined a b p q = omega arith
 
 pub word-alike : (s t : State) (r : Reg) → AgreeWhere (λ from. is_half from r) s t → word_in s r ≡ word_in t r

@@ -25,6 +25,7 @@ pub mod AlikeHalves
 pub mod AlikeFlags
 pub mod AlikeUsed
 pub mod AlikeMade
+pub mod PassedRuns
 mod Examples
 mod DivisionExamples
 mod LayoutExamples

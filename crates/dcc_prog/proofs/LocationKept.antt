@@ -259,7 +259,8 @@ op-half cpu (Alu operation a b) at s r half good form clear =
     let fits = alu-below operation w va vb s.flags.cf (value-fits s a good.first form)
     (of_width (operand_width b) w vb (sym good.widths) (value-fits s b good.second form)) in
     ap (λ t. half_in t r half) (alu-form operation w a va vb s)
-    ∙ written-half (writes_operand operation) a (alu_result operation w va vb s.flags.cf) s r half form.registers.count fits clear
+    ∙ written-half (writes_operand operation) a (alu_result operation w va vb s.flags.cf) s r half form.registers.count
+    fits clear
 op-half cpu (Unary operation a) at s r half good form clear =
     let w = operand_width a in
     let v = operand_value s a in
@@ -410,7 +411,8 @@ never-flags operation w a (ConstCount number) cpu s may none = still-flags opera
 
 shifted-flag :
     (writes never : Bool) (operation : ShiftName) (w : Width) (a : ℕ) (count : Count) (cpu : Cpu) (s : State)
-    (flag : FlagName) → MayCount operation count → shift_writes_flag operation flag ≡ writes → never_shifts count ≡ never
+    (flag : FlagName) → MayCount operation count → shift_writes_flag operation flag ≡ writes
+    → never_shifts count ≡ never
     → (writes && not never) ≡ false
     → flag_in (shift_result operation w a (count_in cpu count s) s.flags).1 flag ≡ flag_in s.flags flag
 shifted-flag true true operation w a count cpu s flag may p q clear =
@@ -472,7 +474,8 @@ op-flag cpu (Unary operation a) at s flag good clear = unary-flag operation a cp
 op-flag cpu (Shift operation a count) at s flag good clear =
     let result = shift_result operation (operand_width a) (operand_value s a) (count_in cpu count s) s.flags in
     ap (λ f. flag_in f flag) (operand-flags a result.0 (with_flags result.1 s))
-    ∙ shifted-flag (shift_writes_flag operation flag) (never_shifts count) operation (operand_width a) (operand_value s a) count cpu s flag good.may refl refl clear
+    ∙ shifted-flag (shift_writes_flag operation flag) (never_shifts count) operation (operand_width a)
+    (operand_value s a) count cpu s flag good.may refl refl clear
 op-flag cpu (Mov to from) at s flag good clear = ap (λ f. flag_in f flag) (operand-flags to (operand_value s from) s)
 op-flag cpu (Xchg a b) at s flag good clear =
     ap (λ f. flag_in f flag)

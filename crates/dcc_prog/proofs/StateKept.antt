@@ -337,7 +337,7 @@ op-state cpu Int21 at s good ip form = dos-state (word_in s Ax / 256) at s form
 
 -- Steps.
 
-code-bytes : (s : State) → IsState s → AreBytes (code_bytes s)
+pub code-bytes : (s : State) → IsState s → AreBytes (code_bytes s)
 code-bytes s form zero = form.memory _
 code-bytes s form (suc zero) = form.memory _
 code-bytes s form (suc (suc zero)) = form.memory _

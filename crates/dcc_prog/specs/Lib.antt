@@ -28,3 +28,4 @@ pub mod Access
 pub mod MemoryLaws
 pub mod LocationLaws
 pub mod AlikeLaws
+pub mod RunLaws

@@ -1,6 +1,7 @@
 //! Laws of the machine's steps, for every processor, operation and state. The functions do nothing: their contracts are
 //! proved for all.
 
+ghost use Rattle.dcc_prog.specs.RunLaws.{KnownAhIsHeld, PreparedUpperIsHeld};
 ghost use Rattle.dcc_prog.specs.StateForm.{StepsKeepStates};
 ghost use Rattle.dcc_prog.specs.AlikeLaws.{WhatIsMadeAlikeIsAlike, WhatIsUsedAlikeShowsAlike, OneLocationChangesWhatIsMadeOfIt};
 ghost use Rattle.dcc_prog.specs.LocationLaws.{WhatIsNotWrittenStays};
@@ -42,12 +43,25 @@ pub fn what_is_made_alike_is_alike()
     ensures { WhatIsMadeAlikeIsAlike }
 {}
 
-/// Two states that agree in all that an operation uses agree after it in all that is no location, but for a pushed word.
+/// Two states that agree in all that an operation uses agree after it in all that is no location, but for a pushed
+/// word.
 pub fn what_is_used_alike_shows_alike()
     ensures { WhatIsUsedAlikeShowsAlike }
 {}
 
-/// Changing one location changes only what is made of it, itself where it isn't surely written, and what it is used for.
+/// Changing one location changes only what is made of it, itself where it isn't surely written, and what it is used
+/// for.
 pub fn one_location_changes_what_is_made_of_it()
     ensures { OneLocationChangesWhatIsMadeOfIt }
+{}
+
+/// In every run along a trail AH holds what the trail tells of it.
+pub fn known_ah_is_held()
+    ensures { KnownAhIsHeld }
+{}
+
+/// In every run along a trail the upper half of what a division divides is 0, or repeats the sign of the lower one, where
+/// it is prepared.
+pub fn prepared_upper_is_held()
+    ensures { PreparedUpperIsHeld }
 {}
