@@ -1,49 +1,48 @@
 -- Runs along a trail keep what the trail tells of AH and of prepared divisions.
-use Rattle.std.proofs.Common.{◌≡◌, ℕ, ◌+◌, ◌-◌, ◌*◌, ◌/◌, ◌%◌, ◌<◌, Bool, true, false, List, [], ◌∷◌, length, drop, take, Contains, Option, Some, None, bit_xor, refl, sym, ap, ◌∙◌, subst, arith}
+use Rattle.std.proofs.Common.{◌≡◌, ℕ, ◌+◌, ◌*◌, ◌/◌, ◌%◌, ◌<◌, Bool, true, false, List, [], ◌∷◌, drop, take, Option, Some, None, refl, sym, ap, ◌∙◌, subst, arith}
 use Rattle.std.proofs.lemmas.Bool.{eqb-true}
 use Rattle.std.proofs.lemmas.Bool.Decides.{nat_tests}
 use Rattle.std.proofs.lemmas.Int.{ints}
 use Rattle.std.specs.Int.Bits.{xor_self}
-use Rattle.std.specs.Prelude.{not, ◌&&◌, ◌||◌, if◌then◌else◌, ◌==◌}
+use Rattle.std.specs.Prelude.{not, ◌||◌, if◌then◌else◌, ◌==◌}
 use Rattle.dcc_run.specs.End.{is_over}
 use Rattle.dcc_num.specs.declared.Width.{Width}
 use Rattle.dcc_num.specs.declared.Width.TheVariants.{Byte as byte_width, Word as word_width}
 use Rattle.dcc_num.specs.declared.Reg.{Reg}
-use Rattle.dcc_num.specs.declared.Reg.TheVariants.{Ax, Cx, Dx, Bx, Sp, Bp, Si, Di}
+use Rattle.dcc_num.specs.declared.Reg.TheVariants.{Ax, Dx}
 use Rattle.dcc_num.specs.declared.Half.{Half}
 use Rattle.dcc_num.specs.declared.Half.TheVariants.{Low, High}
 use Rattle.dcc_num.specs.declared.Flags.{Flags}
-use Rattle.dcc_num.specs.Numbers.{limit_of, has_sign, signed_of, sign_extension_of}
+use Rattle.dcc_num.specs.Numbers.{signed_of, sign_extension_of}
 use Rattle.dcc_num.specs.Sum.{difference_of}
 use Rattle.dcc_num.specs.Logic.{exclusive_of}
 use Rattle.dcc_num.specs.Product.{extension_of}
 use Rattle.dcc_prog.specs.declared.cpu.Cpu.{Cpu}
 use Rattle.dcc_prog.specs.declared.image.Image.{Image}
 use Rattle.dcc_prog.specs.declared.procedure.Layout.{Layout}
-use Rattle.dcc_prog.specs.declared.instr.Alu.{Alu as AluName}
 use Rattle.dcc_prog.specs.declared.instr.Alu.TheVariants.{Sub, Xor}
 use Rattle.dcc_prog.specs.declared.instr.Unary.{Unary as UnaryName}
-use Rattle.dcc_prog.specs.declared.instr.Unary.TheVariants.{Inc, Dec, Neg, Not, Mul, Imul, Div, Idiv}
+use Rattle.dcc_prog.specs.declared.instr.Unary.TheVariants.{Div, Idiv}
 use Rattle.dcc_prog.specs.declared.instr.Plain.TheVariants.{Cbw, Cwd}
 use Rattle.dcc_prog.specs.declared.instr.Operand.{Operand}
-use Rattle.dcc_prog.specs.declared.instr.Operand.TheVariants.{Word, Byte, Seg, Mem, Const}
+use Rattle.dcc_prog.specs.declared.instr.Operand.TheVariants.{Word, Byte, Const}
 use Rattle.dcc_prog.specs.declared.instr.Op.{Op}
 use Rattle.dcc_prog.specs.declared.instr.Op.TheVariants.{Alu, Mov, Plain, Call}
 use Rattle.dcc_prog.specs.declared.instr.Instr.{Instr}
 use Rattle.dcc_prog.specs.MzImage.{IsImageOf}
 use Rattle.dcc_prog.specs.Table.{instruction_at}
-use Rattle.dcc_prog.specs.Machine.{State, word_in, with_word_in, half_of_word, word_with_half, operand_value, operand_width, with_operand}
+use Rattle.dcc_prog.specs.Machine.{State, word_in, half_of_word, word_with_half, operand_value, operand_width, with_operand}
 use Rattle.dcc_prog.specs.Operations.{with_flags, with_result, accumulator_in, upper_in}
 use Rattle.dcc_prog.specs.Step.{code_bytes, op_step, instruction_step, step}
 use Rattle.dcc_prog.specs.Code.{code_of, HoldsCode}
 use Rattle.dcc_prog.specs.WellFormed.{IsOperation}
 use Rattle.dcc_prog.specs.Writes.{writes_half}
-use Rattle.dcc_prog.specs.Trail.{instruction_in, StandsAt, constant_to_ah, ah_after, known_ah, IsTrail, IsNode, IsEdge, IsSolePredecessor}
+use Rattle.dcc_prog.specs.Trail.{instruction_in, StandsAt, constant_to_ah, ah_after, known_ah, IsTrail, IsSolePredecessor}
 use Rattle.dcc_prog.specs.Prepared.{is_upper, zeroes_upper, extends_sign, prepares, writes_ax, writes_upper, keeps_dividend, IsPrepared, nearest, further}
 use Rattle.dcc_prog.specs.StateForm.{IsState}
 use Rattle.dcc_prog.specs.LocationLaws.{half_in}
 use Rattle.dcc_prog.specs.RunLaws.{HasPassed, begun, stepped, returned, KnownAhIsHeld, HasUpper, PreparedUpperIsHeld}
-use Rattle.dcc_prog.proofs.FetchLaws.{IsPlaced, image-placed, fetched-instruction}
+use Rattle.dcc_prog.proofs.FetchLaws.{image-placed, fetched-instruction}
 use Rattle.dcc_prog.proofs.WellFormedLaws.{instruction-operation}
 use Rattle.dcc_prog.proofs.ResultBounds.{sign_extension-low}
 use Rattle.dcc_prog.proofs.StateKept.{same-state, states-kept, code-bytes}
