@@ -470,7 +470,8 @@ push-addresses word s form =
     let fallen : word_in (with_sp_raised 65534 s) Sp ≡ n = register-taken s Sp n form in
     let low : n < 65536 = omega arith in
     ap (λ k. physical (stack_segment s) k ∷ physical (stack_segment s) ((k + 1) % 65536) ∷ []) fallen
-    ∙ ap (λ k. physical (stack_segment s) k ∷ physical (stack_segment s) ((n + 1) % 65536) ∷ []) (sym (first_offset n low))
+    ∙ ap (λ k. physical (stack_segment s) k ∷ physical (stack_segment s) ((n + 1) % 65536) ∷ [])
+    (sym (first_offset n low))
 
 push-acts :
     (cpu : Cpu) (a : Operand) (at : ℕ) (s : State) → HasRegisters s

@@ -443,7 +443,8 @@ push-bytes v w s t address two low high =
     ap
     (λ k. slice_set (slice_set t.memory (physical (stack_segment t) k) (w % 256))
     (physical (stack_segment t) ((k + 1) % 65536)) (w / 256)) other
-    ∙ ap (λ k. slice_set (slice_set t.memory (physical k o) (w % 256)) (physical k ((o + 1) % 65536)) (w / 256)) segment in
+    ∙ ap (λ k.
+    slice_set (slice_set t.memory (physical k o) (w % 256)) (physical k ((o + 1) % 65536)) (w / 256)) segment in
     let sizes : length s.memory ≡ length t.memory = ap length memory in
     let before : slice_index s.memory address ≡ slice_index t.memory address =
     ap (λ (l : List ℕ). slice_index l address) memory in

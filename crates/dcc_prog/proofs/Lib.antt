@@ -19,6 +19,7 @@ pub mod AccessLaws
 pub mod MemoryKept
 pub mod ResultBounds
 pub mod StateKept
+pub mod StartState
 pub mod LocationKept
 pub mod AlikeValues
 pub mod AlikeHalves

@@ -255,7 +255,8 @@ over-acts cpu s over = record {
   alike = λ memory agree.
       let t = with_memory memory s in
       ap (λ b. if b then t else instruction_step cpu (instruction_at cpu s.ip (code_bytes t)) t) over
-      ∙ sym (ap (λ b. with_memory memory (if b then s else instruction_step cpu (instruction_at cpu s.ip (code_bytes s)) s)) over);
+      ∙ sym (ap (λ b.
+      with_memory memory (if b then s else instruction_step cpu (instruction_at cpu s.ip (code_bytes s)) s)) over);
 }
 
 going-acts :
@@ -277,7 +278,8 @@ going-acts cpu s form going =
           ap (λ b. if b then t else instruction_step cpu (instruction_at cpu s.ip (code_bytes t)) t) going
           ∙ ap (λ f. instruction_step cpu f t) same
           ∙ acts.alike memory (agree-right code (read_by (found_accesses found s)) memory s.memory all)
-          ∙ sym (ap (λ b. with_memory (stored acts.stores memory) (if b then s else instruction_step cpu found s)) going);
+          ∙ sym (ap (λ b.
+          with_memory (stored acts.stores memory) (if b then s else instruction_step cpu found s)) going);
     }
 
 either-acts :

@@ -227,7 +227,7 @@ image_or_fault file =
     ]
 
 -- a byte is below 256, and so is what is read past the end
-byte_at-lt : (bytes : List ℕ) (at : ℕ) → All (λ b. b < 256) bytes → byte_at bytes at < 256
+pub byte_at-lt : (bytes : List ℕ) (at : ℕ) → All (λ b. b < 256) bytes → byte_at bytes at < 256
 byte_at-lt bytes at all =
     elim (cases_lt at (length bytes)) [
       | inl inside ↦ All-get_or (λ b. b < 256) bytes at 0 inside all

@@ -352,7 +352,7 @@ upper-held file image layout entry division w at (last ∷ rest) s of_file trail
     subst (λ n. IsTrail image layout entry (n ∷ rest)) (sym is) trail.1 in
     passed-keeps file image layout division w op last rest s of_file passed
     (subst (λ n. StandsAt image layout n op) is stands) e
-    (λ u earlier_passed. upper-held file image layout entry division w from rest u of_file before_it earlier_passed earlier)
+    (λ u came. upper-held file image layout entry division w from rest u of_file before_it came earlier)
 
 pub prepared-held : PreparedUpperIsHeld
 prepared-held file image layout entry at before s division w of_file trail passed prepared =

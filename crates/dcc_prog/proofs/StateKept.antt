@@ -35,7 +35,7 @@ use Rattle.dcc_prog.proofs.ResultBounds.{alu-below, shift-below, OutcomeFits, ou
 -- Places of a state.
 
 -- an element is replaced by one that is below a bound, as the others are
-set-below : (xs : List ℕ) (i v j n : ℕ) → v < n → get_or xs j 0 < n → get_or (set xs i v) j 0 < n
+pub set-below : (xs : List ℕ) (i v j n : ℕ) → v < n → get_or xs j 0 < n → get_or (set xs i v) j 0 < n
 set-below [] i v j n p q = q
 set-below (x ∷ xs) zero v zero n p q = p
 set-below (x ∷ xs) zero v (suc j) n p q = q

@@ -22,8 +22,8 @@ use Rattle.dcc_prog.specs.StateForm.{IsState}
 use Rattle.dcc_prog.specs.LocationLaws.{half_in}
 
 -- A run has passed these offsets one after another, the newest first, and stands in this state: at each of them it made
--- the step of the instruction there, with the code in memory; but after a CALL it goes on in any state, as the procedure
--- that was called may leave it.
+-- the step of the instruction there, with the code in memory; but after a CALL it goes on in any state, as the
+-- procedure that was called may leave it.
 pub data HasPassed (image : Image) (layout : Layout) : List ℕ → State → Type 0 where
   begun : (s : State) → IsState s → HasPassed image layout [] s
   stepped :

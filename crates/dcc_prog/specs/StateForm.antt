@@ -1,9 +1,11 @@
 -- What holds of each state of the machine: how many registers and bytes there are, and what each has room for.
-use Rattle.std.specs.Prelude.{◌≡◌, ℕ, ◌<◌, length, slice_index}
+use Rattle.std.specs.Prelude.{◌≡◌, ℕ, ◌<◌, List, length, slice_index}
 use Rattle.dcc_num.specs.declared.Reg.{Reg}
 use Rattle.dcc_prog.specs.declared.cpu.Cpu.{Cpu}
 use Rattle.dcc_prog.specs.declared.instr.Op.{Op}
-use Rattle.dcc_prog.specs.Machine.{State, word_in}
+use Rattle.dcc_prog.specs.declared.image.Image.{Image}
+use Rattle.dcc_prog.specs.MzImage.{IsLoaded}
+use Rattle.dcc_prog.specs.Machine.{State, word_in, start_state}
 use Rattle.dcc_prog.specs.WellFormed.{IsOperation}
 use Rattle.dcc_prog.specs.Step.{op_step, step}
 
@@ -27,3 +29,9 @@ pub record StepsKeepStates : Type 0 where
       (cpu : Cpu) (op : Op) (at : ℕ) (s : State) → IsOperation op → s.ip < 65536 → IsState s
       → IsState (op_step cpu op at s)
   pub step : (cpu : Cpu) (s : State) → IsState s → IsState (step cpu s)
+
+-- and so each start of an image on bytes is such a state
+abbrev pub StartsAreStates : Type 0
+StartsAreStates =
+    (image : Image) (input : List ℕ) → IsLoaded image → ((k : ℕ) → slice_index input k < 256)
+    → IsState (start_state image input)

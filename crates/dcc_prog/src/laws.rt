@@ -2,7 +2,7 @@
 //! proved for all.
 
 ghost use Rattle.dcc_prog.specs.RunLaws.{KnownAhIsHeld, PreparedUpperIsHeld};
-ghost use Rattle.dcc_prog.specs.StateForm.{StepsKeepStates};
+ghost use Rattle.dcc_prog.specs.StateForm.{StartsAreStates, StepsKeepStates};
 ghost use Rattle.dcc_prog.specs.AlikeLaws.{WhatIsMadeAlikeIsAlike, WhatIsUsedAlikeShowsAlike, OneLocationChangesWhatIsMadeOfIt};
 ghost use Rattle.dcc_prog.specs.LocationLaws.{WhatIsNotWrittenStays};
 ghost use Rattle.dcc_prog.specs.MemoryLaws.{StepsActByAccesses, MemoryChangesAtWritesAlone, BytesAreAlikeOrLeft, AccessesDependOnReads};
@@ -26,6 +26,12 @@ pub fn bytes_are_alike_or_left()
 /// The accesses themselves depend on memory at what they read alone.
 pub fn accesses_depend_on_reads()
     ensures { AccessesDependOnReads }
+{}
+
+/// Each start of an image on bytes has eight registers, four segment registers and all bytes of memory, and in each what
+/// it has room for.
+pub fn starts_are_states()
+    ensures { StartsAreStates }
 {}
 
 /// Steps keep the number of registers and bytes, and what each has room for.
@@ -60,8 +66,8 @@ pub fn known_ah_is_held()
     ensures { KnownAhIsHeld }
 {}
 
-/// In every run along a trail the upper half of what a division divides is 0, or repeats the sign of the lower one, where
-/// it is prepared.
+/// In every run along a trail the upper half of what a division divides is 0, or repeats the sign of the lower one,
+/// where it is prepared.
 pub fn prepared_upper_is_held()
     ensures { PreparedUpperIsHeld }
 {}
