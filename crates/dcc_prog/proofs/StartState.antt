@@ -1,15 +1,15 @@
 -- The start of an image is a state.
-use Rattle.std.proofs.Common.{◌≡◌, ℕ, zero, suc, ◌+◌, ◌-◌, ◌*◌, ◌/◌, ◌%◌, ◌<◌, ◌≤◌, List, [], ◌∷◌, ◌++◌, length, take, drop, get_or, set, replicate, refl, sym, ap, ◌∙◌, subst, arith, length-append}
+use Rattle.std.proofs.Common.{◌≡◌, ℕ, zero, suc, ◌+◌, ◌-◌, ◌/◌, ◌%◌, ◌<◌, ◌≤◌, List, [], ◌∷◌, ◌++◌, length, take, drop, get_or, set, replicate, refl, sym, subst, arith, length-append}
 use Rattle.std.proofs.lemmas.List.{get_or-drop, length-replicate}
-use Rattle.std.specs.Prelude.{All, slice_index}
+use Rattle.std.specs.Prelude.{slice_index}
 use Rattle.dcc_num.specs.declared.Reg.{Reg}
 use Rattle.dcc_num.specs.declared.Reg.TheVariants.{Ax, Cx, Dx, Bx, Sp, Bp, Si, Di}
 use Rattle.dcc_prog.specs.declared.image.Image.{Image}
-use Rattle.dcc_prog.specs.Bytes.{byte_at, word_at, with_word_at}
+use Rattle.dcc_prog.specs.Bytes.{word_at, with_word_at}
 use Rattle.dcc_prog.specs.Load.{image_address}
-use Rattle.dcc_prog.specs.MzImage.{HasGoodHeader, IsImageOf, IsLoaded, image_start, image_end, image_length, relocation_count, relocated_place, relocated_image, loaded_segment}
-use Rattle.dcc_prog.specs.Machine.{State, word_in, loaded_memory, start_state}
-use Rattle.dcc_prog.specs.StateForm.{IsState, StartsAreStates}
+use Rattle.dcc_prog.specs.MzImage.{image_start, image_end, relocation_count, relocated_place, relocated_image, loaded_segment}
+use Rattle.dcc_prog.specs.Machine.{word_in, loaded_memory, start_state}
+use Rattle.dcc_prog.specs.StateForm.{StartsAreStates}
 use Rattle.dcc_prog.proofs.MzImageLaws.{byte_at-lt, word_at-lt, length-image}
 use Rattle.dcc_prog.proofs.StateKept.{set-below}
 
