@@ -2,13 +2,15 @@
 #![tactic(auto)]
 
 mod accepted;
+mod code;
 mod collect;
+mod division;
 mod form;
-pub mod laws;
+mod frame;
+mod known;
 mod onward;
-pub mod plain;
 mod procedures;
 mod search;
-mod seen;
+mod table;
 
 pub use procedures::find;

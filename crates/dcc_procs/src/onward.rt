@@ -1,67 +1,65 @@
 //! Where an instruction goes on.
 
-ghost use Rattle.std.specs.Prelude.{◌≡◌, ◌<◌, [], All, IfOk};
-ghost use Rattle.dcc_prog.specs.Trail.{next_of, op_successors};
-ghost use Rattle.dcc_procs.specs.Search.{offsets_of};
-
+use crate::code::word_in_segment;
+use crate::known::Known;
 use dcc_num::dos::EXIT;
-use dcc_prog::{Instr, Op};
+use dcc_num::Reg;
+use dcc_prog::{Image, Instr, Op};
 use smallvec::SmallVec;
 use std::alloc::{AllocError, Global};
 
-/// The offsets at which a run may go on.
-#[derive(Clone, Copy)]
-pub struct Onward {
-    /// That of a jump.
-    pub target: Option<u16>,
-    /// That of the next instruction.
-    pub next: Option<u16>,
+// The N + 1 words of a table, where N is told.
+fn table_targets(
+    alloc: Global,
+    image: &Image,
+    offset: u16,
+    number: Option<u16>,
+) -> Result<SmallVec<u16, 2>, AllocError> {
+    let mut targets = SmallVec::new(alloc);
+    let Some(number) = number else {
+        return Ok(targets);
+    };
+    for k in 0..u32::from(number) + 1 {
+        targets.push(word_in_segment(image, u32::from(offset) + 2 * k))?;
+    }
+    Ok(targets)
 }
 
-impl Onward {
-    /// The offsets at which the instruction at an offset may go on, by what is known of AH; those of a
-    /// table are not among them.
-    pub fn new(at: u16, instr: Instr, ah: Option<u8>) -> Onward
-        ensures offsets { offsets_of result ≡ op_successors instr.op (next_of at instr) ah [] }
-        ensures fits { All (λ to. to < 65536) (offsets_of result) }
-    {
-        let next = Some(instr.next_of(at));
-        match instr.op {
-            Op::Jump(target) => Onward {
-                target: Some(target),
-                next: None,
-            },
-            Op::Branch(_, target)
-            | Op::Loop(target)
-            | Op::LoopE(target)
-            | Op::LoopNe(target)
-            | Op::Jcxz(target) => Onward {
-                target: Some(target),
-                next,
-            },
-            Op::Int21 if matches!(ah, Some(EXIT)) => Onward {
-                target: None,
-                next: None,
-            },
-            Op::Table(..) | Op::Ret(_) => Onward {
-                target: None,
-                next: None,
-            },
-            _ => Onward { target: None, next },
-        }
+// One offset, or this one and then another.
+fn offsets_of(alloc: Global, first: u16, second: Option<u16>) -> Result<SmallVec<u16, 2>, AllocError> {
+    let mut offsets = SmallVec::new(alloc);
+    offsets.push(first)?;
+    if let Some(second) = second {
+        offsets.push(second)?;
     }
+    Ok(offsets)
+}
 
-    /// The target, if any, then the next instruction, if any.
-    pub fn offsets(self, alloc: Global) -> Result<SmallVec<u16, 2>, AllocError>
-        ensures { IfOk result (λ offsets. offsets.items ≡ offsets_of self) }
-    {
-        let mut offsets = SmallVec::new(alloc);
-        if let Some(target) = self.target {
-            offsets.push(target)?;
-        }
-        if let Some(next) = self.next {
-            offsets.push(next)?;
-        }
-        Ok(offsets)
+// The greatest number of a table's index, by what is known before a jump through the register.
+pub fn number_of(known: Known, r: Reg) -> Option<u16> {
+    known.index?.number_of(r)
+}
+
+/// The offsets at which the instruction at an offset goes on, by what is known before it: the target
+/// before the next instruction, or the words of a table.
+pub fn successors(
+    alloc: Global,
+    image: &Image,
+    at: u16,
+    instr: Instr,
+    known: Known,
+) -> Result<SmallVec<u16, 2>, AllocError> {
+    let next = instr.next_of(at);
+    match instr.op {
+        Op::Jump(target) => offsets_of(alloc, target, None),
+        Op::Branch(_, target)
+        | Op::Loop(target)
+        | Op::LoopE(target)
+        | Op::LoopNe(target)
+        | Op::Jcxz(target) => offsets_of(alloc, target, Some(next)),
+        Op::Table(r, offset) => table_targets(alloc, image, offset, number_of(known, r)),
+        Op::Ret(_) => Ok(SmallVec::new(alloc)),
+        Op::Int21 if matches!(known.ah, Some(EXIT)) => Ok(SmallVec::new(alloc)),
+        _ => offsets_of(alloc, next, None),
     }
 }

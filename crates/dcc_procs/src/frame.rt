@@ -1,0 +1,164 @@
+//! The forms in which a procedure may use SP and BP, as far as they do not rest on the height of the
+//! stack.
+
+use crate::code::instruction_in;
+use dcc_num::Reg;
+use dcc_prog::{Alu, Ea, Image, Instr, Layout, Op, Operand, Unary};
+
+fn is_push_bp(op: Op) -> bool {
+    matches!(op, Op::Push(Operand::Word(Reg::Bp)))
+}
+
+fn is_mov_bp_sp(op: Op) -> bool {
+    matches!(
+        op,
+        Op::Mov(Operand::Word(Reg::Bp), Operand::Word(Reg::Sp))
+    )
+}
+
+fn is_enter(op: Op) -> bool {
+    matches!(op, Op::Enter(_))
+}
+
+fn stands_push_bp(instr: Option<Instr>) -> bool {
+    match instr {
+        Some(instr) => is_push_bp(instr.op),
+        None => false,
+    }
+}
+
+fn stands_mov_bp_sp(instr: Option<Instr>) -> bool {
+    match instr {
+        Some(instr) => is_mov_bp_sp(instr.op),
+        None => false,
+    }
+}
+
+fn stands_enter(instr: Option<Instr>) -> bool {
+    match instr {
+        Some(instr) => is_enter(instr.op),
+        None => false,
+    }
+}
+
+// The offset after the first instruction.
+fn second_of(entry: u16, first: Option<Instr>) -> u16 {
+    match first {
+        Some(instr) => instr.next_of(entry),
+        None => entry,
+    }
+}
+
+// The procedure's first instructions are `push bp` and `mov bp,sp`.
+fn begins_by_push(image: &Image, layout: &Layout, entry: u16) -> bool {
+    let first = instruction_in(image, layout, entry);
+    stands_push_bp(first)
+        && stands_mov_bp_sp(instruction_in(image, layout, second_of(entry, first)))
+}
+
+// Or its first instruction is ENTER.
+fn is_framed(image: &Image, layout: &Layout, entry: u16) -> bool {
+    begins_by_push(image, layout, entry) || stands_enter(instruction_in(image, layout, entry))
+}
+
+fn is_sp_or_bp(operand: Operand) -> bool {
+    matches!(operand, Operand::Word(Reg::Sp | Reg::Bp))
+}
+
+fn is_bp(r: Option<Reg>) -> bool {
+    matches!(r, Some(Reg::Bp))
+}
+
+fn address_uses_bp(ea: Ea) -> bool {
+    is_bp(ea.base) || is_bp(ea.index)
+}
+
+fn is_by_bp(operand: Operand) -> bool {
+    match operand {
+        Operand::Mem(_, ea) => address_uses_bp(ea),
+        _ => false,
+    }
+}
+
+// An operand of the operation is SP or BP, as of ENTER and LEAVE in any case.
+fn names_sp_or_bp(op: Op) -> bool {
+    match op {
+        Op::Alu(_, a, b) | Op::Mov(a, b) | Op::Xchg(a, b) => is_sp_or_bp(a) || is_sp_or_bp(b),
+        Op::Unary(_, a) | Op::Shift(_, a, _) | Op::Push(a) | Op::Pop(a) => is_sp_or_bp(a),
+        Op::Lea(r, _) => is_sp_or_bp(Operand::Word(r)),
+        Op::Imul3(r, a, _) => is_sp_or_bp(Operand::Word(r)) || is_sp_or_bp(a),
+        Op::Enter(_) | Op::Leave => true,
+        _ => false,
+    }
+}
+
+// The address of a memory operand, or of LEA, uses BP.
+fn uses_bp_address(op: Op) -> bool {
+    match op {
+        Op::Alu(_, a, b) | Op::Mov(a, b) | Op::Xchg(a, b) => is_by_bp(a) || is_by_bp(b),
+        Op::Unary(_, a)
+        | Op::Shift(_, a, _)
+        | Op::Imul3(_, a, _)
+        | Op::Push(a)
+        | Op::Pop(a) => is_by_bp(a),
+        Op::Lea(_, ea) => address_uses_bp(ea),
+        _ => false,
+    }
+}
+
+// ADD or SUB of a constant to SP, INC or DEC of SP.
+fn is_sp_move(op: Op) -> bool {
+    matches!(
+        op,
+        Op::Alu(
+            Alu::Add | Alu::Sub,
+            Operand::Word(Reg::Sp),
+            Operand::Const(..)
+        ) | Op::Unary(Unary::Inc | Unary::Dec, Operand::Word(Reg::Sp))
+    )
+}
+
+// BP plus a signed word that is at most 0.
+fn is_at_or_below_bp(ea: Ea) -> bool {
+    is_bp(ea.base) && !ea.index.is_some() && (ea.disp == 0 || ea.disp >= 32768)
+}
+
+// `mov sp,bp`, LEA of SP from BP, `pop bp` or LEAVE.
+fn leaves_frame(op: Op) -> bool {
+    match op {
+        Op::Mov(Operand::Word(Reg::Sp), Operand::Word(Reg::Bp)) => true,
+        Op::Lea(Reg::Sp, ea) => is_at_or_below_bp(ea),
+        Op::Pop(Operand::Word(Reg::Bp)) => true,
+        Op::Leave => true,
+        _ => false,
+    }
+}
+
+// `mov r,bp` to a general register.
+fn copies_bp(op: Op) -> bool {
+    match op {
+        Op::Mov(Operand::Word(r), Operand::Word(Reg::Bp)) => !matches!(r, Reg::Sp | Reg::Bp),
+        _ => false,
+    }
+}
+
+// The operation, at an offset, is among the first instructions that make the procedure framed.
+fn makes_frame(image: &Image, layout: &Layout, entry: u16, at: u16, op: Op) -> bool {
+    let first = instruction_in(image, layout, entry);
+    (begins_by_push(image, layout, entry)
+        && ((is_push_bp(op) && at == entry)
+            || (is_mov_bp_sp(op) && at == second_of(entry, first))))
+        || (is_enter(op) && at == entry)
+}
+
+/// Whether the operation, at an offset of the procedure with that entry, uses SP and BP in a form that
+/// is allowed at some height of the stack.
+pub fn is_frame_form(image: &Image, layout: &Layout, entry: u16, at: u16, op: Op) -> bool {
+    is_sp_move(op)
+        || (!names_sp_or_bp(op) && !uses_bp_address(op))
+        || (is_framed(image, layout, entry)
+            && (leaves_frame(op)
+                || copies_bp(op)
+                || makes_frame(image, layout, entry, at, op)
+                || (!names_sp_or_bp(op) && uses_bp_address(op))))
+}

@@ -1,0 +1,155 @@
+//! The instructions before a jump through a table, which tell the greatest number of its index.
+
+use dcc_num::{Half, Reg};
+use dcc_prog::{Alu, Cond, Count, Op, Operand, Shift};
+
+/// How far the last instructions of a trail are those before a jump through a table.
+#[derive(Clone, Copy)]
+pub enum Form {
+    /// The register was compared with the number.
+    Compared(Reg, u16),
+    /// AL was compared with the number.
+    AlCompared(u16),
+    /// The register is at most the number.
+    InRange(Reg, u16),
+    /// AL is at most the number.
+    AlInRange(u16),
+    /// The register is twice an index that is at most the number.
+    Doubled(Reg, u16),
+}
+
+/// A register that is twice an index of a table.
+#[derive(Clone, Copy)]
+pub struct Index {
+    pub register: Reg,
+    /// The greatest number that the index may be.
+    pub number: u16,
+}
+
+/// The two are one register.
+pub fn is_same_register(r: Reg, q: Reg) -> bool {
+    r == q
+}
+
+impl Form {
+    pub fn is_same(self, other: Form) -> bool {
+        match (self, other) {
+            (Form::Compared(r, number), Form::Compared(q, same))
+            | (Form::InRange(r, number), Form::InRange(q, same))
+            | (Form::Doubled(r, number), Form::Doubled(q, same)) => {
+                is_same_register(r, q) && number == same
+            }
+            (Form::AlCompared(number), Form::AlCompared(same))
+            | (Form::AlInRange(number), Form::AlInRange(same)) => number == same,
+            _ => false,
+        }
+    }
+}
+
+impl Index {
+    pub fn is_same(self, other: Index) -> bool {
+        is_same_register(self.register, other.register) && self.number == other.number
+    }
+
+    /// The greatest number of the register, where it is the index.
+    pub fn number_of(self, r: Reg) -> Option<u16> {
+        if is_same_register(self.register, r) {
+            Some(self.number)
+        } else {
+            None
+        }
+    }
+}
+
+// AX, CX, DX, BX, SI or DI.
+fn is_general(r: Reg) -> bool {
+    !matches!(r, Reg::Sp | Reg::Bp)
+}
+
+// A JA whose next instruction stands at the offset and whose target does not, or a JBE the other
+// way round.
+fn is_bounds_test(op: Op, next: u16, to: u16) -> bool {
+    match op {
+        Op::Branch(Cond::A, target) => next == to && target != to,
+        Op::Branch(Cond::Be, target) => target == to && next != to,
+        _ => false,
+    }
+}
+
+// `xor ah,ah`.
+fn clears_ah(op: Op) -> bool {
+    matches!(
+        op,
+        Op::Alu(
+            Alu::Xor,
+            Operand::Byte(Reg::Ax, Half::High),
+            Operand::Byte(Reg::Ax, Half::High)
+        )
+    )
+}
+
+// `shl r,1`.
+fn is_doubling(r: Reg, op: Op) -> bool {
+    match op {
+        Op::Shift(Shift::Shl, Operand::Word(q), Count::One) => is_same_register(r, q),
+        _ => false,
+    }
+}
+
+// The form that begins at a comparison.
+fn form_begun(op: Op) -> Option<Form> {
+    match op {
+        Op::Alu(Alu::Cmp, Operand::Word(r), Operand::Const(_, number)) if is_general(r) => {
+            Some(Form::Compared(r, number))
+        }
+        Op::Alu(Alu::Cmp, Operand::Byte(Reg::Ax, Half::Low), Operand::Const(_, number)) => {
+            Some(Form::AlCompared(number))
+        }
+        _ => None,
+    }
+}
+
+// The form that goes on from another one.
+fn form_continued(op: Op, next: u16, to: u16, form: Form) -> Option<Form> {
+    match form {
+        Form::Compared(r, number) if is_bounds_test(op, next, to) => {
+            Some(Form::InRange(r, number))
+        }
+        Form::AlCompared(number) if is_bounds_test(op, next, to) => Some(Form::AlInRange(number)),
+        Form::AlInRange(number) if clears_ah(op) => Some(Form::InRange(Reg::Ax, number)),
+        Form::InRange(r, number) if is_doubling(r, op) => Some(Form::Doubled(r, number)),
+        _ => None,
+    }
+}
+
+/// The form after an instruction that goes on to an offset, by the form before it.
+pub fn form_after(op: Op, next: u16, to: u16, form: Option<Form>) -> Option<Form> {
+    match (form_begun(op), form) {
+        (Some(begun), _) => Some(begun),
+        (None, Some(form)) => form_continued(op, next, to, form),
+        (None, None) => None,
+    }
+}
+
+// The register to which the operation moves this other one.
+fn moved_to(r: Reg, op: Op) -> Option<Reg> {
+    match op {
+        Op::Mov(Operand::Word(q), Operand::Word(p))
+            if is_same_register(r, p) && !is_same_register(q, p) => { Some(q) }
+        _ => None,
+    }
+}
+
+/// The index after an instruction, by the form before it.
+pub fn index_after(op: Op, form: Option<Form>) -> Option<Index> {
+    match form? {
+        Form::InRange(register, number) if is_doubling(register, op) => {
+            Some(Index { register, number })
+        }
+        Form::Doubled(r, number) => {
+            let register = moved_to(r, op)?;
+            Some(Index { register, number })
+        }
+        _ => None,
+    }
+}
