@@ -1,11 +1,4 @@
+pub mod Telling
+pub mod Knowing
+pub mod Witnessing
 pub mod Causes
-pub mod Seeing
-pub mod Going
-pub mod Searching
-pub mod Indirect
-pub mod Start
-pub mod Collected
-pub mod FoundLaws
-pub mod Counting
-pub mod AllFound
-pub mod Trails

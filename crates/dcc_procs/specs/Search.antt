@@ -1,172 +1,236 @@
--- What the search for nodes keeps of each offset, and how it changes. This stands between the trails and the code;
--- no public contract rests on it.
-use Rattle.std.specs.Prelude.{◌≡◌, ◌<◌, ℕ, ◌==◌, Bool, true, false, ◌||◌, if◌then◌else◌, List, [], ◌∷◌, ◌++◌, All, get_or, drop, slice_set, option_to_list, Option, Some, None}
-use Rattle.dcc_num.specs.declared.Reg.TheVariants.{Ax}
-use Rattle.dcc_num.specs.declared.Half.TheVariants.{High}
-use Rattle.dcc_num.specs.declared.dos.TheConstants.{GETCHE, PUTC, GETCH, PUTS, EXIT}
-use Rattle.dcc_prog.specs.declared.refusal.construct.TheConstants.{OUTSIDE, INDIRECT_JUMP, INDIRECT_CALL, DOS_NUMBER}
-use Rattle.dcc_prog.specs.declared.instr.Op.{Op}
-use Rattle.dcc_prog.specs.declared.instr.Op.TheVariants.{Int21}
+-- What the search keeps of a procedure, and how it grows. This stands between the trails and the code; no public contract
+-- rests on it.
+use Rattle.std.specs.Prelude.{◌≡◌, ◌≢◌, ◌≤◌, ◌<◌, ◌⊎◌, ◌↔◌, ℕ, ◌+◌, ◌*◌, Bool, true, false, not, ◌||◌, List, [], ◌∷◌, ◌++◌, length, sum_by, get_or, slice_set, All, AllPairs, Contains, Option, Some, None}
+use Rattle.dcc_prog.specs.declared.image.Image.{Image}
+use Rattle.dcc_prog.specs.declared.procedure.Layout.{Layout}
 use Rattle.dcc_prog.specs.declared.instr.Instr.{Instr}
+use Rattle.dcc_prog.specs.declared.instr.Op.{Op}
+use Rattle.dcc_prog.specs.declared.instr.Op.TheVariants.{Table, Call, Ret, Int21}
+use Rattle.dcc_num.specs.declared.Reg.{Reg}
+use Rattle.dcc_prog.specs.declared.refusal.construct.TheConstants.{INDIRECT_JUMP, DOS_NUMBER}
+use Rattle.dcc_prog.specs.declared.refusal.LimitName.TheVariants.{Instructions, Entries}
 use Rattle.dcc_prog.specs.declared.refusal.Refusal.{Refusal}
-use Rattle.dcc_prog.specs.declared.refusal.Refusal.TheVariants.{Construct, Limit, NotYet, Memory}
-use Rattle.dcc_prog.specs.Table.{instruction_at}
-use Rattle.dcc_prog.specs.Writes.{writes_half}
-use Rattle.dcc_prog.specs.Trail.{next_of, constant_to_ah, op_successors}
-use Rattle.dcc_prog.specs.Construct.{IsIndirectJump, IsIndirectCall, is_system, is_dos_number}
-use Rattle.dcc_procs.specs.declared.seen.Seen.{Seen}
-use Rattle.dcc_procs.specs.declared.seen.Seen.TheVariants.{Never, Same, Differing}
+use Rattle.dcc_prog.specs.declared.refusal.Refusal.TheVariants.{Construct, Limit, Memory}
+use Rattle.dcc_prog.specs.Trail.{code_within, instruction_in, IsTrail, IsNode, IsEdge}
+use Rattle.dcc_prog.specs.FrameForm.{is_frame_form}
+use Rattle.dcc_prog.specs.Construct.{is_system, is_dos_number}
+use Rattle.dcc_procs.specs.declared.known.Known.{Known}
+use Rattle.dcc_procs.specs.declared.table.Form.{Form}
+use Rattle.dcc_procs.specs.declared.table.Index.{Index}
 use Rattle.dcc_procs.specs.declared.search.Search.{Search}
-use Rattle.dcc_procs.specs.declared.onward.Onward.{Onward}
-use Rattle.dcc_prog.specs.Built.{is_unbuilt}
+use Rattle.dcc_procs.specs.Known.{number_of, nothing, known_after, told, successors_by, common}
 
--- What is known of AH, by all trails together.
+-- What is known at an offset.
 
-abbrev pub is_same_ah : Option ℕ → Option ℕ → Bool
-is_same_ah None None = true
-is_same_ah (Some number) (Some other) = number == other
-is_same_ah ah other = false
+-- what is known is so of what is told
+pub record Covers (known told : Known) : Type 0 where
+  pub ah : (number : ℕ) → known.ah ≡ Some number → told.ah ≡ Some number
+  pub form : (form : Form) → known.form ≡ Some form → told.form ≡ Some form
+  pub index : (index : Index) → known.index ≡ Some index → told.index ≡ Some index
+  pub from : (at : ℕ) → known.from ≡ Some at → told.from ≡ Some at
 
--- after an operation
-abbrev pub seen_after : Op → Seen → Seen
-seen_after op Never = Never
-seen_after op seen = if writes_half op Ax High then Same (constant_to_ah op) else seen
+-- a trail of the procedure comes to the offset, and what is known is so of it
+pub record HasTrail (image : Image) (layout : Layout) (entry at : ℕ) (known : Known) : Type 0 where
+  pub before : List ℕ
+  pub trail : IsTrail image layout entry (at ∷ before)
+  pub covers : Covers known (told image layout at before)
 
--- with what a further trail tells, where that is more
-abbrev pub grown : Seen → Seen → Option Seen
-grown Never Never = None
-grown Never seen = Some seen
-grown (Same ah) (Same other) = if is_same_ah ah other then None else Some Differing
-grown (Same ah) Differing = Some Differing
-grown seen other = None
+-- the two are not one value
+abbrev pub AreApart : {A : Type 0} → Option A → Option A → Type 0
+AreApart {A} a b = (x : A) → a ≡ Some x → b ≡ Some x → ⊥
 
--- what is known by each trail, if it is the same
-abbrev pub ah_of : Seen → Option ℕ
-ah_of (Same ah) = ah
-ah_of seen = None
+-- two such trails, or one, tell no value in common in a field
+pub record Differ {A : Type 0} (image : Image) (layout : Layout) (entry at : ℕ) (known : Known) (field : Known → Option A) : Type 0 where
+  pub one : HasTrail image layout entry at known
+  pub other : HasTrail image layout entry at known
+  pub apart : AreApart (field (told image layout at one.before)) (field (told image layout at other.before))
 
--- the number of a DOS call, if the operation is one
-abbrev pub number_of : Op → Seen → Option ℕ
-number_of Int21 seen = ah_of seen
-number_of op seen = None
+-- trails come to the offset of which this is so, and they tell no more in common
+pub record IsWitnessed (image : Image) (layout : Layout) (entry at : ℕ) (known : Known) : Type 0 where
+  pub trail : HasTrail image layout entry at known
+  pub ah : known.ah ≡ None → Differ image layout entry at known (λ k. k.ah)
+  pub form : known.form ≡ None → Differ image layout entry at known (λ k. k.form)
+  pub index : known.index ≡ None → Differ image layout entry at known (λ k. k.index)
+  pub from : known.from ≡ None → Differ image layout entry at known (λ k. k.from)
 
--- The search.
-
--- what is seen at an offset
-abbrev pub seen_at : List Seen → ℕ → Seen
-seen_at seen at = get_or seen at Never
-
--- what is seen at each offset, and the offsets that are to be followed
-pub record Work : Type 0 where
-  pub seen : List Seen
-  pub pending : List ℕ
-
-abbrev pub work_of : Search → Work
-work_of search = record { seen = search.seen.items; pending = search.pending.items }
-
-abbrev pub with_grown : Work → ℕ → Option Seen → Work
-with_grown work at None = work
-with_grown work at (Some seen) = record { seen = slice_set work.seen at seen; pending = work.pending ++ at ∷ [] }
-
--- a trail comes to an offset
-abbrev pub arrived : Work → ℕ → Seen → Work
-arrived work at seen = with_grown work at (grown (seen_at work.seen at) seen)
-
--- trails come to each of these offsets
-abbrev pub arrived_at_all : Work → List ℕ → Seen → Work
-arrived_at_all work [] seen = work
-arrived_at_all work (at ∷ rest) seen = arrived_at_all (arrived work at seen) rest seen
-
--- the target, if any, then the next instruction, if any
-abbrev pub offsets_of : Onward → List ℕ
-offsets_of onward = option_to_list onward.target ++ option_to_list onward.next
+-- something is known, and it is so of what is told
+abbrev pub Tells : Option Known → Known → Type 0
+Tells None told = ⊥
+Tells (Some known) told = Covers known told
 
 -- Instructions.
 
--- the number of a DOS call that is built
-abbrev pub is_built_number : ℕ → Bool
-is_built_number number = (number == GETCHE) || (number == PUTC) || (number == GETCH) || (number == EXIT)
+-- one number of DOS is known
+abbrev pub HasDosNumber : Known → Type 0
+HasDosNumber known = (number : ℕ) × (known.ah ≡ Some number) × (is_dos_number number ≡ true)
 
--- all trails tell one number, which is built
-abbrev pub tells_number : Seen → Bool
-tells_number (Same (Some number)) = is_built_number number
-tells_number seen = false
+-- one greatest number of the table's index is known, it is not too great, and the table lies in the code
+pub record HasTable (image : Image) (layout : Layout) (known : Known) (r : Reg) (table : ℕ) : Type 0 where
+  pub number : ℕ
+  pub number_is : number_of r known.index ≡ Some number
+  pub few : number ≤ 255
+  pub inside : table + 2 * (number + 1) ≤ length (code_within image layout)
 
--- all trails tell one number, which is one of a DOS call
-abbrev pub is_known_number : Seen → Bool
-is_known_number (Same (Some number)) = is_dos_number number
-is_known_number seen = false
+-- the operation may stand at an offset, as far as what is known before it tells
+pub record IsAllowed (image : Image) (layout : Layout) (entry : ℕ) (known : Known) (op : Op) : Type 0 where
+  pub number : op ≡ Int21 → HasDosNumber known
+  pub table : (r : Reg) (table : ℕ) → op ≡ Table r table → HasTable image layout known r table
+  pub returns : (count : ℕ) → op ≡ Ret count → entry ≢ layout.start_ip
+  pub calls : op ≡ Call layout.start_ip → ⊥
 
--- this instruction stands at the offset, is built and is no construct
-pub record IsAccepted (code : List ℕ) (at : ℕ) (seen : Seen) (instr : Instr) : Type 0 where
-  pub found : instruction_at at (drop at code) ≡ Some instr
-  pub no_jump : ¬ IsIndirectJump code at
-  pub no_call : ¬ IsIndirectCall code at
-  pub user : is_system instr.op ≡ false
-  pub built : is_unbuilt instr.op ≡ false
-  pub number : instr.op ≡ Int21 → tells_number seen ≡ true
+-- this instruction stands at the offset and is no construct, but for a division
+pub record IsAccepted (image : Image) (layout : Layout) (entry at : ℕ) (known : Known) (instr : Instr) : Type 0 where
+  pub found : instruction_in image layout at ≡ Some instr
+  pub user : (is_system instr.op || not (is_frame_form image layout entry at instr.op)) ≡ false
+  pub allowed : IsAllowed image layout entry known instr.op
 
--- the construct that FFh with a reg field is
-abbrev pub indirect_kind : ℕ → ℕ
-indirect_kind reg =
-    if (reg == 2) || (reg == 3) then INDIRECT_CALL
-    else if (reg == 4) || (reg == 5) then INDIRECT_JUMP
-    else OUTSIDE
+-- a table jump before which this is known is refused
+pub data IsTableFault (image : Image) (layout : Layout) (at : ℕ) (known : Known) (r : Reg) (table : ℕ) : Refusal → Type 0 where
+  no_number :
+      number_of r known.index ≡ None → IsTableFault image layout at known r table (Construct INDIRECT_JUMP at)
+  many :
+      {number : ℕ}
+      → number_of r known.index ≡ Some number
+      → 256 ≤ number
+      → IsTableFault image layout at known r table (Limit Entries (number + 1))
+  outside :
+      {number : ℕ}
+      → number_of r known.index ≡ Some number
+      → number ≤ 255
+      → length (code_within image layout) < table + 2 * (number + 1)
+      → IsTableFault image layout at known r table (Construct INDIRECT_JUMP at)
 
--- a construct of this kind stands at the offset, where trails come as they are seen
-pub data IsKind (code : List ℕ) (at : ℕ) (seen : Seen) : ℕ → Type 0 where
-  unknown :
-      instruction_at at (drop at code) ≡ None
-      → ¬ IsIndirectJump code at
-      → ¬ IsIndirectCall code at
-      → IsKind code at seen OUTSIDE
-  jump : IsIndirectJump code at → IsKind code at seen INDIRECT_JUMP
-  call : IsIndirectCall code at → IsKind code at seen INDIRECT_CALL
-  system :
-      {instr : Instr}
-      → instruction_at at (drop at code) ≡ Some instr
-      → is_system instr.op ≡ true
-      → IsKind code at seen OUTSIDE
-  number :
-      {instr : Instr}
-      → instruction_at at (drop at code) ≡ Some instr
-      → instr.op ≡ Int21
-      → is_known_number seen ≡ false
-      → IsKind code at seen DOS_NUMBER
+-- The search.
 
--- an instruction that is not built stands at the offset
-pub data IsUnbuiltHere (code : List ℕ) (at : ℕ) (seen : Seen) : Type 0 where
-  operation :
-      {instr : Instr}
-      → instruction_at at (drop at code) ≡ Some instr
-      → is_unbuilt instr.op ≡ true
-      → IsUnbuiltHere code at seen
-  string :
-      {instr : Instr}
-      → instruction_at at (drop at code) ≡ Some instr
-      → instr.op ≡ Int21
-      → seen ≡ Same (Some PUTS)
-      → IsUnbuiltHere code at seen
+-- what is known at each offset, the offsets in the order in which they were reached, and those that are to be followed
+pub record Work : Type 0 where
+  pub seen : List (Option Known)
+  pub order : List ℕ
+  pub pending : List ℕ
 
--- the refusal is that of the number of a DOS call at the offset
-abbrev pub IsNumberCause : ℕ → Seen → Refusal → Type 0
-IsNumberCause at seen (Construct kind place) = (kind ≡ DOS_NUMBER) × (place ≡ at) × (is_known_number seen ≡ false)
-IsNumberCause at seen (NotYet place) = (place ≡ at) × (seen ≡ Same (Some PUTS))
-IsNumberCause at seen refusal = ⊥
+abbrev pub work_of : Search → Work
+work_of search = record { seen = search.seen.items; order = search.order.items; pending = search.pending.items }
 
--- the refusal names what stands at the offset
-abbrev pub IsCause : List ℕ → ℕ → Seen → Refusal → Type 0
-IsCause code at seen (Construct kind place) = (place ≡ at) × IsKind code at seen kind
-IsCause code at seen (NotYet place) = (place ≡ at) × IsUnbuiltHere code at seen
-IsCause code at seen (Limit what count) = ⊥
-IsCause code at seen Memory = Unit {0}
+-- what is known at an offset
+abbrev pub seen_at : List (Option Known) → ℕ → Option Known
+seen_at seen at = get_or seen at None
+
+-- nothing is seen
+pub record IsFresh (work : Work) : Type 0 where
+  pub length_is : length work.seen ≡ 65536
+  pub none : (at : ℕ) → seen_at work.seen at ≡ None
+  pub order : work.order ≡ []
+  pub pending : work.pending ≡ []
+
+-- how many fields have a value
+abbrev pub one_if_some : {A : Type 0} → Option A → ℕ
+one_if_some None = 0
+one_if_some (Some a) = 1
+
+abbrev pub told_count : Known → ℕ
+told_count known = one_if_some known.ah + one_if_some known.form + one_if_some known.index + one_if_some known.from
+
+-- how often what is known may still change
+abbrev pub rank : Option Known → ℕ
+rank None = 5
+rank (Some known) = told_count known
+
+-- how much is still to be done
+abbrev pub measure : Work → ℕ
+measure work = 2 * sum_by rank work.seen + length work.pending
+
+-- this is known at the offset now, and it is to be followed
+abbrev pub with_known : Work → List ℕ → ℕ → Known → Work
+with_known work order to known = record {
+  seen = slice_set work.seen to (Some known);
+  order = order;
+  pending = work.pending ++ to ∷ [];
+}
+
+-- a trail comes to an offset, and tells this
+pub data IsArrived (old new : Work) (to : ℕ) (known : Known) : Type 0 where
+  first :
+      seen_at old.seen to ≡ None
+      → length old.order < 4096
+      → new ≡ with_known old (old.order ++ to ∷ []) to known
+      → IsArrived old new to known
+  less :
+      {was : Known}
+      → seen_at old.seen to ≡ Some was
+      → told_count (common was known) < told_count was
+      → new ≡ with_known old old.order to (common was known)
+      → IsArrived old new to known
+  same :
+      {was : Known}
+      → seen_at old.seen to ≡ Some was
+      → told_count was ≤ told_count (common was known)
+      → new ≡ old
+      → IsArrived old new to known
+
+-- one more offset is too many, or there is no memory for it
+abbrev pub IsFull : Work → ℕ → Refusal → Type 0
+IsFull work to (Limit Instructions count) = (count ≡ 4097) × (length work.order ≡ 4096) × (seen_at work.seen to ≡ None)
+IsFull work to Memory = Unit {0}
+IsFull work to refusal = ⊥
+
+-- the offsets that are seen are these
+abbrev pub IsListing : List (Option Known) → List ℕ → Type 0
+IsListing seen offsets = (at : ℕ) → Contains offsets at ↔ (seen_at seen at ≢ None)
+
+-- the offsets that are seen, each once, in the order in which they were reached: the entry, and then each with an edge
+-- from an earlier one
+pub record IsOrder (image : Image) (layout : Layout) (entry : ℕ) (seen : List (Option Known)) (order : List ℕ) : Type 0 where
+  pub every : IsListing seen order
+  pub distinct : AllPairs (λ x y. x ≢ y) order
+  pub first : (d : ℕ) → 0 < length order → get_or order 0 d ≡ entry
+  pub earlier :
+      (i d : ℕ)
+      → 0 < i
+      → i < length order
+      → (j : ℕ) × (j < i) × IsEdge image layout entry (get_or order j d) (get_or order i d)
+  pub few : length order ≤ 4096
+
+-- what is seen is so by trails
+pub record IsSound (image : Image) (layout : Layout) (entry : ℕ) (work : Work) : Type 0 where
+  pub length_is : length work.seen ≡ 65536
+  pub witnessed :
+      (at : ℕ) (known : Known) → seen_at work.seen at ≡ Some known → IsWitnessed image layout entry at known
+  pub order : IsOrder image layout entry work.seen work.order
+  pub waiting : (at : ℕ) → Contains work.pending at → seen_at work.seen at ≢ None
+
+-- more is seen, and where it is, it is to be followed
+pub record Extends (old new : Work) : Type 0 where
+  pub tells : (at : ℕ) (told : Known) → Tells (seen_at old.seen at) told → Tells (seen_at new.seen at) told
+  pub stays : (at : ℕ) → (seen_at new.seen at ≡ seen_at old.seen at) ⊎ Contains new.pending at
+  pub waits : (at : ℕ) → Contains old.pending at → Contains new.pending at
+  pub less : measure new ≤ measure old
+
+-- what each of these offsets has is so of what trails tell that come there from the instruction
+abbrev pub AreTold : Work → ℕ → Instr → Known → List ℕ → Type 0
+AreTold work at instr known offsets =
+    (to : ℕ) → Contains offsets to → (told : Known) → Covers (known_after at instr to known) told → Tells (seen_at work.seen to) told
 
 -- the instruction at an offset was followed
-pub record IsFollowed (code : List ℕ) (at : ℕ) (before after : Work) : Type 0 where
+pub record IsFollowed (image : Image) (layout : Layout) (entry at : ℕ) (old new : Work) : Type 0 where
+  pub sound : IsSound image layout entry new
+  pub extends : Extends old new
+  pub known : Known
+  pub was : seen_at old.seen at ≡ Some known
   pub instr : Instr
-  pub accepted : IsAccepted code at (seen_at before.seen at) instr
-  pub fits : All (λ to. to < 65536) (op_successors instr.op (next_of at instr) (ah_of (seen_at before.seen at)) [])
-  pub after_is :
-      after
-      ≡ arrived_at_all before (op_successors instr.op (next_of at instr) (ah_of (seen_at before.seen at)) [])
-      (seen_after instr.op (seen_at before.seen at))
+  pub accepted : IsAccepted image layout entry at known instr
+  pub onward : AreTold new at instr known (successors_by image at instr known)
+
+-- trails of the procedure come to just the offsets that are seen, with what is known, and instructions that are accepted
+-- stand there
+pub record AreAllSeen (image : Image) (layout : Layout) (entry : ℕ) (seen : List (Option Known)) : Type 0 where
+  pub length_is : length seen ≡ 65536
+  pub told :
+      (at : ℕ) (before : List ℕ)
+      → IsTrail image layout entry (at ∷ before)
+      → Tells (seen_at seen at) (told image layout at before)
+  pub witnessed :
+      (at : ℕ) (known : Known) → seen_at seen at ≡ Some known → IsWitnessed image layout entry at known
+  pub accepted :
+      (at : ℕ) (known : Known)
+      → seen_at seen at ≡ Some known
+      → (instr : Instr) × IsAccepted image layout entry at known instr

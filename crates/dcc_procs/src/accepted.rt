@@ -1,5 +1,16 @@
 //! Which instructions are taken in, and why others are refused.
 
+ghost use Rattle.std.specs.Prelude.{◌≡◌, ◌==◌, ◌||◌, if◌then◌else◌, ℕ, None, IfOk, IfErr, OnOk, OnErr};
+ghost use Rattle.dcc_prog.specs.MzImage.{IsLoaded};
+ghost use Rattle.dcc_prog.specs.Layout.{HasLayout};
+ghost use Rattle.dcc_prog.specs.WellFormed.{IsOperation};
+ghost use Rattle.dcc_prog.specs.Trail.{instruction_in, StandsAt, IsEntry};
+ghost use Rattle.dcc_prog.specs.Construct.{IsAtNode};
+ghost use Rattle.dcc_prog.specs.Refused.{IsRefusedByTrails};
+ghost use Rattle.dcc_prog.specs.declared.refusal.construct.TheConstants.{OUTSIDE, INDIRECT_JUMP, INDIRECT_CALL, DOS_NUMBER};
+ghost use Rattle.dcc_prog.specs.declared.refusal.Refusal.TheVariants.{Construct};
+ghost use Rattle.dcc_procs.specs.Search.{IsWitnessed, HasDosNumber, HasTable, IsAllowed, IsAccepted, IsTableFault};
+
 use crate::code::{code_of, indirect_at, instruction_in};
 use crate::form::is_system;
 use crate::frame::is_frame_form;
@@ -14,7 +25,9 @@ use dcc_prog::{Image, Instr, Layout, LimitName, Op, Refusal};
 const MOST: u16 = 255;
 
 // The construct that FFh with this reg field is.
-fn indirect_kind(reg: u8) -> u8 {
+fn indirect_kind(reg: u8) -> u8
+    ensures { result ≡ (if (reg == 2) || (reg == 3) then INDIRECT_CALL else if (reg == 4) || (reg == 5) then INDIRECT_JUMP else OUTSIDE) }
+{
     match reg {
         2 | 3 => INDIRECT_CALL,
         4 | 5 => INDIRECT_JUMP,
@@ -23,7 +36,12 @@ fn indirect_kind(reg: u8) -> u8 {
 }
 
 // The construct where no instruction stands.
-fn unknown_kind(image: &Image, layout: &Layout, at: u16) -> u8 {
+fn unknown_kind(image: &Image, layout: &Layout, at: u16) -> u8
+    requires loaded { IsLoaded image.now }
+    requires layout { HasLayout image.now layout.now }
+    requires none { instruction_in image.now layout.now at ≡ None }
+    ensures { (entry : ℕ) → IsAtNode image.now layout.now entry at result }
+{
     match indirect_at(image, layout, at) {
         Some(reg) => indirect_kind(reg),
         None => OUTSIDE,
@@ -31,7 +49,11 @@ fn unknown_kind(image: &Image, layout: &Layout, at: u16) -> u8 {
 }
 
 // INT 21h needs one number of the five.
-fn check_number(at: u16, known: Known) -> Result<(), Refusal> {
+fn check_number(at: u16, known: Known) -> Result<(), Refusal>
+    ensures number { OnOk result (HasDosNumber known) }
+    ensures refused { IfErr result (λ refusal. refusal ≡ Construct DOS_NUMBER at) }
+    ensures unknown { OnErr result (¬ HasDosNumber known) }
+{
     match known.ah {
         Some(GETCHE | PUTC | GETCH | PUTS | EXIT) => Ok(()),
         _ => Err(Refusal::Construct { kind: DOS_NUMBER, at }),
@@ -46,7 +68,12 @@ fn check_table(
     known: Known,
     r: Reg,
     table: u16,
-) -> Result<(), Refusal> {
+) -> Result<(), Refusal>
+    requires loaded { IsLoaded image.now }
+    requires layout { HasLayout image.now layout.now }
+    ensures table { OnOk result (HasTable image.now layout.now known r table) }
+    ensures refused { IfErr result (IsTableFault image.now layout.now at known r table) }
+{
     let kind = INDIRECT_JUMP;
     let Some(number) = number_of(known, r) else {
         return Err(Refusal::Construct { kind, at });
@@ -71,7 +98,15 @@ fn check_operation(
     at: u16,
     known: Known,
     op: Op,
-) -> Result<(), Refusal> {
+) -> Result<(), Refusal>
+    requires loaded { IsLoaded image.now }
+    requires layout { HasLayout image.now layout.now }
+    requires entry { IsEntry image.now layout.now entry }
+    requires witnessed { IsWitnessed image.now layout.now entry at known }
+    requires stands { StandsAt image.now layout.now at op }
+    ensures allowed { OnOk result (IsAllowed image.now layout.now entry known op) }
+    ensures refused { IfErr result (IsRefusedByTrails image.now layout.now) }
+{
     let kind = ENTRY_RETURN;
     match op {
         Op::Int21 => check_number(at, known),
@@ -91,7 +126,15 @@ pub fn accepted(
     entry: u16,
     at: u16,
     known: Known,
-) -> Result<Instr, Refusal> {
+) -> Result<Instr, Refusal>
+    requires loaded { IsLoaded image.now }
+    requires layout { HasLayout image.now layout.now }
+    requires entry { IsEntry image.now layout.now entry }
+    requires witnessed { IsWitnessed image.now layout.now entry at known }
+    ensures accepted { IfOk result (IsAccepted image.now layout.now entry at known) }
+    ensures operation { IfOk result (λ instr. IsOperation instr.op) }
+    ensures refused { IfErr result (IsRefusedByTrails image.now layout.now) }
+{
     let Some(instr) = instruction_in(image, layout, at) else {
         let kind = unknown_kind(image, layout, at);
         return Err(Refusal::Construct { kind, at });

@@ -1,5 +1,10 @@
 //! What the trails to an offset tell in common.
 
+ghost use Rattle.std.specs.Prelude.{◌≡◌, ◌<◌, ◌≤◌, nat_eq, IfSome, None};
+ghost use Rattle.dcc_prog.specs.WellFormed.{IsOperation};
+ghost use Rattle.dcc_procs.specs.Known.{nothing, known_after, common_of, is_same_form, is_same_index, common};
+ghost use Rattle.dcc_procs.specs.Search.{told_count};
+
 use crate::form::{constant_to_ah, writes_ah};
 use crate::table::{Form, Index, form_after, index_after};
 use dcc_prog::Instr;
@@ -27,28 +32,39 @@ pub const NOTHING: Known = Known {
 };
 
 // The number that both tell.
-fn common_byte(a: Option<u8>, b: Option<u8>) -> Option<u8> {
+fn common_byte(a: Option<u8>, b: Option<u8>) -> Option<u8>
+    ensures { result ≡ common_of nat_eq a b }
+{
     match (a, b) {
         (Some(number), Some(other)) if number == other => a,
         _ => None,
     }
 }
 
-fn common_word(a: Option<u16>, b: Option<u16>) -> Option<u16> {
+// The word that both tell.
+fn common_word(a: Option<u16>, b: Option<u16>) -> Option<u16>
+    ensures { result ≡ common_of nat_eq a b }
+{
     match (a, b) {
         (Some(number), Some(other)) if number == other => a,
         _ => None,
     }
 }
 
-fn common_form(a: Option<Form>, b: Option<Form>) -> Option<Form> {
+// The form that both tell.
+fn common_form(a: Option<Form>, b: Option<Form>) -> Option<Form>
+    ensures { result ≡ common_of is_same_form a b }
+{
     match (a, b) {
         (Some(form), Some(other)) if form.is_same(other) => a,
         _ => None,
     }
 }
 
-fn common_index(a: Option<Index>, b: Option<Index>) -> Option<Index> {
+// The index that both tell.
+fn common_index(a: Option<Index>, b: Option<Index>) -> Option<Index>
+    ensures { result ≡ common_of is_same_index a b }
+{
     match (a, b) {
         (Some(index), Some(other)) if index.is_same(other) => a,
         _ => None,
@@ -57,7 +73,10 @@ fn common_index(a: Option<Index>, b: Option<Index>) -> Option<Index> {
 
 impl Known {
     /// What is known at an offset to which the instruction goes on, by what is known before it.
-    pub fn after(self, at: u16, instr: Instr, to: u16) -> Known {
+    pub fn after(self, at: u16, instr: Instr, to: u16) -> Known
+        requires { IsOperation instr.op }
+        ensures { result ≡ known_after at instr to self }
+    {
         Known {
             ah: if writes_ah(instr.op) {
                 constant_to_ah(instr.op)
@@ -71,7 +90,9 @@ impl Known {
     }
 
     /// What both tell.
-    pub fn common(self, other: Known) -> Known {
+    pub fn common(self, other: Known) -> Known
+        ensures { result ≡ common self other }
+    {
         Known {
             ah: common_byte(self.ah, other.ah),
             form: common_form(self.form, other.form),
@@ -81,7 +102,9 @@ impl Known {
     }
 
     // How many fields have a value.
-    fn told(self) -> u8 {
+    fn told(self) -> u8
+        ensures { result ≡ told_count self }
+    {
         u8::from(self.ah.is_some())
             + u8::from(self.form.is_some())
             + u8::from(self.index.is_some())
@@ -89,7 +112,11 @@ impl Known {
     }
 
     /// What both tell, where that is less than what the first one tells.
-    pub fn lessened(self, other: Known) -> Option<Known> {
+    pub fn lessened(self, other: Known) -> Option<Known>
+        ensures less { IfSome result (λ less. less ≡ common self other) }
+        ensures fewer { IfSome result (λ less. told_count less < told_count self) }
+        ensures same { result ≡ None → told_count self ≤ told_count (common self other) }
+    {
         let common = self.common(other);
         if common.told() < self.told() {
             Some(common)

@@ -3,14 +3,9 @@
 
 mod accepted;
 mod code;
-mod collect;
-mod division;
 mod form;
 mod frame;
 mod known;
 mod onward;
-mod procedures;
 mod search;
 mod table;
-
-pub use procedures::find;

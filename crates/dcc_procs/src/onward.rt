@@ -1,5 +1,10 @@
 //! Where an instruction goes on.
 
+ghost use Rattle.std.specs.Prelude.{◌≡◌, ◌∷◌, [], IfOk, option_to_list};
+ghost use Rattle.dcc_prog.specs.MzImage.{IsLoaded};
+ghost use Rattle.dcc_prog.specs.Trail.{table_targets};
+ghost use Rattle.dcc_procs.specs.Known.{number_of, successors_by};
+
 use crate::code::word_in_segment;
 use crate::known::Known;
 use dcc_num::dos::EXIT;
@@ -14,7 +19,10 @@ fn table_targets(
     image: &Image,
     offset: u16,
     number: Option<u16>,
-) -> Result<SmallVec<u16, 2>, AllocError> {
+) -> Result<SmallVec<u16, 2>, AllocError>
+    requires { IsLoaded image.now }
+    ensures { IfOk result (λ targets. targets.items ≡ table_targets image.now offset number) }
+{
     let mut targets = SmallVec::new(alloc);
     let Some(number) = number else {
         return Ok(targets);
@@ -26,7 +34,13 @@ fn table_targets(
 }
 
 // One offset, or this one and then another.
-fn offsets_of(alloc: Global, first: u16, second: Option<u16>) -> Result<SmallVec<u16, 2>, AllocError> {
+fn offsets_of(
+    alloc: Global,
+    first: u16,
+    second: Option<u16>,
+) -> Result<SmallVec<u16, 2>, AllocError>
+    ensures { IfOk result (λ offsets. offsets.items ≡ first ∷ option_to_list second) }
+{
     let mut offsets = SmallVec::new(alloc);
     offsets.push(first)?;
     if let Some(second) = second {
@@ -35,8 +49,10 @@ fn offsets_of(alloc: Global, first: u16, second: Option<u16>) -> Result<SmallVec
     Ok(offsets)
 }
 
-// The greatest number of a table's index, by what is known before a jump through the register.
-pub fn number_of(known: Known, r: Reg) -> Option<u16> {
+/// The greatest number of a table's index, by what is known before a jump through the register.
+pub fn number_of(known: Known, r: Reg) -> Option<u16>
+    ensures { result ≡ number_of r known.index }
+{
     known.index?.number_of(r)
 }
 
@@ -48,7 +64,10 @@ pub fn successors(
     at: u16,
     instr: Instr,
     known: Known,
-) -> Result<SmallVec<u16, 2>, AllocError> {
+) -> Result<SmallVec<u16, 2>, AllocError>
+    requires { IsLoaded image.now }
+    ensures { IfOk result (λ offsets. offsets.items ≡ successors_by image.now at instr known) }
+{
     let next = instr.next_of(at);
     match instr.op {
         Op::Jump(target) => offsets_of(alloc, target, None),

@@ -1,5 +1,12 @@
 //! The search for the nodes of a procedure.
 
+ghost use Rattle.std.specs.Prelude.{◌≡◌, ◌≢◌, ◌≤◌, ◌<◌, ◌++◌, ◌∷◌, [], length, Some, None, IfOk, IfErr, OnOk};
+ghost use Rattle.dcc_prog.specs.MzImage.{IsLoaded};
+ghost use Rattle.dcc_prog.specs.Layout.{HasLayout};
+ghost use Rattle.dcc_prog.specs.Trail.{IsEntry};
+ghost use Rattle.dcc_prog.specs.Refused.{IsRefusedByTrails};
+ghost use Rattle.dcc_procs.specs.Search.{seen_at, work_of, with_known, IsFresh, IsArrived, IsFull, IsSound, IsOrder, IsFollowed, AreAllSeen, IsListing};
+
 use crate::accepted::accepted;
 use crate::known::{Known, NOTHING};
 use crate::onward::successors;
@@ -25,7 +32,9 @@ pub struct Search {
 
 impl Search {
     /// Nothing is seen.
-    pub fn new(alloc: Global) -> Result<Search, AllocError> {
+    pub fn new(alloc: Global) -> Result<Search, AllocError>
+        ensures { IfOk result (λ search. IsFresh (work_of search)) }
+    {
         Ok(Search {
             seen: vec![in alloc; None; OFFSETS]?,
             order: Vec::new(alloc),
@@ -34,7 +43,13 @@ impl Search {
     }
 
     // A trail comes to an offset for the first time.
-    fn reach(&mut self, to: u16, known: Known) -> Result<(), Refusal> {
+    fn reach(&mut self, to: u16, known: Known) -> Result<(), Refusal>
+        requires length { length self.old.seen.items ≡ 65536 }
+        requires first { seen_at self.old.seen.items to ≡ None }
+        ensures reached { OnOk result (work_of self.new ≡ with_known (work_of self.old) (self.old.order.items ++ to ∷ []) to known) }
+        ensures room { OnOk result (length self.old.order.items ≢ 4096) }
+        ensures full { IfErr result (IsFull (work_of self.old) to) }
+    {
         if self.order.len() == MOST {
             return Err(Refusal::Limit {
                 what: LimitName::Instructions,
@@ -48,7 +63,12 @@ impl Search {
     }
 
     // Notes that a trail comes to an offset, and what it tells.
-    fn arrive(&mut self, to: u16, known: Known) -> Result<(), Refusal> {
+    fn arrive(&mut self, to: u16, known: Known) -> Result<(), Refusal>
+        requires length { length self.old.seen.items ≡ 65536 }
+        requires few { length self.old.order.items ≤ 4096 }
+        ensures arrived { OnOk result (IsArrived (work_of self.old) (work_of self.new) to known) }
+        ensures full { IfErr result (IsFull (work_of self.old) to) }
+    {
         let Some(old) = self.seen[usize::from(to)] else {
             return self.reach(to, known);
         };
@@ -67,9 +87,17 @@ impl Search {
         layout: &Layout,
         entry: u16,
         at: u16,
-    ) -> Result<(), Refusal> {
+    ) -> Result<(), Refusal>
+        requires loaded { IsLoaded image.now }
+        requires layout { HasLayout image.now layout.now }
+        requires entry { IsEntry image.now layout.now entry }
+        requires sound { IsSound image.now layout.now entry (work_of self.old) }
+        requires seen { seen_at self.old.seen.items at ≢ None }
+        ensures followed { OnOk result (IsFollowed image.now layout.now entry at (work_of self.old) (work_of self.new)) }
+        ensures refused { IfErr result (IsRefusedByTrails image.now layout.now) }
+    {
         let Some(known) = self.seen[usize::from(at)] else {
-            return Ok(());
+            unreachable!();
         };
         let instr = accepted(image, layout, entry, at, known)?;
         let succ = successors(alloc, image, at, instr, known)?;
@@ -88,7 +116,16 @@ impl Search {
         image: &Image,
         layout: &Layout,
         entry: u16,
-    ) -> Result<(), Refusal> {
+    ) -> Result<(), Refusal>
+        requires loaded { IsLoaded image.now }
+        requires layout { HasLayout image.now layout.now }
+        requires entry { IsEntry image.now layout.now entry }
+        requires fresh { IsFresh (work_of self.old) }
+        ensures seen { OnOk result (AreAllSeen image.now layout.now entry self.new.seen.items) }
+        ensures order { OnOk result (IsOrder image.now layout.now entry self.new.seen.items self.new.order.items) }
+        ensures done { OnOk result (self.new.pending.items ≡ []) }
+        ensures refused { IfErr result (IsRefusedByTrails image.now layout.now) }
+    {
         self.arrive(entry, NOTHING)?;
         while let Some(at) = self.pending.pop() {
             self.follow(alloc, image, layout, entry, at)?;
@@ -97,7 +134,12 @@ impl Search {
     }
 
     /// Forgets what was seen.
-    pub fn clear(&mut self) {
+    pub fn clear(&mut self)
+        requires length { length self.old.seen.items ≡ 65536 }
+        requires listed { IsListing self.old.seen.items self.old.order.items }
+        requires done { self.old.pending.items ≡ [] }
+        ensures { IsFresh (work_of self.new) }
+    {
         for place in 0..self.order.len() {
             self.seen[usize::from(self.order[place])] = None;
         }

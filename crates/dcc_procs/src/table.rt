@@ -1,5 +1,11 @@
 //! The instructions before a jump through a table, which tell the greatest number of its index.
 
+ghost use Rattle.std.specs.Prelude.{◌≡◌, Some};
+ghost use Rattle.dcc_num.specs.declared.Reg.TheVariants.{Ax};
+ghost use Rattle.dcc_prog.specs.Writes.{is_same_register};
+ghost use Rattle.dcc_prog.specs.Trail.{is_general, is_bounds_test, clears_upper, is_doubling};
+ghost use Rattle.dcc_procs.specs.Known.{is_same_form, is_same_index, number_of, form_begun, form_continued, form_after, moved_to, index_after};
+
 use dcc_num::{Half, Reg};
 use dcc_prog::{Alu, Cond, Count, Op, Operand, Shift};
 
@@ -27,12 +33,16 @@ pub struct Index {
 }
 
 /// The two are one register.
-pub fn is_same_register(r: Reg, q: Reg) -> bool {
+pub fn is_same_register(r: Reg, q: Reg) -> bool
+    ensures { result ≡ is_same_register r q }
+{
     r == q
 }
 
 impl Form {
-    pub fn is_same(self, other: Form) -> bool {
+    pub fn is_same(self, other: Form) -> bool
+        ensures { result ≡ is_same_form self other }
+    {
         match (self, other) {
             (Form::Compared(r, number), Form::Compared(q, same))
             | (Form::InRange(r, number), Form::InRange(q, same))
@@ -47,12 +57,16 @@ impl Form {
 }
 
 impl Index {
-    pub fn is_same(self, other: Index) -> bool {
+    pub fn is_same(self, other: Index) -> bool
+        ensures { result ≡ is_same_index self other }
+    {
         is_same_register(self.register, other.register) && self.number == other.number
     }
 
     /// The greatest number of the register, where it is the index.
-    pub fn number_of(self, r: Reg) -> Option<u16> {
+    pub fn number_of(self, r: Reg) -> Option<u16>
+        ensures { result ≡ number_of r (Some self) }
+    {
         if is_same_register(self.register, r) {
             Some(self.number)
         } else {
@@ -62,13 +76,17 @@ impl Index {
 }
 
 // AX, CX, DX, BX, SI or DI.
-fn is_general(r: Reg) -> bool {
+fn is_general(r: Reg) -> bool
+    ensures { result ≡ is_general r }
+{
     !matches!(r, Reg::Sp | Reg::Bp)
 }
 
 // A JA whose next instruction stands at the offset and whose target does not, or a JBE the other
 // way round.
-fn is_bounds_test(op: Op, next: u16, to: u16) -> bool {
+fn is_bounds_test(op: Op, next: u16, to: u16) -> bool
+    ensures { result ≡ is_bounds_test op next to }
+{
     match op {
         Op::Branch(Cond::A, target) => next == to && target != to,
         Op::Branch(Cond::Be, target) => target == to && next != to,
@@ -77,7 +95,9 @@ fn is_bounds_test(op: Op, next: u16, to: u16) -> bool {
 }
 
 // `xor ah,ah`.
-fn clears_ah(op: Op) -> bool {
+fn clears_ah(op: Op) -> bool
+    ensures { result ≡ clears_upper Ax (Some op) }
+{
     matches!(
         op,
         Op::Alu(
@@ -89,7 +109,9 @@ fn clears_ah(op: Op) -> bool {
 }
 
 // `shl r,1`.
-fn is_doubling(r: Reg, op: Op) -> bool {
+fn is_doubling(r: Reg, op: Op) -> bool
+    ensures { result ≡ is_doubling r (Some op) }
+{
     match op {
         Op::Shift(Shift::Shl, Operand::Word(q), Count::One) => is_same_register(r, q),
         _ => false,
@@ -97,7 +119,9 @@ fn is_doubling(r: Reg, op: Op) -> bool {
 }
 
 // The form that begins at a comparison.
-fn form_begun(op: Op) -> Option<Form> {
+fn form_begun(op: Op) -> Option<Form>
+    ensures { result ≡ form_begun op }
+{
     match op {
         Op::Alu(Alu::Cmp, Operand::Word(r), Operand::Const(_, number)) if is_general(r) => {
             Some(Form::Compared(r, number))
@@ -110,7 +134,9 @@ fn form_begun(op: Op) -> Option<Form> {
 }
 
 // The form that goes on from another one.
-fn form_continued(op: Op, next: u16, to: u16, form: Form) -> Option<Form> {
+fn form_continued(op: Op, next: u16, to: u16, form: Form) -> Option<Form>
+    ensures { result ≡ form_continued op next to form }
+{
     match form {
         Form::Compared(r, number) if is_bounds_test(op, next, to) => {
             Some(Form::InRange(r, number))
@@ -123,7 +149,9 @@ fn form_continued(op: Op, next: u16, to: u16, form: Form) -> Option<Form> {
 }
 
 /// The form after an instruction that goes on to an offset, by the form before it.
-pub fn form_after(op: Op, next: u16, to: u16, form: Option<Form>) -> Option<Form> {
+pub fn form_after(op: Op, next: u16, to: u16, form: Option<Form>) -> Option<Form>
+    ensures { result ≡ form_after op next to form }
+{
     match (form_begun(op), form) {
         (Some(begun), _) => Some(begun),
         (None, Some(form)) => form_continued(op, next, to, form),
@@ -132,7 +160,9 @@ pub fn form_after(op: Op, next: u16, to: u16, form: Option<Form>) -> Option<Form
 }
 
 // The register to which the operation moves this other one.
-fn moved_to(r: Reg, op: Op) -> Option<Reg> {
+fn moved_to(r: Reg, op: Op) -> Option<Reg>
+    ensures { result ≡ moved_to r op }
+{
     match op {
         Op::Mov(Operand::Word(q), Operand::Word(p))
             if is_same_register(r, p) && !is_same_register(q, p) => { Some(q) }
@@ -141,7 +171,9 @@ fn moved_to(r: Reg, op: Op) -> Option<Reg> {
 }
 
 /// The index after an instruction, by the form before it.
-pub fn index_after(op: Op, form: Option<Form>) -> Option<Index> {
+pub fn index_after(op: Op, form: Option<Form>) -> Option<Index>
+    ensures { result ≡ index_after op form }
+{
     match form? {
         Form::InRange(register, number) if is_doubling(register, op) => {
             Some(Index { register, number })

@@ -1,6 +1,7 @@
+use Rattle.dcc_procs.proofs.Causes.{table-refused, call-refused, number-refused}
 use Rattle.std.proofs.Common.{length, ap, ◌∙◌, arith, length-take}
 use Rattle.dcc_prog.proofs.FetchLaws.{image-placed, length-code_of}
-use Rattle.dcc_procs.proofs.search.code_of.Goals as goal
+use Rattle.dcc_procs.proofs.code.code_of.Goals as goal
 
 pub slice_bounds-result-end : goal.slice_bounds-result-end
 slice_bounds-result-end c =

@@ -1,6 +1,0 @@
-use Rattle.std.proofs.Common.{rules}
-use Rattle.dcc_decode.proofs.Decoding.{end_rules}
-use Rattle.dcc_procs.proofs.accepted.instruction_at.Goals as goal
-
-pub returns-in_err-get-clause-found : goal.returns-in_err-get-clause-found
-returns-in_err-get-clause-found c = search (rules, end_rules)
