@@ -2,3 +2,8 @@ pub mod Telling
 pub mod Knowing
 pub mod Witnessing
 pub mod Causes
+pub mod Searching
+pub mod Fresh
+pub mod Ended
+pub mod Filling
+pub mod Following

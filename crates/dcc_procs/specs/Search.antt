@@ -149,18 +149,18 @@ with_known work order to known = record {
 
 -- a trail comes to an offset, and tells this
 pub data IsArrived (old new : Work) (to : ℕ) (known : Known) : Type 0 where
-  first :
+  first_time :
       seen_at old.seen to ≡ None
       → length old.order < 4096
       → new ≡ with_known old (old.order ++ to ∷ []) to known
       → IsArrived old new to known
-  less :
+  told_less :
       {was : Known}
       → seen_at old.seen to ≡ Some was
       → told_count (common was known) < told_count was
       → new ≡ with_known old old.order to (common was known)
       → IsArrived old new to known
-  same :
+  told_same :
       {was : Known}
       → seen_at old.seen to ≡ Some was
       → told_count was ≤ told_count (common was known)

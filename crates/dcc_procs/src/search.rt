@@ -140,9 +140,8 @@ impl Search {
         requires done { self.old.pending.items ≡ [] }
         ensures { IsFresh (work_of self.new) }
     {
-        for place in 0..self.order.len() {
-            self.seen[usize::from(self.order[place])] = None;
+        while let Some(at) = self.order.pop() {
+            self.seen[usize::from(at)] = None;
         }
-        self.order.clear();
     }
 }

@@ -1,4 +1,3 @@
-use Rattle.dcc_procs.proofs.Causes.{table-refused, call-refused, number-refused}
 use Rattle.std.proofs.Common.{length, ap, ◌∙◌, arith, length-take}
 use Rattle.dcc_prog.proofs.FetchLaws.{image-placed, length-code_of}
 use Rattle.dcc_procs.proofs.code.code_of.Goals as goal
