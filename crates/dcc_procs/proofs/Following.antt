@@ -1,6 +1,6 @@
 -- One instruction is followed, to one successor after another.
-use Rattle.std.proofs.Common.{◌≡◌, ◌≢◌, ◌⊎◌, inl, inr, ℕ, ◌+◌, ◌≤◌, ◌<◌, List, [], ◌∷◌, ◌++◌, length, get_or, take, Contains, Option, Some, None, refl, sym, ap, ◌∙◌, subst, arith, take-suc, take_all}
-use Rattle.std.proofs.lemmas.List.{get_or_default}
+use Rattle.std.proofs.Common.{◌≡◌, ◌≢◌, ◌⊎◌, inl, inr, ℕ, ◌+◌, ◌≤◌, ◌<◌, List, [], ◌∷◌, ◌++◌, length, get_or, take, Contains, Option, Some, None, refl, sym, ap, ◌∙◌, subst, arith, take_all}
+use Rattle.std.proofs.lemmas.List.{take_more}
 use Rattle.std.proofs.lemmas.List.Elements.{Contains-get_or, Contains-push_cases}
 use Rattle.dcc_prog.specs.declared.image.Image.{Image}
 use Rattle.dcc_prog.specs.declared.procedure.Layout.{Layout}
@@ -55,7 +55,8 @@ module _ (image : Image) (layout : Layout) (entry at : ℕ) (known : Known) (ins
     pub one-followed : (new : Work) → to < 65536 → IsArrived mid new to k → AreTold mid at instr known (take place (successors_by image at instr known)) → IsSound image layout entry new × Extends old new × AreTold new at instr known (take (place + 1) (successors_by image at instr known))
     one-followed new small arrived tm =
         let c = came new small arrived in
-        let more : take (place + 1) (successors_by image at instr known) ≡ take place (successors_by image at instr known) ++ to ∷ [] = ? in
+        let more : take (place + 1) (successors_by image at instr known) ≡ take place (successors_by image at instr known) ++ to ∷ [] =
+        take_more (successors_by image at instr known) place to inside ∙ ap (λ n. take place (successors_by image at instr known) ++ n ∷ []) (sym to_is) in
         (c.sound, extends-trans old mid new em c.extends, λ i inside t covers.
           elim (Contains-push_cases (take place (successors_by image at instr known)) to i (subst (λ l. Contains l i) more inside)) [
             | inl before ↦ c.extends.tells i t (tm i before t covers)
@@ -71,5 +72,5 @@ module _ (image : Image) (layout : Layout) (entry at : ℕ) (known : Known) (ins
     was = seen;
     instr = instr;
     accepted = a;
-    onward = subst (AreTold new at instr known) (take_all (successors_by image at instr known) place past) tn;
+    onward = subst (AreTold new at instr known) (take_all place (successors_by image at instr known) past) tn;
   }
