@@ -32,9 +32,9 @@ module _ (image : Image) (layout : Layout) (entry at : ℕ) (known : Known) (ins
   pub none-followed : IsSound image layout entry old × Extends old old × AreTold old at instr known []
   none-followed = (s, extends-refl old, λ to c t covers. absurd (let inside = c.1 in omega (arith, inside)))
 
-  module _ (mid : Work) (place to : ℕ) (k : Known) (inside : place < length (successors_by image at instr known)) (to_is : to ≡ get_or (successors_by image at instr known) place to) (k_is : k ≡ known_after at instr to known) (sm : IsSound image layout entry mid) (em : Extends old mid) where
+  module _ (mid : Work) (place to : ℕ) (k : Known) (inside : place < length (successors_by image at instr known)) (to_is : to ≡ get_or (successors_by image at instr known) place 0) (k_is : k ≡ known_after at instr to known) (sm : IsSound image layout entry mid) (em : Extends old mid) where
     there : Contains (successors_by image at instr known) to
-    there = subst (Contains (successors_by image at instr known)) (sym to_is) (Contains-get_or (successors_by image at instr known) place to inside)
+    there = subst (Contains (successors_by image at instr known)) (sym to_is) (Contains-get_or (successors_by image at instr known) place 0 inside)
 
     still-seen : seen_at mid.seen at ≢ None
     still-seen =
@@ -56,7 +56,7 @@ module _ (image : Image) (layout : Layout) (entry at : ℕ) (known : Known) (ins
     one-followed new small arrived tm =
         let c = came new small arrived in
         let more : take (place + 1) (successors_by image at instr known) ≡ take place (successors_by image at instr known) ++ to ∷ [] =
-        take_more (successors_by image at instr known) place to inside ∙ ap (λ n. take place (successors_by image at instr known) ++ n ∷ []) (sym to_is) in
+        take_more (successors_by image at instr known) place 0 inside ∙ ap (λ n. take place (successors_by image at instr known) ++ n ∷ []) (sym to_is) in
         (c.sound, extends-trans old mid new em c.extends, λ i inside t covers.
           elim (Contains-push_cases (take place (successors_by image at instr known)) to i (subst (λ l. Contains l i) more inside)) [
             | inl before ↦ c.extends.tells i t (tm i before t covers)

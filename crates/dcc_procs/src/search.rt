@@ -1,6 +1,6 @@
 //! The search for the nodes of a procedure.
 
-ghost use Rattle.std.specs.Prelude.{◌≡◌, ◌≢◌, ◌≤◌, ◌<◌, ◌++◌, ◌∷◌, [], length, Some, None, IfOk, IfErr, OnOk};
+ghost use Rattle.std.specs.Prelude.{◌≡◌, ◌≢◌, ◌≤◌, ◌<◌, ◌++◌, ◌∷◌, [], length, slice_set, Some, None, IfOk, IfErr, OnOk};
 ghost use Rattle.dcc_prog.specs.MzImage.{IsLoaded};
 ghost use Rattle.dcc_prog.specs.Layout.{HasLayout};
 ghost use Rattle.dcc_prog.specs.Trail.{IsEntry};
@@ -67,6 +67,7 @@ impl Search {
         requires length { length self.old.seen.items ≡ 65536 }
         requires few { length self.old.order.items ≤ 4096 }
         ensures arrived { OnOk result (IsArrived (work_of self.old) (work_of self.new) to known) }
+        ensures small { to < 65536 }
         ensures full { IfErr result (IsFull (work_of self.old) to) }
     {
         let Some(old) = self.seen[usize::from(to)] else {
@@ -133,6 +134,17 @@ impl Search {
         Ok(())
     }
 
+    // Forgets what was seen at an offset.
+    fn forget(&mut self, at: u16)
+        requires { length self.old.seen.items ≡ 65536 }
+        ensures seen { self.new.seen.items ≡ slice_set self.old.seen.items at None }
+        ensures order { self.new.order ≡ self.old.order }
+        ensures pending { self.new.pending ≡ self.old.pending }
+        ensures small { at < 65536 }
+    {
+        self.seen[usize::from(at)] = None;
+    }
+
     /// Forgets what was seen.
     pub fn clear(&mut self)
         requires length { length self.old.seen.items ≡ 65536 }
@@ -141,7 +153,7 @@ impl Search {
         ensures { IsFresh (work_of self.new) }
     {
         while let Some(at) = self.order.pop() {
-            self.seen[usize::from(at)] = None;
+            self.forget(at);
         }
     }
 }

@@ -1,4 +1,4 @@
-use Rattle.std.proofs.Common.{◌≡◌, ◌≢◌, ℕ, ◌-◌, [], ◌∷◌, ◌++◌, take, length, Contains, None, refl, sym, ap, ◌∙◌, subst, arith, rules}
+use Rattle.std.proofs.Common.{◌≡◌, ◌≢◌, ℕ, ◌-◌, [], ◌∷◌, ◌++◌, take, length, Contains, Vec, Global, None, refl, sym, ap, ◌∙◌, subst, arith, rules}
 use Rattle.dcc_procs.specs.Search.{seen_at}
 use Rattle.dcc_procs.proofs.Fresh.{not-seen, cleared-one}
 use Rattle.dcc_procs.proofs.search.Search.clear.Goals as goal
@@ -11,8 +11,10 @@ loop-at-preserved c =
     let i = c.loop-at.invariant in
     let rest = c.pop.new.self.items in
     let listed : (n : ℕ) → seen_at c.loop-at.self.seen.items n ≢ None → Contains (rest ++ c.in-Some.at ∷ []) n = λ n is. subst (λ l. Contains l n) c.in-Some.ensures.items (i.1 n is) in
-    let one = cleared-one c.loop-at.self.seen.items rest c.in-Some.at c.from.result i.0 ? c.from.ensures listed in
-    (one.0, one.1, i.2)
+    let one = cleared-one c.loop-at.self.seen.items rest c.in-Some.at c.in-Some.at i.0 c.forget.ensures.small refl listed in
+    let order : c.forget.new.self.order.items ≡ rest = ap (λ (v : Vec ℕ Global). v.items) c.forget.ensures.order in
+    let pending : c.forget.new.self.pending.items ≡ c.loop-at.self.pending.items = ap (λ (v : Vec ℕ Global). v.items) c.forget.ensures.pending in
+    (ap length c.forget.ensures.seen ∙ one.0, λ n is. subst (λ l. Contains l n) (sym order) (one.1 n (λ none. is (ap (λ l. seen_at l n) c.forget.ensures.seen ∙ none))), pending ∙ i.2)
 
 pub returns : goal.returns
 returns c =
