@@ -7,3 +7,4 @@ pub mod Fresh
 pub mod Ended
 pub mod Filling
 pub mod Following
+pub mod Dividing

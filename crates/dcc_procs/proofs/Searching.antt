@@ -172,7 +172,7 @@ module _ (image : Image) (layout : Layout) (entry : ℕ) (seen : List (Option Kn
           λ is. elim (set-cases seen to (Some new) inside at) [
             | inl here ↦ subst (Contains (order ++ to ∷ [])) (sym here.0) (Contains-push order to)
             | inr same ↦ Contains-append_left order (to ∷ []) at ((o.every at).1 (λ none. is (same ∙ none)))
-          ]
+          ],
         );
         distinct = all_pairs_push (λ x y. x ≢ y) order to o.distinct (λ k d less is. (o.every (get_or order k d)).0 (Contains-get_or order k d less) (ap (seen_at seen) is ∙ unseen));
         first = λ d some. first-pushed d;
@@ -212,10 +212,13 @@ module _ (image : Image) (layout : Layout) (entry : ℕ) (old new : Work) (to : 
         sound = record {
           length_is = length-set old.seen to (Some less) ∙ s.length_is;
           witnessed = changed-witnessed old old.order to less within image layout entry s.witnessed (witnessed-common image layout entry to was known (s.witnessed to was seen) w);
-          order = order-same image layout entry old.seen (slice_set old.seen to (Some less)) old.order (λ at. (λ is. changed-seen old old.order to less within at (inl is), λ is. elim (set-cases old.seen to (Some less) within at) [
-            | inl there ↦ subst (λ i. seen_at old.seen i ≢ None) (sym there.0) (some-not_none (seen_at old.seen to) was seen)
-            | inr same ↦ λ none. is (same ∙ none)
-          ])) s.order;
+          order = order-same image layout entry old.seen (slice_set old.seen to (Some less)) old.order (λ at. (
+            λ is. changed-seen old old.order to less within at (inl is),
+            λ is. elim (set-cases old.seen to (Some less) within at) [
+              | inl there ↦ subst (λ i. seen_at old.seen i ≢ None) (sym there.0) (some-not_none (seen_at old.seen to) was seen)
+              | inr same ↦ λ none. is (same ∙ none)
+            ],
+          )) s.order;
           waiting = changed-waiting old old.order to less within s.waiting;
         };
         extends = changed-extends old old.order to less within

@@ -120,6 +120,7 @@ compared-first r q number other none = elim (same-cases r q) [
     one true true e = ap (λ b. if b then Some number else None) (same-self r)
     one true false e = let clash = e in cc
     one false s e = none
+
     two : is_same_register r q ≡ false → (g h s : Bool) → s ≡ false → compared r (first_of (if g then Some (Compared q number) else None) other) ≡ (if h && s then Some number else None)
     two apart g h true f = let clash = f in cc
     two apart true true false f = chosen-none number (is_same_register r q) apart
@@ -312,6 +313,7 @@ number-doubled q p x number = elim (same-cases q p) [
     self : (b : Bool) → number_of q (if b then Some (index_of number q) else None) ≡ (if b then (if is_same_register q q then Some number else None) else None)
     self true = refl
     self false = refl
+
     none : (b : Bool) → is_same_register p q ≡ false → number_of q (if b then Some (index_of number p) else None) ≡ None
     none true e = chosen-none number (is_same_register p q) e
     none false e = refl
@@ -477,12 +479,12 @@ module _ (image : Image) (layout : Layout) where
       step (Some instr) = number-after q instr.op (told image layout at before).form
 
       choices : (moved : Option Reg) → (elim moved as (λ (o : Option Reg). Option ℕ) [
-          | None ↦ if is_doubling q (operation_in image layout at) then in_range q (told image layout at before).form else None
-          | Some r ↦ doubled r (told image layout at before).form
-        ]) ≡ (elim moved as (λ (o : Option Reg). Option ℕ) [
-          | None ↦ greatest_doubled image layout q (at ∷ before)
-          | Some r ↦ greatest_doubled image layout r before
-        ])
+        | None ↦ if is_doubling q (operation_in image layout at) then in_range q (told image layout at before).form else None
+        | Some r ↦ doubled r (told image layout at before).form
+      ]) ≡ (elim moved as (λ (o : Option Reg). Option ℕ) [
+        | None ↦ greatest_doubled image layout q (at ∷ before)
+        | Some r ↦ greatest_doubled image layout r before
+      ])
       choices None = ap (λ number. if is_doubling q (operation_in image layout at) then number else None) (told-range q at before)
       choices (Some r) = told-doubled r at before
 

@@ -46,9 +46,9 @@ module _ (image : Image) (layout : Layout) (entry at : ℕ) (known : Known) (ins
       op-same instr.op (next_of at instr) told.ah known.ah (targets_by image instr.op told) (targets_by image instr.op known)
       (λ dos. let n = a.allowed.number dos in c.ah n.0 n.1 ∙ sym n.1)
       (λ r table is.
-        let t = a.allowed.table r table is in
-        let i = numbered r known.index t.number t.number_is in
-        targets-same image instr.op r table known told is (c.index i.0 i.1 ∙ sym i.1))
+      let t = a.allowed.table r table is in
+      let i = numbered r known.index t.number t.number_is in
+      targets-same image instr.op r table known told is (c.index i.0 i.1 ∙ sym i.1))
 
   pub told-onward : (to : ℕ) (before : List ℕ) → told image layout to (at ∷ before) ≡ known_after at instr to (told image layout at before)
   told-onward to before = ap (λ found. told_after at found to (told image layout at before)) a.found

@@ -56,7 +56,10 @@ fn check_number(at: u16, known: Known) -> Result<(), Refusal>
 {
     match known.ah {
         Some(GETCHE | PUTC | GETCH | PUTS | EXIT) => Ok(()),
-        _ => Err(Refusal::Construct { kind: DOS_NUMBER, at }),
+        _ => Err(Refusal::Construct {
+            kind: DOS_NUMBER,
+            at,
+        }),
     }
 }
 

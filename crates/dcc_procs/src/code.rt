@@ -28,7 +28,11 @@ pub fn instruction_in(image: &Image, layout: &Layout, at: u16) -> Option<Instr>
     ensures found { result ≡ instruction_in image.now layout.now at }
     ensures operation { IfSome result (λ instr. IsOperation instr.op) }
 {
-    decode_window(code_of(image, layout).get(usize::from(at)..)?, at, layout.cpu)
+    decode_window(
+        code_of(image, layout).get(usize::from(at)..)?,
+        at,
+        layout.cpu,
+    )
 }
 
 /// The reg field of the ModRM byte after FFh, where these two bytes stand in the code.

@@ -20,10 +20,7 @@ fn is_push_bp(op: Op) -> bool
 fn is_mov_bp_sp(op: Op) -> bool
     ensures { result ≡ is_mov_bp_sp op }
 {
-    matches!(
-        op,
-        Op::Mov(Operand::Word(Reg::Bp), Operand::Word(Reg::Sp))
-    )
+    matches!(op, Op::Mov(Operand::Word(Reg::Bp), Operand::Word(Reg::Sp)))
 }
 
 fn is_enter(op: Op) -> bool
@@ -136,11 +133,8 @@ fn uses_bp_address(op: Op) -> bool
 {
     match op {
         Op::Alu(_, a, b) | Op::Mov(a, b) | Op::Xchg(a, b) => is_by_bp(a) || is_by_bp(b),
-        Op::Unary(_, a)
-        | Op::Shift(_, a, _)
-        | Op::Imul3(_, a, _)
-        | Op::Push(a)
-        | Op::Pop(a) => is_by_bp(a),
+        Op::Unary(_, a) | Op::Shift(_, a, _) | Op::Imul3(_, a, _) | Op::Push(a) | Op::Pop(a) =>
+            is_by_bp(a),
         Op::Lea(_, ea) => address_uses_bp(ea),
         _ => false,
     }
@@ -198,8 +192,7 @@ fn makes_frame(image: &Image, layout: &Layout, entry: u16, at: u16, op: Op) -> b
 {
     let first = instruction_in(image, layout, entry);
     (begins_by_push(image, layout, entry)
-        && ((is_push_bp(op) && at == entry)
-            || (is_mov_bp_sp(op) && at == second_of(entry, first))))
+        && ((is_push_bp(op) && at == entry) || (is_mov_bp_sp(op) && at == second_of(entry, first))))
         || (is_enter(op) && at == entry)
 }
 

@@ -3,6 +3,7 @@
 
 mod accepted;
 mod code;
+mod division;
 mod form;
 mod frame;
 mod known;

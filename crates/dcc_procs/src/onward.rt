@@ -7,8 +7,8 @@ ghost use Rattle.dcc_procs.specs.Known.{number_of, successors_by};
 
 use crate::code::word_in_segment;
 use crate::known::Known;
-use dcc_num::dos::EXIT;
 use dcc_num::Reg;
+use dcc_num::dos::EXIT;
 use dcc_prog::{Image, Instr, Op};
 use smallvec::SmallVec;
 use std::alloc::{AllocError, Global};
