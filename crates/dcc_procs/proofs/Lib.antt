@@ -8,3 +8,14 @@ pub mod Ended
 pub mod Filling
 pub mod Following
 pub mod Dividing
+pub mod Collected
+pub mod Counting
+pub mod EntryLaws
+pub mod Indirect
+pub mod Clean
+pub mod Ordered
+pub mod Calls
+pub mod Finding
+pub mod ProcedureLaws
+pub mod Places
+pub mod AllFound

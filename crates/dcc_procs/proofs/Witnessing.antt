@@ -25,7 +25,7 @@ op-same (Table r offset) next ah other targets others same table = table r offse
 op-same op next ah other targets others same table = refl
 
 -- a number is told of an index
-numbered : (r : Reg) (index : Option Index) (number : ℕ) → number_of r index ≡ Some number → (i : Index) × (index ≡ Some i)
+pub numbered : (r : Reg) (index : Option Index) (number : ℕ) → number_of r index ≡ Some number → (i : Index) × (index ≡ Some i)
 numbered r None number e = let clash = e in cc
 numbered r (Some index) number e = (index, refl)
 

@@ -1,6 +1,9 @@
 pub mod Known
 pub mod Search
 pub mod Division
+pub mod Nodes
+pub mod Entries
+pub mod Procedures
 pub use Rattle.dcc_prog.specs.Found
 pub use Rattle.dcc_prog.specs.Layout
 pub use Rattle.dcc_prog.specs.MzImage

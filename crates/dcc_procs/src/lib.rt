@@ -3,10 +3,15 @@
 
 mod accepted;
 mod code;
+mod collect;
 mod division;
+mod entries;
 mod form;
 mod frame;
 mod known;
 mod onward;
+mod procedures;
 mod search;
 mod table;
+
+pub use procedures::find;
