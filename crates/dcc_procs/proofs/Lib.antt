@@ -19,3 +19,4 @@ pub mod Finding
 pub mod ProcedureLaws
 pub mod Places
 pub mod AllFound
+pub mod Trails

@@ -4,6 +4,7 @@ pub mod Division
 pub mod Nodes
 pub mod Entries
 pub mod Procedures
+pub mod Laws
 pub use Rattle.dcc_prog.specs.Found
 pub use Rattle.dcc_prog.specs.Layout
 pub use Rattle.dcc_prog.specs.MzImage

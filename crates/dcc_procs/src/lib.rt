@@ -9,8 +9,10 @@ mod entries;
 mod form;
 mod frame;
 mod known;
+pub mod laws;
 mod onward;
 mod procedures;
+pub mod plain;
 mod search;
 mod table;
 

@@ -13,8 +13,8 @@ use dcc_prog::{Image, Instr, Op};
 use smallvec::SmallVec;
 use std::alloc::{AllocError, Global};
 
-// The N + 1 words of a table, where N is told.
-fn table_targets(
+/// The N + 1 words of a table, where N is told.
+pub fn table_targets(
     alloc: Global,
     image: &Image,
     offset: u16,

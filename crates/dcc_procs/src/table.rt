@@ -75,16 +75,16 @@ impl Index {
     }
 }
 
-// AX, CX, DX, BX, SI or DI.
-fn is_general(r: Reg) -> bool
+/// AX, CX, DX, BX, SI or DI.
+pub fn is_general(r: Reg) -> bool
     ensures { result ≡ is_general r }
 {
     !matches!(r, Reg::Sp | Reg::Bp)
 }
 
-// A JA whose next instruction stands at the offset and whose target does not, or a JBE the other
-// way round.
-fn is_bounds_test(op: Op, next: u16, to: u16) -> bool
+/// A JA whose next instruction stands at the offset and whose target does not, or a JBE the other
+/// way round.
+pub fn is_bounds_test(op: Op, next: u16, to: u16) -> bool
     ensures { result ≡ is_bounds_test op next to }
 {
     match op {
@@ -94,8 +94,8 @@ fn is_bounds_test(op: Op, next: u16, to: u16) -> bool
     }
 }
 
-// `xor ah,ah`.
-fn clears_ah(op: Op) -> bool
+/// `xor ah,ah`.
+pub fn clears_ah(op: Op) -> bool
     ensures { result ≡ clears_upper Ax (Some op) }
 {
     matches!(
