@@ -1,9 +1,9 @@
 -- The procedures that are reached, in order: what is found.
-use Rattle.std.proofs.Common.{◌≡◌, ◌≢◌, inl, inr, ℕ, zero, suc, ◌+◌, ◌≤◌, ◌<◌, List, [], ◌∷◌, length, get_or, remove, slice_get, map, take, All, AllPairs, Contains, IsPermutation, Some, refl, sym, ap, ◌∙◌, subst, arith, take_all}
+use Rattle.std.proofs.Common.{◌≡◌, ◌≢◌, inl, inr, ℕ, ◌<◌, List, [], ◌∷◌, length, get_or, remove, map, All, AllPairs, Contains, IsPermutation, Some, refl, sym, ap, ◌∙◌, subst, arith, take_all}
 use Rattle.std.specs.List.Sorted.{IsNonDecreasingBy}
 use Rattle.std.proofs.lemmas.Option.{slice_get_within, slice_get-get_or}
 use Rattle.std.proofs.lemmas.List.{length-map, get_or-map}
-use Rattle.std.proofs.lemmas.List.Elements.{All-contains, All-weaker, Contains-get_or, Contains-append_left, Contains-append_right, Contains-append_cases, Contains-push_cases}
+use Rattle.std.proofs.lemmas.List.Elements.{All-contains, Contains-get_or, Contains-append_left, Contains-append_right, Contains-append_cases, Contains-push_cases}
 use Rattle.std.proofs.lemmas.List.Sorted.{IsPermutation-cons, All-permutation, Contains-permutation}
 use Rattle.dcc_prog.specs.declared.image.Image.{Image}
 use Rattle.dcc_prog.specs.declared.procedure.Layout.{Layout}
@@ -109,8 +109,8 @@ module _ (image : Image) (layout : Layout) (x : Proc) (xs sorted : List Proc) (a
   all-reached =
       let e : Proc → ℕ = λ p. p.entry in
       All-permutation (λ (p : Proc). IsEntry image layout p.entry) (x ∷ xs) (x ∷ sorted) all-moved (λ k d inside.
-        let short = length-map (x ∷ xs) e in
-        a.reached (e (get_or (x ∷ xs) k d)) (subst (λ l. Contains l (e (get_or (x ∷ xs) k d))) entries-are (k, omega (arith, short, inside), get_or-map e (x ∷ xs) k d (e (get_or (x ∷ xs) k d)) inside)))
+      let short = length-map (x ∷ xs) e in
+      a.reached (e (get_or (x ∷ xs) k d)) (subst (λ l. Contains l (e (get_or (x ∷ xs) k d))) entries-are (k, omega (arith, short, inside), get_or-map e (x ∷ xs) k d (e (get_or (x ∷ xs) k d)) inside)))
 
   has-entry : (entry : ℕ) → IsEntry image layout entry → HasEntry (x ∷ sorted) entry
   has-entry entry is_entry =
@@ -147,9 +147,9 @@ module _ (image : Image) (layout : Layout) (x : Proc) (xs sorted : List Proc) (a
   few-places : HasMany (IsNodeOf image layout) 32769 → ⊥
   few-places many =
       let le = few (IsNodeOf image layout) (places_of (x ∷ xs)) 32769 (λ place p.
-        let o = one place.0 p.is_entry in
-        let there = contains-place (x ∷ xs) o.proc place.1 o.among (o.is.found.every place.1 (subst (λ e. IsNode image layout e place.1) (sym o.entry_is) p.node)) in
-        subst (λ e. Contains (places_of (x ∷ xs)) (e, place.1)) o.entry_is there) many in
+      let o = one place.0 p.is_entry in
+      let there = contains-place (x ∷ xs) o.proc place.1 o.among (o.is.found.every place.1 (subst (λ e. IsNode image layout e place.1) (sym o.entry_is) p.node)) in
+      subst (λ e. Contains (places_of (x ∷ xs)) (e, place.1)) o.entry_is there) many in
       let whole = length-places (x ∷ xs) in
       let small = a.first.total in
       absurd (omega (arith, le, whole, small))

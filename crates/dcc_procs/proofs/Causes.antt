@@ -1,24 +1,23 @@
 -- Why an instruction is refused, in terms of constructs, counts and trails.
-use Rattle.std.proofs.Common.{◌≡◌, ◌≢◌, ◌≤◌, ◌<◌, inl, inr, ℕ, ◌+◌, ◌*◌, Bool, true, false, ◌==◌, ◌||◌, if◌then◌else◌, List, [], ◌∷◌, length, Option, Some, None, refl, sym, ap, ◌∙◌, subst, eq-eqb, eqb-true}
+use Rattle.std.proofs.Common.{◌≡◌, inl, inr, ℕ, Bool, true, false, ◌==◌, ◌||◌, if◌then◌else◌, Option, Some, None, refl, sym, ap, ◌∙◌, subst, eq-eqb, eqb-true}
 use Rattle.dcc_num.specs.declared.Reg.{Reg}
 use Rattle.dcc_prog.specs.declared.image.Image.{Image}
 use Rattle.dcc_prog.specs.declared.procedure.Layout.{Layout}
-use Rattle.dcc_prog.specs.declared.instr.Op.{Op}
 use Rattle.dcc_prog.specs.declared.instr.Op.TheVariants.{Table, Call, Ret, Int21}
 use Rattle.dcc_prog.specs.declared.refusal.construct.TheConstants.{OUTSIDE, INDIRECT_JUMP, INDIRECT_CALL, DOS_NUMBER, ENTRY_RETURN}
 use Rattle.dcc_prog.specs.declared.refusal.Refusal.{Refusal}
-use Rattle.dcc_prog.specs.declared.refusal.Refusal.TheVariants.{Construct, Limit}
+use Rattle.dcc_prog.specs.declared.refusal.Refusal.TheVariants.{Construct}
 use Rattle.dcc_prog.specs.Writes.{is_same_register}
-use Rattle.dcc_prog.specs.Trail.{code_within, instruction_in, StandsAt, known_ah, table_number, IsEntry}
+use Rattle.dcc_prog.specs.Trail.{code_within, instruction_in, StandsAt, IsEntry}
 use Rattle.dcc_prog.specs.Construct.{HasIndirect, is_dos_number, HasNumber, LacksTable, IsFormless, HasAh, HasNoNumber, not_known, other_number, ReturnsFromEntry, returns, calls, IsAtNode, unknown, indirect_jump, formless, indirect_call, dos_number, entry_return, IsOfTrails}
 use Rattle.dcc_prog.specs.Construct as construct
-use Rattle.dcc_prog.specs.Limit.{IsAbove, entries}
+use Rattle.dcc_prog.specs.Limit.{entries}
 use Rattle.dcc_prog.specs.Refused.{IsRefusedByTrails}
 use Rattle.dcc_prog.specs.Refused as refused
 use Rattle.dcc_procs.specs.declared.known.Known.{Known}
 use Rattle.dcc_procs.specs.declared.table.Index.{Index}
 use Rattle.dcc_procs.specs.Known.{number_of, index_of, told}
-use Rattle.dcc_procs.specs.Search.{Covers, HasTrail, AreApart, Differ, IsWitnessed, HasDosNumber, IsTableFault, no_number, many, outside}
+use Rattle.dcc_procs.specs.Search.{HasTrail, AreApart, IsWitnessed, HasDosNumber, IsTableFault, no_number, many, outside}
 use Rattle.dcc_procs.proofs.Telling.{same-register, told-ah, told-number}
 use Rattle.dcc_procs.proofs.Witnessing.{trail-node}
 

@@ -1,21 +1,19 @@
 -- The nodes of a procedure as they are collected from its offsets, one after another.
-use Rattle.std.proofs.Common.{◌≡◌, ◌≢◌, inl, inr, ℕ, zero, suc, ◌+◌, ◌≤◌, ◌<◌, true, false, nat_eq, if◌then◌else◌, List, [], ◌∷◌, ◌++◌, length, get_or, slice_get, All, AllPairs, Option, Some, None, refl, sym, ap, ◌∙◌, subst, arith}
+use Rattle.std.proofs.Common.{◌≡◌, inl, inr, ℕ, zero, suc, ◌+◌, ◌≤◌, ◌<◌, false, nat_eq, if◌then◌else◌, List, [], ◌∷◌, ◌++◌, length, get_or, slice_get, All, AllPairs, Option, Some, None, refl, sym, ap, ◌∙◌, subst, arith}
 use Rattle.std.proofs.lemmas.Bool.{cases_lt, ne_eqb}
 use Rattle.std.proofs.lemmas.List.{get_or_default}
-use Rattle.std.proofs.lemmas.List.Elements.{Contains-get_or, All-head, All-push}
+use Rattle.std.proofs.lemmas.List.Elements.{All-head, All-push}
 use Rattle.std.proofs.lemmas.List.Quantifiers.{all_pairs_push}
 use Rattle.indexmap.specs.IndexMap.{insert_entry}
 use Rattle.dcc_prog.specs.declared.image.Image.{Image}
 use Rattle.dcc_prog.specs.declared.procedure.Layout.{Layout}
 use Rattle.dcc_prog.specs.declared.procedure.Node.{Node}
-use Rattle.dcc_prog.specs.declared.procedure.Proc.{Proc}
 use Rattle.dcc_prog.specs.declared.instr.Op.{Op}
 use Rattle.dcc_prog.specs.declared.instr.Op.TheVariants.{Int21}
-use Rattle.dcc_prog.specs.declared.instr.Instr.{Instr}
-use Rattle.dcc_prog.specs.Trail.{instruction_in, known_ah, successors, IsTrail, IsNode}
-use Rattle.dcc_prog.specs.Found.{IsNodeFound, IsListed, IsFound}
+use Rattle.dcc_prog.specs.Trail.{IsTrail, IsNode}
+use Rattle.dcc_prog.specs.Found.{IsNodeFound, IsListed}
 use Rattle.dcc_procs.specs.declared.known.Known.{Known}
-use Rattle.dcc_procs.specs.Known.{told, successors_by}
+use Rattle.dcc_procs.specs.Known.{told}
 use Rattle.dcc_procs.specs.Search.{Covers, Tells, seen_at, IsAccepted, AreAllSeen, IsListing}
 use Rattle.dcc_procs.specs.Nodes.{number_by, HasInstruction, IsNodeBy}
 use Rattle.dcc_procs.proofs.Telling.{told-ah}

@@ -1,6 +1,6 @@
 -- Divisions in the order in which offsets were first reached: what is ready at each is so exactly where a division is
 -- prepared there, since its sole predecessor was reached before.
-use Rattle.std.proofs.Common.{◌≡◌, ◌≢◌, ◌≤◌, ◌<◌, ◌+◌, inl, inr, ℕ, zero, suc, Bool, true, false, not, ◌&&◌, ◌||◌, List, [], ◌∷◌, length, get_or, slice_set, AllPairs, Contains, Option, Some, None, refl, sym, ap, ◌∙◌, subst, arith}
+use Rattle.std.proofs.Common.{◌≡◌, ◌≢◌, ◌<◌, ◌+◌, inl, inr, ℕ, zero, suc, Bool, true, false, ◌&&◌, ◌||◌, List, [], ◌∷◌, length, get_or, slice_set, Option, Some, None, refl, sym, ap, ◌∙◌, subst, arith}
 use Rattle.std.proofs.lemmas.Bool.{cases_lt}
 use Rattle.std.proofs.lemmas.List.{length-set, get_or_default, get_or-set_same, get_or-set_other}
 use Rattle.std.proofs.lemmas.List.Elements.{Contains-get_or}
@@ -16,14 +16,14 @@ use Rattle.dcc_prog.specs.Machine.{operand_width}
 use Rattle.dcc_prog.specs.declared.instr.Instr.{Instr}
 use Rattle.dcc_prog.specs.Trail.{instruction_in, StandsAt, IsTrail, IsNode, IsEdge, IsSolePredecessor, IsEntry}
 use Rattle.dcc_prog.specs.Prepared.{prepares, keeps_dividend, is_division, IsPrepared, nearest, further, IsUnprepared}
-use Rattle.dcc_prog.specs.Construct.{IsAtNode, division as division_stands}
+use Rattle.dcc_prog.specs.Construct.{division as division_stands}
 use Rattle.dcc_prog.specs.Refused.{IsRefusedByTrails, construct}
 use Rattle.dcc_prog.specs.declared.refusal.Refusal.{Refusal}
 use Rattle.dcc_procs.specs.declared.division.Ready.{Ready}
 use Rattle.dcc_procs.specs.declared.known.Known.{Known}
-use Rattle.dcc_procs.specs.Known.{nothing, told_after, told}
-use Rattle.dcc_procs.specs.Search.{Covers, HasTrail, IsWitnessed, Tells, seen_at, IsAccepted, AreAllSeen, IsOrder}
-use Rattle.dcc_procs.specs.Division.{unready, is_for, ready_after, ready_after_found, ready_from, ready_at, IsReady, FindsReady, LacksReady}
+use Rattle.dcc_procs.specs.Known.{told_after, told}
+use Rattle.dcc_procs.specs.Search.{Covers, Tells, seen_at, AreAllSeen, IsOrder}
+use Rattle.dcc_procs.specs.Division.{unready, is_for, ready_after, ready_from, ready_at, IsReady, FindsReady, LacksReady}
 
 -- One operation.
 

@@ -1,16 +1,16 @@
 -- The search from its start to its end.
-use Rattle.std.proofs.Common.{◌≡◌, ◌≢◌, ◌⊎◌, inl, inr, ℕ, ◌+◌, ◌≤◌, ◌<◌, List, [], ◌∷◌, ◌++◌, length, Contains, Option, Some, None, refl, sym, ap, ◌∙◌, subst, arith, length-append}
+use Rattle.std.proofs.Common.{◌≡◌, ◌≢◌, ◌⊎◌, inl, inr, ℕ, ◌<◌, List, [], ◌∷◌, ◌++◌, length, Contains, Option, Some, None, refl, sym, ap, ◌∙◌, subst, arith, length-append}
 use Rattle.std.proofs.lemmas.List.Elements.{Contains-append_left, Contains-push, Contains-push_cases}
 use Rattle.dcc_prog.specs.declared.image.Image.{Image}
 use Rattle.dcc_prog.specs.declared.procedure.Layout.{Layout}
 use Rattle.dcc_prog.specs.declared.instr.Instr.{Instr}
-use Rattle.dcc_prog.specs.Trail.{successors, IsTrail, IsNode}
+use Rattle.dcc_prog.specs.Trail.{IsTrail}
 use Rattle.dcc_procs.specs.declared.known.Known.{Known}
 use Rattle.dcc_procs.specs.Known.{nothing, known_after, told, successors_by}
-use Rattle.dcc_procs.specs.Search.{Covers, HasTrail, IsWitnessed, Tells, IsAccepted, Work, seen_at, measure, IsFresh, IsArrived, IsOrder, IsSound, Extends, AreTold, IsFollowed, AreAllSeen}
+use Rattle.dcc_procs.specs.Search.{Covers, Tells, IsAccepted, Work, seen_at, measure, IsFresh, IsArrived, IsSound, Extends, IsFollowed, AreAllSeen}
 use Rattle.dcc_procs.proofs.Knowing.{covers-after}
 use Rattle.dcc_procs.proofs.Witnessing.{told-onward, trail-same, witnessed-entry}
-use Rattle.dcc_procs.proofs.Searching.{alone, Arrives, arrives, sound-fresh}
+use Rattle.dcc_procs.proofs.Searching.{alone, arrives, sound-fresh}
 
 -- the instruction at an offset was followed: what is known at its successors is so of what its trails tell
 pub record IsClosed (image : Image) (layout : Layout) (entry : ℕ) (work : Work) (at : ℕ) (known : Known) : Type 0 where

@@ -1,5 +1,5 @@
 -- The entries that are noted.
-use Rattle.std.proofs.Common.{◌≡◌, ◌≢◌, ◌⊎◌, ◌↔◌, inl, inr, ℕ, ◌+◌, ◌≤◌, ◌<◌, Bool, true, false, ◌==◌, List, [], ◌∷◌, ◌++◌, length, get_or, slice_set, All, AllPairs, Contains, refl, sym, ap, ◌∙◌, subst, arith, length-append, eqb-true, eq-eqb, append_assoc, append-nil}
+use Rattle.std.proofs.Common.{◌≡◌, ◌≢◌, ◌⊎◌, ◌↔◌, inl, inr, ℕ, ◌+◌, ◌≤◌, ◌<◌, Bool, true, false, ◌==◌, List, [], ◌∷◌, ◌++◌, length, get_or, slice_set, AllPairs, Contains, refl, sym, ap, ◌∙◌, subst, arith, length-append, eqb-true, eq-eqb, append_assoc, append-nil}
 use Rattle.std.proofs.lemmas.Grind.{get_or-set_at}
 use Rattle.std.proofs.lemmas.List.{get_or-set_other, length-set}
 use Rattle.std.proofs.lemmas.List.Elements.{All-push, Contains-get_or, Contains-append_left, Contains-push, Contains-push_cases}
@@ -14,7 +14,7 @@ use Rattle.dcc_prog.specs.Limit.{HasMany, procedures}
 use Rattle.dcc_prog.specs.Refused.{IsRefusedByTrails}
 use Rattle.dcc_prog.specs.Refused as refused
 use Rattle.dcc_procs.specs.declared.entries.Entries.{Entries}
-use Rattle.dcc_procs.specs.Entries.{AreAllReached, IsEmpty, IsAdded, known, added, IsOverfull, AreEntries, AreAdded}
+use Rattle.dcc_procs.specs.Entries.{IsEmpty, IsAdded, known, added, IsOverfull, AreEntries, AreAdded}
 
 flag-cases : (flags : List Bool) (at : ℕ) → at < length flags → (i : ℕ) → ((i ≡ at) × (get_or (slice_set flags at true) i false ≡ true)) ⊎ (get_or (slice_set flags at true) i false ≡ get_or flags i false)
 flag-cases flags at inside i =
@@ -56,7 +56,7 @@ module _ (image : Image) (layout : Layout) (old : Entries) (entry : ℕ) (are : 
           λ t. elim (flag-cases old.listed.items entry inside at) [
             | inl here ↦ subst (λ l. Contains l at) (sym order) (subst (Contains (old.order.items ++ entry ∷ [])) (sym here.0) (Contains-push old.order.items entry))
             | inr stays ↦ subst (λ l. Contains l at) (sym order) (Contains-append_left old.order.items (entry ∷ []) at ((are.listed at).1 (sym stays ∙ sym (ap (λ l. get_or l at false) flags) ∙ t)))
-          ]
+          ],
         );
         distinct = subst (AllPairs (λ x y. x ≢ y)) (sym order) (all_pairs_push (λ x y. x ≢ y) old.order.items entry are.distinct (apart-from old.order.items old.listed.items entry are.listed unlisted));
         reached = λ at c. elim (Contains-push_cases old.order.items entry at (subst (λ l. Contains l at) order c)) [

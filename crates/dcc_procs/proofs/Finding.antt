@@ -1,14 +1,14 @@
 -- One procedure after another is found.
-use Rattle.std.proofs.Common.{◌≡◌, ◌≢◌, inl, inr, ℕ, ◌+◌, ◌≤◌, ◌<◌, List, [], ◌∷◌, ◌++◌, length, get_or, map, take, All, AllPairs, Contains, sum_by, refl, sym, ap, ◌∙◌, subst, arith, length-append, length-take, append-nil}
+use Rattle.std.proofs.Common.{◌≡◌, ◌≢◌, ℕ, ◌+◌, ◌≤◌, ◌<◌, List, [], ◌∷◌, ◌++◌, length, get_or, map, take, All, AllPairs, Contains, refl, sym, ap, ◌∙◌, subst, arith, length-append, length-take, append-nil}
 use Rattle.std.proofs.lemmas.List.{take_more, take-append-le, get_or_append_left, get_or_default, get_or-map, get_or-take, length-map, map_push}
-use Rattle.std.proofs.lemmas.List.Elements.{All-push, All-take, Contains-get_or, Contains-append_left, Contains-push_cases}
+use Rattle.std.proofs.lemmas.List.Elements.{All-push, All-take, Contains-get_or, Contains-append_left}
 use Rattle.std.proofs.lemmas.List.Sums.{sum_by_push}
 use Rattle.dcc_prog.specs.declared.image.Image.{Image}
 use Rattle.dcc_prog.specs.declared.procedure.Layout.{Layout}
 use Rattle.dcc_prog.specs.declared.procedure.Proc.{Proc}
 use Rattle.dcc_prog.specs.declared.refusal.LimitName.TheVariants.{Total}
 use Rattle.dcc_prog.specs.declared.refusal.Refusal.TheVariants.{Limit}
-use Rattle.dcc_prog.specs.Trail.{IsNode, IsEntry}
+use Rattle.dcc_prog.specs.Trail.{IsEntry}
 use Rattle.dcc_prog.specs.Found.{IsFound}
 use Rattle.dcc_prog.specs.Limit.{total}
 use Rattle.dcc_prog.specs.Refused.{IsRefusedByTrails}

@@ -1,18 +1,18 @@
 -- One instruction is followed, to one successor after another.
-use Rattle.std.proofs.Common.{◌≡◌, ◌≢◌, ◌⊎◌, inl, inr, ℕ, ◌+◌, ◌≤◌, ◌<◌, List, [], ◌∷◌, ◌++◌, length, get_or, take, Contains, Option, Some, None, refl, sym, ap, ◌∙◌, subst, arith, take_all}
+use Rattle.std.proofs.Common.{◌≡◌, ◌≢◌, inl, inr, ℕ, ◌+◌, ◌≤◌, ◌<◌, [], ◌∷◌, ◌++◌, length, get_or, take, Contains, Option, Some, None, sym, ap, ◌∙◌, subst, arith, take_all}
 use Rattle.std.proofs.lemmas.List.{take_more}
 use Rattle.std.proofs.lemmas.List.Elements.{Contains-get_or, Contains-push_cases}
 use Rattle.dcc_prog.specs.declared.image.Image.{Image}
 use Rattle.dcc_prog.specs.declared.procedure.Layout.{Layout}
 use Rattle.dcc_prog.specs.declared.instr.Instr.{Instr}
 use Rattle.dcc_prog.specs.declared.refusal.Refusal.{Refusal}
-use Rattle.dcc_prog.specs.Trail.{IsNode, IsEntry}
+use Rattle.dcc_prog.specs.Trail.{IsEntry}
 use Rattle.dcc_prog.specs.Refused.{IsRefusedByTrails}
 use Rattle.dcc_procs.specs.declared.known.Known.{Known}
 use Rattle.dcc_procs.specs.Known.{known_after, told, successors_by}
 use Rattle.dcc_procs.specs.Search.{Covers, Tells, IsWitnessed, IsAccepted, Work, seen_at, IsArrived, IsFull, IsSound, Extends, AreTold, IsFollowed}
 use Rattle.dcc_procs.proofs.Witnessing.{trail-node, trail-onward, edge-onward, witnessed-onward}
-use Rattle.dcc_procs.proofs.Searching.{ComesFrom, later, Arrives, arrives, extends-refl, extends-trans}
+use Rattle.dcc_procs.proofs.Searching.{later, Arrives, arrives, extends-refl, extends-trans}
 use Rattle.dcc_procs.proofs.Filling.{full-refused}
 
 -- what is told of more than nothing
@@ -56,12 +56,15 @@ module _ (image : Image) (layout : Layout) (entry at : ℕ) (known : Known) (ins
     one-followed new small arrived tm =
         let c = came new small arrived in
         let more : take (place + 1) (successors_by image at instr known) ≡ take place (successors_by image at instr known) ++ to ∷ [] =
-        take_more (successors_by image at instr known) place 0 inside ∙ ap (λ n. take place (successors_by image at instr known) ++ n ∷ []) (sym to_is) in
-        (c.sound, extends-trans old mid new em c.extends, λ i inside t covers.
-          elim (Contains-push_cases (take place (successors_by image at instr known)) to i (subst (λ l. Contains l i) more inside)) [
-            | inl before ↦ c.extends.tells i t (tm i before t covers)
-            | inr here ↦ subst (λ n. Tells (seen_at new.seen n) t) here (c.tells t (subst (λ q. Covers q t) (sym k_is) (subst (λ n. Covers (known_after at instr n known) t) (sym here) covers)))
-          ])
+        take_more (successors_by image at instr known) place 0 inside ∙ ap (λ n. take place (successors_by image at instr known) ++ n ∷ []) (sym to_is) in (
+          c.sound,
+          extends-trans old mid new em c.extends,
+          λ i inside t covers.
+              elim (Contains-push_cases (take place (successors_by image at instr known)) to i (subst (λ l. Contains l i) more inside)) [
+                | inl before ↦ c.extends.tells i t (tm i before t covers)
+                | inr here ↦ subst (λ n. Tells (seen_at new.seen n) t) here (c.tells t (subst (λ q. Covers q t) (sym k_is) (subst (λ n. Covers (known_after at instr n known) t) (sym here) covers)))
+              ],
+        )
 
   -- all successors are followed
   pub all-followed : (new : Work) (place : ℕ) → length (successors_by image at instr known) ≤ place → IsSound image layout entry new → Extends old new → AreTold new at instr known (take place (successors_by image at instr known)) → IsFollowed image layout entry at old new

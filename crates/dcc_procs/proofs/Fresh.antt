@@ -1,5 +1,5 @@
 -- What is read from the list of what is seen, and what it is at first.
-use Rattle.std.proofs.Common.{◌≡◌, ◌≢◌, inl, inr, ℕ, ◌<◌, ◌≤◌, List, [], ◌∷◌, ◌++◌, length, get_or, slice_set, replicate, Contains, Option, Some, None, refl, sym, ap, ◌∙◌, subst, arith}
+use Rattle.std.proofs.Common.{◌≡◌, ◌≢◌, inl, inr, ℕ, ◌<◌, List, [], ◌∷◌, ◌++◌, length, get_or, slice_set, replicate, Contains, Option, Some, None, refl, sym, ap, ◌∙◌, arith}
 use Rattle.std.proofs.lemmas.Grind.{get_or-set_at}
 use Rattle.std.proofs.lemmas.List.Elements.{Contains-push_cases}
 use Rattle.std.proofs.lemmas.List.{get_or-replicate, length-replicate, length-set, get_or_past, get_or_default}
@@ -30,12 +30,14 @@ not-seen (Some known) h = absurd (h (λ e. let clash = e in cc))
 -- the last of the offsets that are seen is forgotten
 pub cleared-one : (seen : List (Option Known)) (rest : List ℕ) (at i : ℕ) → length seen ≡ 65536 → at < 65536 → i ≡ at → ((n : ℕ) → seen_at seen n ≢ None → Contains (rest ++ at ∷ []) n)
     → (length (slice_set seen i None) ≡ 65536) × ((n : ℕ) → seen_at (slice_set seen i None) n ≢ None → Contains rest n)
-cleared-one seen rest at i whole small is listed =
-    (length-set seen i None ∙ whole, λ n there.
+cleared-one seen rest at i whole small is listed = (
+  length-set seen i None ∙ whole,
+  λ n there.
       elim (set-cases seen i None (omega (arith, whole, small, is)) n) [
         | inl here ↦ absurd (there here.1)
         | inr same ↦ elim (Contains-push_cases rest at n (listed n (λ none. there (same ∙ none)))) [
           | inl before ↦ before
           | inr last ↦ absurd (there (get_or-set_at seen i n nothing_known None (sym last ∙ sym is) (omega (arith, whole, small, is))))
         ]
-      ])
+      ],
+)

@@ -1,23 +1,21 @@
 -- What is known in common, and how it changes along trails.
-use Rattle.std.proofs.Common.{◌≡◌, ◌≢◌, ◌⊎◌, inl, inr, ℕ, ◌+◌, ◌≤◌, ◌<◌, ◌==◌, nat_eq, Bool, true, false, not, ◌&&◌, if◌then◌else◌, List, [], ◌∷◌, Contains, Option, Some, None, option_map, refl, sym, ap, ◌∙◌, subst, arith, eq-eqb, eqb-true}
+use Rattle.std.proofs.Common.{◌≡◌, ◌≢◌, ◌⊎◌, inl, inr, ℕ, ◌≤◌, ◌==◌, nat_eq, Bool, true, false, not, ◌&&◌, if◌then◌else◌, Option, Some, None, option_map, refl, sym, ap, ◌∙◌, subst, arith, eq-eqb, eqb-true}
 use Rattle.dcc_num.specs.declared.Reg.{Reg}
 use Rattle.dcc_num.specs.declared.Reg.TheVariants.{Ax}
 use Rattle.dcc_num.specs.declared.Half.TheVariants.{High}
-use Rattle.dcc_prog.specs.declared.image.Image.{Image}
-use Rattle.dcc_prog.specs.declared.procedure.Layout.{Layout}
 use Rattle.dcc_prog.specs.declared.instr.Operand.TheVariants.{Word}
 use Rattle.dcc_prog.specs.declared.instr.Op.{Op}
-use Rattle.dcc_prog.specs.declared.instr.Op.TheVariants.{Mov, Branch, Table, Int21}
+use Rattle.dcc_prog.specs.declared.instr.Op.TheVariants.{Mov, Branch}
 use Rattle.dcc_prog.specs.declared.instr.Instr.{Instr}
 use Rattle.dcc_prog.specs.Writes.{is_same_register, writes_half}
-use Rattle.dcc_prog.specs.Trail.{instruction_in, next_of, constant_to_ah, is_doubling, clears_upper, is_bounds_test, table_targets, op_successors, successors, IsTrail}
+use Rattle.dcc_prog.specs.Trail.{next_of, constant_to_ah, is_doubling, clears_upper, is_bounds_test}
 use Rattle.dcc_procs.specs.declared.known.Known.{Known}
 use Rattle.dcc_procs.specs.declared.table.Form.{Form}
 use Rattle.dcc_procs.specs.declared.table.Form.TheVariants.{Compared, AlCompared, InRange, AlInRange, Doubled}
 use Rattle.dcc_procs.specs.declared.table.Index.{Index}
-use Rattle.dcc_procs.specs.Known.{is_same_form, is_same_index, form_begun, form_continued, continued, first_of, form_after, moved_to, index_of, index_after, number_of, known_after, told_after, told, targets_by, successors_by, common_of, common}
-use Rattle.dcc_procs.specs.Search.{Covers, HasTrail, AreApart, Differ, IsWitnessed, IsAccepted, one_if_some, told_count}
-use Rattle.dcc_procs.proofs.Telling.{same-register, register-same, trail-successors}
+use Rattle.dcc_procs.specs.Known.{is_same_form, is_same_index, form_begun, form_continued, continued, first_of, form_after, moved_to, index_of, index_after, known_after, told, common_of, common}
+use Rattle.dcc_procs.specs.Search.{Covers, one_if_some, told_count}
+use Rattle.dcc_procs.proofs.Telling.{same-register, register-same}
 
 -- Steps.
 

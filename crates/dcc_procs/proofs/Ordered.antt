@@ -1,13 +1,11 @@
 -- What a sort of different values gives.
-use Rattle.std.proofs.Common.{◌≡◌, ◌≢◌, ℕ, ◌≤◌, ◌<◌, nat_eq, Bool, true, false, List, length, get_or, map, AllPairs, Contains, IsPermutation, refl, sym, ap, ◌∙◌, arith, eqb-true, eq-eqb}
+use Rattle.std.proofs.Common.{◌≡◌, ◌≢◌, ℕ, ◌<◌, nat_eq, Bool, true, false, List, get_or, map, AllPairs, IsPermutation, refl, sym, ◌∙◌, arith, eqb-true, eq-eqb}
 use Rattle.std.specs.List.Sorted.{IsNonDecreasingBy}
 use Rattle.std.specs.Cmp.{unsigned_Decides}
 use Rattle.std.proofs.lemmas.Map.Keys.{IsDistinct-IsPermutation}
 use Rattle.std.proofs.lemmas.Map.Made.{AllPairs-from_IsDistinct, IsDistinct-from_AllPairs}
 use Rattle.std.proofs.lemmas.List.{length-map, get_or-map}
-use Rattle.std.proofs.lemmas.List.Sorted.{IsPermutation-sym, IsPermutation-map, Contains-permutation, length_permutation}
-use Rattle.dcc_procs.specs.declared.known.Known.{Known}
-use Rattle.dcc_procs.specs.Search.{IsListing}
+use Rattle.std.proofs.lemmas.List.Sorted.{IsPermutation-map}
 
 same-turned : (x y : ℕ) → nat_eq x y ≡ nat_eq y x
 same-turned x y = elim (nat_eq x y) as (λ b. nat_eq x y ≡ b → nat_eq x y ≡ nat_eq y x) [

@@ -1,15 +1,15 @@
 -- The instructions of all procedures, each with the entry of its own.
-use Rattle.std.proofs.Common.{◌≡◌, ◌≢◌, inl, inr, ℕ, zero, suc, ◌+◌, ◌≤◌, ◌<◌, List, [], ◌∷◌, ◌++◌, length, get_or, map, take, sum_by, All, AllPairs, Contains, refl, sym, ap, ◌∙◌, subst, arith, length-append, length-take}
+use Rattle.std.proofs.Common.{◌≡◌, ◌≢◌, inl, inr, ℕ, suc, ◌+◌, ◌<◌, List, [], ◌∷◌, ◌++◌, length, get_or, map, take, All, AllPairs, Contains, refl, sym, ap, ◌∙◌, subst, arith, length-append, length-take}
 use Rattle.std.proofs.lemmas.List.{length-map, get_or-map, get_or-take}
 use Rattle.std.proofs.lemmas.List.Sums.{sum_by-cons}
 use Rattle.std.proofs.lemmas.Option.{slice_get_within, slice_get-get_or}
 use Rattle.std.proofs.lemmas.List.Kept.{AllPairs-cons}
-use Rattle.std.proofs.lemmas.List.Elements.{All-cons, All-tail, All-head, All-append, All-map, All-contains, All-take, All-from_get_or, Contains-get_or, Contains-append_left, Contains-append_right, Contains-append_cases, Contains-push_cases}
+use Rattle.std.proofs.lemmas.List.Elements.{All-tail, All-head, All-append, All-map, All-contains, All-take, Contains-get_or, Contains-append_left, Contains-append_right, Contains-append_cases, Contains-push_cases}
 use Rattle.dcc_prog.specs.declared.image.Image.{Image}
 use Rattle.dcc_prog.specs.declared.procedure.Layout.{Layout}
 use Rattle.dcc_prog.specs.declared.procedure.Node.{Node}
 use Rattle.dcc_prog.specs.declared.procedure.Proc.{Proc}
-use Rattle.dcc_prog.specs.Trail.{IsNode, IsEntry}
+use Rattle.dcc_prog.specs.Trail.{IsEntry}
 use Rattle.dcc_prog.specs.Found.{IsFound, IsListed}
 use Rattle.dcc_prog.specs.Limit.{HasMany, IsNodeOf}
 use Rattle.dcc_procs.specs.Procedures.{total_of}
@@ -96,8 +96,8 @@ module _ (image : Image) (layout : Layout) where
       (own-apart first first.nodes.entries (All-head (IsFound image layout) first rest found).ascending)
       (places-apart rest (All-tail (IsFound image layout) first rest found) (pairs-tail (λ x y. x ≢ y) first.entry (map e rest) distinct))
       (λ x y c k same.
-        let one : x.0 ≡ first.entry = All-contains (λ (q : ℕ × ℕ). q.0 ≡ first.entry) (map (place_in first) first.nodes.entries) x (All-map (λ (q : ℕ × ℕ). q.0 ≡ first.entry) (place_in first) first.nodes.entries (λ k d inside. refl)) c in
-        All-contains (λ n. first.entry ≢ n) (map e rest) y.0 (pairs-head (λ x y. x ≢ y) first.entry (map e rest) distinct) (place-entry rest y k) (sym one ∙ ap (λ (q : ℕ × ℕ). q.0) same))
+      let one : x.0 ≡ first.entry = All-contains (λ (q : ℕ × ℕ). q.0 ≡ first.entry) (map (place_in first) first.nodes.entries) x (All-map (λ (q : ℕ × ℕ). q.0 ≡ first.entry) (place_in first) first.nodes.entries (λ k d inside. refl)) c in
+      All-contains (λ n. first.entry ≢ n) (map e rest) y.0 (pairs-head (λ x y. x ≢ y) first.entry (map e rest) distinct) (place-entry rest y k) (sym one ∙ ap (λ (q : ℕ × ℕ). q.0) same))
 
   places-hold : (procs : List Proc) → All (IsFound image layout) procs → All (λ proc. IsEntry image layout proc.entry) procs → All (IsNodeOf image layout) (places_of procs)
   unfolding places_of place_in

@@ -1,9 +1,9 @@
 -- One procedure, from its search to its nodes.
-use Rattle.std.proofs.Common.{◌≡◌, ◌≢◌, ◌↔◌, ℕ, ◌≤◌, ◌<◌, List, [], ◌∷◌, length, get_or, map, All, AllPairs, Contains, IsPermutation, Option, Some, None, refl, sym, ap, ◌∙◌, subst, arith}
+use Rattle.std.proofs.Common.{◌≡◌, ◌≢◌, ℕ, ◌≤◌, ◌<◌, List, [], ◌∷◌, length, get_or, map, AllPairs, Contains, IsPermutation, Option, None, refl, sym, ap, subst, arith}
 use Rattle.std.specs.List.Sorted.{IsNonDecreasingBy}
 use Rattle.std.proofs.lemmas.List.{length-map, get_or-map}
 use Rattle.std.proofs.lemmas.List.Elements.{All-contains, All-map}
-use Rattle.std.proofs.lemmas.List.Sorted.{IsPermutation-sym, Contains-permutation, IsPermutation-refl}
+use Rattle.std.proofs.lemmas.List.Sorted.{IsPermutation-sym, Contains-permutation}
 use Rattle.dcc_prog.specs.declared.image.Image.{Image}
 use Rattle.dcc_prog.specs.declared.procedure.Layout.{Layout}
 use Rattle.dcc_prog.specs.declared.procedure.Node.{Node}
@@ -24,7 +24,7 @@ use Rattle.dcc_procs.proofs.Ordered.{ascending-by}
 pub listing-sorted : (seen : List (Option Known)) (order sorted : List ℕ) → IsPermutation order sorted → IsListing seen order → IsListing seen sorted
 listing-sorted seen order sorted moved listing at = (
   λ c. (listing at).0 (Contains-permutation sorted order at (IsPermutation-sym order sorted moved) c),
-  λ is. Contains-permutation order sorted at moved ((listing at).1 is)
+  λ is. Contains-permutation order sorted at moved ((listing at).1 is),
 )
 
 map-self : (xs : List ℕ) → map (λ (x : ℕ). x) xs ≡ xs

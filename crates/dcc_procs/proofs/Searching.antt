@@ -1,9 +1,9 @@
 -- The search: what is seen is so by trails, and it grows.
-use Rattle.std.proofs.Common.{◌≡◌, ◌≢◌, ◌⊎◌, ◌↔◌, inl, inr, ℕ, ◌+◌, ◌*◌, ◌≤◌, ◌<◌, true, false, ◌==◌, List, [], ◌∷◌, ◌++◌, length, get_or, Contains, sum_by, slice_set, All, AllPairs, Option, Some, None, refl, sym, ap, ◌∙◌, subst, arith, length-append, eqb-true, eq-eqb}
+use Rattle.std.proofs.Common.{◌≡◌, ◌≢◌, ◌⊎◌, ◌↔◌, inl, inr, ℕ, ◌+◌, ◌*◌, ◌≤◌, ◌<◌, true, false, ◌==◌, List, [], ◌∷◌, ◌++◌, length, get_or, Contains, sum_by, slice_set, Option, Some, None, refl, sym, ap, ◌∙◌, subst, arith, length-append, eqb-true, eq-eqb}
 use Rattle.std.proofs.Math.Seq.{get_or-append_seam}
 use Rattle.std.proofs.lemmas.Grind.{get_or-set_at}
 use Rattle.std.proofs.lemmas.Bool.{cases_lt}
-use Rattle.std.proofs.lemmas.List.{get_or-set_other, length-set, get_or_past, get_or_append_left, get_or_default}
+use Rattle.std.proofs.lemmas.List.{get_or-set_other, length-set, get_or_append_left, get_or_default}
 use Rattle.std.proofs.lemmas.List.Sums.{sum_by-set}
 use Rattle.std.proofs.lemmas.List.Elements.{Contains-get_or, Contains-append_left, Contains-push, Contains-push_cases}
 use Rattle.std.proofs.lemmas.List.Quantifiers.{all_pairs_push}
@@ -11,10 +11,10 @@ use Rattle.dcc_prog.specs.declared.image.Image.{Image}
 use Rattle.dcc_prog.specs.declared.procedure.Layout.{Layout}
 use Rattle.dcc_prog.specs.Trail.{IsEdge}
 use Rattle.dcc_procs.specs.declared.known.Known.{Known}
-use Rattle.dcc_procs.specs.Known.{nothing, told, common}
-use Rattle.dcc_procs.specs.Search.{Covers, Tells, IsWitnessed, one_if_some, told_count, rank, measure, Work, seen_at, with_known, IsFresh, IsArrived, first_time, told_less, told_same, IsListing, IsOrder, IsSound, Extends}
+use Rattle.dcc_procs.specs.Known.{told, common}
+use Rattle.dcc_procs.specs.Search.{Covers, Tells, IsWitnessed, one_if_some, told_count, rank, Work, seen_at, with_known, IsFresh, IsArrived, first_time, told_less, told_same, IsOrder, IsSound, Extends}
 use Rattle.dcc_procs.proofs.Knowing.{covers-first, covers-second, covers-kept}
-use Rattle.dcc_procs.proofs.Witnessing.{witnessed-entry, witnessed-common}
+use Rattle.dcc_procs.proofs.Witnessing.{witnessed-common}
 
 -- More and more is seen.
 

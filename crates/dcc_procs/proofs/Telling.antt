@@ -1,5 +1,5 @@
 -- What a trail tells: AH and the number of a table, as the definition of trails has them.
-use Rattle.std.proofs.Common.{◌≡◌, ◌≢◌, ◌⊎◌, inl, inr, ℕ, ◌+◌, ◌==◌, Bool, true, false, not, ◌&&◌, if◌then◌else◌, List, [], ◌∷◌, Contains, Option, Some, None, option_map, refl, sym, ap, ◌∙◌, subst, eq-eqb, eqb-true}
+use Rattle.std.proofs.Common.{◌≡◌, ◌⊎◌, inl, inr, ℕ, Bool, true, false, not, ◌&&◌, if◌then◌else◌, List, [], ◌∷◌, Option, Some, None, option_map, refl, sym, ap, ◌∙◌, subst, eq-eqb}
 use Rattle.dcc_num.specs.declared.Reg.{Reg}
 use Rattle.dcc_num.specs.declared.Reg.TheVariants.{Ax, Cx, Dx, Bx, Sp, Bp, Si, Di}
 use Rattle.dcc_num.specs.declared.Half.TheVariants.{Low, High}
@@ -8,19 +8,16 @@ use Rattle.dcc_prog.specs.declared.procedure.Layout.{Layout}
 use Rattle.dcc_prog.specs.declared.instr.Alu.TheVariants.{Xor, Cmp}
 use Rattle.dcc_prog.specs.declared.instr.Shift.TheVariants.{Shl}
 use Rattle.dcc_prog.specs.declared.instr.Count.TheVariants.{One}
-use Rattle.dcc_prog.specs.declared.instr.Cond.TheVariants.{A, Be}
 use Rattle.dcc_prog.specs.declared.instr.Operand.TheVariants.{Word, Byte, Const}
 use Rattle.dcc_prog.specs.declared.instr.Op.{Op}
-use Rattle.dcc_prog.specs.declared.instr.Op.TheVariants.{Alu as AluOp, Shift as ShiftOp, Mov, Branch, Table}
+use Rattle.dcc_prog.specs.declared.instr.Op.TheVariants.{Alu as AluOp, Shift as ShiftOp, Mov, Table}
 use Rattle.dcc_prog.specs.declared.instr.Instr.{Instr}
 use Rattle.dcc_prog.specs.Writes.{is_same_register, writes_half}
 use Rattle.dcc_prog.specs.Machine.{reg_number}
 use Rattle.dcc_prog.specs.Trail.{instruction_in, next_of, constant_to_ah, known_ah, ah_after, operation_in, is_general, moved_from, is_doubling, clears_upper, compared_with, al_compared_with, is_bounds_test, is_test_to, number_before_test, greatest_in, greatest_doubled, table_number, table_targets, targets_of, op_successors, instr_successors, successors}
-use Rattle.dcc_procs.specs.declared.known.Known.{Known}
 use Rattle.dcc_procs.specs.declared.table.Form.{Form}
 use Rattle.dcc_procs.specs.declared.table.Form.TheVariants.{Compared, AlCompared, InRange, AlInRange, Doubled}
-use Rattle.dcc_procs.specs.declared.table.Index.{Index}
-use Rattle.dcc_procs.specs.Known.{form_begun, form_continued, continued, first_of, form_after, moved_to, index_of, index_after, number_of, nothing, known_after, told_after, told, targets_by, successors_by}
+use Rattle.dcc_procs.specs.Known.{form_begun, continued, first_of, form_after, moved_to, index_of, index_after, number_of, told_after, told, targets_by, successors_by}
 
 -- Registers.
 

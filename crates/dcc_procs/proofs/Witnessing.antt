@@ -1,5 +1,5 @@
 -- Trails that show what is known, and where they go on.
-use Rattle.std.proofs.Common.{◌≡◌, ◌≢◌, ◌⊎◌, inl, inr, ℕ, nat_eq, Bool, true, false, if◌then◌else◌, List, [], ◌∷◌, Contains, Option, Some, None, refl, sym, ap, ◌∙◌, subst}
+use Rattle.std.proofs.Common.{◌≡◌, inl, inr, ℕ, nat_eq, Bool, if◌then◌else◌, List, [], ◌∷◌, Contains, Option, Some, None, refl, sym, ap, ◌∙◌, subst}
 use Rattle.dcc_num.specs.declared.Reg.{Reg}
 use Rattle.dcc_num.specs.declared.Reg.TheVariants.{Ax}
 use Rattle.dcc_num.specs.declared.Half.TheVariants.{High}
@@ -9,12 +9,11 @@ use Rattle.dcc_prog.specs.declared.instr.Op.{Op}
 use Rattle.dcc_prog.specs.declared.instr.Op.TheVariants.{Table, Int21}
 use Rattle.dcc_prog.specs.declared.instr.Instr.{Instr}
 use Rattle.dcc_prog.specs.Writes.{writes_half}
-use Rattle.dcc_prog.specs.Trail.{next_of, constant_to_ah, table_targets, op_successors, successors, IsTrail, IsNode, IsEdge}
+use Rattle.dcc_prog.specs.Trail.{next_of, constant_to_ah, table_targets, op_successors, successors, IsNode, IsEdge}
 use Rattle.dcc_procs.specs.declared.known.Known.{Known}
-use Rattle.dcc_procs.specs.declared.table.Form.{Form}
 use Rattle.dcc_procs.specs.declared.table.Index.{Index}
 use Rattle.dcc_procs.specs.Known.{is_same_form, is_same_index, form_after, index_after, number_of, nothing, known_after, told_after, told, targets_by, successors_by, common_of, common}
-use Rattle.dcc_procs.specs.Search.{Covers, HasTrail, AreApart, Differ, IsWitnessed, IsAccepted}
+use Rattle.dcc_procs.specs.Search.{Covers, HasTrail, Differ, IsWitnessed, IsAccepted}
 use Rattle.dcc_procs.proofs.Telling.{trail-successors}
 use Rattle.dcc_procs.proofs.Knowing.{IsStep, step-ah, step-form, step-index, covers-after, IsTest, test-number, test-form, test-index, common-none, covers-first, covers-second}
 

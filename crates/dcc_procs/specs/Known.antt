@@ -1,6 +1,6 @@
 -- What a trail tells of the offset to which it goes, and what all trails to an offset tell in common. This stands between
 -- the trails and the code; no public contract rests on it.
-use Rattle.std.specs.Prelude.{ℕ, ◌==◌, nat_eq, Bool, true, false, not, ◌&&◌, if◌then◌else◌, List, [], ◌∷◌, Option, Some, None, option_map}
+use Rattle.std.specs.Prelude.{ℕ, ◌==◌, nat_eq, Bool, false, not, ◌&&◌, if◌then◌else◌, List, [], ◌∷◌, Option, Some, None, option_map}
 use Rattle.dcc_num.specs.declared.Reg.{Reg}
 use Rattle.dcc_num.specs.declared.Reg.TheVariants.{Ax}
 use Rattle.dcc_num.specs.declared.Half.TheVariants.{Low, High}

@@ -1,6 +1,6 @@
 -- The nodes of a procedure as they are made of what is known at offsets. This stands between the trails and the code; no
 -- public contract rests on it.
-use Rattle.std.specs.Prelude.{◌≡◌, ◌<◌, ℕ, List, All, AllPairs, Option, Some, None}
+use Rattle.std.specs.Prelude.{◌≡◌, ℕ, Option, Some, None}
 use Rattle.dcc_prog.specs.declared.image.Image.{Image}
 use Rattle.dcc_prog.specs.declared.procedure.Layout.{Layout}
 use Rattle.dcc_prog.specs.declared.procedure.Node.{Node}
@@ -10,7 +10,6 @@ use Rattle.dcc_prog.specs.declared.instr.Instr.{Instr}
 use Rattle.dcc_prog.specs.Trail.{instruction_in}
 use Rattle.dcc_procs.specs.declared.known.Known.{Known}
 use Rattle.dcc_procs.specs.Known.{successors_by}
-use Rattle.dcc_procs.specs.Search.{seen_at}
 
 -- the number of a DOS call, by what is known before it
 abbrev pub number_by : Op → Known → Option ℕ

@@ -1,13 +1,13 @@
 -- What is found of one procedure, and of those that were reached so far. This stands between the definitions and the code;
 -- no public contract rests on it.
-use Rattle.std.specs.Prelude.{◌≡◌, ◌≢◌, ◌≤◌, ◌<◌, ◌⊎◌, ℕ, ◌+◌, List, [], ◌∷◌, ◌++◌, length, get_or, map, sum_by, take, AllPairs, All, Contains, Some}
+use Rattle.std.specs.Prelude.{◌≡◌, ◌≢◌, ◌≤◌, ◌<◌, ℕ, List, [], ◌∷◌, ◌++◌, length, get_or, map, sum_by, take, AllPairs, All, Contains, Some}
 use Rattle.dcc_prog.specs.declared.image.Image.{Image}
 use Rattle.dcc_prog.specs.declared.procedure.Layout.{Layout}
 use Rattle.dcc_prog.specs.declared.procedure.Node.{Node}
 use Rattle.dcc_prog.specs.declared.procedure.Proc.{Proc}
 use Rattle.dcc_prog.specs.declared.instr.Op.{Op}
 use Rattle.dcc_prog.specs.declared.instr.Op.TheVariants.{Call}
-use Rattle.dcc_prog.specs.Trail.{StandsAt, IsNode, IsEntry}
+use Rattle.dcc_prog.specs.Trail.{StandsAt, IsNode}
 use Rattle.dcc_prog.specs.Construct.{HasNumber, IsAtNode}
 use Rattle.dcc_prog.specs.Found.{IsFound}
 use Rattle.dcc_procs.specs.declared.procedures.Finder.{Finder}

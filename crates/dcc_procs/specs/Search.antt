@@ -1,24 +1,24 @@
 -- What the search keeps of a procedure, and how it grows. This stands between the trails and the code; no public contract
 -- rests on it.
-use Rattle.std.specs.Prelude.{◌≡◌, ◌≢◌, ◌≤◌, ◌<◌, ◌⊎◌, ◌↔◌, ℕ, ◌+◌, ◌*◌, Bool, true, false, not, ◌||◌, List, [], ◌∷◌, ◌++◌, length, sum_by, get_or, slice_set, All, AllPairs, Contains, Option, Some, None}
+use Rattle.std.specs.Prelude.{◌≡◌, ◌≢◌, ◌≤◌, ◌<◌, ◌⊎◌, ◌↔◌, ℕ, ◌+◌, ◌*◌, true, false, not, ◌||◌, List, [], ◌∷◌, ◌++◌, length, sum_by, get_or, slice_set, AllPairs, Contains, Option, Some, None}
 use Rattle.dcc_prog.specs.declared.image.Image.{Image}
 use Rattle.dcc_prog.specs.declared.procedure.Layout.{Layout}
 use Rattle.dcc_prog.specs.declared.instr.Instr.{Instr}
 use Rattle.dcc_prog.specs.declared.instr.Op.{Op}
 use Rattle.dcc_prog.specs.declared.instr.Op.TheVariants.{Table, Call, Ret, Int21}
 use Rattle.dcc_num.specs.declared.Reg.{Reg}
-use Rattle.dcc_prog.specs.declared.refusal.construct.TheConstants.{INDIRECT_JUMP, DOS_NUMBER}
+use Rattle.dcc_prog.specs.declared.refusal.construct.TheConstants.{INDIRECT_JUMP}
 use Rattle.dcc_prog.specs.declared.refusal.LimitName.TheVariants.{Instructions, Entries}
 use Rattle.dcc_prog.specs.declared.refusal.Refusal.{Refusal}
 use Rattle.dcc_prog.specs.declared.refusal.Refusal.TheVariants.{Construct, Limit, Memory}
-use Rattle.dcc_prog.specs.Trail.{code_within, instruction_in, IsTrail, IsNode, IsEdge}
+use Rattle.dcc_prog.specs.Trail.{code_within, instruction_in, IsTrail, IsEdge}
 use Rattle.dcc_prog.specs.FrameForm.{is_frame_form}
 use Rattle.dcc_prog.specs.Construct.{is_system, is_dos_number}
 use Rattle.dcc_procs.specs.declared.known.Known.{Known}
 use Rattle.dcc_procs.specs.declared.table.Form.{Form}
 use Rattle.dcc_procs.specs.declared.table.Index.{Index}
 use Rattle.dcc_procs.specs.declared.search.Search.{Search}
-use Rattle.dcc_procs.specs.Known.{number_of, nothing, known_after, told, successors_by, common}
+use Rattle.dcc_procs.specs.Known.{number_of, known_after, told, successors_by, common}
 
 -- What is known at an offset.
 

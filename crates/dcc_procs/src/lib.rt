@@ -11,8 +11,8 @@ mod frame;
 mod known;
 pub mod laws;
 mod onward;
-mod procedures;
 pub mod plain;
+mod procedures;
 mod search;
 mod table;
 

@@ -104,11 +104,8 @@ fn al_compared_with(op: Option<Op>) -> Option<u16>
     ensures { result ≡ al_compared_with op }
 {
     match op {
-        Some(Op::Alu(
-            Alu::Cmp,
-            Operand::Byte(Reg::Ax, Half::Low),
-            Operand::Const(_, constant),
-        )) => Some(constant),
+        Some(Op::Alu(Alu::Cmp, Operand::Byte(Reg::Ax, Half::Low), Operand::Const(_, constant))) =>
+            Some(constant),
         _ => None,
     }
 }

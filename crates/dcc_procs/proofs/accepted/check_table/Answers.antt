@@ -1,4 +1,4 @@
-use Rattle.std.proofs.Common.{◌≡◌, ◌+◌, length, sym, ap, ◌∙◌, subst, arith}
+use Rattle.std.proofs.Common.{◌+◌, length, sym, ap, ◌∙◌, subst, arith}
 use Rattle.dcc_prog.specs.declared.refusal.LimitName.TheVariants.{Entries}
 use Rattle.dcc_prog.specs.declared.refusal.Refusal.TheVariants.{Limit}
 use Rattle.dcc_procs.specs.Search.{IsTableFault, no_number, many, outside}

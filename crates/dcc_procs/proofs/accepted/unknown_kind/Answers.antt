@@ -1,6 +1,5 @@
 use Rattle.std.proofs.Common.{sym, subst}
-use Rattle.dcc_prog.specs.Construct.{IsAtNode, HasIndirect}
-use Rattle.dcc_prog.specs.Trail.{code_within}
+use Rattle.dcc_prog.specs.Construct.{IsAtNode}
 use Rattle.dcc_procs.proofs.Causes.{kind-indirect, kind-none}
 use Rattle.dcc_procs.proofs.accepted.unknown_kind.Goals as goal
 

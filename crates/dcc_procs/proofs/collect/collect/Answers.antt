@@ -1,6 +1,6 @@
-use Rattle.std.proofs.Common.{rules, ◌≡◌, ◌+◌, ℕ, [], get_or, Some, refl, sym, ap, ◌∙◌, subst}
+use Rattle.std.proofs.Common.{◌≡◌, ◌+◌, ℕ, get_or, Some, refl, sym, ap, ◌∙◌, subst}
 use Rattle.dcc_procs.specs.Search.{seen_at}
-use Rattle.dcc_procs.proofs.Collected.{Collected, collected-none, collected-more, collected-all, node-found, seen-instruction}
+use Rattle.dcc_procs.proofs.Collected.{Collected, collected-none, collected-more, collected-all, node-found}
 use Rattle.dcc_procs.proofs.collect.collect.Goals as goal
 
 pub loop-place-init : goal.loop-place-init
@@ -23,9 +23,11 @@ pub returns : goal.returns
 returns c =
     let image = c.args.image.now in
     let layout = c.args.layout.now in
-    let i = c.loop-place.invariant in
-    (refl, record {
-      nodes = i.are;
-      ascending = i.ascending;
-      every = collected-all image layout c.args.entry c.args.offsets.now c.requires.ascending c.loop-place.place c.loop-place.nodes.entries i c.args.seen.now c.requires.seen c.requires.listing c.loop-place-test.false;
-    })
+    let i = c.loop-place.invariant in (
+      refl,
+      record {
+        nodes = i.are;
+        ascending = i.ascending;
+        every = collected-all image layout c.args.entry c.args.offsets.now c.requires.ascending c.loop-place.place c.loop-place.nodes.entries i c.args.seen.now c.requires.seen c.requires.listing c.loop-place-test.false;
+      },
+    )

@@ -1,7 +1,7 @@
-use Rattle.std.proofs.Common.{rules, ◌≡◌, ◌<◌, ℕ, length, get_or, slice_set, refl, sym, ap, ◌∙◌, subst, arith}
+use Rattle.std.proofs.Common.{rules, ◌≡◌, ◌<◌, get_or, sym, ap, arith}
 use Rattle.dcc_procs.specs.Search.{seen_at}
-use Rattle.dcc_procs.specs.Division.{ready_at, IsReady, FindsReady}
-use Rattle.dcc_procs.proofs.Dividing.{Passed, passed-none, next-ready, passed-more, all-prepared, lacks-refused}
+use Rattle.dcc_procs.specs.Division.{IsReady}
+use Rattle.dcc_procs.proofs.Dividing.{passed-none, next-ready, passed-more, all-prepared, lacks-refused}
 use Rattle.dcc_procs.proofs.division.check_divisions.Goals as goal
 
 pub loop-place-init : goal.loop-place-init

@@ -1,5 +1,3 @@
-use Rattle.std.proofs.Common.{◌≡◌, length}
-use Rattle.dcc_procs.specs.Search.{AreAllSeen, IsOrder}
 use Rattle.dcc_procs.proofs.Dividing.{Passed}
 use Rattle.dcc_procs.proofs.division.check_divisions.Given as goal
 

@@ -1,4 +1,4 @@
-use Rattle.std.proofs.Common.{◌≡◌, map, [], ◌∷◌, ◌++◌, refl, sym, ap, ◌∙◌, subst, append-nil}
+use Rattle.std.proofs.Common.{map, [], ◌∷◌, ◌++◌, sym, ap, ◌∙◌, append-nil}
 use Rattle.std.proofs.lemmas.Map.Iter.{iter_end}
 use Rattle.std.specs.Map.Iter.{deref_pair}
 use Rattle.dcc_procs.specs.Procedures.{target_of, calls_of}

@@ -1,7 +1,6 @@
-use Rattle.std.proofs.Common.{rules, ◌≡◌, ◌∷◌, List, refl, sym, ap, ◌∙◌, subst}
+use Rattle.std.proofs.Common.{rules, ◌≡◌, ◌∷◌, List, sym, ap, ◌∙◌, subst}
 use Rattle.std.proofs.lemmas.List.Sorted.{IsNonDecreasingBy-from_sort_by_key}
 use Rattle.dcc_prog.specs.declared.procedure.Proc.{Proc}
-use Rattle.dcc_prog.specs.declared.refusal.Refusal.{Refusal}
 use Rattle.dcc_prog.specs.declared.refusal.Refusal.TheVariants.{Memory}
 use Rattle.dcc_prog.specs.Found.{AreFound}
 use Rattle.dcc_prog.specs.Refused.{IsRefusedByTrails, no_memory}

@@ -1,12 +1,10 @@
-use Rattle.std.proofs.Common.{◌≡◌, ◌<◌, AllPairs, List, Option, refl, sym, ap, ◌∙◌, subst, rules}
+use Rattle.std.proofs.Common.{◌<◌, AllPairs, sym, subst, rules}
 use Rattle.std.proofs.lemmas.List.Sorted.{IsNonDecreasingBy-from_sort}
 use Rattle.dcc_prog.specs.Refused.{IsRefusedByTrails}
 use Rattle.dcc_prog.specs.Refused as refused
 use Rattle.dcc_prog.specs.declared.refusal.Refusal.TheVariants.{Memory}
-use Rattle.dcc_procs.specs.declared.known.Known.{Known}
 use Rattle.dcc_procs.specs.Search.{IsListing}
 use Rattle.dcc_procs.proofs.ProcedureLaws.{listing-sorted, ascending-sorted, is-procedure}
-use Rattle.dcc_procs.proofs.Places.{length-places}
 use Rattle.dcc_procs.proofs.procedures.procedure.Goals as goal
 
 pub returns-in_err-sort-clause-refused : goal.returns-in_err-sort-clause-refused

@@ -1,4 +1,4 @@
-use Rattle.std.proofs.Common.{◌≡◌, refl, sym, ap, ◌∙◌, subst, arith, rules}
+use Rattle.std.proofs.Common.{arith}
 use Rattle.dcc_procs.proofs.procedures.procedures.Goals as goal
 
 pub loop-alloc-smaller : goal.loop-alloc-smaller

@@ -1,4 +1,4 @@
-use Rattle.std.proofs.Common.{◌≡◌, ◌+◌, ◌<◌, ◌≤◌, ℕ, List, ◌∷◌, [], ◌++◌, get_or, take, length, Contains, refl, sym, ap, ◌∙◌, subst, arith, rules, take_all}
+use Rattle.std.proofs.Common.{◌<◌, get_or, take, length, sym, subst, arith, rules, take_all}
 use Rattle.std.proofs.lemmas.List.{take_more}
 use Rattle.std.proofs.lemmas.List.Elements.{Contains-get_or}
 use Rattle.dcc_prog.specs.Refused.{IsRefusedByTrails}
@@ -23,12 +23,15 @@ loop-place-preserved c =
     let inv = c.loop-place.invariant in
     let more = c.loop-place-test.true in
     let inside : place < length entries = omega (arith, more) in
-    let sizes = sizes-kept c.loop-place.self c.add.new.self entry c.in_ok-add.ensures.added inv.0 inv.1 in
-    (sizes.0, sizes.1, λ image layout are reached.
-      let a = inv.2 image layout are reached in
-      subst (AreAdded image layout c.args.self.now c.add.new.self) (sym (take_more entries place 0 inside))
-      (added-more image layout c.args.self.now c.loop-place.self c.add.new.self (take place entries) entry a
-      (added-one image layout c.loop-place.self entry a.are (reached entry (Contains-get_or entries place 0 inside)) c.add.new.self c.add.ensures.small c.in_ok-add.ensures.added)))
+    let sizes = sizes-kept c.loop-place.self c.add.new.self entry c.in_ok-add.ensures.added inv.0 inv.1 in (
+      sizes.0,
+      sizes.1,
+      λ image layout are reached.
+          let a = inv.2 image layout are reached in
+          subst (AreAdded image layout c.args.self.now c.add.new.self) (sym (take_more entries place 0 inside))
+          (added-more image layout c.args.self.now c.loop-place.self c.add.new.self (take place entries) entry a
+          (added-one image layout c.loop-place.self entry a.are (reached entry (Contains-get_or entries place 0 inside)) c.add.new.self c.add.ensures.small c.in_ok-add.ensures.added)),
+    )
 
 pub returns-in_err-add-clause-refused : goal.returns-in_err-add-clause-refused
 returns-in_err-add-clause-refused c image layout are reached =

@@ -1,8 +1,6 @@
-use Rattle.std.proofs.Common.{◌≡◌, ◌<◌, ℕ, inl, inr, Bool, false, get_or, replicate, length, refl, sym, ap, ◌∙◌, arith}
+use Rattle.std.proofs.Common.{◌≡◌, ℕ, inl, inr, false, get_or, replicate, length, ap, ◌∙◌, arith}
 use Rattle.std.proofs.lemmas.Bool.{cases_lt}
 use Rattle.std.proofs.lemmas.List.{get_or-replicate, length-replicate, get_or_past}
-use Rattle.dcc_procs.proofs.Clean.{no-construct, small-table}
-use Rattle.dcc_procs.proofs.Ordered.{ascending-by}
 use Rattle.dcc_procs.proofs.entries.Entries.new.Goals as goal
 
 -- no offset is listed

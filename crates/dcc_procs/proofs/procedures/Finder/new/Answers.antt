@@ -1,6 +1,5 @@
-use Rattle.std.proofs.Common.{◌≡◌, ◌∷◌, [], List, replicate, length, refl, sym, ap, ◌∙◌, subst, arith, rules}
+use Rattle.std.proofs.Common.{◌≡◌, [], replicate, length, sym, ap, ◌∙◌, subst, rules}
 use Rattle.std.proofs.lemmas.List.{length-replicate}
-use Rattle.dcc_prog.specs.declared.procedure.Proc.{Proc}
 use Rattle.dcc_prog.specs.declared.refusal.Refusal.TheVariants.{Memory}
 use Rattle.dcc_prog.specs.Trail.{start}
 use Rattle.dcc_prog.specs.Refused.{IsRefusedByTrails}
@@ -8,7 +7,6 @@ use Rattle.dcc_prog.specs.Refused as refused
 use Rattle.dcc_procs.specs.Procedures.{total_of, AreFirst}
 use Rattle.dcc_procs.proofs.EntryLaws.{entries-none, added-one, overfull-refused, start-order}
 use Rattle.dcc_procs.proofs.Finding.{first-none}
-use Rattle.dcc_procs.proofs.Places.{too-many-places}
 use Rattle.dcc_procs.specs.Division.{unready}
 use Rattle.dcc_procs.proofs.procedures.Finder.new.Goals as goal
 

@@ -1,7 +1,7 @@
-use Rattle.std.proofs.Common.{◌≡◌, ◌<◌, ℕ, ◌∷◌, [], ◌++◌, List, Some, slice_set, refl, sym, ap, ◌∙◌, subst, arith, rules}
+use Rattle.std.proofs.Common.{◌≡◌, ◌<◌, ℕ, List, Some, slice_set, refl, ap, ◌∙◌, subst, arith}
 use Rattle.dcc_procs.specs.declared.known.Known.{Known}
 use Rattle.dcc_procs.specs.Known.{common}
-use Rattle.dcc_procs.specs.Search.{Work, IsArrived, told_less, told_same, told_count, work_of, seen_at}
+use Rattle.dcc_procs.specs.Search.{Work, told_less, told_same, told_count}
 use Rattle.dcc_procs.proofs.Fresh.{seen-read}
 use Rattle.dcc_procs.proofs.search.Search.arrive.Goals as goal
 

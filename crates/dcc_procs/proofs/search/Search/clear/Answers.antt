@@ -1,4 +1,4 @@
-use Rattle.std.proofs.Common.{◌≡◌, ◌≢◌, ℕ, ◌-◌, [], ◌∷◌, ◌++◌, take, length, Contains, Vec, Global, None, refl, sym, ap, ◌∙◌, subst, arith, rules}
+use Rattle.std.proofs.Common.{◌≡◌, ◌≢◌, ℕ, ◌-◌, [], ◌∷◌, ◌++◌, take, length, Contains, Vec, Global, None, refl, sym, ap, ◌∙◌, subst, arith}
 use Rattle.dcc_procs.specs.Search.{seen_at}
 use Rattle.dcc_procs.proofs.Fresh.{not-seen, cleared-one}
 use Rattle.dcc_procs.proofs.search.Search.clear.Goals as goal

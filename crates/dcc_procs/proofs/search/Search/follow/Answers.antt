@@ -1,4 +1,4 @@
-use Rattle.std.proofs.Common.{◌≡◌, ◌<◌, ◌≤◌, ℕ, List, length, get_or, Some, refl, sym, ap, ◌∙◌, subst, arith, rules}
+use Rattle.std.proofs.Common.{◌≡◌, ◌<◌, ◌≤◌, ℕ, List, length, get_or, Some, ap, ◌∙◌, arith, rules}
 use Rattle.dcc_prog.specs.Refused.{IsRefusedByTrails}
 use Rattle.dcc_prog.specs.Refused as refused
 use Rattle.dcc_prog.specs.declared.refusal.Refusal.TheVariants.{Memory}

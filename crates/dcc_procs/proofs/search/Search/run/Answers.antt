@@ -1,13 +1,13 @@
-use Rattle.std.proofs.Common.{◌≡◌, ◌≢◌, ◌<◌, ◌-◌, ℕ, List, [], ◌∷◌, ◌++◌, take, Option, None, refl, sym, ap, ◌∙◌, subst, arith, rules}
+use Rattle.std.proofs.Common.{◌≡◌, ◌-◌, ℕ, List, [], ◌∷◌, ◌++◌, take, Option, ap, ◌∙◌, subst, arith, rules}
 use Rattle.dcc_prog.specs.declared.image.Image.{Image}
 use Rattle.dcc_prog.specs.declared.procedure.Layout.{Layout}
 use Rattle.dcc_prog.specs.Refused.{IsRefusedByTrails}
 use Rattle.dcc_procs.specs.declared.known.Known.{Known}
-use Rattle.dcc_procs.specs.Search.{seen_at, Work, work_of, measure, IsFollowed, IsSound, IsOrder, AreAllSeen}
+use Rattle.dcc_procs.specs.Search.{work_of}
 use Rattle.dcc_procs.proofs.Searching.{sound-fresh}
 use Rattle.dcc_procs.proofs.Witnessing.{trail-node, witnessed-entry}
 use Rattle.dcc_procs.proofs.Filling.{full-refused}
-use Rattle.dcc_procs.proofs.Ended.{Searched, searched-start, popped-sound, searched-followed, measure-followed, waiting-here, all-seen}
+use Rattle.dcc_procs.proofs.Ended.{Searched, searched-start, popped-sound, searched-followed, all-seen}
 use Rattle.dcc_procs.specs.Known.{nothing}
 use Rattle.dcc_procs.proofs.search.Search.run.Goals as goal
 
