@@ -28,4 +28,5 @@ pub mod CountedRows
 pub mod CountedTrees
 pub mod UnbrokenText
 pub mod CountedSimple
+pub mod UnbuiltLaws
 pub mod RefusedLaws

@@ -82,7 +82,7 @@ module _ {T : Type 0} (layout : Layout) (w : Watch) (clean : is_foul w ≡ false
   abbrev watched : System Watch
   watched = (watched_machine layout).system
 
-  pub machine-first : (n m : ℕ) → KeepsUp watched w n other t m → KeepsUp machine_system w.machine n other t m
+  pub machine-first : (n m : ℕ) → KeepsUp watched w n other t m → KeepsUp (machine_system layout.cpu) w.machine n other t m
   machine-first n m up =
       let same = machine_after layout n w clean in
       record {
@@ -92,7 +92,7 @@ module _ {T : Type 0} (layout : Layout) (w : Watch) (clean : is_foul w ≡ false
             record { end = z.end ∙ ap (λ (s : Machine). s.end) same; events = z.events ∙ ap (λ (s : Machine). s.events) same };
       }
 
-  pub machine-second : (n m : ℕ) → KeepsUp other t n watched w m → KeepsUp other t n machine_system w.machine m
+  pub machine-second : (n m : ℕ) → KeepsUp other t n watched w m → KeepsUp other t n (machine_system layout.cpu) w.machine m
   machine-second n m up =
       let same = machine_after layout m w clean in
       record {
@@ -168,16 +168,16 @@ module _ (image : Image) (layout : Layout) (start_proc : Proc) (p : inner.Progra
   abbrev t : c.State
   t = c.first_state tree start fill input
 
-  text-keeps_up : (n : ℕ) → IsClean image input n → KeepsUp machine_system (start_state image input) n (text_system tree) t ((n + 1) * tokens)
+  text-keeps_up : (n : ℕ) → IsClean layout.cpu image input n → KeepsUp (machine_system layout.cpu) (start_state image input) n (text_system tree) t ((n + 1) * tokens)
   text-keeps_up n clean =
-      subst (λ m. KeepsUp machine_system (start_state image input) n (text_system tree) t m) (mul_comm tokens (n + 1))
+      subst (λ m. KeepsUp (machine_system layout.cpu) (start_state image input) n (text_system tree) t m) (mul_comm tokens (n + 1))
       (machine-first layout w refl (text_system tree) t n (tokens * (n + 1))
       (third_keeps_up (λ place. true) machine (run.watched_inner p fill) (text_system tree) machine-law (text_lawful tree) w i t tokens together.counts
-      (lifted.runs fill input fits bytes) together.shows n (clean layout has)))
+      (lifted.runs fill input fits bytes) together.shows n (clean layout refl has)))
 
-  machine-keeps_up : (k : ℕ) → IsClean image input ((k + 1) * 65536) → KeepsUp (text_system tree) t k machine_system (start_state image input) ((k + 1) * 65536)
+  machine-keeps_up : (k : ℕ) → IsClean layout.cpu image input ((k + 1) * 65536) → KeepsUp (text_system tree) t k (machine_system layout.cpu) (start_state image input) ((k + 1) * 65536)
   machine-keeps_up zero clean = record {
-    events = record { rest = events_after machine_system ((0 + 1) * 65536) (start_state image input); joins = refl };
+    events = record { rest = events_after (machine_system layout.cpu) ((0 + 1) * 65536) (start_state image input); joins = refl };
     alike = λ over. absurd (true≢false (sym over));
   }
   machine-keeps_up (suc k) clean =
@@ -185,9 +185,9 @@ module _ (image : Image) (layout : Layout) (start_proc : Proc) (p : inner.Progra
       machine-second layout w refl (text_system tree) t (suc k) ((suc k + 1) * 65536)
       (first_keeps_up_with_third (λ place. true) machine (run.watched_inner p fill) (text_system tree) machine-law (text_lawful tree) w i t tokens together.counts
       (lifted.runs fill input fits bytes) steps_at_start steps_between (pace_of_all machine w steps_at_start steps_between (lifted.pace input bytes))
-      (suc k) ((suc k + 1) * 65536) enough_steps (clean layout has))
+      (suc k) ((suc k + 1) * 65536) enough_steps (clean layout refl has))
 
-  pub text-agrees : RunsAgree image tree start tokens input fill
+  pub text-agrees : RunsAgree layout.cpu image tree start tokens input fill
   text-agrees = record {
     text_keeps_up = text-keeps_up;
     machine_keeps_up = machine-keeps_up;

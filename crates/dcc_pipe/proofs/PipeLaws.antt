@@ -41,15 +41,15 @@ module _ (image : Image) (layout : Layout) (procs : List Proc) (p : inner.Progra
   lifted-stands = writable_stands (goto_tree p) lifted-writable
 
   -- and it agrees with the image
-  pub lifted-text : IsTextOf image (written_form (goto_tree p)) (numbered (goto_tree p))
+  pub lifted-text : IsTextOf layout.cpu image (written_form (goto_tree p)) (numbered (goto_tree p))
   lifted-text = record {
     stands = lifted-stands;
     runs = λ input fill bytes fits. text-agrees image layout of.start p has lifted (written_form (goto_tree p)) lifted-stands input fill bytes fits;
   }
 
   -- what is told of a unit whose tree is that text's, with its lines counted
-  pub text-is : (result : Result TextUnit AllocError) → IfOk result (λ unit. tree_of unit ≡ numbered (goto_tree p)) → IfOk result (λ unit. IsTextOf image (written_form (tree_of unit)) (tree_of unit))
+  pub text-is : (result : Result TextUnit AllocError) → IfOk result (λ unit. tree_of unit ≡ numbered (goto_tree p)) → IfOk result (λ unit. IsTextOf layout.cpu image (written_form (tree_of unit)) (tree_of unit))
   text-is (Ok unit) is =
       let tree = numbered (goto_tree p) in
-      subst (λ t. IsTextOf image (written_form t) t) (sym is) (subst (λ text. IsTextOf image text tree) (sym (written_numbered (goto_tree p))) lifted-text)
+      subst (λ t. IsTextOf layout.cpu image (written_form t) t) (sym is) (subst (λ text. IsTextOf layout.cpu image text tree) (sym (written_numbered (goto_tree p))) lifted-text)
   text-is (Err fault) is = tt

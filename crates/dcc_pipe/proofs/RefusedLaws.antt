@@ -1,22 +1,19 @@
--- What refuses a program's layout or its procedures refuses the program.
-use Rattle.std.proofs.Common.{sym, subst}
+-- What refuses a program's layout refuses the program, and so does what is reached and not built where nothing else does.
+use Rattle.std.proofs.Common.{◌≡◌, ℕ, List, sym, subst}
+use Rattle.dcc_prog.specs.declared.cpu.Cpu.{Cpu}
 use Rattle.dcc_prog.specs.declared.image.Image.{Image}
 use Rattle.dcc_prog.specs.declared.procedure.Layout.{Layout}
-use Rattle.dcc_prog.specs.declared.refusal.LimitName.TheVariants.{Instructions}
+use Rattle.dcc_prog.specs.declared.procedure.Proc.{Proc}
 use Rattle.dcc_prog.specs.declared.refusal.Refusal.{Refusal}
-use Rattle.dcc_prog.specs.declared.refusal.Refusal.TheVariants.{Construct, Limit, NotYet, Memory}
-use Rattle.dcc_prog.specs.Layout.{HasLayout}
-use Rattle.dcc_prog.specs.Refused.{IsRefusedFor, no_layout, construct, too_long, not_yet, no_memory}
+use Rattle.dcc_prog.specs.declared.refusal.Refusal.TheVariants.{Construct}
+use Rattle.dcc_prog.specs.Found.{AreFound}
+use Rattle.dcc_prog.specs.Refused.{IsAcceptedByTrails, IsRefusedFor, no_layout}
 use Rattle.dcc_layout.specs.Refusal as layout
-use Rattle.dcc_procs.specs.Refusal as procs
 
-pub layout-refused : (image : Image) (refusal : Refusal) → layout.IsRefusal image refusal → IsRefusedFor image refusal
-layout-refused image (Construct kind at) h = subst (λ k. IsRefusedFor image (Construct k at)) (sym h.0) (no_layout h.1)
-layout-refused image _ h = absurd h
+pub layout-refused : (cpu : Cpu) (image : Image) (refusal : Refusal) → layout.IsRefusal cpu image refusal → IsRefusedFor cpu image refusal
+layout-refused cpu image (Construct kind at) h = subst (λ k. IsRefusedFor cpu image (Construct k at)) (sym h.0) (no_layout h.1)
+layout-refused cpu image _ h = absurd h
 
-pub procs-refused : (image : Image) (layout : Layout) (refusal : Refusal) → HasLayout image layout → procs.IsRefusal image layout refusal → IsRefusedFor image refusal
-procs-refused image layout (Construct kind at) has h = construct has h.0 h.1
-procs-refused image layout (Limit Instructions count) has h = too_long has h
-procs-refused image layout (Limit _ count) has h = absurd h
-procs-refused image layout (NotYet at) has h = not_yet has h
-procs-refused image layout Memory has h = no_memory
+-- where the procedures are found, no trail tells anything that refuses the program
+pub found-by_trails : (image : Image) (layout : Layout) (procs : List Proc) → AreFound image layout procs → IsAcceptedByTrails image layout
+found-by_trails image layout procs found = record { no_construct = found.no_construct; no_limit = found.no_limit }

@@ -3,6 +3,7 @@ use Rattle.std.specs.Prelude.{◌≢◌, ℕ, ◌+◌, ◌*◌, ◌^◌, ◌<◌
 use Rattle.dcc_run.specs.End.{Stuck}
 use Rattle.dcc_run.specs.System.{end_after}
 use Rattle.dcc_run.specs.Agreement.{KeepsUp}
+use Rattle.dcc_prog.specs.declared.cpu.Cpu.{Cpu}
 use Rattle.dcc_prog.specs.declared.image.Image.{Image}
 use Rattle.dcc_prog.specs.Machine.{start_state}
 use Rattle.dcc_prog.specs.Step.{machine_system}
@@ -11,11 +12,12 @@ use Rattle.dcc_c.specs.Tree.{Tree, Function}
 use Rattle.dcc_c.specs.Run.{text_system, first_state}
 use Rattle.dcc_c.specs.Text.{StandsFor}
 
--- The run of the image and that of the text, on one input and from one fill. With W tokens, within (n + 1) * W steps
--- the text's events begin with those of n clean steps of the machine, and it has ended alike where the machine has;
--- and within (k + 1) * 65536 clean steps the machine's events begin with those of k steps of the text, and it has
--- ended alike. The text is never stuck, whether the machine's run is clean or not.
+-- The run of the image on a processor and that of the text, on one input and from one fill. With W tokens, within
+-- (n + 1) * W steps the text's events begin with those of n clean steps of the machine, and it has ended alike where
+-- the machine has; and within (k + 1) * 65536 clean steps the machine's events begin with those of k steps of the text,
+-- and it has ended alike. The text is never stuck, whether the machine's run is clean or not.
 pub record RunsAgree
+    (cpu : Cpu)
     (image : Image)
     (tree : Tree)
     (start : Function)
@@ -25,21 +27,22 @@ pub record RunsAgree
     : Type 0 where
   pub text_keeps_up :
       (n : ℕ)
-      → IsClean image input n
+      → IsClean cpu image input n
       → KeepsUp
-      machine_system (start_state image input) n
+      (machine_system cpu) (start_state image input) n
       (text_system tree) (first_state tree start fill input) ((n + 1) * tokens)
   pub machine_keeps_up :
       (k : ℕ)
-      → IsClean image input ((k + 1) * 65536)
+      → IsClean cpu image input ((k + 1) * 65536)
       → KeepsUp
       (text_system tree) (first_state tree start fill input) k
-      machine_system (start_state image input) ((k + 1) * 65536)
+      (machine_system cpu) (start_state image input) ((k + 1) * 65536)
   pub never_stuck : (k line : ℕ) → end_after (text_system tree) k (first_state tree start fill input) ≢ Stuck line
 
--- The text stands for the tree, and for every input and every fill its run agrees with that of the image.
-pub record IsTextOf (image : Image) (text : List ℕ) (tree : Tree) : Type 0 where
+-- The text stands for the tree, and for every input and every fill its run agrees with that of the image on the
+-- processor.
+pub record IsTextOf (cpu : Cpu) (image : Image) (text : List ℕ) (tree : Tree) : Type 0 where
   pub stands : StandsFor text tree
   pub runs :
       (input : List ℕ) (fill : ℕ) → All (λ b. b < 256) input → fill < 2 ^ 16
-      → RunsAgree image tree stands.allowed.start (length stands.tokens) input fill
+      → RunsAgree cpu image tree stands.allowed.start (length stands.tokens) input fill

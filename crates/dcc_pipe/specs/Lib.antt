@@ -4,6 +4,7 @@ pub mod GotoText
 pub mod Agreement
 pub mod Unbroken
 pub mod Uncounted
+pub mod Unbuilt
 pub use Rattle.dcc_prog.specs.MzImage
 pub use Rattle.dcc_prog.specs.Refused
 pub use Rattle.dcc_c.specs.Views

@@ -1,24 +1,26 @@
 //! From an image to its text.
 
-ghost use Rattle.std.specs.Prelude.{IfOk, IfErr};
+ghost use Rattle.std.specs.Prelude.{◌≡◌, IfOk, IfErr};
 ghost use Rattle.dcc_prog.specs.MzImage.{IsLoaded};
 ghost use Rattle.dcc_prog.specs.Layout.{HasLayout};
+ghost use Rattle.dcc_prog.specs.Built.{IsBuilt};
 ghost use Rattle.dcc_prog.specs.Found.{AreFound};
 ghost use Rattle.dcc_prog.specs.Refused.{IsAcceptedProgram, IsRefusedFor};
 ghost use Rattle.dcc_c.specs.Views.{tree_of};
 ghost use Rattle.dcc_c.specs.Written.{written_form};
 ghost use Rattle.dcc_pipe.specs.Agreement.{IsTextOf};
 
+use crate::built::reached_unbuilt;
 use crate::goto_text::goto_text;
 use crate::number::number;
 use dcc_c::Unit;
 use dcc_layout::layout;
 use dcc_lift::lift;
 use dcc_procs::find;
-use dcc_prog::{Image, Layout, Proc, Refusal};
+use dcc_prog::{Cpu, Image, Layout, Proc, Refusal};
 use std::alloc::{AllocError, Global};
 
-// The text of a program whose layout and procedures are found.
+// The text of a program whose layout and procedures are found, and of which each form is built.
 fn text_of(
     alloc: Global,
     image: &Image,
@@ -28,27 +30,33 @@ fn text_of(
     requires loaded { IsLoaded image.now }
     requires layout { HasLayout image.now layout.now }
     requires found { AreFound image.now layout.now procs.now.items }
-    ensures { IfOk result (λ unit. IsTextOf image.now (written_form (tree_of unit)) (tree_of unit)) }
+    requires built { IsBuilt image.now layout.now }
+    ensures { IfOk result (λ unit. IsTextOf layout.now.cpu image.now (written_form (tree_of unit)) (tree_of unit)) }
 {
     let program = lift(alloc, image, layout, procs)?;
     let unit = goto_text(alloc, &program)?;
     number(alloc, unit)
 }
 
-/// The text of a loaded program: a variable for each half of a word register, each flag and each temporary, a label
-/// before each block, and jumps, with the lines where statements stand in the written form. The written form stands for
-/// the unit's tree, whose run on every input and from every fill agrees with that of the program.
+/// The text of a loaded program for a processor: a variable for each half of a word register, each flag and each
+/// temporary, a label before each block, and jumps, with the lines where statements stand in the written form. The
+/// written form stands for the unit's tree, whose run on every input and from every fill agrees with that of the
+/// program on the processor.
 ///
 /// A program that is accepted has no construct, passes no limit, and reaches no instruction that is not built. One that
-/// is refused is told why, in this order: that it has no layout; or, of its layout, what stands on its trails. Want of
-/// memory may refuse any program.
-pub fn decompile(alloc: Global, image: &Image) -> Result<Unit, Refusal>
+/// is refused is told why, in this order: that it has no layout; or, of its layout, a construct or a limit that its
+/// trails tell; or, where there is neither, an instruction that is reached and not built. Want of memory may refuse any
+/// program.
+pub fn decompile(alloc: Global, image: &Image, cpu: Cpu) -> Result<Unit, Refusal>
     requires { IsLoaded image.now }
-    ensures text { IfOk result (λ unit. IsTextOf image.now (written_form (tree_of unit)) (tree_of unit)) }
-    ensures accepted { IfOk result (λ unit. IsAcceptedProgram image.now) }
-    ensures refused { IfErr result (IsRefusedFor image.now) }
+    ensures text { IfOk result (λ unit. IsTextOf cpu image.now (written_form (tree_of unit)) (tree_of unit)) }
+    ensures accepted { IfOk result (λ unit. IsAcceptedProgram cpu image.now) }
+    ensures refused { IfErr result (IsRefusedFor cpu image.now) }
 {
-    let layout = layout(alloc, image)?;
+    let layout = layout(alloc, image, cpu)?;
     let procs = find(alloc, image, &layout)?;
+    if let Some(at) = reached_unbuilt(&procs) {
+        return Err(Refusal::NotYet { at });
+    }
     Ok(text_of(alloc, image, &layout, &procs)?)
 }

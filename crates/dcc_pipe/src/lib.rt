@@ -1,6 +1,7 @@
 //! From an executable to its C text.
 #![tactic(auto)]
 
+mod built;
 mod decompilation;
 mod goto_expr;
 mod goto_text;
