@@ -3,6 +3,7 @@ use Rattle.std.proofs.Common.{◌≡◌, ℕ, List, [], Option, Some, refl, sym,
 use Rattle.std.specs.Prelude.{Result, Ok, Err, IfOk, OnErr}
 use Rattle.dcc_io.specs.declared.outside.Failed.{Failed}
 use Rattle.dcc_io.proofs.ToldLemmas.{append_told-nil}
+use Rattle.dcc_prog.specs.declared.cpu.Cpu.{Cpu}
 use Rattle.dcc_prog.specs.declared.image.Image.{Image}
 use Rattle.dcc_prog.specs.Machine.{start_state}
 use Rattle.dcc_prog.specs.MzImage.{IsImageOf}
@@ -23,30 +24,30 @@ same-start file a b input p q =
     cc
 
 -- the text of the file's image is that of the file
-decompiles-image : (file text : List ℕ) (image : Image) → IsImageOf file image → IsTextOfImage image text → Decompiles file text
-decompiles-image file text image is t = record { image = image; is_image = is; is_text = t }
+decompiles-image : (cpu : Cpu) (file text : List ℕ) (image : Image) → IsImageOf file image → IsTextOfImage cpu image text → Decompiles cpu file text
+decompiles-image cpu file text image is t = record { image = image; is_image = is; is_text = t }
 
 -- what is allowed for an image is allowed for the file that it is the image of
-text-of_image : (told : Files) (name : List ℕ) (image : Image) (reply : Reply) (output : List ℕ) → OfFile told name (λ file. IsImageOf file image) → AllowsImage image reply output →
-    AllowsText told name reply output
-text-of_image told name image _ output f (image_decompiled t) =
-    decompiled (record { file = f.file; has = f.has; holds = decompiles-image f.file output image f.holds t })
-text-of_image told name image _ _ f (image_refused refusal h) =
+text-of_image : (cpu : Cpu) (told : Files) (name : List ℕ) (image : Image) (reply : Reply) (output : List ℕ) → OfFile told name (λ file. IsImageOf file image) → AllowsImage cpu image reply output →
+    AllowsText cpu told name reply output
+text-of_image cpu told name image _ output f (image_decompiled t) =
+    decompiled (record { file = f.file; has = f.has; holds = decompiles-image cpu f.file output image f.holds t })
+text-of_image cpu told name image _ _ f (image_refused refusal h) =
     refused refusal (record { file = f.file; has = f.has; holds = record { image = image; is_image = f.holds; refused = h } })
 
 -- the same for the job of `c`, of which none reads the input
-pub answer-of_image : (told : Files) (name : List ℕ) (left : Option (List ℕ)) (image : Image) (out now : Option (List ℕ)) (result : Result Reply Failed) → OfFile told name
-    (λ file. IsImageOf file image) → IfOk result (Answers (AllowsImage image) out now) → IfOk result (Answers (Allows told left left (Some (Decompile name))) out now)
-answer-of_image told name left image out now (Ok reply) f a =
-    record { output = a.output; wrote = a.wrote; is_answer = for_text (text-of_image told name image reply a.output f a.is_answer) refl }
-answer-of_image told name left image out now (Err e) f a = a
+pub answer-of_image : (cpu : Cpu) (told : Files) (name : List ℕ) (left : Option (List ℕ)) (image : Image) (out now : Option (List ℕ)) (result : Result Reply Failed) → OfFile told name
+    (λ file. IsImageOf file image) → IfOk result (Answers (AllowsImage cpu image) out now) → IfOk result (Answers (Allows told left left (Some (Decompile name cpu))) out now)
+answer-of_image cpu told name left image out now (Ok reply) f a =
+    record { output = a.output; wrote = a.wrote; is_answer = for_text (text-of_image cpu told name image reply a.output f a.is_answer) refl }
+answer-of_image cpu told name left image out now (Err e) f a = a
 
-pub cut-of_image : (told : Files) (name : List ℕ) (left : Option (List ℕ)) (image : Image) (output : Change (Option (List ℕ))) (result : Result Reply Failed) → OfFile told name
-    (λ file. IsImageOf file image) → OnErr result (CutsShort (IsTextOfImage image) output.before output.after) → OnErr result (CutsShort (IsCut told (same left) output (Some (Decompile name))) output.before output.after)
-cut-of_image told name left image output (Ok reply) f c = c
-cut-of_image told name left image output (Err e) f c = record {
+pub cut-of_image : (cpu : Cpu) (told : Files) (name : List ℕ) (left : Option (List ℕ)) (image : Image) (output : Change (Option (List ℕ))) (result : Result Reply Failed) → OfFile told name
+    (λ file. IsImageOf file image) → OnErr result (CutsShort (IsTextOfImage cpu image) output.before output.after) → OnErr result (CutsShort (IsCut told (same left) output (Some (Decompile name cpu))) output.before output.after)
+cut-of_image cpu told name left image output (Ok reply) f c = c
+cut-of_image cpu told name left image output (Err e) f c = record {
   due = c.due;
-  is_due = cut_text refl (record { file = f.file; has = f.has; holds = decompiles-image f.file c.due image f.holds c.is_due });
+  is_due = cut_text refl (record { file = f.file; has = f.has; holds = decompiles-image cpu f.file c.due image f.holds c.is_due });
   part = c.part;
 }
 

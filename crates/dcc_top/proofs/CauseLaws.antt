@@ -6,6 +6,7 @@ use Rattle.dcc_io.proofs.ToldLemmas.{append_told-nil}
 use Rattle.dcc_mz.specs.declared.fault.MzFault.{MzFault}
 use Rattle.dcc_mz.specs.Fault.{IsRefusal}
 use Rattle.dcc_run.specs.End.{End}
+use Rattle.dcc_prog.specs.declared.cpu.Cpu.{Cpu}
 use Rattle.dcc_prog.specs.declared.refusal.Refusal.{Refusal}
 use Rattle.dcc_prog.specs.MzImage.{FormatFault, IsFirstFault}
 use Rattle.dcc_prog.specs.Refused.{IsAcceptedProgram, IsRefusedImage}
@@ -86,8 +87,8 @@ module _ (call : Call) where
 
   -- the statuses of a run
   runs-status : (j : Job) (file : List ℕ) (reply : Reply) (output : List ℕ) → Runs j file before left reply output → IsOneOf (status_of reply) run_statuses
-  runs-status (Decompile name) file reply output h = absurd h
-  runs-status (Execute name steps) file reply output h = run-status _ steps before left reply output h.finishes
+  runs-status (Decompile name cpu) file reply output h = absurd h
+  runs-status (Execute name steps cpu) file reply output h = run-status _ steps before left reply output h.finishes
   runs-status (ExecuteText name steps fill) file reply output h =
       text_run-status _ steps before left reply output (h.runs file h.is_read.stands)
 
@@ -95,10 +96,10 @@ module _ (call : Call) where
 
   usage-of : (j : Option Job) (reply : Reply) (output : List ℕ) → Allowed j reply output → IsOneOf (status_of reply) (2 ∷ []) → j ≡ None
   usage-of _ _ _ (no_job same) is = refl
-  usage-of _ reply output (for_text {name = name} h same) is =
-      absurd (apart (status_of reply) (2 ∷ []) text_statuses refl is (text-status told name reply output h))
-  usage-of _ reply output (ran_file {name = name} {steps = steps} f) is =
-      absurd (apart (status_of reply) (2 ∷ []) run_statuses refl is (runs-status (Execute name steps) f.file reply output f.holds))
+  usage-of _ reply output (for_text {name = name} {cpu = cpu} h same) is =
+      absurd (apart (status_of reply) (2 ∷ []) text_statuses refl is (text-status cpu told name reply output h))
+  usage-of _ reply output (ran_file {name = name} {steps = steps} {cpu = cpu} f) is =
+      absurd (apart (status_of reply) (2 ∷ []) run_statuses refl is (runs-status (Execute name steps cpu) f.file reply output f.holds))
   usage-of _ reply _ (ran_no_file {name = name} h same) is =
       absurd (apart (status_of reply) (2 ∷ []) image_faults refl is (no_image-status told name reply h))
   usage-of _ reply output (ran_text {name = name} {steps = steps} {fill = fill} f) is =
@@ -120,23 +121,23 @@ module _ (call : Call) where
 
   -- The text of `c`.
 
-  text-of : (name : List ℕ) (reply : Reply) (output : List ℕ) → AllowsText told name reply output → status_of reply ≡ 0 → OfFile told name (λ file. Decompiles file output)
-  text-of name _ output (decompiled f) is = f
-  text-of name _ _ (refused refusal f) is =
+  text-of : (name : List ℕ) (cpu : Cpu) (reply : Reply) (output : List ℕ) → AllowsText cpu told name reply output → status_of reply ≡ 0 → OfFile told name (λ file. Decompiles cpu file output)
+  text-of name cpu _ output (decompiled f) is = f
+  text-of name cpu _ _ (refused refusal f) is =
       absurd (apart (status_of (refusal_reply refusal)) (0 ∷ []) refusals refl (inl is) (refusal-status refusal))
-  text-of name reply _ (no_image h) is =
+  text-of name cpu reply _ (no_image h) is =
       absurd (apart (status_of reply) (0 ∷ []) image_faults refl (inl is) (no_image-status told name reply h))
 
   -- what is allowed for the text of an executable
-  for-text : (name : List ℕ) (reply : Reply) (output : List ℕ) → Allowed (Some (Decompile name)) reply output → AllowsText told name reply output
-  for-text name reply output (for_text h same) = h
+  for-text : (name : List ℕ) (cpu : Cpu) (reply : Reply) (output : List ℕ) → Allowed (Some (Decompile name cpu)) reply output → AllowsText cpu told name reply output
+  for-text name cpu reply output (for_text h same) = h
 
-  pub text : Comes → (name : List ℕ) → call.job ≡ Some (Decompile name) → call.status ≡ 0 → HasText told name call.output.taken.before call.output.taken.after
-  text a name named is =
+  pub text : Comes → (name : List ℕ) (cpu : Cpu) → call.job ≡ Some (Decompile name cpu) → call.status ≡ 0 → HasText cpu told name call.output.taken.before call.output.taken.after
+  text a name cpu named is =
       let t = told-at 0 is (λ e. omega (arith, e)) (λ e. omega (arith, e)) a in
       let h = subst (λ j. Allowed j t.reply t.output) named t.allowed in
-      let f = text-of name t.reply t.output (for-text name t.reply t.output h) (sym t.status_is ∙ is) in
-      has-text told name call.output.taken.before call.output.taken.after f.file t.output f.has t.out f.holds
+      let f = text-of name cpu t.reply t.output (for-text name cpu t.reply t.output h) (sym t.status_is ∙ is) in
+      has-text cpu told name call.output.taken.before call.output.taken.after f.file t.output f.has t.out f.holds
 
   -- Runs.
 
@@ -162,10 +163,10 @@ module _ (call : Call) where
 
   ended-of : (j : Option Job) (reply : Reply) (output : List ℕ) → Allowed j reply output → IsOneOf (status_of reply) exit.stops → HasRan j reply output
   ended-of _ _ _ (no_job same) is = absurd (apart 2 (2 ∷ []) exit.stops refl (inl refl) is)
-  ended-of _ reply output (for_text {name = name} h same) is =
-      absurd (apart (status_of reply) exit.stops text_statuses refl is (text-status told name reply output h))
-  ended-of _ reply output (ran_file {name = name} {steps = steps} f) is =
-      record { asked = Execute name steps; named = refl; ran = f }
+  ended-of _ reply output (for_text {name = name} {cpu = cpu} h same) is =
+      absurd (apart (status_of reply) exit.stops text_statuses refl is (text-status cpu told name reply output h))
+  ended-of _ reply output (ran_file {name = name} {steps = steps} {cpu = cpu} f) is =
+      record { asked = Execute name steps cpu; named = refl; ran = f }
   ended-of _ reply _ (ran_no_file {name = name} h same) is =
       absurd (apart (status_of reply) exit.stops image_faults refl is (no_image-status told name reply h))
   ended-of _ reply output (ran_text {name = name} {steps = steps} {fill = fill} f) is =
@@ -181,8 +182,8 @@ module _ (call : Call) where
   exited-of : (j : Option Job) (reply : Reply) (output : List ℕ) → Allowed j reply output → IsExecution j → IsOneOf (status_of reply) (0 ∷ []) → HasRan j reply output
   exited-of _ _ _ (no_job same) execution is = absurd execution
   exited-of _ reply output (for_text h same) execution is = absurd execution
-  exited-of _ reply output (ran_file {name = name} {steps = steps} f) execution is =
-      record { asked = Execute name steps; named = refl; ran = f }
+  exited-of _ reply output (ran_file {name = name} {steps = steps} {cpu = cpu} f) execution is =
+      record { asked = Execute name steps cpu; named = refl; ran = f }
   exited-of _ reply _ (ran_no_file {name = name} h same) execution is =
       absurd (apart (status_of reply) (0 ∷ []) image_faults refl is (no_image-status told name reply h))
   exited-of _ reply output (ran_text {name = name} {steps = steps} {fill = fill} f) execution is =
@@ -221,19 +222,19 @@ module _ (call : Call) where
   misshapen-of j name _ named (misshapen {fault = fault} f) is =
       record { name = name; fault = fault; named = named; reply_is = refl; fails = f }
 
-  text-misshapen : (name : List ℕ) (reply : Reply) (output : List ℕ) → AllowsText told name reply output → status_of reply ≡ 8 → IsMisshapen (Some (Decompile name)) reply
-  text-misshapen name _ output (decompiled f) is = absurd (omega (arith, is))
-  text-misshapen name _ _ (refused refusal f) is =
+  text-misshapen : (name : List ℕ) (cpu : Cpu) (reply : Reply) (output : List ℕ) → AllowsText cpu told name reply output → status_of reply ≡ 8 → IsMisshapen (Some (Decompile name cpu)) reply
+  text-misshapen name cpu _ output (decompiled f) is = absurd (omega (arith, is))
+  text-misshapen name cpu _ _ (refused refusal f) is =
       absurd (apart (status_of (refusal_reply refusal)) (8 ∷ []) refusals refl (inl is) (refusal-status refusal))
-  text-misshapen name reply _ (no_image h) is = misshapen-of (Some (Decompile name)) name reply refl h is
+  text-misshapen name cpu reply _ (no_image h) is = misshapen-of (Some (Decompile name cpu)) name reply refl h is
 
   format-of : (j : Option Job) (reply : Reply) (output : List ℕ) → Allowed j reply output → status_of reply ≡ 8 → IsMisshapen j reply
   format-of _ _ _ (no_job same) is = absurd (omega (arith, is))
-  format-of _ reply output (for_text {name = name} h same) is = text-misshapen name reply output h is
-  format-of _ reply output (ran_file {name = name} {steps = steps} f) is =
-      absurd (apart (status_of reply) (8 ∷ []) run_statuses refl (inl is) (runs-status (Execute name steps) f.file reply output f.holds))
-  format-of _ reply _ (ran_no_file {name = name} {steps = steps} h same) is =
-      misshapen-of (Some (Execute name steps)) name reply refl h is
+  format-of _ reply output (for_text {name = name} {cpu = cpu} h same) is = text-misshapen name cpu reply output h is
+  format-of _ reply output (ran_file {name = name} {steps = steps} {cpu = cpu} f) is =
+      absurd (apart (status_of reply) (8 ∷ []) run_statuses refl (inl is) (runs-status (Execute name steps cpu) f.file reply output f.holds))
+  format-of _ reply _ (ran_no_file {name = name} {steps = steps} {cpu = cpu} h same) is =
+      misshapen-of (Some (Execute name steps cpu)) name reply refl h is
   format-of _ reply output (ran_text {name = name} {steps = steps} {fill = fill} f) is =
       absurd (apart (status_of reply) (8 ∷ []) run_statuses refl (inl is) (runs-status (ExecuteText name steps fill) f.file reply output f.holds))
   format-of _ reply _ (ran_no_text {name = name} h same) is =
@@ -279,24 +280,25 @@ module _ (call : Call) where
   -- the answer names why the program is refused
   record IsTurnedDown (j : Option Job) (reply : Reply) : Type 0 where
     name : List ℕ
+    cpu : Cpu
     refusal : Refusal
-    named : j ≡ Some (Decompile name)
+    named : j ≡ Some (Decompile name cpu)
     reply_is : reply ≡ refusal_reply refusal
-    is_refused : OfFile told name (IsRefusedAs refusal)
+    is_refused : OfFile told name (IsRefusedAs cpu refusal)
 
-  turned-down : (name : List ℕ) (reply : Reply) (output : List ℕ) → AllowsText told name reply output → IsOneOf (status_of reply) exit.refusals → IsTurnedDown (Some (Decompile name)) reply
-  turned-down name _ output (decompiled f) is =
+  turned-down : (name : List ℕ) (cpu : Cpu) (reply : Reply) (output : List ℕ) → AllowsText cpu told name reply output → IsOneOf (status_of reply) exit.refusals → IsTurnedDown (Some (Decompile name cpu)) reply
+  turned-down name cpu _ output (decompiled f) is =
       absurd (apart 0 (0 ∷ []) exit.refusals refl (inl refl) is)
-  turned-down name _ _ (refused refusal f) is =
-      record { name = name; refusal = refusal; named = refl; reply_is = refl; is_refused = f }
-  turned-down name reply _ (no_image h) is =
+  turned-down name cpu _ _ (refused refusal f) is =
+      record { name = name; cpu = cpu; refusal = refusal; named = refl; reply_is = refl; is_refused = f }
+  turned-down name cpu reply _ (no_image h) is =
       absurd (apart (status_of reply) exit.refusals image_faults refl is (no_image-status told name reply h))
 
   refusal-of : (j : Option Job) (reply : Reply) (output : List ℕ) → Allowed j reply output → IsOneOf (status_of reply) exit.refusals → IsTurnedDown j reply
   refusal-of _ _ _ (no_job same) is = absurd (apart 2 (2 ∷ []) exit.refusals refl (inl refl) is)
-  refusal-of _ reply output (for_text {name = name} h same) is = turned-down name reply output h is
-  refusal-of _ reply output (ran_file {name = name} {steps = steps} f) is =
-      absurd (apart (status_of reply) exit.refusals run_statuses refl is (runs-status (Execute name steps) f.file reply output f.holds))
+  refusal-of _ reply output (for_text {name = name} {cpu = cpu} h same) is = turned-down name cpu reply output h is
+  refusal-of _ reply output (ran_file {name = name} {steps = steps} {cpu = cpu} f) is =
+      absurd (apart (status_of reply) exit.refusals run_statuses refl is (runs-status (Execute name steps cpu) f.file reply output f.holds))
   refusal-of _ reply _ (ran_no_file {name = name} h same) is =
       absurd (apart (status_of reply) exit.refusals image_faults refl is (no_image-status told name reply h))
   refusal-of _ reply output (ran_text {name = name} {steps = steps} {fill = fill} f) is =
@@ -310,6 +312,7 @@ module _ (call : Call) where
       let r = refusal-of call.job t.reply t.output t.allowed (subst (λ n. IsOneOf n exit.refusals) t.status_is is) in
       record {
         name = r.name;
+        cpu = r.cpu;
         file = r.is_refused.file;
         refusal = r.refusal;
         named = r.named;
@@ -320,19 +323,19 @@ module _ (call : Call) where
       }
 
   -- what holds of every answer for the text of a file that is named
-  of-text : (name file : List ℕ) (ns : List ℕ) → IsOneOf 6 ns → IsOneOf 7 ns → call.job ≡ Some (Decompile name) → Comes →
-      ((reply : Reply) (output : List ℕ) → AllowsText told name reply output → IsOneOf (status_of reply) ns) → IsOneOf call.status ns
-  of-text name file ns six seven named a each =
-      one-of ns six seven (λ reply output h. each reply output (for-text name reply output (subst (λ j. Allowed j reply output) named h))) a
+  of-text : (name file : List ℕ) (cpu : Cpu) (ns : List ℕ) → IsOneOf 6 ns → IsOneOf 7 ns → call.job ≡ Some (Decompile name cpu) → Comes →
+      ((reply : Reply) (output : List ℕ) → AllowsText cpu told name reply output → IsOneOf (status_of reply) ns) → IsOneOf call.status ns
+  of-text name file cpu ns six seven named a each =
+      one-of ns six seven (λ reply output h. each reply output (for-text name cpu reply output (subst (λ j. Allowed j reply output) named h))) a
 
-  pub refused-always : Comes → (name file : List ℕ) → call.job ≡ Some (Decompile name) → Names call file → OfImages file IsRefusedImage → IsOneOf call.status (9 ∷ (10 ∷ (12 ∷ exit.faults)))
-  refused-always a name file named n each =
-      of-text name file (9 ∷ (10 ∷ (12 ∷ exit.faults))) (inr (inr (inr (inr (inl refl))))) (inr (inr (inr (inr (inr (inl refl)))))) named a
-      (always-refused told name n.files n.tells file (named-file (Decompile name) file named n) each)
+  pub refused-always : Comes → (name file : List ℕ) (cpu : Cpu) → call.job ≡ Some (Decompile name cpu) → Names call file → OfImages file (IsRefusedImage cpu) → IsOneOf call.status (9 ∷ (10 ∷ (12 ∷ exit.faults)))
+  refused-always a name file cpu named n each =
+      of-text name file cpu (9 ∷ (10 ∷ (12 ∷ exit.faults))) (inr (inr (inr (inr (inl refl))))) (inr (inr (inr (inr (inr (inl refl)))))) named a
+      (always-refused told name n.files n.tells cpu file (named-file (Decompile name cpu) file named n) each)
 
-  pub text-always : Comes → (name file : List ℕ) → call.job ≡ Some (Decompile name) → Names call file → OfImages file IsAcceptedProgram → IsOneOf call.status (0 ∷ exit.faults)
-  text-always a name file named n each =
-      of-text name file (0 ∷ exit.faults) (inr (inr (inl refl))) (inr (inr (inr (inl refl)))) named a (accepted-one told name n.files n.tells file (named-file (Decompile name) file named n) each)
+  pub text-always : Comes → (name file : List ℕ) (cpu : Cpu) → call.job ≡ Some (Decompile name cpu) → Names call file → OfImages file (IsAcceptedProgram cpu) → IsOneOf call.status (0 ∷ exit.faults)
+  text-always a name file cpu named n each =
+      of-text name file cpu (0 ∷ exit.faults) (inr (inr (inl refl))) (inr (inr (inr (inl refl)))) named a (accepted-one told name n.files n.tells cpu file (named-file (Decompile name cpu) file named n) each)
 
   -- The text is refused.
 
@@ -355,10 +358,10 @@ module _ (call : Call) where
 
   offended-of : (j : Option Job) (reply : Reply) (output : List ℕ) → Allowed j reply output → status_of reply ≡ 11 → IsOffended j reply
   offended-of _ _ _ (no_job same) is = absurd (omega (arith, is))
-  offended-of _ reply output (for_text {name = name} h same) is =
-      absurd (apart (status_of reply) (11 ∷ []) text_statuses refl (inl is) (text-status told name reply output h))
-  offended-of _ reply output (ran_file {name = name} {steps = steps} f) is =
-      absurd (apart (status_of reply) (11 ∷ []) run_statuses refl (inl is) (runs-status (Execute name steps) f.file reply output f.holds))
+  offended-of _ reply output (for_text {name = name} {cpu = cpu} h same) is =
+      absurd (apart (status_of reply) (11 ∷ []) text_statuses refl (inl is) (text-status cpu told name reply output h))
+  offended-of _ reply output (ran_file {name = name} {steps = steps} {cpu = cpu} f) is =
+      absurd (apart (status_of reply) (11 ∷ []) run_statuses refl (inl is) (runs-status (Execute name steps cpu) f.file reply output f.holds))
   offended-of _ reply _ (ran_no_file {name = name} h same) is =
       absurd (apart (status_of reply) (11 ∷ []) image_faults refl (inl is) (no_image-status told name reply h))
   offended-of _ reply output (ran_text {name = name} {steps = steps} {fill = fill} f) is =
@@ -397,8 +400,8 @@ module _ (call : Call) where
       absurd (apart 0 (0 ∷ []) exit.without_output refl (inl refl) is)
   output-none _ _ _ (for_text (refused refusal f) same) is = refl
   output-none _ _ _ (for_text (no_image h) same) is = refl
-  output-none _ reply output (ran_file {name = name} {steps = steps} f) is =
-      absurd (apart (status_of reply) exit.without_output run_statuses refl is (runs-status (Execute name steps) f.file reply output f.holds))
+  output-none _ reply output (ran_file {name = name} {steps = steps} {cpu = cpu} f) is =
+      absurd (apart (status_of reply) exit.without_output run_statuses refl is (runs-status (Execute name steps cpu) f.file reply output f.holds))
   output-none _ _ _ (ran_no_file h same) is = refl
   output-none _ reply output (ran_text {name = name} {steps = steps} {fill = fill} f) is =
       absurd (apart (status_of reply) exit.without_output run_statuses refl is (runs-status (ExecuteText name steps fill) f.file reply output f.holds))
@@ -457,8 +460,8 @@ module _ (call : Call) where
   absent-of _ _ _ (for_text (refused refusal f) same) is =
       absurd (apart (status_of (refusal_reply refusal)) (3 ∷ []) refusals refl (inl is) (refusal-status refusal))
   absent-of _ reply _ (for_text {name = name} (no_image h) same) is = (name, refl, lacks-of_no_image name reply h is)
-  absent-of _ reply output (ran_file {name = name} {steps = steps} f) is =
-      absurd (apart (status_of reply) (3 ∷ []) run_statuses refl (inl is) (runs-status (Execute name steps) f.file reply output f.holds))
+  absent-of _ reply output (ran_file {name = name} {steps = steps} {cpu = cpu} f) is =
+      absurd (apart (status_of reply) (3 ∷ []) run_statuses refl (inl is) (runs-status (Execute name steps cpu) f.file reply output f.holds))
   absent-of _ reply _ (ran_no_file {name = name} h same) is = (name, refl, lacks-of_no_image name reply h is)
   absent-of _ reply output (ran_text {name = name} {steps = steps} {fill = fill} f) is =
       absurd (apart (status_of reply) (3 ∷ []) run_statuses refl (inl is) (runs-status (ExecuteText name steps fill) f.file reply output f.holds))

@@ -5,13 +5,14 @@ use Rattle.dcc_io.specs.declared.outside.Failed.{Failed}
 use Rattle.dcc_io.proofs.ToldLemmas.{append_told-nil}
 use Rattle.dcc_run.specs.End.{End}
 use Rattle.dcc_run.specs.Event.{written_by}
+use Rattle.dcc_prog.specs.declared.cpu.Cpu.{Cpu}
 use Rattle.dcc_prog.specs.declared.image.Image.{Image}
 use Rattle.dcc_prog.specs.Machine.{State, start_state}
 use Rattle.dcc_prog.specs.MzImage.{IsImageOf}
 use Rattle.dcc_console.specs.Scene.{Scene, scene}
 use Rattle.dcc_console.specs.Steps.{HasEnded, MakesSteps, StopsShort, read_failed, write_failed}
 use Rattle.dcc_console.proofs.RanLaws.{Begins, has_run_when_told, stops_at_read_when_told, stops_at_write_when_told, writes_part}
-use Rattle.dcc_step.specs.Core.{Core, with_console, core_of}
+use Rattle.dcc_step.specs.Core.{Core, core_of}
 use Rattle.dcc_step.specs.Stepped.{machine}
 use Rattle.dcc_step.proofs.Laws.{machine_executes}
 use Rattle.dcc_top.specs.declared.reply.Reply.{Reply}
@@ -22,38 +23,34 @@ use Rattle.dcc_top.specs.Change.{Change}
 use Rattle.dcc_top.specs.Delivery.{Answers, CutsShort}
 use Rattle.dcc_top.specs.Execution.{Subject, machine_of, end_reply, Finishes, ended, stopped_at_read, not_begun, IsCutRun}
 
--- the machine, with any input and a console where nothing has happened, is at the start of the image
-abbrev pub BeginsAt : Core → Image → Type 0
-BeginsAt core image = (bytes : List ℕ) → with_console core bytes [] ≡ start_state image bytes
+-- the machine with this processor at the start of the image
+abbrev pub BeginsAt : Cpu → Core → Image → Type 0
+BeginsAt cpu core image = core ≡ core_of cpu (start_state image [])
 
-begins : (core : Core) (image : Image) → BeginsAt core image → Begins machine tt (start_state image) core
-begins core image at = record {
-  stands = λ input. sym (ap core_of (at input));
-  left = λ input. sym (ap (λ (s : State). s.input) (at input));
-  events = λ input. sym (ap (λ (s : State). s.events) (at input));
-}
+begins : (cpu : Cpu) (core : Core) (image : Image) → BeginsAt cpu core image → Begins machine cpu (start_state image) core
+begins cpu core image at = record { stands = λ input. sym at; left = λ input. refl; events = λ input. refl }
 
 -- a run that has ended, or goes on
-pub ran-ended : (image : Image) (steps : ℕ) (core : Core) (before taken : Option (List ℕ)) (now : Scene Core) (end : End) → BeginsAt core image → MakesSteps machine steps (scene core before taken) now → HasEnded machine now.code end → Answers (Finishes (machine_of image) steps before now.left) taken now.taken (end_reply steps end)
-ran-ended image steps core before taken now end at m is = record {
+pub ran-ended : (cpu : Cpu) (image : Image) (steps : ℕ) (core : Core) (before taken : Option (List ℕ)) (now : Scene Core) (end : End) → BeginsAt cpu core image → MakesSteps machine steps (scene core before taken) now → HasEnded machine now.code end → Answers (Finishes (machine_of cpu image) steps before now.left) taken now.taken (end_reply steps end)
+ran-ended cpu image steps core before taken now end at m is = record {
   output = written_by m.happened;
   wrote = m.wrote;
-  is_answer = ended end (has_run_when_told machine tt (start_state image) core (begins core image at) steps before taken now end is m);
+  is_answer = ended end (has_run_when_told machine cpu (start_state image) core (begins cpu core image at) steps before taken now end is m);
 }
 
 -- a read that failed after the steps that were made
-pub ran-to_read : (image : Image) (steps : ℕ) (core : Core) (before taken : Option (List ℕ)) (now : Scene Core) → BeginsAt core image → StopsShort machine read_failed steps (scene core before taken) now → Answers (Finishes (machine_of image) steps before now.left) taken now.taken InputFault
-ran-to_read image steps core before taken now at s = record {
+pub ran-to_read : (cpu : Cpu) (image : Image) (steps : ℕ) (core : Core) (before taken : Option (List ℕ)) (now : Scene Core) → BeginsAt cpu core image → StopsShort machine read_failed steps (scene core before taken) now → Answers (Finishes (machine_of cpu image) steps before now.left) taken now.taken InputFault
+ran-to_read cpu image steps core before taken now at s = record {
   output = written_by s.made.happened;
   wrote = ap (λ (u : Scene Core). u.taken) s.refused.unchanged ∙ s.made.wrote;
-  is_answer = stopped_at_read (stops_at_read_when_told machine tt (start_state image) core (begins core image at) steps before taken now machine_executes s);
+  is_answer = stopped_at_read (stops_at_read_when_told machine cpu (start_state image) core (begins cpu core image at) steps before taken now machine_executes s);
 }
 
 -- a write that failed after the steps that were made
-pub broke-off : (image : Image) (steps : ℕ) (core : Core) (before taken : Option (List ℕ)) (now : Scene Core) → BeginsAt core image → StopsShort machine write_failed steps (scene core before taken) now → CutsShort (IsCutRun (machine_of image) steps (record { before = before; after = now.left }) (record { before = taken; after = now.taken })) taken now.taken
-broke-off image steps core before taken now at s =
-    let cut = writes_part machine tt (start_state image) core (begins core image at) steps before taken now machine_executes s in
-    let stops = stops_at_write_when_told machine tt (start_state image) core (begins core image at) steps before taken now s in
+pub broke-off : (cpu : Cpu) (image : Image) (steps : ℕ) (core : Core) (before taken : Option (List ℕ)) (now : Scene Core) → BeginsAt cpu core image → StopsShort machine write_failed steps (scene core before taken) now → CutsShort (IsCutRun (machine_of cpu image) steps (record { before = before; after = now.left }) (record { before = taken; after = now.taken })) taken now.taken
+broke-off cpu image steps core before taken now at s =
+    let cut = writes_part machine cpu (start_state image) core (begins cpu core image at) steps before taken now machine_executes s in
+    let stops = stops_at_write_when_told machine cpu (start_state image) core (begins cpu core image at) steps before taken now s in
     record { due = cut.due; is_due = record { is_due = cut.is_due; stops = stops }; part = cut.part }
 
 -- no step was made
@@ -62,18 +59,18 @@ ran-nothing subject steps before out =
     record { output = []; wrote = sym (append_told-nil out); is_answer = not_begun refl }
 
 -- what a run of the file's image answers is allowed for the job of running it
-pub reply-of_run : (told : Files) (name : List ℕ) (steps : ℕ) (image : Image) (before left out now : Option (List ℕ)) (result : Result Reply Failed) → OfFile told name (λ file. IsImageOf file image) → IfOk result (Answers (Finishes (machine_of image) steps before left) out now) → IfOk result (Answers (Allows told before left (Some (Execute name steps))) out now)
-reply-of_run told name steps image before left out now (Ok reply) f ran = record {
+pub reply-of_run : (told : Files) (name : List ℕ) (steps : ℕ) (cpu : Cpu) (image : Image) (before left out now : Option (List ℕ)) (result : Result Reply Failed) → OfFile told name (λ file. IsImageOf file image) → IfOk result (Answers (Finishes (machine_of cpu image) steps before left) out now) → IfOk result (Answers (Allows told before left (Some (Execute name steps cpu))) out now)
+reply-of_run told name steps cpu image before left out now (Ok reply) f ran = record {
   output = ran.output;
   wrote = ran.wrote;
   is_answer = ran_file (record { file = f.file; has = f.has; holds = record { image = image; is_image = f.holds; finishes = ran.is_answer } });
 }
-reply-of_run told name steps image before left out now (Err e) f ran = ran
+reply-of_run told name steps cpu image before left out now (Err e) f ran = ran
 
-pub cut-of_run : (told : Files) (name : List ℕ) (steps : ℕ) (image : Image) (input output : Change (Option (List ℕ))) (result : Result Reply Failed) → OfFile told name (λ file. IsImageOf file image) →
-    OnErr result (CutsShort (IsCutRun (machine_of image) steps input output) output.before output.after) → OnErr result (CutsShort (IsCut told input output (Some (Execute name steps))) output.before output.after)
-cut-of_run told name steps image input output (Ok reply) f broke = broke
-cut-of_run told name steps image input output (Err e) f broke = record {
+pub cut-of_run : (told : Files) (name : List ℕ) (steps : ℕ) (cpu : Cpu) (image : Image) (input output : Change (Option (List ℕ))) (result : Result Reply Failed) → OfFile told name (λ file. IsImageOf file image) →
+    OnErr result (CutsShort (IsCutRun (machine_of cpu image) steps input output) output.before output.after) → OnErr result (CutsShort (IsCut told input output (Some (Execute name steps cpu))) output.before output.after)
+cut-of_run told name steps cpu image input output (Ok reply) f broke = broke
+cut-of_run told name steps cpu image input output (Err e) f broke = record {
   due = broke.due;
   is_due = cut_run (record { file = f.file; has = f.has; holds = record { image = image; is_image = f.holds; cut = broke.is_due } });
   part = broke.part;

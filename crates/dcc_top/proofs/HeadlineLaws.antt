@@ -1,6 +1,7 @@
 -- From the agreement of an image and a text to the headline.
 use Rattle.std.proofs.Common.{◌≡◌, ℕ, List, Option}
 use Rattle.dcc_io.specs.Told.{append_told}
+use Rattle.dcc_prog.specs.declared.cpu.Cpu.{Cpu}
 use Rattle.dcc_prog.specs.declared.image.Image.{Image}
 use Rattle.dcc_c.specs.Tree.{Tree, Function}
 use Rattle.dcc_pipe.specs.Agreement as pipe
@@ -8,18 +9,18 @@ use Rattle.dcc_top.specs.Answer.{Files, ShelfHas, Decompiles}
 use Rattle.dcc_top.specs.Execution.{text_of}
 use Rattle.dcc_top.specs.Headline.{HasText, RunsAgree}
 
-runs-agree : (image : Image) (tree : Tree) (start : Function) (tokens : ℕ) (input : List ℕ) (fill : ℕ)
-    → pipe.RunsAgree image tree start tokens input fill
-    → RunsAgree image (text_of tree start fill) tokens input
-runs-agree image tree start tokens input fill a =
+runs-agree : (cpu : Cpu) (image : Image) (tree : Tree) (start : Function) (tokens : ℕ) (input : List ℕ) (fill : ℕ)
+    → pipe.RunsAgree cpu image tree start tokens input fill
+    → RunsAgree cpu image (text_of tree start fill) tokens input
+runs-agree cpu image tree start tokens input fill a =
     record { text_keeps_up = a.text_keeps_up; file_keeps_up = a.machine_keeps_up; never_stuck = a.never_stuck }
 
-pub has-text : (told : Files) (name : List ℕ) (before after : Option (List ℕ)) (file text : List ℕ)
+pub has-text : (cpu : Cpu) (told : Files) (name : List ℕ) (before after : Option (List ℕ)) (file text : List ℕ)
     → ShelfHas told name file
     → after ≡ append_told before text
-    → Decompiles file text
-    → HasText told name before after
-has-text told name before after file text has appended d =
+    → Decompiles cpu file text
+    → HasText cpu told name before after
+has-text cpu told name before after file text has appended d =
     let t = d.is_text in
     record {
       file = file;
@@ -33,5 +34,5 @@ has-text told name before after file text has appended d =
       stands = t.is_text.stands;
       written_is = t.written_is;
       runs = λ input fill bytes small.
-          runs-agree d.image t.tree t.is_text.stands.allowed.start _ input fill (t.is_text.runs input fill bytes small);
+          runs-agree cpu d.image t.tree t.is_text.stands.allowed.start _ input fill (t.is_text.runs input fill bytes small);
     }

@@ -5,6 +5,7 @@ use Rattle.dcc_mz.specs.declared.fault.MzFault.TheVariants.{Short, NotMz, Pages,
 use Rattle.dcc_mz.specs.Fault.{IsRefusal}
 use Rattle.dcc_run.specs.End.{End}
 use Rattle.dcc_run.specs.System.{end_after}
+use Rattle.dcc_prog.specs.declared.cpu.Cpu.{Cpu}
 use Rattle.dcc_prog.specs.declared.image.Image.{Image}
 use Rattle.dcc_prog.specs.declared.refusal.Refusal.{Refusal}
 use Rattle.dcc_prog.specs.declared.refusal.Refusal.TheVariants.{Construct as ConstructRefused, Limit as LimitRefused, NotYet as NotYetRefused, Memory as MemoryRefused}
@@ -116,48 +117,48 @@ module _ (told : Files) (name : List ℕ) (files : List ℕ → Option (List ℕ
 
   -- the file has no image
 
-  text-misshapen : (file : List ℕ) (fault : FormatFault) → files name ≡ Some file → IsFirstFault file fault → (reply : Reply) (output : List ℕ) → AllowsText told name reply output → IsOneOf
+  text-misshapen : (cpu : Cpu) (file : List ℕ) (fault : FormatFault) → files name ≡ Some file → IsFirstFault file fault → (reply : Reply) (output : List ℕ) → AllowsText cpu told name reply output → IsOneOf
       (status_of reply) (8 ∷ (4 ∷ (6 ∷ (7 ∷ []))))
-  text-misshapen file fault has first _ output (decompiled f) =
-      let d = held file (λ x. Decompiles x output) has f in absurd (not_both file d.image fault d.is_image first)
-  text-misshapen file fault has first _ _ (refused refusal f) =
-      let d = held file (IsRefusedAs refusal) has f in absurd (not_both file d.image fault d.is_image first)
-  text-misshapen file fault has first reply _ (no_image h) = misshapen-one file has reply h
+  text-misshapen cpu file fault has first _ output (decompiled f) =
+      let d = held file (λ x. Decompiles cpu x output) has f in absurd (not_both file d.image fault d.is_image first)
+  text-misshapen cpu file fault has first _ _ (refused refusal f) =
+      let d = held file (IsRefusedAs cpu refusal) has f in absurd (not_both file d.image fault d.is_image first)
+  text-misshapen cpu file fault has first reply _ (no_image h) = misshapen-one file has reply h
 
-  text-missing : files name ≡ None → (reply : Reply) (output : List ℕ) → AllowsText told name reply output → IsOneOf (status_of reply) (3 ∷ (4 ∷ (6 ∷ (7 ∷ []))))
-  text-missing lacks _ output (decompiled f) = absurd (not-held (λ x. Decompiles x output) lacks f)
-  text-missing lacks _ _ (refused refusal f) = absurd (not-held (IsRefusedAs refusal) lacks f)
-  text-missing lacks reply _ (no_image h) = missing-image lacks reply h
+  text-missing : (cpu : Cpu) → files name ≡ None → (reply : Reply) (output : List ℕ) → AllowsText cpu told name reply output → IsOneOf (status_of reply) (3 ∷ (4 ∷ (6 ∷ (7 ∷ []))))
+  text-missing cpu lacks _ output (decompiled f) = absurd (not-held (λ x. Decompiles cpu x output) lacks f)
+  text-missing cpu lacks _ _ (refused refusal f) = absurd (not-held (IsRefusedAs cpu refusal) lacks f)
+  text-missing cpu lacks reply _ (no_image h) = missing-image lacks reply h
 
   -- the program is accepted, or it is refused
 
-  pub accepted-one : (file : List ℕ) → files name ≡ Some file → OfImages file IsAcceptedProgram → (reply : Reply) (output : List ℕ) → AllowsText told name reply output → IsOneOf (status_of reply)
+  pub accepted-one : (cpu : Cpu) (file : List ℕ) → files name ≡ Some file → OfImages file (IsAcceptedProgram cpu) → (reply : Reply) (output : List ℕ) → AllowsText cpu told name reply output → IsOneOf (status_of reply)
       (0 ∷ (4 ∷ (6 ∷ (7 ∷ []))))
-  accepted-one file has a _ output (decompiled f) = inl refl
-  accepted-one file has a _ _ (refused refusal f) =
-      let d = held file (IsRefusedAs refusal) has f in
-      inr (inr (inr (inl (ap (λ r. status_of (refusal_reply r)) (accepted-memory d.image refusal (a.each d.image d.is_image) d.refused)))))
-  accepted-one file has a reply _ (no_image h) =
+  accepted-one cpu file has a _ output (decompiled f) = inl refl
+  accepted-one cpu file has a _ _ (refused refusal f) =
+      let d = held file (IsRefusedAs cpu refusal) has f in
+      inr (inr (inr (inl (ap (λ r. status_of (refusal_reply r)) (accepted-memory cpu d.image refusal (a.each d.image d.is_image) d.refused)))))
+  accepted-one cpu file has a reply _ (no_image h) =
       faulty-one 0 (status_of reply) (no_image-faulty file has a.image a.is_image reply h)
 
-  pub refused-always : (file : List ℕ) → files name ≡ Some file → OfImages file IsRefusedImage → (reply : Reply) (output : List ℕ) → AllowsText told name reply output → IsOneOf (status_of reply)
+  pub refused-always : (cpu : Cpu) (file : List ℕ) → files name ≡ Some file → OfImages file (IsRefusedImage cpu) → (reply : Reply) (output : List ℕ) → AllowsText cpu told name reply output → IsOneOf (status_of reply)
       (9 ∷ (10 ∷ (12 ∷ (4 ∷ (6 ∷ (7 ∷ []))))))
-  refused-always file has a _ output (decompiled f) =
-      let d = held file (λ x. Decompiles x output) has f in
-      absurd (accepted-not_refused d.image d.is_text.accepted (a.each d.image d.is_image))
-  refused-always file has a _ _ (refused refusal f) = refused-one refusal
-  refused-always file has a reply _ (no_image h) =
+  refused-always cpu file has a _ output (decompiled f) =
+      let d = held file (λ x. Decompiles cpu x output) has f in
+      absurd (accepted-not_refused cpu d.image d.is_text.accepted (a.each d.image d.is_image))
+  refused-always cpu file has a _ _ (refused refusal f) = refused-one refusal
+  refused-always cpu file has a reply _ (no_image h) =
       inr (inr (faulty-one 12 (status_of reply) (no_image-faulty file has a.image a.is_image reply h)))
 
   -- runs
 
-  pub file-ended : (file : List ℕ) (image : Image) (steps : ℕ) (bytes : List ℕ) (before left : Option (List ℕ)) → files name ≡ Some file → IsImageOf file image → before ≡ Some bytes → (reply : Reply)
-      (output : List ℕ) → OfFile told name (λ x. RunsFile x steps before left reply output) → IsOneOf (status_of reply)
-      (end_status (end_after machine_system steps ((machine_of image).start bytes)) ∷ (4 ∷ (5 ∷ (6 ∷ (7 ∷ [])))))
-  file-ended file image steps bytes before left has is told_left reply output f =
-      let r = held file (λ x. RunsFile x steps before left reply output) has f in
-      subst (λ s. IsOneOf (status_of reply) (end_status (end_after machine_system steps s) ∷ (4 ∷ (5 ∷ (6 ∷ (7 ∷ [])))))) (same-start file r.image image bytes r.is_image is)
-      (run-ended (machine_of r.image) steps before left reply output bytes told_left r.finishes)
+  pub file-ended : (cpu : Cpu) (file : List ℕ) (image : Image) (steps : ℕ) (bytes : List ℕ) (before left : Option (List ℕ)) → files name ≡ Some file → IsImageOf file image → before ≡ Some bytes → (reply : Reply)
+      (output : List ℕ) → OfFile told name (λ x. RunsFile cpu x steps before left reply output) → IsOneOf (status_of reply)
+      (end_status (end_after (machine_system cpu) steps ((machine_of cpu image).start bytes)) ∷ (4 ∷ (5 ∷ (6 ∷ (7 ∷ [])))))
+  file-ended cpu file image steps bytes before left has is told_left reply output f =
+      let r = held file (λ x. RunsFile cpu x steps before left reply output) has f in
+      subst (λ s. IsOneOf (status_of reply) (end_status (end_after (machine_system cpu) steps s) ∷ (4 ∷ (5 ∷ (6 ∷ (7 ∷ [])))))) (same-start file r.image image bytes r.is_image is)
+      (run-ended (machine_of cpu r.image) steps before left reply output bytes told_left r.finishes)
 
   -- a fault among the statuses of a run
   faulty-run : (first : ℕ) (status : ℕ) → (status ≡ 4) ⊎ (status ≡ 7) → IsOneOf status (first ∷ (4 ∷ (5 ∷ (6 ∷ (7 ∷ [])))))
@@ -169,10 +170,10 @@ module _ (told : Files) (name : List ℕ) (files : List ℕ → Option (List ℕ
 module _ (told : Files) (before left : Option (List ℕ)) (files : List ℕ → Option (List ℕ)) (tells : told ≡ Some files) where
   pub job-misshapen : (job : Job) (file : List ℕ) (fault : FormatFault) → files (name_of job) ≡ Some file → LoadsImage (Some job) → IsFirstFault file fault → (reply : Reply) (output : List ℕ) →
       Allows told before left (Some job) reply output → IsOneOf (status_of reply) (8 ∷ (4 ∷ (6 ∷ (7 ∷ []))))
-  job-misshapen _ file fault has loads first reply output (for_text {name = name} h same) =
-      text-misshapen told name files tells file fault has first reply output h
-  job-misshapen _ file fault has loads first reply output (ran_file {name = name} {steps = steps} f) =
-      let r = held told name files tells file (λ x. RunsFile x steps before left reply output) has f in
+  job-misshapen _ file fault has loads first reply output (for_text {name = name} {cpu = cpu} h same) =
+      text-misshapen told name files tells cpu file fault has first reply output h
+  job-misshapen _ file fault has loads first reply output (ran_file {name = name} {steps = steps} {cpu = cpu} f) =
+      let r = held told name files tells file (λ x. RunsFile cpu x steps before left reply output) has f in
       absurd (not_both file r.image fault r.is_image first)
   job-misshapen _ file fault has loads first reply _ (ran_no_file {name = name} h same) =
       misshapen-one told name files tells file has reply h
@@ -181,10 +182,10 @@ module _ (told : Files) (before left : Option (List ℕ)) (files : List ℕ → 
 
   pub job-missing : (job : Job) → files (name_of job) ≡ None → (reply : Reply) (output : List ℕ) → Allows told before left (Some job) reply output → IsOneOf (status_of reply)
       (3 ∷ (4 ∷ (6 ∷ (7 ∷ []))))
-  job-missing _ lacks reply output (for_text {name = name} h same) =
-      text-missing told name files tells lacks reply output h
-  job-missing _ lacks reply output (ran_file {name = name} {steps = steps} f) =
-      absurd (not-held told name files tells (λ x. RunsFile x steps before left reply output) lacks f)
+  job-missing _ lacks reply output (for_text {name = name} {cpu = cpu} h same) =
+      text-missing told name files tells cpu lacks reply output h
+  job-missing _ lacks reply output (ran_file {name = name} {steps = steps} {cpu = cpu} f) =
+      absurd (not-held told name files tells (λ x. RunsFile cpu x steps before left reply output) lacks f)
   job-missing _ lacks reply _ (ran_no_file {name = name} h same) = missing-image told name files tells lacks reply h
   job-missing _ lacks reply output (ran_text {name = name} {steps = steps} {fill = fill} f) =
       absurd (not-held told name files tells (λ x. RunsText x steps fill before left reply output) lacks f)
@@ -220,28 +221,28 @@ module _ (told : Files) (before left : Option (List ℕ)) (files : List ℕ → 
   no_unit-ended name steps fill file bytes _ has (text_ends {tree = tree} stands within) _ (offends f) =
       absurd ((held told name files tells file _ has f).no_tree within tree stands)
 
-  run-of_file : (name : List ℕ) (steps : ℕ) (file bytes : List ℕ) (end : End) → files name ≡ Some file → before ≡ Some bytes → EndsSo file bytes (Execute name steps) end → (reply : Reply)
-      (output : List ℕ) → OfFile told name (λ x. RunsFile x steps before left reply output) → IsOneOf (status_of reply) (end_status end ∷ (4 ∷ (5 ∷ (6 ∷ (7 ∷ [])))))
-  run-of_file name steps file bytes _ has told_left (file_ends {image = image} is) reply output f =
-      file-ended told name files tells file image steps bytes before left has is told_left reply output f
+  run-of_file : (name : List ℕ) (steps : ℕ) (cpu : Cpu) (file bytes : List ℕ) (end : End) → files name ≡ Some file → before ≡ Some bytes → EndsSo file bytes (Execute name steps cpu) end → (reply : Reply)
+      (output : List ℕ) → OfFile told name (λ x. RunsFile cpu x steps before left reply output) → IsOneOf (status_of reply) (end_status end ∷ (4 ∷ (5 ∷ (6 ∷ (7 ∷ [])))))
+  run-of_file name steps cpu file bytes _ has told_left (file_ends {image = image} is) reply output f =
+      file-ended told name files tells cpu file image steps bytes before left has is told_left reply output f
 
-  no_image-ended : (name : List ℕ) (steps : ℕ) (file bytes : List ℕ) (end : End) → files name ≡ Some file → EndsSo file bytes (Execute name steps) end → (reply : Reply) → HasNoImage told name reply →
+  no_image-ended : (name : List ℕ) (steps : ℕ) (cpu : Cpu) (file bytes : List ℕ) (end : End) → files name ≡ Some file → EndsSo file bytes (Execute name steps cpu) end → (reply : Reply) → HasNoImage told name reply →
       IsOneOf (status_of reply) (end_status end ∷ (4 ∷ (5 ∷ (6 ∷ (7 ∷ [])))))
-  no_image-ended name steps file bytes end has (file_ends {image = image} is) reply h =
+  no_image-ended name steps cpu file bytes end has (file_ends {image = image} is) reply h =
       faulty-run told name files tells (end_status end) (status_of reply) (no_image-faulty told name files tells file has image is reply h)
 
-  no-text_end : (name : List ℕ) (file bytes : List ℕ) (end : End) → EndsSo file bytes (Decompile name) end → ⊥
-  no-text_end name file bytes end e = elim e [ ]
+  no-text_end : (name : List ℕ) (cpu : Cpu) (file bytes : List ℕ) (end : End) → EndsSo file bytes (Decompile name cpu) end → ⊥
+  no-text_end name cpu file bytes end e = elim e [ ]
 
   -- the run that a job asks for ends as the definition says
   pub job-ended : (job : Job) (file bytes : List ℕ) (end : End) → files (name_of job) ≡ Some file → before ≡ Some bytes → EndsSo file bytes job end → (reply : Reply) (output : List ℕ) →
       Allows told before left (Some job) reply output → IsOneOf (status_of reply) (end_status end ∷ (4 ∷ (5 ∷ (6 ∷ (7 ∷ [])))))
-  job-ended _ file bytes end has told_left e reply output (for_text {name = name} h same) =
-      absurd (no-text_end name file bytes end e)
-  job-ended _ file bytes end has told_left e reply output (ran_file {name = name} {steps = steps} f) =
-      run-of_file name steps file bytes end has told_left e reply output f
-  job-ended _ file bytes end has told_left e reply _ (ran_no_file {name = name} {steps = steps} h same) =
-      no_image-ended name steps file bytes end has e reply h
+  job-ended _ file bytes end has told_left e reply output (for_text {name = name} {cpu = cpu} h same) =
+      absurd (no-text_end name cpu file bytes end e)
+  job-ended _ file bytes end has told_left e reply output (ran_file {name = name} {steps = steps} {cpu = cpu} f) =
+      run-of_file name steps cpu file bytes end has told_left e reply output f
+  job-ended _ file bytes end has told_left e reply _ (ran_no_file {name = name} {steps = steps} {cpu = cpu} h same) =
+      no_image-ended name steps cpu file bytes end has e reply h
   job-ended _ file bytes end has told_left e reply output (ran_text {name = name} {steps = steps} {fill = fill} f) =
       text-ended name steps fill file bytes end has told_left e reply output f
   job-ended _ file bytes end has told_left e reply _ (ran_no_text {name = name} {steps = steps} {fill = fill} h same) =

@@ -4,6 +4,7 @@ use Rattle.std.proofs.lemmas.Bool.{eq-eqb, or_right}
 use Rattle.std.specs.Prelude.{◌&&◌, ◌||◌, not, eqb}
 use Rattle.std.specs.Prelude.{Result, Ok, Err, IfOk}
 use Rattle.dcc_io.specs.declared.outside.Failed.{Failed}
+use Rattle.dcc_prog.specs.declared.cpu.Cpu.{Cpu}
 use Rattle.dcc_prog.specs.declared.image.Image.{Image}
 use Rattle.dcc_run.specs.End.{End, Running, Exit, Divide, Outside as outside, Stuck as stuck}
 use Rattle.dcc_prog.specs.declared.refusal.Refusal.{Refusal}
@@ -96,9 +97,9 @@ refusal-status (LimitRefused what count) = inr (inr (inl refl))
 refusal-status (NotYetRefused at) = inr (inr (inr (inl refl)))
 refusal-status MemoryRefused = inl refl
 
-pub image-status : (image : Image) (reply : Reply) (output : List ℕ) → AllowsImage image reply output → IsOneOf (status_of reply) (0 ∷ refusals)
-image-status image _ output (image_decompiled t) = inl refl
-image-status image _ _ (image_refused refusal h) = inr (refusal-status refusal)
+pub image-status : (cpu : Cpu) (image : Image) (reply : Reply) (output : List ℕ) → AllowsImage cpu image reply output → IsOneOf (status_of reply) (0 ∷ refusals)
+image-status cpu image _ output (image_decompiled t) = inl refl
+image-status cpu image _ _ (image_refused refusal h) = inr (refusal-status refusal)
 
 -- the statuses of the text of an executable
 abbrev pub text_statuses : List ℕ
@@ -110,10 +111,10 @@ among-text (LimitRefused what count) = inr (inr (inl refl))
 among-text (NotYetRefused at) = inr (inr (inr (inl refl)))
 among-text MemoryRefused = inr (inr (inr (inr (inr (inr (inr (inl refl)))))))
 
-pub text-status : (told : Files) (name : List ℕ) (reply : Reply) (output : List ℕ) → AllowsText told name reply output → IsOneOf (status_of reply) text_statuses
-text-status told name _ output (decompiled f) = inl refl
-text-status told name _ _ (refused refusal f) = among-text refusal
-text-status told name reply _ (no_image h) = inr (inr (inr (inr (no_image-status told name reply h))))
+pub text-status : (cpu : Cpu) (told : Files) (name : List ℕ) (reply : Reply) (output : List ℕ) → AllowsText cpu told name reply output → IsOneOf (status_of reply) text_statuses
+text-status cpu told name _ output (decompiled f) = inl refl
+text-status cpu told name _ _ (refused refusal f) = among-text refusal
+text-status cpu told name reply _ (no_image h) = inr (inr (inr (inr (no_image-status told name reply h))))
 
 -- the status of a run that has ended
 pub end-status : (steps : ℕ) (end : End) → status_of (end_reply steps end) ≡ end_status end

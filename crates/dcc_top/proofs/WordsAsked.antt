@@ -7,24 +7,25 @@ use Rattle.std.specs.Str.{bytes_eq}
 use Rattle.std.proofs.lemmas.Bool.{eqb-true, ltb-true, lt-ltb}
 use Rattle.std.proofs.lemmas.List.Sums.{split_at_first, passes_at_first}
 use Rattle.std.proofs.lemmas.Slice.Eq.{bytes_eq-Decides}
-use Rattle.dcc_top.specs.Words.{Job, Decompile, Execute, ExecuteText, Parts, only_positional, with_word, with_value, set_value, value_in, is_positional, option_word, command_word, HasParts, no_word, positional_word, option_in_two, option_in_one, end_of_options, AskFor, decompile, execute, execute_text, steps_of, fill_of, Kind, Positional, End, Names, Gives, Unknown, option_of, command_of, named, given, is_equals, option_kind, kind_of, parts_after, parts_of, job_for, job_of}
+use Rattle.dcc_top.specs.Words.{Job, Decompile, Execute, ExecuteText, Parts, only_positional, with_word, with_value, set_value, value_in, is_positional, option_word, command_word, HasParts, no_word, positional_word, option_in_two, option_in_one, end_of_options, AskFor, decompile, execute, execute_text, steps_of, fill_of, cpu_of, Kind, Positional, End, Names, Gives, Unknown, option_of, command_of, named, given, is_equals, option_kind, kind_of, parts_after, parts_of, job_for, job_with, job_of}
 use Rattle.dcc_top.specs.declared.words.Command.{Command}
 use Rattle.dcc_top.specs.declared.words.Command.TheVariants.{C, Run, RunC}
 use Rattle.dcc_top.specs.declared.words.OptionName.{OptionName}
-use Rattle.dcc_top.specs.declared.words.OptionName.TheVariants.{Steps, Fill}
+use Rattle.dcc_top.specs.declared.words.OptionName.TheVariants.{Steps, Fill, Cpu}
+use Rattle.dcc_prog.specs.declared.cpu.Cpu.{Cpu as Processor}
 use Rattle.dcc_top.proofs.WordsLaws.{by_kind, parts-at_kind}
 
 -- From the relation to the function.
 
 -- an option that didn't stand yet
 add-value : (name : OptionName) (value : List ℕ) (parts : Parts) → value_in name parts ≡ None → with_value name value (Some parts) ≡ Some (set_value name value parts)
-add-value Steps value parts none = ap (λ s. if is_some s then None else Some (set_value Steps value parts)) none
-add-value Fill value parts none = ap (λ s. if is_some s then None else Some (set_value Fill value parts)) none
+add-value name value parts none = ap (λ s. if is_some s then None else Some (set_value name value parts)) none
 
 -- an option's name is its kind
 kind-name : (name : OptionName) → Names name ≡ kind_of (option_word name)
 kind-name Steps = refl
 kind-name Fill = refl
+kind-name Cpu = refl
 
 kind-given : (name : OptionName) (value : List ℕ) → Gives name value ≡ kind_of (option_word name ++ (61 ∷ value))
 kind-given Steps value =
@@ -33,6 +34,9 @@ kind-given Steps value =
 kind-given Fill value =
     let test : nat_lt 6 (length (codes "--fill" ++ (61 ∷ value))) ≡ true = lt-ltb 6 (length (codes "--fill" ++ (61 ∷ value))) (omega arith) in
     ap (λ b. if b then Gives Fill value else named (option_of (codes "--fill" ++ (61 ∷ value)))) (sym test)
+kind-given Cpu value =
+    let test : nat_lt 5 (length (codes "--cpu" ++ (61 ∷ value))) ≡ true = lt-ltb 5 (length (codes "--cpu" ++ (61 ∷ value))) (omega arith) in
+    ap (λ b. if b then Gives Cpu value else named (option_of (codes "--cpu" ++ (61 ∷ value)))) (sym test)
 
 kind-positional : (word : List ℕ) → is_positional word ≡ true → Positional ≡ kind_of word
 kind-positional word h = ap (λ b. if b then Positional else (if bytes_eq word (codes "--") then End else option_kind word)) (sym h)
@@ -52,11 +56,14 @@ parts-is _ _ (end_of_options {words}) = parts-at_kind (codes "--") words End ref
 
 pub asked-is : (words : List (List ℕ)) (job : Job) → AskFor words job → job_of words ≡ Some job
 unfolding job_of
-asked-is _ _ (decompile {words} {file} parts) = ap (λ o. option_and_then (λ p. job_for C p.positional p.steps p.fill) o) (parts-is words _ parts)
-asked-is _ _ (execute {words} {file} {value} {steps} parts is) =
-    ap (λ o. option_and_then (λ p. job_for Run p.positional p.steps p.fill) o) (parts-is words _ parts) ∙ ap (λ o. option_map (λ n. Execute file n) o) is
+asked-is _ _ (decompile {words} {file} {value} {cpu} parts is) =
+    ap (λ o. option_and_then (job_with C) o) (parts-is words _ parts) ∙ ap (λ o. option_map (Decompile file) o) is
+asked-is _ _ (execute {words} {file} {value} {other} {steps} {cpu} parts is also) =
+    ap (λ o. option_and_then (job_with Run) o) (parts-is words _ parts)
+    ∙ ap (λ o. option_and_then (λ n. option_map (Execute file n) (cpu_of other)) o) is
+    ∙ ap (λ o. option_map (Execute file steps) o) also
 asked-is _ _ (execute_text {words} {file} {value} {other} {steps} {fill} parts is also) =
-    ap (λ o. option_and_then (λ p. job_for RunC p.positional p.steps p.fill) o) (parts-is words _ parts)
+    ap (λ o. option_and_then (job_with RunC) o) (parts-is words _ parts)
     ∙ ap (λ o. option_and_then (λ n. option_map (ExecuteText file n) (fill_of other)) o) is
     ∙ ap (λ o. option_map (ExecuteText file steps) o) also
 
@@ -65,26 +72,23 @@ asked-is _ _ (execute_text {words} {file} {value} {other} {steps} {fill} parts i
 word-same : (a b : List ℕ) → bytes_eq a b ≡ true → a ≡ b
 word-same a b h = (bytes_eq-Decides a b).0 h
 
-option-chosen : (a b : Bool) (name : OptionName) → (if a then Some Steps else (if b then Some Fill else None)) ≡ Some name → ((a ≡ true) × (Steps ≡ name)) ⊎ ((b ≡ true) × (Fill ≡ name))
-option-chosen true b name h = inl (refl, cc)
-option-chosen false true name h = inr (refl, cc)
-option-chosen false false name h = absurd (let f : ⊥ = cc in f)
+-- one of three was chosen by the first test that holds
+chosen : {A : Type 0} (a b c : Bool) (x y z chosen_is : A) → (if a then Some x else (if b then Some y else (if c then Some z else None))) ≡ Some chosen_is →
+    ((a ≡ true) × (x ≡ chosen_is)) ⊎ (((b ≡ true) × (y ≡ chosen_is)) ⊎ ((c ≡ true) × (z ≡ chosen_is)))
+chosen true b c x y z v h = inl (refl, cc)
+chosen false true c x y z v h = inr (inl (refl, cc))
+chosen false false true x y z v h = inr (inr (refl, cc))
+chosen false false false x y z v h = absurd (let f : ⊥ = cc in f)
 
 option-from : (word : List ℕ) (name : OptionName) → option_of word ≡ Some name → word ≡ option_word name
-option-from word name h = elim (option-chosen (bytes_eq word (codes "--steps")) (bytes_eq word (codes "--fill")) name h) [
+option-from word name h = elim (chosen (bytes_eq word (codes "--steps")) (bytes_eq word (codes "--fill")) (bytes_eq word (codes "--cpu")) Steps Fill Cpu name h) [
   | inl a ↦ word-same word (codes "--steps") a.0 ∙ ap option_word a.1
-  | inr b ↦ word-same word (codes "--fill") b.0 ∙ ap option_word b.1
+  | inr (inl b) ↦ word-same word (codes "--fill") b.0 ∙ ap option_word b.1
+  | inr (inr c) ↦ word-same word (codes "--cpu") c.0 ∙ ap option_word c.1
 ]
 
-command-chosen : (a b d : Bool) (c : Command) → (if a then Some C else (if b then Some Run else (if d then Some RunC else None))) ≡ Some c → ((a ≡ true) × (C ≡ c)) ⊎
-    (((b ≡ true) × (Run ≡ c)) ⊎ ((d ≡ true) × (RunC ≡ c)))
-command-chosen true b d c h = inl (refl, cc)
-command-chosen false true d c h = inr (inl (refl, cc))
-command-chosen false false true c h = inr (inr (refl, cc))
-command-chosen false false false c h = absurd (let f : ⊥ = cc in f)
-
 command-from : (word : List ℕ) (c : Command) → command_of word ≡ Some c → word ≡ command_word c
-command-from word c h = elim (command-chosen (bytes_eq word (codes "c")) (bytes_eq word (codes "run")) (bytes_eq word (codes "runc")) c h) [
+command-from word c h = elim (chosen (bytes_eq word (codes "c")) (bytes_eq word (codes "run")) (bytes_eq word (codes "runc")) C Run RunC c h) [
   | inl a ↦ word-same word (codes "c") a.0 ∙ ap command_word a.1
   | inr (inl b) ↦ word-same word (codes "run") b.0 ∙ ap command_word b.1
   | inr (inr d) ↦ word-same word (codes "runc") d.0 ∙ ap command_word d.1
@@ -178,49 +182,58 @@ pub parts-from : (words : List (List ℕ)) (parts : Parts) → parts_of words �
 unfolding Claim
 parts-from words parts h = words-from words None parts h
 
-steps-asked : (words : List (List ℕ)) (job : Job) (file : List ℕ) (value : Option (List ℕ)) (steps : Option ℕ) → steps_of value ≡ steps → HasParts words
-    (record { positional = file ∷ []; steps = value; fill = None }) →
-    option_map (λ n. Execute file n) steps ≡ Some job → AskFor (command_word Run ∷ words) job
-steps-asked words job file value None is has h = absurd (let f : ⊥ = cc in f)
-steps-asked words job file value (Some n) is has h =
-    let same : Execute file n ≡ job = cc in
-    subst (λ j. AskFor (command_word Run ∷ words) j) same (execute has is)
+text-asked : (words : List (List ℕ)) (job : Job) (file : List ℕ) (value : Option (List ℕ)) (cpu : Option Processor) → cpu_of value ≡ cpu → HasParts words
+    (record { positional = file ∷ []; steps = None; fill = None; cpu = value }) →
+    option_map (Decompile file) cpu ≡ Some job → AskFor (command_word C ∷ words) job
+text-asked words job file value None is has h = absurd (let f : ⊥ = cc in f)
+text-asked words job file value (Some cpu) is has h =
+    let same : Decompile file cpu ≡ job = cc in
+    subst (λ j. AskFor (command_word C ∷ words) j) same (decompile has is)
 
-text-asked : (words : List (List ℕ)) (job : Job) (file : List ℕ) (value other : Option (List ℕ)) (steps fill : Option ℕ) → steps_of value ≡ steps → fill_of other ≡ fill →
-    HasParts words (record { positional = file ∷ []; steps = value; fill = other }) →
+run-asked : (words : List (List ℕ)) (job : Job) (file : List ℕ) (value other : Option (List ℕ)) (steps : Option ℕ) (cpu : Option Processor) → steps_of value ≡ steps → cpu_of other ≡ cpu →
+    HasParts words (record { positional = file ∷ []; steps = value; fill = None; cpu = other }) →
+    option_and_then (λ n. option_map (Execute file n) cpu) steps ≡ Some job → AskFor (command_word Run ∷ words) job
+run-asked words job file value other None cpu is also has h = absurd (let f : ⊥ = cc in f)
+run-asked words job file value other (Some n) None is also has h = absurd (let f : ⊥ = cc in f)
+run-asked words job file value other (Some n) (Some cpu) is also has h =
+    let same : Execute file n cpu ≡ job = cc in
+    subst (λ j. AskFor (command_word Run ∷ words) j) same (execute has is also)
+
+text_run-asked : (words : List (List ℕ)) (job : Job) (file : List ℕ) (value other : Option (List ℕ)) (steps fill : Option ℕ) → steps_of value ≡ steps → fill_of other ≡ fill →
+    HasParts words (record { positional = file ∷ []; steps = value; fill = other; cpu = None }) →
     option_and_then (λ n. option_map (ExecuteText file n) fill) steps ≡ Some job → AskFor (command_word RunC ∷ words) job
-text-asked words job file value other None fill is also has h = absurd (let f : ⊥ = cc in f)
-text-asked words job file value other (Some n) None is also has h = absurd (let f : ⊥ = cc in f)
-text-asked words job file value other (Some n) (Some w) is also has h =
+text_run-asked words job file value other None fill is also has h = absurd (let f : ⊥ = cc in f)
+text_run-asked words job file value other (Some n) None is also has h = absurd (let f : ⊥ = cc in f)
+text_run-asked words job file value other (Some n) (Some w) is also has h =
     let same : ExecuteText file n w ≡ job = cc in
     subst (λ j. AskFor (command_word RunC ∷ words) j) same (execute_text has is also)
 
-job-asked : (words : List (List ℕ)) (job : Job) (c : Command) (positional : List (List ℕ)) (steps fill : Option (List ℕ)) → HasParts words
-    (record { positional = positional; steps = steps; fill = fill }) →
-    job_for c positional steps fill ≡ Some job → AskFor (command_word c ∷ words) job
-job-asked words job C (file ∷ []) None None has h =
-    let same : Decompile file ≡ job = cc in
-    subst (λ j. AskFor (command_word C ∷ words) j) same (decompile has)
-job-asked words job C (file ∷ []) None (Some other) has h = absurd (let f : ⊥ = cc in f)
-job-asked words job C (file ∷ []) (Some value) fill has h = absurd (let f : ⊥ = cc in f)
-job-asked words job C [] steps fill has h = absurd (let f : ⊥ = cc in f)
-job-asked words job C (a ∷ (b ∷ ws)) steps fill has h = absurd (let f : ⊥ = cc in f)
-job-asked words job Run (file ∷ []) steps None has h = steps-asked words job file steps (steps_of steps) refl has h
-job-asked words job Run (file ∷ []) steps (Some other) has h = absurd (let f : ⊥ = cc in f)
-job-asked words job Run [] steps fill has h = absurd (let f : ⊥ = cc in f)
-job-asked words job Run (a ∷ (b ∷ ws)) steps fill has h = absurd (let f : ⊥ = cc in f)
-job-asked words job RunC (file ∷ []) steps fill has h =
-    text-asked words job file steps fill (steps_of steps) (fill_of fill) refl refl has h
-job-asked words job RunC [] steps fill has h = absurd (let f : ⊥ = cc in f)
-job-asked words job RunC (a ∷ (b ∷ ws)) steps fill has h = absurd (let f : ⊥ = cc in f)
+job-asked : (words : List (List ℕ)) (job : Job) (c : Command) (positional : List (List ℕ)) (steps fill cpu : Option (List ℕ)) → HasParts words
+    (record { positional = positional; steps = steps; fill = fill; cpu = cpu }) →
+    job_for c positional steps fill cpu ≡ Some job → AskFor (command_word c ∷ words) job
+job-asked words job C (file ∷ []) None None cpu has h = text-asked words job file cpu (cpu_of cpu) refl has h
+job-asked words job C (file ∷ []) None (Some other) cpu has h = absurd (let f : ⊥ = cc in f)
+job-asked words job C (file ∷ []) (Some value) fill cpu has h = absurd (let f : ⊥ = cc in f)
+job-asked words job Run (file ∷ []) steps None cpu has h =
+    run-asked words job file steps cpu (steps_of steps) (cpu_of cpu) refl refl has h
+job-asked words job Run (file ∷ []) steps (Some other) cpu has h = absurd (let f : ⊥ = cc in f)
+job-asked words job RunC (file ∷ []) steps fill None has h =
+    text_run-asked words job file steps fill (steps_of steps) (fill_of fill) refl refl has h
+job-asked words job RunC (file ∷ []) steps fill (Some cpu) has h = absurd (let f : ⊥ = cc in f)
+job-asked words job C [] steps fill cpu has h = absurd (let f : ⊥ = cc in f)
+job-asked words job Run [] steps fill cpu has h = absurd (let f : ⊥ = cc in f)
+job-asked words job RunC [] steps fill cpu has h = absurd (let f : ⊥ = cc in f)
+job-asked words job C (a ∷ (b ∷ ws)) steps fill cpu has h = absurd (let f : ⊥ = cc in f)
+job-asked words job Run (a ∷ (b ∷ ws)) steps fill cpu has h = absurd (let f : ⊥ = cc in f)
+job-asked words job RunC (a ∷ (b ∷ ws)) steps fill cpu has h = absurd (let f : ⊥ = cc in f)
 
 parts-asked : (words : List (List ℕ)) (job : Job) (c : Command) (parts : Option Parts) → ((p : Parts) → parts ≡ Some p → HasParts words p) →
-    option_and_then (λ p. job_for c p.positional p.steps p.fill) parts ≡ Some job → AskFor (command_word c ∷ words) job
+    option_and_then (job_with c) parts ≡ Some job → AskFor (command_word c ∷ words) job
 parts-asked words job c None have h = absurd (let f : ⊥ = cc in f)
-parts-asked words job c (Some parts) have h = job-asked words job c parts.positional parts.steps parts.fill (have parts refl) h
+parts-asked words job c (Some parts) have h = job-asked words job c parts.positional parts.steps parts.fill parts.cpu (have parts refl) h
 
 command-asked : (word : List ℕ) (words : List (List ℕ)) (job : Job) (command : Option Command) → command_of word ≡ command →
-    option_and_then (λ c. option_and_then (λ p. job_for c p.positional p.steps p.fill) (parts_of words)) command ≡ Some job → AskFor (word ∷ words) job
+    option_and_then (λ c. option_and_then (job_with c) (parts_of words)) command ≡ Some job → AskFor (word ∷ words) job
 command-asked word words job None is h = absurd (let f : ⊥ = cc in f)
 command-asked word words job (Some c) is h =
     subst (λ w. AskFor (w ∷ words) job) (sym (command-from word c is)) (parts-asked words job c (parts_of words) (λ p e. parts-from words p e) h)

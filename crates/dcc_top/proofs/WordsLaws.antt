@@ -1,14 +1,14 @@
 -- The parts of the words, as they are found one after another.
-use Rattle.std.proofs.Common.{◌≡◌, ℕ, ◌≤◌, List, [], ◌∷◌, ◌++◌, length, Option, Some, None, refl, sym, ap, ◌∙◌, subst, Bor, length-append, append-nil, arith}
+use Rattle.std.proofs.Common.{◌≡◌, ℕ, ◌≤◌, true, false, List, [], ◌∷◌, ◌++◌, length, Option, Some, None, refl, sym, ap, ◌∙◌, subst, Bor, length-append, append-nil, arith}
 use Rattle.std.specs.Prelude.{is_some, IsSome, MatchOption, if◌then◌else◌}
 use Rattle.std.specs.Option.{option_map, option_and_then, option_copied, option_to_list}
-use Rattle.dcc_top.specs.Words.{Parts, only_positional, with_word, with_value, set_value, value_in, Kind, Positional, End, Names, Gives, Unknown, kind_of, parts_after, parts_of, job_for}
+use Rattle.dcc_top.specs.Words.{Parts, only_positional, with_word, with_value, set_value, value_in, Kind, Positional, End, Names, Gives, Unknown, kind_of, parts_after, parts_of, job_for, job_with}
 use Rattle.dcc_top.specs.WordsRead.{HasTwoFiles, parts_read}
 use Rattle.dcc_top.specs.declared.words.Found.{Found}
 use Rattle.dcc_top.specs.declared.words.Command.{Command}
 use Rattle.dcc_top.specs.declared.words.Command.TheVariants.{C, Run, RunC}
 use Rattle.dcc_top.specs.declared.words.OptionName.{OptionName}
-use Rattle.dcc_top.specs.declared.words.OptionName.TheVariants.{Steps, Fill}
+use Rattle.dcc_top.specs.declared.words.OptionName.TheVariants.{Steps, Fill, Cpu}
 
 -- one of two values of an option, where not both stand
 abbrev merged : Option (List ℕ) → Option (List ℕ) → Option (Option (List ℕ))
@@ -17,16 +17,17 @@ merged (Some value) None = Some (Some value)
 merged (Some value) (Some other) = None
 
 -- parts of these positional words and these values, where no option stands twice
-abbrev built : List (List ℕ) → Option (Option (List ℕ)) → Option (Option (List ℕ)) → Option Parts
-built words None fill = None
-built words (Some steps) None = None
-built words (Some steps) (Some fill) = Some (record { positional = words; steps = steps; fill = fill })
+abbrev built : List (List ℕ) → Option (Option (List ℕ)) → Option (Option (List ℕ)) → Option (Option (List ℕ)) → Option Parts
+built words None fill cpu = None
+built words (Some steps) None cpu = None
+built words (Some steps) (Some fill) None = None
+built words (Some steps) (Some fill) (Some cpu) = Some (record { positional = words; steps = steps; fill = fill; cpu = cpu })
 
 -- parts with others in front, where no option stands in both
 abbrev pub joined : Parts → Option Parts → Option Parts
 joined front None = None
 joined front (Some parts) =
-    built (front.positional ++ parts.positional) (merged front.steps parts.steps) (merged front.fill parts.fill)
+    built (front.positional ++ parts.positional) (merged front.steps parts.steps) (merged front.fill parts.fill) (merged front.cpu parts.cpu)
 
 -- what the parts are by the kind of the first word
 unfoldable pub by_kind : List ℕ → List (List ℕ) → Kind → Option Parts
@@ -49,21 +50,28 @@ parts-by_kind word words = elim (kind_of word) as (λ k. (elim k [
 pub parts-at_kind : (word : List ℕ) (words : List (List ℕ)) (kind : Kind) → kind ≡ kind_of word → parts_of (word ∷ words) ≡ by_kind word words kind
 parts-at_kind word words kind is = parts-by_kind word words ∙ ap (λ k. by_kind word words k) (sym is)
 
-built-none : (words : List (List ℕ)) (steps : Option (Option (List ℕ))) → built words steps None ≡ None
-built-none words None = refl
-built-none words (Some steps) = refl
+-- the fill stands twice, or the processor does
+built-no_fill : (words : List (List ℕ)) (steps cpu : Option (Option (List ℕ))) → built words steps None cpu ≡ None
+built-no_fill words None cpu = refl
+built-no_fill words (Some steps) cpu = refl
 
-built-two : (words : List (List ℕ)) (steps fill : Option (Option (List ℕ))) → 2 ≤ length words → HasTwoFiles (built words steps fill)
-built-two words None fill h = tt
-built-two words (Some steps) None h = tt
-built-two words (Some steps) (Some fill) h = h
+built-no_cpu : (words : List (List ℕ)) (steps fill : Option (Option (List ℕ))) → built words steps fill None ≡ None
+built-no_cpu words None fill = refl
+built-no_cpu words (Some steps) None = refl
+built-no_cpu words (Some steps) (Some fill) = refl
+
+built-two : (words : List (List ℕ)) (steps fill cpu : Option (Option (List ℕ))) → 2 ≤ length words → HasTwoFiles (built words steps fill cpu)
+built-two words None fill cpu h = tt
+built-two words (Some steps) None cpu h = tt
+built-two words (Some steps) (Some fill) None h = tt
+built-two words (Some steps) (Some fill) (Some cpu) h = h
 
 -- one more positional word
 joined-word : (front : Parts) (word : List ℕ) (others : Option Parts) → front.positional ≡ [] →
     joined front (option_map (with_word word) others) ≡ joined (record front { positional = word ∷ [] }) others
 joined-word front word None h = refl
 joined-word front word (Some parts) h =
-    ap (λ l. built (l ++ (word ∷ parts.positional)) (merged front.steps parts.steps) (merged front.fill parts.fill)) h
+    ap (λ l. built (l ++ (word ∷ parts.positional)) (merged front.steps parts.steps) (merged front.fill parts.fill) (merged front.cpu parts.cpu)) h
 
 two-words : (front : List (List ℕ)) (word : List ℕ) (back : List (List ℕ)) → 1 ≤ length front → 2 ≤ length (front ++ (word ∷ back))
 two-words front word back h = simp length-append (omega arith)
@@ -71,51 +79,54 @@ two-words front word back h = simp length-append (omega arith)
 joined-two : (front : Parts) (word : List ℕ) (others : Option Parts) → 1 ≤ length front.positional → HasTwoFiles (joined front (option_map (with_word word) others))
 joined-two front word None h = tt
 joined-two front word (Some parts) h =
-    built-two (front.positional ++ (word ∷ parts.positional)) (merged front.steps parts.steps) (merged front.fill parts.fill) (two-words front.positional word parts.positional h)
+    built-two (front.positional ++ (word ∷ parts.positional)) (merged front.steps parts.steps) (merged front.fill parts.fill) (merged front.cpu parts.cpu)
+    (two-words front.positional word parts.positional h)
 
 -- one more option
-fresh-steps : (front : Parts) (value : List ℕ) (back : List (List ℕ)) (other fill : Option (List ℕ)) →
-    joined (record front { steps = None }) (if is_some other then None else Some (record { positional = back; steps = Some value; fill = fill })) ≡ built (front.positional ++ back)
-    (merged (Some value) other) (merged front.fill fill)
-fresh-steps front value back None fill = refl
-fresh-steps front value back (Some other) fill = refl
 
-fresh-fill : (front : Parts) (value : List ℕ) (back : List (List ℕ)) (steps other : Option (List ℕ)) →
-    joined (record front { fill = None }) (if is_some other then None else Some (record { positional = back; steps = steps; fill = Some value })) ≡ built (front.positional ++ back)
-    (merged front.steps steps) (merged (Some value) other)
-fresh-fill front value back steps None = refl
-fresh-fill front value back steps (Some other) = sym (built-none (front.positional ++ back) (merged front.steps steps))
+-- the parts of both, with this value of one option
+abbrev built_with : Parts → Parts → OptionName → Option (Option (List ℕ)) → Option Parts
+built_with front parts Steps value = built (front.positional ++ parts.positional) value (merged front.fill parts.fill) (merged front.cpu parts.cpu)
+built_with front parts Fill value = built (front.positional ++ parts.positional) (merged front.steps parts.steps) value (merged front.cpu parts.cpu)
+built_with front parts Cpu value = built (front.positional ++ parts.positional) (merged front.steps parts.steps) (merged front.fill parts.fill) value
+
+-- there are none where it stands in both
+none-twice : (front parts : Parts) (name : OptionName) → built_with front parts name None ≡ None
+none-twice front parts Steps = refl
+none-twice front parts Fill = built-no_fill (front.positional ++ parts.positional) (merged front.steps parts.steps) (merged front.cpu parts.cpu)
+none-twice front parts Cpu = built-no_cpu (front.positional ++ parts.positional) (merged front.steps parts.steps) (merged front.fill parts.fill)
+
+-- the option stands in the later parts, or in those in front
+later-value : (front parts : Parts) (name : OptionName) (value : List ℕ) → joined front (Some (set_value name value parts)) ≡ built_with front parts name (merged (value_in name front) (Some value))
+later-value front parts Steps value = refl
+later-value front parts Fill value = refl
+later-value front parts Cpu value = refl
+
+front-value : (front parts : Parts) (name : OptionName) (value : List ℕ) → built_with front parts name (merged (Some value) (value_in name parts)) ≡ joined (set_value name value front) (Some parts)
+front-value front parts Steps value = refl
+front-value front parts Fill value = refl
+front-value front parts Cpu value = refl
+
+fresh-value : (front parts : Parts) (name : OptionName) (value : List ℕ) → value_in name front ≡ None → (other : Option (List ℕ)) →
+    joined front (if is_some other then None else Some (set_value name value parts)) ≡ built_with front parts name (merged (Some value) other)
+fresh-value front parts name value h None = later-value front parts name value ∙ ap (λ o. built_with front parts name (merged o (Some value))) h
+fresh-value front parts name value h (Some other) = sym (none-twice front parts name)
 
 joined-value : (front : Parts) (name : OptionName) (value : List ℕ) (others : Option Parts) → value_in name front ≡ None →
     joined front (with_value name value others) ≡ joined (set_value name value front) others
-joined-value front Steps value None h = refl
-joined-value front Fill value None h = refl
-joined-value front Steps value (Some parts) h =
-    ap (λ s. joined (record front { steps = s }) (with_value Steps value (Some parts))) h
-    ∙ fresh-steps front value parts.positional parts.steps parts.fill
-joined-value front Fill value (Some parts) h =
-    ap (λ s. joined (record front { fill = s }) (with_value Fill value (Some parts))) h
-    ∙ fresh-fill front value parts.positional parts.steps parts.fill
+joined-value front name value None h = refl
+joined-value front name value (Some parts) h = fresh-value front parts name value h (value_in name parts) ∙ front-value front parts name value
 
-taken-steps : (words : List (List ℕ)) (standing fill : Option (List ℕ)) (value : List ℕ) (back : List (List ℕ)) (other other_fill : Option (List ℕ)) → IsSome standing →
-    joined (record { positional = words; steps = standing; fill = fill }) (if is_some other then None else Some (record { positional = back; steps = Some value; fill = other_fill })) ≡ None
-taken-steps words None fill value back other other_fill h = absurd (let f : ⊥ = cc in f)
-taken-steps words (Some old) fill value back None other_fill h = refl
-taken-steps words (Some old) fill value back (Some other) other_fill h = refl
-
-taken-fill : (words : List (List ℕ)) (steps standing : Option (List ℕ)) (value : List ℕ) (back : List (List ℕ)) (other_steps other : Option (List ℕ)) → IsSome standing →
-    joined (record { positional = words; steps = steps; fill = standing }) (if is_some other then None else Some (record { positional = back; steps = other_steps; fill = Some value })) ≡ None
-taken-fill words steps None value back other_steps other h = absurd (let f : ⊥ = cc in f)
-taken-fill words steps (Some old) value back other_steps None h = built-none (words ++ back) (merged steps other_steps)
-taken-fill words steps (Some old) value back other_steps (Some other) h = refl
+merged-taken : (standing : Option (List ℕ)) (value : List ℕ) → IsSome standing → merged standing (Some value) ≡ None
+merged-taken None value h = absurd (let f : ⊥ = cc in f)
+merged-taken (Some old) value h = refl
 
 joined-taken : (front : Parts) (name : OptionName) (value : List ℕ) (others : Option Parts) → IsSome (value_in name front) → joined front (with_value name value others) ≡ None
-joined-taken front Steps value None h = refl
-joined-taken front Fill value None h = refl
-joined-taken front Steps value (Some parts) h =
-    taken-steps front.positional front.steps front.fill value parts.positional parts.steps parts.fill h
-joined-taken front Fill value (Some parts) h =
-    taken-fill front.positional front.steps front.fill value parts.positional parts.steps parts.fill h
+joined-taken front name value None h = refl
+joined-taken front name value (Some parts) h = elim (is_some (value_in name parts)) as (λ b. joined front (if b then None else Some (set_value name value parts)) ≡ None) [
+  | true ↦ refl
+  | false ↦ later-value front parts name value ∙ ap (built_with front parts name) (merged-taken (value_in name front) value h) ∙ none-twice front parts name
+]
 
 -- The steps of the reader, from what was found so far, with the first word of those that are left.
 
@@ -180,8 +191,9 @@ merged-none (Some value) = refl
 
 joined-only : (front : Parts) (words : List (List ℕ)) → joined front (Some (only_positional words)) ≡ Some (record front { positional = front.positional ++ words })
 joined-only front words =
-    ap (λ m. built (front.positional ++ words) m (merged front.fill None)) (merged-none front.steps)
-    ∙ ap (λ m. built (front.positional ++ words) (Some front.steps) m) (merged-none front.fill)
+    ap (λ m. built (front.positional ++ words) m (merged front.fill None) (merged front.cpu None)) (merged-none front.steps)
+    ∙ ap (λ m. built (front.positional ++ words) (Some front.steps) m (merged front.cpu None)) (merged-none front.fill)
+    ∙ ap (λ m. built (front.positional ++ words) (Some front.steps) (Some front.fill) m) (merged-none front.cpu)
 
 -- after `--`
 all-end : (found : Parts) (all : Option Parts) (word : List ℕ) (words : List (List ℕ)) → joined found (parts_of (word ∷ words)) ≡ all → End ≡ kind_of word →
@@ -208,15 +220,15 @@ some-file None h = absurd (let f : ⊥ = cc in f)
 some-file (Some name) h = omega arith
 
 -- no command takes two positional words
-two-no_job : (command : Command) (words : List (List ℕ)) (steps fill : Option (List ℕ)) → 2 ≤ length words → job_for command words steps fill ≡ None
-two-no_job command [] steps fill h = absurd (omega arith)
-two-no_job command (a ∷ []) steps fill h = absurd (omega arith)
-two-no_job C (a ∷ (b ∷ ws)) steps fill h = refl
-two-no_job Run (a ∷ (b ∷ ws)) steps fill h = refl
-two-no_job RunC (a ∷ (b ∷ ws)) steps fill h = refl
+two-no_job : (command : Command) (words : List (List ℕ)) (steps fill cpu : Option (List ℕ)) → 2 ≤ length words → job_for command words steps fill cpu ≡ None
+two-no_job command [] steps fill cpu h = absurd (omega arith)
+two-no_job command (a ∷ []) steps fill cpu h = absurd (omega arith)
+two-no_job C (a ∷ (b ∷ ws)) steps fill cpu h = refl
+two-no_job Run (a ∷ (b ∷ ws)) steps fill cpu h = refl
+two-no_job RunC (a ∷ (b ∷ ws)) steps fill cpu h = refl
 
 pub two-no_command : (command : Option Command) (parts : Option Parts) → HasTwoFiles parts →
-    option_and_then (λ c. option_and_then (λ p. job_for c p.positional p.steps p.fill) parts) command ≡ None
+    option_and_then (λ c. option_and_then (job_with c) parts) command ≡ None
 two-no_command None parts h = refl
 two-no_command (Some command) None h = refl
-two-no_command (Some command) (Some parts) h = two-no_job command parts.positional parts.steps parts.fill h
+two-no_command (Some command) (Some parts) h = two-no_job command parts.positional parts.steps parts.fill parts.cpu h

@@ -8,6 +8,7 @@ use Rattle.dcc_mz.specs.declared.fault.MzFault.TheVariants.{Memory as NoMemory}
 use Rattle.dcc_io.specs.declared.outside.ShelfFault.{ShelfFault}
 use Rattle.dcc_io.specs.declared.outside.ShelfFault.TheVariants.{Absent, Failed as ShelfFailed, Memory as ShelfMemory}
 use Rattle.dcc_io.specs.Told.{WhenTold}
+use Rattle.dcc_prog.specs.declared.cpu.Cpu.{Cpu}
 use Rattle.dcc_prog.specs.declared.image.Image.{Image}
 use Rattle.dcc_prog.specs.declared.refusal.LimitName.{LimitName}
 use Rattle.dcc_prog.specs.declared.refusal.LimitName.TheVariants.{Procedures, Instructions, Total, Cells, Entries}
@@ -160,29 +161,31 @@ pub data HasNoUnit (told : Files) (name : List ℕ) : Reply → Type 0 where
 
 -- The text of an executable.
 
--- the image is accepted, and these bytes are the written form of a tree that is its text
-pub record IsTextOfImage (image : Image) (text : List ℕ) : Type 0 where
-  pub accepted : IsAcceptedProgram image
+-- on this processor the image is accepted, and these bytes are the written form of a tree that is its text
+pub record IsTextOfImage (cpu : Cpu) (image : Image) (text : List ℕ) : Type 0 where
+  pub accepted : IsAcceptedProgram cpu image
   pub tree : Tree
-  pub is_text : IsTextOf image text tree
+  pub is_text : IsTextOf cpu image text tree
   pub written_is : text ≡ written_form tree
 
--- the answer is allowed for an image whose text is asked for, after these bytes
-pub data AllowsImage (image : Image) : Reply → List ℕ → Type 0 where
-  image_decompiled : {text : List ℕ} → IsTextOfImage image text → AllowsImage image Done text
-  image_refused : (refusal : Refusal) → IsRefusedFor image refusal → AllowsImage image (refusal_reply refusal) []
+-- the answer is allowed for an image whose text for this processor is asked for, after these bytes
+pub data AllowsImage (cpu : Cpu) (image : Image) : Reply → List ℕ → Type 0 where
+  image_decompiled : {text : List ℕ} → IsTextOfImage cpu image text → AllowsImage cpu image Done text
+  image_refused : (refusal : Refusal)
+      → IsRefusedFor cpu image refusal
+      → AllowsImage cpu image (refusal_reply refusal) []
 
--- the file's image is accepted, and these bytes are the written form of a tree that is its text
-pub record Decompiles (file text : List ℕ) : Type 0 where
+-- on this processor the file's image is accepted, and these bytes are the written form of a tree that is its text
+pub record Decompiles (cpu : Cpu) (file text : List ℕ) : Type 0 where
   pub image : Image
   pub is_image : IsImageOf file image
-  pub is_text : IsTextOfImage image text
+  pub is_text : IsTextOfImage cpu image text
 
--- the file's image is refused so
-pub record IsRefusedAs (refusal : Refusal) (file : List ℕ) : Type 0 where
+-- on this processor the file's image is refused so
+pub record IsRefusedAs (cpu : Cpu) (refusal : Refusal) (file : List ℕ) : Type 0 where
   pub image : Image
   pub is_image : IsImageOf file image
-  pub refused : IsRefusedFor image refusal
+  pub refused : IsRefusedFor cpu image refusal
 
 -- The file has an image, and each of its images is as the fact says; they differ only in where their bytes are kept.
 pub record OfImages (file : List ℕ) (P : Image → Type 0) : Type 0 where
@@ -190,29 +193,31 @@ pub record OfImages (file : List ℕ) (P : Image → Type 0) : Type 0 where
   pub is_image : IsImageOf file image
   pub each : (other : Image) → IsImageOf file other → P other
 
--- The answer is allowed for the file of this name whose text is asked for, after these bytes.
-pub data AllowsText (told : Files) (name : List ℕ) : Reply → List ℕ → Type 0 where
-  decompiled : {text : List ℕ} → OfFile told name (λ file. Decompiles file text) → AllowsText told name Done text
+-- The answer is allowed for the file of this name whose text for this processor is asked for, after these bytes.
+pub data AllowsText (cpu : Cpu) (told : Files) (name : List ℕ) : Reply → List ℕ → Type 0 where
+  decompiled : {text : List ℕ}
+      → OfFile told name (λ file. Decompiles cpu file text)
+      → AllowsText cpu told name Done text
   refused : (refusal : Refusal)
-      → OfFile told name (IsRefusedAs refusal)
-      → AllowsText told name (refusal_reply refusal) []
-  no_image : {reply : Reply} → HasNoImage told name reply → AllowsText told name reply []
+      → OfFile told name (IsRefusedAs cpu refusal)
+      → AllowsText cpu told name (refusal_reply refusal) []
+  no_image : {reply : Reply} → HasNoImage told name reply → AllowsText cpu told name reply []
 
 -- Runs.
 
--- the answer is one for a run of the file's image
-pub record RunsFile (file : List ℕ) (steps : ℕ) (before left : Option (List ℕ)) (reply : Reply)
+-- the answer is one for a run of the file's image on this processor
+pub record RunsFile (cpu : Cpu) (file : List ℕ) (steps : ℕ) (before left : Option (List ℕ)) (reply : Reply)
     (output : List ℕ) : Type 0 where
   pub image : Image
   pub is_image : IsImageOf file image
-  pub finishes : Finishes (machine_of image) steps before left reply output
+  pub finishes : Finishes (machine_of cpu image) steps before left reply output
 
--- the run of the file's image was cut off
-pub record IsCutFile (file : List ℕ) (steps : ℕ) (input output : Change (Option (List ℕ)))
+-- the run of the file's image on this processor was cut off
+pub record IsCutFile (cpu : Cpu) (file : List ℕ) (steps : ℕ) (input output : Change (Option (List ℕ)))
     (due : List ℕ) : Type 0 where
   pub image : Image
   pub is_image : IsImageOf file image
-  pub cut : IsCutRun (machine_of image) steps input output due
+  pub cut : IsCutRun (machine_of cpu image) steps input output due
 
 -- the text stands for this tree alone, and is not too long
 pub record IsReadAs (text : List ℕ) (tree : Tree) : Type 0 where
@@ -253,8 +258,8 @@ pub record IsCutText (text : List ℕ) (steps fill : ℕ) (input output : Change
 
 -- the answer is one for the run that the job asks for, on the file with these bytes
 abbrev pub Runs : Job → List ℕ → Option (List ℕ) → Option (List ℕ) → Reply → List ℕ → Type 0
-Runs (Decompile name) file before left reply output = ⊥
-Runs (Execute name steps) file before left reply output = RunsFile file steps before left reply output
+Runs (Decompile name cpu) file before left reply output = ⊥
+Runs (Execute name steps cpu) file before left reply output = RunsFile cpu file steps before left reply output
 Runs (ExecuteText name steps fill) file before left reply output = RunsText file steps fill before left reply output
 
 -- All jobs.
@@ -262,17 +267,17 @@ Runs (ExecuteText name steps fill) file before left reply output = RunsText file
 -- The answer is allowed for the job, which itself has written this output by then.
 pub data Allows (told : Files) (before left : Option (List ℕ)) : Option Job → Reply → List ℕ → Type 0 where
   no_job : left ≡ before → Allows told before left None Usage []
-  for_text : {name : List ℕ} {reply : Reply} {output : List ℕ}
-      → AllowsText told name reply output
+  for_text : {name : List ℕ} {cpu : Cpu} {reply : Reply} {output : List ℕ}
+      → AllowsText cpu told name reply output
       → left ≡ before
-      → Allows told before left (Some (Decompile name)) reply output
-  ran_file : {name : List ℕ} {steps : ℕ} {reply : Reply} {output : List ℕ}
-      → OfFile told name (λ file. RunsFile file steps before left reply output)
-      → Allows told before left (Some (Execute name steps)) reply output
-  ran_no_file : {name : List ℕ} {steps : ℕ} {reply : Reply}
+      → Allows told before left (Some (Decompile name cpu)) reply output
+  ran_file : {name : List ℕ} {steps : ℕ} {cpu : Cpu} {reply : Reply} {output : List ℕ}
+      → OfFile told name (λ file. RunsFile cpu file steps before left reply output)
+      → Allows told before left (Some (Execute name steps cpu)) reply output
+  ran_no_file : {name : List ℕ} {steps : ℕ} {cpu : Cpu} {reply : Reply}
       → HasNoImage told name reply
       → left ≡ before
-      → Allows told before left (Some (Execute name steps)) reply []
+      → Allows told before left (Some (Execute name steps cpu)) reply []
   ran_text : {name : List ℕ} {steps fill : ℕ} {reply : Reply} {output : List ℕ}
       → OfFile told name (λ text. RunsText text steps fill before left reply output)
       → Allows told before left (Some (ExecuteText name steps fill)) reply output
@@ -284,13 +289,13 @@ pub data Allows (told : Files) (before left : Option (List ℕ)) : Option Job �
 -- The job was cut off by a failed write, where these bytes were due: the text of the file, and then nothing of the
 -- input was taken; or what a run puts out, and then no more was taken than the run had come to.
 pub data IsCut (told : Files) (input output : Change (Option (List ℕ))) : Option Job → List ℕ → Type 0 where
-  cut_text : {name due : List ℕ}
+  cut_text : {name due : List ℕ} {cpu : Cpu}
       → input.after ≡ input.before
-      → OfFile told name (λ file. Decompiles file due)
-      → IsCut told input output (Some (Decompile name)) due
-  cut_run : {name due : List ℕ} {steps : ℕ}
-      → OfFile told name (λ file. IsCutFile file steps input output due)
-      → IsCut told input output (Some (Execute name steps)) due
+      → OfFile told name (λ file. Decompiles cpu file due)
+      → IsCut told input output (Some (Decompile name cpu)) due
+  cut_run : {name due : List ℕ} {steps : ℕ} {cpu : Cpu}
+      → OfFile told name (λ file. IsCutFile cpu file steps input output due)
+      → IsCut told input output (Some (Execute name steps cpu)) due
   cut_text_run : {name due : List ℕ} {steps fill : ℕ}
       → OfFile told name (λ text. IsCutText text steps fill input output due)
       → IsCut told input output (Some (ExecuteText name steps fill)) due

@@ -6,6 +6,7 @@ use Rattle.dcc_mz.specs.declared.fault.MzFault.{MzFault}
 use Rattle.dcc_mz.specs.Fault.{IsRefusal as IsFormatRefusal}
 use Rattle.dcc_run.specs.End.{End}
 use Rattle.dcc_run.specs.Prefix.{IsPrefix}
+use Rattle.dcc_prog.specs.declared.cpu.Cpu.{Cpu}
 use Rattle.dcc_prog.specs.declared.image.Image.{Image}
 use Rattle.dcc_prog.specs.declared.refusal.Refusal.{Refusal}
 use Rattle.dcc_prog.specs.MzImage.{IsImageOf}
@@ -123,9 +124,9 @@ pub record HasRunFile (call : Call) : Type 0 where
 
 -- the run that the job asks for on the file and the input ends so, after the steps that are asked for
 pub data EndsSo (file input : List ℕ) : Job → End → Type 0 where
-  file_ends : {name : List ℕ} {steps : ℕ} {image : Image}
+  file_ends : {name : List ℕ} {steps : ℕ} {cpu : Cpu} {image : Image}
       → IsImageOf file image
-      → EndsSo file input (Execute name steps) (ending_after (machine_of image) steps input)
+      → EndsSo file input (Execute name steps cpu) (ending_after (machine_of cpu image) steps input)
   text_ends : {name : List ℕ} {steps fill : ℕ} {tree : Tree}
       → (stands : StandsFor file tree)
       → length file ≤ greatest_text
@@ -175,15 +176,16 @@ pub record HasFormatFault (call : Call) : Type 0 where
   pub first : IsFormatRefusal file fault
   pub line : Appends call.errors (line_of (Format fault))
 
--- The program that the words name is refused, and the line tells why: a construct stands at the offset, the count
--- passes its number, or an instruction that is reached at the offset is of a form that is not built.
+-- The program that the words name is refused on their processor, and the line tells why: a construct stands at the
+-- offset, the count passes its number, or an instruction that is reached at the offset is of a form that is not built.
 pub record HasRefusal (call : Call) : Type 0 where
   pub name : List ℕ
+  pub cpu : Cpu
   pub file : List ℕ
   pub refusal : Refusal
-  pub named : call.job ≡ Some (Decompile name)
+  pub named : call.job ≡ Some (Decompile name cpu)
   pub has : ShelfHas call.shelf.files name file
-  pub refused : IsRefusedAs refusal file
+  pub refused : IsRefusedAs cpu refusal file
   pub status_is : call.status ≡ status_of (refusal_reply refusal)
   pub line : Appends call.errors (line_of (refusal_reply refusal))
 

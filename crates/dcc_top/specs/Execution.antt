@@ -4,6 +4,7 @@ use Rattle.dcc_io.specs.Told.{WhenTold}
 use Rattle.dcc_run.specs.Agreement.{KeepsUp}
 use Rattle.dcc_run.specs.End.{End, Running as running, Exit as exited, Divide as divided}
 use Rattle.dcc_run.specs.End.{Outside as outside, Stuck as stuck}
+use Rattle.dcc_prog.specs.declared.cpu.Cpu.{Cpu}
 use Rattle.dcc_prog.specs.declared.image.Image.{Image}
 use Rattle.dcc_prog.specs.Machine.{State as MachineState, start_state}
 use Rattle.dcc_prog.specs.Step.{step}
@@ -18,9 +19,9 @@ use Rattle.dcc_top.specs.declared.reply.Reply.{Reply}
 use Rattle.dcc_top.specs.declared.reply.Reply.TheVariants.{Exited, InputFault, Memory, Unfinished}
 use Rattle.dcc_top.specs.declared.reply.Reply.TheVariants.{Divided, Outside, Stuck}
 
--- the machine, from the start of an image
-abbrev pub machine_of : Image → Subject MachineState
-machine_of image = record { console = console_by step; start = start_state image }
+-- the machine with this processor, from the start of an image
+abbrev pub machine_of : Cpu → Image → Subject MachineState
+machine_of cpu image = record { console = console_by (step cpu); start = start_state image }
 
 -- a text, from its function `start`
 abbrev pub text_of : Tree → Function → ℕ → Subject TextState

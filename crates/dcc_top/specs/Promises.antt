@@ -1,6 +1,7 @@
 -- What the program promises of each call: the text of `c`, runs, refusals, faults, and what is asked and told.
 use Rattle.std.specs.Prelude.{◌≡◌, ◌≢◌, ◌⊎◌, ℕ, List, [], ◌∷◌, Some, None}
 use Rattle.dcc_run.specs.End.{End}
+use Rattle.dcc_prog.specs.declared.cpu.Cpu.{Cpu}
 use Rattle.dcc_prog.specs.MzImage.{FormatFault, IsFirstFault}
 use Rattle.dcc_prog.specs.Refused.{IsAcceptedProgram, IsRefusedImage}
 use Rattle.dcc_top.specs.declared.reply.Reply.TheVariants.{Memory}
@@ -14,16 +15,17 @@ use Rattle.dcc_top.specs.Causes.{AsksPrefix, AsksAll}
 use Rattle.dcc_top.specs.Status.{IsOneOf, end_status}
 use Rattle.dcc_top.specs.Status as exit
 
--- `c` writes a text that does what the executable does, and writes it wherever nothing in the program is refused.
+-- `c` writes a text that does what the executable does on the processor of the words, and writes it wherever nothing in
+-- the program is refused.
 pub record KeepsText (call : Call) : Type 0 where
-  pub text : (name : List ℕ)
-      → call.job ≡ Some (Decompile name)
+  pub text : (name : List ℕ) (cpu : Cpu)
+      → call.job ≡ Some (Decompile name cpu)
       → call.status ≡ exit.done
-      → HasText call.shelf.files name call.output.taken.before call.output.taken.after
-  pub text_always : (name file : List ℕ)
-      → call.job ≡ Some (Decompile name)
+      → HasText cpu call.shelf.files name call.output.taken.before call.output.taken.after
+  pub text_always : (name file : List ℕ) (cpu : Cpu)
+      → call.job ≡ Some (Decompile name cpu)
       → Names call file
-      → OfImages file IsAcceptedProgram
+      → OfImages file (IsAcceptedProgram cpu)
       → IsOneOf call.status (exit.done ∷ exit.faults)
 
 -- What `run` and `runc` put out and take, and how the run has ended, are those of the file.
@@ -53,10 +55,10 @@ pub record KeepsRefusals (call : Call) : Type 0 where
       → IsOneOf call.status (exit.format ∷ exit.faults)
   -- the program is refused: for a construct, for a count, or for an instruction that is not built yet
   pub refused : IsOneOf call.status exit.refusals → HasRefusal call
-  pub refused_always : (name file : List ℕ)
-      → call.job ≡ Some (Decompile name)
+  pub refused_always : (name file : List ℕ) (cpu : Cpu)
+      → call.job ≡ Some (Decompile name cpu)
       → Names call file
-      → OfImages file IsRefusedImage
+      → OfImages file (IsRefusedImage cpu)
       → IsOneOf call.status (exit.construct ∷ (exit.limit ∷ (exit.not_yet ∷ exit.faults)))
   -- the text is refused: no tree stands for it, or it is too long
   pub text_fault : call.status ≡ exit.text_fault → HasTextFault call

@@ -7,17 +7,19 @@ use Rattle.std.specs.Option.{option_map, option_and_then}
 use Rattle.std.specs.Char.{is_ascii_digit}
 use Rattle.std.specs.Str.{bytes_eq}
 use Rattle.std.specs.Str.Parse.{digits_value}
+use Rattle.dcc_prog.specs.declared.cpu.Cpu.{Cpu}
+use Rattle.dcc_prog.specs.declared.cpu.Cpu.TheVariants.{I8086, I186}
 use Rattle.dcc_top.specs.declared.words.Command.{Command}
 use Rattle.dcc_top.specs.declared.words.Command.TheVariants.{C, Run, RunC}
 use Rattle.dcc_top.specs.declared.words.OptionName.{OptionName}
-use Rattle.dcc_top.specs.declared.words.OptionName.TheVariants.{Steps, Fill}
+use Rattle.dcc_top.specs.declared.words.OptionName.TheVariants.{Steps, Fill, Cpu as CpuOption}
 
 -- what the program is to do
 pub data Job : Type 0 where
-  -- write the text of the executable with this name
-  Decompile : List ℕ → Job
-  -- run the executable with this name, for at most so many steps
-  Execute : List ℕ → ℕ → Job
+  -- write the text of the executable with this name, for this processor
+  Decompile : List ℕ → Cpu → Job
+  -- run the executable with this name, for at most so many steps, on this processor
+  Execute : List ℕ → ℕ → Cpu → Job
   -- run the text with this name, for at most so many steps, with this fill
   ExecuteText : List ℕ → ℕ → ℕ → Job
 
@@ -31,6 +33,7 @@ command_word RunC = codes "runc"
 abbrev pub option_word : OptionName → List ℕ
 option_word Steps = codes "--steps"
 option_word Fill = codes "--fill"
+option_word CpuOption = codes "--cpu"
 
 -- The words after the command are of three sorts: positional words in their order, options, and the first `--` that
 -- isn't an option's value, after which every word is positional. These are the positional words, and the value of each
@@ -39,10 +42,11 @@ pub record Parts : Type 0 where
   pub positional : List (List ℕ)
   pub steps : Option (List ℕ)
   pub fill : Option (List ℕ)
+  pub cpu : Option (List ℕ)
 
 -- positional words alone
 abbrev pub only_positional : List (List ℕ) → Parts
-only_positional words = record { positional = words; steps = None; fill = None }
+only_positional words = record { positional = words; steps = None; fill = None; cpu = None }
 
 -- one more positional word in front
 abbrev pub with_word : List ℕ → Parts → Parts
@@ -52,11 +56,13 @@ with_word word parts = record parts { positional = word ∷ parts.positional }
 abbrev pub value_in : OptionName → Parts → Option (List ℕ)
 value_in Steps parts = parts.steps
 value_in Fill parts = parts.fill
+value_in CpuOption parts = parts.cpu
 
 -- the same with this value of the option
 abbrev pub set_value : OptionName → List ℕ → Parts → Parts
 set_value Steps value parts = record parts { steps = Some value }
 set_value Fill value parts = record parts { fill = Some value }
+set_value CpuOption value parts = record parts { cpu = Some value }
 
 -- the word doesn't begin with `-`, byte 45, or is `-` alone
 abbrev pub is_positional : List ℕ → Bool
@@ -102,17 +108,29 @@ abbrev pub fill_of : Option (List ℕ) → Option ℕ
 fill_of None = Some 0
 fill_of (Some word) = number_of 5 65535 word
 
+-- the processor of a name
+abbrev pub cpu_named : List ℕ → Option Cpu
+cpu_named word =
+    if bytes_eq word (codes "8086") then Some I8086 else if bytes_eq word (codes "186") then Some I186 else None
+
+-- the processor that runs an executable: 8086 or 186, or 8086 where the option doesn't stand
+abbrev pub cpu_of : Option (List ℕ) → Option Cpu
+cpu_of None = Some I8086
+cpu_of (Some word) = cpu_named word
+
 -- the words ask for this job
 pub data AskFor : List (List ℕ) → Job → Type 0 where
-  decompile : {words : List (List ℕ)} {file : List ℕ}
-      → HasParts words (only_positional (file ∷ []))
-      → AskFor (command_word C ∷ words) (Decompile file)
-  execute : {words : List (List ℕ)} {file : List ℕ} {value : Option (List ℕ)} {steps : ℕ}
-      → HasParts words (record { positional = file ∷ []; steps = value; fill = None })
+  decompile : {words : List (List ℕ)} {file : List ℕ} {value : Option (List ℕ)} {cpu : Cpu}
+      → HasParts words (record { positional = file ∷ []; steps = None; fill = None; cpu = value })
+      → cpu_of value ≡ Some cpu
+      → AskFor (command_word C ∷ words) (Decompile file cpu)
+  execute : {words : List (List ℕ)} {file : List ℕ} {value other : Option (List ℕ)} {steps : ℕ} {cpu : Cpu}
+      → HasParts words (record { positional = file ∷ []; steps = value; fill = None; cpu = other })
       → steps_of value ≡ Some steps
-      → AskFor (command_word Run ∷ words) (Execute file steps)
+      → cpu_of other ≡ Some cpu
+      → AskFor (command_word Run ∷ words) (Execute file steps cpu)
   execute_text : {words : List (List ℕ)} {file : List ℕ} {value other : Option (List ℕ)} {steps fill : ℕ}
-      → HasParts words (record { positional = file ∷ []; steps = value; fill = other })
+      → HasParts words (record { positional = file ∷ []; steps = value; fill = other; cpu = None })
       → steps_of value ≡ Some steps
       → fill_of other ≡ Some fill
       → AskFor (command_word RunC ∷ words) (ExecuteText file steps fill)
@@ -134,6 +152,7 @@ abbrev pub option_of : List ℕ → Option OptionName
 option_of word =
     if bytes_eq word (codes "--steps") then Some Steps
     else if bytes_eq word (codes "--fill") then Some Fill
+    else if bytes_eq word (codes "--cpu") then Some CpuOption
     else None
 
 -- the command of this name
@@ -188,25 +207,32 @@ parts_after (Some name) (value ∷ words) = with_value name value (parts_after N
 abbrev pub parts_of : List (List ℕ) → Option Parts
 parts_of words = parts_after None words
 
+-- the job of `run` for a file
+abbrev pub run_job : List ℕ → Option (List ℕ) → Option (List ℕ) → Option Job
+run_job file value other =
+    option_and_then (λ steps. option_map (Execute file steps) (cpu_of other)) (steps_of value)
+
 -- the job of `runc` for a file
 abbrev pub text_job : List ℕ → Option (List ℕ) → Option (List ℕ) → Option Job
 text_job file value other =
     option_and_then (λ steps. option_map (ExecuteText file steps) (fill_of other)) (steps_of value)
 
--- the job of a command with these positional words, and these values of `--steps` and `--fill`
-abbrev pub job_for : Command → List (List ℕ) → Option (List ℕ) → Option (List ℕ) → Option Job
-job_for C (file ∷ []) None None = Some (Decompile file)
-job_for Run (file ∷ []) value None = option_map (Execute file) (steps_of value)
-job_for RunC (file ∷ []) value other = text_job file value other
-job_for _ _ _ _ = None
+-- the job of a command with these positional words, and these values of `--steps`, `--fill` and `--cpu`
+abbrev pub job_for : Command → List (List ℕ) → Option (List ℕ) → Option (List ℕ) → Option (List ℕ) → Option Job
+job_for C (file ∷ []) None None value = option_map (Decompile file) (cpu_of value)
+job_for Run (file ∷ []) value None other = run_job file value other
+job_for RunC (file ∷ []) value other None = text_job file value other
+job_for _ _ _ _ _ = None
+
+-- the same with all parts
+abbrev pub job_with : Command → Parts → Option Job
+job_with command parts = job_for command parts.positional parts.steps parts.fill parts.cpu
 
 -- the job of the words after the program's name, or none where they are no command
 unfoldable pub job_of : List (List ℕ) → Option Job
 job_of [] = None
 job_of (word ∷ words) =
-    option_and_then
-    (λ command. option_and_then (λ parts. job_for command parts.positional parts.steps parts.fill) (parts_of words))
-    (command_of word)
+    option_and_then (λ command. option_and_then (job_with command) (parts_of words)) (command_of word)
 
 -- a job is that of the words exactly where they ask for it
 abbrev pub AskForOneJob : Type 0
@@ -218,8 +244,8 @@ job_in words = job_of (map string_bytes words)
 
 -- the file that a job names
 abbrev pub name_of : Job → List ℕ
-name_of (Decompile file) = file
-name_of (Execute file steps) = file
+name_of (Decompile file cpu) = file
+name_of (Execute file steps cpu) = file
 name_of (ExecuteText file steps fill) = file
 
 abbrev pub file_of : Option Job → Option (List ℕ)
@@ -228,15 +254,15 @@ file_of job = option_map name_of job
 -- the job is to run an executable or a text
 abbrev pub IsExecution : Option Job → Type 0
 IsExecution None = ⊥
-IsExecution (Some (Decompile file)) = ⊥
-IsExecution (Some (Execute file steps)) = Unit {0}
+IsExecution (Some (Decompile file cpu)) = ⊥
+IsExecution (Some (Execute file steps cpu)) = Unit {0}
 IsExecution (Some (ExecuteText file steps fill)) = Unit {0}
 
 -- the file of the job is an executable
 abbrev pub LoadsImage : Option Job → Type 0
 LoadsImage None = ⊥
-LoadsImage (Some (Decompile file)) = Unit {0}
-LoadsImage (Some (Execute file steps)) = Unit {0}
+LoadsImage (Some (Decompile file cpu)) = Unit {0}
+LoadsImage (Some (Execute file steps cpu)) = Unit {0}
 LoadsImage (Some (ExecuteText file steps fill)) = ⊥
 
 -- the greatest length of an executable that is fetched, and that of a text, in bytes
@@ -247,8 +273,8 @@ abbrev pub greatest_text : ℕ
 greatest_text = 67108864
 
 abbrev pub greatest_of : Job → ℕ
-greatest_of (Decompile file) = greatest_file
-greatest_of (Execute file steps) = greatest_file
+greatest_of (Decompile file cpu) = greatest_file
+greatest_of (Execute file steps cpu) = greatest_file
 greatest_of (ExecuteText file steps fill) = greatest_text
 
 -- what a job asks the shelf for: names, each with the greatest number of bytes

@@ -14,9 +14,9 @@ use Rattle.dcc_top.specs.Words.{Parts}
 
 -- the job that a value of the program names
 abbrev pub job_read : ReadJob → Job
-job_read (ReadDecompile file) = Decompile file.now
-job_read (ReadExecute file steps) = Execute file.now steps
-job_read (ReadExecuteText file steps fill) = ExecuteText file.now steps fill
+job_read (ReadDecompile file cpu) = Decompile file.now cpu
+job_read (ReadExecute run) = Execute run.file.now run.steps run.cpu
+job_read (ReadExecuteText run) = ExecuteText run.file.now run.steps run.fill
 
 abbrev pub kind_read : ReadKind → Kind
 kind_read ReadPositional = Positional
@@ -31,6 +31,7 @@ parts_read found = record {
   positional = option_to_list (option_copied found.file);
   steps = option_copied found.steps;
   fill = option_copied found.fill;
+  cpu = option_copied found.cpu;
 }
 
 -- there are two positional words or more, which no command takes

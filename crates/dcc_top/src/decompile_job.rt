@@ -14,18 +14,18 @@ use crate::reply::Reply;
 use dcc_io::{Failed, Shelf, Sink};
 use dcc_pipe::decompile;
 use dcc_print::{PrintFault, print};
-use dcc_prog::Image;
+use dcc_prog::{Cpu, Image};
 use std::alloc::Global;
 
-// Writes the text of the image, or answers why there is none. The error is a failed write.
-fn write_text<O: Sink>(alloc: Global, image: &Image, out: &mut O) -> Result<Reply, Failed>
+// Writes the text of the image for the processor, or answers why there is none. The error is a failed write.
+fn write_text<O: Sink>(alloc: Global, image: &Image, cpu: Cpu, out: &mut O) -> Result<Reply, Failed>
     requires { IsLoaded image.now }
-    ensures answers { IfOk result (Answers (AllowsImage image.now) (O.taken out.old) (O.taken out.new)) }
-    ensures cut_short { OnErr result (CutsShort (IsTextOfImage image.now) (O.taken out.old) (O.taken out.new)) }
+    ensures answers { IfOk result (Answers (AllowsImage cpu image.now) (O.taken out.old) (O.taken out.new)) }
+    ensures cut_short { OnErr result (CutsShort (IsTextOfImage cpu image.now) (O.taken out.old) (O.taken out.new)) }
     ensures output_faults { O.faults out.old ≤ O.faults out.new }
     ensures write_failed { OnErr result (Rose (O.faults out.old) (O.faults out.new)) }
 {
-    let unit = match decompile(alloc, image) {
+    let unit = match decompile(alloc, image, cpu) {
         Ok(unit) => unit,
         Err(refusal) => return Ok(Reply::from(refusal)),
     };
@@ -36,21 +36,22 @@ fn write_text<O: Sink>(alloc: Global, image: &Image, out: &mut O) -> Result<Repl
     }
 }
 
-/// Writes the text of the executable of this name, or answers why there is none; whatever the input is, none of it is
-/// read. The error is a failed write.
+/// Writes the text of the executable of this name for the processor, or answers why there is none; whatever the input
+/// is, none of it is read. The error is a failed write.
 pub fn text_reply<H: Shelf, O: Sink>(
     alloc: Global,
     name: &str,
+    cpu: Cpu,
     shelf: &mut H,
     out: &mut O,
 ) -> Result<Reply, Failed>
-    ensures { (left : Option (List ℕ)) (faults : ℕ) → Replies (Some (Decompile name.now))
+    ensures { (left : Option (List ℕ)) (faults : ℕ) → Replies (Some (Decompile name.now cpu))
         (shelf_change H.files H.asked H.absences H.faults shelf.old shelf.new)
         (unread left faults)
         (sink_change O.taken O.faults out.old out.new) result }
 {
     match fetch_image(alloc, name, shelf) {
-        Ok(image) => write_text(alloc, &image, out),
+        Ok(image) => write_text(alloc, &image, cpu, out),
         Err(reply) => Ok(reply),
     }
 }

@@ -10,24 +10,25 @@ ghost use Rattle.dcc_top.specs.Execution.{machine_of, Finishes, IsCutRun};
 
 use crate::reply::Reply;
 use dcc_io::{Failed, Sink, Source};
-use dcc_prog::Image;
+use dcc_prog::{Cpu, Image};
 use dcc_step::{Machine, Stepped};
 use std::alloc::Global;
 
-/// Runs the image for at most so many steps, and answers how that finished. The error is a failed write of
-/// what the program puts out.
+/// Runs the image on the processor for at most so many steps, and answers how that finished. The error is a failed
+/// write of what the program puts out.
 pub fn execute<I: Source, O: Sink>(
     alloc: Global,
     image: &Image,
+    cpu: Cpu,
     steps: u64,
     input: &mut I,
     out: &mut O,
 ) -> Result<Reply, Failed>
     requires { IsLoaded image.now }
     ensures ran { IfOk result (Answers
-        (Finishes (machine_of image.now) steps (I.left input.old) (I.left input.new))
+        (Finishes (machine_of cpu image.now) steps (I.left input.old) (I.left input.new))
         (O.taken out.old) (O.taken out.new)) }
-    ensures broke_off { OnErr result (CutsShort (IsCutRun (machine_of image.now) steps
+    ensures broke_off { OnErr result (CutsShort (IsCutRun (machine_of cpu image.now) steps
         (change I.left input.old input.new) (change O.taken out.old out.new))
         (O.taken out.old) (O.taken out.new)) }
 
@@ -37,7 +38,7 @@ pub fn execute<I: Source, O: Sink>(
         → Rose (I.faults input.old) (I.faults input.new)) }
     ensures write_failed { OnErr result (Rose (O.faults out.old) (O.faults out.new)) }
 {
-    let Ok(mut machine) = Machine::new(alloc, image) else {
+    let Ok(mut machine) = Machine::new(alloc, image, cpu) else {
         return Ok(Reply::Memory);
     };
     match machine.run(input, out, steps) {

@@ -12,47 +12,44 @@ use crate::execute::execute;
 use crate::fetch::{fetch_image, fetch_unit};
 use crate::reply::Reply;
 use crate::text_job::execute_unit;
-use crate::words::{Job, job_of};
+use crate::words::{Execution, Job, TextExecution, job_of};
 use dcc_io::{Failed, Shelf, Sink, Source};
 use std::alloc::Global;
 
-// The answer of `run` for the file of this name. The error is a failed write of what the program puts out.
+// The answer of `run`. The error is a failed write of what the program puts out.
 fn run_reply<H: Shelf, I: Source, O: Sink>(
     alloc: Global,
-    name: &str,
-    steps: u64,
+    run: Execution<'_>,
     shelf: &mut H,
     input: &mut I,
     out: &mut O,
 ) -> Result<Reply, Failed>
-    ensures { Replies (Some (Execute name.now steps))
+    ensures { Replies (Some (Execute run.entry.file.now run.entry.steps run.entry.cpu))
         (shelf_change H.files H.asked H.absences H.faults shelf.old shelf.new)
         (source_change I.left I.faults input.old input.new)
         (sink_change O.taken O.faults out.old out.new) result }
 {
-    match fetch_image(alloc, name, shelf) {
-        Ok(image) => execute(alloc, &image, steps, input, out),
+    match fetch_image(alloc, run.file, shelf) {
+        Ok(image) => execute(alloc, &image, run.cpu, run.steps, input, out),
         Err(reply) => Ok(reply),
     }
 }
 
-// The answer of `runc` for the text of this name. The error is a failed write of what the text puts out.
+// The answer of `runc`. The error is a failed write of what the text puts out.
 fn runc_reply<H: Shelf, I: Source, O: Sink>(
     alloc: Global,
-    name: &str,
-    steps: u64,
-    fill: u16,
+    run: TextExecution<'_>,
     shelf: &mut H,
     input: &mut I,
     out: &mut O,
 ) -> Result<Reply, Failed>
-    ensures { Replies (Some (ExecuteText name.now steps fill))
+    ensures { Replies (Some (ExecuteText run.entry.file.now run.entry.steps run.entry.fill))
         (shelf_change H.files H.asked H.absences H.faults shelf.old shelf.new)
         (source_change I.left I.faults input.old input.new)
         (sink_change O.taken O.faults out.old out.new) result }
 {
-    match fetch_unit(alloc, name, shelf) {
-        Ok(unit) => execute_unit(alloc, &unit, steps, fill, input, out),
+    match fetch_unit(alloc, run.file, shelf) {
+        Ok(unit) => execute_unit(alloc, &unit, run.steps, run.fill, input, out),
         Err(reply) => Ok(reply),
     }
 }
@@ -73,19 +70,17 @@ fn reply_for<H: Shelf, I: Source, O: Sink>(
 {
     match job_of(words) {
         None => Ok(Reply::Usage),
-        Some(Job::Decompile(name)) => text_reply(alloc, name, shelf, out),
-        Some(Job::Execute { file, steps }) => run_reply(alloc, file, steps, shelf, input, out),
-        Some(Job::ExecuteText { file, steps, fill }) => {
-            runc_reply(alloc, file, steps, fill, shelf, input, out)
-        }
+        Some(Job::Decompile { file, cpu }) => text_reply(alloc, file, cpu, shelf, out),
+        Some(Job::Execute(run)) => run_reply(alloc, run, shelf, input, out),
+        Some(Job::ExecuteText(run)) => runc_reply(alloc, run, shelf, input, out),
     }
 }
 
 /// Does what the words after the program's name say, and answers the exit status.
 ///
 /// `c FILE` writes the text of the executable FILE to `out`. `run FILE` runs it, on the input and to the output, for at
-/// most the steps of `--steps N`. `runc FILE` runs the text FILE so, with the fill of `--fill N`. No other words are a
-/// command.
+/// most the steps of `--steps N`. Both take the program as one of the processor of `--cpu CPU`. `runc FILE` runs the
+/// text FILE so, with the fill of `--fill N`. No other words are a command.
 ///
 /// Statuses: 0 where the text is written or the run has ended by its exit; 2 usage, 3 no file, 4 the file could not
 /// be read, 5 the input could not, 6 a write failed, 7 memory ran out, 8 the file is no executable, 9 a construct

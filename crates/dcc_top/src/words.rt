@@ -10,25 +10,42 @@ ghost use Rattle.std.specs.Char.{is_ascii_digit};
 ghost use Rattle.std.specs.List.{list_all};
 ghost use Rattle.std.specs.Option.{option_copied};
 ghost use Rattle.dcc_top.specs.Words.{AskForOneJob, Parts, command_of, is_number, is_positional, job_of, kind_of};
-ghost use Rattle.dcc_top.specs.Words.{number_of, option_of, parts_of, set_value, value_in, steps_of, fill_of};
+ghost use Rattle.dcc_top.specs.Words.{number_of, option_of, parts_of, set_value, value_in, steps_of, fill_of, cpu_of};
 ghost use Rattle.dcc_top.specs.WordsRead.{HasTwoFiles, job_read, kind_read, parts_read};
+
+use dcc_prog::Cpu;
+
+/// The run of an executable.
+#[derive(Clone, Copy, PartialEq, Eq, Debug)]
+pub struct Execution<'a> {
+    /// The executable's name.
+    pub file: &'a str,
+    /// The most steps of the run.
+    pub steps: u64,
+    /// The processor that makes them.
+    pub cpu: Cpu,
+}
+
+/// The run of a text.
+#[derive(Clone, Copy, PartialEq, Eq, Debug)]
+pub struct TextExecution<'a> {
+    /// The text's name.
+    pub file: &'a str,
+    /// The most steps of the run.
+    pub steps: u64,
+    /// What variables and the stack hold before they have a value.
+    pub fill: u16,
+}
 
 /// What the program is to do.
 #[derive(Clone, Copy, PartialEq, Eq, Debug)]
 pub enum Job<'a> {
-    /// Write the text of the executable of this name.
-    Decompile(&'a str),
-    /// Run the executable of this name for at most so many steps.
-    Execute {
-        file: &'a str,
-        steps: u64,
-    },
-    /// Run the text of this name for at most so many steps, with this fill.
-    ExecuteText {
-        file: &'a str,
-        steps: u64,
-        fill: u16,
-    },
+    /// Write the text of the executable of this name, for this processor.
+    Decompile { file: &'a str, cpu: Cpu },
+    /// Run an executable.
+    Execute(Execution<'a>),
+    /// Run a text.
+    ExecuteText(TextExecution<'a>),
 }
 
 /// A command, by its first word.
@@ -49,6 +66,8 @@ pub enum OptionName {
     Steps,
     /// `--fill`
     Fill,
+    /// `--cpu`
+    Cpu,
 }
 
 /// What a word is that isn't an option's value and stands before any `--`.
@@ -75,6 +94,8 @@ pub struct Found<'a> {
     pub steps: Option<&'a str>,
     /// What `--fill` gives.
     pub fill: Option<&'a str>,
+    /// What `--cpu` gives.
+    pub cpu: Option<&'a str>,
 }
 
 // The steps of a run where no option gives them.
@@ -116,6 +137,8 @@ fn option_of(word: &str) -> Option<OptionName>
         Some(OptionName::Steps)
     } else if word == "--fill" {
         Some(OptionName::Fill)
+    } else if word == "--cpu" {
+        Some(OptionName::Cpu)
     } else {
         None
     }
@@ -203,6 +226,17 @@ fn fill_of(value: Option<&str>) -> Option<u16>
     }
 }
 
+// The processor that runs an executable.
+fn cpu_of(value: Option<&str>) -> Option<Cpu>
+    ensures { result ≡ cpu_of (option_copied value.entry) }
+{
+    match value {
+        Some("8086") | None => Some(Cpu::I8086),
+        Some("186") => Some(Cpu::I186),
+        Some(_) => None,
+    }
+}
+
 impl<'a> Found<'a> {
     // One more positional word: no command takes two.
     fn with_word(self, word: &'a str) -> Option<Found<'a>>
@@ -219,28 +253,38 @@ impl<'a> Found<'a> {
         }
     }
 
+    // The value of an option, where it stands.
+    fn value(self, option: OptionName) -> Option<&'a str>
+        ensures { option_copied result ≡ value_in option (parts_read self.entry) }
+    {
+        match option {
+            OptionName::Steps => self.steps,
+            OptionName::Fill => self.fill,
+            OptionName::Cpu => self.cpu,
+        }
+    }
+
     // The value of one more option, which may stand once.
     fn with_value(self, option: OptionName, value: &'a str) -> Option<Found<'a>>
         ensures { MatchOption result (IsSome (value_in option (parts_read self.entry)))
             (λ found. (value_in option (parts_read self.entry) ≡ None)
             × (parts_read found ≡ set_value option value.now (parts_read self.entry))) }
     {
-        match option {
-            OptionName::Steps => match self.steps {
-                Some(_) => None,
-                None => Some(Found {
-                    steps: Some(value),
-                    ..self
-                }),
-            },
-            OptionName::Fill => match self.fill {
-                Some(_) => None,
-                None => Some(Found {
-                    fill: Some(value),
-                    ..self
-                }),
-            },
+        if self.value(option).is_some() {
+            return None;
         }
+        let value = Some(value);
+        Some(match option {
+            OptionName::Steps => Found {
+                steps: value,
+                ..self
+            },
+            OptionName::Fill => Found {
+                fill: value,
+                ..self
+            },
+            OptionName::Cpu => Found { cpu: value, ..self },
+        })
     }
 
     // The words after `--`, all positional.
@@ -267,6 +311,7 @@ fn found_in(words: &[String]) -> Option<Found<'_>>
         file: None,
         steps: None,
         fill: None,
+        cpu: None,
     };
     let mut left = words;
     while let Some((word, rest)) = left.split_first() {
@@ -290,8 +335,9 @@ fn found_in(words: &[String]) -> Option<Found<'_>>
 /// The job of the words after the program's name; none where the words are no command.
 ///
 /// `c FILE` writes a text. `run FILE` runs an executable, for at most the steps of `--steps N`: 0 to 1000000000 in
-/// at most 10 digits, and 1000000 where the option doesn't stand. `runc FILE` runs a text so, with the fill of
-/// `--fill N`: 0 to 65535 in at most 5 digits, and 0 where the option doesn't stand.
+/// at most 10 digits, and 1000000 where the option doesn't stand. Both are for the processor of `--cpu CPU`: 8086 or
+/// 186, and 8086 where the option doesn't stand. `runc FILE` runs a text, for at most the steps of `--steps N` and with
+/// the fill of `--fill N`: 0 to 65535 in at most 5 digits, and 0 where the option doesn't stand.
 #[tactic(auto, unfolding(crate::specs::Words::job_of))]
 pub fn job_of(words: &[String]) -> Option<Job<'_>>
     ensures { MatchOption result (job_of (map string_bytes words.now) ≡ None)
@@ -300,17 +346,22 @@ pub fn job_of(words: &[String]) -> Option<Job<'_>>
     let (command, rest) = words.split_first()?;
     let found = found_in(rest)?;
     let file = found.file?;
-    match (command_of(command.as_str())?, found.steps, found.fill) {
-        (Command::C, None, None) => Some(Job::Decompile(file)),
-        (Command::Run, steps, None) => Some(Job::Execute {
+    let command = command_of(command.as_str())?;
+    match (command, found.steps, found.fill, found.cpu) {
+        (Command::C, None, None, cpu) => Some(Job::Decompile {
+            file,
+            cpu: cpu_of(cpu)?,
+        }),
+        (Command::Run, steps, None, cpu) => Some(Job::Execute(Execution {
             file,
             steps: steps_of(steps)?,
-        }),
-        (Command::RunC, steps, fill) => Some(Job::ExecuteText {
+            cpu: cpu_of(cpu)?,
+        })),
+        (Command::RunC, steps, fill, None) => Some(Job::ExecuteText(TextExecution {
             file,
             steps: steps_of(steps)?,
             fill: fill_of(fill)?,
-        }),
+        })),
         _ => None,
     }
 }

@@ -11,21 +11,23 @@ pub returns-in-Ok : goal.returns-in-Ok
 returns-in-Ok g c = λ left faults.
     let files = g.H.Shelf.files c.args.shelf.now in
     let name = c.args.name.now in
+    let cpu = c.args.cpu in
     let image = c.in-Ok.image in
     let w = c.write_text.ensures in
-    replies-fetched (Decompile name) _ _ _ c.write_text.result image c.in-Ok.ensures.asks
-    (answer-of_image files name left image _ _ c.write_text.result c.in-Ok.ensures.image w.answers)
-    (cut-of_image files name left image _ c.write_text.result c.in-Ok.ensures.image w.cut_short)
-    (never (AllowsImage image) (0 ∷ refusals) (image-status image) NoFile refl _ _ _ c.write_text.result w.answers)
-    (never (AllowsImage image) (0 ∷ refusals) (image-status image) FileFault refl _ _ _ c.write_text.result w.answers)
-    (never (AllowsImage image) (0 ∷ refusals) (image-status image) InputFault refl _ _ _ c.write_text.result w.answers)
+    replies-fetched (Decompile name cpu) _ _ _ c.write_text.result image c.in-Ok.ensures.asks
+    (answer-of_image cpu files name left image _ _ c.write_text.result c.in-Ok.ensures.image w.answers)
+    (cut-of_image cpu files name left image _ c.write_text.result c.in-Ok.ensures.image w.cut_short)
+    (never (AllowsImage cpu image) (0 ∷ refusals) (image-status cpu image) NoFile refl _ _ _ c.write_text.result w.answers)
+    (never (AllowsImage cpu image) (0 ∷ refusals) (image-status cpu image) FileFault refl _ _ _ c.write_text.result w.answers)
+    (never (AllowsImage cpu image) (0 ∷ refusals) (image-status cpu image) InputFault refl _ _ _ c.write_text.result w.answers)
     w.output_faults w.write_failed
 
 pub returns-in-Err : goal.returns-in-Err
 returns-in-Err g c = λ left faults.
     let files = g.H.Shelf.files c.args.shelf.now in
     let name = c.args.name.now in
+    let cpu = c.args.cpu in
     let reply = c.in-Err.reply in
-    replies-unfetched (Decompile name) _ left faults _ _ reply c.in-Err.ensures.asks
+    replies-unfetched (Decompile name cpu) _ left faults _ _ reply c.in-Err.ensures.asks
     (for_text (no_image c.in-Err.ensures.refused) refl)
     (other-than reply InputFault image_faults refl (no_image-status files name reply c.in-Err.ensures.refused))

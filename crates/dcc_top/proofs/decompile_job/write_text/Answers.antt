@@ -10,8 +10,8 @@ use Rattle.dcc_top.proofs.decompile_job.write_text.Goals as goal
 
 pub returns-in-Err-clause-answers : goal.returns-in-Err-clause-answers
 returns-in-Err-clause-answers g c =
-    answers-nothing (AllowsImage c.args.image.now) _ c.from.result
-    (subst (λ reply. AllowsImage c.args.image.now reply _) (sym c.from.ensures) (image_refused c.in-Err.refusal c.in-Err.ensures.refused))
+    answers-nothing (AllowsImage c.args.cpu c.args.image.now) _ c.from.result
+    (subst (λ reply. AllowsImage c.args.cpu c.args.image.now reply _) (sym c.from.ensures) (image_refused c.in-Err.refusal c.in-Err.ensures.refused))
 
 pub returns-in-Ok-print-clause-answers : goal.returns-in-Ok-print-clause-answers
 returns-in-Ok-print-clause-answers g c = record {
@@ -22,7 +22,7 @@ returns-in-Ok-print-clause-answers g c = record {
 
 pub returns-clause-answers : goal.returns-clause-answers
 returns-clause-answers g c =
-    answers-unchanged (AllowsImage c.args.image.now) _ _ Memory (ap g.O.Sink.taken (rw c.in-Err-Memory.field-0-is at c.in-Err-Memory.ensures.memory refl)) (image_refused MemoryRefused no_memory)
+    answers-unchanged (AllowsImage c.args.cpu c.args.image.now) _ _ Memory (ap g.O.Sink.taken (rw c.in-Err-Memory.field-0-is at c.in-Err-Memory.ensures.memory refl)) (image_refused MemoryRefused no_memory)
 
 pub returns-in-Err-Failed-clause-cut_short : goal.returns-in-Err-Failed-clause-cut_short
 returns-in-Err-Failed-clause-cut_short g c = record {

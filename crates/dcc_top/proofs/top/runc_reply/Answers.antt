@@ -15,18 +15,18 @@ pub execute_unit-requires : goal.execute_unit-requires
 execute_unit-requires g c = record { text = c.in-Ok.ensures.unit.file; stands = c.in-Ok.ensures.unit.holds.stands }
 
 -- the statuses of a run of the unit
-run : (g : given.Over) (c : goal.After-drop-unit-in-Ok g) → (reply : Reply) (output : List ℕ) → RunsUnit (tree_of c.in-Ok.unit) c.args.steps c.args.fill (g.I.Source.left c.args.input.now)
+run : (g : given.Over) (c : goal.After-drop-unit-in-Ok g) → (reply : Reply) (output : List ℕ) → RunsUnit (tree_of c.in-Ok.unit) c.args.run.steps c.args.run.fill (g.I.Source.left c.args.input.now)
     (g.I.Source.left c.execute_unit.new.input) reply output → IsOneOf (status_of reply) run_statuses
 run g c reply output h =
     let read = c.in-Ok.ensures.unit in
-    text_run-status _ c.args.steps _ _ reply output (h read.file read.holds.stands)
+    text_run-status _ c.args.run.steps _ _ reply output (h read.file read.holds.stands)
 
 pub returns-in-Ok : goal.returns-in-Ok
 returns-in-Ok g c =
     let files = g.H.Shelf.files c.args.shelf.now in
-    let name = c.args.name.now in
-    let steps = c.args.steps in
-    let fill = c.args.fill in
+    let name = c.args.run.file.now in
+    let steps = c.args.run.steps in
+    let fill = c.args.run.fill in
     let tree = tree_of c.in-Ok.unit in
     let e = c.execute_unit.ensures in
     replies-fetched (ExecuteText name steps fill) _ _ _ c.execute_unit.result c.in-Ok.unit c.in-Ok.ensures.asks
@@ -39,8 +39,8 @@ returns-in-Ok g c =
 pub returns-in-Err : goal.returns-in-Err
 returns-in-Err g c =
     let files = g.H.Shelf.files c.args.shelf.now in
-    let name = c.args.name.now in
+    let name = c.args.run.file.now in
     let reply = c.in-Err.reply in
-    replies-unfetched (ExecuteText name c.args.steps c.args.fill) _ _ _ _ _ reply c.in-Err.ensures.asks
+    replies-unfetched (ExecuteText name c.args.run.steps c.args.run.fill) _ _ _ _ _ reply c.in-Err.ensures.asks
     (ran_no_text c.in-Err.ensures.refused refl)
     (other-than reply InputFault text_faults refl (no_unit-status files name reply c.in-Err.ensures.refused))
