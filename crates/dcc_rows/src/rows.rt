@@ -5,6 +5,7 @@ mod answers;
 mod both;
 mod files;
 mod lifted;
+mod processors;
 mod runs;
 mod texts;
 mod words;

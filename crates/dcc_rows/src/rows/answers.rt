@@ -15,7 +15,7 @@ fn check_refused(rt: &impl Abort, given: &Answer, status: u8, line: &str) {
 // Words, the number of the fetch that fails, the status and the line.
 type WordsRow = (&'static [&'static str], u64, u8, &'static str);
 
-static WORDS: [WordsRow; 15] = [
+static WORDS: [WordsRow; 19] = [
     (&[], 0, 2, "dcc: usage\n"),
     (&["c"], 0, 2, "dcc: usage\n"),
     (&["help"], 0, 2, "dcc: usage\n"),
@@ -36,6 +36,15 @@ static WORDS: [WordsRow; 15] = [
     (&["runc", "ROW2.C"], 0, 3, "dcc: no file\n"),
     (&["runc", "ROW1.EXE"], 1, 4, "dcc: file fault\n"),
     (&["run", "ROW1.EXE", "--fill", "1"], 0, 2, "dcc: usage\n"),
+    (&["c", "ROW1.EXE", "--cpu", "286"], 0, 2, "dcc: usage\n"),
+    (
+        &["run", "ROW1.EXE", "--cpu=186", "--cpu", "186"],
+        0,
+        2,
+        "dcc: usage\n",
+    ),
+    (&["run", "ROW1.EXE", "--cpu"], 0, 2, "dcc: usage\n"),
+    (&["runc", "--cpu", "186", "ROW1.EXE"], 0, 2, "dcc: usage\n"),
 ];
 
 fn words() -> &'static [WordsRow] {
@@ -119,42 +128,76 @@ static REFUSALS: [RefusalRow; 21] = [
         9,
         "dcc: construct 2 at 0010\n",
     ),
+    // SP or BP in a form that no frame has.
+    (
+        b"\xBD\x05\x00\xB8\x00\x4C\xCD\x21",
+        9,
+        "dcc: construct 2 at 0005\n",
+    ),
+    (b"\xB8\x00\x4C\x55\xCD\x21", 9, "dcc: construct 2 at 0008\n"),
     // An indirect jump, near and far, and an indirect call.
     (b"\xFF\x27", 9, "dcc: construct 3 at 0005\n"),
     (b"\xFF\x2F", 9, "dcc: construct 3 at 0005\n"),
     (b"\xFF\x17", 9, "dcc: construct 4 at 0005\n"),
     // INT 21h where AH is not known, though it is 4Ch; with a number that no call has; and with two numbers.
     (
-        b"\xB8\x00\x4C\x05\x01\x00\xCD\x21",
+        b"\xB8\x00\x4C\x05\x01\x00\xCD\x21\xB4\x4C\xCD\x21",
         9,
         "dcc: construct 5 at 000B\n",
     ),
-    (b"\xB4\x30\xCD\x21", 9, "dcc: construct 5 at 0007\n"),
+    (
+        b"\xB4\x30\xCD\x21\xB4\x4C\xCD\x21",
+        9,
+        "dcc: construct 5 at 0007\n",
+    ),
     (
         b"\xB4\x02\x74\x02\xB4\x08\xCD\x21\xB4\x4C\xCD\x21",
         9,
         "dcc: construct 5 at 000B\n",
     ),
-    // Memory, SP and BP.
-    (b"\xA1\x00\x00", 12, "dcc: not yet at 0005\n"),
+    // A return from the entry procedure.
+    (b"\xC3", 9, "dcc: construct 11 at 0005\n"),
+    // A division whose upper half is not that of the sign.
     (
-        b"\xBD\x05\x00\xB8\x00\x4C\xCD\x21",
+        b"\xB8\x01\x00\x2B\xD2\xF7\xF9\xB8\x00\x4C\xCD\x21",
+        9,
+        "dcc: construct 12 at 000A\n",
+    ),
+    // What is not built: memory, addresses and the stack.
+    (
+        b"\xA1\x00\x00\xB8\x00\x4C\xCD\x21",
         12,
         "dcc: not yet at 0005\n",
     ),
-    (b"\xB8\x00\x4C\x55\xCD\x21", 12, "dcc: not yet at 0008\n"),
-    (b"\xB9\x00\x01\x89\xEE", 12, "dcc: not yet at 0008\n"),
-    (b"\x8D\x07", 12, "dcc: not yet at 0005\n"),
-    (b"\xD7", 12, "dcc: not yet at 0005\n"),
-    // Pushes and pops, calls and returns.
-    (b"\x50\xE8\x05\x00", 12, "dcc: not yet at 0005\n"),
-    (b"\x58", 12, "dcc: not yet at 0005\n"),
-    (b"\xE8\x00\x00", 12, "dcc: not yet at 0005\n"),
-    (b"\xC3", 12, "dcc: not yet at 0005\n"),
-    // A division.
-    (b"\xB8\x01\x00\x99\xF7\xF9", 12, "dcc: not yet at 0009\n"),
-    // A written string.
-    (b"\xB4\x09\xCD\x21", 12, "dcc: not yet at 0007\n"),
+    (
+        b"\x8D\x07\xB8\x00\x4C\xCD\x21",
+        12,
+        "dcc: not yet at 0005\n",
+    ),
+    (b"\xD7\xB8\x00\x4C\xCD\x21", 12, "dcc: not yet at 0005\n"),
+    (b"\x50\xB8\x00\x4C\xCD\x21", 12, "dcc: not yet at 0005\n"),
+    // A call, a division and a written string.
+    (
+        b"\xE8\x05\x00\xB8\x00\x4C\xCD\x21\xC3",
+        12,
+        "dcc: not yet at 0005\n",
+    ),
+    (
+        b"\xB8\x01\x00\x99\xF7\xF9\xB8\x00\x4C\xCD\x21",
+        12,
+        "dcc: not yet at 0009\n",
+    ),
+    (
+        b"\xB4\x09\xCD\x21\xB8\x00\x4C\xCD\x21",
+        12,
+        "dcc: not yet at 0007\n",
+    ),
+    // A construct comes before what is not built, wherever it stands.
+    (
+        b"\xA1\x00\x00\xB8\x00\x4C\xFA\xCD\x21",
+        9,
+        "dcc: construct 2 at 000B\n",
+    ),
 ];
 
 fn refusals() -> &'static [RefusalRow] {

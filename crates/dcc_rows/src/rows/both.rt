@@ -143,6 +143,66 @@ fn programs() -> &'static [Program] {
     &PROGRAMS
 }
 
+// Programs of the 80186, or with another end on it.
+static LATER_PROGRAMS: [Program; 8] = [
+    // A count in CL is taken modulo 32.
+    Program {
+        code: b"\xB8\x01\x00\xB1\x20\xD3\xE0\xB4\x4C\xCD\x21",
+        input: b"",
+        output: b"",
+        line: "exit 1\n",
+    },
+    Program {
+        code: b"\xB8\x01\x00\xB1\x21\xD3\xE0\xB4\x4C\xCD\x21",
+        input: b"",
+        output: b"",
+        line: "exit 2\n",
+    },
+    // A shift and a rotate by a constant.
+    Program {
+        code: b"\xB8\x01\x00\xC1\xE0\x05\xB4\x4C\xCD\x21",
+        input: b"",
+        output: b"",
+        line: "exit 32\n",
+    },
+    Program {
+        code: b"\xB0\x80\xC0\xC8\x09\xB4\x4C\xCD\x21",
+        input: b"",
+        output: b"",
+        line: "exit 64\n",
+    },
+    // A shift by 32 keeps the flags.
+    Program {
+        code: b"\x2B\xC0\xC1\xE0\x20\x74\x05\xB8\x00\x4C\xCD\x21\xB8\x01\x4C\xCD\x21",
+        input: b"",
+        output: b"",
+        line: "exit 1\n",
+    },
+    // Products of three operands; the third one doesn't fit a word.
+    Program {
+        code: b"\xBB\x07\x00\x6B\xC3\x06\xB4\x4C\xCD\x21",
+        input: b"",
+        output: b"",
+        line: "exit 42\n",
+    },
+    Program {
+        code: b"\xBB\xFE\xFF\x69\xC3\x03\x00\xB4\x4C\xCD\x21",
+        input: b"",
+        output: b"",
+        line: "exit 250\n",
+    },
+    Program {
+        code: b"\xBB\x00\x80\x6B\xC3\x02\x70\x05\xB8\x00\x4C\xCD\x21\xB8\x01\x4C\xCD\x21",
+        input: b"",
+        output: b"",
+        line: "exit 1\n",
+    },
+];
+
+fn later_programs() -> &'static [Program] {
+    &LATER_PROGRAMS
+}
+
 // The call must answer status 0, this output and this line.
 fn check(rt: &impl Abort, given: &Answer, output: &[u8], line: &str) {
     assert_eq!(rt; given.err.as_slice(), line.as_bytes());
@@ -150,9 +210,10 @@ fn check(rt: &impl Abort, given: &Answer, output: &[u8], line: &str) {
     assert_eq!(rt; given.status, 0, "{line}");
 }
 
-// The text of the program of this file.
-fn text_of(rt: &impl Abort, alloc: Global, file: &[u8]) -> Result<Vec<u8>, Fail> {
-    let given = answered(alloc, &["c", "ROW1.EXE"], file, NO_FAULTS)?;
+// The text of the program of this file for a processor.
+fn text_of(rt: &impl Abort, alloc: Global, file: &[u8], cpu: &str) -> Result<Vec<u8>, Fail> {
+    let words = ["c", "ROW1.EXE", "--cpu", cpu];
+    let given = answered(alloc, &words, file, NO_FAULTS)?;
     assert_eq!(rt; given.status, 0);
     assert!(rt; given.err.is_empty());
     assert!(rt;
@@ -163,18 +224,19 @@ fn text_of(rt: &impl Abort, alloc: Global, file: &[u8]) -> Result<Vec<u8>, Fail>
     Ok(given.out.clone()?)
 }
 
-// The file and its text put out the same and end alike, the text with this fill.
+// The file on a processor and its text put out the same and end alike, the text with this fill.
 fn check_both(
     rt: &impl Abort,
     alloc: Global,
     file: &[u8],
     program: &Program,
+    cpu: &str,
     fill: &str,
 ) -> Result<(), Fail> {
-    let words = ["run", "ROW1.EXE"];
+    let words = ["run", "ROW1.EXE", "--cpu", cpu];
     let given = answered_on(alloc, &words, file, program.input, NO_FAULTS)?;
     check(rt, &given, program.output, program.line);
-    let text = text_of(rt, alloc, file)?;
+    let text = text_of(rt, alloc, file, cpu)?;
     let words = ["runc", "ROW1.EXE", "--fill", fill];
     let given = answered_on(alloc, &words, &text, program.input, NO_FAULTS)?;
     check(rt, &given, program.output, program.line);
@@ -190,11 +252,22 @@ fn texts_put_out_and_end_as_their_programs_do(rt: HostRuntime) -> Result<(), Fai
         output: b"A",
         line: "exit 3\n",
     };
-    check_both(&rt, alloc, &PRINTS_A, &prints_a, "0")?;
+    check_both(&rt, alloc, &PRINTS_A, &prints_a, "8086", "0")?;
     for program_row in programs() {
         let file = program(&rt, alloc, program_row.code)?;
-        check_both(&rt, alloc, &file, program_row, "0")?;
-        check_both(&rt, alloc, &file, program_row, "43690")?;
+        check_both(&rt, alloc, &file, program_row, "8086", "0")?;
+        check_both(&rt, alloc, &file, program_row, "8086", "43690")?;
+    }
+    Ok(())
+}
+
+#[test]
+fn texts_for_the_80186_put_out_and_end_as_their_programs_do(rt: HostRuntime) -> Result<(), Fail> {
+    let alloc = rt.alloc();
+    for program_row in later_programs() {
+        let file = program(&rt, alloc, program_row.code)?;
+        check_both(&rt, alloc, &file, program_row, "186", "0")?;
+        check_both(&rt, alloc, &file, program_row, "186", "43690")?;
     }
     Ok(())
 }
@@ -203,7 +276,7 @@ fn texts_put_out_and_end_as_their_programs_do(rt: HostRuntime) -> Result<(), Fai
 fn a_text_runs_on_as_its_program_does(rt: HostRuntime) -> Result<(), Fail> {
     let alloc = rt.alloc();
     let file = program(&rt, alloc, b"\xEB\xFE")?;
-    let text = text_of(&rt, alloc, &file)?;
+    let text = text_of(&rt, alloc, &file, "8086")?;
     for (command, bytes) in [("run", &file), ("runc", &text)] {
         let words = [command, "ROW1.EXE", "--steps", "1000"];
         let given = answered(alloc, &words, bytes, NO_FAULTS)?;
@@ -223,7 +296,7 @@ fn a_failing_read_ends_both_sides(rt: HostRuntime) -> Result<(), Fail> {
     // Takes two keys, and leaves with the last one.
     let code = b"\xB4\x01\xCD\x21\xB4\x01\xCD\x21\xB4\x4C\xCD\x21";
     let file = program(&rt, alloc, code)?;
-    let text = text_of(&rt, alloc, &file)?;
+    let text = text_of(&rt, alloc, &file, "8086")?;
     let first_read = Faults {
         read: 1,
         ..NO_FAULTS

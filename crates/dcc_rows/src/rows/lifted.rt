@@ -6,6 +6,7 @@ use dcc_io::MemSink;
 use dcc_mz::load;
 use dcc_pipe::decompile;
 use dcc_print::print;
+use dcc_prog::Cpu;
 use std::alloc::{AllocError, Global};
 use std::process::Abort;
 use std::test::Fail;
@@ -13,7 +14,7 @@ use std::test::Fail;
 // The unit of the program of some code.
 fn decompiled(rt: &impl Abort, alloc: Global, code: &[u8]) -> Result<Unit, Fail> {
     let image = load(alloc, &program(rt, alloc, code)?)?;
-    Ok(decompile(alloc, &image)?)
+    Ok(decompile(alloc, &image, Cpu::I8086)?)
 }
 
 // The labels among some lines, each with its line.

@@ -1,6 +1,7 @@
 //! Words and their jobs. The values come from a reference reader apart from this one.
 
-use dcc_top::words::{Job, job_of};
+use dcc_prog::Cpu;
+use dcc_top::words::{Execution, Job, TextExecution, job_of};
 use std::alloc::{AllocError, Global};
 use std::test::Fail;
 
@@ -13,22 +14,33 @@ fn words_of(alloc: Global, line: &str) -> Result<Vec<String>, AllocError> {
     Ok(words)
 }
 
+fn c(file: &str, cpu: Cpu) -> Option<Job<'_>> {
+    Some(Job::Decompile { file, cpu })
+}
+
+fn run_on(file: &str, steps: u64, cpu: Cpu) -> Option<Job<'_>> {
+    Some(Job::Execute(Execution { file, steps, cpu }))
+}
+
 fn run(file: &str, steps: u64) -> Option<Job<'_>> {
-    Some(Job::Execute { file, steps })
+    run_on(file, steps, Cpu::I8086)
 }
 
 fn runc(file: &str, steps: u64, fill: u16) -> Option<Job<'_>> {
-    Some(Job::ExecuteText { file, steps, fill })
+    Some(Job::ExecuteText(TextExecution { file, steps, fill }))
 }
 
 #[test]
 fn commands_have_a_job(rt: HostRuntime) -> Result<(), Fail> {
     let rows = [
-        ("c a", Some(Job::Decompile("a"))),
-        ("c ", Some(Job::Decompile(""))),
-        ("c -", Some(Job::Decompile("-"))),
-        ("c -- -F", Some(Job::Decompile("-F"))),
-        ("c -- --", Some(Job::Decompile("--"))),
+        ("c a", c("a", Cpu::I8086)),
+        ("c ", c("", Cpu::I8086)),
+        ("c -", c("-", Cpu::I8086)),
+        ("c -- -F", c("-F", Cpu::I8086)),
+        ("c -- --", c("--", Cpu::I8086)),
+        ("c a --cpu 8086", c("a", Cpu::I8086)),
+        ("c --cpu 186 a", c("a", Cpu::I186)),
+        ("c --cpu=186 -- --cpu", c("--cpu", Cpu::I186)),
         ("run F", run("F", 1_000_000)),
         ("run -", run("-", 1_000_000)),
         ("run a --", run("a", 1_000_000)),
@@ -39,6 +51,9 @@ fn commands_have_a_job(rt: HostRuntime) -> Result<(), Fail> {
         ("run F --steps 0", run("F", 0)),
         ("run F --steps 0000000007", run("F", 7)),
         ("run F --steps 1000000000", run("F", 1_000_000_000)),
+        ("run F --cpu 186", run_on("F", 1_000_000, Cpu::I186)),
+        ("run --cpu=8086 F --steps 7", run("F", 7)),
+        ("run --steps=7 --cpu 186 F", run_on("F", 7, Cpu::I186)),
         ("runc F", runc("F", 1_000_000, 0)),
         ("runc -- --fill", runc("--fill", 1_000_000, 0)),
         ("runc F --fill 65535", runc("F", 1_000_000, 65_535)),
@@ -93,6 +108,17 @@ fn other_words_are_no_command(rt: HostRuntime) -> Result<(), Fail> {
         "runc F --fill 000007",
         "runc F --fill 1 --fill 1",
         "runc F --fills 1",
+        "c F --cpu",
+        "c F --cpu 286",
+        "c F --cpu=",
+        "c F --cpu 0186",
+        "c F --cpu 80186",
+        "c --cpu 186 --cpu=186 F",
+        "run F --cpu 286",
+        "run F --cpu 8086 --cpu 8086",
+        "run --cpu 186",
+        "runc F --cpu 186",
+        "runc --cpu=8086 F",
     ];
     for line in lines {
         let words = words_of(rt.alloc(), line)?;
