@@ -29,6 +29,18 @@ def plain(draw):
     ])()
 
 
+def later(draw):
+    """An instruction that goes on, of the 80186 alone: a shift or rotate by a constant, or a product of three operands."""
+    word = draw.randrange(65536).to_bytes(2, "little")
+    return draw.choice([
+        lambda: bytes([draw.choice([0xC0, 0xC1]),
+                       0xC0 | draw.choice([0, 1, 4, 5, 7]) << 3 | draw.choice(REGISTERS[:4]),
+                       draw.choice([draw.randrange(9), draw.randrange(40), word[0]])]),
+        lambda: bytes([0x69, two_registers(draw)]) + word,
+        lambda: bytes([0x6B, two_registers(draw), word[0]]),
+    ])()
+
+
 def refused(draw):
     """Bytes that are a construct, or that are not built."""
     return draw.choice([bytes([0xFF, draw.randrange(256)]), bytes([draw.randrange(256)]),
@@ -41,8 +53,8 @@ def jump(draw):
     return bytes([draw.choice([0xEB, 0xE0, 0xE1, 0xE2, 0xE3] + list(range(0x70, 0x80))), 0])
 
 
-def code_of(draw):
-    """The bytes of a program's code."""
+def code_of(draw, cpu="8086"):
+    """The bytes of a program's code for a processor."""
     careless = draw.random() < 0.3
     parts, jumps = [], []
     for _ in range(draw.randrange(1, 25)):
@@ -55,6 +67,8 @@ def code_of(draw):
             parts.append(bytes([0xCD, 0x21]))
         elif careless and kind < 0.5:
             parts.append(refused(draw))
+        elif cpu == "186" and kind < 0.7:
+            parts.append(later(draw))
         else:
             parts.append(plain(draw))
     parts += [bytes([0xB4, 0x4C]), bytes([0xCD, 0x21])]
