@@ -9,8 +9,10 @@ use dcc_layout::layout;
 use dcc_mz::load;
 use dcc_procs::find;
 use dcc_procs::plain::{is_trail, known_ah, successors};
-use dcc_prog::refusal::construct::{DOS_NUMBER, INDIRECT_CALL, INDIRECT_JUMP, OUTSIDE};
-use dcc_prog::{Image, Layout, Proc, Refusal};
+use dcc_prog::refusal::construct::{
+    DIVISION, DOS_NUMBER, ENTRY_RETURN, INDIRECT_CALL, INDIRECT_JUMP, OUTSIDE,
+};
+use dcc_prog::{Cpu, Image, Layout, LimitName, Proc, Refusal};
 use std::alloc::{AllocError, Global};
 use std::process::Abort;
 use std::test::Fail;
@@ -186,7 +188,7 @@ fn the_entry_procedure_has_what_trails_reach(rt: HostRuntime) -> Result<(), Fail
     let alloc = rt.alloc();
     for (code, rows) in found() {
         let image = image_of(&rt, alloc, code)?;
-        let layout = layout(alloc, &image)?;
+        let layout = layout(alloc, &image, Cpu::I8086)?;
         let procs = find(alloc, &image, &layout)?;
         assert_eq!(rt; procs.len(), 1);
         let proc = &procs[0];
@@ -202,10 +204,178 @@ fn the_entry_procedure_has_what_trails_reach(rt: HostRuntime) -> Result<(), Fail
     Ok(())
 }
 
+// The entry of a procedure with its nodes.
+type ProcRow = (u16, &'static [NodeRow]);
+
+// The processor, the code, and its procedures.
+type ProgramRow = (Cpu, &'static [u8], &'static [ProcRow]);
+
+static PROGRAMS: [ProgramRow; 5] = [
+    // The factorial, which calls itself, of 7.
+    (
+        Cpu::I8086,
+        b"\xB8\x07\x00\x50\xE8\x05\x00\x59\xB4\x4C\xCD\x21\x55\x8B\xEC\x8B\x46\x04\x3D\x01\x00\x7E\x09\x48\x50\xE8\xF0\xFF\x59\xF7\x66\x04\x5D\xC3",
+        &[
+            (
+                0x0005,
+                &[
+                    (5, &[8], None),
+                    (8, &[9], None),
+                    (9, &[12], None),
+                    (12, &[13], None),
+                    (13, &[15], None),
+                    (15, &[], Some(0x4C)),
+                ],
+            ),
+            (
+                0x0011,
+                &[
+                    (17, &[18], None),
+                    (18, &[20], None),
+                    (20, &[23], None),
+                    (23, &[26], None),
+                    (26, &[37, 28], None),
+                    (28, &[29], None),
+                    (29, &[30], None),
+                    (30, &[33], None),
+                    (33, &[34], None),
+                    (34, &[37], None),
+                    (37, &[38], None),
+                    (38, &[], None),
+                ],
+            ),
+        ],
+    ),
+    // A switch of four cases.
+    (
+        Cpu::I8086,
+        b"\xBB\x00\x00\x83\xFB\x03\x77\x19\xD1\xE3\x2E\xFF\xA7\x2A\x00\xB0\x01\xEB\x0A\xB0\x02\xEB\x06\xB0\x03\xEB\x02\xB0\x04\xB4\x4C\xCD\x21\xB0\x09\xEB\xF8\x14\x00\x18\x00\x1C\x00\x20\x00",
+        &[(
+            0x0005,
+            &[
+                (5, &[8], None),
+                (8, &[11], None),
+                (11, &[38, 13], None),
+                (13, &[15], None),
+                (15, &[20, 24, 28, 32], None),
+                (20, &[22], None),
+                (22, &[34], None),
+                (24, &[26], None),
+                (26, &[34], None),
+                (28, &[30], None),
+                (30, &[34], None),
+                (32, &[34], None),
+                (34, &[36], None),
+                (36, &[], Some(0x4C)),
+                (38, &[40], None),
+                (40, &[34], None),
+            ],
+        )],
+    ),
+    // One by AL, whose index is moved to BX.
+    (
+        Cpu::I8086,
+        b"\xB0\x02\x3C\x03\x77\x1D\x32\xE4\xD1\xE0\x8B\xD8\x2E\xFF\xA7\x2C\x00\xB0\x01\xEB\x0A\xB0\x02\xEB\x06\xB0\x03\xEB\x02\xB0\x04\xB4\x4C\xCD\x21\xB0\x09\xEB\xF8\x16\x00\x1A\x00\x1E\x00\x22\x00",
+        &[(
+            0x0005,
+            &[
+                (5, &[7], None),
+                (7, &[9], None),
+                (9, &[40, 11], None),
+                (11, &[13], None),
+                (13, &[15], None),
+                (15, &[17], None),
+                (17, &[22, 26, 30, 34], None),
+                (22, &[24], None),
+                (24, &[36], None),
+                (26, &[28], None),
+                (28, &[36], None),
+                (30, &[32], None),
+                (32, &[36], None),
+                (34, &[36], None),
+                (36, &[38], None),
+                (38, &[], Some(0x4C)),
+                (40, &[42], None),
+                (42, &[36], None),
+            ],
+        )],
+    ),
+    // Two procedures share their end, and are called in falling order.
+    (
+        Cpu::I8086,
+        b"\xE8\x08\x00\xE8\x04\x00\xB4\x4C\xCD\x21\x40\x40\xC3",
+        &[
+            (
+                0x0005,
+                &[
+                    (5, &[8], None),
+                    (8, &[11], None),
+                    (11, &[13], None),
+                    (13, &[], Some(0x4C)),
+                ],
+            ),
+            (
+                0x000F,
+                &[(15, &[16], None), (16, &[17], None), (17, &[], None)],
+            ),
+            (0x0010, &[(16, &[17], None), (17, &[], None)]),
+        ],
+    ),
+    // A frame by ENTER and LEAVE.
+    (
+        Cpu::I186,
+        b"\xE8\x05\x00\xB8\x00\x4C\xCD\x21\xC8\x02\x00\x00\xC6\x46\xFE\x2A\x8A\x56\xFE\xB4\x02\xCD\x21\xC9\xC3",
+        &[
+            (
+                0x0005,
+                &[(5, &[8], None), (8, &[11], None), (11, &[], Some(0x4C))],
+            ),
+            (
+                0x000D,
+                &[
+                    (13, &[17], None),
+                    (17, &[21], None),
+                    (21, &[24], None),
+                    (24, &[26], None),
+                    (26, &[28], Some(0x02)),
+                    (28, &[29], None),
+                    (29, &[], None),
+                ],
+            ),
+        ],
+    ),
+];
+
+fn programs() -> &'static [ProgramRow] {
+    &PROGRAMS
+}
+
+#[test]
+fn all_procedures_are_found_in_order(rt: HostRuntime) -> Result<(), Fail> {
+    let alloc = rt.alloc();
+    for (cpu, code, rows) in programs() {
+        let image = image_of(&rt, alloc, code)?;
+        let layout = layout(alloc, &image, *cpu)?;
+        let procs = find(alloc, &image, &layout)?;
+        assert_eq!(rt; procs.len(), rows.len());
+        for (proc, (entry, nodes)) in procs.iter().zip(*rows) {
+            assert_eq!(rt; proc.entry, *entry);
+            assert_eq!(rt; proc.nodes.len(), nodes.len());
+            for ((at, node), (offset, succ, number)) in proc.nodes.iter().zip(*nodes) {
+                assert_eq!(rt; at, offset);
+                assert_eq!(rt; node.succ.as_slice(), *succ);
+                assert_eq!(rt; node.number, *number);
+            }
+            check_plainly(&rt, alloc, &image, &layout, proc)?;
+        }
+    }
+    Ok(())
+}
+
 // The code, the number of the construct that is told, and its offset.
 type RefusedRow = (&'static [u8], u8, u16);
 
-static REFUSED: [RefusedRow; 10] = [
+static REFUSED: [RefusedRow; 20] = [
     // FF with a reg field that no instruction has.
     (b"\xFF\xF8", OUTSIDE, 0x0005),
     // A jump and a call through a register, near and far.
@@ -221,6 +391,46 @@ static REFUSED: [RefusedRow; 10] = [
     (b"\xEB\xF8", OUTSIDE, 0xFFFF),
     // CBW between MOV AH and INT 21h.
     (b"\xB4\x02\x98\xCD\x21\xB4\x4C\xCD\x21", DOS_NUMBER, 0x0008),
+    // BP is moved to without a frame, and a frame is left above BP.
+    (b"\xBD\x05\x00\xB8\x00\x4C\xCD\x21", OUTSIDE, 0x0005),
+    (
+        b"\xE8\x05\x00\xB8\x00\x4C\xCD\x21\x55\x8B\xEC\x8D\x66\x02\x5D\xC3",
+        OUTSIDE,
+        0x0010,
+    ),
+    // ENTER, which the 8086 has not.
+    (
+        b"\xE8\x05\x00\xB8\x00\x4C\xCD\x21\xC8\x02\x00\x00\xC6\x46\xFE\x2A\x8A\x56\xFE\xB4\x02\xCD\x21\xC9\xC3",
+        OUTSIDE,
+        0x000D,
+    ),
+    // AH comes from memory, and is not known after a call.
+    (
+        b"\x8A\x26\x00\x00\xCD\x21\xB8\x00\x4C\xCD\x21",
+        DOS_NUMBER,
+        0x0009,
+    ),
+    (b"\xB4\x02\xE8\x02\x00\xCD\x21\xC3", DOS_NUMBER, 0x000A),
+    // A return from the entry procedure, and a call of it.
+    (b"\xC3", ENTRY_RETURN, 0x0005),
+    (b"\xE8\xFD\xFF", ENTRY_RETURN, 0x0005),
+    // A second way to the doubling before a jump through a table, and another register that is moved to BX.
+    (
+        b"\x74\x06\x90\x83\xFB\x03\x77\x19\xD1\xE3\x2E\xFF\xA7\x2A\x00\xB0\x01\xEB\x0A\xB0\x02\xEB\x06\xB0\x03\xEB\x02\xB0\x04\xB4\x4C\xCD\x21\xB0\x09\xEB\xF8\x14\x00\x18\x00\x1C\x00\x20\x00",
+        INDIRECT_JUMP,
+        0x000F,
+    ),
+    (
+        b"\xB8\x02\x00\x3D\x03\x00\x77\x1B\xD1\xE0\x8B\xD9\x2E\xFF\xA7\x2C\x00\xB0\x01\xEB\x0A\xB0\x02\xEB\x06\xB0\x03\xEB\x02\xB0\x04\xB4\x4C\xCD\x21\xB0\x09\xEB\xF8\x16\x00\x1A\x00\x1E\x00\x22\x00",
+        INDIRECT_JUMP,
+        0x0011,
+    ),
+    // IDIV of a word without CWD.
+    (
+        b"\xB8\x01\x00\xBB\x00\x00\xF7\xFB\xB8\x00\x4C\xCD\x21",
+        DIVISION,
+        0x000B,
+    ),
 ];
 
 fn refused() -> &'static [RefusedRow] {
@@ -232,10 +442,25 @@ fn constructs_are_told_where_they_stand(rt: HostRuntime) -> Result<(), Fail> {
     let alloc = rt.alloc();
     for &(code, kind, at) in refused() {
         let image = image_of(&rt, alloc, code)?;
-        let layout = layout(alloc, &image)?;
+        let layout = layout(alloc, &image, Cpu::I8086)?;
         let told = find(alloc, &image, &layout).err();
         assert_eq!(rt; told, Some(Refusal::Construct { kind, at }), "{code:?}");
     }
+    Ok(())
+}
+
+#[test]
+fn a_table_of_too_many_entries_is_told(rt: HostRuntime) -> Result<(), Fail> {
+    let alloc = rt.alloc();
+    let image = image_of(
+        &rt,
+        alloc,
+        b"\x81\xFB\x00\x01\x77\x07\xD1\xE3\x2E\xFF\xA7\x00\x00\xB8\x00\x4C\xCD\x21",
+    )?;
+    let layout = layout(alloc, &image, Cpu::I8086)?;
+    let told = find(alloc, &image, &layout).err();
+    let what = LimitName::Entries;
+    assert_eq!(rt; told, Some(Refusal::Limit { what, count: 257 }));
     Ok(())
 }
 
@@ -296,7 +521,7 @@ fn the_plain_program_follows_tables_calls_and_returns(rt: HostRuntime) -> Result
     let alloc = rt.alloc();
     for (code, rows) in trails() {
         let image = image_of(&rt, alloc, code)?;
-        let layout = layout(alloc, &image)?;
+        let layout = layout(alloc, &image, Cpu::I8086)?;
         for (offsets, succ, trail) in *rows {
             let plain = successors(alloc, &image, &layout, offsets)?;
             assert_eq!(rt; plain.as_slice(), *succ);
