@@ -210,7 +210,68 @@ type ProcRow = (u16, &'static [NodeRow]);
 // The processor, the code, and its procedures.
 type ProgramRow = (Cpu, &'static [u8], &'static [ProcRow]);
 
-static PROGRAMS: [ProgramRow; 5] = [
+static PROGRAMS: [ProgramRow; 8] = [
+    // A program that takes its own address: a procedure begins at the next instruction.
+    (
+        Cpu::I8086,
+        b"\xE8\x00\x00\x58\xB8\x00\x4C\xCD\x21",
+        &[
+            (
+                0x0005,
+                &[
+                    (5, &[8], None),
+                    (8, &[9], None),
+                    (9, &[12], None),
+                    (12, &[], Some(0x4C)),
+                ],
+            ),
+            (
+                0x0008,
+                &[(8, &[9], None), (9, &[12], None), (12, &[], Some(0x4C))],
+            ),
+        ],
+    ),
+    // A push on one arm.
+    (
+        Cpu::I8086,
+        b"\x3D\x00\x00\x74\x01\x50\xEB\xFE",
+        &[(
+            0x0005,
+            &[
+                (5, &[8], None),
+                (8, &[11, 10], None),
+                (10, &[11], None),
+                (11, &[11], None),
+            ],
+        )],
+    ),
+    // A switch by AX, whose index is moved to BX.
+    (
+        Cpu::I8086,
+        b"\xB8\x02\x00\x3D\x03\x00\x77\x1B\xD1\xE0\x8B\xD8\x2E\xFF\xA7\x2C\x00\xB0\x01\xEB\x0A\xB0\x02\xEB\x06\xB0\x03\xEB\x02\xB0\x04\xB4\x4C\xCD\x21\xB0\x09\xEB\xF8\x16\x00\x1A\x00\x1E\x00\x22\x00",
+        &[(
+            0x0005,
+            &[
+                (5, &[8], None),
+                (8, &[11], None),
+                (11, &[40, 13], None),
+                (13, &[15], None),
+                (15, &[17], None),
+                (17, &[22, 26, 30, 34], None),
+                (22, &[24], None),
+                (24, &[36], None),
+                (26, &[28], None),
+                (28, &[36], None),
+                (30, &[32], None),
+                (32, &[36], None),
+                (34, &[36], None),
+                (36, &[38], None),
+                (38, &[], Some(0x4C)),
+                (40, &[42], None),
+                (42, &[36], None),
+            ],
+        )],
+    ),
     // The factorial, which calls itself, of 7.
     (
         Cpu::I8086,
