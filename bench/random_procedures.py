@@ -6,13 +6,15 @@ DOS_NUMBERS = [0x01, 0x02, 0x08, 0x09, 0x4C]
 
 
 class Code:
-    """Bytes with the places that are filled in when all is written."""
+    """Bytes with the places that are filled in when all is written; `later`: for the 80186."""
 
-    def __init__(self, draw):
+    def __init__(self, draw, later, careless):
         self.draw = draw
+        self.later, self.careless = later, careless
         self.bytes = bytearray()
-        self.starts = []
-        self.short, self.near, self.words = [], [], []
+        self.starts, self.entries = [], []
+        self.short, self.near, self.calls, self.words = [], [], [], []
+        self.inner = []
 
     def put(self, *parts):
         """One instruction."""
@@ -44,7 +46,7 @@ def plain(code):
     elif kind == 6:
         code.put(0xD1, 0xC0 | draw.choice([0, 1, 2, 3, 4, 5, 7]) << 3 | r)
     elif kind == 7:
-        code.put(draw.choice([0x40, 0x48]) + draw.randrange(8))
+        code.put(draw.choice([0x40, 0x48]) + draw.choice(GENERAL))
     elif kind == 8:
         code.put(draw.choice([0x98, 0x99, 0x90, 0xF8, 0xD7]))
     elif kind == 9:
@@ -82,13 +84,17 @@ def frame_use(code):
     """An instruction on SP or BP."""
     draw = code.draw
     r = draw.choice(GENERAL)
-    code.put(*draw.choice([
-        [0x8B, 0x46 | r << 3, draw.randrange(256)], [0x89, 0x46 | r << 3, 0xFE], [0x8D, 0x46 | r << 3, 0xFA],
-        [0x83, 0xEC, 4], [0x83, 0xC4, 0xFC], [0x44], [0x4C], [0x8D, 0x66, 0xFC], [0x8D, 0x66, 4], [0x8D, 0x62, 0xFC],
-        [0x8B, 0xC5 | r << 3], [0x8B, 0xE5], [0x8B, 0xEC], [0x8B, 0xC4 | r << 3], [0x55], [0x5D], [0xC9],
-        [0xC8, 4, 0, 0], [0x68, 1, 2], [0x6A, 5], [0x6B, 0xC3 | r << 3, 7], [0xC1, 0xE0 | r, 3], [0x6B, 0xE3, 7],
-        [0x83, 0xC5, 2], [0x8D, 0x6E, 2], [0x81, 0xEC, 4, 0],
-    ]))
+    forms = [[0x8B, 0x46 | r << 3, draw.randrange(256)], [0x89, 0x46 | r << 3, 0xFE], [0x8D, 0x46 | r << 3, 0xFA],
+             [0x83, 0xEC, 4], [0x83, 0xC4, 0xFC], [0x44], [0x4C], [0x8D, 0x66, 0xFC], [0x8B, 0xC5 | r << 3],
+             [0x8B, 0xE5], [0x81, 0xEC, 4, 0]]
+    later = [[0xC9], [0x68, 1, 2], [0x6A, 5], [0x6B, 0xC3 | r << 3, 7], [0xC1, 0xE0 | r, 3]]
+    others = [[0x8D, 0x66, 4], [0x8D, 0x62, 0xFC], [0x8B, 0xEC], [0x8B, 0xC4 | r << 3], [0x55], [0x5D], [0xC8, 4, 0, 0],
+              [0x6B, 0xE3, 7], [0x83, 0xC5, 2], [0x8D, 0x6E, 2], [0x45]]
+    if code.later:
+        forms += later
+    if code.careless:
+        forms += later + others
+    code.put(*draw.choice(forms))
 
 
 def jump(code):
@@ -136,8 +142,9 @@ def table_jump(code):
     q = r if r in TABLES and draw.random() < 0.7 else draw.choice(list(TABLES))
     byte = r == 0 and draw.random() < 0.5
     number = draw.choice([0, 1, 2, 3, 3, 4])
-    careless = draw.random() < 0.25
+    careless = draw.random() < 0.15
     comparison(code, r, byte, number)
+    begin = len(code.bytes)
     if careless and draw.random() < 0.4:
         plain(code)
     if draw.random() < 0.6:
@@ -145,8 +152,11 @@ def table_jump(code):
         code.short.append(len(code.bytes))
     else:
         code.put(0x76, 2)
-        jump(code)
-        code.bytes[-2:] = bytes([0xEB, 0]) if draw.random() < 0.8 else bytes([0x90, 0x90])
+        if draw.random() < 0.9:
+            code.put(0xEB, 0)
+            code.short.append(len(code.bytes))
+        else:
+            code.put(0x90, 0x90)
     if byte and not (careless and draw.random() < 0.3):
         code.put(*draw.choice([[0x32, 0xE4], [0x30, 0xE4]]))
     if careless and draw.random() < 0.3:
@@ -156,8 +166,9 @@ def table_jump(code):
         code.put(*draw.choice([[0x8B, 0xC0 | q << 3 | r], [0x89, 0xC0 | r << 3 | q]]))
     if careless and draw.random() < 0.2:
         plain(code)
-    if draw.random() < 0.1:
+    if careless and draw.random() < 0.1:
         jump(code)
+    code.inner += range(begin, len(code.bytes) + 1)
     code.put(0x2E, 0xFF, TABLES[q], 0, 0)
     code.words.append((len(code.bytes), number + 1 + (draw.randrange(-1, 2) if careless else 0)))
 
@@ -169,15 +180,15 @@ def refused(code):
                            [0xF7, 0xF0], [0x2E, 0xFF, 0x27]]))
 
 
-PIECES = [(plain, 10), (jump, 4), (dos, 2), (division, 1), (frame_use, 1), (table_jump, 1)]
+PIECES = [(plain, 10), (jump, 4), (dos, 2), (division, 1), (frame_use, 1), (table_jump, 2)]
 
 
-def procedure(code, entries, is_start, careless):
+def procedure(code, is_start):
     """A procedure, and the calls in it."""
-    draw = code.draw
-    entries.append(len(code.bytes))
+    draw, careless = code.draw, code.careless
+    code.entries.append(len(code.bytes))
     framed = not is_start and draw.random() < 0.5
-    enter = framed and draw.random() < 0.3
+    enter = framed and (code.later or careless) and draw.random() < 0.3
     if enter:
         code.put(0xC8, draw.choice([0, 2, 10]), 0, 0)
     elif framed:
@@ -211,37 +222,38 @@ def fill(code, end, target, size):
     code.bytes[end - size:end] = (distance & (256 ** size - 1)).to_bytes(size, "little")
 
 
-def code_of(draw, base):
+def target(code, near):
+    """An instruction in the procedure of a place; where it's careless, also one elsewhere, or beside one."""
+    draw = code.draw
+    first = max(entry for entry in code.entries if entry <= near)
+    last = min([entry for entry in code.entries if entry > near] + [len(code.bytes)])
+    own = [start for start in code.starts if first <= start < last and abs(start - near) < 110
+           and code.bytes[start:start + 2] != b"\xCD\x21" and start not in code.inner]
+    if code.careless and draw.random() < 0.1:
+        return draw.choice(code.starts) + draw.randrange(-2, 3)
+    return draw.choice(own or [near])
+
+
+def code_of(draw, base, later):
     """The bytes of code that begins at an offset."""
-    code = Code(draw)
-    code.calls = []
-    entries, careless = [], draw.random() < 0.3
+    code = Code(draw, later, draw.random() < 0.3)
     for place in range(draw.choice([1, 1, 2, 3, 5])):
-        procedure(code, entries, place == 0, careless)
-    bounds = [i for i, start in enumerate(code.starts) if code.bytes[start:start + 2] != b"\xCD\x21"]
-    safe = [code.starts[i] for i in bounds] or [0]
-
-    def target(near):
-        place = draw.choice(safe)
-        inside = [s for s in safe if abs(s - near) < 100]
-        if inside and draw.random() < 0.9:
-            place = draw.choice(inside)
-        return place + (draw.randrange(-2, 3) if careless and draw.random() < 0.1 else 0)
-
+        procedure(code, place == 0)
     for end in code.short:
-        fill(code, end, target(end), 1)
+        fill(code, end, target(code, end - 1), 1)
     for end in code.near:
-        fill(code, end, target(end), 2)
+        fill(code, end, target(code, end - 1), 2)
     for end in code.calls:
-        others = entries[1:] or entries
-        fill(code, end, draw.choice(others) if draw.random() < 0.93 else target(end), 2)
+        others = code.entries[1:] or code.entries
+        fill(code, end, draw.choice(others) if draw.random() < 0.95 else target(code, end - 1), 2)
+    tables = []
     for end, count in code.words:
-        at = len(code.bytes) if draw.random() < 0.93 else draw.randrange(max(1, len(code.bytes)))
+        at = len(code.bytes) + len(tables) if draw.random() < 0.95 else draw.randrange(len(code.bytes))
         code.bytes[end - 2:end] = (base + at).to_bytes(2, "little")
-        if at == len(code.bytes):
-            near = end
+        if at >= len(code.bytes):
             for _ in range(count):
-                code.bytes += ((base + target(near)) & 0xFFFF).to_bytes(2, "little")
+                tables += ((base + target(code, end - 1)) & 0xFFFF).to_bytes(2, "little")
+    code.bytes += bytes(tables)
     if draw.random() < 0.25:
         for _ in range(draw.randrange(1, 4)):
             change(draw, code.bytes)
