@@ -21,7 +21,8 @@ use Rattle.dcc_procs.proofs.Ordered.{ascending-by}
 use Rattle.dcc_procs.proofs.Places.{places_of, length-places, contains-place, pairs-head, pairs-tail}
 
 -- the value whose image is among the images
-mapped-from : {A : Type 0} (f : A → ℕ) (xs : List A) (y : ℕ) → Contains (map f xs) y → (x : A) × Contains xs x × (f x ≡ y)
+mapped-from :
+    {A : Type 0} (f : A → ℕ) (xs : List A) (y : ℕ) → Contains (map f xs) y → (x : A) × Contains xs x × (f x ≡ y)
 mapped-from f [] y c = absurd (let inside = c.1 in omega (arith, inside))
 mapped-from f (x ∷ xs) y c = elim (Contains-append_cases (f x ∷ []) (map f xs) y c) [
   | inl here ↦ elim (Contains-push_cases [] (f x) y here) [
@@ -42,14 +43,19 @@ listed-offset nodes at l =
     (l.place, omega (arith, short, inside), get_or-map f nodes l.place (at, l.node) at inside ∙ ap f is)
 
 -- the first of some procedures is taken out
-pub some-procs : (image : Image) (layout : Layout) (procs : List Proc) → AreReached image layout procs → 0 < length procs
+pub some-procs :
+    (image : Image) (layout : Layout) (procs : List Proc) → AreReached image layout procs → 0 < length procs
 some-procs image layout procs a = let all = a.all in let some = a.first.some in omega (arith, all, some)
 
-pub removed-first : (procs : List Proc) (first : Proc) → 0 < length procs → first ≡ get_or procs 0 first → procs ≡ first ∷ remove procs 0
+pub removed-first :
+    (procs : List Proc) (first : Proc) → 0 < length procs → first ≡ get_or procs 0 first
+    → procs ≡ first ∷ remove procs 0
 removed-first [] first some is = absurd (omega (arith, some))
 removed-first (x ∷ xs) first some is = ap (λ p. p ∷ xs) (sym is)
 
-module _ (image : Image) (layout : Layout) (x : Proc) (xs sorted : List Proc) (a : AreReached image layout (x ∷ xs)) (moved : IsPermutation xs sorted) (up : IsNonDecreasingBy (λ (p : Proc). p.entry) sorted) where
+module _ (image : Image) (layout : Layout) (x : Proc) (xs sorted : List Proc)
+    (a : AreReached image layout (x ∷ xs)) (moved : IsPermutation xs sorted)
+    (up : IsNonDecreasingBy (λ (p : Proc). p.entry) sorted) where
   entry_in : Proc → ℕ
   entry_in p = p.entry
 

@@ -26,7 +26,9 @@ call-target : (op : Op) (target : ℕ) → op ≡ Call target → Contains (targ
 call-target op target e = subst (λ o. Contains (target_of o) target) (sym e) (Contains-push [] target)
 
 -- a call among the nodes
-pub calls-of : (nodes : List (ℕ × Node)) (place at target : ℕ) (node : Node) → slice_get nodes place ≡ Some (at, node) → node.instr.op ≡ Call target → Contains (calls_of nodes) target
+pub calls-of :
+    (nodes : List (ℕ × Node)) (place at target : ℕ) (node : Node) → slice_get nodes place ≡ Some (at, node)
+    → node.instr.op ≡ Call target → Contains (calls_of nodes) target
 calls-of [] place at target node e call = let clash = e in cc
 calls-of (first ∷ rest) zero at target node e call =
     let same : first ≡ (at, node) = cc in
@@ -35,7 +37,9 @@ calls-of (first ∷ rest) zero at target node e call =
 calls-of (first ∷ rest) (suc place) at target node e call =
     Contains-append_right (target_of first.1.instr.op) (calls_of rest) target (calls-of rest place at target node e call)
 
-pub calls-from : (nodes : List (ℕ × Node)) (target : ℕ) → Contains (calls_of nodes) target → (place : ℕ) × (found : ℕ × Node) × (slice_get nodes place ≡ Some found) × (found.1.instr.op ≡ Call target)
+pub calls-from :
+    (nodes : List (ℕ × Node)) (target : ℕ) → Contains (calls_of nodes) target → (place : ℕ)
+    × (found : ℕ × Node) × (slice_get nodes place ≡ Some found) × (found.1.instr.op ≡ Call target)
 calls-from [] target c = absurd (let inside = c.1 in omega (arith, inside))
 calls-from (first ∷ rest) target c = elim (Contains-append_cases (target_of first.1.instr.op) (calls_of rest) target c) [
   | inl here ↦ (0, first, refl, target-call first.1.instr.op target here)
@@ -47,7 +51,10 @@ calls-append [] ys = refl
 calls-append (x ∷ xs) ys = ap (λ l. target_of x.1.instr.op ++ l) (calls-append xs ys) ∙ sym (append_assoc (target_of x.1.instr.op) (calls_of xs) (calls_of ys))
 
 -- a node that is found, by its place
-pub found-at : (image : Image) (layout : Layout) (entry : ℕ) (nodes : List (ℕ × Node)) (place : ℕ) (found : ℕ × Node) → All (IsNodeFound image layout entry) nodes → slice_get nodes place ≡ Some found → IsNodeFound image layout entry found
+pub found-at :
+    (image : Image) (layout : Layout) (entry : ℕ) (nodes : List (ℕ × Node)) (place : ℕ) (found : ℕ × Node)
+    → All (IsNodeFound image layout entry) nodes → slice_get nodes place ≡ Some found
+    → IsNodeFound image layout entry found
 found-at image layout entry nodes place found all e =
     let inside = slice_get_within nodes place found e in
     let both = sym (slice_get-get_or nodes place found inside) ∙ e in
@@ -55,14 +62,19 @@ found-at image layout entry nodes place found all e =
     subst (IsNodeFound image layout entry) same (all place found inside)
 
 -- the targets of its calls are entries
-pub callees-reached : (image : Image) (layout : Layout) (proc : Proc) → IsFound image layout proc → IsEntry image layout proc.entry → AreAllReached image layout (calls_of proc.nodes.entries)
+pub callees-reached :
+    (image : Image) (layout : Layout) (proc : Proc) → IsFound image layout proc → IsEntry image layout proc.entry
+    → AreAllReached image layout (calls_of proc.nodes.entries)
 callees-reached image layout proc found is_entry target c =
     let r = calls-from proc.nodes.entries target c in
     let f = found-at image layout proc.entry proc.nodes.entries r.0 r.1 found.nodes r.2 in
     called is_entry f.node (r.1.1.instr, f.instr, r.3)
 
 -- and all of them are among these
-pub callees-all : (image : Image) (layout : Layout) (proc : Proc) → IsFound image layout proc → (at target : ℕ) → IsNode image layout proc.entry at → StandsAt image layout at (Call target) → Contains (calls_of proc.nodes.entries) target
+pub callees-all :
+    (image : Image) (layout : Layout) (proc : Proc) → IsFound image layout proc → (at target : ℕ)
+    → IsNode image layout proc.entry at → StandsAt image layout at (Call target)
+    → Contains (calls_of proc.nodes.entries) target
 callees-all image layout proc found at target node stands =
     let l = found.every at node in
     let f = found-at image layout proc.entry proc.nodes.entries l.place (at, l.node) found.nodes l.listed in
@@ -71,7 +83,9 @@ callees-all image layout proc found at target node stands =
     calls-of proc.nodes.entries l.place at target l.node l.listed (ap (λ (i : Instr). i.op) same ∙ stands.2)
 
 -- one more node of a walk
-pub calls-pushed : {B : Type 0} (read : B → ℕ × Node) (ys : List B) (x : B) → calls_of (map read (ys ++ x ∷ [])) ≡ calls_of (map read ys) ++ target_of (read x).1.instr.op
+pub calls-pushed :
+    {B : Type 0} (read : B → ℕ × Node) (ys : List B) (x : B)
+    → calls_of (map read (ys ++ x ∷ [])) ≡ calls_of (map read ys) ++ target_of (read x).1.instr.op
 calls-pushed read ys x =
     ap calls_of (map-append read ys (x ∷ []))
     ∙ calls-append (map read ys) (read x ∷ [])

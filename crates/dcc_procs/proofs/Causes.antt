@@ -23,14 +23,16 @@ use Rattle.dcc_procs.proofs.Witnessing.{trail-node}
 
 -- Where no instruction stands.
 
-module _ (image : Image) (layout : Layout) (entry at reg : ℕ) (none : instruction_in image layout at ≡ None) (h : HasIndirect (code_within image layout) at reg) where
+module _ (image : Image) (layout : Layout) (entry at reg : ℕ) (none : instruction_in image layout at ≡ None)
+    (h : HasIndirect (code_within image layout) at reg) where
   same-reg : (n : ℕ) → (reg == n) ≡ true → HasIndirect (code_within image layout) at n
   same-reg n e = subst (HasIndirect (code_within image layout) at) (eqb-true reg n e) h
 
   other-reg : (n : ℕ) → (reg == n) ≡ false → ¬ HasIndirect (code_within image layout) at n
   other-reg n e other = let same : reg ≡ n = sym h.reg_is ∙ other.reg_is in let clash = sym e ∙ eq-eqb reg n same in cc
 
-  pub kind-indirect : IsAtNode image layout entry at (if (reg == 2) || (reg == 3) then INDIRECT_CALL else if (reg == 4) || (reg == 5) then INDIRECT_JUMP else OUTSIDE)
+  pub kind-indirect :
+      IsAtNode image layout entry at (if (reg == 2) || (reg == 3) then INDIRECT_CALL else if (reg == 4) || (reg == 5) then INDIRECT_JUMP else OUTSIDE)
   kind-indirect =
       elim (reg == 2) as (λ b. (reg == 2) ≡ b → IsAtNode image layout entry at (if b || (reg == 3) then 4 else if (reg == 4) || (reg == 5) then 3 else 2)) [
         | true ↦ λ e. indirect_call (inl (same-reg 2 e))
@@ -50,7 +52,9 @@ module _ (image : Image) (layout : Layout) (entry at reg : ℕ) (none : instruct
         ] refl
       ] refl
 
-pub kind-none : (image : Image) (layout : Layout) (entry at : ℕ) → instruction_in image layout at ≡ None → ((reg : ℕ) → ¬ HasIndirect (code_within image layout) at reg) → IsAtNode image layout entry at 2
+pub kind-none :
+    (image : Image) (layout : Layout) (entry at : ℕ) → instruction_in image layout at ≡ None
+    → ((reg : ℕ) → ¬ HasIndirect (code_within image layout) at reg) → IsAtNode image layout entry at 2
 kind-none image layout entry at none lacks = unknown (record {
   none = none;
   no_jump = λ j. elim j [ inl k ↦ lacks 4 k | inr k ↦ lacks 5 k ];
@@ -59,9 +63,11 @@ kind-none image layout entry at none lacks = unknown (record {
 
 -- Where trails come.
 
-module _ (image : Image) (layout : Layout) (entry at : ℕ) (known : Known) (is_entry : IsEntry image layout entry) (w : IsWitnessed image layout entry at known) where
+module _ (image : Image) (layout : Layout) (entry at : ℕ) (known : Known) (is_entry : IsEntry image layout entry)
+    (w : IsWitnessed image layout entry at known) where
   -- a construct at a node that is reached
-  pub construct-here : (kind : ℕ) → IsAtNode image layout entry at kind → IsRefusedByTrails image layout (Construct kind at)
+  pub construct-here :
+      (kind : ℕ) → IsAtNode image layout entry at kind → IsRefusedByTrails image layout (Construct kind at)
   construct-here kind stands = refused.construct (record {
     entry = entry;
     is_entry = is_entry;
@@ -70,11 +76,15 @@ module _ (image : Image) (layout : Layout) (entry at : ℕ) (known : Known) (is_
   })
 
   module _ (stands : StandsAt image layout at Int21) where
-    has-ah : (ah : Option ℕ) (t : HasTrail image layout entry at known) → (told image layout at t.before).ah ≡ ah → HasAh image layout entry at ah
+    has-ah :
+        (ah : Option ℕ) (t : HasTrail image layout entry at known) → (told image layout at t.before).ah ≡ ah
+        → HasAh image layout entry at ah
     has-ah ah t e = record { before = t.before; trail = t.trail; stands = stands; ah_is = sym (told-ah image layout at t.before) ∙ e }
 
     -- two trails tell different things
-    two-ahs : (one other : HasTrail image layout entry at known) (a b : Option ℕ) → (told image layout at one.before).ah ≡ a → (told image layout at other.before).ah ≡ b → AreApart a b → HasNoNumber image layout entry at
+    two-ahs :
+        (one other : HasTrail image layout entry at known) (a b : Option ℕ) → (told image layout at one.before).ah ≡ a
+        → (told image layout at other.before).ah ≡ b → AreApart a b → HasNoNumber image layout entry at
     two-ahs one other None b e f apart = not_known (has-ah None one e)
     two-ahs one other (Some n) None e f apart = not_known (has-ah None other f)
     two-ahs one other (Some n) (Some m) e f apart =
@@ -97,7 +107,9 @@ module _ (image : Image) (layout : Layout) (entry at : ℕ) (known : Known) (is_
     number-refused lacks = construct-here DOS_NUMBER (dos_number (no-number lacks))
 
   module _ (r : Reg) (table : ℕ) (stands : StandsAt image layout at (Table r table)) where
-    has-number : (number : Option ℕ) (t : HasTrail image layout entry at known) → number_of r (told image layout at t.before).index ≡ number → HasNumber image layout entry at number
+    has-number :
+        (number : Option ℕ) (t : HasTrail image layout entry at known)
+        → number_of r (told image layout at t.before).index ≡ number → HasNumber image layout entry at number
     has-number number t e = record {
       before = t.before;
       trail = t.trail;
@@ -112,13 +124,20 @@ module _ (image : Image) (layout : Layout) (entry at : ℕ) (known : Known) (is_
     index-is None n e = let clash = e in cc
     index-is (Some i) n e = step (is_same_register i.register r) refl e
       where
-        step : (b : Bool) → is_same_register i.register r ≡ b → (if b then Some i.number else None) ≡ Some n → Some i ≡ Some (index_of n r)
+        step :
+            (b : Bool) → is_same_register i.register r ≡ b → (if b then Some i.number else None) ≡ Some n
+            → Some i ≡ Some (index_of n r)
         step true t is =
             let same : i.number ≡ n = cc in
             ap (λ q. Some (index_of i.number q)) (same-register i.register r t) ∙ ap (λ k. Some (index_of k r)) same
         step false t is = let clash = is in cc
 
-    two-numbers : (one other : HasTrail image layout entry at known) (a b : Option ℕ) → number_of r (told image layout at one.before).index ≡ a → number_of r (told image layout at other.before).index ≡ b → AreApart (told image layout at one.before).index (told image layout at other.before).index → IsFormless image layout entry at
+    two-numbers :
+        (one other : HasTrail image layout entry at known) (a b : Option ℕ)
+        → number_of r (told image layout at one.before).index ≡ a
+        → number_of r (told image layout at other.before).index ≡ b
+        → AreApart (told image layout at one.before).index (told image layout at other.before).index
+        → IsFormless image layout entry at
     two-numbers one other None b e f apart = construct.no_number (has-number None one e)
     two-numbers one other (Some n) None e f apart = construct.no_number (has-number None other f)
     two-numbers one other (Some n) (Some m) e f apart =
@@ -140,14 +159,19 @@ module _ (image : Image) (layout : Layout) (entry at : ℕ) (known : Known) (is_
         by (Some i) e =
             construct.no_number (has-number None w.trail (ap (number_of r) (w.trail.covers.index i e) ∙ sym (ap (number_of r) e) ∙ none))
 
-    pub table-refused : (refusal : Refusal) → IsTableFault image layout at known r table refusal → IsRefusedByTrails image layout refusal
+    pub table-refused :
+        (refusal : Refusal) → IsTableFault image layout at known r table refusal
+        → IsRefusedByTrails image layout refusal
     table-refused _ (no_number none) = construct-here INDIRECT_JUMP (formless (formless-none none))
     table-refused _ (many {number} is more) = refused.limit (entries is_entry (number-here number is) more)
     table-refused _ (outside {number} is few past) =
         construct-here INDIRECT_JUMP (formless (construct.no_table (number-here number is) few (record { register = r; table = table; stands = stands; outside = past })))
 
-  pub return-refused : (count : ℕ) → entry ≡ layout.start_ip → StandsAt image layout at (Ret count) → IsRefusedByTrails image layout (Construct ENTRY_RETURN at)
+  pub return-refused :
+      (count : ℕ) → entry ≡ layout.start_ip → StandsAt image layout at (Ret count)
+      → IsRefusedByTrails image layout (Construct ENTRY_RETURN at)
   return-refused count first stands = construct-here ENTRY_RETURN (entry_return (returns first stands))
 
-  pub call-refused : StandsAt image layout at (Call layout.start_ip) → IsRefusedByTrails image layout (Construct ENTRY_RETURN at)
+  pub call-refused :
+      StandsAt image layout at (Call layout.start_ip) → IsRefusedByTrails image layout (Construct ENTRY_RETURN at)
   call-refused stands = construct-here ENTRY_RETURN (entry_return (calls stands))

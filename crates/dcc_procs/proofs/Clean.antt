@@ -20,7 +20,8 @@ use Rattle.dcc_procs.proofs.Telling.{told-ah, told-number}
 use Rattle.dcc_procs.proofs.Witnessing.{numbered}
 use Rattle.dcc_procs.proofs.Indirect.{no-jump, no-call}
 
-module _ (image : Image) (layout : Layout) (loaded : IsLoaded image) (entry : ℕ) (seen : List (Option Known)) (all : AreAllSeen image layout entry seen) where
+module _ (image : Image) (layout : Layout) (loaded : IsLoaded image) (entry : ℕ) (seen : List (Option Known))
+    (all : AreAllSeen image layout entry seen) where
   -- what is known at a node
   record IsKnown (at : ℕ) : Type 0 where
     known : Known
@@ -32,7 +33,9 @@ module _ (image : Image) (layout : Layout) (loaded : IsLoaded image) (entry : �
   known-at : (at : ℕ) → IsNode image layout entry at → IsKnown at
   known-at at node = by (seen_at seen at) refl (all.told at node.before node.trail)
     where
-      by : (known : Option Known) → seen_at seen at ≡ known → Tells known (told image layout at node.before) → IsKnown at
+      by :
+          (known : Option Known) → seen_at seen at ≡ known → Tells known (told image layout at node.before)
+          → IsKnown at
       by None e t = absurd t
       by (Some known) e t =
           let a = all.accepted at known e in
@@ -65,13 +68,19 @@ module _ (image : Image) (layout : Layout) (loaded : IsLoaded image) (entry : �
       }
 
   -- each trail to a table jump tells the number
-  table-told : (at : ℕ) (before : List ℕ) (r : Reg) (table : ℕ) → IsTrail image layout entry (at ∷ before) → StandsAt image layout at (Table r table) → (t : IsTaken at (Table r table)) → table_number image layout r before ≡ Some (t.allowed.table r table refl).number
+  table-told :
+      (at : ℕ) (before : List ℕ) (r : Reg) (table : ℕ) → IsTrail image layout entry (at ∷ before)
+      → StandsAt image layout at (Table r table) → (t : IsTaken at (Table r table))
+      → table_number image layout r before ≡ Some (t.allowed.table r table refl).number
   table-told at before r table trail stands t =
       let h = t.allowed.table r table refl in
       let i = numbered r t.known.index h.number h.number_is in
       sym (told-number image layout r at before) ∙ ap (number_of r) ((t.covers before trail).index i.0 i.1) ∙ sym (ap (number_of r) i.1) ∙ h.number_is
 
-  number-is : (at : ℕ) (number : Option ℕ) (h : HasNumber image layout entry at number) → (t : HasTable image layout (taken at (Table h.register h.table) (record { before = h.before; trail = h.trail }) h.stands).known h.register h.table) × (number ≡ Some t.number)
+  number-is :
+      (at : ℕ) (number : Option ℕ) (h : HasNumber image layout entry at number)
+      → (t : HasTable image layout (taken at (Table h.register h.table) (record { before = h.before; trail = h.trail }) h.stands).known h.register h.table)
+      × (number ≡ Some t.number)
   number-is at number h =
       let t = taken at (Table h.register h.table) (record { before = h.before; trail = h.trail }) h.stands in
       (t.allowed.table h.register h.table refl, sym h.number_is ∙ table-told at h.before h.register h.table h.trail h.stands t)
@@ -116,7 +125,10 @@ module _ (image : Image) (layout : Layout) (loaded : IsLoaded image) (entry : �
       absurd (omega (arith, inside, past, same, table))
 
   -- each trail to INT 21h tells the number
-  ah-told : (at : ℕ) (ah : Option ℕ) (h : HasAh image layout entry at ah) → (n : HasDosNumber (taken at Int21 (record { before = h.before; trail = h.trail }) h.stands).known) × (ah ≡ Some n.0)
+  ah-told :
+      (at : ℕ) (ah : Option ℕ) (h : HasAh image layout entry at ah)
+      → (n : HasDosNumber (taken at Int21 (record { before = h.before; trail = h.trail }) h.stands).known)
+      × (ah ≡ Some n.0)
   ah-told at ah h =
       let t = taken at Int21 (record { before = h.before; trail = h.trail }) h.stands in
       let n = t.allowed.number refl in
@@ -137,7 +149,9 @@ module _ (image : Image) (layout : Layout) (loaded : IsLoaded image) (entry : �
       let both = first ∙ sym second in
       apart (let e = both in cc)
 
-  pub no-construct : ((at : ℕ) → IsNode image layout entry at → ¬ IsUnprepared image layout entry at) → (kind at : ℕ) → IsNode image layout entry at → ¬ IsAtNode image layout entry at kind
+  pub no-construct :
+      ((at : ℕ) → IsNode image layout entry at → ¬ IsUnprepared image layout entry at) → (kind at : ℕ)
+      → IsNode image layout entry at → ¬ IsAtNode image layout entry at kind
   no-construct prepared _ at node (unknown u) = let k = known-at at node in let clash = sym u.none ∙ k.accepted.found in cc
   no-construct prepared _ at node (foreign f) = let t = taken at f.op node f.stands in let clash = sym t.user ∙ f.foreign in cc
   no-construct prepared _ at node (indirect_jump h) = let k = known-at at node in no-jump image layout loaded at k.instr k.accepted.found h

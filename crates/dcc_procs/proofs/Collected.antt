@@ -28,13 +28,16 @@ number-other : (op : Op) (known : Known) → ¬ (op ≡ Int21) → number_by op 
 number-other Int21 known other = absurd (other refl)
 number-other op known other = refl
 
-module _ (image : Image) (layout : Layout) (entry : ℕ) (seen : List (Option Known)) (all : AreAllSeen image layout entry seen) where
+module _ (image : Image) (layout : Layout) (entry : ℕ) (seen : List (Option Known))
+    (all : AreAllSeen image layout entry seen) where
   -- an instruction stands at each offset that is seen
   pub seen-instruction : (at : ℕ) (known : Known) → seen_at seen at ≡ Some known → HasInstruction image layout at
   seen-instruction at known is = let a = all.accepted at known is in (a.0, a.1.found)
 
   -- the node that is made there is the node of the procedure
-  pub node-found : (at : ℕ) (known : Known) (node : Node) → seen_at seen at ≡ Some known → IsNodeBy image layout at known node → IsNodeFound image layout entry (at, node)
+  pub node-found :
+      (at : ℕ) (known : Known) (node : Node) → seen_at seen at ≡ Some known → IsNodeBy image layout at known node
+      → IsNodeFound image layout entry (at, node)
   node-found at known node is by =
       let a = all.accepted at known is in
       let both = sym a.1.found ∙ by.instr in
@@ -67,11 +70,15 @@ get-last : {A : Type 0} (xs : List A) (x : A) → slice_get (xs ++ x ∷ []) (le
 get-last [] x = refl
 get-last (a ∷ xs) x = get-last xs x
 
-below-tail : (e : ℕ × Node) (es : List (ℕ × Node)) (at : ℕ) → All (λ (found : ℕ × Node). found.0 < at) (e ∷ es) → All (λ (found : ℕ × Node). found.0 < at) es
+below-tail :
+    (e : ℕ × Node) (es : List (ℕ × Node)) (at : ℕ) → All (λ (found : ℕ × Node). found.0 < at) (e ∷ es)
+    → All (λ (found : ℕ × Node). found.0 < at) es
 below-tail e es at all k d inside = all (suc k) d (omega arith)
 
 -- a key above all others is put at the end
-insert-last : (es : List (ℕ × Node)) (at : ℕ) (node : Node) → All (λ (found : ℕ × Node). found.0 < at) es → insert_entry nat_eq es at node ≡ es ++ (at, node) ∷ []
+insert-last :
+    (es : List (ℕ × Node)) (at : ℕ) (node : Node) → All (λ (found : ℕ × Node). found.0 < at) es
+    → insert_entry nat_eq es at node ≡ es ++ (at, node) ∷ []
 insert-last [] at node all = refl
 insert-last (e ∷ es) at node all =
     let less = All-head (λ (found : ℕ × Node). found.0 < at) e es all in
@@ -86,7 +93,8 @@ pub record Collected (image : Image) (layout : Layout) (entry : ℕ) (offsets : 
   pub ascending : AllPairs (λ (a b : ℕ × Node). a.0 < b.0) nodes
   pub every : (k : ℕ) → k < place → IsListed nodes (get_or offsets k 0)
 
-pub collected-none : (image : Image) (layout : Layout) (entry : ℕ) (offsets : List ℕ) → Collected image layout entry offsets 0 []
+pub collected-none :
+    (image : Image) (layout : Layout) (entry : ℕ) (offsets : List ℕ) → Collected image layout entry offsets 0 []
 collected-none image layout entry offsets = record {
   are = λ k d inside. absurd (omega arith);
   keys = λ k d inside. absurd (omega arith);
@@ -94,7 +102,9 @@ collected-none image layout entry offsets = record {
   every = λ k inside. absurd (omega arith);
 }
 
-module _ (image : Image) (layout : Layout) (entry : ℕ) (offsets : List ℕ) (up : AllPairs (λ (a b : ℕ). a < b) offsets) (place : ℕ) (nodes : List (ℕ × Node)) (before : Collected image layout entry offsets place nodes) where
+module _ (image : Image) (layout : Layout) (entry : ℕ) (offsets : List ℕ)
+    (up : AllPairs (λ (a b : ℕ). a < b) offsets) (place : ℕ) (nodes : List (ℕ × Node))
+    (before : Collected image layout entry offsets place nodes) where
   module _ (inside : place < length offsets) where
     next : ℕ
     next = get_or offsets place 0
@@ -130,7 +140,9 @@ module _ (image : Image) (layout : Layout) (entry : ℕ) (offsets : List ℕ) (u
         })
 
   -- all
-  pub collected-all : (seen : List (Option Known)) → AreAllSeen image layout entry seen → IsListing seen offsets → length offsets ≤ place
+  pub collected-all :
+      (seen : List (Option Known)) → AreAllSeen image layout entry seen → IsListing seen offsets
+      → length offsets ≤ place
       → (at : ℕ) → IsNode image layout entry at → IsListed nodes at
   collected-all seen all listing past at node =
       let there = (listing at).1 (λ none. subst (λ s. Tells s (told image layout at node.before)) none (all.told at node.before node.trail)) in

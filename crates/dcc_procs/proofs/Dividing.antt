@@ -46,13 +46,17 @@ none-ready Idiv word_width is = refl
 none-ready division width is = cc
 
 -- what lacks it is a division
-lacks-divides : (ready : Ready) (division : Unary) (width : Width) → is_for ready division width ≡ false → is_division division ≡ true
+lacks-divides :
+    (ready : Ready) (division : Unary) (width : Width) → is_for ready division width ≡ false
+    → is_division division ≡ true
 lacks-divides ready Div width e = refl
 lacks-divides ready Idiv width e = refl
 lacks-divides ready division width e = cc
 
 -- one operation stands at an offset
-stands-once : (image : Image) (layout : Layout) (at : ℕ) (instr : Instr) (op : Op) → instruction_in image layout at ≡ Some instr → StandsAt image layout at op → instr.op ≡ op
+stands-once :
+    (image : Image) (layout : Layout) (at : ℕ) (instr : Instr) (op : Op) → instruction_in image layout at ≡ Some instr
+    → StandsAt image layout at op → instr.op ≡ op
 stands-once image layout at instr op found stands = let both = sym found ∙ stands.1 in let is = stands.2 in cc
 
 module _ (image : Image) (layout : Layout) (entry : ℕ) (division : Unary) (width : Width) where
@@ -64,7 +68,9 @@ module _ (image : Image) (layout : Layout) (entry : ℕ) (division : Unary) (wid
   split-prepared (further {from = from} {op = op} sole stands keeps before) = (from, op, sole, stands, λ none. absurd (none keeps before))
 
   -- where nothing is ready before the sole predecessor and that prepares nothing, nothing is prepared
-  unprepared-after : (from at : ℕ) (instr : Instr) → IsSolePredecessor image layout entry from at → instruction_in image layout from ≡ Some instr
+  unprepared-after :
+      (from at : ℕ) (instr : Instr) → IsSolePredecessor image layout entry from at
+      → instruction_in image layout from ≡ Some instr
       → prepares division width instr.op ≡ false
       → (keeps_dividend division width instr.op ≡ true → ¬ IsPrepared image layout entry division width from)
       → ¬ IsPrepared image layout entry division width at
@@ -112,7 +118,8 @@ module _ (image : Image) (layout : Layout) (entry : ℕ) where
           further sole stands parts.0 (before.prepared division width is parts.1)
 
   -- without a sole predecessor nothing is
-  ready-none : (at : ℕ) → ((from : ℕ) → ¬ IsSolePredecessor image layout entry from at) → IsReady image layout entry at unready
+  ready-none :
+      (at : ℕ) → ((from : ℕ) → ¬ IsSolePredecessor image layout entry from at) → IsReady image layout entry at unready
   ready-none at none = record {
     prepared = λ division width is so. let clash = sym (none-ready division width is) ∙ so in cc;
     unprepared = λ division width is so prepared.
@@ -130,7 +137,9 @@ module _ (image : Image) (layout : Layout) (entry : ℕ) where
   ]
 
   -- a trail that tells one comes from there
-  edge-told : (at from : ℕ) (before : List ℕ) → IsTrail image layout entry (at ∷ before) → (told image layout at before).from ≡ Some from → IsEdge image layout entry from at
+  edge-told :
+      (at from : ℕ) (before : List ℕ) → IsTrail image layout entry (at ∷ before)
+      → (told image layout at before).from ≡ Some from → IsEdge image layout entry from at
   edge-told at from [] trail e = let clash = e in cc
   edge-told at from (other ∷ before) trail e =
       let both = sym (told-from at other before) ∙ e in
@@ -138,17 +147,24 @@ module _ (image : Image) (layout : Layout) (entry : ℕ) where
       record { before = before; trail = subst (λ n. IsTrail image layout entry (at ∷ n ∷ before)) same trail }
 
   -- a trail to an offset with a sole predecessor tells that
-  sole-told : (at from : ℕ) (before : List ℕ) → IsSolePredecessor image layout entry from at → IsTrail image layout entry (at ∷ before) → (told image layout at before).from ≡ Some from
+  sole-told :
+      (at from : ℕ) (before : List ℕ) → IsSolePredecessor image layout entry from at
+      → IsTrail image layout entry (at ∷ before) → (told image layout at before).from ≡ Some from
   sole-told at from [] sole trail = absurd (sole.inner trail)
   sole-told at from (other ∷ before) sole trail =
       told-from at other before ∙ ap Some (sole.sole other (record { before = before; trail = trail }))
 
-  module _ (seen : List (Option Known)) (order : List ℕ) (all : AreAllSeen image layout entry seen) (o : IsOrder image layout entry seen order) where
-    covered : (at : ℕ) (known : Known) (before : List ℕ) → seen_at seen at ≡ Some known → IsTrail image layout entry (at ∷ before) → Covers known (told image layout at before)
+  module _ (seen : List (Option Known)) (order : List ℕ) (all : AreAllSeen image layout entry seen)
+      (o : IsOrder image layout entry seen order) where
+    covered :
+        (at : ℕ) (known : Known) (before : List ℕ) → seen_at seen at ≡ Some known
+        → IsTrail image layout entry (at ∷ before) → Covers known (told image layout at before)
     covered at known before is trail = subst (λ s. Tells s (told image layout at before)) is (all.told at before trail)
 
     -- the offset from which all trails come is the sole predecessor
-    from-sole : (at from : ℕ) (known : Known) → seen_at seen at ≡ Some known → known.from ≡ Some from → IsSolePredecessor image layout entry from at
+    from-sole :
+        (at from : ℕ) (known : Known) → seen_at seen at ≡ Some known → known.from ≡ Some from
+        → IsSolePredecessor image layout entry from at
     from-sole at from known is e =
         let t = (all.witnessed at known is).trail in
         record {
@@ -160,7 +176,9 @@ module _ (image : Image) (layout : Layout) (entry : ℕ) where
         }
 
     -- where nothing is known of it there is none
-    from-none : (at : ℕ) (known : Known) → seen_at seen at ≡ Some known → known.from ≡ None → (from : ℕ) → ¬ IsSolePredecessor image layout entry from at
+    from-none :
+        (at : ℕ) (known : Known) → seen_at seen at ≡ Some known → known.from ≡ None → (from : ℕ)
+        → ¬ IsSolePredecessor image layout entry from at
     from-none at known is e from sole =
         let d = (all.witnessed at known is).from e in
         d.apart from (sole-told at from d.one.before sole d.one.trail) (sole-told at from d.other.before sole d.other.trail)
@@ -203,12 +221,15 @@ module _ (image : Image) (layout : Layout) (entry : ℕ) where
         let there = (o.every at).1 (λ none. subst (λ s. Tells s (told image layout at node.before)) none (all.told at node.before node.trail)) in
         (there.0, there.1, get_or_default order there.0 0 at there.1 ∙ there.2)
 
-    pub ready-next : (place : ℕ) (ready : List Ready) (known : Option Known) → place < length order → AreReady place ready
+    pub ready-next :
+        (place : ℕ) (ready : List Ready) (known : Option Known) → place < length order → AreReady place ready
         → seen_at seen (reached place) ≡ known → IsReady image layout entry (reached place) (ready_at image layout known ready)
     ready-next place ready None inside before e = absurd (reached-seen place inside e)
     ready-next place ready (Some known) inside before e = by known.from refl
       where
-        by : (from : Option ℕ) → known.from ≡ from → IsReady image layout entry (reached place) (ready_from image layout from ready)
+        by :
+            (from : Option ℕ) → known.from ≡ from
+            → IsReady image layout entry (reached place) (ready_from image layout from ready)
         by None f = ready-none (reached place) (from-none (reached place) known e f)
         by (Some from) f =
             let sole = from-sole (reached place) from known e f in
@@ -226,16 +247,21 @@ module _ (image : Image) (layout : Layout) (entry : ℕ) where
             let onward = ready-onward from (reached place) a.0 (get_or ready from unready) sole a.1.found was in
             rw a.1.found onward
 
-    module _ (place : ℕ) (ready : List Ready) (here : Ready) (inside : place < length order) (fits : reached place < length ready) where
+    module _ (place : ℕ) (ready : List Ready) (here : Ready) (inside : place < length order)
+        (fits : reached place < length ready) where
       -- what was so at the others stays so
-      others-stay : (i : ℕ) → i < place → get_or (slice_set ready (reached place) here) (reached i) unready ≡ get_or ready (reached i) unready
+      others-stay :
+          (i : ℕ) → i < place
+          → get_or (slice_set ready (reached place) here) (reached i) unready ≡ get_or ready (reached i) unready
       others-stay i less = get_or-set_other ready (reached place) (reached i) here unready (λ same. o.distinct i place 0 less inside same)
 
       here-now : get_or (slice_set ready (reached place) here) (reached place) unready ≡ here
       here-now = get_or-set_same ready (reached place) here unready fits
 
       -- so it is said of one more offset
-      one-more : (P : ℕ → Ready → Type 0) → ((i : ℕ) → i < place → i < length order → P (reached i) (get_or ready (reached i) unready))
+      one-more :
+          (P : ℕ → Ready → Type 0)
+          → ((i : ℕ) → i < place → i < length order → P (reached i) (get_or ready (reached i) unready))
           → P (reached place) here
           → (i : ℕ) → i < place + 1 → i < length order → P (reached i) (get_or (slice_set ready (reached place) here) (reached i) unready)
       one-more P before is i less short = elim (cases_lt i place) [
@@ -245,10 +271,14 @@ module _ (image : Image) (layout : Layout) (entry : ℕ) where
             subst (λ k. P (reached k) (get_or (slice_set ready (reached place) here) (reached k) unready)) same (subst (P (reached place)) (sym here-now) is)
       ]
 
-      pub ready-more : AreReady place ready → IsReady image layout entry (reached place) here → AreReady (place + 1) (slice_set ready (reached place) here)
+      pub ready-more :
+          AreReady place ready → IsReady image layout entry (reached place) here
+          → AreReady (place + 1) (slice_set ready (reached place) here)
       ready-more = one-more (IsReady image layout entry)
 
-      pub fine-more : AreFine place ready → FindsReady image layout (reached place) here → AreFine (place + 1) (slice_set ready (reached place) here)
+      pub fine-more :
+          AreFine place ready → FindsReady image layout (reached place) here
+          → AreFine (place + 1) (slice_set ready (reached place) here)
       fine-more = one-more (FindsReady image layout)
 
     -- at the end no division lacks what it needs
@@ -263,7 +293,8 @@ module _ (image : Image) (layout : Layout) (entry : ℕ) where
         lacks.unprepared (subst (λ n. IsPrepared image layout entry lacks.division (operand_width lacks.operand) n) r.2 prepared)
 
     -- one that lacks it is a construct
-    pub lacks-refused : (place : ℕ) (here : Ready) (refusal : Refusal) → IsEntry image layout entry → place < length order
+    pub lacks-refused :
+        (place : ℕ) (here : Ready) (refusal : Refusal) → IsEntry image layout entry → place < length order
         → IsReady image layout entry (reached place) here → LacksReady image layout (reached place) here refusal
         → IsRefusedByTrails image layout refusal
     lacks-refused place here refusal is_entry inside is lacks =
@@ -289,19 +320,28 @@ pub record Passed (image : Image) (layout : Layout) (entry : ℕ) (seen : List (
   pub are_fine :
       (i : ℕ) → i < place → i < length order → FindsReady image layout (get_or order i 0) (get_or ready (get_or order i 0) unready)
 
-pub passed-none : (image : Image) (layout : Layout) (entry : ℕ) (seen : List (Option Known)) (order : List ℕ) (ready : List Ready) → length ready ≡ 65536 → Passed image layout entry seen order 0 ready
+pub passed-none :
+    (image : Image) (layout : Layout) (entry : ℕ) (seen : List (Option Known)) (order : List ℕ) (ready : List Ready)
+    → length ready ≡ 65536 → Passed image layout entry seen order 0 ready
 passed-none image layout entry seen order ready size = record {
   size = size;
   are_ready = λ i less. absurd (omega (arith, less));
   are_fine = λ i less. absurd (omega (arith, less));
 }
 
-module _ (image : Image) (layout : Layout) (entry : ℕ) (seen : List (Option Known)) (order : List ℕ) (all : AreAllSeen image layout entry seen) (o : IsOrder image layout entry seen order) (place : ℕ) (ready : List Ready) (passed : Passed image layout entry seen order place ready) (inside : place < length order) where
+module _ (image : Image) (layout : Layout) (entry : ℕ) (seen : List (Option Known)) (order : List ℕ)
+    (all : AreAllSeen image layout entry seen) (o : IsOrder image layout entry seen order) (place : ℕ)
+    (ready : List Ready) (passed : Passed image layout entry seen order place ready) (inside : place < length order)
+    where
   -- what is ready at the next one
-  pub next-ready : (known : Option Known) → seen_at seen (get_or order place 0) ≡ known → IsReady image layout entry (get_or order place 0) (ready_at image layout known ready)
+  pub next-ready :
+      (known : Option Known) → seen_at seen (get_or order place 0) ≡ known
+      → IsReady image layout entry (get_or order place 0) (ready_at image layout known ready)
   next-ready known e = ready-next image layout entry seen order all o place ready known inside passed.are_ready e
 
-  pub passed-more : (here : Ready) → get_or order place 0 < 65536 → IsReady image layout entry (get_or order place 0) here → FindsReady image layout (get_or order place 0) here
+  pub passed-more :
+      (here : Ready) → get_or order place 0 < 65536 → IsReady image layout entry (get_or order place 0) here
+      → FindsReady image layout (get_or order place 0) here
       → Passed image layout entry seen order (place + 1) (slice_set ready (get_or order place 0) here)
   passed-more here below is fine =
       let fits : get_or order place 0 < length ready = (let size = passed.size in omega (arith, below, size)) in

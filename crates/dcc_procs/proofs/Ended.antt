@@ -27,7 +27,9 @@ pub record Searched (image : Image) (layout : Layout) (entry : ℕ) (work : Work
       (at : ℕ) (known : Known) → seen_at work.seen at ≡ Some known → Contains work.pending at ⊎ IsClosed image layout entry work at known
 
 -- the trail of the entry alone
-pub searched-start : (image : Image) (layout : Layout) (entry : ℕ) (old new : Work) → entry < 65536 → IsFresh old → IsArrived old new entry nothing → Searched image layout entry new
+pub searched-start :
+    (image : Image) (layout : Layout) (entry : ℕ) (old new : Work) → entry < 65536 → IsFresh old
+    → IsArrived old new entry nothing → Searched image layout entry new
 searched-start image layout entry old new inside fresh came =
     let a = arrives image layout entry old new entry nothing (sound-fresh image layout entry old fresh) inside (witnessed-entry image layout entry) (alone fresh.order refl) came in
     record {
@@ -41,7 +43,9 @@ searched-start image layout entry old new inside fresh came =
 
 -- One more instruction.
 
-closed-stays : (image : Image) (layout : Layout) (entry : ℕ) (old new : Work) (at : ℕ) (known : Known) → Extends old new → IsClosed image layout entry old at known → IsClosed image layout entry new at known
+closed-stays :
+    (image : Image) (layout : Layout) (entry : ℕ) (old new : Work) (at : ℕ) (known : Known) → Extends old new
+    → IsClosed image layout entry old at known → IsClosed image layout entry new at known
 closed-stays image layout entry old new at known e c = record {
   instr = c.instr;
   accepted = c.accepted;
@@ -49,7 +53,10 @@ closed-stays image layout entry old new at known e c = record {
 }
 
 -- what is said of a search whose last pending offset is taken
-pub popped-sound : (image : Image) (layout : Layout) (entry : ℕ) (seen : List (Option Known)) (order rest : List ℕ) (at : ℕ) → IsSound image layout entry (record { seen = seen; order = order; pending = rest ++ at ∷ [] }) → IsSound image layout entry (record { seen = seen; order = order; pending = rest })
+pub popped-sound :
+    (image : Image) (layout : Layout) (entry : ℕ) (seen : List (Option Known)) (order rest : List ℕ) (at : ℕ)
+    → IsSound image layout entry (record { seen = seen; order = order; pending = rest ++ at ∷ [] })
+    → IsSound image layout entry (record { seen = seen; order = order; pending = rest })
 popped-sound image layout entry seen order rest at s = record {
   length_is = s.length_is;
   witnessed = s.witnessed;
@@ -57,8 +64,13 @@ popped-sound image layout entry seen order rest at s = record {
   waiting = λ i c. s.waiting i (Contains-append_left rest (at ∷ []) i c);
 }
 
-module _ (image : Image) (layout : Layout) (entry : ℕ) (seen : List (Option Known)) (order rest : List ℕ) (at : ℕ) (after : Work) (before : Searched image layout entry (record { seen = seen; order = order; pending = rest ++ at ∷ [] })) (f : IsFollowed image layout entry at (record { seen = seen; order = order; pending = rest }) after) where
-  closed-here : (known : Known) → seen_at after.seen at ≡ Some known → Contains after.pending at ⊎ IsClosed image layout entry after at known
+module _ (image : Image) (layout : Layout) (entry : ℕ) (seen : List (Option Known)) (order rest : List ℕ) (at : ℕ)
+    (after : Work)
+    (before : Searched image layout entry (record { seen = seen; order = order; pending = rest ++ at ∷ [] }))
+    (f : IsFollowed image layout entry at (record { seen = seen; order = order; pending = rest }) after) where
+  closed-here :
+      (known : Known) → seen_at after.seen at ≡ Some known
+      → Contains after.pending at ⊎ IsClosed image layout entry after at known
   closed-here known is = elim (f.extends.stays at) [
     | inr waits ↦ inl waits
     | inl same ↦
@@ -67,7 +79,9 @@ module _ (image : Image) (layout : Layout) (entry : ℕ) (seen : List (Option Kn
         inr (subst (IsClosed image layout entry after at) (sym one) (record { instr = f.instr; accepted = f.accepted; onward = f.onward }))
   ]
 
-  closed-after : (i : ℕ) (known : Known) → seen_at after.seen i ≡ Some known → Contains after.pending i ⊎ IsClosed image layout entry after i known
+  closed-after :
+      (i : ℕ) (known : Known) → seen_at after.seen i ≡ Some known
+      → Contains after.pending i ⊎ IsClosed image layout entry after i known
   closed-after i known is = elim (f.extends.stays i) [
     | inr waits ↦ inl waits
     | inl same ↦ elim (before.closed i known (sym same ∙ is)) [
@@ -93,23 +107,31 @@ module _ (image : Image) (layout : Layout) (entry : ℕ) (seen : List (Option Kn
       omega (arith, less, more)
 
 -- what was to be followed is seen
-pub waiting-here : (image : Image) (layout : Layout) (entry : ℕ) (seen : List (Option Known)) (order rest : List ℕ) (at : ℕ) → Searched image layout entry (record { seen = seen; order = order; pending = rest ++ at ∷ [] }) → seen_at seen at ≢ None
+pub waiting-here :
+    (image : Image) (layout : Layout) (entry : ℕ) (seen : List (Option Known)) (order rest : List ℕ) (at : ℕ)
+    → Searched image layout entry (record { seen = seen; order = order; pending = rest ++ at ∷ [] })
+    → seen_at seen at ≢ None
 waiting-here image layout entry seen order rest at s = s.sound.waiting at (Contains-push rest at)
 
 -- The end: nothing is left to follow.
 
-module _ (image : Image) (layout : Layout) (entry : ℕ) (work : Work) (none : work.pending ≡ []) (s : Searched image layout entry work) where
+module _ (image : Image) (layout : Layout) (entry : ℕ) (work : Work) (none : work.pending ≡ [])
+    (s : Searched image layout entry work) where
   closed-at : (at : ℕ) (known : Known) → seen_at work.seen at ≡ Some known → IsClosed image layout entry work at known
   closed-at at known is = elim (s.closed at known is) [
     | inl waits ↦ absurd (let e = ap length none in let inside = waits.1 in omega (arith, e, inside))
     | inr closed ↦ closed
   ]
 
-  told-by : (before : List ℕ) (at : ℕ) → IsTrail image layout entry (at ∷ before) → Tells (seen_at work.seen at) (told image layout at before)
+  told-by :
+      (before : List ℕ) (at : ℕ) → IsTrail image layout entry (at ∷ before)
+      → Tells (seen_at work.seen at) (told image layout at before)
   told-by [] at trail = subst (λ n. Tells (seen_at work.seen n) nothing) (sym trail) s.start
   told-by (last ∷ rest) at trail = onward (seen_at work.seen last) refl (told-by rest last trail.1)
     where
-      onward : (known : Option Known) → seen_at work.seen last ≡ known → Tells known (told image layout last rest) → Tells (seen_at work.seen at) (told image layout at (last ∷ rest))
+      onward :
+          (known : Option Known) → seen_at work.seen last ≡ known → Tells known (told image layout last rest)
+          → Tells (seen_at work.seen at) (told image layout at (last ∷ rest))
       onward None is t = absurd t
       onward (Some known) is t =
           let c = closed-at last known is in

@@ -16,7 +16,10 @@ use Rattle.dcc_prog.specs.Refused as refused
 use Rattle.dcc_procs.specs.declared.entries.Entries.{Entries}
 use Rattle.dcc_procs.specs.Entries.{IsEmpty, IsAdded, known, added, IsOverfull, AreEntries, AreAdded}
 
-flag-cases : (flags : List Bool) (at : ℕ) → at < length flags → (i : ℕ) → ((i ≡ at) × (get_or (slice_set flags at true) i false ≡ true)) ⊎ (get_or (slice_set flags at true) i false ≡ get_or flags i false)
+flag-cases :
+    (flags : List Bool) (at : ℕ) → at < length flags → (i : ℕ)
+    → ((i ≡ at) × (get_or (slice_set flags at true) i false ≡ true))
+    ⊎ (get_or (slice_set flags at true) i false ≡ get_or flags i false)
 flag-cases flags at inside i =
     elim (i == at) as (λ b. (i == at) ≡ b → ((i ≡ at) × (get_or (slice_set flags at true) i false ≡ true)) ⊎ (get_or (slice_set flags at true) i false ≡ get_or flags i false)) [
       | true ↦ λ t. inl (eqb-true i at t, get_or-set_at flags at i true false (eqb-true i at t) inside)
@@ -24,13 +27,16 @@ flag-cases flags at inside i =
     ] refl
 
 -- a value that isn't listed is not among these
-apart-from : (order : List ℕ) (flags : List Bool) (entry : ℕ) → ((at : ℕ) → Contains order at ↔ (get_or flags at false ≡ true)) → get_or flags entry false ≡ false → (k d : ℕ) → k < length order → get_or order k d ≢ entry
+apart-from :
+    (order : List ℕ) (flags : List Bool) (entry : ℕ) → ((at : ℕ) → Contains order at ↔ (get_or flags at false ≡ true))
+    → get_or flags entry false ≡ false → (k d : ℕ) → k < length order → get_or order k d ≢ entry
 apart-from order flags entry listed unlisted k d inside is =
     let flag = (listed (get_or order k d)).0 (Contains-get_or order k d inside) in
     let clash = sym flag ∙ ap (λ n. get_or flags n false) is ∙ unlisted in
     cc
 
-pub entries-none : (image : Image) (layout : Layout) (entries : Entries) → IsEmpty entries → AreEntries image layout entries
+pub entries-none :
+    (image : Image) (layout : Layout) (entries : Entries) → IsEmpty entries → AreEntries image layout entries
 entries-none image layout entries e = record {
   length_is = e.length_is;
   listed = λ at. (λ c. absurd (let none = ap length e.order in let inside = c.1 in omega (arith, none, inside)), λ t. absurd (let clash = sym (e.listed at) ∙ t in cc));
@@ -39,8 +45,12 @@ entries-none image layout entries e = record {
   few = let none = ap length e.order in omega (arith, none);
 }
 
-module _ (image : Image) (layout : Layout) (old : Entries) (entry : ℕ) (are : AreEntries image layout old) (is_entry : IsEntry image layout entry) where
-  pushed : (new : Entries) → entry < 65536 → get_or old.listed.items entry false ≡ false → length old.order.items < 512 → new.order.items ≡ old.order.items ++ entry ∷ [] → new.listed.items ≡ slice_set old.listed.items entry true → AreEntries image layout new
+module _ (image : Image) (layout : Layout) (old : Entries) (entry : ℕ) (are : AreEntries image layout old)
+    (is_entry : IsEntry image layout entry) where
+  pushed :
+      (new : Entries) → entry < 65536 → get_or old.listed.items entry false ≡ false → length old.order.items < 512
+      → new.order.items ≡ old.order.items ++ entry ∷ [] → new.listed.items ≡ slice_set old.listed.items entry true
+      → AreEntries image layout new
   pushed new small unlisted room order flags =
       let inside : entry < length old.listed.items = (let whole = are.length_is in omega (arith, whole, small)) in
       record {
@@ -86,7 +96,8 @@ module _ (image : Image) (layout : Layout) (old : Entries) (entry : ℕ) (are : 
     ];
   }
 
-  too-many : length old.order.items ≡ 512 → get_or old.listed.items entry false ≡ false → HasMany (IsEntry image layout) 513
+  too-many :
+      length old.order.items ≡ 512 → get_or old.listed.items entry false ≡ false → HasMany (IsEntry image layout) 513
   too-many full unlisted = record {
     values = old.order.items ++ entry ∷ [];
     hold = All-push (IsEntry image layout) old.order.items entry (λ k d inside. are.reached (get_or old.order.items k d) (Contains-get_or old.order.items k d inside)) is_entry;
@@ -101,7 +112,10 @@ module _ (image : Image) (layout : Layout) (old : Entries) (entry : ℕ) (are : 
   overfull-refused refusal full = absurd full
 
 -- one entry after others
-pub added-more : (image : Image) (layout : Layout) (old mid new : Entries) (done : List ℕ) (entry : ℕ) → AreAdded image layout old mid done → AreAdded image layout mid new (entry ∷ []) → AreAdded image layout old new (done ++ entry ∷ [])
+pub added-more :
+    (image : Image) (layout : Layout) (old mid new : Entries) (done : List ℕ) (entry : ℕ)
+    → AreAdded image layout old mid done → AreAdded image layout mid new (entry ∷ [])
+    → AreAdded image layout old new (done ++ entry ∷ [])
 added-more image layout old mid new done entry a b = record {
   are = b.are;
   more = a.more ++ b.more;
@@ -112,7 +126,8 @@ added-more image layout old mid new done entry a b = record {
   ];
 }
 
-pub added-nothing : (image : Image) (layout : Layout) (old : Entries) → AreEntries image layout old → AreAdded image layout old old []
+pub added-nothing :
+    (image : Image) (layout : Layout) (old : Entries) → AreEntries image layout old → AreAdded image layout old old []
 added-nothing image layout old are = record {
   are = are;
   more = [];
@@ -121,7 +136,9 @@ added-nothing image layout old are = record {
 }
 
 -- one more entry keeps the sizes
-pub sizes-kept : (old new : Entries) (entry : ℕ) → IsAdded old new entry → length old.listed.items ≡ 65536 → length old.order.items ≤ 512 → (length new.listed.items ≡ 65536) × (length new.order.items ≤ 512)
+pub sizes-kept :
+    (old new : Entries) (entry : ℕ) → IsAdded old new entry → length old.listed.items ≡ 65536
+    → length old.order.items ≤ 512 → (length new.listed.items ≡ 65536) × (length new.order.items ≤ 512)
 sizes-kept old new entry (known listed same) whole few = (ap (λ (e : Entries). length e.listed.items) same ∙ whole, let e = ap (λ (e : Entries). length e.order.items) same in omega (arith, e, few))
 sizes-kept old new entry (added unlisted room order flags) whole few =
     (ap length flags ∙ length-set old.listed.items entry true ∙ whole, let more = ap length order ∙ length-append old.order.items (entry ∷ []) in omega (arith, more, room))

@@ -16,14 +16,19 @@ use Rattle.dcc_procs.specs.Search.{IsWitnessed, Work, seen_at, IsFull, IsSound}
 use Rattle.dcc_procs.proofs.Witnessing.{trail-node}
 
 -- where something is seen, there is a node
-pub node-seen : (image : Image) (layout : Layout) (entry : ℕ) (seen : List (Option Known)) → ((at : ℕ) (known : Known) → seen_at seen at ≡ Some known → IsWitnessed image layout entry at known) → (at : ℕ) → seen_at seen at ≢ None → IsNode image layout entry at
+pub node-seen :
+    (image : Image) (layout : Layout) (entry : ℕ) (seen : List (Option Known))
+    → ((at : ℕ) (known : Known) → seen_at seen at ≡ Some known → IsWitnessed image layout entry at known) → (at : ℕ)
+    → seen_at seen at ≢ None → IsNode image layout entry at
 node-seen image layout entry seen witnessed at is = by (seen_at seen at) refl
   where
     by : (known : Option Known) → seen_at seen at ≡ known → IsNode image layout entry at
     by None e = absurd (is e)
     by (Some known) e = let w = witnessed at known e in trail-node image layout entry at known w.trail
 
-module _ (image : Image) (layout : Layout) (entry : ℕ) (work : Work) (to : ℕ) (is_entry : IsEntry image layout entry) (s : IsSound image layout entry work) (node : IsNode image layout entry to) where
+module _ (image : Image) (layout : Layout) (entry : ℕ) (work : Work) (to : ℕ)
+    (is_entry : IsEntry image layout entry) (s : IsSound image layout entry work)
+    (node : IsNode image layout entry to) where
   one-more : seen_at work.seen to ≡ None → length work.order ≡ 4096 → HasMany (IsNode image layout entry) 4097
   one-more unseen full = record {
     values = work.order ++ to ∷ [];

@@ -21,7 +21,9 @@ use Rattle.dcc_procs.proofs.Places.{too-many-places}
 entry_of : Proc → ℕ
 entry_of proc = proc.entry
 
-pub first-none : (image : Image) (layout : Layout) (entries : List ℕ) → entries ≡ layout.start_ip ∷ [] → AreFirst image layout entries []
+pub first-none :
+    (image : Image) (layout : Layout) (entries : List ℕ) → entries ≡ layout.start_ip ∷ []
+    → AreFirst image layout entries []
 first-none image layout entries is = record {
   start = ap (λ l. get_or l 0 0) is;
   some = let one = ap length is in omega (arith, one);
@@ -32,7 +34,9 @@ first-none image layout entries is = record {
   total = omega arith;
 }
 
-module _ (image : Image) (layout : Layout) (entries more : List ℕ) (procs : List Proc) (proc : Proc) (first : AreFirst image layout entries procs) (next : length procs < length entries) (p : IsProcedure image layout (get_or entries (length procs) 0) proc) where
+module _ (image : Image) (layout : Layout) (entries more : List ℕ) (procs : List Proc) (proc : Proc)
+    (first : AreFirst image layout entries procs) (next : length procs < length entries)
+    (p : IsProcedure image layout (get_or entries (length procs) 0) proc) where
   pub entries-pushed : map (λ q. q.entry) (procs ++ proc ∷ []) ≡ take (length (procs ++ proc ∷ [])) (entries ++ more)
   entries-pushed =
       let e : Proc → ℕ = λ q. q.entry in
@@ -43,8 +47,13 @@ module _ (image : Image) (layout : Layout) (entries more : List ℕ) (procs : Li
       ∙ sym (take-append-le (length procs + 1) entries more (omega (arith, next)))
       ∙ sym (ap (λ n. take n (entries ++ more)) (length-append procs (proc ∷ [])))
 
-module _ (image : Image) (layout : Layout) (entries more : List ℕ) (procs : List Proc) (proc : Proc) (first : AreFirst image layout entries procs) (next : length procs < length entries) (p : IsProcedure image layout (get_or entries (length procs) 0) proc) (few : total_of procs + length proc.nodes.entries ≤ 32768) (callees : (target : ℕ) → Contains (calls_of proc.nodes.entries) target → Contains (entries ++ more) target) where
-  callees-later : (q : Proc) → HasCallees image layout q.entry entries → HasCallees image layout q.entry (entries ++ more)
+module _ (image : Image) (layout : Layout) (entries more : List ℕ) (procs : List Proc) (proc : Proc)
+    (first : AreFirst image layout entries procs) (next : length procs < length entries)
+    (p : IsProcedure image layout (get_or entries (length procs) 0) proc)
+    (few : total_of procs + length proc.nodes.entries ≤ 32768)
+    (callees : (target : ℕ) → Contains (calls_of proc.nodes.entries) target → Contains (entries ++ more) target) where
+  callees-later :
+      (q : Proc) → HasCallees image layout q.entry entries → HasCallees image layout q.entry (entries ++ more)
   callees-later q has at target node stands = Contains-append_left entries more target (has at target node stands)
 
   pub first-pushed : AreFirst image layout (entries ++ more) (procs ++ proc ∷ [])
@@ -59,7 +68,10 @@ module _ (image : Image) (layout : Layout) (entries more : List ℕ) (procs : Li
   }
 
 -- the next procedure, by the entry as it is read
-pub next-procedure : (image : Image) (layout : Layout) (entries : List ℕ) (procs : List Proc) (proc : Proc) (now n : ℕ) → length procs < length entries → now ≡ get_or entries n now → n ≡ length procs → IsProcedure image layout now proc → IsProcedure image layout (get_or entries (length procs) 0) proc
+pub next-procedure :
+    (image : Image) (layout : Layout) (entries : List ℕ) (procs : List Proc) (proc : Proc) (now n : ℕ)
+    → length procs < length entries → now ≡ get_or entries n now → n ≡ length procs
+    → IsProcedure image layout now proc → IsProcedure image layout (get_or entries (length procs) 0) proc
 next-procedure image layout entries procs proc now n less read is p =
     subst (λ e. IsProcedure image layout e proc) (read ∙ ap (λ k. get_or entries k now) is ∙ get_or_default entries (length procs) now 0 less) p
 
@@ -70,7 +82,12 @@ taken-apart n xs distinct i j d less inside same =
     distinct i j d less (omega (arith, inside, taken)) (sym (get_or-take n xs i d (omega (arith, less, inside, taken))) ∙ same ∙ get_or-take n xs j d (omega (arith, inside, taken)))
 
 -- too many instructions, with those of one more procedure
-pub total-refused : (image : Image) (layout : Layout) (entries : List ℕ) (procs : List Proc) (proc : Proc) → AreFirst image layout entries procs → length procs < length entries → IsProcedure image layout (get_or entries (length procs) 0) proc → AreAllReached image layout entries → AllPairs (λ x y. x ≢ y) entries → 32768 < total_of procs + length proc.nodes.entries → IsRefusedByTrails image layout (Limit Total 32769)
+pub total-refused :
+    (image : Image) (layout : Layout) (entries : List ℕ) (procs : List Proc) (proc : Proc)
+    → AreFirst image layout entries procs → length procs < length entries
+    → IsProcedure image layout (get_or entries (length procs) 0) proc → AreAllReached image layout entries
+    → AllPairs (λ x y. x ≢ y) entries → 32768 < total_of procs + length proc.nodes.entries
+    → IsRefusedByTrails image layout (Limit Total 32769)
 total-refused image layout entries procs proc first next p reached distinct more =
     let e : Proc → ℕ = λ q. q.entry in
     let all = procs ++ proc ∷ [] in

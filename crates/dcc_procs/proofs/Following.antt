@@ -24,7 +24,9 @@ pub record AreFollowed (image : Image) (layout : Layout) (entry at : ℕ) (known
   pub extends : Extends old new
   pub told : AreTold new at instr known (take place (successors_by image at instr known))
 
-module _ (image : Image) (layout : Layout) (entry at : ℕ) (known : Known) (instr : Instr) (old : Work) (is_entry : IsEntry image layout entry) (s : IsSound image layout entry old) (seen : seen_at old.seen at ≡ Some known) (a : IsAccepted image layout entry at known instr) where
+module _ (image : Image) (layout : Layout) (entry at : ℕ) (known : Known) (instr : Instr) (old : Work)
+    (is_entry : IsEntry image layout entry) (s : IsSound image layout entry old)
+    (seen : seen_at old.seen at ≡ Some known) (a : IsAccepted image layout entry at known instr) where
   witnessed : IsWitnessed image layout entry at known
   witnessed = s.witnessed at known seen
 
@@ -32,7 +34,9 @@ module _ (image : Image) (layout : Layout) (entry at : ℕ) (known : Known) (ins
   pub none-followed : IsSound image layout entry old × Extends old old × AreTold old at instr known []
   none-followed = (s, extends-refl old, λ to c t covers. absurd (let inside = c.1 in omega (arith, inside)))
 
-  module _ (mid : Work) (place to : ℕ) (k : Known) (inside : place < length (successors_by image at instr known)) (to_is : to ≡ get_or (successors_by image at instr known) place 0) (k_is : k ≡ known_after at instr to known) (sm : IsSound image layout entry mid) (em : Extends old mid) where
+  module _ (mid : Work) (place to : ℕ) (k : Known) (inside : place < length (successors_by image at instr known))
+      (to_is : to ≡ get_or (successors_by image at instr known) place 0) (k_is : k ≡ known_after at instr to known)
+      (sm : IsSound image layout entry mid) (em : Extends old mid) where
     there : Contains (successors_by image at instr known) to
     there = subst (Contains (successors_by image at instr known)) (sym to_is) (Contains-get_or (successors_by image at instr known) place 0 inside)
 
@@ -52,7 +56,10 @@ module _ (image : Image) (layout : Layout) (entry at : ℕ) (known : Known) (ins
         arrives image layout entry mid new to k sm small (subst (IsWitnessed image layout entry to) (sym k_is) w)
         (later ((sm.order.every at).1 still-seen) (edge-onward image layout entry at known instr a to there witnessed.trail)) arrived
 
-    pub one-followed : (new : Work) → to < 65536 → IsArrived mid new to k → AreTold mid at instr known (take place (successors_by image at instr known)) → IsSound image layout entry new × Extends old new × AreTold new at instr known (take (place + 1) (successors_by image at instr known))
+    pub one-followed :
+        (new : Work) → to < 65536 → IsArrived mid new to k
+        → AreTold mid at instr known (take place (successors_by image at instr known))
+        → IsSound image layout entry new × Extends old new × AreTold new at instr known (take (place + 1) (successors_by image at instr known))
     one-followed new small arrived tm =
         let c = came new small arrived in
         let more : take (place + 1) (successors_by image at instr known) ≡ take place (successors_by image at instr known) ++ to ∷ [] =
@@ -67,7 +74,10 @@ module _ (image : Image) (layout : Layout) (entry at : ℕ) (known : Known) (ins
         )
 
   -- all successors are followed
-  pub all-followed : (new : Work) (place : ℕ) → length (successors_by image at instr known) ≤ place → IsSound image layout entry new → Extends old new → AreTold new at instr known (take place (successors_by image at instr known)) → IsFollowed image layout entry at old new
+  pub all-followed :
+      (new : Work) (place : ℕ) → length (successors_by image at instr known) ≤ place → IsSound image layout entry new
+      → Extends old new → AreTold new at instr known (take place (successors_by image at instr known))
+      → IsFollowed image layout entry at old new
   all-followed new place past sn en tn = record {
     sound = sn;
     extends = en;

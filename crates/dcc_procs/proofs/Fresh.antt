@@ -18,7 +18,9 @@ none-at n i = elim (cases_lt i n) [
 ]
 
 -- what stands at an index
-pub seen-read : (seen : List (Option Known)) (i at : ℕ) (now value : Option Known) → now ≡ get_or seen i now → i ≡ at → now ≡ value → at < length seen → seen_at seen at ≡ value
+pub seen-read :
+    (seen : List (Option Known)) (i at : ℕ) (now value : Option Known) → now ≡ get_or seen i now → i ≡ at
+    → now ≡ value → at < length seen → seen_at seen at ≡ value
 seen-read seen i at now value read same is inside =
     get_or_default seen at None now inside ∙ ap (λ n. get_or seen n now) (sym same) ∙ sym read ∙ is
 
@@ -28,7 +30,9 @@ not-seen None h = refl
 not-seen (Some known) h = absurd (h (λ e. let clash = e in cc))
 
 -- the last of the offsets that are seen is forgotten
-pub cleared-one : (seen : List (Option Known)) (rest : List ℕ) (at i : ℕ) → length seen ≡ 65536 → at < 65536 → i ≡ at → ((n : ℕ) → seen_at seen n ≢ None → Contains (rest ++ at ∷ []) n)
+pub cleared-one :
+    (seen : List (Option Known)) (rest : List ℕ) (at i : ℕ) → length seen ≡ 65536 → at < 65536 → i ≡ at
+    → ((n : ℕ) → seen_at seen n ≢ None → Contains (rest ++ at ∷ []) n)
     → (length (slice_set seen i None) ≡ 65536) × ((n : ℕ) → seen_at (slice_set seen i None) n ≢ None → Contains rest n)
 cleared-one seen rest at i whole small is listed = (
   length-set seen i None ∙ whole,

@@ -29,12 +29,16 @@ unfolding table
 no-row I8086 = refl
 no-row I186 = refl
 
-none-fits : (cpu : Cpu) (m : ℕ) (rest : List ℕ) → m < 256 → 2 ≤ reg_field m → reg_field m ≤ 5 → find (λ row. fits row.pattern (0xff ∷ m ∷ rest)) (table cpu) ≡ None
+none-fits :
+    (cpu : Cpu) (m : ℕ) (rest : List ℕ) → m < 256 → 2 ≤ reg_field m → reg_field m ≤ 5
+    → find (λ row. fits row.pattern (0xff ∷ m ∷ rest)) (table cpu) ≡ None
 none-fits cpu m rest short low high =
     find-within form (0xff ∷ m ∷ rest) (table cpu) (and_both _ _ (fits-this 0xff 0xff refl) (and_both _ _ (fits-any_operand 2 5 m low high short) refl))
     ∙ ap (find (λ (row : Row). fits row.pattern (0xff ∷ m ∷ rest))) (no-row cpu)
 
-none-there : (cpu : Cpu) (at m : ℕ) (rest : List ℕ) (instr : Instr) → m < 256 → 2 ≤ reg_field m → reg_field m ≤ 5 → instruction_at cpu at (0xff ∷ m ∷ rest) ≡ Some instr → ⊥
+none-there :
+    (cpu : Cpu) (at m : ℕ) (rest : List ℕ) (instr : Instr) → m < 256 → 2 ≤ reg_field m → reg_field m ≤ 5
+    → instruction_at cpu at (0xff ∷ m ∷ rest) ≡ Some instr → ⊥
 none-there cpu at m rest instr short low high is =
     let row = instruction-row cpu at (0xff ∷ m ∷ rest) instr is in
     let found = find-fits cpu (0xff ∷ m ∷ rest) row.0 row.1 (and_left _ _ row.2) in
@@ -47,7 +51,9 @@ two-of [] le = absurd (omega arith)
 two-of (x ∷ []) le = absurd (omega arith)
 two-of (x ∷ y ∷ rest) le = (rest, refl)
 
-not-indirect : (cpu : Cpu) (code : List ℕ) (at reg : ℕ) (instr : Instr) → ((i : ℕ) → get_or code i 0 < 256) → 2 ≤ reg → reg ≤ 5 → instruction_at cpu at (drop at code) ≡ Some instr → ¬ HasIndirect code at reg
+not-indirect :
+    (cpu : Cpu) (code : List ℕ) (at reg : ℕ) (instr : Instr) → ((i : ℕ) → get_or code i 0 < 256) → 2 ≤ reg → reg ≤ 5
+    → instruction_at cpu at (drop at code) ≡ Some instr → ¬ HasIndirect code at reg
 not-indirect cpu code at reg instr bytes low high is h =
     let two = two-of (drop at code) (let e = length-drop at code in omega (arith, h.inside)) in
     let first : get_or (drop at code) 0 0 ≡ 0xff = get_or-drop at code 0 0 ∙ ap (λ n. get_or code n 0) (omega arith) ∙ h.opcode in
@@ -69,7 +75,8 @@ code-byte image layout loaded i = elim (cases_lt i (length (code_within image la
   | inr past ↦ (let zero = get_or_past (code_within image layout) i 0 past in omega (arith, zero))
 ]
 
-module _ (image : Image) (layout : Layout) (loaded : IsLoaded image) (at : ℕ) (instr : Instr) (is : instruction_in image layout at ≡ Some instr) where
+module _ (image : Image) (layout : Layout) (loaded : IsLoaded image) (at : ℕ) (instr : Instr)
+    (is : instruction_in image layout at ≡ Some instr) where
   pub no-jump : ¬ IsIndirectJump (code_within image layout) at
   no-jump h = elim h [
     | inl four ↦ not-indirect layout.cpu (code_within image layout) at 4 instr (code-byte image layout loaded) (omega arith) (omega arith) is four

@@ -22,10 +22,13 @@ use Rattle.dcc_procs.proofs.Telling.{same-register, register-same}
 -- the function of what is known either is constant, or gives one value of one alone, and none of none
 pub record IsStep {A B : Type 0} (f : Option A → Option B) : Type 0 where
   pub constant : (v : B) → f None ≡ Some v → (x : Option A) → f x ≡ Some v
-  pub single : f None ≡ None → (v : B) (x y : Option A) → f x ≡ Some v → f y ≡ Some v → (u : A) × (x ≡ Some u) × (y ≡ Some u)
+  pub single :
+      f None ≡ None → (v : B) (x y : Option A) → f x ≡ Some v → f y ≡ Some v → (u : A) × (x ≡ Some u) × (y ≡ Some u)
 
 -- one value of one alone, by the value from which it came
-from-inverse : {A B : Type 0} (f : Option A → Option B) (back : B → A) → f None ≡ None → ((u : A) (v : B) → f (Some u) ≡ Some v → u ≡ back v) → IsStep f
+from-inverse :
+    {A B : Type 0} (f : Option A → Option B) (back : B → A) → f None ≡ None
+    → ((u : A) (v : B) → f (Some u) ≡ Some v → u ≡ back v) → IsStep f
 from-inverse {A} {B} f back none inverse = record {
   constant = λ v e x. let clash = sym none ∙ e in cc;
   single = λ n v x y e g. (back v, one x v e, one y v g);
@@ -56,11 +59,15 @@ came_from op (AlInRange number) = AlCompared number
 came_from op (Doubled r number) = InRange r number
 came_from op form = form
 
-form-inverse : (op : Op) (next to : ℕ) (form after : Form) → form_continued op next to form ≡ Some after → form ≡ came_from op after
+form-inverse :
+    (op : Op) (next to : ℕ) (form after : Form) → form_continued op next to form ≡ Some after
+    → form ≡ came_from op after
 form-inverse op next to (Compared r number) after e =
     step (is_bounds_test op next to) refl e
   where
-    step : (b : Bool) → is_bounds_test op next to ≡ b → (if b then Some (InRange r number) else None) ≡ Some after → Compared r number ≡ came_from op after
+    step :
+        (b : Bool) → is_bounds_test op next to ≡ b → (if b then Some (InRange r number) else None) ≡ Some after
+        → Compared r number ≡ came_from op after
     step true t is =
         let same : InRange r number ≡ after = cc in
         subst (λ f. Compared r number ≡ came_from op f) same
@@ -68,19 +75,25 @@ form-inverse op next to (Compared r number) after e =
     step false t is = let clash = is in cc
 form-inverse op next to (AlCompared number) after e = step (is_bounds_test op next to) e
   where
-    step : (b : Bool) → (if b then Some (AlInRange number) else None) ≡ Some after → AlCompared number ≡ came_from op after
+    step :
+        (b : Bool) → (if b then Some (AlInRange number) else None) ≡ Some after
+        → AlCompared number ≡ came_from op after
     step true is = let same : AlInRange number ≡ after = cc in subst (λ f. AlCompared number ≡ came_from op f) same refl
     step false is = let clash = is in cc
 form-inverse op next to (AlInRange number) after e = step (clears_upper Ax (Some op)) refl e
   where
-    step : (b : Bool) → clears_upper Ax (Some op) ≡ b → (if b then Some (InRange Ax number) else None) ≡ Some after → AlInRange number ≡ came_from op after
+    step :
+        (b : Bool) → clears_upper Ax (Some op) ≡ b → (if b then Some (InRange Ax number) else None) ≡ Some after
+        → AlInRange number ≡ came_from op after
     step true t is =
         let same : InRange Ax number ≡ after = cc in
         subst (λ f. AlInRange number ≡ came_from op f) same (sym (ap (λ b. if b then AlInRange number else Compared Ax number) t))
     step false t is = let clash = is in cc
 form-inverse op next to (InRange r number) after e = step (is_doubling r (Some op)) e
   where
-    step : (b : Bool) → (if b then Some (Doubled r number) else None) ≡ Some after → InRange r number ≡ came_from op after
+    step :
+        (b : Bool) → (if b then Some (Doubled r number) else None) ≡ Some after
+        → InRange r number ≡ came_from op after
     step true is = let same : Doubled r number ≡ after = cc in subst (λ f. InRange r number ≡ came_from op f) same refl
     step false is = let clash = is in cc
 form-inverse op next to (Doubled r number) after e = let clash = e in cc
@@ -100,30 +113,41 @@ abbrev before_index : Op → Index → Form
 before_index (Mov (Word q) (Word p)) index = Doubled p index.number
 before_index op index = InRange index.register index.number
 
-doubling-index : (op : Op) (r : Reg) (number : ℕ) → is_doubling r (Some op) ≡ true → InRange r number ≡ before_index op (index_of number r)
+doubling-index :
+    (op : Op) (r : Reg) (number : ℕ) → is_doubling r (Some op) ≡ true
+    → InRange r number ≡ before_index op (index_of number r)
 doubling-index (Mov (Word q) (Word p)) r number e = let clash = e in cc
 doubling-index op r number e = refl
 
-moving-index : (op : Op) (r q : Reg) (number : ℕ) → moved_to r op ≡ Some q → Doubled r number ≡ before_index op (index_of number q)
+moving-index :
+    (op : Op) (r q : Reg) (number : ℕ) → moved_to r op ≡ Some q
+    → Doubled r number ≡ before_index op (index_of number q)
 moving-index (Mov (Word y) (Word p)) r q number e = step (is_same_register r p) (not (is_same_register y p)) refl e
   where
-    step : (a b : Bool) → is_same_register r p ≡ a → (if a && b then Some y else None) ≡ Some q → Doubled r number ≡ Doubled p number
+    step :
+        (a b : Bool) → is_same_register r p ≡ a → (if a && b then Some y else None) ≡ Some q
+        → Doubled r number ≡ Doubled p number
     step true b t is = ap (λ (x : Reg). Doubled x number) (same-register r p t)
     step false b t is = let clash = is in cc
 moving-index op r q number e = let clash = e in cc
 
-index-inverse : (op : Op) (form : Form) (index : Index) → index_after op (Some form) ≡ Some index → form ≡ before_index op index
+index-inverse :
+    (op : Op) (form : Form) (index : Index) → index_after op (Some form) ≡ Some index → form ≡ before_index op index
 index-inverse op (Compared r number) index e = let clash = e in cc
 index-inverse op (AlCompared number) index e = let clash = e in cc
 index-inverse op (AlInRange number) index e = let clash = e in cc
 index-inverse op (InRange r number) index e = step (is_doubling r (Some op)) refl e
   where
-    step : (b : Bool) → is_doubling r (Some op) ≡ b → (if b then Some (index_of number r) else None) ≡ Some index → InRange r number ≡ before_index op index
+    step :
+        (b : Bool) → is_doubling r (Some op) ≡ b → (if b then Some (index_of number r) else None) ≡ Some index
+        → InRange r number ≡ before_index op index
     step true t is = let same : index_of number r ≡ index = cc in subst (λ i. InRange r number ≡ before_index op i) same (doubling-index op r number t)
     step false t is = let clash = is in cc
 index-inverse op (Doubled r number) index e = step (moved_to r op) refl e
   where
-    step : (moved : Option Reg) → moved_to r op ≡ moved → option_map (index_of number) moved ≡ Some index → Doubled r number ≡ before_index op index
+    step :
+        (moved : Option Reg) → moved_to r op ≡ moved → option_map (index_of number) moved ≡ Some index
+        → Doubled r number ≡ before_index op index
     step None t is = let clash = is in cc
     step (Some q) t is = let same : index_of number q ≡ index = cc in subst (λ i. Doubled r number ≡ before_index op i) same (moving-index op r q number t)
 
@@ -132,11 +156,15 @@ step-index op = from-inverse (index_after op) (before_index op) refl (λ form in
 
 -- After an instruction.
 
-covers-step : {A B : Type 0} (f : Option A → Option B) → IsStep f → (x y : Option A) → ((u : A) → x ≡ Some u → y ≡ Some u) → (v : B) → f x ≡ Some v → f y ≡ Some v
+covers-step :
+    {A B : Type 0} (f : Option A → Option B) → IsStep f → (x y : Option A) → ((u : A) → x ≡ Some u → y ≡ Some u)
+    → (v : B) → f x ≡ Some v → f y ≡ Some v
 covers-step f step None y covers v e = step.constant v e y
 covers-step f step (Some u) y covers v e = ap f (covers u refl) ∙ e
 
-pub covers-after : (at : ℕ) (instr : Instr) (to : ℕ) (known told : Known) → Covers known told → Covers (known_after at instr to known) (known_after at instr to told)
+pub covers-after :
+    (at : ℕ) (instr : Instr) (to : ℕ) (known told : Known) → Covers known told
+    → Covers (known_after at instr to known) (known_after at instr to told)
 covers-after at instr to known told c = record {
   ah = covers-step (λ (a : Option ℕ). if writes_half instr.op Ax High then constant_to_ah instr.op else a) (step-ah (writes_half instr.op Ax High) (constant_to_ah instr.op)) known.ah told.ah c.ah;
   form = covers-step (form_after instr.op (next_of at instr) to) (step-form instr.op (next_of at instr) to) known.form told.form c.form;
@@ -207,7 +235,9 @@ module _ {A : Type 0} (same : A → A → Bool) (test : IsTest same) where
       step false t is = let clash = is in cc
 
   -- no value in common
-  pub common-none : (a b : Option A) → common_of same a b ≡ None → (a ≡ None) ⊎ (b ≡ None) ⊎ ((u : A) × (v : A) × (a ≡ Some u) × (b ≡ Some v) × (u ≢ v))
+  pub common-none :
+      (a b : Option A) → common_of same a b ≡ None → (a ≡ None)
+      ⊎ (b ≡ None) ⊎ ((u : A) × (v : A) × (a ≡ Some u) × (b ≡ Some v) × (u ≢ v))
   common-none None b e = inl refl
   common-none (Some u) None e = inr (inl refl)
   common-none (Some u) (Some v) e = inr (inr (u, v, refl, refl, λ one. step one (same u v) refl e))
@@ -252,7 +282,8 @@ covers-second was known told c = record {
 }
 
 -- where no less is known in common, all of it was known
-pub covers-kept : (was known told : Known) → told_count was ≤ told_count (common was known) → Covers known told → Covers was told
+pub covers-kept :
+    (was known told : Known) → told_count was ≤ told_count (common was known) → Covers known told → Covers was told
 covers-kept was known told le c =
     let a = common-count nat_eq test-number was.ah known.ah in
     let b = common-count is_same_form test-form was.form known.form in

@@ -22,7 +22,9 @@ distinct-permuted xs ys moved distinct =
     AllPairs-from_IsDistinct unsigned_Decides ys (IsDistinct-IsPermutation nat_eq same-turned xs ys moved (IsDistinct-from_AllPairs unsigned_Decides xs distinct))
 
 -- by a number of each
-pub ascending-by : {A : Type 0} (n : A → ℕ) (xs ys : List A) → IsPermutation xs ys → AllPairs (λ x y. x ≢ y) (map n xs) → IsNonDecreasingBy n ys → AllPairs (λ a b. n a < n b) ys
+pub ascending-by :
+    {A : Type 0} (n : A → ℕ) (xs ys : List A) → IsPermutation xs ys → AllPairs (λ x y. x ≢ y) (map n xs)
+    → IsNonDecreasingBy n ys → AllPairs (λ a b. n a < n b) ys
 ascending-by n xs ys moved distinct up i j d less inside =
     let apart = distinct-permuted (map n xs) (map n ys) (IsPermutation-map n xs ys moved) distinct in
     let short = length-map ys n in

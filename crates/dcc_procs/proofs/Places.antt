@@ -21,7 +21,9 @@ pairs-head R x xs pairs k d inside = pairs 0 (suc k) d (omega arith) (omega (ari
 pub pairs-tail : {A : Type 0} (R : A → A → Type 0) (x : A) (xs : List A) → AllPairs R (x ∷ xs) → AllPairs R xs
 pairs-tail R x xs pairs i j d less inside = pairs (suc i) (suc j) d (omega (arith, less)) (omega (arith, inside))
 
-pairs-append : {A : Type 0} (R : A → A → Type 0) (xs ys : List A) → AllPairs R xs → AllPairs R ys → ((x y : A) → Contains xs x → Contains ys y → R x y) → AllPairs R (xs ++ ys)
+pairs-append :
+    {A : Type 0} (R : A → A → Type 0) (xs ys : List A) → AllPairs R xs → AllPairs R ys
+    → ((x y : A) → Contains xs x → Contains ys y → R x y) → AllPairs R (xs ++ ys)
 pairs-append R [] ys p q apart = q
 pairs-append R (x ∷ xs) ys p q apart =
     AllPairs-cons R x (xs ++ ys)
@@ -45,7 +47,9 @@ length-places (proc ∷ rest) =
     ∙ sym (sum_by-cons (λ (q : Proc). length q.nodes.entries) proc rest)
 
 -- an instruction of a procedure among these
-pub contains-place : (procs : List Proc) (proc : Proc) (at : ℕ) → Contains procs proc → IsListed proc.nodes.entries at → Contains (places_of procs) (proc.entry, at)
+pub contains-place :
+    (procs : List Proc) (proc : Proc) (at : ℕ) → Contains procs proc → IsListed proc.nodes.entries at
+    → Contains (places_of procs) (proc.entry, at)
 unfolding places_of place_in
 contains-place [] proc at c l = absurd (let inside = c.1 in omega (arith, inside))
 contains-place (first ∷ rest) proc at c l = elim (Contains-append_cases (first ∷ []) rest proc c) [
@@ -65,7 +69,9 @@ contains-place (first ∷ rest) proc at c l = elim (Contains-append_cases (first
 ]
 
 -- the procedure of an instruction
-place-entry : (procs : List Proc) (place : ℕ × ℕ) → Contains (places_of procs) place → Contains (map (λ (p : Proc). p.entry) procs) place.0
+place-entry :
+    (procs : List Proc) (place : ℕ × ℕ) → Contains (places_of procs) place
+    → Contains (map (λ (p : Proc). p.entry) procs) place.0
 unfolding places_of place_in
 place-entry [] place c = absurd (let inside = c.1 in omega (arith, inside))
 place-entry (first ∷ rest) place c = elim (Contains-append_cases (map (place_in first) first.nodes.entries) (places_of rest) place c) [
@@ -75,7 +81,9 @@ place-entry (first ∷ rest) place c = elim (Contains-append_cases (map (place_i
   | inr there ↦ Contains-append_right (first.entry ∷ []) (map (λ (p : Proc). p.entry) rest) place.0 (place-entry rest place there)
 ]
 
-own-apart : (proc : Proc) (nodes : List (ℕ × Node)) → AllPairs (λ (a b : ℕ × Node). a.0 < b.0) nodes → AllPairs (λ x y. x ≢ y) (map (place_in proc) nodes)
+own-apart :
+    (proc : Proc) (nodes : List (ℕ × Node)) → AllPairs (λ (a b : ℕ × Node). a.0 < b.0) nodes
+    → AllPairs (λ x y. x ≢ y) (map (place_in proc) nodes)
 unfolding place_in
 own-apart proc [] up i j d less inside same = absurd (omega (arith, inside))
 own-apart proc (x ∷ xs) up i j d less inside same =
@@ -87,7 +95,9 @@ own-apart proc (x ∷ xs) up i j d less inside same =
     absurd (omega (arith, one, apart))
 
 module _ (image : Image) (layout : Layout) where
-  places-apart : (procs : List Proc) → All (IsFound image layout) procs → AllPairs (λ x y. x ≢ y) (map (λ (p : Proc). p.entry) procs) → AllPairs (λ x y. x ≢ y) (places_of procs)
+  places-apart :
+      (procs : List Proc) → All (IsFound image layout) procs
+      → AllPairs (λ x y. x ≢ y) (map (λ (p : Proc). p.entry) procs) → AllPairs (λ x y. x ≢ y) (places_of procs)
   unfolding places_of place_in
   places-apart [] found distinct = λ i j d less inside same. absurd (omega (arith, inside))
   places-apart (first ∷ rest) found distinct =
@@ -99,7 +109,9 @@ module _ (image : Image) (layout : Layout) where
       let one : x.0 ≡ first.entry = All-contains (λ (q : ℕ × ℕ). q.0 ≡ first.entry) (map (place_in first) first.nodes.entries) x (All-map (λ (q : ℕ × ℕ). q.0 ≡ first.entry) (place_in first) first.nodes.entries (λ k d inside. refl)) c in
       All-contains (λ n. first.entry ≢ n) (map e rest) y.0 (pairs-head (λ x y. x ≢ y) first.entry (map e rest) distinct) (place-entry rest y k) (sym one ∙ ap (λ (q : ℕ × ℕ). q.0) same))
 
-  places-hold : (procs : List Proc) → All (IsFound image layout) procs → All (λ proc. IsEntry image layout proc.entry) procs → All (IsNodeOf image layout) (places_of procs)
+  places-hold :
+      (procs : List Proc) → All (IsFound image layout) procs → All (λ proc. IsEntry image layout proc.entry) procs
+      → All (IsNodeOf image layout) (places_of procs)
   unfolding places_of place_in
   places-hold [] found reached = λ k d inside. absurd (omega (arith, inside))
   places-hold (first ∷ rest) found reached =
@@ -109,7 +121,10 @@ module _ (image : Image) (layout : Layout) where
       (All-map (IsNodeOf image layout) (place_in first) first.nodes.entries (λ k d inside. record { is_entry = e; node = (f.nodes k d inside).node }))
       (places-hold rest (All-tail (IsFound image layout) first rest found) (All-tail (λ (p : Proc). IsEntry image layout p.entry) first rest reached))
 
-  pub too-many-places : (procs : List Proc) → All (IsFound image layout) procs → All (λ proc. IsEntry image layout proc.entry) procs → AllPairs (λ x y. x ≢ y) (map (λ (p : Proc). p.entry) procs) → 32768 < total_of procs → HasMany (IsNodeOf image layout) 32769
+  pub too-many-places :
+      (procs : List Proc) → All (IsFound image layout) procs → All (λ proc. IsEntry image layout proc.entry) procs
+      → AllPairs (λ x y. x ≢ y) (map (λ (p : Proc). p.entry) procs) → 32768 < total_of procs
+      → HasMany (IsNodeOf image layout) 32769
   too-many-places procs found reached distinct more =
       let whole = length-places procs in
       let taken = length-take 32769 (places_of procs) in

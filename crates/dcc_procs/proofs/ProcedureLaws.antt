@@ -21,7 +21,9 @@ use Rattle.dcc_procs.proofs.Counting.{no-more}
 use Rattle.dcc_procs.proofs.Ordered.{ascending-by}
 
 -- the order, sorted
-pub listing-sorted : (seen : List (Option Known)) (order sorted : List ℕ) → IsPermutation order sorted → IsListing seen order → IsListing seen sorted
+pub listing-sorted :
+    (seen : List (Option Known)) (order sorted : List ℕ) → IsPermutation order sorted → IsListing seen order
+    → IsListing seen sorted
 listing-sorted seen order sorted moved listing at = (
   λ c. (listing at).0 (Contains-permutation sorted order at (IsPermutation-sym order sorted moved) c),
   λ is. Contains-permutation order sorted at moved ((listing at).1 is),
@@ -31,11 +33,14 @@ map-self : (xs : List ℕ) → map (λ (x : ℕ). x) xs ≡ xs
 map-self [] = refl
 map-self (x ∷ xs) = ap (λ l. x ∷ l) (map-self xs)
 
-pub ascending-sorted : (order sorted : List ℕ) → IsPermutation order sorted → AllPairs (λ x y. x ≢ y) order → IsNonDecreasingBy (λ x. x) sorted → AllPairs (λ a b. a < b) sorted
+pub ascending-sorted :
+    (order sorted : List ℕ) → IsPermutation order sorted → AllPairs (λ x y. x ≢ y) order
+    → IsNonDecreasingBy (λ x. x) sorted → AllPairs (λ a b. a < b) sorted
 ascending-sorted order sorted moved distinct up = ascending-by (λ (x : ℕ). x) order sorted moved (subst (AllPairs (λ x y. x ≢ y)) (sym (map-self order)) distinct) up
 
 -- ascending numbers are different
-pub map-apart : {A : Type 0} (f : A → ℕ) (xs : List A) → AllPairs (λ a b. f a < f b) xs → AllPairs (λ x y. x ≢ y) (map f xs)
+pub map-apart :
+    {A : Type 0} (f : A → ℕ) (xs : List A) → AllPairs (λ a b. f a < f b) xs → AllPairs (λ x y. x ≢ y) (map f xs)
 map-apart f [] up i j d less inside same = absurd (omega (arith, inside))
 map-apart f (x ∷ xs) up i j d less inside same =
     let short = length-map (x ∷ xs) f in
@@ -44,7 +49,9 @@ map-apart f (x ∷ xs) up i j d less inside same =
     let apart = up i j x less (omega (arith, short, inside)) in
     absurd (omega (arith, a, b, same, apart))
 
-module _ (image : Image) (layout : Layout) (loaded : IsLoaded image) (entry : ℕ) (seen : List (Option Known)) (order : List ℕ) (all : AreAllSeen image layout entry seen) (o : IsOrder image layout entry seen order) (proc : Proc) (entry_is : proc.entry ≡ entry) (found : IsFound image layout proc) where
+module _ (image : Image) (layout : Layout) (loaded : IsLoaded image) (entry : ℕ) (seen : List (Option Known))
+    (order : List ℕ) (all : AreAllSeen image layout entry seen) (o : IsOrder image layout entry seen order)
+    (proc : Proc) (entry_is : proc.entry ≡ entry) (found : IsFound image layout proc) where
   tells-some : (known : Option Known) (t : Known) → Tells known t → known ≢ None
   tells-some known t tells none = subst (λ k. Tells k t) none tells
 
@@ -62,7 +69,9 @@ module _ (image : Image) (layout : Layout) (loaded : IsLoaded image) (entry : �
       let few = o.few in
       omega (arith, le, short, few)
 
-  pub is-procedure : ((at : ℕ) → IsNode image layout entry at → ¬ IsUnprepared image layout entry at) → IsProcedure image layout entry proc
+  pub is-procedure :
+      ((at : ℕ) → IsNode image layout entry at → ¬ IsUnprepared image layout entry at)
+      → IsProcedure image layout entry proc
   is-procedure prepared = record {
     entry_is = entry_is;
     found = found;

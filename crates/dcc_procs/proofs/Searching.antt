@@ -38,7 +38,9 @@ extends-trans a b c e f = record {
 }
 
 -- what is seen after one place has changed
-pub set-cases : (seen : List (Option Known)) (at : ℕ) (new : Option Known) → at < length seen → (i : ℕ) → ((i ≡ at) × (seen_at (slice_set seen at new) i ≡ new)) ⊎ (seen_at (slice_set seen at new) i ≡ seen_at seen i)
+pub set-cases :
+    (seen : List (Option Known)) (at : ℕ) (new : Option Known) → at < length seen → (i : ℕ)
+    → ((i ≡ at) × (seen_at (slice_set seen at new) i ≡ new)) ⊎ (seen_at (slice_set seen at new) i ≡ seen_at seen i)
 set-cases seen at new inside i =
     elim (i == at) as (λ b. (i == at) ≡ b → ((i ≡ at) × (seen_at (slice_set seen at new) i ≡ new)) ⊎ (seen_at (slice_set seen at new) i ≡ seen_at seen i)) [
       | true ↦ λ t. inl (eqb-true i at t, get_or-set_at seen at i new None (eqb-true i at t) inside)
@@ -66,7 +68,8 @@ module _ (work : Work) (order : List ℕ) (to : ℕ) (new : Known) (inside : to 
   here = get_or-set_at work.seen to to (Some new) None refl inside
 
   -- where something is seen, something stays seen
-  changed-seen : (at : ℕ) → (seen_at work.seen at ≢ None) ⊎ (to ≡ at) → seen_at (slice_set work.seen to (Some new)) at ≢ None
+  changed-seen :
+      (at : ℕ) → (seen_at work.seen at ≢ None) ⊎ (to ≡ at) → seen_at (slice_set work.seen to (Some new)) at ≢ None
   changed-seen at old e = elim (set-cases work.seen to (Some new) inside at) [
     | inl is ↦ let clash = sym is.1 ∙ e in cc
     | inr same ↦ elim old [
@@ -75,10 +78,16 @@ module _ (work : Work) (order : List ℕ) (to : ℕ) (new : Known) (inside : to 
     ]
   ]
 
-  changed-waiting : ((at : ℕ) → Contains work.pending at → seen_at work.seen at ≢ None) → (at : ℕ) → Contains (work.pending ++ to ∷ []) at → seen_at (slice_set work.seen to (Some new)) at ≢ None
+  changed-waiting :
+      ((at : ℕ) → Contains work.pending at → seen_at work.seen at ≢ None) → (at : ℕ)
+      → Contains (work.pending ++ to ∷ []) at → seen_at (slice_set work.seen to (Some new)) at ≢ None
   changed-waiting old at c = changed-seen at (elim (Contains-push_cases work.pending to at c) [ inl there ↦ inl (old at there) | inr is ↦ inr is ])
 
-  changed-witnessed : (image : Image) (layout : Layout) (entry : ℕ) → ((at : ℕ) (k : Known) → seen_at work.seen at ≡ Some k → IsWitnessed image layout entry at k) → IsWitnessed image layout entry to new → (at : ℕ) (k : Known) → seen_at (slice_set work.seen to (Some new)) at ≡ Some k → IsWitnessed image layout entry at k
+  changed-witnessed :
+      (image : Image) (layout : Layout) (entry : ℕ)
+      → ((at : ℕ) (k : Known) → seen_at work.seen at ≡ Some k → IsWitnessed image layout entry at k)
+      → IsWitnessed image layout entry to new → (at : ℕ) (k : Known)
+      → seen_at (slice_set work.seen to (Some new)) at ≡ Some k → IsWitnessed image layout entry at k
   changed-witnessed image layout entry old w at k e = elim (set-cases work.seen to (Some new) inside at) [
     | inl is ↦
         let both = sym is.1 ∙ e in
@@ -87,14 +96,18 @@ module _ (work : Work) (order : List ℕ) (to : ℕ) (new : Known) (inside : to 
     | inr same ↦ old at k (sym same ∙ e)
   ]
 
-  module _ (grows : (t : Known) → Tells (seen_at work.seen to) t → Covers new t) (falls : told_count new + 1 ≤ rank (seen_at work.seen to)) where
-    changed-tells : (at : ℕ) (t : Known) → Tells (seen_at work.seen at) t → Tells (seen_at (slice_set work.seen to (Some new)) at) t
+  module _ (grows : (t : Known) → Tells (seen_at work.seen to) t → Covers new t)
+      (falls : told_count new + 1 ≤ rank (seen_at work.seen to)) where
+    changed-tells :
+        (at : ℕ) (t : Known) → Tells (seen_at work.seen at) t
+        → Tells (seen_at (slice_set work.seen to (Some new)) at) t
     changed-tells at t told = elim (set-cases work.seen to (Some new) inside at) [
       | inl is ↦ subst (λ s. Tells s t) (sym is.1) (grows t (subst (λ i. Tells (seen_at work.seen i) t) is.0 told))
       | inr same ↦ subst (λ s. Tells s t) (sym same) told
     ]
 
-    changed-less : 2 * sum_by rank (slice_set work.seen to (Some new)) + length (work.pending ++ to ∷ []) ≤ 2 * sum_by rank work.seen + length work.pending
+    changed-less :
+        2 * sum_by rank (slice_set work.seen to (Some new)) + length (work.pending ++ to ∷ []) ≤ 2 * sum_by rank work.seen + length work.pending
     changed-less =
         let sums = sum_by-set rank work.seen to (Some new) None inside in
         let more = length-append work.pending (to ∷ []) in
@@ -119,7 +132,10 @@ pub data ComesFrom (image : Image) (layout : Layout) (entry : ℕ) (order : List
   later : {from : ℕ} → Contains order from → IsEdge image layout entry from to → ComesFrom image layout entry order to
 
 -- more is known at an offset that is seen: the order stays
-order-same : (image : Image) (layout : Layout) (entry : ℕ) (seen others : List (Option Known)) (order : List ℕ) → ((at : ℕ) → (seen_at seen at ≢ None) ↔ (seen_at others at ≢ None)) → IsOrder image layout entry seen order → IsOrder image layout entry others order
+order-same :
+    (image : Image) (layout : Layout) (entry : ℕ) (seen others : List (Option Known)) (order : List ℕ)
+    → ((at : ℕ) → (seen_at seen at ≢ None) ↔ (seen_at others at ≢ None)) → IsOrder image layout entry seen order
+    → IsOrder image layout entry others order
 order-same image layout entry seen others order same o = record {
   every = λ at. (λ c. (same at).0 ((o.every at).0 c), λ is. (o.every at).1 ((same at).1 is));
   distinct = o.distinct;
@@ -128,20 +144,29 @@ order-same image layout entry seen others order same o = record {
   few = o.few;
 }
 
-module _ (image : Image) (layout : Layout) (entry : ℕ) (seen : List (Option Known)) (order : List ℕ) (to : ℕ) (new : Known) (inside : to < length seen) (o : IsOrder image layout entry seen order) (unseen : seen_at seen to ≡ None) (room : length order < 4096) (comes : ComesFrom image layout entry order to) where
+module _ (image : Image) (layout : Layout) (entry : ℕ) (seen : List (Option Known)) (order : List ℕ) (to : ℕ)
+    (new : Known) (inside : to < length seen) (o : IsOrder image layout entry seen order)
+    (unseen : seen_at seen to ≡ None) (room : length order < 4096) (comes : ComesFrom image layout entry order to)
+    where
   last-is : (d : ℕ) → get_or (order ++ to ∷ []) (length order) d ≡ to
   last-is d = get_or-append_seam order to [] d
 
-  edge-to-last : (d : ℕ) → 0 < length order → (j : ℕ) × (j < length order) × IsEdge image layout entry (get_or (order ++ to ∷ []) j d) (get_or (order ++ to ∷ []) (length order) d)
+  edge-to-last :
+      (d : ℕ) → 0 < length order → (j : ℕ)
+      × (j < length order) × IsEdge image layout entry (get_or (order ++ to ∷ []) j d) (get_or (order ++ to ∷ []) (length order) d)
   edge-to-last d some = by comes
     where
-      by : ComesFrom image layout entry order to → (j : ℕ) × (j < length order) × IsEdge image layout entry (get_or (order ++ to ∷ []) j d) (get_or (order ++ to ∷ []) (length order) d)
+      by :
+          ComesFrom image layout entry order to → (j : ℕ)
+          × (j < length order) × IsEdge image layout entry (get_or (order ++ to ∷ []) j d) (get_or (order ++ to ∷ []) (length order) d)
       by (alone none is) = absurd (let e = ap length none in omega (arith, e, some))
       by (later {from} c edge) =
           let there : get_or (order ++ to ∷ []) c.0 d ≡ from = get_or_append_left order (to ∷ []) d c.0 c.1 ∙ get_or_default order c.0 d from c.1 ∙ c.2 in
           (c.0, c.1, subst (λ a. IsEdge image layout entry a (get_or (order ++ to ∷ []) (length order) d)) (sym there) (subst (IsEdge image layout entry from) (sym (last-is d)) edge))
 
-  earlier-pushed : (i d : ℕ) → 0 < i → i < length (order ++ to ∷ []) → (j : ℕ) × (j < i) × IsEdge image layout entry (get_or (order ++ to ∷ []) j d) (get_or (order ++ to ∷ []) i d)
+  earlier-pushed :
+      (i d : ℕ) → 0 < i → i < length (order ++ to ∷ []) → (j : ℕ)
+      × (j < i) × IsEdge image layout entry (get_or (order ++ to ∷ []) j d) (get_or (order ++ to ∷ []) i d)
   earlier-pushed i d some less = elim (cases_lt i (length order)) [
     | inl old ↦
         let e = o.earlier i d some old in
@@ -187,11 +212,15 @@ pub record Arrives (image : Image) (layout : Layout) (entry : ℕ) (old new : Wo
   pub extends : Extends old new
   pub tells : (t : Known) → Covers known t → Tells (seen_at new.seen to) t
 
-module _ (image : Image) (layout : Layout) (entry : ℕ) (old new : Work) (to : ℕ) (known : Known) (s : IsSound image layout entry old) (inside : to < 65536) (w : IsWitnessed image layout entry to known) (comes : ComesFrom image layout entry old.order to) where
+module _ (image : Image) (layout : Layout) (entry : ℕ) (old new : Work) (to : ℕ) (known : Known)
+    (s : IsSound image layout entry old) (inside : to < 65536) (w : IsWitnessed image layout entry to known)
+    (comes : ComesFrom image layout entry old.order to) where
   within : to < length old.seen
   within = subst (λ n. to < n) (sym s.length_is) inside
 
-  arrives-first : seen_at old.seen to ≡ None → length old.order < 4096 → Arrives image layout entry old (with_known old (old.order ++ to ∷ []) to known) to known
+  arrives-first :
+      seen_at old.seen to ≡ None → length old.order < 4096
+      → Arrives image layout entry old (with_known old (old.order ++ to ∷ []) to known) to known
   arrives-first unseen room = record {
     sound = record {
       length_is = length-set old.seen to (Some known) ∙ s.length_is;
@@ -205,7 +234,9 @@ module _ (image : Image) (layout : Layout) (entry : ℕ) (old new : Work) (to : 
     tells = λ t c. subst (λ k. Tells k t) (sym (here old old.order to known within)) c;
   }
 
-  arrives-less : (was : Known) → seen_at old.seen to ≡ Some was → told_count (common was known) < told_count was → Arrives image layout entry old (with_known old old.order to (common was known)) to known
+  arrives-less :
+      (was : Known) → seen_at old.seen to ≡ Some was → told_count (common was known) < told_count was
+      → Arrives image layout entry old (with_known old old.order to (common was known)) to known
   arrives-less was seen fewer =
       let less = common was known in
       record {
@@ -237,7 +268,8 @@ module _ (image : Image) (layout : Layout) (entry : ℕ) (old new : Work) (to : 
   })
 
 -- nothing is seen
-pub sound-fresh : (image : Image) (layout : Layout) (entry : ℕ) (work : Work) → IsFresh work → IsSound image layout entry work
+pub sound-fresh :
+    (image : Image) (layout : Layout) (entry : ℕ) (work : Work) → IsFresh work → IsSound image layout entry work
 sound-fresh image layout entry work f = record {
   length_is = f.length_is;
   witnessed = λ at k e. let clash = sym (f.none at) ∙ e in cc;

@@ -6,11 +6,15 @@ use Rattle.dcc_procs.proofs.Causes.{number-refused, table-refused, return-refuse
 use Rattle.dcc_procs.proofs.accepted.check_operation.Goals as goal
 
 -- a refusal that has a cause
-by-cause : {A : Type 0} (P Q : Refusal → Type 0) (result : Result A Refusal) → ((refusal : Refusal) → P refusal → Q refusal) → IfErr result P → IfErr result Q
+by-cause :
+    {A : Type 0} (P Q : Refusal → Type 0) (result : Result A Refusal) → ((refusal : Refusal) → P refusal → Q refusal)
+    → IfErr result P → IfErr result Q
 by-cause P Q (Ok value) causes p = tt
 by-cause P Q (Err refusal) causes p = causes refusal p
 
-by-lack : {A : Type 0} (Q : Refusal → Type 0) (named : Refusal) (H : Type 0) (result : Result A Refusal) → (¬ H → Q named) → IfErr result (λ refusal. refusal ≡ named) → OnErr result (¬ H) → IfErr result Q
+by-lack :
+    {A : Type 0} (Q : Refusal → Type 0) (named : Refusal) (H : Type 0) (result : Result A Refusal) → (¬ H → Q named)
+    → IfErr result (λ refusal. refusal ≡ named) → OnErr result (¬ H) → IfErr result Q
 by-lack Q named H (Ok value) causes is lacks = tt
 by-lack Q named H (Err refusal) causes is lacks = subst Q (sym is) (causes lacks)
 

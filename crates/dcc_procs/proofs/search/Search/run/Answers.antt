@@ -26,7 +26,9 @@ loop-at-init c =
     searched-start c.args.image.now c.args.layout.now c.args.entry (work_of c.args.self.now) (work_of c.arrive.new.self) (omega (arith, c.ranges.entry)) c.requires.fresh c.in_ok-arrive.ensures.arrived
 
 -- what is said of a search whose last pending offset is taken
-popped : (image : Image) (layout : Layout) (entry : ℕ) (seen : List (Option Known)) (order rest pending : List ℕ) (at : ℕ) → pending ≡ rest ++ at ∷ []
+popped :
+    (image : Image) (layout : Layout) (entry : ℕ) (seen : List (Option Known)) (order rest pending : List ℕ) (at : ℕ)
+    → pending ≡ rest ++ at ∷ []
     → Searched image layout entry (record { seen = seen; order = order; pending = pending }) → Searched image layout entry (record { seen = seen; order = order; pending = rest ++ at ∷ [] })
 popped image layout entry seen order rest pending at is = subst (λ l. Searched image layout entry (record { seen = seen; order = order; pending = l })) is
 
