@@ -92,7 +92,10 @@ module _ (image : Image) (layout : Layout) (x : Proc) (xs sorted : List Proc)
   all-entries _ start = subst (Contains a.entries) a.first.start (Contains-get_or a.entries 0 0 a.first.some)
   all-entries _ (called {entry} {at} {target} is_entry node stands) =
       let o = one-of entry (all-entries entry is_entry) in
-      All-contains (λ (p : Proc). (at target : ℕ) → IsNode image layout p.entry at → StandsAt image layout at (Call target) → Contains a.entries target) (x ∷ xs) o.proc a.first.callees o.among at target (subst (λ e. IsNode image layout e at) (sym o.entry_is) node) stands
+      All-contains
+      (λ (p : Proc). (at target : ℕ) → IsNode image layout p.entry at → StandsAt image layout at (Call target) → Contains a.entries target)
+      (x ∷ xs) o.proc a.first.callees o.among at target
+      (subst (λ e. IsNode image layout e at) (sym o.entry_is) node) stands
 
   one : (entry : ℕ) → IsEntry image layout entry → IsOne entry
   one entry is_entry = one-of entry (all-entries entry is_entry)
@@ -107,7 +110,8 @@ module _ (image : Image) (layout : Layout) (x : Proc) (xs sorted : List Proc)
         first = first-is;
         apart = All-permutation (λ (p : Proc). p.entry ≢ layout.start_ip) xs sorted moved (λ k d inside same.
             let short = length-map xs e in
-            pairs-head (λ n m. n ≢ m) x.entry (map e xs) distinct k (e d) (omega (arith, short, inside)) (first-is ∙ sym same ∙ sym (get_or-map e xs k d (e d) inside)));
+            pairs-head (λ n m. n ≢ m) x.entry (map e xs) distinct k (e d) (omega (arith, short, inside))
+            (first-is ∙ sym same ∙ sym (get_or-map e xs k d (e d) inside)));
         ascending = ascending-by e xs sorted moved (pairs-tail (λ n m. n ≢ m) x.entry (map e xs) distinct) up;
       }
 
@@ -116,7 +120,8 @@ module _ (image : Image) (layout : Layout) (x : Proc) (xs sorted : List Proc)
       let e : Proc → ℕ = λ p. p.entry in
       All-permutation (λ (p : Proc). IsEntry image layout p.entry) (x ∷ xs) (x ∷ sorted) all-moved (λ k d inside.
       let short = length-map (x ∷ xs) e in
-      a.reached (e (get_or (x ∷ xs) k d)) (subst (λ l. Contains l (e (get_or (x ∷ xs) k d))) entries-are (k, omega (arith, short, inside), get_or-map e (x ∷ xs) k d (e (get_or (x ∷ xs) k d)) inside)))
+      a.reached (e (get_or (x ∷ xs) k d))
+      (subst (λ l. Contains l (e (get_or (x ∷ xs) k d))) entries-are (k, omega (arith, short, inside), get_or-map e (x ∷ xs) k d (e (get_or (x ∷ xs) k d)) inside)))
 
   has-entry : (entry : ℕ) → IsEntry image layout entry → HasEntry (x ∷ sorted) entry
   has-entry entry is_entry =
@@ -132,7 +137,8 @@ module _ (image : Image) (layout : Layout) (x : Proc) (xs sorted : List Proc)
   no-construct : (kind at : ℕ) → ¬ IsOfTrails kind image layout at
   no-construct kind at h =
       let o = one h.entry h.is_entry in
-      o.is.clean kind at (subst (λ e. IsNode image layout e at) (sym o.entry_is) h.node) (subst (λ e. IsAtNode image layout e at kind) (sym o.entry_is) h.stands)
+      o.is.clean kind at (subst (λ e. IsNode image layout e at) (sym o.entry_is) h.node)
+      (subst (λ e. IsAtNode image layout e at kind) (sym o.entry_is) h.stands)
 
   few-procedures : HasMany (IsEntry image layout) 513 → ⊥
   few-procedures many =
@@ -145,7 +151,10 @@ module _ (image : Image) (layout : Layout) (x : Proc) (xs sorted : List Proc)
       let o = one entry is_entry in
       let f : ℕ × Node → ℕ = λ n. n.0 in
       let nodes = o.proc.nodes.entries in
-      let le = few (IsNode image layout entry) (map f nodes) 4097 (λ at node. listed-offset nodes at (o.is.found.every at (subst (λ e. IsNode image layout e at) (sym o.entry_is) node))) many in
+      let le =
+      few (IsNode image layout entry) (map f nodes) 4097
+      (λ at node. listed-offset nodes at (o.is.found.every at (subst (λ e. IsNode image layout e at) (sym o.entry_is) node)))
+      many in
       let short = length-map nodes f in
       let small = o.is.few in
       absurd (omega (arith, le, short, small))
@@ -154,7 +163,9 @@ module _ (image : Image) (layout : Layout) (x : Proc) (xs sorted : List Proc)
   few-places many =
       let le = few (IsNodeOf image layout) (places_of (x ∷ xs)) 32769 (λ place p.
       let o = one place.0 p.is_entry in
-      let there = contains-place (x ∷ xs) o.proc place.1 o.among (o.is.found.every place.1 (subst (λ e. IsNode image layout e place.1) (sym o.entry_is) p.node)) in
+      let there =
+      contains-place (x ∷ xs) o.proc place.1 o.among
+      (o.is.found.every place.1 (subst (λ e. IsNode image layout e place.1) (sym o.entry_is) p.node)) in
       subst (λ e. Contains (places_of (x ∷ xs)) (e, place.1)) o.entry_is there) many in
       let whole = length-places (x ∷ xs) in
       let small = a.first.total in
@@ -174,7 +185,9 @@ module _ (image : Image) (layout : Layout) (x : Proc) (xs sorted : List Proc)
     order = in-order;
     reached = all-reached;
     every = has-entry;
-    found = All-permutation (IsFound image layout) (x ∷ xs) (x ∷ sorted) all-moved (λ k d inside. (a.first.procedures k d inside).found);
+    found =
+        All-permutation (IsFound image layout) (x ∷ xs) (x ∷ sorted) all-moved
+        (λ k d inside. (a.first.procedures k d inside).found);
     no_construct = no-construct;
     no_limit = no-limit;
   }

@@ -35,20 +35,24 @@ calls-of (first ∷ rest) zero at target node e call =
     let op : first.1.instr.op ≡ Call target = ap (λ (p : ℕ × Node). p.1.instr.op) same ∙ call in
     Contains-append_left (target_of first.1.instr.op) (calls_of rest) target (call-target first.1.instr.op target op)
 calls-of (first ∷ rest) (suc place) at target node e call =
-    Contains-append_right (target_of first.1.instr.op) (calls_of rest) target (calls-of rest place at target node e call)
+    Contains-append_right (target_of first.1.instr.op) (calls_of rest) target
+    (calls-of rest place at target node e call)
 
 pub calls-from :
     (nodes : List (ℕ × Node)) (target : ℕ) → Contains (calls_of nodes) target → (place : ℕ)
     × (found : ℕ × Node) × (slice_get nodes place ≡ Some found) × (found.1.instr.op ≡ Call target)
 calls-from [] target c = absurd (let inside = c.1 in omega (arith, inside))
-calls-from (first ∷ rest) target c = elim (Contains-append_cases (target_of first.1.instr.op) (calls_of rest) target c) [
-  | inl here ↦ (0, first, refl, target-call first.1.instr.op target here)
-  | inr there ↦ (let r = calls-from rest target there in (suc r.0, r.1, r.2, r.3))
-]
+calls-from (first ∷ rest) target c =
+    elim (Contains-append_cases (target_of first.1.instr.op) (calls_of rest) target c) [
+      | inl here ↦ (0, first, refl, target-call first.1.instr.op target here)
+      | inr there ↦ (let r = calls-from rest target there in (suc r.0, r.1, r.2, r.3))
+    ]
 
 pub calls-append : (xs ys : List (ℕ × Node)) → calls_of (xs ++ ys) ≡ calls_of xs ++ calls_of ys
 calls-append [] ys = refl
-calls-append (x ∷ xs) ys = ap (λ l. target_of x.1.instr.op ++ l) (calls-append xs ys) ∙ sym (append_assoc (target_of x.1.instr.op) (calls_of xs) (calls_of ys))
+calls-append (x ∷ xs) ys =
+    ap (λ l. target_of x.1.instr.op ++ l) (calls-append xs ys)
+    ∙ sym (append_assoc (target_of x.1.instr.op) (calls_of xs) (calls_of ys))
 
 -- a node that is found, by its place
 pub found-at :

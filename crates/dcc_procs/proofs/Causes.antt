@@ -32,24 +32,31 @@ module _ (image : Image) (layout : Layout) (entry at reg : ℕ) (none : instruct
   other-reg n e other = let same : reg ≡ n = sym h.reg_is ∙ other.reg_is in let clash = sym e ∙ eq-eqb reg n same in cc
 
   pub kind-indirect :
-      IsAtNode image layout entry at (if (reg == 2) || (reg == 3) then INDIRECT_CALL else if (reg == 4) || (reg == 5) then INDIRECT_JUMP else OUTSIDE)
+      IsAtNode image layout entry at
+      (if (reg == 2) || (reg == 3) then INDIRECT_CALL else if (reg == 4) || (reg == 5) then INDIRECT_JUMP else OUTSIDE)
   kind-indirect =
-      elim (reg == 2) as (λ b. (reg == 2) ≡ b → IsAtNode image layout entry at (if b || (reg == 3) then 4 else if (reg == 4) || (reg == 5) then 3 else 2)) [
+      elim (reg == 2) as
+      (λ b. (reg == 2) ≡ b → IsAtNode image layout entry at (if b || (reg == 3) then 4 else if (reg == 4) || (reg == 5) then 3 else 2)) [
         | true ↦ λ e. indirect_call (inl (same-reg 2 e))
-        | false ↦ λ e2. elim (reg == 3) as (λ b. (reg == 3) ≡ b → IsAtNode image layout entry at (if b then 4 else if (reg == 4) || (reg == 5) then 3 else 2)) [
-          | true ↦ λ e. indirect_call (inr (same-reg 3 e))
-          | false ↦ λ e3. elim (reg == 4) as (λ b. (reg == 4) ≡ b → IsAtNode image layout entry at (if b || (reg == 5) then 3 else 2)) [
-            | true ↦ λ e. indirect_jump (inl (same-reg 4 e))
-            | false ↦ λ e4. elim (reg == 5) as (λ b. (reg == 5) ≡ b → IsAtNode image layout entry at (if b then 3 else 2)) [
-              | true ↦ λ e. indirect_jump (inr (same-reg 5 e))
-              | false ↦ λ e5. unknown (record {
-                none = none;
-                no_jump = λ j. elim j [ inl k ↦ other-reg 4 e4 k | inr k ↦ other-reg 5 e5 k ];
-                no_call = λ j. elim j [ inl k ↦ other-reg 2 e2 k | inr k ↦ other-reg 3 e3 k ];
-              })
+        | false ↦
+            λ e2. elim (reg == 3) as
+            (λ b. (reg == 3) ≡ b → IsAtNode image layout entry at (if b then 4 else if (reg == 4) || (reg == 5) then 3 else 2)) [
+              | true ↦ λ e. indirect_call (inr (same-reg 3 e))
+              | false ↦
+                  λ e3. elim (reg == 4) as
+                  (λ b. (reg == 4) ≡ b → IsAtNode image layout entry at (if b || (reg == 5) then 3 else 2)) [
+                    | true ↦ λ e. indirect_jump (inl (same-reg 4 e))
+                    | false ↦
+                        λ e4. elim (reg == 5) as (λ b. (reg == 5) ≡ b → IsAtNode image layout entry at (if b then 3 else 2)) [
+                          | true ↦ λ e. indirect_jump (inr (same-reg 5 e))
+                          | false ↦ λ e5. unknown (record {
+                            none = none;
+                            no_jump = λ j. elim j [ inl k ↦ other-reg 4 e4 k | inr k ↦ other-reg 5 e5 k ];
+                            no_call = λ j. elim j [ inl k ↦ other-reg 2 e2 k | inr k ↦ other-reg 3 e3 k ];
+                          })
+                        ] refl
+                  ] refl
             ] refl
-          ] refl
-        ] refl
       ] refl
 
 pub kind-none :
@@ -79,7 +86,9 @@ module _ (image : Image) (layout : Layout) (entry at : ℕ) (known : Known) (is_
     has-ah :
         (ah : Option ℕ) (t : HasTrail image layout entry at known) → (told image layout at t.before).ah ≡ ah
         → HasAh image layout entry at ah
-    has-ah ah t e = record { before = t.before; trail = t.trail; stands = stands; ah_is = sym (told-ah image layout at t.before) ∙ e }
+    has-ah ah t e =
+        record
+        { before = t.before; trail = t.trail; stands = stands; ah_is = sym (told-ah image layout at t.before) ∙ e }
 
     -- two trails tell different things
     two-ahs :
@@ -88,7 +97,8 @@ module _ (image : Image) (layout : Layout) (entry at : ℕ) (known : Known) (is_
     two-ahs one other None b e f apart = not_known (has-ah None one e)
     two-ahs one other (Some n) None e f apart = not_known (has-ah None other f)
     two-ahs one other (Some n) (Some m) e f apart =
-        construct.two_numbers (has-ah (Some n) one e) (has-ah (Some m) other f) (λ same. apart n refl (ap Some (sym same)))
+        construct.two_numbers (has-ah (Some n) one e) (has-ah (Some m) other f)
+        (λ same. apart n refl (ap Some (sym same)))
 
     no-number : ¬ HasDosNumber known → HasNoNumber image layout entry at
     no-number lacks = by known.ah refl
@@ -100,7 +110,8 @@ module _ (image : Image) (layout : Layout) (entry at : ℕ) (known : Known) (is_
         by : (ah : Option ℕ) → known.ah ≡ ah → HasNoNumber image layout entry at
         by None e =
             let d = w.ah e in
-            two-ahs d.one d.other (told image layout at d.one.before).ah (told image layout at d.other.before).ah refl refl d.apart
+            two-ahs d.one d.other (told image layout at d.one.before).ah (told image layout at d.other.before).ah
+            refl refl d.apart
         by (Some n) e = other n e (is_dos_number n) refl
 
     pub number-refused : ¬ HasDosNumber known → IsRefusedByTrails image layout (Construct DOS_NUMBER at)
@@ -147,7 +158,8 @@ module _ (image : Image) (layout : Layout) (entry at : ℕ) (known : Known) (is_
     number-here : (n : ℕ) → number_of r known.index ≡ Some n → HasNumber image layout entry at (Some n)
     number-here n e =
         let is = index-is known.index n e in
-        has-number (Some n) w.trail (ap (number_of r) (w.trail.covers.index (index_of n r) is) ∙ sym (ap (number_of r) is) ∙ e)
+        has-number (Some n) w.trail
+        (ap (number_of r) (w.trail.covers.index (index_of n r) is) ∙ sym (ap (number_of r) is) ∙ e)
 
     formless-none : number_of r known.index ≡ None → IsFormless image layout entry at
     formless-none none = by known.index refl
@@ -155,9 +167,11 @@ module _ (image : Image) (layout : Layout) (entry at : ℕ) (known : Known) (is_
         by : (index : Option Index) → known.index ≡ index → IsFormless image layout entry at
         by None e =
             let d = w.index e in
-            two-numbers d.one d.other (number_of r (told image layout at d.one.before).index) (number_of r (told image layout at d.other.before).index) refl refl d.apart
+            two-numbers d.one d.other (number_of r (told image layout at d.one.before).index)
+            (number_of r (told image layout at d.other.before).index) refl refl d.apart
         by (Some i) e =
-            construct.no_number (has-number None w.trail (ap (number_of r) (w.trail.covers.index i e) ∙ sym (ap (number_of r) e) ∙ none))
+            construct.no_number
+            (has-number None w.trail (ap (number_of r) (w.trail.covers.index i e) ∙ sym (ap (number_of r) e) ∙ none))
 
     pub table-refused :
         (refusal : Refusal) → IsTableFault image layout at known r table refusal
@@ -165,7 +179,8 @@ module _ (image : Image) (layout : Layout) (entry at : ℕ) (known : Known) (is_
     table-refused _ (no_number none) = construct-here INDIRECT_JUMP (formless (formless-none none))
     table-refused _ (many {number} is more) = refused.limit (entries is_entry (number-here number is) more)
     table-refused _ (outside {number} is few past) =
-        construct-here INDIRECT_JUMP (formless (construct.no_table (number-here number is) few (record { register = r; table = table; stands = stands; outside = past })))
+        construct-here INDIRECT_JUMP
+        (formless (construct.no_table (number-here number is) few (record { register = r; table = table; stands = stands; outside = past })))
 
   pub return-refused :
       (count : ℕ) → entry ≡ layout.start_ip → StandsAt image layout at (Ret count)

@@ -75,11 +75,15 @@ module _ (image : Image) (layout : Layout) (loaded : IsLoaded image) (entry : �
   table-told at before r table trail stands t =
       let h = t.allowed.table r table refl in
       let i = numbered r t.known.index h.number h.number_is in
-      sym (told-number image layout r at before) ∙ ap (number_of r) ((t.covers before trail).index i.0 i.1) ∙ sym (ap (number_of r) i.1) ∙ h.number_is
+      sym (told-number image layout r at before)
+      ∙ ap (number_of r) ((t.covers before trail).index i.0 i.1)
+      ∙ sym (ap (number_of r) i.1)
+      ∙ h.number_is
 
   number-is :
       (at : ℕ) (number : Option ℕ) (h : HasNumber image layout entry at number)
-      → (t : HasTable image layout (taken at (Table h.register h.table) (record { before = h.before; trail = h.trail }) h.stands).known h.register h.table)
+      →
+      (t : HasTable image layout (taken at (Table h.register h.table) (record { before = h.before; trail = h.trail }) h.stands).known h.register h.table)
       × (number ≡ Some t.number)
   number-is at number h =
       let t = taken at (Table h.register h.table) (record { before = h.before; trail = h.trail }) h.stands in
@@ -111,9 +115,13 @@ module _ (image : Image) (layout : Layout) (loaded : IsLoaded image) (entry : �
   no-formless at (construct.no_number h) = let clash = (number-is at None h).1 in cc
   no-formless at (construct.two_numbers {number} {other} h k apart) =
       let t = taken at (Table h.register h.table) (record { before = h.before; trail = h.trail }) h.stands in
-      let r : h.register ≡ k.register = ap table_register (one-op at (Table h.register h.table) (Table k.register k.table) h.stands k.stands) in
+      let r : h.register ≡ k.register =
+      ap table_register (one-op at (Table h.register h.table) (Table k.register k.table) h.stands k.stands) in
       let first = sym h.number_is ∙ table-told at h.before h.register h.table h.trail h.stands t in
-      let second = sym k.number_is ∙ ap (λ q. table_number image layout q k.before) (sym r) ∙ table-told at k.before h.register h.table k.trail h.stands t in
+      let second =
+      sym k.number_is
+      ∙ ap (λ q. table_number image layout q k.before) (sym r)
+      ∙ table-told at k.before h.register h.table k.trail h.stands t in
       let both = first ∙ sym second in
       apart (let e = both in cc)
   no-formless at (construct.no_table {number} h few lacks) =
@@ -121,7 +129,9 @@ module _ (image : Image) (layout : Layout) (loaded : IsLoaded image) (entry : �
       let inside = n.0.inside in
       let past = lacks.outside in
       let same : number ≡ n.0.number = let e = n.1 in cc in
-      let table : h.table ≡ lacks.table = ap table_offset (one-op at (Table h.register h.table) (Table lacks.register lacks.table) h.stands lacks.stands) in
+      let table : h.table ≡ lacks.table =
+      ap table_offset
+      (one-op at (Table h.register h.table) (Table lacks.register lacks.table) h.stands lacks.stands) in
       absurd (omega (arith, inside, past, same, table))
 
   -- each trail to INT 21h tells the number
@@ -152,12 +162,18 @@ module _ (image : Image) (layout : Layout) (loaded : IsLoaded image) (entry : �
   pub no-construct :
       ((at : ℕ) → IsNode image layout entry at → ¬ IsUnprepared image layout entry at) → (kind at : ℕ)
       → IsNode image layout entry at → ¬ IsAtNode image layout entry at kind
-  no-construct prepared _ at node (unknown u) = let k = known-at at node in let clash = sym u.none ∙ k.accepted.found in cc
-  no-construct prepared _ at node (foreign f) = let t = taken at f.op node f.stands in let clash = sym t.user ∙ f.foreign in cc
-  no-construct prepared _ at node (indirect_jump h) = let k = known-at at node in no-jump image layout loaded at k.instr k.accepted.found h
+  no-construct prepared _ at node (unknown u) =
+      let k = known-at at node in let clash = sym u.none ∙ k.accepted.found in cc
+  no-construct prepared _ at node (foreign f) =
+      let t = taken at f.op node f.stands in let clash = sym t.user ∙ f.foreign in cc
+  no-construct prepared _ at node (indirect_jump h) =
+      let k = known-at at node in no-jump image layout loaded at k.instr k.accepted.found h
   no-construct prepared _ at node (formless f) = no-formless at f
-  no-construct prepared _ at node (indirect_call h) = let k = known-at at node in no-call image layout loaded at k.instr k.accepted.found h
+  no-construct prepared _ at node (indirect_call h) =
+      let k = known-at at node in no-call image layout loaded at k.instr k.accepted.found h
   no-construct prepared _ at node (dos_number n) = no-missing at n
-  no-construct prepared _ at node (entry_return (returns {count} first stands)) = (taken at (Ret count) node stands).allowed.returns count refl first
-  no-construct prepared _ at node (entry_return (calls stands)) = (taken at (Call layout.start_ip) node stands).allowed.calls refl
+  no-construct prepared _ at node (entry_return (returns {count} first stands)) =
+      (taken at (Ret count) node stands).allowed.returns count refl first
+  no-construct prepared _ at node (entry_return (calls stands)) =
+      (taken at (Call layout.start_ip) node stands).allowed.calls refl
   no-construct prepared _ at node (division u) = prepared at node u

@@ -42,13 +42,17 @@ module _ (image : Image) (layout : Layout) (entry : ℕ) (seen : List (Option Kn
       let a = all.accepted at known is in
       let both = sym a.1.found ∙ by.instr in
       let same : a.0 ≡ node.instr = cc in
-      let accepted : IsAccepted image layout entry at known node.instr = subst (IsAccepted image layout entry at known) same a.1 in
-      let covered : (before : List ℕ) → IsTrail image layout entry (at ∷ before) → Covers known (told image layout at before) = λ before trail.
+      let accepted : IsAccepted image layout entry at known node.instr =
+      subst (IsAccepted image layout entry at known) same a.1 in
+      let covered : (before : List ℕ) → IsTrail image layout entry (at ∷ before) → Covers known (told image layout at before) =
+      λ before trail.
       subst (λ s. Tells s (told image layout at before)) is (all.told at before trail) in
       record {
         node = trail-node image layout entry at known (all.witnessed at known is).trail;
         instr = by.instr;
-        succ = λ before trail. by.succ ∙ sym (trail-same image layout entry at known node.instr accepted before (covered before trail));
+        succ =
+            λ before trail. by.succ
+            ∙ sym (trail-same image layout entry at known node.instr accepted before (covered before trail));
         number = λ dos before trail.
             let n = accepted.allowed.number dos in
             sym (told-ah image layout at before)
@@ -87,7 +91,8 @@ insert-last (e ∷ es) at node all =
     ∙ ap (λ l. e ∷ l) (insert-last es at node (below-tail e es at all))
 
 -- The nodes so far: those at the first offsets.
-pub record Collected (image : Image) (layout : Layout) (entry : ℕ) (offsets : List ℕ) (place : ℕ) (nodes : List (ℕ × Node)) : Type 0 where
+pub record Collected (image : Image) (layout : Layout) (entry : ℕ) (offsets : List ℕ) (place : ℕ)
+    (nodes : List (ℕ × Node)) : Type 0 where
   pub are : All (IsNodeFound image layout entry) nodes
   pub keys : All (λ (found : ℕ × Node). (k : ℕ) × (k < place) × (found.0 ≡ get_or offsets k 0)) nodes
   pub ascending : AllPairs (λ (a b : ℕ × Node). a.0 < b.0) nodes
@@ -126,7 +131,9 @@ module _ (image : Image) (layout : Layout) (entry : ℕ) (offsets : List ℕ)
           keys = All-push (λ (e : ℕ × Node). (k : ℕ) × (k < place + 1) × (e.0 ≡ get_or offsets k 0)) nodes (at, node)
               (λ k d short. let key = before.keys k d short in (key.0, (let less = key.1 in omega (arith, less)), key.2))
               (place, omega arith, refl);
-          ascending = all_pairs_push (λ (a b : ℕ × Node). a.0 < b.0) nodes (at, node) before.ascending (λ k d short. below-next k d short);
+          ascending =
+              all_pairs_push (λ (a b : ℕ × Node). a.0 < b.0) nodes (at, node) before.ascending
+              (λ k d short. below-next k d short);
           every = λ k less. elim (cases_lt k place) [
             | inl earlier ↦ let there = before.every k earlier in record {
               node = there.node;
@@ -135,7 +142,8 @@ module _ (image : Image) (layout : Layout) (entry : ℕ) (offsets : List ℕ)
             }
             | inr later ↦
                 let same : place ≡ k = omega (arith, less, later) in
-                subst (λ n. IsListed (nodes ++ (at, node) ∷ []) (get_or offsets n 0)) same (record { node = node; place = length nodes; listed = get-last nodes (at, node) })
+                subst (λ n. IsListed (nodes ++ (at, node) ∷ []) (get_or offsets n 0)) same
+                (record { node = node; place = length nodes; listed = get-last nodes (at, node) })
           ];
         })
 
@@ -145,7 +153,10 @@ module _ (image : Image) (layout : Layout) (entry : ℕ) (offsets : List ℕ)
       → length offsets ≤ place
       → (at : ℕ) → IsNode image layout entry at → IsListed nodes at
   collected-all seen all listing past at node =
-      let there = (listing at).1 (λ none. subst (λ s. Tells s (told image layout at node.before)) none (all.told at node.before node.trail)) in
+      let there =
+      (listing at).1
+      (λ none. subst (λ s. Tells s (told image layout at node.before)) none (all.told at node.before node.trail))
+      in
       let short : there.0 < place = (let inside = there.1 in omega (arith, inside, past)) in
       let same : get_or offsets there.0 0 ≡ at = get_or_default offsets there.0 0 at there.1 ∙ there.2 in
       subst (IsListed nodes) same (before.every there.0 short)

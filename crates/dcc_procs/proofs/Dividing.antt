@@ -63,9 +63,11 @@ module _ (image : Image) (layout : Layout) (entry : ℕ) (division : Unary) (wid
   -- the parts of a prepared division
   split-prepared : {at : ℕ} → IsPrepared image layout entry division width at
       → (from : ℕ) × (op : Op) × IsSolePredecessor image layout entry from at × StandsAt image layout from op
-      × ((keeps_dividend division width op ≡ true → ¬ IsPrepared image layout entry division width from) → prepares division width op ≡ true)
+      ×
+      ((keeps_dividend division width op ≡ true → ¬ IsPrepared image layout entry division width from) → prepares division width op ≡ true)
   split-prepared (nearest {from = from} {op = op} sole stands is) = (from, op, sole, stands, λ none. is)
-  split-prepared (further {from = from} {op = op} sole stands keeps before) = (from, op, sole, stands, λ none. absurd (none keeps before))
+  split-prepared (further {from = from} {op = op} sole stands keeps before) =
+      (from, op, sole, stands, λ none. absurd (none keeps before))
 
   -- where nothing is ready before the sole predecessor and that prepares nothing, nothing is prepared
   unprepared-after :
@@ -80,7 +82,9 @@ module _ (image : Image) (layout : Layout) (entry : ℕ) (division : Unary) (wid
       let stands : StandsAt image layout from parts.1 = subst (λ n. StandsAt image layout n parts.1) same parts.3 in
       let op : instr.op ≡ parts.1 = stands-once image layout from instr parts.1 found stands in
       let prepared : prepares division width parts.1 ≡ true =
-      parts.4 (λ keeps before. none (ap (keeps_dividend division width) op ∙ keeps) (subst (λ n. IsPrepared image layout entry division width n) same before)) in
+      parts.4
+      (λ keeps before. none (ap (keeps_dividend division width) op ∙ keeps) (subst (λ n. IsPrepared image layout entry division width n) same before))
+      in
       let clash = sym idle ∙ ap (prepares division width) op ∙ prepared in
       cc
 
@@ -100,21 +104,30 @@ module _ (image : Image) (layout : Layout) (entry : ℕ) where
       → instruction_in image layout from ≡ Some instr → IsReady image layout entry from ready
       → IsReady image layout entry at (ready_after instr.op ready)
   ready-onward from at instr ready sole found before = record {
-    prepared = λ division width is so. by division width is (sym (after-is instr.op ready division width is) ∙ so) (prepares division width instr.op) refl;
+    prepared =
+        λ division width is so. by division width is (sym (after-is instr.op ready division width is) ∙ so)
+        (prepares division width instr.op) refl;
     unprepared = λ division width is so.
-        let parts = or-false (prepares division width instr.op) (keeps_dividend division width instr.op) (is_for ready division width) (sym (after-is instr.op ready division width is) ∙ so) in
-        unprepared-after image layout entry division width from at instr sole found parts.0 (λ keeps. before.unprepared division width is (parts.1 keeps));
+        let parts =
+        or-false (prepares division width instr.op) (keeps_dividend division width instr.op)
+        (is_for ready division width) (sym (after-is instr.op ready division width is) ∙ so) in
+        unprepared-after image layout entry division width from at instr sole found parts.0
+        (λ keeps. before.unprepared division width is (parts.1 keeps));
   }
     where
       stands : StandsAt image layout from instr.op
       stands = (instr, found, refl)
 
       by : (division : Unary) (width : Width) → is_division division ≡ true
-          → (prepares division width instr.op || (keeps_dividend division width instr.op && is_for ready division width)) ≡ true
+          →
+          (prepares division width instr.op || (keeps_dividend division width instr.op && is_for ready division width))
+          ≡ true
           → (b : Bool) → prepares division width instr.op ≡ b → IsPrepared image layout entry division width at
       by division width is so true e = nearest sole stands e
       by division width is so false e =
-          let parts = or-cases (prepares division width instr.op) (keeps_dividend division width instr.op) (is_for ready division width) so (λ t. let clash = sym e ∙ t in cc) in
+          let parts =
+          or-cases (prepares division width instr.op) (keeps_dividend division width instr.op)
+          (is_for ready division width) so (λ t. let clash = sym e ∙ t in cc) in
           further sole stands parts.0 (before.prepared division width is parts.1)
 
   -- without a sole predecessor nothing is
@@ -131,10 +144,12 @@ module _ (image : Image) (layout : Layout) (entry : ℕ) where
 
   -- a trail tells the offset before its end
   told-from : (at other : ℕ) (before : List ℕ) → (told image layout at (other ∷ before)).from ≡ Some other
-  told-from at other before = elim (instruction_in image layout other) as (λ found. (told_after other found at (told image layout other before)).from ≡ Some other) [
-    | None ↦ refl
-    | Some instr ↦ refl
-  ]
+  told-from at other before =
+      elim (instruction_in image layout other) as
+      (λ found. (told_after other found at (told image layout other before)).from ≡ Some other) [
+        | None ↦ refl
+        | Some instr ↦ refl
+      ]
 
   -- a trail that tells one comes from there
   edge-told :
@@ -170,7 +185,9 @@ module _ (image : Image) (layout : Layout) (entry : ℕ) where
         record {
           edge = edge-told at from t.before t.trail (t.covers.from from e);
           sole = λ other edge.
-              let both = sym (told-from at other edge.before) ∙ (covered at known (other ∷ edge.before) is edge.trail).from from e in
+              let both =
+              sym (told-from at other edge.before)
+              ∙ (covered at known (other ∷ edge.before) is edge.trail).from from e in
               cc;
           inner = λ same. let clash = (covered at known [] is same).from from e in cc;
         }
@@ -181,7 +198,8 @@ module _ (image : Image) (layout : Layout) (entry : ℕ) where
         → ¬ IsSolePredecessor image layout entry from at
     from-none at known is e from sole =
         let d = (all.witnessed at known is).from e in
-        d.apart from (sole-told at from d.one.before sole d.one.trail) (sole-told at from d.other.before sole d.other.trail)
+        d.apart from (sole-told at from d.one.before sole d.one.trail)
+        (sole-told at from d.other.before sole d.other.trail)
 
     -- What is ready at the offsets, in their order.
 
@@ -192,11 +210,14 @@ module _ (image : Image) (layout : Layout) (entry : ℕ) where
     -- what is ready at the first ones is so
     abbrev pub AreReady : ℕ → List Ready → Type 0
     AreReady place ready =
-        (i : ℕ) → i < place → i < length order → IsReady image layout entry (reached i) (get_or ready (reached i) unready)
+        (i : ℕ) → i < place → i < length order → IsReady image layout entry (reached i)
+        (get_or ready (reached i) unready)
 
     -- they find what they need
     abbrev pub AreFine : ℕ → List Ready → Type 0
-    AreFine place ready = (i : ℕ) → i < place → i < length order → FindsReady image layout (reached i) (get_or ready (reached i) unready)
+    AreFine place ready =
+        (i : ℕ) → i < place → i < length order → FindsReady image layout (reached i)
+        (get_or ready (reached i) unready)
 
     -- what is known at a node
     seen-known : (at : ℕ) → seen_at seen at ≢ None → (known : Known) × (seen_at seen at ≡ Some known)
@@ -218,12 +239,16 @@ module _ (image : Image) (layout : Layout) (entry : ℕ) where
     -- each node was reached
     node-reached : (at : ℕ) → IsNode image layout entry at → (i : ℕ) × (i < length order) × (reached i ≡ at)
     node-reached at node =
-        let there = (o.every at).1 (λ none. subst (λ s. Tells s (told image layout at node.before)) none (all.told at node.before node.trail)) in
+        let there =
+        (o.every at).1
+        (λ none. subst (λ s. Tells s (told image layout at node.before)) none (all.told at node.before node.trail))
+        in
         (there.0, there.1, get_or_default order there.0 0 at there.1 ∙ there.2)
 
     pub ready-next :
         (place : ℕ) (ready : List Ready) (known : Option Known) → place < length order → AreReady place ready
-        → seen_at seen (reached place) ≡ known → IsReady image layout entry (reached place) (ready_at image layout known ready)
+        → seen_at seen (reached place) ≡ known → IsReady image layout entry (reached place)
+        (ready_at image layout known ready)
     ready-next place ready None inside before e = absurd (reached-seen place inside e)
     ready-next place ready (Some known) inside before e = by known.from refl
       where
@@ -241,7 +266,8 @@ module _ (image : Image) (layout : Layout) (entry : ℕ) where
             let short : earlier.0 < length order = (let less = earlier.1 in omega (arith, less, inside)) in
             let same : reached earlier.0 ≡ from = sole.sole (reached earlier.0) earlier.2 in
             let was : IsReady image layout entry from (get_or ready from unready) =
-            subst (λ n. IsReady image layout entry n (get_or ready n unready)) same (before earlier.0 earlier.1 short) in
+            subst (λ n. IsReady image layout entry n (get_or ready n unready)) same
+            (before earlier.0 earlier.1 short) in
             let k = seen-known from (λ none. reached-seen earlier.0 short (ap (seen_at seen) same ∙ none)) in
             let a = all.accepted from k.0 k.1 in
             let onward = ready-onward from (reached place) a.0 (get_or ready from unready) sole a.1.found was in
@@ -253,7 +279,9 @@ module _ (image : Image) (layout : Layout) (entry : ℕ) where
       others-stay :
           (i : ℕ) → i < place
           → get_or (slice_set ready (reached place) here) (reached i) unready ≡ get_or ready (reached i) unready
-      others-stay i less = get_or-set_other ready (reached place) (reached i) here unready (λ same. o.distinct i place 0 less inside same)
+      others-stay i less =
+          get_or-set_other ready (reached place) (reached i) here unready
+          (λ same. o.distinct i place 0 less inside same)
 
       here-now : get_or (slice_set ready (reached place) here) (reached place) unready ≡ here
       here-now = get_or-set_same ready (reached place) here unready fits
@@ -263,12 +291,14 @@ module _ (image : Image) (layout : Layout) (entry : ℕ) where
           (P : ℕ → Ready → Type 0)
           → ((i : ℕ) → i < place → i < length order → P (reached i) (get_or ready (reached i) unready))
           → P (reached place) here
-          → (i : ℕ) → i < place + 1 → i < length order → P (reached i) (get_or (slice_set ready (reached place) here) (reached i) unready)
+          → (i : ℕ) → i < place + 1 → i < length order → P (reached i)
+          (get_or (slice_set ready (reached place) here) (reached i) unready)
       one-more P before is i less short = elim (cases_lt i place) [
         | inl earlier ↦ subst (P (reached i)) (sym (others-stay i earlier)) (before i earlier short)
         | inr later ↦
             let same : place ≡ i = omega (arith, less, later) in
-            subst (λ k. P (reached k) (get_or (slice_set ready (reached place) here) (reached k) unready)) same (subst (P (reached place)) (sym here-now) is)
+            subst (λ k. P (reached k) (get_or (slice_set ready (reached place) here) (reached k) unready)) same
+            (subst (P (reached place)) (sym here-now) is)
       ]
 
       pub ready-more :
@@ -290,7 +320,8 @@ module _ (image : Image) (layout : Layout) (entry : ℕ) where
         subst (λ n. StandsAt image layout n (UnaryOp lacks.division lacks.operand)) (sym r.2) lacks.stands in
         let so = fine r.0 r.1 r.1 lacks.division lacks.operand stands in
         let prepared = (are r.0 r.1 r.1).prepared lacks.division (operand_width lacks.operand) lacks.divides so in
-        lacks.unprepared (subst (λ n. IsPrepared image layout entry lacks.division (operand_width lacks.operand) n) r.2 prepared)
+        lacks.unprepared
+        (subst (λ n. IsPrepared image layout entry lacks.division (operand_width lacks.operand) n) r.2 prepared)
 
     -- one that lacks it is a construct
     pub lacks-refused :
@@ -313,12 +344,15 @@ module _ (image : Image) (layout : Layout) (entry : ℕ) where
         }))
 
 -- the offsets at the first places were looked at
-pub record Passed (image : Image) (layout : Layout) (entry : ℕ) (seen : List (Option Known)) (order : List ℕ) (place : ℕ) (ready : List Ready) : Type 0 where
+pub record Passed (image : Image) (layout : Layout) (entry : ℕ) (seen : List (Option Known)) (order : List ℕ)
+    (place : ℕ) (ready : List Ready) : Type 0 where
   pub size : length ready ≡ 65536
   pub are_ready :
-      (i : ℕ) → i < place → i < length order → IsReady image layout entry (get_or order i 0) (get_or ready (get_or order i 0) unready)
+      (i : ℕ) → i < place → i < length order → IsReady image layout entry (get_or order i 0)
+      (get_or ready (get_or order i 0) unready)
   pub are_fine :
-      (i : ℕ) → i < place → i < length order → FindsReady image layout (get_or order i 0) (get_or ready (get_or order i 0) unready)
+      (i : ℕ) → i < place → i < length order → FindsReady image layout (get_or order i 0)
+      (get_or ready (get_or order i 0) unready)
 
 pub passed-none :
     (image : Image) (layout : Layout) (entry : ℕ) (seen : List (Option Known)) (order : List ℕ) (ready : List Ready)
@@ -332,21 +366,21 @@ passed-none image layout entry seen order ready size = record {
 module _ (image : Image) (layout : Layout) (entry : ℕ) (seen : List (Option Known)) (order : List ℕ)
     (all : AreAllSeen image layout entry seen) (o : IsOrder image layout entry seen order) (place : ℕ)
     (ready : List Ready) (passed : Passed image layout entry seen order place ready) (inside : place < length order)
-    where
-  -- what is ready at the next one
-  pub next-ready :
-      (known : Option Known) → seen_at seen (get_or order place 0) ≡ known
-      → IsReady image layout entry (get_or order place 0) (ready_at image layout known ready)
-  next-ready known e = ready-next image layout entry seen order all o place ready known inside passed.are_ready e
+  where
+    -- what is ready at the next one
+    pub next-ready :
+        (known : Option Known) → seen_at seen (get_or order place 0) ≡ known
+        → IsReady image layout entry (get_or order place 0) (ready_at image layout known ready)
+    next-ready known e = ready-next image layout entry seen order all o place ready known inside passed.are_ready e
 
-  pub passed-more :
-      (here : Ready) → get_or order place 0 < 65536 → IsReady image layout entry (get_or order place 0) here
-      → FindsReady image layout (get_or order place 0) here
-      → Passed image layout entry seen order (place + 1) (slice_set ready (get_or order place 0) here)
-  passed-more here below is fine =
-      let fits : get_or order place 0 < length ready = (let size = passed.size in omega (arith, below, size)) in
-      record {
-        size = length-set ready (get_or order place 0) here ∙ passed.size;
-        are_ready = ready-more image layout entry seen order all o place ready here inside fits passed.are_ready is;
-        are_fine = fine-more image layout entry seen order all o place ready here inside fits passed.are_fine fine;
-      }
+    pub passed-more :
+        (here : Ready) → get_or order place 0 < 65536 → IsReady image layout entry (get_or order place 0) here
+        → FindsReady image layout (get_or order place 0) here
+        → Passed image layout entry seen order (place + 1) (slice_set ready (get_or order place 0) here)
+    passed-more here below is fine =
+        let fits : get_or order place 0 < length ready = (let size = passed.size in omega (arith, below, size)) in
+        record {
+          size = length-set ready (get_or order place 0) here ∙ passed.size;
+          are_ready = ready-more image layout entry seen order all o place ready here inside fits passed.are_ready is;
+          are_fine = fine-more image layout entry seen order all o place ready here inside fits passed.are_fine fine;
+        }

@@ -17,21 +17,25 @@ pub record IsClosed (image : Image) (layout : Layout) (entry : ℕ) (work : Work
   pub instr : Instr
   pub accepted : IsAccepted image layout entry at known instr
   pub onward :
-      (to : ℕ) → Contains (successors_by image at instr known) to → (t : Known) → Covers (known_after at instr to known) t → Tells (seen_at work.seen to) t
+      (to : ℕ) → Contains (successors_by image at instr known) to → (t : Known) → Covers
+      (known_after at instr to known) t → Tells (seen_at work.seen to) t
 
 -- what is seen is so by trails, and is followed or is to be
 pub record Searched (image : Image) (layout : Layout) (entry : ℕ) (work : Work) : Type 0 where
   pub sound : IsSound image layout entry work
   pub start : Tells (seen_at work.seen entry) nothing
   pub closed :
-      (at : ℕ) (known : Known) → seen_at work.seen at ≡ Some known → Contains work.pending at ⊎ IsClosed image layout entry work at known
+      (at : ℕ) (known : Known) → seen_at work.seen at ≡ Some known → Contains work.pending at ⊎ IsClosed image
+      layout entry work at known
 
 -- the trail of the entry alone
 pub searched-start :
     (image : Image) (layout : Layout) (entry : ℕ) (old new : Work) → entry < 65536 → IsFresh old
     → IsArrived old new entry nothing → Searched image layout entry new
 searched-start image layout entry old new inside fresh came =
-    let a = arrives image layout entry old new entry nothing (sound-fresh image layout entry old fresh) inside (witnessed-entry image layout entry) (alone fresh.order refl) came in
+    let a =
+    arrives image layout entry old new entry nothing (sound-fresh image layout entry old fresh) inside
+    (witnessed-entry image layout entry) (alone fresh.order refl) came in
     record {
       sound = a.sound;
       start = a.tells nothing (record { ah = λ n e. e; form = λ n e. e; index = λ n e. e; from = λ n e. e });
@@ -76,7 +80,8 @@ module _ (image : Image) (layout : Layout) (entry : ℕ) (seen : List (Option Kn
     | inl same ↦
         let both = sym is ∙ same ∙ f.was in
         let one : known ≡ f.known = cc in
-        inr (subst (IsClosed image layout entry after at) (sym one) (record { instr = f.instr; accepted = f.accepted; onward = f.onward }))
+        inr
+        (subst (IsClosed image layout entry after at) (sym one) (record { instr = f.instr; accepted = f.accepted; onward = f.onward }))
   ]
 
   closed-after :
@@ -85,10 +90,14 @@ module _ (image : Image) (layout : Layout) (entry : ℕ) (seen : List (Option Kn
   closed-after i known is = elim (f.extends.stays i) [
     | inr waits ↦ inl waits
     | inl same ↦ elim (before.closed i known (sym same ∙ is)) [
-      | inr closed ↦ inr (closed-stays image layout entry (record { seen = seen; order = order; pending = rest }) after i known f.extends (record { instr = closed.instr; accepted = closed.accepted; onward = closed.onward }))
+      | inr closed ↦
+          inr
+          (closed-stays image layout entry (record { seen = seen; order = order; pending = rest }) after i known f.extends (record { instr = closed.instr; accepted = closed.accepted; onward = closed.onward }))
       | inl there ↦ elim (Contains-push_cases rest at i there) [
         | inl waits ↦ inl (f.extends.waits i waits)
-        | inr here ↦ subst (λ j. Contains after.pending j ⊎ IsClosed image layout entry after j known) here (closed-here known (ap (seen_at after.seen) here ∙ is))
+        | inr here ↦
+            subst (λ j. Contains after.pending j ⊎ IsClosed image layout entry after j known) here
+            (closed-here known (ap (seen_at after.seen) here ∙ is))
       ]
     ]
   ]
@@ -135,7 +144,9 @@ module _ (image : Image) (layout : Layout) (entry : ℕ) (work : Work) (none : w
       onward None is t = absurd t
       onward (Some known) is t =
           let c = closed-at last known is in
-          let there = subst (λ l. Contains l at) (trail-same image layout entry last known c.instr c.accepted rest t) trail.0 in
+          let there =
+          subst (λ l. Contains l at) (trail-same image layout entry last known c.instr c.accepted rest t) trail.0
+          in
           c.onward at there (told image layout at (last ∷ rest))
           (subst (Covers (known_after last c.instr at known)) (sym (told-onward image layout entry last known c.instr c.accepted at rest)) (covers-after last c.instr at known (told image layout last rest) t))
 

@@ -32,13 +32,19 @@ module _ (image : Image) (layout : Layout) (entry : ℕ) (work : Work) (to : ℕ
   one-more : seen_at work.seen to ≡ None → length work.order ≡ 4096 → HasMany (IsNode image layout entry) 4097
   one-more unseen full = record {
     values = work.order ++ to ∷ [];
-    hold = All-push (IsNode image layout entry) work.order to (λ k d less. node-seen image layout entry work.seen s.witnessed (get_or work.order k d) ((s.order.every (get_or work.order k d)).0 (Contains-get_or work.order k d less))) node;
-    distinct = all_pairs_push (λ x y. x ≢ y) work.order to s.order.distinct (λ k d less is. (s.order.every (get_or work.order k d)).0 (Contains-get_or work.order k d less) (ap (seen_at work.seen) is ∙ unseen));
+    hold =
+        All-push (IsNode image layout entry) work.order to
+        (λ k d less. node-seen image layout entry work.seen s.witnessed (get_or work.order k d) ((s.order.every (get_or work.order k d)).0 (Contains-get_or work.order k d less)))
+        node;
+    distinct =
+        all_pairs_push (λ x y. x ≢ y) work.order to s.order.distinct
+        (λ k d less is. (s.order.every (get_or work.order k d)).0 (Contains-get_or work.order k d less) (ap (seen_at work.seen) is ∙ unseen));
     count_is = length-append work.order (to ∷ []) ∙ ap (λ n. n + 1) full;
   }
 
   pub full-refused : (refusal : Refusal) → IsFull work to refusal → IsRefusedByTrails image layout refusal
   full-refused (Limit Instructions count) full =
-      subst (λ n. IsRefusedByTrails image layout (Limit Instructions n)) (sym full.0) (refused.limit (instructions is_entry (one-more full.2 full.1)))
+      subst (λ n. IsRefusedByTrails image layout (Limit Instructions n)) (sym full.0)
+      (refused.limit (instructions is_entry (one-more full.2 full.1)))
   full-refused Memory full = refused.no_memory
   full-refused refusal full = absurd full

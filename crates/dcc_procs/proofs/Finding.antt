@@ -15,7 +15,7 @@ use Rattle.dcc_prog.specs.Refused.{IsRefusedByTrails}
 use Rattle.dcc_prog.specs.Refused as refused
 use Rattle.dcc_procs.specs.Procedures.{IsProcedure, total_of, HasCallees, AreFirst, calls_of}
 use Rattle.dcc_procs.specs.Entries.{AreAllReached}
-use Rattle.dcc_procs.proofs.Calls.{callees-all}
+use Rattle.dcc_procs.proofs.Calls.{callees-all, callees-reached}
 use Rattle.dcc_procs.proofs.Places.{too-many-places}
 
 entry_of : Proc → ℕ
@@ -62,8 +62,13 @@ module _ (image : Image) (layout : Layout) (entries more : List ℕ) (procs : Li
     some = let sum = length-append entries more in let some = first.some in omega (arith, sum, some);
     short = let a = length-append entries more in let b = length-append procs (proc ∷ []) in omega (arith, a, b, next);
     entries_are = entries-pushed image layout entries more procs proc first next p;
-    procedures = All-push (λ q. IsProcedure image layout q.entry q) procs proc first.procedures (subst (λ n. IsProcedure image layout n proc) (sym p.entry_is) p);
-    callees = All-push (λ q. HasCallees image layout q.entry (entries ++ more)) procs proc (λ k d inside. callees-later (get_or procs k d) (first.callees k d inside)) (λ at target node stands. callees target (callees-all image layout proc p.found at target node stands));
+    procedures =
+        All-push (λ q. IsProcedure image layout q.entry q) procs proc first.procedures
+        (subst (λ n. IsProcedure image layout n proc) (sym p.entry_is) p);
+    callees =
+        All-push (λ q. HasCallees image layout q.entry (entries ++ more)) procs proc
+        (λ k d inside. callees-later (get_or procs k d) (first.callees k d inside))
+        (λ at target node stands. callees target (callees-all image layout proc p.found at target node stands));
     total = let sum = sum_by_push (λ (q : Proc). length q.nodes.entries) procs proc in omega (arith, sum, few);
   }
 
@@ -73,13 +78,15 @@ pub next-procedure :
     → length procs < length entries → now ≡ get_or entries n now → n ≡ length procs
     → IsProcedure image layout now proc → IsProcedure image layout (get_or entries (length procs) 0) proc
 next-procedure image layout entries procs proc now n less read is p =
-    subst (λ e. IsProcedure image layout e proc) (read ∙ ap (λ k. get_or entries k now) is ∙ get_or_default entries (length procs) now 0 less) p
+    subst (λ e. IsProcedure image layout e proc)
+    (read ∙ ap (λ k. get_or entries k now) is ∙ get_or_default entries (length procs) now 0 less) p
 
 -- the first ones of different values are different
 pub taken-apart : (n : ℕ) (xs : List ℕ) → AllPairs (λ x y. x ≢ y) xs → AllPairs (λ x y. x ≢ y) (take n xs)
 taken-apart n xs distinct i j d less inside same =
     let taken = length-take n xs in
-    distinct i j d less (omega (arith, inside, taken)) (sym (get_or-take n xs i d (omega (arith, less, inside, taken))) ∙ same ∙ get_or-take n xs j d (omega (arith, inside, taken)))
+    distinct i j d less (omega (arith, inside, taken))
+    (sym (get_or-take n xs i d (omega (arith, less, inside, taken))) ∙ same ∙ get_or-take n xs j d (omega (arith, inside, taken)))
 
 -- too many instructions, with those of one more procedure
 pub total-refused :
@@ -91,11 +98,34 @@ pub total-refused :
 total-refused image layout entries procs proc first next p reached distinct more =
     let e : Proc → ℕ = λ q. q.entry in
     let all = procs ++ proc ∷ [] in
-    let is : map e all ≡ take (length all) entries = entries-pushed image layout entries [] procs proc first next p ∙ ap (take (length all)) (append-nil entries) in
-    let found : All (IsFound image layout) all = All-push (IsFound image layout) procs proc (λ k d inside. (first.procedures k d inside).found) p.found in
-    let apart : AllPairs (λ x y. x ≢ y) (map e all) = subst (AllPairs (λ x y. x ≢ y)) (sym is) (taken-apart (length all) entries distinct) in
-    let entered : All (IsEntry image layout) (map e all) = subst (All (IsEntry image layout)) (sym is) (All-take (IsEntry image layout) (length all) entries (λ k d inside. reached (get_or entries k d) (Contains-get_or entries k d inside))) in
+    let is : map e all ≡ take (length all) entries =
+    entries-pushed image layout entries [] procs proc first next p
+    ∙ ap (take (length all)) (append-nil entries) in
+    let found : All (IsFound image layout) all =
+    All-push (IsFound image layout) procs proc (λ k d inside. (first.procedures k d inside).found) p.found in
+    let apart : AllPairs (λ x y. x ≢ y) (map e all) =
+    subst (AllPairs (λ x y. x ≢ y)) (sym is) (taken-apart (length all) entries distinct) in
+    let entered : All (IsEntry image layout) (map e all) =
+    subst (All (IsEntry image layout)) (sym is)
+    (All-take (IsEntry image layout) (length all) entries (λ k d inside. reached (get_or entries k d) (Contains-get_or entries k d inside)))
+    in
     let each : All (λ (q : Proc). IsEntry image layout q.entry) all = λ k d inside.
-    (let short = length-map all e in subst (IsEntry image layout) (get_or-map e all k d (e d) inside) (entered k (e d) (omega (arith, short, inside)))) in
+    (let short = length-map all e in subst (IsEntry image layout) (get_or-map e all k d (e d) inside) (entered k (e d) (omega (arith, short, inside))))
+    in
     let sum = sum_by_push (λ (q : Proc). length q.nodes.entries) procs proc in
     refused.limit (total (too-many-places image layout all found each apart (omega (arith, sum, more))))
+
+-- the next procedure, and that the targets of its calls are entries
+pub record IsNext (image : Image) (layout : Layout) (entries : List ℕ) (procs : List Proc) (proc : Proc) : Type 0 where
+  pub procedure : IsProcedure image layout (get_or entries (length procs) 0) proc
+  pub reached : AreAllReached image layout (calls_of proc.nodes.entries)
+
+pub next-found :
+    (image : Image) (layout : Layout) (entries : List ℕ) (procs : List Proc) (proc : Proc) (now n : ℕ)
+    → AreAllReached image layout entries → length procs < length entries → now ≡ get_or entries n now → n ≡ length procs
+    → IsProcedure image layout now proc → IsNext image layout entries procs proc
+next-found image layout entries procs proc now n reached less read is found =
+    let p = next-procedure image layout entries procs proc now n less read is found in
+    let there = Contains-get_or entries (length procs) 0 less in
+    let is_entry = subst (IsEntry image layout) (sym p.entry_is) (reached (get_or entries (length procs) 0) there) in
+    record { procedure = p; reached = callees-reached image layout proc p.found is_entry }

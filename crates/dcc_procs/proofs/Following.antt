@@ -19,7 +19,8 @@ use Rattle.dcc_procs.proofs.Filling.{full-refused}
 tells-seen : (seen : Option Known) (t : Known) → Tells seen t → seen ≢ None
 tells-seen seen t told none = subst (λ s. Tells s t) none told
 
-pub record AreFollowed (image : Image) (layout : Layout) (entry at : ℕ) (known : Known) (instr : Instr) (old new : Work) (place : ℕ) : Type 0 where
+pub record AreFollowed (image : Image) (layout : Layout) (entry at : ℕ) (known : Known) (instr : Instr)
+    (old new : Work) (place : ℕ) : Type 0 where
   pub sound : IsSound image layout entry new
   pub extends : Extends old new
   pub told : AreTold new at instr known (take place (successors_by image at instr known))
@@ -38,7 +39,9 @@ module _ (image : Image) (layout : Layout) (entry at : ℕ) (known : Known) (ins
       (to_is : to ≡ get_or (successors_by image at instr known) place 0) (k_is : k ≡ known_after at instr to known)
       (sm : IsSound image layout entry mid) (em : Extends old mid) where
     there : Contains (successors_by image at instr known) to
-    there = subst (Contains (successors_by image at instr known)) (sym to_is) (Contains-get_or (successors_by image at instr known) place 0 inside)
+    there =
+        subst (Contains (successors_by image at instr known)) (sym to_is)
+        (Contains-get_or (successors_by image at instr known) place 0 inside)
 
     still-seen : seen_at mid.seen at ≢ None
     still-seen =
@@ -48,28 +51,36 @@ module _ (image : Image) (layout : Layout) (entry at : ℕ) (known : Known) (ins
     pub full-here : (refusal : Refusal) → IsFull mid to refusal → IsRefusedByTrails image layout refusal
     full-here refusal full =
         let t = trail-onward image layout entry at known instr a to there witnessed.trail in
-        full-refused image layout entry mid to is_entry sm (trail-node image layout entry to (known_after at instr to known) t) refusal full
+        full-refused image layout entry mid to is_entry sm
+        (trail-node image layout entry to (known_after at instr to known) t) refusal full
 
     came : (new : Work) → to < 65536 → IsArrived mid new to k → Arrives image layout entry mid new to k
     came new small arrived =
         let w = witnessed-onward image layout entry at known instr a to there witnessed in
         arrives image layout entry mid new to k sm small (subst (IsWitnessed image layout entry to) (sym k_is) w)
-        (later ((sm.order.every at).1 still-seen) (edge-onward image layout entry at known instr a to there witnessed.trail)) arrived
+        (later ((sm.order.every at).1 still-seen) (edge-onward image layout entry at known instr a to there witnessed.trail))
+        arrived
 
     pub one-followed :
         (new : Work) → to < 65536 → IsArrived mid new to k
         → AreTold mid at instr known (take place (successors_by image at instr known))
-        → IsSound image layout entry new × Extends old new × AreTold new at instr known (take (place + 1) (successors_by image at instr known))
+        → IsSound image layout entry new × Extends old new × AreTold new at instr known
+        (take (place + 1) (successors_by image at instr known))
     one-followed new small arrived tm =
         let c = came new small arrived in
-        let more : take (place + 1) (successors_by image at instr known) ≡ take place (successors_by image at instr known) ++ to ∷ [] =
-        take_more (successors_by image at instr known) place 0 inside ∙ ap (λ n. take place (successors_by image at instr known) ++ n ∷ []) (sym to_is) in (
+        let more : take (place + 1) (successors_by image at instr known) ≡ take place
+        (successors_by image at instr known) ++ to ∷ [] =
+        take_more (successors_by image at instr known) place 0 inside
+        ∙ ap (λ n. take place (successors_by image at instr known) ++ n ∷ []) (sym to_is) in (
           c.sound,
           extends-trans old mid new em c.extends,
           λ i inside t covers.
-              elim (Contains-push_cases (take place (successors_by image at instr known)) to i (subst (λ l. Contains l i) more inside)) [
+              elim
+              (Contains-push_cases (take place (successors_by image at instr known)) to i (subst (λ l. Contains l i) more inside)) [
                 | inl before ↦ c.extends.tells i t (tm i before t covers)
-                | inr here ↦ subst (λ n. Tells (seen_at new.seen n) t) here (c.tells t (subst (λ q. Covers q t) (sym k_is) (subst (λ n. Covers (known_after at instr n known) t) (sym here) covers)))
+                | inr here ↦
+                    subst (λ n. Tells (seen_at new.seen n) t) here
+                    (c.tells t (subst (λ q. Covers q t) (sym k_is) (subst (λ n. Covers (known_after at instr n known) t) (sym here) covers)))
               ],
         )
 

@@ -14,7 +14,9 @@ nothing_known = None
 pub none-at : (n i : ℕ) → seen_at (replicate n None) i ≡ None
 none-at n i = elim (cases_lt i n) [
   | inl inside ↦ get_or-replicate n i nothing_known nothing_known inside
-  | inr past ↦ get_or_past (replicate n nothing_known) i nothing_known (let e = length-replicate n nothing_known in omega (arith, e, past))
+  | inr past ↦
+      get_or_past (replicate n nothing_known) i nothing_known
+      (let e = length-replicate n nothing_known in omega (arith, e, past))
 ]
 
 -- what stands at an index
@@ -41,7 +43,9 @@ cleared-one seen rest at i whole small is listed = (
         | inl here ↦ absurd (there here.1)
         | inr same ↦ elim (Contains-push_cases rest at n (listed n (λ none. there (same ∙ none)))) [
           | inl before ↦ before
-          | inr last ↦ absurd (there (get_or-set_at seen i n nothing_known None (sym last ∙ sym is) (omega (arith, whole, small, is))))
+          | inr last ↦
+              absurd
+              (there (get_or-set_at seen i n nothing_known None (sym last ∙ sym is) (omega (arith, whole, small, is))))
         ]
       ],
 )

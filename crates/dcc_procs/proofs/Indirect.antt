@@ -33,7 +33,8 @@ none-fits :
     (cpu : Cpu) (m : ℕ) (rest : List ℕ) → m < 256 → 2 ≤ reg_field m → reg_field m ≤ 5
     → find (λ row. fits row.pattern (0xff ∷ m ∷ rest)) (table cpu) ≡ None
 none-fits cpu m rest short low high =
-    find-within form (0xff ∷ m ∷ rest) (table cpu) (and_both _ _ (fits-this 0xff 0xff refl) (and_both _ _ (fits-any_operand 2 5 m low high short) refl))
+    find-within form (0xff ∷ m ∷ rest) (table cpu)
+    (and_both _ _ (fits-this 0xff 0xff refl) (and_both _ _ (fits-any_operand 2 5 m low high short) refl))
     ∙ ap (find (λ (row : Row). fits row.pattern (0xff ∷ m ∷ rest))) (no-row cpu)
 
 none-there :
@@ -56,11 +57,13 @@ not-indirect :
     → instruction_at cpu at (drop at code) ≡ Some instr → ¬ HasIndirect code at reg
 not-indirect cpu code at reg instr bytes low high is h =
     let two = two-of (drop at code) (let e = length-drop at code in omega (arith, h.inside)) in
-    let first : get_or (drop at code) 0 0 ≡ 0xff = get_or-drop at code 0 0 ∙ ap (λ n. get_or code n 0) (omega arith) ∙ h.opcode in
+    let first : get_or (drop at code) 0 0 ≡ 0xff =
+    get_or-drop at code 0 0 ∙ ap (λ n. get_or code n 0) (omega arith) ∙ h.opcode in
     let second : get_or (drop at code) 1 0 ≡ byte_at code (at + 1) = get_or-drop at code 1 0 in
     let l : drop at code ≡ 0xff ∷ byte_at code (at + 1) ∷ two.0 =
     two.1 ∙ ap (λ n. n ∷ get_or (drop at code) 1 0 ∷ two.0) first ∙ ap (λ n. 0xff ∷ n ∷ two.0) second in
-    none-there cpu at (byte_at code (at + 1)) two.0 instr (bytes (at + 1)) (omega (arith, h.reg_is)) (omega (arith, h.reg_is)) (subst (λ b. instruction_at cpu at b ≡ Some instr) l is)
+    none-there cpu at (byte_at code (at + 1)) two.0 instr (bytes (at + 1)) (omega (arith, h.reg_is))
+    (omega (arith, h.reg_is)) (subst (λ b. instruction_at cpu at b ≡ Some instr) l is)
 
 -- the bytes of the code are bytes
 code-bytes : (image : Image) (layout : Layout) → IsLoaded image → All (λ b. b < 256) (code_within image layout)
@@ -79,12 +82,20 @@ module _ (image : Image) (layout : Layout) (loaded : IsLoaded image) (at : ℕ) 
     (is : instruction_in image layout at ≡ Some instr) where
   pub no-jump : ¬ IsIndirectJump (code_within image layout) at
   no-jump h = elim h [
-    | inl four ↦ not-indirect layout.cpu (code_within image layout) at 4 instr (code-byte image layout loaded) (omega arith) (omega arith) is four
-    | inr five ↦ not-indirect layout.cpu (code_within image layout) at 5 instr (code-byte image layout loaded) (omega arith) (omega arith) is five
+    | inl four ↦
+        not-indirect layout.cpu (code_within image layout) at 4 instr (code-byte image layout loaded) (omega arith)
+        (omega arith) is four
+    | inr five ↦
+        not-indirect layout.cpu (code_within image layout) at 5 instr (code-byte image layout loaded) (omega arith)
+        (omega arith) is five
   ]
 
   pub no-call : ¬ IsIndirectCall (code_within image layout) at
   no-call h = elim h [
-    | inl two ↦ not-indirect layout.cpu (code_within image layout) at 2 instr (code-byte image layout loaded) (omega arith) (omega arith) is two
-    | inr three ↦ not-indirect layout.cpu (code_within image layout) at 3 instr (code-byte image layout loaded) (omega arith) (omega arith) is three
+    | inl two ↦
+        not-indirect layout.cpu (code_within image layout) at 2 instr (code-byte image layout loaded) (omega arith)
+        (omega arith) is two
+    | inr three ↦
+        not-indirect layout.cpu (code_within image layout) at 3 instr (code-byte image layout loaded) (omega arith)
+        (omega arith) is three
   ]

@@ -87,7 +87,8 @@ form-inverse op next to (AlInRange number) after e = step (clears_upper Ax (Some
         → AlInRange number ≡ came_from op after
     step true t is =
         let same : InRange Ax number ≡ after = cc in
-        subst (λ f. AlInRange number ≡ came_from op f) same (sym (ap (λ b. if b then AlInRange number else Compared Ax number) t))
+        subst (λ f. AlInRange number ≡ came_from op f) same
+        (sym (ap (λ b. if b then AlInRange number else Compared Ax number) t))
     step false t is = let clash = is in cc
 form-inverse op next to (InRange r number) after e = step (is_doubling r (Some op)) e
   where
@@ -106,7 +107,9 @@ step-form op next to = by (form_begun op)
       constant = λ v e x. e;
       single = λ n v x y e g. let clash = n in cc;
     }
-    by None = from-inverse (λ form. continued op next to form) (came_from op) refl (λ form after e. form-inverse op next to form after e)
+    by None =
+        from-inverse (λ form. continued op next to form) (came_from op) refl
+        (λ form after e. form-inverse op next to form after e)
 
 -- the form that leaves an index
 abbrev before_index : Op → Index → Form
@@ -141,7 +144,9 @@ index-inverse op (InRange r number) index e = step (is_doubling r (Some op)) ref
     step :
         (b : Bool) → is_doubling r (Some op) ≡ b → (if b then Some (index_of number r) else None) ≡ Some index
         → InRange r number ≡ before_index op index
-    step true t is = let same : index_of number r ≡ index = cc in subst (λ i. InRange r number ≡ before_index op i) same (doubling-index op r number t)
+    step true t is =
+        let same : index_of number r ≡ index = cc in subst (λ i. InRange r number ≡ before_index op i) same
+        (doubling-index op r number t)
     step false t is = let clash = is in cc
 index-inverse op (Doubled r number) index e = step (moved_to r op) refl e
   where
@@ -149,7 +154,9 @@ index-inverse op (Doubled r number) index e = step (moved_to r op) refl e
         (moved : Option Reg) → moved_to r op ≡ moved → option_map (index_of number) moved ≡ Some index
         → Doubled r number ≡ before_index op index
     step None t is = let clash = is in cc
-    step (Some q) t is = let same : index_of number q ≡ index = cc in subst (λ i. Doubled r number ≡ before_index op i) same (moving-index op r q number t)
+    step (Some q) t is =
+        let same : index_of number q ≡ index = cc in subst (λ i. Doubled r number ≡ before_index op i) same
+        (moving-index op r q number t)
 
 pub step-index : (op : Op) → IsStep (index_after op)
 step-index op = from-inverse (index_after op) (before_index op) refl (λ form index e. index-inverse op form index e)
@@ -166,8 +173,12 @@ pub covers-after :
     (at : ℕ) (instr : Instr) (to : ℕ) (known told : Known) → Covers known told
     → Covers (known_after at instr to known) (known_after at instr to told)
 covers-after at instr to known told c = record {
-  ah = covers-step (λ (a : Option ℕ). if writes_half instr.op Ax High then constant_to_ah instr.op else a) (step-ah (writes_half instr.op Ax High) (constant_to_ah instr.op)) known.ah told.ah c.ah;
-  form = covers-step (form_after instr.op (next_of at instr) to) (step-form instr.op (next_of at instr) to) known.form told.form c.form;
+  ah =
+      covers-step (λ (a : Option ℕ). if writes_half instr.op Ax High then constant_to_ah instr.op else a)
+      (step-ah (writes_half instr.op Ax High) (constant_to_ah instr.op)) known.ah told.ah c.ah;
+  form =
+      covers-step (form_after instr.op (next_of at instr) to) (step-form instr.op (next_of at instr) to) known.form
+      told.form c.form;
   index = covers-step (index_after instr.op) (step-index instr.op) known.form told.form c.form;
   from = λ n e. e;
 }
@@ -195,15 +206,19 @@ pub test-number : IsTest nat_eq
 test-number = record { sound = λ a b e. eqb-true a b e; whole = λ a. eq-eqb a a refl }
 
 same-pair : (r q : Reg) (n m : ℕ) → (is_same_register r q && n == m) ≡ true → (r ≡ q) × (n ≡ m)
-same-pair r q n m e = (same-register r q (and-left (is_same_register r q) (n == m) e), eqb-true n m (and-right (is_same_register r q) (n == m) e))
+same-pair r q n m e =
+    (same-register r q (and-left (is_same_register r q) (n == m) e), eqb-true n m (and-right (is_same_register r q) (n == m) e))
 
 pair-same : (r : Reg) (n : ℕ) → (is_same_register r r && n == n) ≡ true
 pair-same r n = and-both (is_same_register r r) (n == n) (register-same r r refl) (eq-eqb n n refl)
 
 same-form : (f g : Form) → is_same_form f g ≡ true → f ≡ g
-same-form (Compared r n) (Compared q m) e = let s = same-pair r q n m e in ap (λ (x : Reg). Compared x n) s.0 ∙ ap (λ (x : ℕ). Compared q x) s.1
-same-form (InRange r n) (InRange q m) e = let s = same-pair r q n m e in ap (λ (x : Reg). InRange x n) s.0 ∙ ap (λ (x : ℕ). InRange q x) s.1
-same-form (Doubled r n) (Doubled q m) e = let s = same-pair r q n m e in ap (λ (x : Reg). Doubled x n) s.0 ∙ ap (λ (x : ℕ). Doubled q x) s.1
+same-form (Compared r n) (Compared q m) e =
+    let s = same-pair r q n m e in ap (λ (x : Reg). Compared x n) s.0 ∙ ap (λ (x : ℕ). Compared q x) s.1
+same-form (InRange r n) (InRange q m) e =
+    let s = same-pair r q n m e in ap (λ (x : Reg). InRange x n) s.0 ∙ ap (λ (x : ℕ). InRange q x) s.1
+same-form (Doubled r n) (Doubled q m) e =
+    let s = same-pair r q n m e in ap (λ (x : Reg). Doubled x n) s.0 ∙ ap (λ (x : ℕ). Doubled q x) s.1
 same-form (AlCompared n) (AlCompared m) e = ap (λ (x : ℕ). AlCompared x) (eqb-true n m e)
 same-form (AlInRange n) (AlInRange m) e = ap (λ (x : ℕ). AlInRange x) (eqb-true n m e)
 same-form f g e = let clash = e in cc
@@ -220,7 +235,9 @@ test-form = record { sound = same-form; whole = form-same }
 
 pub test-index : IsTest is_same_index
 test-index = record {
-  sound = λ a b e. let s = same-pair a.register b.register a.number b.number e in ap (index_of a.number) s.0 ∙ ap (λ n. index_of n b.register) s.1;
+  sound =
+      λ a b e. let s = same-pair a.register b.register a.number b.number e in ap (index_of a.number) s.0
+      ∙ ap (λ n. index_of n b.register) s.1;
   whole = λ a. pair-same a.register a.number;
 }
 
@@ -291,7 +308,11 @@ covers-kept was known told le c =
     let f = common-count nat_eq test-number was.from known.from in
     record {
       ah = λ n e. c.ah n (common-kept nat_eq test-number was.ah known.ah (omega (arith, le, a, b, d, f)) n e);
-      form = λ n e. c.form n (common-kept is_same_form test-form was.form known.form (omega (arith, le, a, b, d, f)) n e);
-      index = λ n e. c.index n (common-kept is_same_index test-index was.index known.index (omega (arith, le, a, b, d, f)) n e);
+      form =
+          λ n e. c.form n
+          (common-kept is_same_form test-form was.form known.form (omega (arith, le, a, b, d, f)) n e);
+      index =
+          λ n e. c.index n
+          (common-kept is_same_index test-index was.index known.index (omega (arith, le, a, b, d, f)) n e);
       from = λ n e. c.from n (common-kept nat_eq test-number was.from known.from (omega (arith, le, a, b, d, f)) n e);
     }

@@ -19,7 +19,8 @@ same-turned x y = elim (nat_eq x y) as (λ b. nat_eq x y ≡ b → nat_eq x y �
 
 pub distinct-permuted : (xs ys : List ℕ) → IsPermutation xs ys → AllPairs (λ x y. x ≢ y) xs → AllPairs (λ x y. x ≢ y) ys
 distinct-permuted xs ys moved distinct =
-    AllPairs-from_IsDistinct unsigned_Decides ys (IsDistinct-IsPermutation nat_eq same-turned xs ys moved (IsDistinct-from_AllPairs unsigned_Decides xs distinct))
+    AllPairs-from_IsDistinct unsigned_Decides ys
+    (IsDistinct-IsPermutation nat_eq same-turned xs ys moved (IsDistinct-from_AllPairs unsigned_Decides xs distinct))
 
 -- by a number of each
 pub ascending-by :
@@ -31,5 +32,6 @@ ascending-by n xs ys moved distinct up i j d less inside =
     let le = up i j d (omega (arith, less)) inside in
     let a = get_or-map n ys i d (n d) (omega (arith, less, inside)) in
     let b = get_or-map n ys j d (n d) inside in
-    let ne : n (get_or ys i d) ≢ n (get_or ys j d) = λ same. apart i j (n d) less (omega (arith, short, inside)) (a ∙ same ∙ sym b) in
+    let ne : n (get_or ys i d) ≢ n (get_or ys j d) =
+    λ same. apart i j (n d) less (omega (arith, short, inside)) (a ∙ same ∙ sym b) in
     omega (arith, le, ne)

@@ -65,7 +65,9 @@ contains-place (first ∷ rest) proc at c l = elim (Contains-append_cases (first
         Contains-append_left (map (place_in first) first.nodes.entries) (places_of rest) (proc.entry, at)
         (subst (λ (p : Proc). Contains (map (place_in p) p.nodes.entries) (proc.entry, at)) (sym same) there)
   ]
-  | inr there ↦ Contains-append_right (map (place_in first) first.nodes.entries) (places_of rest) (proc.entry, at) (contains-place rest proc at there l)
+  | inr there ↦
+      Contains-append_right (map (place_in first) first.nodes.entries) (places_of rest) (proc.entry, at)
+      (contains-place rest proc at there l)
 ]
 
 -- the procedure of an instruction
@@ -74,12 +76,19 @@ place-entry :
     → Contains (map (λ (p : Proc). p.entry) procs) place.0
 unfolding places_of place_in
 place-entry [] place c = absurd (let inside = c.1 in omega (arith, inside))
-place-entry (first ∷ rest) place c = elim (Contains-append_cases (map (place_in first) first.nodes.entries) (places_of rest) place c) [
-  | inl here ↦
-      let is : place.0 ≡ first.entry = All-contains (λ (q : ℕ × ℕ). q.0 ≡ first.entry) (map (place_in first) first.nodes.entries) place (All-map (λ (q : ℕ × ℕ). q.0 ≡ first.entry) (place_in first) first.nodes.entries (λ k d inside. refl)) here in
-      subst (Contains (first.entry ∷ map (λ (p : Proc). p.entry) rest)) (sym is) (Contains-append_left (first.entry ∷ []) (map (λ (p : Proc). p.entry) rest) first.entry (0, omega arith, refl))
-  | inr there ↦ Contains-append_right (first.entry ∷ []) (map (λ (p : Proc). p.entry) rest) place.0 (place-entry rest place there)
-]
+place-entry (first ∷ rest) place c =
+    elim (Contains-append_cases (map (place_in first) first.nodes.entries) (places_of rest) place c) [
+      | inl here ↦
+          let is : place.0 ≡ first.entry =
+          All-contains (λ (q : ℕ × ℕ). q.0 ≡ first.entry) (map (place_in first) first.nodes.entries) place
+          (All-map (λ (q : ℕ × ℕ). q.0 ≡ first.entry) (place_in first) first.nodes.entries (λ k d inside. refl)) here
+          in
+          subst (Contains (first.entry ∷ map (λ (p : Proc). p.entry) rest)) (sym is)
+          (Contains-append_left (first.entry ∷ []) (map (λ (p : Proc). p.entry) rest) first.entry (0, omega arith, refl))
+      | inr there ↦
+          Contains-append_right (first.entry ∷ []) (map (λ (p : Proc). p.entry) rest) place.0
+          (place-entry rest place there)
+    ]
 
 own-apart :
     (proc : Proc) (nodes : List (ℕ × Node)) → AllPairs (λ (a b : ℕ × Node). a.0 < b.0) nodes
@@ -106,8 +115,12 @@ module _ (image : Image) (layout : Layout) where
       (own-apart first first.nodes.entries (All-head (IsFound image layout) first rest found).ascending)
       (places-apart rest (All-tail (IsFound image layout) first rest found) (pairs-tail (λ x y. x ≢ y) first.entry (map e rest) distinct))
       (λ x y c k same.
-      let one : x.0 ≡ first.entry = All-contains (λ (q : ℕ × ℕ). q.0 ≡ first.entry) (map (place_in first) first.nodes.entries) x (All-map (λ (q : ℕ × ℕ). q.0 ≡ first.entry) (place_in first) first.nodes.entries (λ k d inside. refl)) c in
-      All-contains (λ n. first.entry ≢ n) (map e rest) y.0 (pairs-head (λ x y. x ≢ y) first.entry (map e rest) distinct) (place-entry rest y k) (sym one ∙ ap (λ (q : ℕ × ℕ). q.0) same))
+      let one : x.0 ≡ first.entry =
+      All-contains (λ (q : ℕ × ℕ). q.0 ≡ first.entry) (map (place_in first) first.nodes.entries) x
+      (All-map (λ (q : ℕ × ℕ). q.0 ≡ first.entry) (place_in first) first.nodes.entries (λ k d inside. refl)) c in
+      All-contains (λ n. first.entry ≢ n) (map e rest) y.0
+      (pairs-head (λ x y. x ≢ y) first.entry (map e rest) distinct) (place-entry rest y k)
+      (sym one ∙ ap (λ (q : ℕ × ℕ). q.0) same))
 
   places-hold :
       (procs : List Proc) → All (IsFound image layout) procs → All (λ proc. IsEntry image layout proc.entry) procs
@@ -133,6 +146,7 @@ module _ (image : Image) (layout : Layout) where
         values = take 32769 (places_of procs);
         hold = All-take (IsNodeOf image layout) 32769 (places_of procs) (places-hold procs found reached);
         distinct = λ i j d less inside same.
-            pairs i j d less (omega (arith, inside, taken)) (sym (get_or-take 32769 (places_of procs) i d (omega (arith, less, inside, taken))) ∙ same ∙ get_or-take 32769 (places_of procs) j d (omega (arith, inside, taken)));
+            pairs i j d less (omega (arith, inside, taken))
+            (sym (get_or-take 32769 (places_of procs) i d (omega (arith, less, inside, taken))) ∙ same ∙ get_or-take 32769 (places_of procs) j d (omega (arith, inside, taken)));
         count_is = omega (arith, taken, whole, more);
       }

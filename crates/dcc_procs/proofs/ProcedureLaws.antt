@@ -36,7 +36,9 @@ map-self (x ∷ xs) = ap (λ l. x ∷ l) (map-self xs)
 pub ascending-sorted :
     (order sorted : List ℕ) → IsPermutation order sorted → AllPairs (λ x y. x ≢ y) order
     → IsNonDecreasingBy (λ x. x) sorted → AllPairs (λ a b. a < b) sorted
-ascending-sorted order sorted moved distinct up = ascending-by (λ (x : ℕ). x) order sorted moved (subst (AllPairs (λ x y. x ≢ y)) (sym (map-self order)) distinct) up
+ascending-sorted order sorted moved distinct up =
+    ascending-by (λ (x : ℕ). x) order sorted moved (subst (AllPairs (λ x y. x ≢ y)) (sym (map-self order)) distinct)
+    up
 
 -- ascending numbers are different
 pub map-apart :
@@ -57,13 +59,17 @@ module _ (image : Image) (layout : Layout) (loaded : IsLoaded image) (entry : �
 
   -- a node is among the offsets
   in-order : (at : ℕ) → IsNode image layout entry at → Contains order at
-  in-order at node = (o.every at).1 (tells-some (seen_at seen at) (told image layout at node.before) (all.told at node.before node.trail))
+  in-order at node =
+      (o.every at).1
+      (tells-some (seen_at seen at) (told image layout at node.before) (all.told at node.before node.trail))
 
   few-nodes : length proc.nodes.entries ≤ 4096
   few-nodes =
       let f : ℕ × Node → ℕ = λ n. n.0 in
       let among : (x : ℕ) → Contains (map f proc.nodes.entries) x → Contains order x = λ x c.
-      All-contains (Contains order) (map f proc.nodes.entries) x (All-map (Contains order) f proc.nodes.entries (λ k d inside. in-order (get_or proc.nodes.entries k d).0 (subst (λ e. IsNode image layout e (get_or proc.nodes.entries k d).0) entry_is (found.nodes k d inside).node))) c in
+      All-contains (Contains order) (map f proc.nodes.entries) x
+      (All-map (Contains order) f proc.nodes.entries (λ k d inside. in-order (get_or proc.nodes.entries k d).0 (subst (λ e. IsNode image layout e (get_or proc.nodes.entries k d).0) entry_is (found.nodes k d inside).node)))
+      c in
       let le = no-more (map f proc.nodes.entries) order (map-apart f proc.nodes.entries found.ascending) among in
       let short = length-map proc.nodes.entries f in
       let few = o.few in

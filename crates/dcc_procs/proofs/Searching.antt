@@ -42,7 +42,8 @@ pub set-cases :
     (seen : List (Option Known)) (at : ℕ) (new : Option Known) → at < length seen → (i : ℕ)
     → ((i ≡ at) × (seen_at (slice_set seen at new) i ≡ new)) ⊎ (seen_at (slice_set seen at new) i ≡ seen_at seen i)
 set-cases seen at new inside i =
-    elim (i == at) as (λ b. (i == at) ≡ b → ((i ≡ at) × (seen_at (slice_set seen at new) i ≡ new)) ⊎ (seen_at (slice_set seen at new) i ≡ seen_at seen i)) [
+    elim (i == at) as
+    (λ b. (i == at) ≡ b → ((i ≡ at) × (seen_at (slice_set seen at new) i ≡ new)) ⊎ (seen_at (slice_set seen at new) i ≡ seen_at seen i)) [
       | true ↦ λ t. inl (eqb-true i at t, get_or-set_at seen at i new None (eqb-true i at t) inside)
       | false ↦ λ f. inr (get_or-set_other seen at i new None (λ e. let clash = sym f ∙ eq-eqb i at e in cc))
     ] refl
@@ -81,7 +82,9 @@ module _ (work : Work) (order : List ℕ) (to : ℕ) (new : Known) (inside : to 
   changed-waiting :
       ((at : ℕ) → Contains work.pending at → seen_at work.seen at ≢ None) → (at : ℕ)
       → Contains (work.pending ++ to ∷ []) at → seen_at (slice_set work.seen to (Some new)) at ≢ None
-  changed-waiting old at c = changed-seen at (elim (Contains-push_cases work.pending to at c) [ inl there ↦ inl (old at there) | inr is ↦ inr is ])
+  changed-waiting old at c =
+      changed-seen at
+      (elim (Contains-push_cases work.pending to at c) [ inl there ↦ inl (old at there) | inr is ↦ inr is ])
 
   changed-witnessed :
       (image : Image) (layout : Layout) (entry : ℕ)
@@ -107,7 +110,8 @@ module _ (work : Work) (order : List ℕ) (to : ℕ) (new : Known) (inside : to 
     ]
 
     changed-less :
-        2 * sum_by rank (slice_set work.seen to (Some new)) + length (work.pending ++ to ∷ []) ≤ 2 * sum_by rank work.seen + length work.pending
+        2 * sum_by rank (slice_set work.seen to (Some new)) + length (work.pending ++ to ∷ []) ≤ 2 * sum_by rank
+        work.seen + length work.pending
     changed-less =
         let sums = sum_by-set rank work.seen to (Some new) None inside in
         let more = length-append work.pending (to ∷ []) in
@@ -147,67 +151,76 @@ order-same image layout entry seen others order same o = record {
 module _ (image : Image) (layout : Layout) (entry : ℕ) (seen : List (Option Known)) (order : List ℕ) (to : ℕ)
     (new : Known) (inside : to < length seen) (o : IsOrder image layout entry seen order)
     (unseen : seen_at seen to ≡ None) (room : length order < 4096) (comes : ComesFrom image layout entry order to)
-    where
-  last-is : (d : ℕ) → get_or (order ++ to ∷ []) (length order) d ≡ to
-  last-is d = get_or-append_seam order to [] d
+  where
+    last-is : (d : ℕ) → get_or (order ++ to ∷ []) (length order) d ≡ to
+    last-is d = get_or-append_seam order to [] d
 
-  edge-to-last :
-      (d : ℕ) → 0 < length order → (j : ℕ)
-      × (j < length order) × IsEdge image layout entry (get_or (order ++ to ∷ []) j d) (get_or (order ++ to ∷ []) (length order) d)
-  edge-to-last d some = by comes
-    where
-      by :
-          ComesFrom image layout entry order to → (j : ℕ)
-          × (j < length order) × IsEdge image layout entry (get_or (order ++ to ∷ []) j d) (get_or (order ++ to ∷ []) (length order) d)
-      by (alone none is) = absurd (let e = ap length none in omega (arith, e, some))
-      by (later {from} c edge) =
-          let there : get_or (order ++ to ∷ []) c.0 d ≡ from = get_or_append_left order (to ∷ []) d c.0 c.1 ∙ get_or_default order c.0 d from c.1 ∙ c.2 in
-          (c.0, c.1, subst (λ a. IsEdge image layout entry a (get_or (order ++ to ∷ []) (length order) d)) (sym there) (subst (IsEdge image layout entry from) (sym (last-is d)) edge))
+    edge-to-last :
+        (d : ℕ) → 0 < length order → (j : ℕ)
+        × (j < length order) × IsEdge image layout entry (get_or (order ++ to ∷ []) j d)
+        (get_or (order ++ to ∷ []) (length order) d)
+    edge-to-last d some = by comes
+      where
+        by :
+            ComesFrom image layout entry order to → (j : ℕ)
+            × (j < length order) × IsEdge image layout entry (get_or (order ++ to ∷ []) j d)
+            (get_or (order ++ to ∷ []) (length order) d)
+        by (alone none is) = absurd (let e = ap length none in omega (arith, e, some))
+        by (later {from} c edge) =
+            let there : get_or (order ++ to ∷ []) c.0 d ≡ from =
+            get_or_append_left order (to ∷ []) d c.0 c.1 ∙ get_or_default order c.0 d from c.1 ∙ c.2 in
+            (c.0, c.1, subst (λ a. IsEdge image layout entry a (get_or (order ++ to ∷ []) (length order) d)) (sym there) (subst (IsEdge image layout entry from) (sym (last-is d)) edge))
 
-  earlier-pushed :
-      (i d : ℕ) → 0 < i → i < length (order ++ to ∷ []) → (j : ℕ)
-      × (j < i) × IsEdge image layout entry (get_or (order ++ to ∷ []) j d) (get_or (order ++ to ∷ []) i d)
-  earlier-pushed i d some less = elim (cases_lt i (length order)) [
-    | inl old ↦
-        let e = o.earlier i d some old in
-        let a = get_or_append_left order (to ∷ []) d e.0 (omega (arith, e.1, old)) in
-        let b = get_or_append_left order (to ∷ []) d i old in
-        (e.0, e.1, subst (λ n. IsEdge image layout entry n (get_or (order ++ to ∷ []) i d)) (sym a) (subst (IsEdge image layout entry (get_or order e.0 d)) (sym b) e.2))
-    | inr past ↦
-        let more = length-append order (to ∷ []) in
-        let is : length order ≡ i = omega (arith, more, less, past) in
-        subst (λ n. (j : ℕ) × (j < n) × IsEdge image layout entry (get_or (order ++ to ∷ []) j d) (get_or (order ++ to ∷ []) n d)) is (edge-to-last d (omega (arith, is, some)))
-  ]
+    earlier-pushed :
+        (i d : ℕ) → 0 < i → i < length (order ++ to ∷ []) → (j : ℕ)
+        × (j < i) × IsEdge image layout entry (get_or (order ++ to ∷ []) j d) (get_or (order ++ to ∷ []) i d)
+    earlier-pushed i d some less = elim (cases_lt i (length order)) [
+      | inl old ↦
+          let e = o.earlier i d some old in
+          let a = get_or_append_left order (to ∷ []) d e.0 (omega (arith, e.1, old)) in
+          let b = get_or_append_left order (to ∷ []) d i old in
+          (e.0, e.1, subst (λ n. IsEdge image layout entry n (get_or (order ++ to ∷ []) i d)) (sym a) (subst (IsEdge image layout entry (get_or order e.0 d)) (sym b) e.2))
+      | inr past ↦
+          let more = length-append order (to ∷ []) in
+          let is : length order ≡ i = omega (arith, more, less, past) in
+          subst
+          (λ n. (j : ℕ) × (j < n) × IsEdge image layout entry (get_or (order ++ to ∷ []) j d) (get_or (order ++ to ∷ []) n d))
+          is (edge-to-last d (omega (arith, is, some)))
+    ]
 
-  first-pushed : (d : ℕ) → get_or (order ++ to ∷ []) 0 d ≡ entry
-  first-pushed d = by comes
-    where
-      by : ComesFrom image layout entry order to → get_or (order ++ to ∷ []) 0 d ≡ entry
-      by (alone none is) = ap (λ l. get_or (l ++ to ∷ []) 0 d) none ∙ is
-      by (later {from} c edge) =
-          let some : 0 < length order = omega (arith, c.1) in
-          get_or_append_left order (to ∷ []) d 0 some ∙ o.first d some
+    first-pushed : (d : ℕ) → get_or (order ++ to ∷ []) 0 d ≡ entry
+    first-pushed d = by comes
+      where
+        by : ComesFrom image layout entry order to → get_or (order ++ to ∷ []) 0 d ≡ entry
+        by (alone none is) = ap (λ l. get_or (l ++ to ∷ []) 0 d) none ∙ is
+        by (later {from} c edge) =
+            let some : 0 < length order = omega (arith, c.1) in
+            get_or_append_left order (to ∷ []) d 0 some ∙ o.first d some
 
-  pub order-pushed : IsOrder image layout entry (slice_set seen to (Some new)) (order ++ to ∷ [])
-  order-pushed =
-      let work : Work = record { seen = seen; order = order; pending = [] } in
-      record {
-        every = λ at. (
-          λ c. changed-seen work order to new inside at (elim (Contains-push_cases order to at c) [ inl there ↦ inl ((o.every at).0 there) | inr is ↦ inr is ]),
-          λ is. elim (set-cases seen to (Some new) inside at) [
-            | inl here ↦ subst (Contains (order ++ to ∷ [])) (sym here.0) (Contains-push order to)
-            | inr same ↦ Contains-append_left order (to ∷ []) at ((o.every at).1 (λ none. is (same ∙ none)))
-          ],
-        );
-        distinct = all_pairs_push (λ x y. x ≢ y) order to o.distinct (λ k d less is. (o.every (get_or order k d)).0 (Contains-get_or order k d less) (ap (seen_at seen) is ∙ unseen));
-        first = λ d some. first-pushed d;
-        earlier = earlier-pushed;
-        few = let more = length-append order (to ∷ []) in omega (arith, more, room);
-      }
+    pub order-pushed : IsOrder image layout entry (slice_set seen to (Some new)) (order ++ to ∷ [])
+    order-pushed =
+        let work : Work = record { seen = seen; order = order; pending = [] } in
+        record {
+          every = λ at. (
+            λ c. changed-seen work order to new inside at
+                (elim (Contains-push_cases order to at c) [ inl there ↦ inl ((o.every at).0 there) | inr is ↦ inr is ]),
+            λ is. elim (set-cases seen to (Some new) inside at) [
+              | inl here ↦ subst (Contains (order ++ to ∷ [])) (sym here.0) (Contains-push order to)
+              | inr same ↦ Contains-append_left order (to ∷ []) at ((o.every at).1 (λ none. is (same ∙ none)))
+            ],
+          );
+          distinct =
+              all_pairs_push (λ x y. x ≢ y) order to o.distinct
+              (λ k d less is. (o.every (get_or order k d)).0 (Contains-get_or order k d less) (ap (seen_at seen) is ∙ unseen));
+          first = λ d some. first-pushed d;
+          earlier = earlier-pushed;
+          few = let more = length-append order (to ∷ []) in omega (arith, more, room);
+        }
 
 -- A trail comes to an offset.
 
-pub record Arrives (image : Image) (layout : Layout) (entry : ℕ) (old new : Work) (to : ℕ) (known : Known) : Type 0 where
+pub record Arrives (image : Image) (layout : Layout) (entry : ℕ) (old new : Work) (to : ℕ) (known : Known) : Type
+    0 where
   pub sound : IsSound image layout entry new
   pub extends : Extends old new
   pub tells : (t : Known) → Covers known t → Tells (seen_at new.seen to) t
@@ -242,11 +255,14 @@ module _ (image : Image) (layout : Layout) (entry : ℕ) (old new : Work) (to : 
       record {
         sound = record {
           length_is = length-set old.seen to (Some less) ∙ s.length_is;
-          witnessed = changed-witnessed old old.order to less within image layout entry s.witnessed (witnessed-common image layout entry to was known (s.witnessed to was seen) w);
+          witnessed =
+              changed-witnessed old old.order to less within image layout entry s.witnessed
+              (witnessed-common image layout entry to was known (s.witnessed to was seen) w);
           order = order-same image layout entry old.seen (slice_set old.seen to (Some less)) old.order (λ at. (
             λ is. changed-seen old old.order to less within at (inl is),
             λ is. elim (set-cases old.seen to (Some less) within at) [
-              | inl there ↦ subst (λ i. seen_at old.seen i ≢ None) (sym there.0) (some-not_none (seen_at old.seen to) was seen)
+              | inl there ↦
+                  subst (λ i. seen_at old.seen i ≢ None) (sym there.0) (some-not_none (seen_at old.seen to) was seen)
               | inr same ↦ λ none. is (same ∙ none)
             ],
           )) s.order;
@@ -259,8 +275,10 @@ module _ (image : Image) (layout : Layout) (entry : ℕ) (old new : Work) (to : 
       }
 
   pub arrives : IsArrived old new to known → Arrives image layout entry old new to known
-  arrives (first_time unseen room is) = subst (λ n. Arrives image layout entry old n to known) (sym is) (arrives-first unseen room)
-  arrives (told_less {was} seen fewer is) = subst (λ n. Arrives image layout entry old n to known) (sym is) (arrives-less was seen fewer)
+  arrives (first_time unseen room is) =
+      subst (λ n. Arrives image layout entry old n to known) (sym is) (arrives-first unseen room)
+  arrives (told_less {was} seen fewer is) =
+      subst (λ n. Arrives image layout entry old n to known) (sym is) (arrives-less was seen fewer)
   arrives (told_same {was} seen le is) = subst (λ n. Arrives image layout entry old n to known) (sym is) (record {
     sound = s;
     extends = extends-refl old;
@@ -274,7 +292,9 @@ sound-fresh image layout entry work f = record {
   length_is = f.length_is;
   witnessed = λ at k e. let clash = sym (f.none at) ∙ e in cc;
   order = record {
-    every = λ at. (λ c. absurd (let none = ap length f.order in let inside = c.1 in omega (arith, none, inside)), λ is. absurd (is (f.none at)));
+    every =
+        λ at.
+        (λ c. absurd (let none = ap length f.order in let inside = c.1 in omega (arith, none, inside)), λ is. absurd (is (f.none at)));
     distinct = λ i j d less inside. absurd (let none = ap length f.order in omega (arith, none, inside, less));
     first = λ d some. absurd (let none = ap length f.order in omega (arith, none, some));
     earlier = λ i d some inside. absurd (let none = ap length f.order in omega (arith, none, inside));

@@ -38,7 +38,8 @@ register-same r q e = eq-eqb (reg_number r) (reg_number q) (ap reg_number e)
 -- one register, or two
 pub same-cases : (r q : Reg) → (r ≡ q) ⊎ ((is_same_register r q ≡ false) × (is_same_register q r ≡ false))
 same-cases r q =
-    elim (is_same_register r q) as (λ b. is_same_register r q ≡ b → (r ≡ q) ⊎ ((is_same_register r q ≡ false) × (is_same_register q r ≡ false))) [
+    elim (is_same_register r q) as
+    (λ b. is_same_register r q ≡ b → (r ≡ q) ⊎ ((is_same_register r q ≡ false) × (is_same_register q r ≡ false))) [
       | true ↦ λ e. inl (same-register r q e)
       | false ↦ λ e. inr (e, turned e (is_same_register q r) refl)
     ] refl
@@ -95,39 +96,53 @@ doubled r form = None
 compared-continued :
     (r : Reg) (op : Op) (next to : ℕ) (form : Option Form) → compared r (continued op next to form) ≡ None
 compared-continued r op next to None = refl
-compared-continued r op next to (Some (Compared q number)) = if-blind (compared r) (is_bounds_test op next to) (InRange q number) refl refl
-compared-continued r op next to (Some (AlCompared number)) = if-blind (compared r) (is_bounds_test op next to) (AlInRange number) refl refl
-compared-continued r op next to (Some (AlInRange number)) = if-blind (compared r) (clears_upper Ax (Some op)) (InRange Ax number) refl refl
-compared-continued r op next to (Some (InRange q number)) = if-blind (compared r) (is_doubling q (Some op)) (Doubled q number) refl refl
+compared-continued r op next to (Some (Compared q number)) =
+    if-blind (compared r) (is_bounds_test op next to) (InRange q number) refl refl
+compared-continued r op next to (Some (AlCompared number)) =
+    if-blind (compared r) (is_bounds_test op next to) (AlInRange number) refl refl
+compared-continued r op next to (Some (AlInRange number)) =
+    if-blind (compared r) (clears_upper Ax (Some op)) (InRange Ax number) refl refl
+compared-continued r op next to (Some (InRange q number)) =
+    if-blind (compared r) (is_doubling q (Some op)) (Doubled q number) refl refl
 compared-continued r op next to (Some (Doubled q number)) = refl
 
 al_compared-continued : (op : Op) (next to : ℕ) (form : Option Form) → al_compared (continued op next to form) ≡ None
 al_compared-continued op next to None = refl
-al_compared-continued op next to (Some (Compared q number)) = if-blind al_compared (is_bounds_test op next to) (InRange q number) refl refl
-al_compared-continued op next to (Some (AlCompared number)) = if-blind al_compared (is_bounds_test op next to) (AlInRange number) refl refl
-al_compared-continued op next to (Some (AlInRange number)) = if-blind al_compared (clears_upper Ax (Some op)) (InRange Ax number) refl refl
-al_compared-continued op next to (Some (InRange q number)) = if-blind al_compared (is_doubling q (Some op)) (Doubled q number) refl refl
+al_compared-continued op next to (Some (Compared q number)) =
+    if-blind al_compared (is_bounds_test op next to) (InRange q number) refl refl
+al_compared-continued op next to (Some (AlCompared number)) =
+    if-blind al_compared (is_bounds_test op next to) (AlInRange number) refl refl
+al_compared-continued op next to (Some (AlInRange number)) =
+    if-blind al_compared (clears_upper Ax (Some op)) (InRange Ax number) refl refl
+al_compared-continued op next to (Some (InRange q number)) =
+    if-blind al_compared (is_doubling q (Some op)) (Doubled q number) refl refl
 al_compared-continued op next to (Some (Doubled q number)) = refl
 
 -- a comparison begins a form, and no other operation does
 compared-first :
     (r q : Reg) (number : ℕ) (other : Option Form) → compared r other ≡ None
-    → compared r (first_of (if is_general q then Some (Compared q number) else None) other) ≡ (if is_general r && is_same_register r q then Some number else None)
+    → compared r (first_of (if is_general q then Some (Compared q number) else None) other) ≡
+    (if is_general r && is_same_register r q then Some number else None)
 compared-first r q number other none = elim (same-cases r q) [
-  | inl same ↦ subst (λ p. compared r (first_of (if is_general p then Some (Compared p number) else None) other) ≡ (if is_general r && is_same_register r p then Some number else None)) same (one (is_general r) (is_same_register r r) (same-self r))
+  | inl same ↦
+      subst
+      (λ p. compared r (first_of (if is_general p then Some (Compared p number) else None) other) ≡ (if is_general r && is_same_register r p then Some number else None))
+      same (one (is_general r) (is_same_register r r) (same-self r))
   | inr apart ↦ two apart.0 (is_general q) (is_general r) (is_same_register r q) apart.0
 ]
   where
     one :
         (g s : Bool) → s ≡ true
-        → compared r (first_of (if g then Some (Compared r number) else None) other) ≡ (if g && s then Some number else None)
+        → compared r (first_of (if g then Some (Compared r number) else None) other) ≡
+        (if g && s then Some number else None)
     one true true e = ap (λ b. if b then Some number else None) (same-self r)
     one true false e = let clash = e in cc
     one false s e = none
 
     two :
         is_same_register r q ≡ false → (g h s : Bool) → s ≡ false
-        → compared r (first_of (if g then Some (Compared q number) else None) other) ≡ (if h && s then Some number else None)
+        → compared r (first_of (if g then Some (Compared q number) else None) other) ≡
+        (if h && s then Some number else None)
     two apart g h true f = let clash = f in cc
     two apart true true false f = chosen-none number (is_same_register r q) apart
     two apart true false false f = chosen-none number (is_same_register r q) apart
@@ -157,7 +172,8 @@ begun-al op other none = none
 compared-after :
     (r : Reg) (op : Op) (next to : ℕ) (form : Option Form)
     → compared r (form_after op next to form) ≡ compared_with r (Some op)
-compared-after r op next to form = begun-compared r op (continued op next to form) (compared-continued r op next to form)
+compared-after r op next to form =
+    begun-compared r op (continued op next to form) (compared-continued r op next to form)
 
 al_compared-after :
     (op : Op) (next to : ℕ) (form : Option Form)
@@ -175,7 +191,8 @@ in_range-first r false q number other none = none
 -- a bounds test
 tested :
     (r q : Reg) (number : ℕ) (b : Bool)
-    → in_range r (if b then Some (InRange q number) else None) ≡ (if b then (if is_same_register r q then Some number else None) else None)
+    → in_range r (if b then Some (InRange q number) else None) ≡
+    (if b then (if is_same_register r q then Some number else None) else None)
 tested r q number true = refl
 tested r q number false = refl
 
@@ -185,9 +202,15 @@ branch-range :
     → in_range r (continued op next to form) ≡ (if is_bounds_test op next to then compared r form else None)
 branch-range r op next to None twice clear = sym (if-none (is_bounds_test op next to))
 branch-range r op next to (Some (Compared q number)) twice clear = tested r q number (is_bounds_test op next to)
-branch-range r op next to (Some (AlCompared number)) twice clear = if-blind (in_range r) (is_bounds_test op next to) (AlInRange number) refl refl ∙ sym (if-none (is_bounds_test op next to))
-branch-range r op next to (Some (AlInRange number)) twice clear = ap (λ b. in_range r (if b then Some (InRange Ax number) else None)) clear ∙ sym (if-none (is_bounds_test op next to))
-branch-range r op next to (Some (InRange q number)) twice clear = if-blind (in_range r) (is_doubling q (Some op)) (Doubled q number) refl refl ∙ sym (if-none (is_bounds_test op next to))
+branch-range r op next to (Some (AlCompared number)) twice clear =
+    if-blind (in_range r) (is_bounds_test op next to) (AlInRange number) refl refl
+    ∙ sym (if-none (is_bounds_test op next to))
+branch-range r op next to (Some (AlInRange number)) twice clear =
+    ap (λ b. in_range r (if b then Some (InRange Ax number) else None)) clear
+    ∙ sym (if-none (is_bounds_test op next to))
+branch-range r op next to (Some (InRange q number)) twice clear =
+    if-blind (in_range r) (is_doubling q (Some op)) (Doubled q number) refl refl
+    ∙ sym (if-none (is_bounds_test op next to))
 branch-range r op next to (Some (Doubled q number)) twice clear = sym (if-none (is_bounds_test op next to))
 
 -- the greatest number that r may hold, after one instruction
@@ -198,7 +221,8 @@ range_by r op next to form =
 -- `xor ah,ah`
 cleared :
     (r : Reg) (form : Option Form) (next to : ℕ)
-    → in_range r (continued (AluOp Xor (Byte Ax High) (Byte Ax High)) next to form) ≡ range_by r (AluOp Xor (Byte Ax High) (Byte Ax High)) next to form
+    → in_range r (continued (AluOp Xor (Byte Ax High) (Byte Ax High)) next to form) ≡ range_by r
+    (AluOp Xor (Byte Ax High) (Byte Ax High)) next to form
 cleared Ax None next to = refl
 cleared Ax (Some (Compared q number)) next to = refl
 cleared Ax (Some (AlCompared number)) next to = refl
@@ -220,7 +244,8 @@ shifted r x None next to = refl
 shifted r x (Some (Compared q number)) next to = refl
 shifted r x (Some (AlCompared number)) next to = refl
 shifted r x (Some (AlInRange number)) next to = refl
-shifted r x (Some (InRange q number)) next to = if-blind (in_range r) (is_same_register q x) (Doubled q number) refl refl
+shifted r x (Some (InRange q number)) next to =
+    if-blind (in_range r) (is_same_register q x) (Doubled q number) refl refl
 shifted r x (Some (Doubled q number)) next to = refl
 
 unclear : (r : Reg) (op : Op) → clears_upper Ax (Some op) ≡ false → clears_upper r (Some op) ≡ false
@@ -231,18 +256,21 @@ range-plain :
     (r : Reg) (op : Op) (next to : ℕ) (form : Option Form) → clears_upper Ax (Some op) ≡ false
     → range_by r op next to form ≡ (if is_bounds_test op next to then compared r form else None)
 range-plain r op next to form e =
-    ap (λ b. if b then al_in_range form else if is_bounds_test op next to then compared r form else None) (unclear r op e)
+    ap (λ b. if b then al_in_range form else if is_bounds_test op next to then compared r form else None)
+    (unclear r op e)
 
 other-range :
     (r : Reg) (op : Op) (next to : ℕ) (form : Option Form) → ((q : Reg) → is_doubling q (Some op) ≡ false)
     → clears_upper Ax (Some op) ≡ false → in_range r (continued op next to form) ≡ range_by r op next to form
-other-range r op next to form twice clear = branch-range r op next to form twice clear ∙ sym (range-plain r op next to form clear)
+other-range r op next to form twice clear =
+    branch-range r op next to form twice clear ∙ sym (range-plain r op next to form clear)
 
 -- an operation that tests nothing leaves nothing in range
 untested :
     (r : Reg) (op : Op) (next to : ℕ) (form : Option Form) → is_bounds_test op next to ≡ false
     → clears_upper Ax (Some op) ≡ false → range_by r op next to form ≡ None
-untested r op next to form test clear = range-plain r op next to form clear ∙ ap (λ b. if b then compared r form else None) test
+untested r op next to form test clear =
+    range-plain r op next to form clear ∙ ap (λ b. if b then compared r form else None) test
 
 pub in_range-after :
     (r : Reg) (op : Op) (next to : ℕ) (form : Option Form)
@@ -251,7 +279,9 @@ in_range-after r (AluOp Xor (Byte Ax High) (Byte Ax High)) next to form = cleare
 in_range-after r (AluOp Cmp (Word q) (Const width number)) next to form =
     let op = AluOp Cmp (Word q) (Const width number) in
     let none = untested r op next to form refl refl in
-    in_range-first r (is_general q) q number (continued op next to form) (other-range r op next to form (λ p. refl) refl ∙ none) ∙ sym none
+    in_range-first r (is_general q) q number (continued op next to form)
+    (other-range r op next to form (λ p. refl) refl ∙ none)
+    ∙ sym none
 in_range-after r (AluOp Cmp (Byte Ax Low) (Const width number)) next to form =
     sym (untested r (AluOp Cmp (Byte Ax Low) (Const width number)) next to form refl refl)
 in_range-after r (ShiftOp Shl (Word x) One) next to form =
@@ -263,7 +293,9 @@ al_tested :
     (op : Op) (next to : ℕ) (form : Option Form)
     → al_in_range (continued op next to form) ≡ (if is_bounds_test op next to then al_compared form else None)
 al_tested op next to None = sym (if-none (is_bounds_test op next to))
-al_tested op next to (Some (Compared q number)) = if-blind al_in_range (is_bounds_test op next to) (InRange q number) refl refl ∙ sym (if-none (is_bounds_test op next to))
+al_tested op next to (Some (Compared q number)) =
+    if-blind al_in_range (is_bounds_test op next to) (InRange q number) refl refl
+    ∙ sym (if-none (is_bounds_test op next to))
 al_tested op next to (Some (AlCompared number)) = al-chosen number (is_bounds_test op next to)
   where
     al-chosen :
@@ -271,8 +303,12 @@ al_tested op next to (Some (AlCompared number)) = al-chosen number (is_bounds_te
         → al_in_range (if b then Some (AlInRange number) else None) ≡ (if b then Some number else None)
     al-chosen number true = refl
     al-chosen number false = refl
-al_tested op next to (Some (AlInRange number)) = if-blind al_in_range (clears_upper Ax (Some op)) (InRange Ax number) refl refl ∙ sym (if-none (is_bounds_test op next to))
-al_tested op next to (Some (InRange q number)) = if-blind al_in_range (is_doubling q (Some op)) (Doubled q number) refl refl ∙ sym (if-none (is_bounds_test op next to))
+al_tested op next to (Some (AlInRange number)) =
+    if-blind al_in_range (clears_upper Ax (Some op)) (InRange Ax number) refl refl
+    ∙ sym (if-none (is_bounds_test op next to))
+al_tested op next to (Some (InRange q number)) =
+    if-blind al_in_range (is_doubling q (Some op)) (Doubled q number) refl refl
+    ∙ sym (if-none (is_bounds_test op next to))
 al_tested op next to (Some (Doubled q number)) = sym (if-none (is_bounds_test op next to))
 
 al-begun :
@@ -293,7 +329,8 @@ al_in_range-after op next to form = al_tested op next to form
 -- `shl r,1`
 doubled-self :
     (r x : Reg) (number : ℕ)
-    → doubled r (if is_same_register r x then Some (Doubled r number) else None) ≡ (if is_same_register r x then Some number else None)
+    → doubled r (if is_same_register r x then Some (Doubled r number) else None) ≡
+    (if is_same_register r x then Some number else None)
 doubled-self r x number = step (is_same_register r x)
   where
     step : (b : Bool) → doubled r (if b then Some (Doubled r number) else None) ≡ (if b then Some number else None)
@@ -302,12 +339,18 @@ doubled-self r x number = step (is_same_register r x)
 
 doubled-range :
     (r q x : Reg) (number : ℕ)
-    → doubled r (if is_same_register q x then Some (Doubled q number) else None) ≡ (if is_same_register r x then (if is_same_register r q then Some number else None) else None)
+    → doubled r (if is_same_register q x then Some (Doubled q number) else None) ≡
+    (if is_same_register r x then (if is_same_register r q then Some number else None) else None)
 doubled-range r q x number = elim (same-cases r q) [
-  | inl same ↦ subst (λ p. doubled r (if is_same_register p x then Some (Doubled p number) else None) ≡ (if is_same_register r x then (if is_same_register r p then Some number else None) else None)) same
+  | inl same ↦
+      subst
+      (λ p. doubled r (if is_same_register p x then Some (Doubled p number) else None) ≡ (if is_same_register r x then (if is_same_register r p then Some number else None) else None))
+      same
       (doubled-self r x number ∙ ap (λ b. if is_same_register r x then (if b then Some number else None) else None) (sym (same-self r)))
   | inr apart ↦
-      if-doubled (is_same_register q x) apart.0 ∙ sym (ap (λ b. if is_same_register r x then (if b then Some number else None) else None) apart.0 ∙ if-none (is_same_register r x))
+      if-doubled (is_same_register q x) apart.0
+      ∙ sym
+      (ap (λ b. if is_same_register r x then (if b then Some number else None) else None) apart.0 ∙ if-none (is_same_register r x))
 ]
   where
     if-doubled :
@@ -317,7 +360,8 @@ doubled-range r q x number = elim (same-cases r q) [
 
 doubled-shifted :
     (r x : Reg) (next to : ℕ) (form : Option Form)
-    → doubled r (continued (ShiftOp Shl (Word x) One) next to form) ≡ (if is_same_register r x then in_range r form else None)
+    → doubled r (continued (ShiftOp Shl (Word x) One) next to form) ≡
+    (if is_same_register r x then in_range r form else None)
 doubled-shifted r x next to None = sym (if-none (is_same_register r x))
 doubled-shifted r x next to (Some (Compared q number)) = sym (if-none (is_same_register r x))
 doubled-shifted r x next to (Some (AlCompared number)) = sym (if-none (is_same_register r x))
@@ -329,10 +373,14 @@ not-doubled :
     (r : Reg) (op : Op) (next to : ℕ) (form : Option Form) → ((q : Reg) → is_doubling q (Some op) ≡ false)
     → doubled r (continued op next to form) ≡ None
 not-doubled r op next to None twice = refl
-not-doubled r op next to (Some (Compared q number)) twice = if-blind (doubled r) (is_bounds_test op next to) (InRange q number) refl refl
-not-doubled r op next to (Some (AlCompared number)) twice = if-blind (doubled r) (is_bounds_test op next to) (AlInRange number) refl refl
-not-doubled r op next to (Some (AlInRange number)) twice = if-blind (doubled r) (clears_upper Ax (Some op)) (InRange Ax number) refl refl
-not-doubled r op next to (Some (InRange q number)) twice = ap (λ b. doubled r (if b then Some (Doubled q number) else None)) (twice q)
+not-doubled r op next to (Some (Compared q number)) twice =
+    if-blind (doubled r) (is_bounds_test op next to) (InRange q number) refl refl
+not-doubled r op next to (Some (AlCompared number)) twice =
+    if-blind (doubled r) (is_bounds_test op next to) (AlInRange number) refl refl
+not-doubled r op next to (Some (AlInRange number)) twice =
+    if-blind (doubled r) (clears_upper Ax (Some op)) (InRange Ax number) refl refl
+not-doubled r op next to (Some (InRange q number)) twice =
+    ap (λ b. doubled r (if b then Some (Doubled q number) else None)) (twice q)
 not-doubled r op next to (Some (Doubled q number)) twice = refl
 
 doubled-begun :
@@ -361,16 +409,23 @@ number_by q op form = elim (moved_from q op) [
 -- of `shl x,1`
 number-doubled :
     (q p x : Reg) (number : ℕ)
-    → number_of q (if is_same_register p x then Some (index_of number p) else None) ≡ (if is_same_register q x then (if is_same_register q p then Some number else None) else None)
+    → number_of q (if is_same_register p x then Some (index_of number p) else None) ≡
+    (if is_same_register q x then (if is_same_register q p then Some number else None) else None)
 number-doubled q p x number = elim (same-cases q p) [
-  | inl same ↦ subst (λ r. number_of q (if is_same_register r x then Some (index_of number r) else None) ≡ (if is_same_register q x then (if is_same_register q r then Some number else None) else None)) same (self (is_same_register q x))
+  | inl same ↦
+      subst
+      (λ r. number_of q (if is_same_register r x then Some (index_of number r) else None) ≡ (if is_same_register q x then (if is_same_register q r then Some number else None) else None))
+      same (self (is_same_register q x))
   | inr apart ↦
-      none (is_same_register p x) apart.1 ∙ sym (ap (λ b. if is_same_register q x then (if b then Some number else None) else None) apart.0 ∙ if-none (is_same_register q x))
+      none (is_same_register p x) apart.1
+      ∙ sym
+      (ap (λ b. if is_same_register q x then (if b then Some number else None) else None) apart.0 ∙ if-none (is_same_register q x))
 ]
   where
     self :
         (b : Bool)
-        → number_of q (if b then Some (index_of number q) else None) ≡ (if b then (if is_same_register q q then Some number else None) else None)
+        → number_of q (if b then Some (index_of number q) else None) ≡
+        (if b then (if is_same_register q q then Some number else None) else None)
     self true = refl
     self false = refl
 
@@ -380,7 +435,8 @@ number-doubled q p x number = elim (same-cases q p) [
 
 number-shifted :
     (q x : Reg) (form : Option Form)
-    → number_of q (index_after (ShiftOp Shl (Word x) One) form) ≡ (if is_same_register q x then in_range q form else None)
+    → number_of q (index_after (ShiftOp Shl (Word x) One) form) ≡
+    (if is_same_register q x then in_range q form else None)
 number-shifted q x None = sym (if-none (is_same_register q x))
 number-shifted q x (Some (Compared p number)) = sym (if-none (is_same_register q x))
 number-shifted q x (Some (AlCompared number)) = sym (if-none (is_same_register q x))
@@ -400,7 +456,8 @@ moved-blind q y x form none = step (is_same_register q y && not (is_same_registe
   where
     step :
         (b : Bool)
-        → elim (if b then Some x else None) as (λ (o : Option Reg). Option ℕ) [ None ↦ None | Some r ↦ doubled r form ] ≡ None
+        → elim (if b then Some x else None) as (λ (o : Option Reg). Option ℕ)
+        [ None ↦ None | Some r ↦ doubled r form ] ≡ None
     step true = none x
     step false = refl
 
@@ -408,7 +465,9 @@ abbrev told_moved : Reg → Reg → Bool → Bool → ℕ → Option ℕ
 told_moved q y a b number = number_of q (option_map (index_of number) (if a && not b then Some y else None))
 
 abbrev moved_told : Reg → Reg → Bool → Bool → ℕ → Option ℕ
-moved_told x p c b number = elim (if c && not b then Some x else None) as (λ (o : Option Reg). Option ℕ) [ None ↦ None | Some r ↦ doubled r (Some (Doubled p number)) ]
+moved_told x p c b number =
+    elim (if c && not b then Some x else None) as (λ (o : Option Reg). Option ℕ)
+    [ None ↦ None | Some r ↦ doubled r (Some (Doubled p number)) ]
 
 copied-self :
     (q x : Reg) (number : ℕ) (a c b : Bool) → a ≡ true → c ≡ true
@@ -417,7 +476,8 @@ copied-self q x number false c b e f = let clash = e in cc
 copied-self q x number true false b e f = let clash = f in cc
 copied-self q x number true true true e f = refl
 copied-self q x number true true false e f =
-    ap (λ b. if b then Some number else None) (same-self q) ∙ sym (ap (λ b. if b then Some number else None) (same-self x))
+    ap (λ b. if b then Some number else None) (same-self q)
+    ∙ sym (ap (λ b. if b then Some number else None) (same-self x))
 
 copied-other :
     (q x p : Reg) (number : ℕ) (a c b : Bool) → a ≡ false → is_same_register x p ≡ false
@@ -429,11 +489,16 @@ copied-other q x p number false true false e f = sym (chosen-none number (is_sam
 
 number-copied :
     (q x p : Reg) (number : ℕ)
-    → told_moved q q (is_same_register p x) (is_same_register q x) number ≡ moved_told x p (is_same_register q q) (is_same_register q x) number
+    → told_moved q q (is_same_register p x) (is_same_register q x) number ≡ moved_told x p (is_same_register q q)
+    (is_same_register q x) number
 number-copied q x p number = elim (same-cases p x) [
-  | inl same ↦ subst (λ r. told_moved q q (is_same_register r x) (is_same_register q x) number ≡ moved_told x r (is_same_register q q) (is_same_register q x) number) (sym same)
+  | inl same ↦
+      subst
+      (λ r. told_moved q q (is_same_register r x) (is_same_register q x) number ≡ moved_told x r (is_same_register q q) (is_same_register q x) number)
+      (sym same)
       (copied-self q x number (is_same_register x x) (is_same_register q q) (is_same_register q x) (same-self x) (same-self q))
-  | inr apart ↦ copied-other q x p number (is_same_register p x) (is_same_register q q) (is_same_register q x) apart.0 apart.1
+  | inr apart ↦
+      copied-other q x p number (is_same_register p x) (is_same_register q q) (is_same_register q x) apart.0 apart.1
 ]
 
 moved-apart :
@@ -453,8 +518,13 @@ number-moved q y x (Some (AlCompared number)) = sym (moved-blind q y x (Some (Al
 number-moved q y x (Some (AlInRange number)) = sym (moved-blind q y x (Some (AlInRange number)) (λ r. refl))
 number-moved q y x (Some (InRange p number)) = sym (moved-blind q y x (Some (InRange p number)) (λ r. refl))
 number-moved q y x (Some (Doubled p number)) = elim (same-cases q y) [
-  | inl same ↦ subst (λ r. told_moved q r (is_same_register p x) (is_same_register r x) number ≡ moved_told x p (is_same_register q r) (is_same_register q x) number) same (number-copied q x p number)
-  | inr apart ↦ moved-apart q y x p number (is_same_register p x) (is_same_register q y) (is_same_register q x) (is_same_register y x) apart.1 apart.0
+  | inl same ↦
+      subst
+      (λ r. told_moved q r (is_same_register p x) (is_same_register r x) number ≡ moved_told x p (is_same_register q r) (is_same_register q x) number)
+      same (number-copied q x p number)
+  | inr apart ↦
+      moved-apart q y x p number (is_same_register p x) (is_same_register q y) (is_same_register q x)
+      (is_same_register y x) apart.1 apart.0
 ]
 
 not-moved :
@@ -464,7 +534,8 @@ not-moved q op None twice moves = refl
 not-moved q op (Some (Compared p number)) twice moves = refl
 not-moved q op (Some (AlCompared number)) twice moves = refl
 not-moved q op (Some (AlInRange number)) twice moves = refl
-not-moved q op (Some (InRange p number)) twice moves = ap (λ b. number_of q (if b then Some (index_of number p) else None)) (twice p)
+not-moved q op (Some (InRange p number)) twice moves =
+    ap (λ b. number_of q (if b then Some (index_of number p) else None)) (twice p)
 not-moved q op (Some (Doubled p number)) twice moves = ap (λ o. number_of q (option_map (index_of number) o)) (moves p)
 
 pub number-after :
@@ -502,7 +573,8 @@ module _ (image : Image) (layout : Layout) where
     where
       step :
           (found : Option Instr)
-          → compared r (told_after at found to (told image layout at before)).form ≡ compared_with r (option_map (λ instr. instr.op) found)
+          → compared r (told_after at found to (told image layout at before)).form ≡ compared_with r
+          (option_map (λ instr. instr.op) found)
       step None = refl
       step (Some instr) = compared-after r instr.op (next_of at instr) to (told image layout at before).form
 
@@ -513,24 +585,29 @@ module _ (image : Image) (layout : Layout) where
     where
       step :
           (found : Option Instr)
-          → al_compared (told_after at found to (told image layout at before)).form ≡ al_compared_with (option_map (λ instr. instr.op) found)
+          → al_compared (told_after at found to (told image layout at before)).form ≡ al_compared_with
+          (option_map (λ instr. instr.op) found)
       step None = refl
       step (Some instr) = al_compared-after instr.op (next_of at instr) to (told image layout at before).form
 
   -- a bounds test and what stands before it
   tested-number :
       (r : Reg) (to at : ℕ) (before : List ℕ)
-      → number_before_test image layout (compared_with r) to (at ∷ before) ≡ (if is_test_to (instruction_in image layout at) at to then compared r (told image layout at before).form else None)
+      → number_before_test image layout (compared_with r) to (at ∷ before) ≡
+      (if is_test_to (instruction_in image layout at) at to then compared r (told image layout at before).form else None)
   tested-number r to at [] = sym (if-none (is_test_to (instruction_in image layout at) at to))
   tested-number r to at (last ∷ rest) =
-      sym (ap (λ number. if is_test_to (instruction_in image layout at) at to then number else None) (told-compared r at last rest))
+      sym
+      (ap (λ number. if is_test_to (instruction_in image layout at) at to then number else None) (told-compared r at last rest))
 
   tested-al :
       (to at : ℕ) (before : List ℕ)
-      → number_before_test image layout al_compared_with to (at ∷ before) ≡ (if is_test_to (instruction_in image layout at) at to then al_compared (told image layout at before).form else None)
+      → number_before_test image layout al_compared_with to (at ∷ before) ≡
+      (if is_test_to (instruction_in image layout at) at to then al_compared (told image layout at before).form else None)
   tested-al to at [] = sym (if-none (is_test_to (instruction_in image layout at) at to))
   tested-al to at (last ∷ rest) =
-      sym (ap (λ number. if is_test_to (instruction_in image layout at) at to then number else None) (told-al_compared at last rest))
+      sym
+      (ap (λ number. if is_test_to (instruction_in image layout at) at to then number else None) (told-al_compared at last rest))
 
   al-before :
       (to : ℕ) (before : List ℕ)
@@ -540,7 +617,8 @@ module _ (image : Image) (layout : Layout) where
     where
       step :
           (found : Option Instr)
-          → al_in_range (told_after at found to (told image layout at before)).form ≡ (if is_test_to found at to then al_compared (told image layout at before).form else None)
+          → al_in_range (told_after at found to (told image layout at before)).form ≡
+          (if is_test_to found at to then al_compared (told image layout at before).form else None)
       step None = refl
       step (Some instr) = al_in_range-after instr.op (next_of at instr) to (told image layout at before).form
 
@@ -550,12 +628,17 @@ module _ (image : Image) (layout : Layout) where
   told-range r to [] = refl
   told-range r to (at ∷ before) =
       step (instruction_in image layout at)
-      ∙ ap (λ number. if clears_upper r (operation_in image layout at) then number else if is_test_to (instruction_in image layout at) at to then compared r (told image layout at before).form else None) (al-before at before)
-      ∙ ap (λ number. if clears_upper r (operation_in image layout at) then number_before_test image layout al_compared_with at before else number) (sym (tested-number r to at before))
+      ∙ ap
+      (λ number. if clears_upper r (operation_in image layout at) then number else if is_test_to (instruction_in image layout at) at to then compared r (told image layout at before).form else None)
+      (al-before at before)
+      ∙ ap
+      (λ number. if clears_upper r (operation_in image layout at) then number_before_test image layout al_compared_with at before else number)
+      (sym (tested-number r to at before))
     where
       step :
           (found : Option Instr)
-          → in_range r (told_after at found to (told image layout at before)).form ≡ (if clears_upper r (option_map (λ instr. instr.op) found) then al_in_range (told image layout at before).form else if is_test_to found at to then compared r (told image layout at before).form else None)
+          → in_range r (told_after at found to (told image layout at before)).form ≡
+          (if clears_upper r (option_map (λ instr. instr.op) found) then al_in_range (told image layout at before).form else if is_test_to found at to then compared r (told image layout at before).form else None)
       step None = sym (unclear-none r (al_in_range (told image layout at before).form))
       step (Some instr) = in_range-after r instr.op (next_of at instr) to (told image layout at before).form
 
@@ -569,7 +652,8 @@ module _ (image : Image) (layout : Layout) where
     where
       step :
           (found : Option Instr)
-          → doubled r (told_after at found to (told image layout at before)).form ≡ (if is_doubling r (option_map (λ instr. instr.op) found) then in_range r (told image layout at before).form else None)
+          → doubled r (told_after at found to (told image layout at before)).form ≡
+          (if is_doubling r (option_map (λ instr. instr.op) found) then in_range r (told image layout at before).form else None)
       step None = refl
       step (Some instr) = doubled-after r instr.op (next_of at instr) to (told image layout at before).form
 
@@ -583,18 +667,23 @@ module _ (image : Image) (layout : Layout) where
     where
       step :
           (found : Option Instr)
-          → number_of q (told_after at found to (told image layout at before)).index ≡ number_by q (option_map (λ instr. instr.op) found) (told image layout at before).form
+          → number_of q (told_after at found to (told image layout at before)).index ≡ number_by q
+          (option_map (λ instr. instr.op) found) (told image layout at before).form
       step None = refl
       step (Some instr) = number-after q instr.op (told image layout at before).form
 
       choices : (moved : Option Reg) → (elim moved as (λ (o : Option Reg). Option ℕ) [
-        | None ↦ if is_doubling q (operation_in image layout at) then in_range q (told image layout at before).form else None
+        | None ↦
+            if is_doubling q (operation_in image layout at) then in_range q (told image layout at before).form else
+            None
         | Some r ↦ doubled r (told image layout at before).form
       ]) ≡ (elim moved as (λ (o : Option Reg). Option ℕ) [
         | None ↦ greatest_doubled image layout q (at ∷ before)
         | Some r ↦ greatest_doubled image layout r before
       ])
-      choices None = ap (λ number. if is_doubling q (operation_in image layout at) then number else None) (told-range q at before)
+      choices None =
+          ap (λ number. if is_doubling q (operation_in image layout at) then number else None)
+          (told-range q at before)
       choices (Some r) = told-doubled r at before
 
   -- where a trail goes on
@@ -609,5 +698,7 @@ module _ (image : Image) (layout : Layout) where
       → successors image layout (at ∷ before) ≡ successors_by image at instr (told image layout at before)
   trail-successors at before instr found =
       ap (instr_successors image layout at before) found
-      ∙ ap (λ ah. op_successors instr.op (next_of at instr) ah (targets_of image layout instr.op before)) (sym (told-ah image layout at before))
-      ∙ ap (op_successors instr.op (next_of at instr) (told image layout at before).ah) (sym (targets-told at instr.op before))
+      ∙ ap (λ ah. op_successors instr.op (next_of at instr) ah (targets_of image layout instr.op before))
+      (sym (told-ah image layout at before))
+      ∙ ap (op_successors instr.op (next_of at instr) (told image layout at before).ah)
+      (sym (targets-told at instr.op before))

@@ -52,7 +52,8 @@ module _ (image : Image) (layout : Layout) (entry at : ℕ) (known : Known) (ins
   pub followed-same :
       (told : Known) → Covers known told → successors_by image at instr told ≡ successors_by image at instr known
   followed-same told c =
-      op-same instr.op (next_of at instr) told.ah known.ah (targets_by image instr.op told) (targets_by image instr.op known)
+      op-same instr.op (next_of at instr) told.ah known.ah (targets_by image instr.op told)
+      (targets_by image instr.op known)
       (λ dos. let n = a.allowed.number dos in c.ah n.0 n.1 ∙ sym n.1)
       (λ r table is.
       let t = a.allowed.table r table is in
@@ -67,7 +68,8 @@ module _ (image : Image) (layout : Layout) (entry at : ℕ) (known : Known) (ins
   pub trail-same :
       (before : List ℕ) → Covers known (told image layout at before)
       → successors image layout (at ∷ before) ≡ successors_by image at instr known
-  trail-same before c = trail-successors image layout at before instr a.found ∙ followed-same (told image layout at before) c
+  trail-same before c =
+      trail-successors image layout at before instr a.found ∙ followed-same (told image layout at before) c
 
   module _ (to : ℕ) (inside : Contains (successors_by image at instr known) to) where
     -- a trail goes on to a successor
@@ -76,7 +78,9 @@ module _ (image : Image) (layout : Layout) (entry at : ℕ) (known : Known) (ins
     trail-onward t = record {
       before = at ∷ t.before;
       trail = (subst (λ l. Contains l to) (sym (trail-same t.before t.covers)) inside, t.trail);
-      covers = subst (Covers (known_after at instr to known)) (sym (told-onward to t.before)) (covers-after at instr to known (told image layout at t.before) t.covers);
+      covers =
+          subst (Covers (known_after at instr to known)) (sym (told-onward to t.before))
+          (covers-after at instr to known (told image layout at t.before) t.covers);
     }
 
     pub edge-onward : HasTrail image layout entry at known → IsEdge image layout entry at to
@@ -101,7 +105,11 @@ module _ (image : Image) (layout : Layout) (entry at : ℕ) (known : Known) (ins
         by (Some u) e =
             let gone : (x : B) → h (told image layout to (at ∷ t.before)) ≡ Some x → ⊥ = λ x here.
             let same = sym (ap f e) ∙ none in
-            let clash = sym same ∙ ap f (sym (covered known (told image layout at t.before) t.covers u e)) ∙ sym (after t.before) ∙ here in
+            let clash =
+            sym same
+            ∙ ap f (sym (covered known (told image layout at t.before) t.covers u e))
+            ∙ sym (after t.before)
+            ∙ here in
             cc in
             record { one = trail-onward t; other = trail-onward t; apart = λ x p q. gone x p }
         by None e =
@@ -110,7 +118,10 @@ module _ (image : Image) (layout : Layout) (entry at : ℕ) (known : Known) (ins
               one = trail-onward d.one;
               other = trail-onward d.other;
               apart = λ x p q.
-                  let both = step.single (sym (ap f e) ∙ none) x (g (told image layout at d.one.before)) (g (told image layout at d.other.before)) (sym (after d.one.before) ∙ p) (sym (after d.other.before) ∙ q) in
+                  let both =
+                  step.single (sym (ap f e) ∙ none) x (g (told image layout at d.one.before))
+                  (g (told image layout at d.other.before)) (sym (after d.one.before) ∙ p)
+                  (sym (after d.other.before) ∙ q) in
                   d.apart both.0 both.1 both.2;
             }
 
@@ -118,9 +129,16 @@ module _ (image : Image) (layout : Layout) (entry at : ℕ) (known : Known) (ins
         IsWitnessed image layout entry at known → IsWitnessed image layout entry to (known_after at instr to known)
     witnessed-onward w = record {
       trail = trail-onward w.trail;
-      ah = differ-onward (λ k. k.ah) (λ k. k.ah) (λ ah. if writes_half instr.op Ax High then constant_to_ah instr.op else ah) (step-ah (writes_half instr.op Ax High) (constant_to_ah instr.op)) (λ k. refl) (λ k t c. c.ah) w.trail w.ah;
-      form = differ-onward (λ k. k.form) (λ k. k.form) (form_after instr.op (next_of at instr) to) (step-form instr.op (next_of at instr) to) (λ k. refl) (λ k t c. c.form) w.trail w.form;
-      index = differ-onward (λ k. k.form) (λ k. k.index) (index_after instr.op) (step-index instr.op) (λ k. refl) (λ k t c. c.form) w.trail w.form;
+      ah =
+          differ-onward (λ k. k.ah) (λ k. k.ah)
+          (λ ah. if writes_half instr.op Ax High then constant_to_ah instr.op else ah)
+          (step-ah (writes_half instr.op Ax High) (constant_to_ah instr.op)) (λ k. refl) (λ k t c. c.ah) w.trail w.ah;
+      form =
+          differ-onward (λ k. k.form) (λ k. k.form) (form_after instr.op (next_of at instr) to)
+          (step-form instr.op (next_of at instr) to) (λ k. refl) (λ k t c. c.form) w.trail w.form;
+      index =
+          differ-onward (λ k. k.form) (λ k. k.index) (index_after instr.op) (step-index instr.op) (λ k. refl)
+          (λ k t c. c.form) w.trail w.form;
       from = λ e. let clash = e in cc;
     }
 
@@ -151,10 +169,14 @@ witnessed-entry image layout entry = record {
 module _ (image : Image) (layout : Layout) (entry at : ℕ) (was known : Known)
     (w : IsWitnessed image layout entry at was) (v : IsWitnessed image layout entry at known) where
   trail-first : HasTrail image layout entry at was → HasTrail image layout entry at (common was known)
-  trail-first t = record { before = t.before; trail = t.trail; covers = covers-first was known (told image layout at t.before) t.covers }
+  trail-first t =
+      record
+      { before = t.before; trail = t.trail; covers = covers-first was known (told image layout at t.before) t.covers }
 
   trail-second : HasTrail image layout entry at known → HasTrail image layout entry at (common was known)
-  trail-second t = record { before = t.before; trail = t.trail; covers = covers-second was known (told image layout at t.before) t.covers }
+  trail-second t =
+      record
+      { before = t.before; trail = t.trail; covers = covers-second was known (told image layout at t.before) t.covers }
 
   differ-common :
       {A : Type 0} (g : Known → Option A) (same : A → A → Bool) → IsTest same

@@ -106,7 +106,8 @@ targets_by image (Table r offset) known = table_targets image offset (number_of 
 targets_by image op known = []
 
 abbrev pub successors_by : Image → ℕ → Instr → Known → List ℕ
-successors_by image at instr known = op_successors instr.op (next_of at instr) known.ah (targets_by image instr.op known)
+successors_by image at instr known =
+    op_successors instr.op (next_of at instr) known.ah (targets_by image instr.op known)
 
 -- What two tell in common.
 

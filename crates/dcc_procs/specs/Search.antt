@@ -40,7 +40,8 @@ abbrev pub AreApart : {A : Type 0} → Option A → Option A → Type 0
 AreApart {A} a b = (x : A) → a ≡ Some x → b ≡ Some x → ⊥
 
 -- two such trails, or one, tell no value in common in a field
-pub record Differ {A : Type 0} (image : Image) (layout : Layout) (entry at : ℕ) (known : Known) (field : Known → Option A) : Type 0 where
+pub record Differ {A : Type 0} (image : Image) (layout : Layout) (entry at : ℕ) (known : Known)
+    (field : Known → Option A) : Type 0 where
   pub one : HasTrail image layout entry at known
   pub other : HasTrail image layout entry at known
   pub apart : AreApart (field (told image layout at one.before)) (field (told image layout at other.before))
@@ -85,7 +86,8 @@ pub record IsAccepted (image : Image) (layout : Layout) (entry at : ℕ) (known 
   pub allowed : IsAllowed image layout entry known instr.op
 
 -- a table jump before which this is known is refused
-pub data IsTableFault (image : Image) (layout : Layout) (at : ℕ) (known : Known) (r : Reg) (table : ℕ) : Refusal → Type 0 where
+pub data IsTableFault (image : Image) (layout : Layout) (at : ℕ) (known : Known) (r : Reg) (table : ℕ) : Refusal →
+    Type 0 where
   no_number :
       number_of r known.index ≡ None → IsTableFault image layout at known r table (Construct INDIRECT_JUMP at)
   many :
@@ -179,7 +181,8 @@ IsListing seen offsets = (at : ℕ) → Contains offsets at ↔ (seen_at seen at
 
 -- the offsets that are seen, each once, in the order in which they were reached: the entry, and then each with an edge
 -- from an earlier one
-pub record IsOrder (image : Image) (layout : Layout) (entry : ℕ) (seen : List (Option Known)) (order : List ℕ) : Type 0 where
+pub record IsOrder (image : Image) (layout : Layout) (entry : ℕ) (seen : List (Option Known)) (order : List ℕ) :
+    Type 0 where
   pub every : IsListing seen order
   pub distinct : AllPairs (λ x y. x ≢ y) order
   pub first : (d : ℕ) → 0 < length order → get_or order 0 d ≡ entry
@@ -208,7 +211,8 @@ pub record Extends (old new : Work) : Type 0 where
 -- what each of these offsets has is so of what trails tell that come there from the instruction
 abbrev pub AreTold : Work → ℕ → Instr → Known → List ℕ → Type 0
 AreTold work at instr known offsets =
-    (to : ℕ) → Contains offsets to → (told : Known) → Covers (known_after at instr to known) told → Tells (seen_at work.seen to) told
+    (to : ℕ) → Contains offsets to → (told : Known) → Covers (known_after at instr to known) told → Tells
+    (seen_at work.seen to) told
 
 -- the instruction at an offset was followed
 pub record IsFollowed (image : Image) (layout : Layout) (entry at : ℕ) (old new : Work) : Type 0 where

@@ -22,21 +22,28 @@ pub returns-in-Int21-clause-refused : goal.returns-in-Int21-clause-refused
 returns-in-Int21-clause-refused c =
     let image = c.args.image.now in
     let layout = c.args.layout.now in
-    let stands : StandsAt image layout c.args.at Int21 = subst (StandsAt image layout c.args.at) c.in-Int21.is c.requires.stands in
-    by-lack _ _ _ c.check_number.result (number-refused image layout c.args.entry c.args.at c.args.known c.requires.entry c.requires.witnessed stands) c.check_number.ensures.refused c.check_number.ensures.unknown
+    let stands : StandsAt image layout c.args.at Int21 =
+    subst (StandsAt image layout c.args.at) c.in-Int21.is c.requires.stands in
+    by-lack _ _ _ c.check_number.result
+    (number-refused image layout c.args.entry c.args.at c.args.known c.requires.entry c.requires.witnessed stands)
+    c.check_number.ensures.refused c.check_number.ensures.unknown
 
 pub returns-in-Table-clause-refused : goal.returns-in-Table-clause-refused
 returns-in-Table-clause-refused c =
     let image = c.args.image.now in
     let layout = c.args.layout.now in
-    let stands : StandsAt image layout c.args.at (Table c.in-Table.r c.in-Table.table) = subst (StandsAt image layout c.args.at) c.in-Table.is c.requires.stands in
-    by-cause _ _ c.check_table.result (table-refused image layout c.args.entry c.args.at c.args.known c.requires.entry c.requires.witnessed c.in-Table.r c.in-Table.table stands) c.check_table.ensures.refused
+    let stands : StandsAt image layout c.args.at (Table c.in-Table.r c.in-Table.table) =
+    subst (StandsAt image layout c.args.at) c.in-Table.is c.requires.stands in
+    by-cause _ _ c.check_table.result
+    (table-refused image layout c.args.entry c.args.at c.args.known c.requires.entry c.requires.witnessed c.in-Table.r c.in-Table.table stands)
+    c.check_table.ensures.refused
 
 pub returns-in-Ret-clause-refused : goal.returns-in-Ret-clause-refused
 returns-in-Ret-clause-refused c =
     let image = c.args.image.now in
     let layout = c.args.layout.now in
-    return-refused image layout c.args.entry c.args.at c.args.known c.requires.entry c.requires.witnessed c.in-Ret.field-0 c.if-entry-layout.true
+    return-refused image layout c.args.entry c.args.at c.args.known c.requires.entry c.requires.witnessed
+    c.in-Ret.field-0 c.if-entry-layout.true
     (subst (StandsAt image layout c.args.at) c.in-Ret.is c.requires.stands)
 
 pub returns-in-Call-clause-refused : goal.returns-in-Call-clause-refused

@@ -10,7 +10,9 @@ returns-in_default-clause-refused c = no_number (sym c.number_of.ensures ∙ c.i
 pub returns-then-number-gt-MOST-clause-refused : goal.returns-then-number-gt-MOST-clause-refused
 returns-then-number-gt-MOST-clause-refused c =
     let more = c.if-number-gt-MOST.true in
-    subst (λ n. IsTableFault c.args.image.now c.args.layout.now c.args.at c.args.known c.args.r c.args.table (Limit Entries (n + 1))) (sym c.from.ensures)
+    subst
+    (λ n. IsTableFault c.args.image.now c.args.layout.now c.args.at c.args.known c.args.r c.args.table (Limit Entries (n + 1)))
+    (sym c.from.ensures)
     (many (sym c.number_of.ensures ∙ c.in-Some.is) (omega (arith, more)))
 
 pub returns-then-code_of-from-clause-refused : goal.returns-then-code_of-from-clause-refused

@@ -12,4 +12,5 @@ returns-in-Some c entry =
 
 pub returns-in-None : goal.returns-in-None
 returns-in-None c entry =
-    kind-none c.args.image.now c.args.layout.now entry c.args.at c.requires.none (c.indirect_at.ensures.none c.in-None.is)
+    kind-none c.args.image.now c.args.layout.now entry c.args.at c.requires.none
+    (c.indirect_at.ensures.none c.in-None.is)

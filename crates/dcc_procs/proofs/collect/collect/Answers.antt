@@ -4,7 +4,8 @@ use Rattle.dcc_procs.proofs.Collected.{Collected, collected-none, collected-more
 use Rattle.dcc_procs.proofs.collect.collect.Goals as goal
 
 pub loop-place-init : goal.loop-place-init
-loop-place-init c = rw c.new-nodes.ensures.empty (collected-none c.args.image.now c.args.layout.now c.args.entry c.args.offsets.now)
+loop-place-init c =
+    rw c.new-nodes.ensures.empty (collected-none c.args.image.now c.args.layout.now c.args.entry c.args.offsets.now)
 
 pub loop-place-preserved : goal.loop-place-preserved
 loop-place-preserved c =
@@ -15,8 +16,12 @@ loop-place-preserved c =
     let at : ℕ = get_or offsets c.loop-place.place 0 in
     let known = c.in-Some.known in
     let is : seen_at seen at ≡ Some known = ap (λ n. seen_at seen n) (sym c.from.ensures) ∙ c.in-Some.is in
-    let found = node-found image layout c.args.entry seen c.requires.seen at known c.in_ok-node.node is c.in_ok-node.ensures in
-    let more = collected-more image layout c.args.entry offsets c.requires.ascending c.loop-place.place c.loop-place.nodes.entries c.loop-place.invariant c.loop-place-test.true c.in_ok-node.node found in
+    let found =
+    node-found image layout c.args.entry seen c.requires.seen at known c.in_ok-node.node is c.in_ok-node.ensures
+    in
+    let more =
+    collected-more image layout c.args.entry offsets c.requires.ascending c.loop-place.place
+    c.loop-place.nodes.entries c.loop-place.invariant c.loop-place-test.true c.in_ok-node.node found in
     subst (Collected image layout c.args.entry offsets (c.loop-place.place + 1)) (sym c.in_ok-add.ensures) more
 
 pub returns : goal.returns
@@ -28,6 +33,8 @@ returns c =
       record {
         nodes = i.are;
         ascending = i.ascending;
-        every = collected-all image layout c.args.entry c.args.offsets.now c.requires.ascending c.loop-place.place c.loop-place.nodes.entries i c.args.seen.now c.requires.seen c.requires.listing c.loop-place-test.false;
+        every =
+            collected-all image layout c.args.entry c.args.offsets.now c.requires.ascending c.loop-place.place
+            c.loop-place.nodes.entries i c.args.seen.now c.requires.seen c.requires.listing c.loop-place-test.false;
       },
     )

@@ -8,7 +8,8 @@ loop-k-preserved c =
     let image = c.args.image.now in
     let k = c.loop-k.k in
     let word = word_in_segment image (c.args.offset + 2 * k) in
-    let pushed : c.word_in_segment.result ≡ word = c.word_in_segment.ensures ∙ ap (λ n. word_in_segment image (n + 2 * k)) c.from.ensures in
+    let pushed : c.word_in_segment.result ≡ word =
+    c.word_in_segment.ensures ∙ ap (λ n. word_in_segment image (n + 2 * k)) c.from.ensures in
     c.in_ok-push.ensures.ok
     ∙ ap (λ w. c.loop-k.targets.items ++ w ∷ []) pushed
     ∙ ap (λ l. l ++ word ∷ []) c.loop-k.invariant

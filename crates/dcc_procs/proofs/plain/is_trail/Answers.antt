@@ -12,7 +12,9 @@ returns-then-not-branch c =
     let place = c.loop-place.place in
     let broken = trail-broken image layout c.args.entry trail place (omega arith) (omega arith)
     (λ goes.
-    let there = subst (λ l. Contains (successors image layout l) (get_or trail (place - 1) 0)) (sym (take_rest trail place)) goes in
+    let there =
+    subst (λ l. Contains (successors image layout l) (get_or trail (place - 1) 0)) (sym (take_rest trail place))
+    goes in
     let clash = sym c.if-not-branch.true ∙ c.in_ok-goes_on_to.ensures.1 there in cc)
     c.loop-place.invariant in
     (λ t. absurd (let clash = t in cc), λ t. absurd (broken t))

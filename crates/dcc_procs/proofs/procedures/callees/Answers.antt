@@ -9,7 +9,8 @@ pub loop-at-preserved : goal.loop-at-preserved
 loop-at-preserved c =
     c.loop-at.invariant
     ∙ sym (append-nil (calls_of (map deref_pair c.loop-at.yielded)))
-    ∙ sym (ap (λ l. calls_of (map deref_pair c.loop-at.yielded) ++ l) (no-call c.in-Some.node.now.instr.op c.in_default.not-Call))
+    ∙ sym
+    (ap (λ l. calls_of (map deref_pair c.loop-at.yielded) ++ l) (no-call c.in-Some.node.now.instr.op c.in_default.not-Call))
     ∙ sym (calls-pushed deref_pair c.loop-at.yielded (c.in-Some._at, c.in-Some.node))
 
 pub loop-at-preserved-in-Continue-1 : goal.loop-at-preserved-in-Continue-1
@@ -23,6 +24,8 @@ pub returns : goal.returns
 returns c =
     let entries = c.args.nodes.now.entries in
     let start = c.into_iter-at-iterator.ensures.into_iter_gives ∙ c.iter-at-items.ensures.rest in
-    let e = iter_end deref_pair entries c.loop-at.yielded c.into_iter-at-iterator.result c.loop-at._at-iterator c.next.new.self c.next.result start
+    let e =
+    iter_end deref_pair entries c.loop-at.yielded c.into_iter-at-iterator.result c.loop-at._at-iterator
+    c.next.new.self c.next.result start
     c.loop-at.yielded_by c.in-None.is c.next.ensures.steps in
     c.loop-at.invariant ∙ ap calls_of e.0

@@ -23,7 +23,10 @@ returns-clause-found c =
     let others = c.remove-start.new.self.items in
     let sorted = c.sort_by_key.new.self.items in
     let are : procs ≡ first ∷ others =
-    removed-first procs first (some-procs image layout procs reached) c.remove-start.ensures.value ∙ ap (λ (l : List Proc). first ∷ l) (sym c.remove-start.ensures.items) in
-    let up = IsNonDecreasingBy-from_sort_by_key (λ (p : Proc). p.entry) _ c.in_ok-sort_by_key.ensures.sorted (λ a r q k. search rules) in
+    removed-first procs first (some-procs image layout procs reached) c.remove-start.ensures.value
+    ∙ ap (λ (l : List Proc). first ∷ l) (sym c.remove-start.ensures.items) in
+    let up =
+    IsNonDecreasingBy-from_sort_by_key (λ (p : Proc). p.entry) _ c.in_ok-sort_by_key.ensures.sorted
+    (λ a r q k. search rules) in
     subst (AreFound image layout) (sym c.in_ok-insert.ensures.items)
     (all-found image layout first others sorted (subst (AreReached image layout) are reached) c.sort_by_key.ensures.permutation up)

@@ -15,8 +15,11 @@ returns-in_err-sort-clause-refused c =
 pub collect-requires-clause-listing : goal.collect-requires-clause-listing
 collect-requires-clause-listing c =
     let seen = c.run.new.self.seen.items in
-    let listing = listing-sorted seen c.run.new.self.order.items c.sort.new.self.items c.sort.ensures.permutation c.in_ok-run.ensures.order.every in
-    subst (λ l. IsListing l c.deref-4.result.now) (sym c.deref-3.ensures.value) (subst (IsListing seen) (sym c.deref-4.ensures.value) listing)
+    let listing =
+    listing-sorted seen c.run.new.self.order.items c.sort.new.self.items c.sort.ensures.permutation
+    c.in_ok-run.ensures.order.every in
+    subst (λ l. IsListing l c.deref-4.result.now) (sym c.deref-3.ensures.value)
+    (subst (IsListing seen) (sym c.deref-4.ensures.value) listing)
 
 pub collect-requires-clause-ascending : goal.collect-requires-clause-ascending
 collect-requires-clause-ascending c =
@@ -30,8 +33,11 @@ returns-in_err-proc-clause-refused c =
 
 pub clear-requires-clause-listed : goal.clear-requires-clause-listed
 clear-requires-clause-listed c =
-    listing-sorted c.run.new.self.seen.items c.run.new.self.order.items c.sort.new.self.items c.sort.ensures.permutation c.in_ok-run.ensures.order.every
+    listing-sorted c.run.new.self.seen.items c.run.new.self.order.items c.sort.new.self.items
+    c.sort.ensures.permutation c.in_ok-run.ensures.order.every
 
 pub returns-clause-found : goal.returns-clause-found
 returns-clause-found c =
-    is-procedure c.args.image.now c.args.layout.now c.requires.loaded c.args.entry c.run.new.self.seen.items c.run.new.self.order.items c.in_ok-run.ensures.seen c.in_ok-run.ensures.order c.in_ok-proc.proc c.in_ok-proc.ensures.0 c.in_ok-proc.ensures.1 c.in_ok-check_divisions.ensures.prepared
+    is-procedure c.args.image.now c.args.layout.now c.requires.loaded c.args.entry c.run.new.self.seen.items
+    c.run.new.self.order.items c.in_ok-run.ensures.seen c.in_ok-run.ensures.order c.in_ok-proc.proc
+    c.in_ok-proc.ensures.0 c.in_ok-proc.ensures.1 c.in_ok-check_divisions.ensures.prepared

@@ -21,5 +21,6 @@ returns-clause-reached c =
       distinct = inv.entries.distinct;
       few = inv.entries.few;
       first = inv.first;
-      all = (let finder = c.loop-alloc.finder in omega (arith, past, short, finder.procs.ok.0, finder.entries.order.ok.0));
+      all =
+          (let finder = c.loop-alloc.finder in omega (arith, past, short, finder.procs.ok.0, finder.entries.order.ok.0));
     }

@@ -7,7 +7,8 @@ use Rattle.dcc_procs.proofs.EntryLaws.{added-one, added-more, added-nothing, ove
 use Rattle.dcc_procs.proofs.entries.Entries.add_all.Goals as goal
 
 pub loop-place-init : goal.loop-place-init
-loop-place-init c = (c.requires.length, c.requires.few, λ image layout are reached. added-nothing image layout c.args.self.now are)
+loop-place-init c =
+    (c.requires.length, c.requires.few, λ image layout are reached. added-nothing image layout c.args.self.now are)
 
 pub add-requires-clause-length : goal.add-requires-clause-length
 add-requires-clause-length c = c.loop-place.invariant.0
@@ -42,7 +43,8 @@ returns-in_err-add-clause-refused c image layout are reached =
     let inside : place < length entries = omega (arith, more) in
     let a = c.loop-place.invariant.2 image layout are reached in
     let named : IsRefusedByTrails image layout c.in_err-add.field-0.0 =
-    overfull-refused image layout c.loop-place.self entry a.are (reached entry (Contains-get_or entries place 0 inside)) c.in_err-add.field-0.0 c.in_err-add.ensures.full in
+    overfull-refused image layout c.loop-place.self entry a.are
+    (reached entry (Contains-get_or entries place 0 inside)) c.in_err-add.field-0.0 c.in_err-add.ensures.full in
     search rules
 
 pub returns-clause-added : goal.returns-clause-added
@@ -50,4 +52,5 @@ returns-clause-added c image layout are reached =
     let entries = c.args.entries.now in
     let place = c.loop-place.place in
     let past = c.loop-place-test.false in
-    subst (AreAdded image layout c.args.self.now c.loop-place.self) (take_all place entries (omega (arith, past))) (c.loop-place.invariant.2 image layout are reached)
+    subst (AreAdded image layout c.args.self.now c.loop-place.self) (take_all place entries (omega (arith, past)))
+    (c.loop-place.invariant.2 image layout are reached)

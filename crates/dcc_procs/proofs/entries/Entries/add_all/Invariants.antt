@@ -8,4 +8,5 @@ abbrev pub invariant-loop-place : goal.invariant-loop-place
 invariant-loop-place l =
     (length l.self.listed.items ≡ 65536)
     × (length l.self.order.items ≤ 512)
-    × ((image : Image) (layout : Layout) → AreEntries image layout l.fn.self → AreAllReached image layout l.entries → AreAdded image layout l.fn.self l.self (take l.place l.entries))
+    ×
+    ((image : Image) (layout : Layout) → AreEntries image layout l.fn.self → AreAllReached image layout l.entries → AreAdded image layout l.fn.self l.self (take l.place l.entries))

@@ -12,7 +12,8 @@ none-listed n i = elim (cases_lt i n) [
 
 pub returns : goal.returns
 returns c =
-    let items : c.in_ok-vec.field-0.items ≡ replicate 65536 false = c.in_ok-vec.ensures.items_if_clones_equal (λ y same. same) in
+    let items : c.in_ok-vec.field-0.items ≡ replicate 65536 false =
+    c.in_ok-vec.ensures.items_if_clones_equal (λ y same. same) in
     record {
       length_is = ap length items ∙ length-replicate 65536 false;
       listed = λ at. ap (λ l. get_or l at false) items ∙ none-listed 65536 at;

@@ -20,7 +20,9 @@ returns-in_err-add-clause-refused c =
     let image = c.args.image.now in
     let layout = c.args.layout.now in
     let none = entries-none image layout c.in_ok-entries.entries c.in_ok-entries.ensures in
-    let named : IsRefusedByTrails image layout c.in_err-add.field-0.0 = overfull-refused image layout c.in_ok-entries.entries layout.start_ip none start c.in_err-add.field-0.0 c.in_err-add.ensures.full in
+    let named : IsRefusedByTrails image layout c.in_err-add.field-0.0 =
+    overfull-refused image layout c.in_ok-entries.entries layout.start_ip none start c.in_err-add.field-0.0
+    c.in_err-add.ensures.full in
     search rules
 
 pub returns-in_err-new-clause-refused : goal.returns-in_err-new-clause-refused
@@ -41,11 +43,14 @@ returns-clause-finding c =
     let none = entries-none image layout old c.in_ok-entries.ensures in
     let added = c.in_ok-add.ensures.added in
     let procs : c.new-3.result.items ≡ [] = c.new-3.ensures.items in
-    let ready : c.in_ok-vec.field-0.items ≡ replicate 65536 unready = c.in_ok-vec.ensures.items_if_clones_equal (λ y same. same) in
+    let ready : c.in_ok-vec.field-0.items ≡ replicate 65536 unready =
+    c.in_ok-vec.ensures.items_if_clones_equal (λ y same. same) in
     record {
       fresh = c.in_ok-new.ensures;
       ready = ap length ready ∙ length-replicate 65536 unready;
       entries = (added-one image layout old layout.start_ip none start c.add.new.self c.add.ensures.small added).are;
-      first = subst (AreFirst image layout c.add.new.self.order.items) (sym procs) (first-none image layout c.add.new.self.order.items (start-order old c.add.new.self layout.start_ip c.in_ok-entries.ensures added));
+      first =
+          subst (AreFirst image layout c.add.new.self.order.items) (sym procs)
+          (first-none image layout c.add.new.self.order.items (start-order old c.add.new.self layout.start_ip c.in_ok-entries.ensures added));
       total_is = sym (ap total_of procs);
     }

@@ -10,7 +10,9 @@ use Rattle.dcc_procs.proofs.search.Search.follow.Goals as goal
 
 pub accepted-requires-clause-witnessed : goal.accepted-requires-clause-witnessed
 accepted-requires-clause-witnessed c =
-    let seen : seen_at c.args.self.now.seen.items c.args.at ≡ Some c.in-Some.known = seen-read c.args.self.now.seen.items c.from.result c.args.at c.index.result.now (Some c.in-Some.known) c.index.ensures c.from.ensures c.in-Some.is (omega (arith, c.requires.sound.length_is, c.ranges.at)) in
+    let seen : seen_at c.args.self.now.seen.items c.args.at ≡ Some c.in-Some.known =
+    seen-read c.args.self.now.seen.items c.from.result c.args.at c.index.result.now (Some c.in-Some.known)
+    c.index.ensures c.from.ensures c.in-Some.is (omega (arith, c.requires.sound.length_is, c.ranges.at)) in
     c.requires.sound.witnessed c.args.at c.in-Some.known seen
 
 pub returns-in_err-succ-clause-refused : goal.returns-in_err-succ-clause-refused
@@ -20,8 +22,11 @@ returns-in_err-succ-clause-refused c =
 
 pub loop-place-init : goal.loop-place-init
 loop-place-init c =
-    let seen : seen_at c.args.self.now.seen.items c.args.at ≡ Some c.in-Some.known = seen-read c.args.self.now.seen.items c.from.result c.args.at c.index.result.now (Some c.in-Some.known) c.index.ensures c.from.ensures c.in-Some.is (omega (arith, c.requires.sound.length_is, c.ranges.at)) in
-    none-followed c.args.image.now c.args.layout.now c.args.entry c.args.at c.in-Some.known c.in_ok-instr.instr (work_of c.args.self.now) c.requires.entry c.requires.sound seen c.in_ok-instr.ensures.accepted
+    let seen : seen_at c.args.self.now.seen.items c.args.at ≡ Some c.in-Some.known =
+    seen-read c.args.self.now.seen.items c.from.result c.args.at c.index.result.now (Some c.in-Some.known)
+    c.index.ensures c.from.ensures c.in-Some.is (omega (arith, c.requires.sound.length_is, c.ranges.at)) in
+    none-followed c.args.image.now c.args.layout.now c.args.entry c.args.at c.in-Some.known c.in_ok-instr.instr
+    (work_of c.args.self.now) c.requires.entry c.requires.sound seen c.in_ok-instr.ensures.accepted
 
 pub arrive-requires-clause-length : goal.arrive-requires-clause-length
 arrive-requires-clause-length c = c.loop-place.invariant.0.length_is
@@ -34,13 +39,21 @@ returns-in_err-arrive-clause-refused c =
     let image = c.args.image.now in
     let layout = c.args.layout.now in
     let list = successors_by image c.args.at c.in_ok-instr.instr c.in-Some.known in
-    let seen : seen_at c.args.self.now.seen.items c.args.at ≡ Some c.in-Some.known = seen-read c.args.self.now.seen.items c.from.result c.args.at c.index.result.now (Some c.in-Some.known) c.index.ensures c.from.ensures c.in-Some.is (omega (arith, c.requires.sound.length_is, c.ranges.at)) in
+    let seen : seen_at c.args.self.now.seen.items c.args.at ≡ Some c.in-Some.known =
+    seen-read c.args.self.now.seen.items c.from.result c.args.at c.index.result.now (Some c.in-Some.known)
+    c.index.ensures c.from.ensures c.in-Some.is (omega (arith, c.requires.sound.length_is, c.ranges.at)) in
     let same : c.in_ok-succ.succ.items ≡ list = c.in_ok-succ.ensures in
-    let inside : c.loop-place.place < length list = (let more = c.loop-place-test.true in let end = c.len-place-end.ensures.value in let lengths = ap length same in omega (arith, more, end, lengths)) in
+    let inside : c.loop-place.place < length list =
+    (let more = c.loop-place-test.true in let end = c.len-place-end.ensures.value in let lengths = ap length same in omega (arith, more, end, lengths))
+    in
     let to = get_or c.deref.result.now c.loop-place.place 0 in
-    let to_is : to ≡ get_or list c.loop-place.place 0 = ap (λ (l : List ℕ). get_or l c.loop-place.place 0) (c.deref.ensures ∙ same) in
+    let to_is : to ≡ get_or list c.loop-place.place 0 =
+    ap (λ (l : List ℕ). get_or l c.loop-place.place 0) (c.deref.ensures ∙ same) in
     let named : IsRefusedByTrails image layout c.in_err-arrive.field-0.0 =
-    full-here image layout c.args.entry c.args.at c.in-Some.known c.in_ok-instr.instr (work_of c.args.self.now) c.requires.entry c.requires.sound seen c.in_ok-instr.ensures.accepted (work_of c.loop-place.self) c.loop-place.place to c.after.result inside to_is c.after.ensures c.loop-place.invariant.0 c.loop-place.invariant.1 c.in_err-arrive.field-0.0 c.in_err-arrive.ensures.full in
+    full-here image layout c.args.entry c.args.at c.in-Some.known c.in_ok-instr.instr (work_of c.args.self.now)
+    c.requires.entry c.requires.sound seen c.in_ok-instr.ensures.accepted (work_of c.loop-place.self)
+    c.loop-place.place to c.after.result inside to_is c.after.ensures c.loop-place.invariant.0
+    c.loop-place.invariant.1 c.in_err-arrive.field-0.0 c.in_err-arrive.ensures.full in
     search rules
 
 pub loop-place-preserved : goal.loop-place-preserved
@@ -48,19 +61,34 @@ loop-place-preserved c =
     let image = c.args.image.now in
     let layout = c.args.layout.now in
     let list = successors_by image c.args.at c.in_ok-instr.instr c.in-Some.known in
-    let seen : seen_at c.args.self.now.seen.items c.args.at ≡ Some c.in-Some.known = seen-read c.args.self.now.seen.items c.from.result c.args.at c.index.result.now (Some c.in-Some.known) c.index.ensures c.from.ensures c.in-Some.is (omega (arith, c.requires.sound.length_is, c.ranges.at)) in
+    let seen : seen_at c.args.self.now.seen.items c.args.at ≡ Some c.in-Some.known =
+    seen-read c.args.self.now.seen.items c.from.result c.args.at c.index.result.now (Some c.in-Some.known)
+    c.index.ensures c.from.ensures c.in-Some.is (omega (arith, c.requires.sound.length_is, c.ranges.at)) in
     let same : c.in_ok-succ.succ.items ≡ list = c.in_ok-succ.ensures in
-    let inside : c.loop-place.place < length list = (let more = c.loop-place-test.true in let end = c.len-place-end.ensures.value in let lengths = ap length same in omega (arith, more, end, lengths)) in
+    let inside : c.loop-place.place < length list =
+    (let more = c.loop-place-test.true in let end = c.len-place-end.ensures.value in let lengths = ap length same in omega (arith, more, end, lengths))
+    in
     let to = get_or c.deref.result.now c.loop-place.place 0 in
-    let to_is : to ≡ get_or list c.loop-place.place 0 = ap (λ (l : List ℕ). get_or l c.loop-place.place 0) (c.deref.ensures ∙ same) in
-    one-followed image layout c.args.entry c.args.at c.in-Some.known c.in_ok-instr.instr (work_of c.args.self.now) c.requires.entry c.requires.sound seen c.in_ok-instr.ensures.accepted (work_of c.loop-place.self) c.loop-place.place to c.after.result inside to_is c.after.ensures c.loop-place.invariant.0 c.loop-place.invariant.1 (work_of c.arrive.new.self) c.arrive.ensures.small c.in_ok-arrive.ensures.arrived c.loop-place.invariant.2
+    let to_is : to ≡ get_or list c.loop-place.place 0 =
+    ap (λ (l : List ℕ). get_or l c.loop-place.place 0) (c.deref.ensures ∙ same) in
+    one-followed image layout c.args.entry c.args.at c.in-Some.known c.in_ok-instr.instr (work_of c.args.self.now)
+    c.requires.entry c.requires.sound seen c.in_ok-instr.ensures.accepted (work_of c.loop-place.self)
+    c.loop-place.place to c.after.result inside to_is c.after.ensures c.loop-place.invariant.0
+    c.loop-place.invariant.1 (work_of c.arrive.new.self) c.arrive.ensures.small c.in_ok-arrive.ensures.arrived
+    c.loop-place.invariant.2
 
 pub returns-clause-followed : goal.returns-clause-followed
 returns-clause-followed c =
     let image = c.args.image.now in
     let layout = c.args.layout.now in
     let list = successors_by image c.args.at c.in_ok-instr.instr c.in-Some.known in
-    let seen : seen_at c.args.self.now.seen.items c.args.at ≡ Some c.in-Some.known = seen-read c.args.self.now.seen.items c.from.result c.args.at c.index.result.now (Some c.in-Some.known) c.index.ensures c.from.ensures c.in-Some.is (omega (arith, c.requires.sound.length_is, c.ranges.at)) in
+    let seen : seen_at c.args.self.now.seen.items c.args.at ≡ Some c.in-Some.known =
+    seen-read c.args.self.now.seen.items c.from.result c.args.at c.index.result.now (Some c.in-Some.known)
+    c.index.ensures c.from.ensures c.in-Some.is (omega (arith, c.requires.sound.length_is, c.ranges.at)) in
     let same : c.in_ok-succ.succ.items ≡ list = c.in_ok-succ.ensures in
-    let past : length list ≤ c.loop-place.place = (let more = c.loop-place-test.false in let end = c.len-place-end.ensures.value in let lengths = ap length same in omega (arith, more, end, lengths)) in
-    all-followed image layout c.args.entry c.args.at c.in-Some.known c.in_ok-instr.instr (work_of c.args.self.now) c.requires.entry c.requires.sound seen c.in_ok-instr.ensures.accepted (work_of c.loop-place.self) c.loop-place.place past c.loop-place.invariant.0 c.loop-place.invariant.1 c.loop-place.invariant.2
+    let past : length list ≤ c.loop-place.place =
+    (let more = c.loop-place-test.false in let end = c.len-place-end.ensures.value in let lengths = ap length same in omega (arith, more, end, lengths))
+    in
+    all-followed image layout c.args.entry c.args.at c.in-Some.known c.in_ok-instr.instr (work_of c.args.self.now)
+    c.requires.entry c.requires.sound seen c.in_ok-instr.ensures.accepted (work_of c.loop-place.self)
+    c.loop-place.place past c.loop-place.invariant.0 c.loop-place.invariant.1 c.loop-place.invariant.2

@@ -15,7 +15,8 @@ nothing_known = None
 
 pub returns : goal.returns
 returns c =
-    let items : c.in_ok-vec.field-0.items ≡ replicate 65536 None = c.in_ok-vec.ensures.items_if_clones_equal (copied _ (λ k other. other)) in
+    let items : c.in_ok-vec.field-0.items ≡ replicate 65536 None =
+    c.in_ok-vec.ensures.items_if_clones_equal (copied _ (λ k other. other)) in
     record {
       length_is = ap length items ∙ length-replicate 65536 nothing_known;
       none = λ at. ap (λ seen. seen_at seen at) items ∙ none-at 65536 at;
