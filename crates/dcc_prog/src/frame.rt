@@ -34,7 +34,7 @@ pub struct Exposed {
 /// The frame of a procedure.
 #[derive(Drop)]
 pub struct Frame {
-    /// Whether the procedure begins with PUSH BP and MOV BP,SP.
+    /// Whether the procedure begins with PUSH BP and MOV BP,SP, or with ENTER.
     pub framed: bool,
     /// The number of argument words on the stack.
     pub args: u16,

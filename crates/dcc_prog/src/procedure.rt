@@ -11,7 +11,8 @@ use smallvec::SmallVec;
 pub struct Node {
     /// The instruction.
     pub instr: Instr,
-    /// The target and then the next instruction, where an instruction has both.
+    /// The target and then the next instruction, where an instruction has both, also where these are one offset; of a
+    /// jump through a table the targets in their order, with repeats.
     pub succ: SmallVec<u16, 2>,
     /// The number of the DOS call, which AH holds, of INT 21h; of other instructions none.
     pub number: Option<u8>,
