@@ -14,6 +14,3 @@ pub use lexer::{line_feeds, pieces};
 pub use pragma::after_version;
 pub use token::{Head, Mark, Piece, Suffix, Token};
 pub use word::is_word;
-
-#[cfg(test)]
-mod tests;

@@ -79,12 +79,11 @@ fn unit(alloc: Global, funcs: Vec<Func>) -> Unit {
     }
 }
 
-// Runs the unit on the input for so many steps.
+// Runs the unit on the input, for a hundred steps at most.
 fn check(
     rt: &impl Abort,
     alloc: Global,
     unit: &Unit,
-    steps: u64,
     input: &[u8],
     out: &[u8],
     answer: CStepped,
@@ -92,7 +91,7 @@ fn check(
     let mut run = CRun::new(alloc, unit, 0x1234)?;
     let mut source = MemSource::new(input.to_vec(alloc)?, Vec::new(alloc), 1);
     let mut sink = MemSink::new(alloc, Vec::new(alloc), 1);
-    assert_eq!(rt; run.run(alloc, &mut source, &mut sink, steps), answer);
+    assert_eq!(rt; run.run(alloc, &mut source, &mut sink, 100), answer);
     assert_eq!(rt; sink.taken().as_slice(), out);
     Ok(())
 }
@@ -129,7 +128,7 @@ fn a_while_loop_counts(rt: HostRuntime) -> Result<(), Fail> {
         11,
     )?;
     let unit = unit(alloc, vec![in alloc; start]?);
-    check(&rt, alloc, &unit, 100, b"", b"ABC", CStepped::Exit(3))?;
+    check(&rt, alloc, &unit, b"", b"ABC", CStepped::Exit(3))?;
     Ok(())
 }
 
@@ -185,7 +184,6 @@ fn jumps_lead_where_they_say(rt: HostRuntime) -> Result<(), Fail> {
         &rt,
         alloc,
         &only(alloc, body, 2)?,
-        100,
         b"",
         b"134Y",
         CStepped::Exit(7),
@@ -223,42 +221,16 @@ fn switch(alloc: Global, n: u32, last: bool) -> Result<Unit, AllocError> {
 #[test]
 fn a_switch_takes_the_arm_of_its_case(rt: HostRuntime) -> Result<(), Fail> {
     let alloc = rt.alloc();
-    check(
-        &rt,
-        alloc,
-        &switch(alloc, 2, true)?,
-        9,
-        b"",
-        b"A",
-        CStepped::Exit(0),
-    )?;
-    check(
-        &rt,
-        alloc,
-        &switch(alloc, 0xFFFF, true)?,
-        9,
-        b"",
-        b"",
-        CStepped::Exit(0),
-    )?;
-    check(
-        &rt,
-        alloc,
-        &switch(alloc, 3, true)?,
-        9,
-        b"",
-        b"C",
-        CStepped::Exit(0),
-    )?;
-    check(
-        &rt,
-        alloc,
-        &switch(alloc, 3, false)?,
-        9,
-        b"",
-        b"",
-        CStepped::Exit(0),
-    )
+    for (n, last, out) in [
+        (2, true, b"A".as_slice()),
+        (0xFFFF, true, b"".as_slice()),
+        (3, true, b"C".as_slice()),
+        (3, false, b"".as_slice()),
+    ] {
+        let unit = switch(alloc, n, last)?;
+        check(&rt, alloc, &unit, b"", out, CStepped::Exit(0))?;
+    }
+    Ok(())
 }
 
 // `int f(char a, auto int b)`, which gives a * b or calls itself with b - 1 while b is above 3.
@@ -312,30 +284,25 @@ fn calls_convert_arguments_and_give_results(rt: HostRuntime) -> Result<(), Fail>
     let locals = vec![in alloc; local(alloc, "i", Base::Int, Class::Plain)?]?;
     let start = function(alloc, "start", locals, body, 10)?;
     let unit = unit(alloc, vec![in alloc; start, product(alloc)?]?);
-    check(&rt, alloc, &unit, 100, b"", b"?", CStepped::Stuck(9))
+    check(&rt, alloc, &unit, b"", b"?", CStepped::Stuck(9))
+}
+
+// `i = dos_getche();`
+fn take_key(alloc: Global) -> Result<CStmt, AllocError> {
+    Ok(CStmt::Call(
+        Some(name(alloc, "i")?),
+        String::from_str(alloc, "dos_getche")?,
+        Vec::new(alloc),
+        2,
+    ))
 }
 
 #[test]
 fn keys_are_echoed_and_end_with_1a(rt: HostRuntime) -> Result<(), Fail> {
     let alloc = rt.alloc();
-    let key = CStmt::Call(
-        Some(name(alloc, "i")?),
-        String::from_str(alloc, "dos_getche")?,
-        Vec::new(alloc),
-        2,
-    );
-    let quiet = CStmt::Call(
-        None,
-        String::from_str(alloc, "dos_getch")?,
-        Vec::new(alloc),
-        2,
-    );
-    let end = CStmt::Call(
-        Some(name(alloc, "i")?),
-        String::from_str(alloc, "dos_getche")?,
-        Vec::new(alloc),
-        2,
-    );
+    let key = take_key(alloc)?;
+    let quiet = call(alloc, "dos_getch", Vec::new(alloc))?;
+    let end = take_key(alloc)?;
     let divided = bin(
         alloc,
         CBin::Div,
@@ -352,7 +319,6 @@ fn keys_are_echoed_and_end_with_1a(rt: HostRuntime) -> Result<(), Fail> {
         &rt,
         alloc,
         &only(alloc, body, 5)?,
-        100,
         b"xy",
         b"x",
         CStepped::Divide,
@@ -362,12 +328,7 @@ fn keys_are_echoed_and_end_with_1a(rt: HostRuntime) -> Result<(), Fail> {
 #[test]
 fn faults_leave_the_run_as_it_was(rt: HostRuntime) -> Result<(), Fail> {
     let alloc = rt.alloc();
-    let key = CStmt::Call(
-        Some(name(alloc, "i")?),
-        String::from_str(alloc, "dos_getche")?,
-        Vec::new(alloc),
-        2,
-    );
+    let key = take_key(alloc)?;
     let body = vec![in alloc;
         at(key, 1),
         at(putc(alloc, name(alloc, "i")?)?, 2),

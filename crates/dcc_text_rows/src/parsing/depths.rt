@@ -55,17 +55,21 @@ static NESTS: [Nest; 15] = [
     ),
 ];
 
+// Appends the part so many times.
+fn push_times(text: &mut String, part: &str, count: usize) -> Result<(), AllocError> {
+    for _ in 0..count {
+        text.push_str(part)?;
+    }
+    Ok(())
+}
+
 // The statement with the part repeated so many times.
 fn nested(alloc: Global, nest: &Nest, count: usize) -> Result<String, AllocError> {
     let (before, [opening, closing], inside, after, _, _) = nest;
     let mut text = String::from_str(alloc, before)?;
-    for _ in 0..count {
-        text.push_str(opening)?;
-    }
+    push_times(&mut text, opening, count)?;
     text.push_str(inside)?;
-    for _ in 0..count {
-        text.push_str(closing)?;
-    }
+    push_times(&mut text, closing, count)?;
     text.push_str(after)?;
     Ok(text)
 }

@@ -1,6 +1,6 @@
 //! Texts and their pieces.
 
-use crate::{Token, after_version, line_feeds, pieces};
+use dcc_lex::{Token, after_version, line_feeds, pieces};
 use std::alloc::Global;
 use std::test::Fail;
 
