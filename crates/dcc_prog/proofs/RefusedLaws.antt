@@ -1,6 +1,6 @@
--- A program whose procedures are found and in which all is built is accepted, and one that is accepted is refused for want
--- of memory alone.
-use Rattle.std.proofs.Common.{◌≡◌, ℕ, List, refl, sym, ◌∙◌, subst}
+-- A program in which the analyses find nothing to refuse is sound, and if all is built accepted; one that is sound is
+-- refused by the analyses for want of memory alone, and one that is accepted by decompilation.
+use Rattle.std.proofs.Common.{◌≡◌, ◌⊎◌, inl, inr, ℕ, List, refl, sym, ◌∙◌, subst}
 use Rattle.dcc_prog.specs.declared.cpu.Cpu.{Cpu}
 use Rattle.dcc_prog.specs.declared.image.Image.{Image}
 use Rattle.dcc_prog.specs.declared.procedure.Layout.{Layout}
@@ -8,10 +8,10 @@ use Rattle.dcc_prog.specs.declared.refusal.LimitName.{LimitName}
 use Rattle.dcc_prog.specs.declared.refusal.Refusal.{Refusal}
 use Rattle.dcc_prog.specs.declared.refusal.Refusal.TheVariants.{Memory}
 use Rattle.dcc_prog.specs.Layout.{HasLayout}
-use Rattle.dcc_prog.specs.Construct.{IsOfTrails, IsConstruct, lacks_layout, of_trails}
-use Rattle.dcc_prog.specs.Limit.{IsAbove}
+use Rattle.dcc_prog.specs.Construct.{IsOfTrails, IsOfHeights, IsOfFrames, IsConstruct, lacks_layout, of_trails, of_heights, of_frames}
+use Rattle.dcc_prog.specs.Limit.{IsAbove, IsAboveInFrames}
 use Rattle.dcc_prog.specs.Built.{IsNotYet, IsBuilt}
-use Rattle.dcc_prog.specs.Refused.{PassesLimit, ReachesUnbuilt, IsAcceptedProgram, IsRefusedImage, has_construct, passes_limit, reaches_unbuilt, IsRefusedByTrails, construct, limit, IsAcceptedByTrails, IsRefusedFor, no_layout, by_trails, not_yet}
+use Rattle.dcc_prog.specs.Refused.{PassesLimit, ReachesUnbuilt, IsSound, IsAcceptedProgram, IsUnsound, IsRefusedImage, has_construct, passes_limit, is_unsound, reaches_unbuilt, IsRefusedBy, construct, limit, IsAcceptedByAll, IsRefusedByAnalysis, no_layout, by_trails, by_heights, by_frames, IsRefusedFor, by_analysis, not_yet}
 use Rattle.dcc_prog.proofs.LayoutLaws.{layout-once}
 
 module _ (image : Image) (layout : Layout) (has : HasLayout image layout) where
@@ -19,44 +19,73 @@ module _ (image : Image) (layout : Layout) (has : HasLayout image layout) where
   same_layout : (other : Layout) → other.cpu ≡ layout.cpu → HasLayout image other → other ≡ layout
   same_layout other runs_on other_has = layout-once image layout other runs_on has other_has
 
-  module _ (found : IsAcceptedByTrails image layout) (built : IsBuilt image layout) where
+  module _ (all : IsAcceptedByAll image layout) where
     no-construct : (kind at : ℕ) → ¬ IsConstruct layout.cpu kind image at
     no-construct _ at (lacks_layout l) = l.none layout refl has
     no-construct kind at (of_trails {layout = other} runs_on other_has h) =
-        found.no_construct kind at (subst (λ l. IsOfTrails kind image l at) (same_layout other runs_on other_has) h)
+        all.trails.no_construct kind at (subst (λ l. IsOfTrails kind image l at) (same_layout other runs_on other_has) h)
+    no-construct kind at (of_heights {layout = other} runs_on other_has h) =
+        all.heights.no_construct kind at (subst (λ l. IsOfHeights kind image l at) (same_layout other runs_on other_has) h)
+    no-construct kind at (of_frames {layout = other} runs_on other_has h) =
+        all.frames.no_construct kind at (subst (λ l. IsOfFrames kind image l at) (same_layout other runs_on other_has) h)
+
+    not-above : (what : LimitName) (count : ℕ) → ¬ (IsAbove image layout what count ⊎ IsAboveInFrames image layout what count)
+    not-above what count (inl h) = all.trails.no_limit what count h
+    not-above what count (inr h) = all.frames.no_limit what count h
 
     no-limit : (what : LimitName) (count : ℕ) → ¬ PassesLimit layout.cpu image what count
     no-limit what count p =
-        found.no_limit what count (subst (λ l. IsAbove image l what count) (same_layout p.layout p.runs_on p.has) p.above)
+        not-above what count (subst (λ l. IsAbove image l what count ⊎ IsAboveInFrames image l what count)
+        (same_layout p.layout p.runs_on p.has) p.above)
 
-    no-unbuilt : (at : ℕ) → ¬ ReachesUnbuilt layout.cpu image at
-    no-unbuilt at r = built at (subst (λ l. IsNotYet image l at) (same_layout r.layout r.runs_on r.has) r.reached)
+    pub all-sound : IsSound layout.cpu image
+    all-sound = record { no_construct = no-construct; no_limit = no-limit }
 
-    pub found-accepted : IsAcceptedProgram layout.cpu image
-    found-accepted = record { no_construct = no-construct; no_limit = no-limit; built = no-unbuilt }
+  no-unbuilt : IsBuilt image layout → (at : ℕ) → ¬ ReachesUnbuilt layout.cpu image at
+  no-unbuilt built at r = built at (subst (λ l. IsNotYet image l at) (same_layout r.layout r.runs_on r.has) r.reached)
 
--- nothing stands in an accepted program for which it would be refused
+  pub all-accepted : IsAcceptedByAll image layout → IsBuilt image layout → IsAcceptedProgram layout.cpu image
+  all-accepted all built = record { sound = all-sound all; built = no-unbuilt built }
+
+-- nothing stands in a sound program for which it would be refused, nor in an accepted one
+pub sound-not_unsound : (cpu : Cpu) (image : Image) → IsSound cpu image → ¬ IsUnsound cpu image
+sound-not_unsound cpu image s (has_construct {kind = kind} {at = at} h) = s.no_construct kind at h
+sound-not_unsound cpu image s (passes_limit {what = what} {count = count} h) = s.no_limit what count h
+
 pub accepted-not_refused : (cpu : Cpu) (image : Image) → IsAcceptedProgram cpu image → ¬ IsRefusedImage cpu image
-accepted-not_refused cpu image a (has_construct {kind = kind} {at = at} h) = a.no_construct kind at h
-accepted-not_refused cpu image a (passes_limit {what = what} {count = count} h) = a.no_limit what count h
+accepted-not_refused cpu image a (is_unsound h) = sound-not_unsound cpu image a.sound h
 accepted-not_refused cpu image a (reaches_unbuilt {at = at} h) = a.built at h
 
-trails-memory :
-    (cpu : Cpu) (image : Image) (layout : Layout) (refusal : Refusal) → IsAcceptedProgram cpu image → layout.cpu ≡ cpu
-    → HasLayout image layout → IsRefusedByTrails image layout refusal → refusal ≡ Memory
-trails-memory cpu image layout refusal a runs_on has (construct {kind = kind} {at = at} h) =
-    absurd (a.no_construct kind at (of_trails runs_on has h))
-trails-memory cpu image layout refusal a runs_on has (limit {what = what} {count = count} h) =
-    absurd (a.no_limit what count (record { layout = layout; runs_on = runs_on; has = has; above = h }))
-trails-memory cpu image layout refusal a runs_on has IsRefusedByTrails.no_memory = refl
+-- where an analysis may tell nothing, it tells want of memory alone
+told-memory :
+    {Stands : ℕ → ℕ → Type 0} {Passes : LimitName → ℕ → Type 0}
+    → ((kind at : ℕ) → ¬ Stands kind at) → ((what : LimitName) (count : ℕ) → ¬ Passes what count)
+    → (refusal : Refusal) → IsRefusedBy Stands Passes refusal → refusal ≡ Memory
+told-memory none under refusal (construct {kind = kind} {at = at} h) = absurd (none kind at h)
+told-memory none under refusal (limit {what = what} {count = count} h) = absurd (under what count h)
+told-memory none under refusal IsRefusedBy.no_memory = refl
 
--- what is told of an accepted program is want of memory
+-- what the analyses tell of a sound program is want of memory
+pub sound-memory :
+    (cpu : Cpu) (image : Image) (refusal : Refusal) → IsSound cpu image → IsRefusedByAnalysis cpu image refusal
+    → refusal ≡ Memory
+sound-memory cpu image refusal s (no_layout {at = at} h) = absurd (s.no_construct _ at (lacks_layout h))
+sound-memory cpu image refusal s (by_trails {layout = layout} runs_on has h) =
+    told-memory (λ kind at c. s.no_construct kind at (of_trails runs_on has c))
+    (λ what count c. s.no_limit what count (record { layout = layout; runs_on = runs_on; has = has; above = inl c }))
+    refusal h
+sound-memory cpu image refusal s (by_heights runs_on has trails h) =
+    told-memory (λ kind at c. s.no_construct kind at (of_heights runs_on has c)) (λ what count c. c) refusal h
+sound-memory cpu image refusal s (by_frames {layout = layout} runs_on has trails heights h) =
+    told-memory (λ kind at c. s.no_construct kind at (of_frames runs_on has c))
+    (λ what count c. s.no_limit what count (record { layout = layout; runs_on = runs_on; has = has; above = inr c }))
+    refusal h
+sound-memory cpu image refusal s IsRefusedByAnalysis.no_memory = refl
+
+-- and what is told of an accepted one
 pub accepted-memory :
     (cpu : Cpu) (image : Image) (refusal : Refusal) → IsAcceptedProgram cpu image → IsRefusedFor cpu image refusal
     → refusal ≡ Memory
-accepted-memory cpu image refusal a (no_layout {at = at} h) = absurd (a.no_construct _ at (lacks_layout h))
-accepted-memory cpu image refusal a (by_trails {layout = layout} runs_on has h) =
-    trails-memory cpu image layout refusal a runs_on has h
-accepted-memory cpu image refusal a (not_yet {layout = layout} {at = at} runs_on has found h) =
+accepted-memory cpu image refusal a (by_analysis h) = sound-memory cpu image refusal a.sound h
+accepted-memory cpu image refusal a (not_yet {layout = layout} {at = at} runs_on has all h) =
     absurd (a.built at (record { layout = layout; runs_on = runs_on; has = has; reached = h }))
-accepted-memory cpu image refusal a IsRefusedFor.no_memory = refl

@@ -3,7 +3,7 @@
 use Rattle.std.specs.Prelude.{◌≡◌, ◌≢◌, ◌≤◌, ◌<◌, ◌⊎◌, ℕ, ◌+◌, ◌*◌, ◌==◌, Bool, true, false, not, ◌||◌, List, ◌∷◌, length, Option, Some, None}
 use Rattle.dcc_num.specs.declared.Reg.{Reg}
 use Rattle.dcc_num.specs.declared.dos.TheConstants.{GETCHE, PUTC, GETCH, PUTS, EXIT}
-use Rattle.dcc_prog.specs.declared.refusal.construct.TheConstants.{NO_LAYOUT, OUTSIDE, INDIRECT_JUMP, INDIRECT_CALL, DOS_NUMBER, ENTRY_RETURN, DIVISION}
+use Rattle.dcc_prog.specs.declared.refusal.construct.TheConstants.{NO_LAYOUT, OUTSIDE, INDIRECT_JUMP, INDIRECT_CALL, DOS_NUMBER, HEIGHTS, FRAME_ACCESS, ARGUMENTS_SHORT, ENTRY_RETURN, DIVISION}
 use Rattle.dcc_prog.specs.declared.cpu.Cpu.{Cpu}
 use Rattle.dcc_prog.specs.declared.image.Image.{Image}
 use Rattle.dcc_prog.specs.declared.procedure.Layout.{Layout}
@@ -17,6 +17,8 @@ use Rattle.dcc_prog.specs.Layout.{HasLayout, is_control}
 use Rattle.dcc_prog.specs.Trail.{code_within, instruction_in, StandsAt, known_ah, table_number, IsTrail, IsNode, IsEntry}
 use Rattle.dcc_prog.specs.FrameForm.{is_frame_form}
 use Rattle.dcc_prog.specs.Prepared.{IsUnprepared}
+use Rattle.dcc_prog.specs.Height.{IsMisplaced, HasBadHeight}
+use Rattle.dcc_prog.specs.Frame.{HasBadAccess, IsShortCall}
 
 -- Kind 1: no layout.
 
@@ -149,12 +151,32 @@ pub data IsAtNode (image : Image) (layout : Layout) (entry at : ℕ) : ℕ → T
   entry_return : ReturnsFromEntry image layout entry at → IsAtNode image layout entry at ENTRY_RETURN
   division : IsUnprepared image layout entry at → IsAtNode image layout entry at DIVISION
 
--- the same at a node of some procedure that is reached
-pub record IsOfTrails (kind : ℕ) (image : Image) (layout : Layout) (at : ℕ) : Type 0 where
+-- those that heights tell there
+pub data IsAtHeight (image : Image) (layout : Layout) (entry at : ℕ) : ℕ → Type 0 where
+  misplaced : IsMisplaced image layout entry at → IsAtHeight image layout entry at OUTSIDE
+  bad_height : HasBadHeight image layout entry at → IsAtHeight image layout entry at HEIGHTS
+
+-- those that the frame tells there
+pub data IsAtFrame (image : Image) (layout : Layout) (entry at : ℕ) : ℕ → Type 0 where
+  bad_access : HasBadAccess image layout entry at → IsAtFrame image layout entry at FRAME_ACCESS
+  short_call : IsShortCall image layout entry at → IsAtFrame image layout entry at ARGUMENTS_SHORT
+
+-- something stands at a node of some procedure that is reached
+pub record IsAtSomeNode (image : Image) (layout : Layout) (Stands : ℕ → ℕ → Type 0) (at : ℕ) : Type 0 where
   pub entry : ℕ
   pub is_entry : IsEntry image layout entry
   pub node : IsNode image layout entry at
-  pub stands : IsAtNode image layout entry at kind
+  pub stands : Stands entry at
+
+-- a construct of this kind stands at the offset: as trails tell it, as heights do, or as a frame does
+abbrev pub IsOfTrails : ℕ → Image → Layout → ℕ → Type 0
+IsOfTrails kind image layout = IsAtSomeNode image layout (λ entry at. IsAtNode image layout entry at kind)
+
+abbrev pub IsOfHeights : ℕ → Image → Layout → ℕ → Type 0
+IsOfHeights kind image layout = IsAtSomeNode image layout (λ entry at. IsAtHeight image layout entry at kind)
+
+abbrev pub IsOfFrames : ℕ → Image → Layout → ℕ → Type 0
+IsOfFrames kind image layout = IsAtSomeNode image layout (λ entry at. IsAtFrame image layout entry at kind)
 
 -- on this processor a construct of this kind stands at the offset
 pub data IsConstruct (cpu : Cpu) : ℕ → Image → ℕ → Type 0 where
@@ -164,4 +186,16 @@ pub data IsConstruct (cpu : Cpu) : ℕ → Image → ℕ → Type 0 where
       → layout.cpu ≡ cpu
       → HasLayout image layout
       → IsOfTrails kind image layout at
+      → IsConstruct cpu kind image at
+  of_heights :
+      {kind at : ℕ} {image : Image} {layout : Layout}
+      → layout.cpu ≡ cpu
+      → HasLayout image layout
+      → IsOfHeights kind image layout at
+      → IsConstruct cpu kind image at
+  of_frames :
+      {kind at : ℕ} {image : Image} {layout : Layout}
+      → layout.cpu ≡ cpu
+      → HasLayout image layout
+      → IsOfFrames kind image layout at
       → IsConstruct cpu kind image at

@@ -14,10 +14,9 @@ use Rattle.dcc_prog.specs.declared.instr.Operand.TheVariants.{Word, Mem}
 use Rattle.dcc_prog.specs.declared.instr.Op.{Op}
 use Rattle.dcc_prog.specs.declared.instr.Op.TheVariants.{Alu, Unary, Shift, Mov, Xchg, Lea, Imul3, Push, Pop, Call}
 use Rattle.dcc_prog.specs.Access.{bytes_in, is_direct}
-use Rattle.dcc_prog.specs.Trail.{StandsAt, IsNode, IsEntry}
+use Rattle.dcc_prog.specs.Trail.{StandsAt, IsNode}
 use Rattle.dcc_prog.specs.FrameForm.{is_framed, copies_bp, address_uses_bp}
 use Rattle.dcc_prog.specs.Height.{ReachesRet, HasHeight}
-use Rattle.dcc_prog.specs.Limit.{HasMany}
 
 -- some bytes of a frame: those from the first offset up to the end, which isn't one of them
 pub record Span : Type 0 where
@@ -240,6 +239,49 @@ pub data HasExposedArguments (image : Image) (layout : Layout) (entry : ℕ) : O
       → ((start : ℤ) → IsExposureStart image layout entry start → pos 4 ≤ℤ start → pos least ≤ℤ start)
       → HasExposedArguments image layout entry (Some least)
 
+-- a byte of the frame is exposed: below BP, or in the arguments from the least start on
+pub data IsExposed (image : Image) (layout : Layout) (entry : ℕ) (offset : ℤ) : Type 0 where
+  below_bp :
+      {count : ℕ}
+      → HasExposedLocal image layout entry count
+      → neg_ℤ (pos count) ≤ℤ offset
+      → offset <ℤ pos 0
+      → IsExposed image layout entry offset
+  in_arguments :
+      {least count : ℕ}
+      → HasExposedArguments image layout entry (Some least)
+      → HasArguments image layout entry count
+      → pos least ≤ℤ offset
+      → offset <ℤ pos (4 + 2 * count)
+      → IsExposed image layout entry offset
+
+-- bytes that stand for one value: a cell, or the word of an argument, also where it lies in a longer run
+pub data IsSlot (image : Image) (layout : Layout) (entry : ℕ) : Span → Type 0 where
+  cell : {span : Span} → IsCell image layout entry span → IsSlot image layout entry span
+  argument :
+      {count number : ℕ}
+      → HasArguments image layout entry count
+      → number < count
+      → IsSlot image layout entry (argument_word number)
+
+-- a slot is exposed where a byte of it is; it is then wholly in memory, at its addresses
+pub record IsExposedSlot (image : Image) (layout : Layout) (entry : ℕ) (slot : Span) : Type 0 where
+  pub is_slot : IsSlot image layout entry slot
+  pub offset : ℤ
+  pub from : slot.first ≤ℤ offset
+  pub to : offset <ℤ slot.end
+  pub exposed : IsExposed image layout entry offset
+
+-- the byte stands in memory, at its address: it is exposed, or in an exposed slot
+pub data IsPlaced (image : Image) (layout : Layout) (entry : ℕ) (offset : ℤ) : Type 0 where
+  by_itself : IsExposed image layout entry offset → IsPlaced image layout entry offset
+  by_slot :
+      {slot : Span}
+      → IsExposedSlot image layout entry slot
+      → slot.first ≤ℤ offset
+      → offset <ℤ slot.end
+      → IsPlaced image layout entry offset
+
 -- Kind 7.
 
 -- the bytes aren't wholly in the arguments, and at a height not wholly between SP and BP
@@ -283,26 +325,14 @@ pub data HasBadAccess (image : Image) (layout : Layout) (entry at : ℕ) : Type 
 
 -- Kind 8.
 
--- a CALL finds fewer bytes of its own frame than the callee's arguments take
+-- a CALL finds fewer bytes of its own frame than the callee's arguments take: one of these has no room in it
 pub record IsShortCall (image : Image) (layout : Layout) (entry at : ℕ) : Type 0 where
   pub target : ℕ
   pub stands : StandsAt image layout at (Call target)
   pub count : ℕ
   pub arguments : HasArguments image layout target count
+  pub number : ℕ
+  pub is_argument : number < count
   pub height : ℤ
   pub has : HasHeight image layout entry at height
-  pub short : own_bytes image layout entry height <ℤ pos (2 * count)
-
--- Limits.
-
--- a procedure that is reached has more than 512 cells, or this many arguments, which are more than 32
-pub record HasManyCells (image : Image) (layout : Layout) : Type 0 where
-  pub entry : ℕ
-  pub is_entry : IsEntry image layout entry
-  pub many : HasMany (IsCell image layout entry) 513
-
-pub record HasManyArguments (image : Image) (layout : Layout) (count : ℕ) : Type 0 where
-  pub entry : ℕ
-  pub is_entry : IsEntry image layout entry
-  pub arguments : HasArguments image layout entry count
-  pub many : 32 < count
+  pub short : own_bytes image layout entry height <ℤ pos (2 * number + 2)

@@ -14,7 +14,7 @@ use Rattle.dcc_prog.specs.declared.instr.Op.{Op}
 use Rattle.dcc_prog.specs.declared.instr.Op.TheVariants.{Alu as AluOp, Unary as UnaryOp, Mov, Lea, Push, Pop, Enter, Leave, Call, Ret}
 use Rattle.dcc_prog.specs.Writes.{writes_half}
 use Rattle.dcc_prog.specs.Trail.{StandsAt, IsTrail, IsNode}
-use Rattle.dcc_prog.specs.FrameForm.{is_framed, copies_bp, uses_bp_address}
+use Rattle.dcc_prog.specs.FrameForm.{is_framed, copies_bp, uses_bp_address, is_frame_form}
 
 -- What operations do to the height.
 
@@ -26,7 +26,7 @@ lowering_of (UnaryOp Inc (Word Sp)) = Some (neg_ℤ (pos 1))
 lowering_of (UnaryOp Dec (Word Sp)) = Some (pos 1)
 lowering_of op = None
 
--- the height that `mov sp,bp`, LEA of SP from BP, ENTER or LEAVE gives, whatever it was
+-- the height that `mov sp,bp`, LEA of SP from BP, ENTER or LEAVE gives in a framed procedure, whatever it was
 abbrev pub height_set_by : Op → Option ℤ
 height_set_by (Mov (Word Sp) (Word Bp)) = Some (pos 2)
 height_set_by (Lea Sp ea) = Some (pos 2 -ℤ signed_of word_width ea.disp)
@@ -45,27 +45,28 @@ pub data IsRemoved (image : Image) (layout : Layout) (entry : ℕ) : ℕ → Typ
   by_ret : {count : ℕ} → ReachesRet image layout entry count → IsRemoved image layout entry count
   without_ret : ((count : ℕ) → ¬ ReachesRet image layout entry count) → IsRemoved image layout entry 0
 
--- the height after an operation is the second one, where before it it is the first; there is none after an operation
--- that writes SP in another way
-pub data MovesHeight (image : Image) (layout : Layout) : Op → ℤ → ℤ → Type 0 where
-  push : {a : _} {height : ℤ} → MovesHeight image layout (Push a) height (height +ℤ pos 2)
-  pop : {a : _} {height : ℤ} → MovesHeight image layout (Pop a) height (height -ℤ pos 2)
+-- the height after an operation at an offset is the second one, where before it it is the first; there is none after
+-- an operation that writes SP in a form that the procedure hasn't
+pub data MovesHeight (image : Image) (layout : Layout) (entry at : ℕ) : Op → ℤ → ℤ → Type 0 where
+  push : {a : _} {height : ℤ} → MovesHeight image layout entry at (Push a) height (height +ℤ pos 2)
+  pop : {a : _} {height : ℤ} → MovesHeight image layout entry at (Pop a) height (height -ℤ pos 2)
   call :
       {target count : ℕ} {height : ℤ}
       → IsRemoved image layout target count
-      → MovesHeight image layout (Call target) height (height -ℤ pos count)
+      → MovesHeight image layout entry at (Call target) height (height -ℤ pos count)
   move :
       {op : Op} {height bytes : ℤ}
       → lowering_of op ≡ Some bytes
-      → MovesHeight image layout op height (height +ℤ bytes)
+      → MovesHeight image layout entry at op height (height +ℤ bytes)
   set :
       {op : Op} {height after : ℤ}
+      → is_frame_form image layout entry at op ≡ true
       → height_set_by op ≡ Some after
-      → MovesHeight image layout op height after
+      → MovesHeight image layout entry at op height after
   keep :
       {op : Op} {height : ℤ}
       → writes_half op Sp Low ≡ false
-      → MovesHeight image layout op height height
+      → MovesHeight image layout entry at op height height
 
 -- Heights.
 
@@ -77,7 +78,7 @@ pub data GivesHeight (image : Image) (layout : Layout) (entry : ℕ) : List ℕ 
       → IsTrail image layout entry (at ∷ from ∷ before)
       → GivesHeight image layout entry (from ∷ before) height
       → StandsAt image layout from op
-      → MovesHeight image layout op height after
+      → MovesHeight image layout entry from op height after
       → GivesHeight image layout entry (at ∷ from ∷ before) after
 
 -- some trail gives the offset a height
@@ -166,7 +167,7 @@ pub data HasBadHeight (image : Image) (layout : Layout) (entry at : ℕ) : Type 
       → StandsAt image layout at op
       → is_raise op ≡ true
       → HasHeight image layout entry at height
-      → MovesHeight image layout op height after
+      → MovesHeight image layout entry at op height after
       → after <ℤ height
       → IsTooFar image layout entry op height after
       → HasBadHeight image layout entry at
@@ -192,6 +193,6 @@ pub data HasBadHeight (image : Image) (layout : Layout) (entry at : ℕ) : Type 
       {op : Op} {height after : ℤ}
       → StandsAt image layout at op
       → HasHeight image layout entry at height
-      → MovesHeight image layout op height after
+      → MovesHeight image layout entry at op height after
       → pos greatest_height <ℤ after
       → HasBadHeight image layout entry at

@@ -22,6 +22,7 @@ pub mod Wanted
 pub mod Built
 pub mod Found
 pub mod Refused
+pub mod Analysed
 pub mod Watch
 pub mod StateForm
 pub mod Access

@@ -1,11 +1,12 @@
--- The counts that have a greatest number, as far as trails tell them.
-use Rattle.std.specs.Prelude.{◌≡◌, ◌≢◌, ◌≤◌, ℕ, ◌+◌, List, length, All, AllPairs, Some}
+-- The counts that have a greatest number: those that trails tell, and those of frames.
+use Rattle.std.specs.Prelude.{◌≡◌, ◌≢◌, ◌≤◌, ◌<◌, ℕ, ◌+◌, List, length, All, AllPairs, Some}
 use Rattle.dcc_prog.specs.declared.image.Image.{Image}
 use Rattle.dcc_prog.specs.declared.procedure.Layout.{Layout}
 use Rattle.dcc_prog.specs.declared.refusal.LimitName.{LimitName}
-use Rattle.dcc_prog.specs.declared.refusal.LimitName.TheVariants.{Procedures, Instructions, Total, Entries}
+use Rattle.dcc_prog.specs.declared.refusal.LimitName.TheVariants.{Procedures, Instructions, Total, Cells, Entries, Arguments}
 use Rattle.dcc_prog.specs.Trail.{IsNode, IsEntry}
 use Rattle.dcc_prog.specs.Construct.{HasNumber}
+use Rattle.dcc_prog.specs.Frame.{HasArguments, IsCell}
 
 -- there are at least so many different values of which the predicate holds
 pub record HasMany {A : Type 0} (P : A → Type 0) (count : ℕ) : Type 0 where
@@ -35,3 +36,17 @@ pub data IsAbove (image : Image) (layout : Layout) : LimitName → ℕ → Type 
       → HasNumber image layout entry at (Some number)
       → 256 ≤ number
       → IsAbove image layout Entries (number + 1)
+
+-- the same of a procedure's frame: one more than 512 cells is told, or the number of its argument words
+pub data IsAboveInFrames (image : Image) (layout : Layout) : LimitName → ℕ → Type 0 where
+  cells :
+      {entry : ℕ}
+      → IsEntry image layout entry
+      → HasMany (IsCell image layout entry) 513
+      → IsAboveInFrames image layout Cells 513
+  arguments :
+      {entry count : ℕ}
+      → IsEntry image layout entry
+      → HasArguments image layout entry count
+      → 32 < count
+      → IsAboveInFrames image layout Arguments count

@@ -1,5 +1,5 @@
 -- Which programs are decompiled, and why one is refused.
-use Rattle.std.specs.Prelude.{◌≡◌, ℕ}
+use Rattle.std.specs.Prelude.{◌≡◌, ◌⊎◌, ℕ}
 use Rattle.dcc_prog.specs.declared.cpu.Cpu.{Cpu}
 use Rattle.dcc_prog.specs.declared.image.Image.{Image}
 use Rattle.dcc_prog.specs.declared.procedure.Layout.{Layout}
@@ -8,8 +8,8 @@ use Rattle.dcc_prog.specs.declared.refusal.LimitName.{LimitName}
 use Rattle.dcc_prog.specs.declared.refusal.Refusal.{Refusal}
 use Rattle.dcc_prog.specs.declared.refusal.Refusal.TheVariants.{Construct, Limit, NotYet, Memory}
 use Rattle.dcc_prog.specs.Layout.{HasLayout}
-use Rattle.dcc_prog.specs.Construct.{LacksLayout, IsOfTrails, IsConstruct}
-use Rattle.dcc_prog.specs.Limit.{IsAbove}
+use Rattle.dcc_prog.specs.Construct.{LacksLayout, IsOfTrails, IsOfHeights, IsOfFrames, IsConstruct}
+use Rattle.dcc_prog.specs.Limit.{IsAbove, IsAboveInFrames}
 use Rattle.dcc_prog.specs.Built.{IsNotYet}
 
 -- in a layout of the image for the processor the count is above its greatest number
@@ -17,7 +17,7 @@ pub record PassesLimit (cpu : Cpu) (image : Image) (what : LimitName) (count : �
   pub layout : Layout
   pub runs_on : layout.cpu ≡ cpu
   pub has : HasLayout image layout
-  pub above : IsAbove image layout what count
+  pub above : IsAbove image layout what count ⊎ IsAboveInFrames image layout what count
 
 -- an instruction that is reached at the offset is of a form that is not built
 pub record ReachesUnbuilt (cpu : Cpu) (image : Image) (at : ℕ) : Type 0 where
@@ -26,50 +26,103 @@ pub record ReachesUnbuilt (cpu : Cpu) (image : Image) (at : ℕ) : Type 0 where
   pub has : HasLayout image layout
   pub reached : IsNotYet image layout at
 
--- no construct stands anywhere, no count passes its greatest number, and no instruction that is not built is reached
-pub record IsAcceptedProgram (cpu : Cpu) (image : Image) : Type 0 where
+-- no construct stands anywhere, and no count passes its greatest number
+pub record IsSound (cpu : Cpu) (image : Image) : Type 0 where
   pub no_construct : (kind at : ℕ) → ¬ IsConstruct cpu kind image at
   pub no_limit : (what : LimitName) (count : ℕ) → ¬ PassesLimit cpu image what count
+
+-- besides no instruction that is not built is reached
+pub record IsAcceptedProgram (cpu : Cpu) (image : Image) : Type 0 where
+  pub sound : IsSound cpu image
   pub built : (at : ℕ) → ¬ ReachesUnbuilt cpu image at
 
--- a construct of any kind stands somewhere, a count passes its greatest number, or an instruction that is not built is
--- reached
+-- a construct of any kind stands somewhere, or a count passes its greatest number
+pub data IsUnsound (cpu : Cpu) (image : Image) : Type 0 where
+  has_construct : {kind at : ℕ} → IsConstruct cpu kind image at → IsUnsound cpu image
+  passes_limit : {what : LimitName} {count : ℕ} → PassesLimit cpu image what count → IsUnsound cpu image
+
+-- the same, or an instruction that is not built is reached
 pub data IsRefusedImage (cpu : Cpu) (image : Image) : Type 0 where
-  has_construct : {kind at : ℕ} → IsConstruct cpu kind image at → IsRefusedImage cpu image
-  passes_limit : {what : LimitName} {count : ℕ} → PassesLimit cpu image what count → IsRefusedImage cpu image
+  is_unsound : IsUnsound cpu image → IsRefusedImage cpu image
   reaches_unbuilt : {at : ℕ} → ReachesUnbuilt cpu image at → IsRefusedImage cpu image
 
--- What the search for procedures may tell of a program that it refuses: a construct that trails tell, or a count above
--- its greatest number; where several of these stand, any of them may be told. Want of memory has no cause.
-pub data IsRefusedByTrails (image : Image) (layout : Layout) : Refusal → Type 0 where
-  construct : {kind at : ℕ} → IsOfTrails kind image layout at → IsRefusedByTrails image layout (Construct kind at)
-  limit :
-      {what : LimitName} {count : ℕ}
-      → IsAbove image layout what count
-      → IsRefusedByTrails image layout (Limit what count)
-  no_memory : IsRefusedByTrails image layout Memory
+-- What one analysis may tell of a program that it refuses: a construct of those that it tells, or a count of its own
+-- above its greatest number; where several of these stand, any of them may be told. Want of memory has no cause.
+pub data IsRefusedBy (Stands : ℕ → ℕ → Type 0) (Passes : LimitName → ℕ → Type 0) : Refusal → Type 0 where
+  construct : {kind at : ℕ} → Stands kind at → IsRefusedBy Stands Passes (Construct kind at)
+  limit : {what : LimitName} {count : ℕ} → Passes what count → IsRefusedBy Stands Passes (Limit what count)
+  no_memory : IsRefusedBy Stands Passes Memory
 
--- nothing that trails tell refuses the program
-pub record IsAcceptedByTrails (image : Image) (layout : Layout) : Type 0 where
-  pub no_construct : (kind at : ℕ) → ¬ IsOfTrails kind image layout at
-  pub no_limit : (what : LimitName) (count : ℕ) → ¬ IsAbove image layout what count
+-- it has nothing to tell that refuses the program
+pub record IsAcceptedBy (Stands : ℕ → ℕ → Type 0) (Passes : LimitName → ℕ → Type 0) : Type 0 where
+  pub no_construct : (kind at : ℕ) → ¬ Stands kind at
+  pub no_limit : (what : LimitName) (count : ℕ) → ¬ Passes what count
 
--- What may be told of a program that is refused on a processor, and in which order. The layout comes first: where none
--- holds of the image, this is told at its entry, and nothing else is. All else is told of the layout that holds: first
--- what trails tell, and only where they refuse nothing an instruction that is reached and not built.
-pub data IsRefusedFor (cpu : Cpu) (image : Image) : Refusal → Type 0 where
-  no_layout : {at : ℕ} → LacksLayout cpu image at → IsRefusedFor cpu image (Construct NO_LAYOUT at)
+-- the search for procedures
+abbrev pub IsRefusedByTrails : Image → Layout → Refusal → Type 0
+IsRefusedByTrails image layout = IsRefusedBy (λ kind at. IsOfTrails kind image layout at) (IsAbove image layout)
+
+abbrev pub IsAcceptedByTrails : Image → Layout → Type 0
+IsAcceptedByTrails image layout = IsAcceptedBy (λ kind at. IsOfTrails kind image layout at) (IsAbove image layout)
+
+-- the analysis of heights, which has no count
+abbrev pub IsRefusedByHeights : Image → Layout → Refusal → Type 0
+IsRefusedByHeights image layout = IsRefusedBy (λ kind at. IsOfHeights kind image layout at) (λ what count. ⊥)
+
+abbrev pub IsAcceptedByHeights : Image → Layout → Type 0
+IsAcceptedByHeights image layout = IsAcceptedBy (λ kind at. IsOfHeights kind image layout at) (λ what count. ⊥)
+
+-- the analysis of frames
+abbrev pub IsRefusedByFrames : Image → Layout → Refusal → Type 0
+IsRefusedByFrames image layout =
+    IsRefusedBy (λ kind at. IsOfFrames kind image layout at) (IsAboveInFrames image layout)
+
+abbrev pub IsAcceptedByFrames : Image → Layout → Type 0
+IsAcceptedByFrames image layout =
+    IsAcceptedBy (λ kind at. IsOfFrames kind image layout at) (IsAboveInFrames image layout)
+
+-- nothing that any of the three tells refuses the program
+pub record IsAcceptedByAll (image : Image) (layout : Layout) : Type 0 where
+  pub trails : IsAcceptedByTrails image layout
+  pub heights : IsAcceptedByHeights image layout
+  pub frames : IsAcceptedByFrames image layout
+
+-- What the analyses may tell of a program that is refused on a processor, and in which order. The layout comes first:
+-- where none holds of the image, this is told at its entry, and nothing else is. All else is told of the layout that
+-- holds: what trails tell, then what heights do, then what frames do, each only where those before refuse nothing.
+pub data IsRefusedByAnalysis (cpu : Cpu) (image : Image) : Refusal → Type 0 where
+  no_layout : {at : ℕ} → LacksLayout cpu image at → IsRefusedByAnalysis cpu image (Construct NO_LAYOUT at)
   by_trails :
       {layout : Layout} {refusal : Refusal}
       → layout.cpu ≡ cpu
       → HasLayout image layout
       → IsRefusedByTrails image layout refusal
-      → IsRefusedFor cpu image refusal
+      → IsRefusedByAnalysis cpu image refusal
+  by_heights :
+      {layout : Layout} {refusal : Refusal}
+      → layout.cpu ≡ cpu
+      → HasLayout image layout
+      → IsAcceptedByTrails image layout
+      → IsRefusedByHeights image layout refusal
+      → IsRefusedByAnalysis cpu image refusal
+  by_frames :
+      {layout : Layout} {refusal : Refusal}
+      → layout.cpu ≡ cpu
+      → HasLayout image layout
+      → IsAcceptedByTrails image layout
+      → IsAcceptedByHeights image layout
+      → IsRefusedByFrames image layout refusal
+      → IsRefusedByAnalysis cpu image refusal
+  no_memory : IsRefusedByAnalysis cpu image Memory
+
+-- The same of decompilation: what the analyses tell, and only where these refuse nothing an instruction that is reached
+-- and not built.
+pub data IsRefusedFor (cpu : Cpu) (image : Image) : Refusal → Type 0 where
+  by_analysis : {refusal : Refusal} → IsRefusedByAnalysis cpu image refusal → IsRefusedFor cpu image refusal
   not_yet :
       {layout : Layout} {at : ℕ}
       → layout.cpu ≡ cpu
       → HasLayout image layout
-      → IsAcceptedByTrails image layout
+      → IsAcceptedByAll image layout
       → IsNotYet image layout at
       → IsRefusedFor cpu image (NotYet at)
-  no_memory : IsRefusedFor cpu image Memory

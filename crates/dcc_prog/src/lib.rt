@@ -3,6 +3,7 @@
 
 pub mod cpu;
 pub mod frame;
+pub mod frame_form;
 pub mod image;
 pub mod instr;
 pub mod laws;

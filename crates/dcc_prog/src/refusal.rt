@@ -3,7 +3,7 @@
 use std::alloc::{AllocError, AllocFailed};
 
 /// What each number of a construct says. The first is told at the entry, the others at an instruction that is reached.
-/// The kinds 6 to 10 are told of no program yet.
+/// The kinds 9 and 10 are told of no program yet.
 pub mod construct {
     /// No layout of the small memory model holds of the image.
     pub const NO_LAYOUT: u8 = 1;
