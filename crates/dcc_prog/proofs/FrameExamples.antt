@@ -1,19 +1,18 @@
 -- Stack heights and frames, tried on small codes. The images have the prelude of five bytes.
-use Rattle.std.proofs.Common.{◌≡◌, inl, inr, ◌≤◌, ℕ, zero, suc, List, [], ◌∷◌, Contains, Some, None, refl, arith}
-use Rattle.std.specs.Prelude.{ℤ, pos, negsuc}
+use Rattle.std.proofs.Common.{inl, ℕ, List, [], ◌∷◌, Contains, Some, None, refl, arith}
+use Rattle.std.specs.Prelude.{pos}
 use Rattle.dcc_num.specs.declared.Width.TheVariants.{Word as word_width}
 use Rattle.dcc_num.specs.declared.Reg.TheVariants.{Ax, Sp, Bp}
 use Rattle.dcc_num.specs.Numbers.{sign_extension_of, signed_of}
 use Rattle.dcc_prog.specs.declared.image.Image.{Image}
-use Rattle.dcc_prog.specs.declared.instr.Alu.TheVariants.{Cmp}
 use Rattle.dcc_prog.specs.declared.instr.Unary.TheVariants.{Inc}
-use Rattle.dcc_prog.specs.declared.instr.Operand.TheVariants.{Word, Mem, Const}
-use Rattle.dcc_prog.specs.declared.instr.Op.TheVariants.{Alu as AluOp, Unary as UnaryOp, Mov, Push, Pop}
+use Rattle.dcc_prog.specs.declared.instr.Operand.TheVariants.{Word, Mem}
+use Rattle.dcc_prog.specs.declared.instr.Op.TheVariants.{Unary as UnaryOp, Mov, Push, Pop}
 use Rattle.dcc_prog.specs.Bytes.{word_at}
 use Rattle.dcc_prog.specs.Code.{code_of}
 use Rattle.dcc_prog.specs.Table.{table, instruction_at}
-use Rattle.dcc_prog.specs.Trail.{StandsAt, IsTrail, start, called, IsEntry}
-use Rattle.dcc_prog.specs.Height.{GivesHeight, entered, gone_on, HasHeight, push, pop, move, keep, IsMisplaced, HasBadHeight, two_heights, too_far, above_entry, into_saved_bp}
+use Rattle.dcc_prog.specs.Trail.{start, called, IsEntry}
+use Rattle.dcc_prog.specs.Height.{entered, gone_on, HasHeight, push, pop, move, keep, IsMisplaced, HasBadHeight, two_heights, too_far, above_entry, into_saved_bp}
 use Rattle.dcc_prog.specs.Frame.{direct, of_start, HasBadAccess, access_outside}
 use Rattle.dcc_prog.proofs.MzImageLaws.{vec_of}
 use Rattle.dcc_prog.proofs.Examples.{image_of, layout_of, first}

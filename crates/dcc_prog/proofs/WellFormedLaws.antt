@@ -18,7 +18,7 @@ use Rattle.dcc_prog.specs.declared.instr.Instr.{Instr}
 use Rattle.dcc_prog.specs.Machine.{operand_width}
 use Rattle.dcc_prog.specs.Bytes.{byte_at, word_at}
 use Rattle.dcc_prog.specs.Operands.{register, rm_operand, mod_field, reg_field, address, width_of}
-use Rattle.dcc_prog.specs.Table.{BytePattern, Row, Parts, in_range, fits_byte, fits, has_bytes, ConstantForm, no_constant, byte_constant, word_constant, signed_constant, constant_at, row_displacement_size, row_length, row_parts, row_instruction, table, instruction_at, any_modrm, rm, rm8, rm16, reg, segment, r8, r16, al, ax, accumulator, imm8, imm16, imm, direct, destination, source, this_byte, register_operand, constant_index, head_length, arithmetic_rows, unary_rows, stack_rows, move_rows, control_rows, plain_rows, later_rows, rows_besides, shift_of, any_operand, between}
+use Rattle.dcc_prog.specs.Table.{BytePattern, Row, Parts, in_range, fits_byte, fits, has_bytes, ConstantForm, no_constant, byte_constant, word_constant, signed_constant, constant_at, row_length, row_parts, row_instruction, table, instruction_at, any_modrm, rm, rm8, rm16, reg, segment, r8, r16, al, ax, accumulator, imm8, imm16, imm, direct, destination, source, this_byte, register_operand, constant_index, head_length, arithmetic_rows, unary_rows, stack_rows, move_rows, control_rows, plain_rows, later_rows, rows_besides, shift_of, any_operand, between}
 use Rattle.dcc_prog.specs.WellFormed.{IsOperand, AreOperands, IsWordOperand, AreFactors, MayCount, IsShift, IsOperation}
 use Rattle.dcc_prog.proofs.TableLaws.{and_left, and_right, instruction-row}
 

@@ -1,5 +1,11 @@
 //! Procedures, and what the prelude of a program sets up.
 
+ghost use Rattle.std.specs.Prelude.{◌≡◌};
+ghost use Rattle.dcc_prog.specs.declared.image.Image.{Image};
+ghost use Rattle.dcc_prog.specs.Trail.{instruction_in, IsNode};
+ghost use Rattle.dcc_prog.specs.FrameForm.{is_framed};
+ghost use Rattle.dcc_prog.specs.Found.{IsFound};
+
 use crate::cpu::Cpu;
 use crate::instr::Instr;
 use dcc_num::Flags;
@@ -25,6 +31,32 @@ pub struct Proc {
     pub entry: u16,
     /// Its instructions.
     pub nodes: IndexMap<u16, Node>,
+}
+
+impl Proc {
+    /// The instruction at an offset; none where it is no offset of the procedure.
+    pub fn instruction_at(&self, at: u16) -> Option<Instr>
+        ensures { (image : Image) (layout : Layout) → IsFound image layout self.now → IsNode image layout self.now.entry at → result ≡ instruction_in image layout at }
+    {
+        let node = self.nodes.get(&at)?;
+        Some(node.instr)
+    }
+
+    /// Whether the procedure is framed: its first instructions are `push bp` and `mov bp,sp`, or its first one is ENTER.
+    pub fn is_framed(&self) -> bool
+        ensures { (image : Image) (layout : Layout) → IsFound image layout self.now → result ≡ is_framed image layout self.now.entry }
+    {
+        let Some(first) = self.instruction_at(self.entry) else {
+            return false;
+        };
+        if !first.op.is_push_bp() {
+            return first.op.is_enter();
+        }
+        match self.instruction_at(first.next_of(self.entry)) {
+            Some(second) => second.op.is_mov_bp_sp(),
+            None => false,
+        }
+    }
 }
 
 /// What the prelude of a program sets up.
