@@ -1,31 +1,37 @@
-"""A program that prints what `find` answers; it is proved and built beside a copy of the crates."""
+"""A program that prints what `find` and `heights` answer; it is proved and built beside a copy of the crates."""
 import pathlib
 import shutil
 import subprocess
 import sys
 
 ROOT = pathlib.Path(__file__).resolve().parent.parent
-CRATES = ["dcc_run", "dcc_num", "dcc_prog", "dcc_mz", "dcc_decode", "dcc_layout", "dcc_procs"]
+CRATES = ["dcc_run", "dcc_num", "dcc_prog", "dcc_mz", "dcc_decode", "dcc_layout", "dcc_procs", "dcc_heights"]
 NAME = "procs_show"
-DEPENDENCIES = "dcc_num dcc_prog dcc_mz dcc_layout dcc_procs anyhow"
+DEPENDENCIES = "dcc_num dcc_prog dcc_mz dcc_layout dcc_procs dcc_heights indexmap anyhow"
 
-# Prints a line for each program: its nodes or their number, or why it is refused.
+# Prints a line for each program: its nodes with their heights or their number, or why it is refused.
 SHOW = """\
-//! Prints what `find` answers for each program of a folder.
+//! Prints what `find` and `heights` answer for each program of a folder.
 #![tactic(auto)]
 
 use anyhow::Error;
+use dcc_heights::heights;
 use dcc_layout::layout;
 use dcc_mz::load;
-use dcc_prog::{Cpu, Image, Proc, Refusal};
+use dcc_prog::{Cpu, Heights, Image, Proc, Refusal};
 use dcc_procs::find;
+use indexmap::IndexMap;
 use std::alloc::Global;
 use std::{env, fs};
 
-fn nodes_of(alloc: Global, line: &mut String, proc: &Proc) -> Result<(), Error> {
-    line.push_str(&format!(in alloc; " ={}", proc.entry)?)?;
-    for (at, node) in proc.nodes.iter() {
-        line.push_str(&format!(in alloc; " {at}+{}", node.instr.len)?)?;
+fn nodes_of(
+    alloc: Global,
+    line: &mut String,
+    proc: &Proc,
+    heights: &IndexMap<u16, u16>,
+) -> Result<(), Error> {
+    for ((at, node), (_, height)) in proc.nodes.iter().zip(heights.iter()) {
+        line.push_str(&format!(in alloc; " {at}+{}@{height}", node.instr.len)?)?;
         for to in node.succ.as_slice() {
             line.push_str(&format!(in alloc; ">{to}")?)?;
         }
@@ -36,25 +42,28 @@ fn nodes_of(alloc: Global, line: &mut String, proc: &Proc) -> Result<(), Error> 
     Ok(())
 }
 
-fn line_of(alloc: Global, answer: Result<Vec<Proc>, Refusal>, full: bool) -> Result<String, Error> {
-    let procs = match answer {
-        Ok(procs) => procs,
-        Err(Refusal::Construct { kind, at }) => {
-            return Ok(format!(in alloc; "construct {kind} {at}")?);
-        }
-        Err(Refusal::Limit { what, count }) => {
-            return Ok(format!(in alloc; "limit {what:?} {count}")?);
-        }
-        Err(Refusal::NotYet { at }) => return Ok(format!(in alloc; "notyet {at}")?),
-        Err(Refusal::Memory) => return Ok(format!(in alloc; "memory")?),
-    };
-    let mut line = format!(in alloc; "found {} procedures", procs.len())?;
-    if full {
-        line.clear();
-        line.push_str("found")?;
-        for proc in procs.iter() {
-            nodes_of(alloc, &mut line, proc)?;
-        }
+fn refusal_of(alloc: Global, refusal: Refusal) -> Result<String, Error> {
+    Ok(match refusal {
+        Refusal::Construct { kind, at } => format!(in alloc; "construct {kind} {at}")?,
+        Refusal::Limit { what, count } => format!(in alloc; "limit {what:?} {count}")?,
+        Refusal::NotYet { at } => format!(in alloc; "notyet {at}")?,
+        Refusal::Memory => format!(in alloc; "memory")?,
+    })
+}
+
+fn line_of(
+    alloc: Global,
+    procs: &Vec<Proc>,
+    heights: &Heights,
+    full: bool,
+) -> Result<String, Error> {
+    if !full {
+        return Ok(format!(in alloc; "found {} procedures", procs.len())?);
+    }
+    let mut line = format!(in alloc; "found")?;
+    for ((proc, ret), at) in procs.iter().zip(heights.ret.iter()).zip(heights.at.iter()) {
+        line.push_str(&format!(in alloc; " ={}-{ret}", proc.entry)?)?;
+        nodes_of(alloc, &mut line, proc, at)?;
     }
     Ok(line)
 }
@@ -66,7 +75,14 @@ fn answer_of(alloc: Global, bytes: &Vec<u8>, cpu: Cpu, full: bool) -> Result<Str
     let Ok(layout) = layout(alloc, &image, cpu) else {
         return Ok(format!(in alloc; "no layout")?);
     };
-    line_of(alloc, find(alloc, &image, &layout), full)
+    let procs = match find(alloc, &image, &layout) {
+        Ok(procs) => procs,
+        Err(refusal) => return refusal_of(alloc, refusal),
+    };
+    match heights(alloc, &procs) {
+        Ok(heights) => line_of(alloc, &procs, &heights, full),
+        Err(refusal) => Ok(format!(in alloc; "heights {}", refusal_of(alloc, refusal)?)?),
+    }
 }
 
 fn main(rt: HostRuntime) -> Result<(), Error> {

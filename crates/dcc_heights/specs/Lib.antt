@@ -1,0 +1,5 @@
+pub mod Heights
+pub mod Moves
+pub mod Form
+pub mod Search
+pub mod Removed

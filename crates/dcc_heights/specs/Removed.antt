@@ -1,0 +1,46 @@
+-- What RETs remove, as it is computed. This stands between the definitions and the code; no public contract rests on it.
+use Rattle.std.specs.Prelude.{◌≡◌, ◌≢◌, ◌⊎◌, ℕ, nat_eq, List, Contains, Some}
+use Rattle.std.specs.Map.{lookup}
+use Rattle.dcc_prog.specs.declared.procedure.Node.{Node}
+use Rattle.dcc_prog.specs.declared.procedure.Proc.{Proc}
+use Rattle.dcc_prog.specs.declared.instr.Op.TheVariants.{Ret}
+use Rattle.dcc_prog.specs.declared.refusal.construct.TheConstants.{HEIGHTS}
+use Rattle.dcc_prog.specs.declared.refusal.Refusal.{Refusal}
+use Rattle.dcc_prog.specs.declared.refusal.Refusal.TheVariants.{Construct, Memory}
+
+-- a RET that removes so many bytes stands at an offset among these nodes
+pub record HasRet (nodes : List (ℕ × Node)) (at bytes : ℕ) : Type 0 where
+  pub node : Node
+  pub among : Contains nodes (at, node)
+  pub is_ret : node.instr.op ≡ Ret bytes
+
+-- the nodes' RETs remove so many bytes, or there are none and the number is 0
+pub record IsSize (nodes : List (ℕ × Node)) (bytes : ℕ) : Type 0 where
+  pub same : (at other : ℕ) → HasRet nodes at other → other ≡ bytes
+  pub some : ((at : ℕ) × HasRet nodes at bytes) ⊎ (((at other : ℕ) → ¬ HasRet nodes at other) × (bytes ≡ 0))
+
+-- two of them remove different sizes
+pub data HasTwoSizes (nodes : List (ℕ × Node)) : Refusal → Type 0 where
+  two_sizes :
+      {at from bytes other : ℕ}
+      → HasRet nodes at bytes
+      → HasRet nodes from other
+      → bytes ≢ other
+      → HasTwoSizes nodes (Construct HEIGHTS at)
+
+-- each number is that of a procedure with the entry, and each procedure's entry has one
+pub record AreByEntry (procs : List Proc) (removed : List (ℕ × ℕ)) : Type 0 where
+  pub of_proc :
+      (entry bytes : ℕ)
+      → lookup (nat_eq entry) removed ≡ Some bytes
+      → (proc : Proc) × Contains procs proc × (proc.entry ≡ entry) × IsSize proc.nodes.entries bytes
+  pub every : (proc : Proc) → Contains procs proc → (bytes : ℕ) × (lookup (nat_eq proc.entry) removed ≡ Some bytes)
+
+-- two RETs of one of the procedures remove different sizes, or there is no memory
+pub data IsSizeFault (procs : List Proc) : Refusal → Type 0 where
+  of_proc :
+      {proc : Proc} {refusal : Refusal}
+      → Contains procs proc
+      → HasTwoSizes proc.nodes.entries refusal
+      → IsSizeFault procs refusal
+  no_memory : IsSizeFault procs Memory
