@@ -1,2 +1,4 @@
 pub mod Entries
 pub mod Searching
+pub mod Ordering
+pub mod Sizes

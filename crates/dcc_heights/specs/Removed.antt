@@ -1,5 +1,6 @@
 -- What RETs remove, as it is computed. This stands between the definitions and the code; no public contract rests on it.
-use Rattle.std.specs.Prelude.{◌≡◌, ◌≢◌, ◌⊎◌, ℕ, nat_eq, List, Contains, Some}
+use Rattle.std.specs.Prelude.{◌≡◌, ◌≢◌, ◌⊎◌, ℕ, nat_eq, List, Contains, Option, Some, None, is_some, true}
+use Rattle.std.specs.List.{AllZip}
 use Rattle.std.specs.Map.{lookup}
 use Rattle.dcc_prog.specs.declared.procedure.Node.{Node}
 use Rattle.dcc_prog.specs.declared.procedure.Proc.{Proc}
@@ -19,6 +20,12 @@ pub record IsSize (nodes : List (ℕ × Node)) (bytes : ℕ) : Type 0 where
   pub same : (at other : ℕ) → HasRet nodes at other → other ≡ bytes
   pub some : ((at : ℕ) × HasRet nodes at bytes) ⊎ (((at other : ℕ) → ¬ HasRet nodes at other) × (bytes ≡ 0))
 
+-- the RETs among these nodes remove so many bytes, if there are some
+abbrev pub IsSizeSoFar : List (ℕ × Node) → Option ℕ → Type 0
+IsSizeSoFar nodes None = (at other : ℕ) → ¬ HasRet nodes at other
+IsSizeSoFar nodes (Some bytes) =
+    ((at other : ℕ) → HasRet nodes at other → other ≡ bytes) × ((at : ℕ) × HasRet nodes at bytes)
+
 -- two of them remove different sizes
 pub data HasTwoSizes (nodes : List (ℕ × Node)) : Refusal → Type 0 where
   two_sizes :
@@ -34,7 +41,12 @@ pub record AreByEntry (procs : List Proc) (removed : List (ℕ × ℕ)) : Type 0
       (entry bytes : ℕ)
       → lookup (nat_eq entry) removed ≡ Some bytes
       → (proc : Proc) × Contains procs proc × (proc.entry ≡ entry) × IsSize proc.nodes.entries bytes
-  pub every : (proc : Proc) → Contains procs proc → (bytes : ℕ) × (lookup (nat_eq proc.entry) removed ≡ Some bytes)
+  pub every : (proc : Proc) → Contains procs proc → is_some (lookup (nat_eq proc.entry) removed) ≡ true
+
+-- the numbers of the procedures, in their order and by their entries
+pub record AreSizes (procs : List Proc) (in_order : List ℕ) (by_entry : List (ℕ × ℕ)) : Type 0 where
+  pub each : AllZip (λ proc bytes. IsSize proc.nodes.entries bytes) procs in_order
+  pub are_by_entry : AreByEntry procs by_entry
 
 -- two RETs of one of the procedures remove different sizes, or there is no memory
 pub data IsSizeFault (procs : List Proc) : Refusal → Type 0 where

@@ -1,55 +1,56 @@
 //! What the RETs of procedures remove.
 
 ghost use Rattle.std.specs.Prelude.{IfOk, IfErr};
-ghost use Rattle.std.specs.List.{AllZip};
-ghost use Rattle.dcc_heights.specs.Removed.{IsSize, HasTwoSizes, AreByEntry, IsSizeFault};
+ghost use Rattle.dcc_heights.specs.Removed.{IsSize, HasTwoSizes, AreSizes, IsSizeFault};
 
 use dcc_prog::construct::HEIGHTS;
 use dcc_prog::{Op, Proc, Refusal};
 use indexmap::IndexMap;
-use std::alloc::{AllocError, Global};
+use std::alloc::Global;
 
-// How many bytes the RETs of a procedure remove: 0 where it has none.
-fn removed_by(proc: &Proc) -> Result<u16, Refusal>
+/// How many bytes the RETs of each procedure remove: 0 where it has none.
+#[derive(Drop)]
+pub struct Sizes {
+    /// In the order of the procedures.
+    pub in_order: Vec<u16>,
+    /// By their entries.
+    pub by_entry: IndexMap<u16, u16>,
+}
+
+// How many bytes the RETs of a procedure remove.
+fn size_of(proc: &Proc) -> Result<u16, Refusal>
     ensures size { IfOk result (IsSize proc.now.nodes.entries) }
     ensures refused { IfErr result (HasTwoSizes proc.now.nodes.entries) }
 {
-    let mut removed = None;
+    let mut size = None;
     for (at, node) in proc.nodes.iter() {
         let Op::Ret(bytes) = node.instr.op else {
             continue;
         };
-        if removed.is_some_and(|known| known != bytes) {
-            return Err(Refusal::Construct {
-                kind: HEIGHTS,
-                at: *at,
-            });
+        match size {
+            Some(known) if known != bytes => {
+                return Err(Refusal::Construct {
+                    kind: HEIGHTS,
+                    at: *at,
+                });
+            }
+            _ => size = Some(bytes),
         }
-        removed = Some(bytes);
     }
-    Ok(removed.unwrap_or(0))
+    Ok(size.unwrap_or(0))
 }
 
-/// How many bytes the RETs of each procedure remove.
-pub fn removed(alloc: Global, procs: &[Proc]) -> Result<Vec<u16>, Refusal>
-    ensures sizes { IfOk result (λ ret. AllZip (λ proc bytes. IsSize proc.nodes.entries bytes) procs.now ret.items) }
+/// How many bytes the RETs of each procedure remove; refused where two of a procedure remove different sizes.
+pub fn sizes_of(alloc: Global, procs: &[Proc]) -> Result<Sizes, Refusal>
+    ensures sizes { IfOk result (λ sizes. AreSizes procs.now sizes.in_order.items sizes.by_entry.entries) }
     ensures refused { IfErr result (IsSizeFault procs.now) }
 {
-    let mut ret = Vec::new(alloc);
+    let mut in_order = Vec::new(alloc);
+    let mut by_entry = IndexMap::new(alloc);
     for proc in procs {
-        ret.push(removed_by(proc)?)?;
+        let size = size_of(proc)?;
+        in_order.push(size)?;
+        by_entry.insert(proc.entry, size)?;
     }
-    Ok(ret)
-}
-
-/// The same by the entries of the procedures.
-pub fn by_entry(alloc: Global, procs: &[Proc], ret: &[u16]) -> Result<IndexMap<u16, u16>, AllocError>
-    requires { AllZip (λ proc bytes. IsSize proc.nodes.entries bytes) procs.now ret.now }
-    ensures { IfOk result (λ removed. AreByEntry procs.now removed.entries) }
-{
-    let mut removed = IndexMap::new(alloc);
-    for (proc, bytes) in procs.iter().zip(ret) {
-        removed.insert(proc.entry, *bytes)?;
-    }
-    Ok(removed)
+    Ok(Sizes { in_order, by_entry })
 }

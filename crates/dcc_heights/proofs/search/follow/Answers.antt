@@ -1,8 +1,8 @@
 use Rattle.std.proofs.Common.{◌≡◌, ◌∷◌, [], ◌++◌, Some, Contains, take, get_or, ℕ, sym, ap, ◌∙◌, subst, rules}
-use Rattle.std.proofs.lemmas.List.{take_more}
+use Rattle.std.proofs.lemmas.List.{take_more, take_all}
 use Rattle.std.proofs.lemmas.List.Elements.{Contains-get_or}
 use Rattle.dcc_heights.specs.Search.{scene_of, node_in, IsReachedAt, gone_on, of_step, IsGoing}
-use Rattle.dcc_heights.proofs.Searching.{going-none, going-more, arrival-fault}
+use Rattle.dcc_heights.proofs.Searching.{going-none, going-more, arrival-fault, followed}
 use Rattle.dcc_heights.proofs.search.follow.Goals as goal
 
 pub loop-to-init : goal.loop-to-init
@@ -37,7 +37,33 @@ returns-in_err-after-clause-refused c =
     search rules
 
 pub returns-in_err-arrive-clause-refused : goal.returns-in_err-arrive-clause-refused
-returns-in_err-arrive-clause-refused c = ?
+returns-in_err-arrive-clause-refused c =
+    let scene = scene_of c.args.proc.now c.args.framed c.args.removed.now.entries in
+    let items = c.as_slice-to-items.result.now in
+    let place = c.loop-to.to-index in
+    let to : ℕ = get_or items place 0 in
+    let at = c.in-Some.at.now in
+    let height = c.in-Some.height.now in
+    let node = c.in-Some-get.node.now in
+    let after = c.in_ok-after.after in
+    let is : node_in scene at ≡ Some node = sym c.in-Some-get.ensures.value in
+    let among : Contains node.succ.items to =
+    subst (λ l. Contains l to) c.as_slice-to-items.ensures (Contains-get_or items place 0 c.loop-to-test.true) in
+    let reached : IsReachedAt scene to after =
+    gone_on (c.requires.reached at height c.in-Some.ensures.value) is c.in_ok-after.ensures.step among in
+    let named =
+    arrival-fault scene c.args.heights.now.entries after c.loop-to.heights.entries (take place items) to c.loop-to.invariant c.in_err-arrive.field-0.0 reached c.in_err-arrive.ensures.refused in
+    search rules
 
 pub returns-clause-followed : goal.returns-clause-followed
-returns-clause-followed c = ?
+returns-clause-followed c =
+    let scene = scene_of c.args.proc.now c.args.framed c.args.removed.now.entries in
+    let items = c.as_slice-to-items.result.now in
+    let at = c.in-Some.at.now in
+    let height = c.in-Some.height.now in
+    let node = c.in-Some-get.node.now in
+    let after = c.in_ok-after.after in
+    let is : node_in scene at ≡ Some node = sym c.in-Some-get.ensures.value in
+    let all = take_all c.loop-to.to-index items c.loop-to-test.false ∙ c.as_slice-to-items.ensures in
+    followed scene c.args.heights.now.entries after c.loop-to.heights.entries c.args.place at height node (sym c.in-Some.ensures.entry) is c.in_ok-after.ensures.step
+    (subst (IsGoing scene c.args.heights.now.entries c.loop-to.heights.entries after) all c.loop-to.invariant)
