@@ -8,7 +8,7 @@ use Rattle.dcc_prog.specs.declared.instr.Alu.TheVariants.{Add, Sub}
 use Rattle.dcc_prog.specs.declared.instr.Unary.TheVariants.{Inc, Dec}
 use Rattle.dcc_prog.specs.declared.instr.Ea.{Ea}
 use Rattle.dcc_prog.specs.declared.instr.Operand.{Operand}
-use Rattle.dcc_prog.specs.declared.instr.Operand.TheVariants.{Word, Mem, Const}
+use Rattle.dcc_prog.specs.declared.instr.Operand.TheVariants.{Word, Byte, Mem, Const}
 use Rattle.dcc_prog.specs.declared.instr.Op.{Op}
 use Rattle.dcc_prog.specs.declared.instr.Op.TheVariants.{Alu as AluOp, Unary as UnaryOp, Shift as ShiftOp, Mov, Xchg, Lea, Imul3, Push, Pop, Enter, Leave}
 use Rattle.dcc_prog.specs.declared.instr.Instr.{Instr}
@@ -65,10 +65,12 @@ is_framed image layout entry =
 
 -- Uses of SP and BP.
 
--- the operand is SP or BP
+-- the operand is SP or BP; no byte register is a half of these, and one that was would count as they do
 abbrev pub is_sp_or_bp : Operand → Bool
 is_sp_or_bp (Word Sp) = true
 is_sp_or_bp (Word Bp) = true
+is_sp_or_bp (Byte Sp half) = true
+is_sp_or_bp (Byte Bp half) = true
 is_sp_or_bp operand = false
 
 -- the address uses BP

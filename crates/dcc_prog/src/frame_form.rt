@@ -25,11 +25,14 @@ impl Ea {
 }
 
 impl Operand {
-    /// Whether the operand is SP or BP.
+    /// Whether the operand is SP or BP. A half of these, which no byte register is, would count as they do.
     pub fn is_sp_or_bp(self) -> bool
         ensures { result ≡ is_sp_or_bp self }
     {
-        matches!(self, Operand::Word(Reg::Sp | Reg::Bp))
+        matches!(
+            self,
+            Operand::Word(Reg::Sp | Reg::Bp) | Operand::Byte(Reg::Sp | Reg::Bp, _)
+        )
     }
 
     /// Whether the operand is in memory, and its address uses BP.

@@ -1,0 +1,343 @@
+-- What operations do to the height: as it is computed, so it is defined.
+use Rattle.std.proofs.Common.{◌≡◌, ◌≢◌, ◌⊎◌, inl, inr, ℕ, ◌<◌, ◌≤◌, ◌==◌, Bool, true, false, true≢false, not, ◌&&◌, ◌||◌, ℤ, pos, ◌+ℤ◌, ◌-ℤ◌, ◌≤ℤ◌, ◌<ℤ◌, Option, Some, None, unwrap_or, refl, sym, ap, ◌∙◌, subst, arith}
+use Rattle.std.proofs.lemmas.Bool.Decides.{nat_tests}
+use Rattle.std.proofs.lemmas.Int.{ints}
+use Rattle.dcc_num.specs.declared.Width.{Width}
+use Rattle.dcc_num.specs.declared.Width.TheVariants.{Byte as byte_width, Word as word_width}
+use Rattle.dcc_num.specs.declared.Reg.{Reg}
+use Rattle.dcc_num.specs.declared.Reg.TheVariants.{Sp, Bp}
+use Rattle.dcc_num.specs.declared.Half.TheVariants.{Low}
+use Rattle.dcc_num.specs.Numbers.{signed_of}
+use Rattle.dcc_prog.specs.declared.image.Image.{Image}
+use Rattle.dcc_prog.specs.declared.procedure.Layout.{Layout}
+use Rattle.dcc_prog.specs.declared.instr.Ea.{Ea}
+use Rattle.dcc_prog.specs.declared.instr.Alu.TheVariants.{Add, Sub}
+use Rattle.dcc_prog.specs.declared.instr.Unary.{Unary}
+use Rattle.dcc_prog.specs.declared.instr.Unary.TheVariants.{Inc, Dec, Mul, Imul, Div, Idiv}
+use Rattle.dcc_prog.specs.declared.instr.Plain.{Plain}
+use Rattle.dcc_prog.specs.declared.instr.Plain.TheVariants.{Cbw, Cwd, Xlat}
+use Rattle.dcc_prog.specs.declared.instr.Operand.{Operand}
+use Rattle.dcc_prog.specs.declared.instr.Operand.TheVariants.{Word, Byte, Const}
+use Rattle.dcc_prog.specs.declared.instr.Op.{Op}
+use Rattle.dcc_prog.specs.declared.instr.Op.TheVariants.{Alu as AluOp, Unary as UnaryOp, Shift as ShiftOp, Mov, Xchg, Lea, Imul3, Push, Pop, Enter, Leave, Plain as PlainOp, Call, Ret}
+use Rattle.dcc_prog.specs.Writes.{is_same_register, is_half_of, writes_operand, is_in_pair, unary_writes_half, plain_writes_half, writes_half}
+use Rattle.dcc_prog.specs.Machine.{operand_width}
+use Rattle.dcc_prog.specs.Trail.{instruction_in, is_general}
+use Rattle.dcc_prog.specs.FrameForm.{is_push_bp, is_mov_bp_sp, is_enter, begins_by_push, second_of, is_framed, is_sp_or_bp, names_sp_or_bp, uses_bp_address, is_sp_move, is_at_most_zero, is_at_or_below_bp, leaves_frame, copies_bp, makes_frame, is_frame_form}
+use Rattle.dcc_prog.specs.Height.{lowering_of, height_set_by, is_raise, IsRemoved, MovesHeight, push, pop, call, move, set, keep}
+use Rattle.dcc_heights.specs.Moves.{moved_by, height_after, IsLeaWord}
+
+-- Tests.
+
+pub or-true : (a b : Bool) → (a || b) ≡ true → (a ≡ true) ⊎ (b ≡ true)
+or-true true b e = inl refl
+or-true false b e = inr e
+
+pub and-left : (a b : Bool) → (a && b) ≡ true → a ≡ true
+and-left true b e = refl
+and-left false b e = e
+
+pub and-right : (a b : Bool) → (a && b) ≡ true → b ≡ true
+and-right true b e = e
+and-right false b e = absurd (true≢false (sym e))
+
+pub not-true : (a : Bool) → not a ≡ true → a ≡ false
+not-true true e = absurd (true≢false (sym e))
+not-true false e = refl
+
+or-false-left : (a b : Bool) → (a || b) ≡ false → a ≡ false
+or-false-left true b e = e
+or-false-left false b e = refl
+
+or-false-right : (a b : Bool) → (a || b) ≡ false → b ≡ false
+or-false-right true b e = absurd (true≢false e)
+or-false-right false b e = e
+
+and-false : (a b : Bool) → b ≡ false → (a && b) ≡ false
+and-false true b e = e
+and-false false b e = refl
+
+-- The forms in which SP and BP may be used.
+
+pub data FormCase (op : Op) : Type 0 where
+  moves : is_sp_move op ≡ true → FormCase op
+  unnamed : names_sp_or_bp op ≡ false → FormCase op
+  leaves : leaves_frame op ≡ true → FormCase op
+  copies : copies_bp op ≡ true → FormCase op
+  pushes : is_push_bp op ≡ true → FormCase op
+  takes : is_mov_bp_sp op ≡ true → FormCase op
+  enters : is_enter op ≡ true → FormCase op
+
+one-made :
+    (begins first here second there enter : Bool)
+    → ((begins && ((first && here) || (second && there))) || (enter && here)) ≡ true
+    → (first ≡ true) ⊎ ((second ≡ true) ⊎ (enter ≡ true))
+one-made begins true here second there enter e = inl refl
+one-made begins false here true there enter e = inr (inl refl)
+one-made begins false here false there true e = inr (inr refl)
+one-made true false here false there false e = absurd (true≢false (sym e))
+one-made false false here false there false e = absurd (true≢false (sym e))
+
+one-form :
+    (moved named uses framed left copied made : Bool)
+    → (moved || (not named && not uses) || (framed && (left || copied || made || (not named && uses)))) ≡ true
+    → (moved ≡ true) ⊎ ((named ≡ false) ⊎ ((left ≡ true) ⊎ ((copied ≡ true) ⊎ (made ≡ true))))
+one-form true named uses framed left copied made e = inl refl
+one-form false false uses framed left copied made e = inr (inl refl)
+one-form false true uses framed true copied made e = inr (inr (inl refl))
+one-form false true uses framed false true made e = inr (inr (inr (inl refl)))
+one-form false true uses framed false false true e = inr (inr (inr (inr refl)))
+one-form false true uses true false false false e = absurd (true≢false (sym e))
+one-form false true uses false false false false e = absurd (true≢false (sym e))
+
+module _ (image : Image) (layout : Layout) (entry at : ℕ) (op : Op) where
+  makes-case : makes_frame image layout entry at op ≡ true → FormCase op
+  makes-case e =
+      elim (one-made (begins_by_push image layout entry) (is_push_bp op) (at == entry) (is_mov_bp_sp op)
+      (at == second_of entry (instruction_in image layout entry)) (is_enter op) e) [
+        | inl first ↦ pushes first
+        | inr rest ↦ elim rest [ inl second ↦ takes second | inr enter ↦ enters enter ]
+      ]
+
+  pub form-case : is_frame_form image layout entry at op ≡ true → FormCase op
+  form-case e =
+      elim (one-form (is_sp_move op) (names_sp_or_bp op) (uses_bp_address op) (is_framed image layout entry)
+      (leaves_frame op) (copies_bp op) (makes_frame image layout entry at op) e) [
+        | inl moved ↦ moves moved
+        | inr rest ↦ elim rest [
+          | inl plain ↦ unnamed plain
+          | inr rest ↦ elim rest [
+            | inl left ↦ leaves left
+            | inr rest ↦ elim rest [ inl copied ↦ copies copied | inr made ↦ makes-case made ]
+          ]
+        ]
+      ]
+
+-- Operations that leave SP.
+
+-- PUSH, POP, CALL or RET
+abbrev pub is_stack_op : Op → Bool
+is_stack_op (Push a) = true
+is_stack_op (Pop a) = true
+is_stack_op (Call target) = true
+is_stack_op (Ret count) = true
+is_stack_op op = false
+
+operand-still : (a : Operand) → is_sp_or_bp a ≡ false → is_half_of Sp Low a ≡ false
+operand-still (Word Sp) e = absurd (true≢false e)
+operand-still (Byte Sp half) e = absurd (true≢false e)
+operand-still a e = refl
+
+pair-still : (w : Width) → is_in_pair w Sp ≡ false
+pair-still byte_width = refl
+pair-still word_width = refl
+
+unary-still : (operation : Unary) (a : Operand) → is_sp_or_bp a ≡ false → unary_writes_half operation a Sp Low ≡ false
+unary-still Mul a e = pair-still (operand_width a)
+unary-still Imul a e = pair-still (operand_width a)
+unary-still Div a e = pair-still (operand_width a)
+unary-still Idiv a e = pair-still (operand_width a)
+unary-still operation a e = operand-still a e
+
+plain-still : (operation : Plain) → plain_writes_half operation Sp Low ≡ false
+plain-still Cbw = refl
+plain-still Cwd = refl
+plain-still Xlat = refl
+plain-still operation = refl
+
+unnamed-still : (op : Op) → names_sp_or_bp op ≡ false → is_stack_op op ≡ false → writes_half op Sp Low ≡ false
+unnamed-still (AluOp operation a b) e s =
+    and-false (writes_operand operation) (is_half_of Sp Low a) (operand-still a (or-false-left _ (is_sp_or_bp b) e))
+unnamed-still (UnaryOp operation a) e s = unary-still operation a e
+unnamed-still (ShiftOp operation a count) e s = operand-still a e
+unnamed-still (Mov to from) e s = operand-still to (or-false-left (is_sp_or_bp to) (is_sp_or_bp from) e)
+unnamed-still (Xchg a b) e s =
+    ap (λ x. x || is_half_of Sp Low b) (operand-still a (or-false-left (is_sp_or_bp a) (is_sp_or_bp b) e))
+    ∙ operand-still b (or-false-right (is_sp_or_bp a) (is_sp_or_bp b) e)
+unnamed-still (Lea to ea) e s = operand-still (Word to) e
+unnamed-still (Imul3 to a constant) e s = operand-still (Word to) (or-false-left (is_sp_or_bp (Word to)) (is_sp_or_bp a) e)
+unnamed-still (Push a) e s = absurd (true≢false s)
+unnamed-still (Pop a) e s = absurd (true≢false s)
+unnamed-still (Call target) e s = absurd (true≢false s)
+unnamed-still (Ret count) e s = absurd (true≢false s)
+unnamed-still (Enter count) e s = absurd (true≢false e)
+unnamed-still Leave e s = absurd (true≢false e)
+unnamed-still (PlainOp operation) e s = plain-still operation
+unnamed-still op e s = refl
+
+general-still : (r : Reg) → is_general r ≡ true → is_same_register Sp r ≡ false
+general-still Sp e = absurd (true≢false (sym e))
+general-still r e = refl
+
+copied-still : (op : Op) → copies_bp op ≡ true → writes_half op Sp Low ≡ false
+copied-still (Mov (Word r) (Word Bp)) e = general-still r e
+copied-still op e = absurd (true≢false (sym e))
+
+taken-still : (op : Op) → is_mov_bp_sp op ≡ true → writes_half op Sp Low ≡ false
+taken-still (Mov (Word Bp) (Word Sp)) e = refl
+taken-still op e = absurd (true≢false (sym e))
+
+-- Operations that set or move it.
+
+move-lowers : (op : Op) → is_sp_move op ≡ true → lowering_of op ≡ None → ⊥
+move-lowers (AluOp Add (Word Sp) (Const width constant)) m none = let clash = none in cc
+move-lowers (AluOp Sub (Word Sp) (Const width constant)) m none = let clash = none in cc
+move-lowers (UnaryOp Inc (Word Sp)) m none = let clash = none in cc
+move-lowers (UnaryOp Dec (Word Sp)) m none = let clash = none in cc
+move-lowers op m none = absurd (true≢false (sym m))
+
+leaves-sets : (op : Op) → leaves_frame op ≡ true → is_stack_op op ≡ false → height_set_by op ≡ None → ⊥
+leaves-sets (Mov (Word Sp) (Word Bp)) e s none = let clash = none in cc
+leaves-sets (Lea Sp ea) e s none = let clash = none in cc
+leaves-sets (Pop (Word Bp)) e s none = absurd (true≢false s)
+leaves-sets Leave e s none = let clash = none in cc
+leaves-sets op e s none = absurd (true≢false (sym e))
+
+enters-sets : (op : Op) → is_enter op ≡ true → height_set_by op ≡ None → ⊥
+enters-sets (Enter count) e none = let clash = none in cc
+enters-sets op e none = absurd (true≢false (sym e))
+
+pushes-stack : (op : Op) → is_push_bp op ≡ true → is_stack_op op ≡ true
+pushes-stack (Push a) e = refl
+pushes-stack op e = absurd (true≢false (sym e))
+
+-- a form that neither moves SP nor sets it leaves it as it is
+still :
+    (op : Op) → FormCase op → is_stack_op op ≡ false → lowering_of op ≡ None → height_set_by op ≡ None
+    → writes_half op Sp Low ≡ false
+still op (moves m) s low none = absurd (move-lowers op m low)
+still op (unnamed e) s low none = unnamed-still op e s
+still op (leaves e) s low none = absurd (leaves-sets op e s none)
+still op (copies e) s low none = copied-still op e
+still op (pushes e) s low none = absurd (true≢false (sym (pushes-stack op e) ∙ s))
+still op (takes e) s low none = taken-still op e
+still op (enters e) s low none = absurd (enters-sets op e none)
+
+still-lowering : (op : Op) → writes_half op Sp Low ≡ false → lowering_of op ≡ None
+still-lowering (AluOp Add (Word Sp) (Const width constant)) e = absurd (true≢false e)
+still-lowering (AluOp Sub (Word Sp) (Const width constant)) e = absurd (true≢false e)
+still-lowering (UnaryOp Inc (Word Sp)) e = absurd (true≢false e)
+still-lowering (UnaryOp Dec (Word Sp)) e = absurd (true≢false e)
+still-lowering op e = refl
+
+still-set : (op : Op) → writes_half op Sp Low ≡ false → height_set_by op ≡ None
+still-set (Mov (Word Sp) (Word Bp)) e = absurd (true≢false e)
+still-set (Lea Sp ea) e = absurd (true≢false e)
+still-set (Enter count) e = absurd (true≢false e)
+still-set Leave e = absurd (true≢false e)
+still-set op e = refl
+
+-- The height after an operation.
+
+module _ (removed : ℕ → ℕ) (height : ℤ) where
+  moved-after :
+      (op : Op) (bytes : ℤ) → lowering_of op ≡ Some bytes → height_after removed op height ≡ height +ℤ bytes
+  moved-after (Push a) bytes e = let clash = e in cc
+  moved-after (Pop a) bytes e = let clash = e in cc
+  moved-after (Call target) bytes e = let clash = e in cc
+  moved-after op bytes e = ap (λ low. moved_by low (height_set_by op) height) e
+
+  set-after : (op : Op) (after : ℤ) → height_set_by op ≡ Some after → height_after removed op height ≡ after
+  set-after (Push a) after e = let clash = e in cc
+  set-after (Pop a) after e = let clash = e in cc
+  set-after (Call target) after e = let clash = e in cc
+  set-after (AluOp operation a b) after e = let clash = e in cc
+  set-after (UnaryOp operation a) after e = let clash = e in cc
+  set-after op after e = ap (λ s. unwrap_or s height) e
+
+  kept-after : (op : Op) → writes_half op Sp Low ≡ false → height_after removed op height ≡ height
+  kept-after (Push a) e = absurd (true≢false e)
+  kept-after (Pop a) e = absurd (true≢false e)
+  kept-after (Call target) e = absurd (true≢false e)
+  kept-after op e =
+      ap (λ low. moved_by low (height_set_by op) height) (still-lowering op e)
+      ∙ ap (λ s. unwrap_or s height) (still-set op e)
+
+module _ (image : Image) (layout : Layout) (removed : ℕ → ℕ) (entry at : ℕ) where
+  -- an operation in a form that is allowed, but a RET, leads to the height that is computed
+  other-moves :
+      (op : Op) (height : ℤ) (low set_to : Option ℤ) → lowering_of op ≡ low → height_set_by op ≡ set_to
+      → is_frame_form image layout entry at op ≡ true → is_stack_op op ≡ false
+      → MovesHeight image layout entry at op height (moved_by low set_to height)
+  other-moves op height (Some bytes) set_to low_is set_is form s = move low_is
+  other-moves op height None (Some after) low_is set_is form s = set form set_is
+  other-moves op height None None low_is set_is form s =
+      keep (still op (form-case image layout entry at op form) s low_is set_is)
+
+  pub moves-so :
+      (op : Op) (height : ℤ) → is_frame_form image layout entry at op ≡ true → ((count : ℕ) → op ≢ Ret count)
+      → ((target : ℕ) → op ≡ Call target → IsRemoved image layout target (removed target))
+      → MovesHeight image layout entry at op height (height_after removed op height)
+  moves-so (Push a) height form no_ret calls = push
+  moves-so (Pop a) height form no_ret calls = pop
+  moves-so (Call target) height form no_ret calls = call (calls target refl)
+  moves-so (Ret count) height form no_ret calls = absurd (no_ret count refl)
+  moves-so op height form no_ret calls =
+      other-moves op height (lowering_of op) (height_set_by op) refl refl form refl
+
+  -- and no operation leads to another one
+  pub moves-once :
+      (op : Op) (height after : ℤ) → MovesHeight image layout entry at op height after
+      → ((target count : ℕ) → op ≡ Call target → IsRemoved image layout target count → count ≡ removed target)
+      → after ≡ height_after removed op height
+  moves-once _ height _ push calls = refl
+  moves-once _ height _ pop calls = refl
+  moves-once _ height _ (call {target} {count} is) calls =
+      ap (λ n. height -ℤ pos n) (calls target count refl is)
+  moves-once op height _ (move {bytes = bytes} e) calls = sym (moved-after removed height op bytes e)
+  moves-once op height after (set form e) calls = sym (set-after removed height op after e)
+  moves-once op height _ (keep e) calls = sym (kept-after removed height op e)
+
+-- Heights below 0.
+
+lowering-raises : (op : Op) (bytes : ℤ) → lowering_of op ≡ Some bytes → is_raise op ≡ true
+lowering-raises (AluOp Add (Word Sp) (Const width constant)) bytes e = refl
+lowering-raises (AluOp Sub (Word Sp) (Const width constant)) bytes e = refl
+lowering-raises (UnaryOp Inc (Word Sp)) bytes e = refl
+lowering-raises (UnaryOp Dec (Word Sp)) bytes e = refl
+lowering-raises op bytes e = let clash = e in cc
+
+signed-low : (word : ℕ) → word < 65536 → is_at_most_zero word ≡ true → signed_of word_width word ≤ℤ pos 0
+unfolding signed_of
+signed-low word small e = grind (arith, ints, nat_tests)
+
+lea-case : (ea : Ea) → FormCase (Lea Sp ea) → is_at_or_below_bp ea ≡ true
+lea-case ea (moves e) = absurd (true≢false (sym e))
+lea-case ea (unnamed e) = absurd (true≢false e)
+lea-case ea (leaves e) = e
+lea-case ea (copies e) = absurd (true≢false (sym e))
+lea-case ea (pushes e) = absurd (true≢false (sym e))
+lea-case ea (takes e) = absurd (true≢false (sym e))
+lea-case ea (enters e) = absurd (true≢false (sym e))
+
+some-above : (x after : ℤ) → pos 0 ≤ℤ x → Some x ≡ Some after → pos 0 ≤ℤ after
+some-above x after above e = let same : x ≡ after = cc in subst (λ z. pos 0 ≤ℤ z) same above
+
+set-above : (op : Op) (after : ℤ) → FormCase op → IsLeaWord op → height_set_by op ≡ Some after → pos 0 ≤ℤ after
+set-above (Mov (Word Sp) (Word Bp)) after form word e = some-above (pos 2) after (omega (arith, ints)) e
+set-above (Lea Sp ea) after form word e =
+    let low = signed-low ea.disp word (and-right _ (is_at_most_zero ea.disp) (lea-case ea form)) in
+    some-above (pos 2 -ℤ signed_of word_width ea.disp) after (omega (arith, ints, low)) e
+set-above (Enter count) after form word e = some-above (pos 2 +ℤ pos count) after (omega (arith, ints)) e
+set-above Leave after form word e = some-above (pos 0) after (omega (arith, ints)) e
+set-above op after form word e = let clash = e in cc
+
+low-by :
+    (op : Op) (height : ℕ) (low set_to : Option ℤ) → FormCase op → IsLeaWord op → lowering_of op ≡ low
+    → height_set_by op ≡ set_to → moved_by low set_to (pos height) <ℤ pos 0
+    → is_raise op ≡ true
+low-by op height (Some bytes) set_to form word low_is set_is below = lowering-raises op bytes low_is
+low-by op height None (Some after) form word low_is set_is below =
+    let above = set-above op after form word set_is in absurd (omega (arith, ints, above, below))
+low-by op height None None form word low_is set_is below = absurd (omega (arith, ints, below))
+
+-- it is a raise that takes SP above the entry
+pub low-raises :
+    (removed : ℕ → ℕ) (op : Op) (height : ℕ) → FormCase op → IsLeaWord op
+    → height_after removed op (pos height) <ℤ pos 0
+    → is_raise op ≡ true
+low-raises removed (Push a) height form word below = absurd (omega (arith, ints, below))
+low-raises removed (Pop a) height form word below = refl
+low-raises removed (Call target) height form word below = refl
+low-raises removed op height form word below =
+    low-by op height (lowering_of op) (height_set_by op) form word refl refl below
