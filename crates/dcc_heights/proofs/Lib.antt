@@ -4,3 +4,4 @@ pub mod Ordering
 pub mod Sizes
 pub mod Moving
 pub mod Removing
+pub mod Giving
