@@ -1,5 +1,5 @@
 -- The heights that are found are those that trails give.
-use Rattle.std.proofs.Common.{◌≡◌, ◌≢◌, ◌⊎◌, inl, inr, ℕ, zero, suc, ◌+◌, ◌≤◌, ◌<◌, nat_eq, Bool, true, false, true≢false, not, ◌==◌, ◌&&◌, ◌||◌, ℤ, pos, ◌<ℤ◌, List, [], ◌∷◌, length, get_or, All, Contains, Option, Some, None, is_some, refl, sym, ap, ◌∙◌, subst, arith}
+use Rattle.std.proofs.Common.{◌≡◌, ◌≢◌, ℕ, ◌≤◌, Bool, true, false, true≢false, not, ◌==◌, ◌&&◌, ◌||◌, ℤ, pos, List, [], ◌∷◌, Contains, Option, Some, None, is_some, refl, sym, ap, ◌∙◌, subst, arith}
 use Rattle.std.proofs.lemmas.List.Elements.{All-contains}
 use Rattle.std.proofs.lemmas.Int.{ints}
 use Rattle.std.proofs.lemmas.Bool.Decides.{nat_tests}
@@ -8,22 +8,21 @@ use Rattle.dcc_prog.specs.declared.image.Image.{Image}
 use Rattle.dcc_prog.specs.declared.procedure.Layout.{Layout}
 use Rattle.dcc_prog.specs.declared.procedure.Node.{Node}
 use Rattle.dcc_prog.specs.declared.procedure.Proc.{Proc}
-use Rattle.dcc_prog.specs.declared.instr.Instr.{Instr}
 use Rattle.dcc_prog.specs.declared.instr.Op.{Op}
 use Rattle.dcc_prog.specs.declared.instr.Op.TheVariants.{Call, Ret}
 use Rattle.dcc_prog.specs.declared.refusal.construct.TheConstants.{OUTSIDE}
-use Rattle.dcc_prog.specs.Trail.{instruction_in, next_of, known_ah, targets_of, op_successors, instr_successors, successors, StandsAt, IsTrail, IsNode, IsEntry, called}
-use Rattle.dcc_prog.specs.FrameForm.{is_framed, is_frame_form}
-use Rattle.dcc_prog.specs.Height.{IsRemoved, MovesHeight, GivesHeight, entered, gone_on, HasHeight}
+use Rattle.dcc_prog.specs.Trail.{next_of, known_ah, targets_of, op_successors, instr_successors, successors, StandsAt, IsTrail, IsNode, IsEntry, called}
+use Rattle.dcc_prog.specs.FrameForm.{is_frame_form}
+use Rattle.dcc_prog.specs.Height.{MovesHeight, GivesHeight, entered, gone_on, HasHeight}
 use Rattle.dcc_prog.specs.Construct.{is_system, foreign}
 use Rattle.dcc_prog.specs.Found.{IsNodeFound, IsFound, AreFound}
 use Rattle.dcc_prog.proofs.FoundNodes.{found-by, node-listed}
 use Rattle.dcc_heights.specs.Moves.{removed_in, height_after}
-use Rattle.dcc_heights.specs.Form.{is_ret, is_bad, is_too_far}
+use Rattle.dcc_heights.specs.Form.{is_ret, is_too_far}
 use Rattle.dcc_heights.specs.Removed.{AreByEntry}
 use Rattle.dcc_heights.specs.Search.{Scene, scene_of, node_in, height_in, after_in, IsStep, IsReachedAt, IsClosedAt, AreAllHeights}
 use Rattle.dcc_heights.specs.Search as search
-use Rattle.dcc_heights.proofs.Moving.{moves-so, moves-once, or-false-left, or-false-right}
+use Rattle.dcc_heights.proofs.Moving.{moves-so, moves-once, or-false-right}
 use Rattle.dcc_heights.proofs.Removing.{one-op, call-removes, call-removes-only}
 
 or-true-right : (a : Bool) → (a || true) ≡ true
@@ -136,7 +135,7 @@ module _ (image : Image) (layout : Layout) (procs : List Proc) (found : AreFound
       }
 
   -- a height after an operation is none too great
-  step-small :
+  pub step-small :
       (at : ℕ) (op : Op) (height after : ℕ) → IsStep scene at op height after → after ≤ 32766
   step-small at op height after step =
       let great =

@@ -5,3 +5,6 @@ pub mod Sizes
 pub mod Moving
 pub mod Removing
 pub mod Giving
+pub mod Fine
+pub mod Faulty
+pub mod AllHeights

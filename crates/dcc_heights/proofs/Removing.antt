@@ -1,11 +1,10 @@
 -- What CALLs remove in a program whose procedures are found.
-use Rattle.std.proofs.Common.{◌≡◌, ◌≢◌, inl, inr, ℕ, zero, suc, ◌<◌, nat_eq, true, true≢false, List, [], ◌∷◌, length, get_or, slice_get, All, Contains, Option, Some, None, is_some, unwrap_or, refl, sym, ap, ◌∙◌, subst, arith}
+use Rattle.std.proofs.Common.{◌≡◌, inl, inr, ℕ, nat_eq, true, true≢false, List, slice_get, Contains, Option, Some, None, is_some, unwrap_or, refl, sym, ap, ◌∙◌, subst}
 use Rattle.std.specs.Map.{lookup}
 use Rattle.std.proofs.lemmas.Option.{slice_get_within, get_or_from_slice_get}
 use Rattle.std.proofs.lemmas.List.Elements.{All-contains}
 use Rattle.dcc_prog.specs.declared.image.Image.{Image}
 use Rattle.dcc_prog.specs.declared.procedure.Layout.{Layout}
-use Rattle.dcc_prog.specs.declared.procedure.Node.{Node}
 use Rattle.dcc_prog.specs.declared.procedure.Proc.{Proc}
 use Rattle.dcc_prog.specs.declared.instr.Instr.{Instr}
 use Rattle.dcc_prog.specs.declared.instr.Op.{Op}
@@ -32,11 +31,19 @@ one-op image layout at instr op is stands =
 
 module _ (image : Image) (layout : Layout) (proc : Proc) (found : IsFound image layout proc) where
   -- the RETs among the nodes are those that are reached
+  ret-found :
+      (at bytes : ℕ) (has : HasRet proc.nodes.entries at bytes) → IsNodeFound image layout proc.entry (at, has.node)
+  ret-found at bytes has =
+      All-contains (IsNodeFound image layout proc.entry) proc.nodes.entries (at, has.node) found.nodes has.among
+
+  pub ret-node : (at bytes : ℕ) → HasRet proc.nodes.entries at bytes → IsNode image layout proc.entry at
+  ret-node at bytes has = (ret-found at bytes has).node
+
+  pub ret-stands : (at bytes : ℕ) → HasRet proc.nodes.entries at bytes → StandsAt image layout at (Ret bytes)
+  ret-stands at bytes has = (has.node.instr, (ret-found at bytes has).instr, has.is_ret)
+
   pub ret-reached : (at bytes : ℕ) → HasRet proc.nodes.entries at bytes → ReachesRet image layout proc.entry bytes
-  ret-reached at bytes has =
-      let node =
-      All-contains (IsNodeFound image layout proc.entry) proc.nodes.entries (at, has.node) found.nodes has.among in
-      record { at = at; node = node.node; stands = (has.node.instr, node.instr, has.is_ret) }
+  ret-reached at bytes has = record { at = at; node = ret-node at bytes has; stands = ret-stands at bytes has }
 
   pub reached-ret :
       (at bytes : ℕ) → IsNode image layout proc.entry at → StandsAt image layout at (Ret bytes)

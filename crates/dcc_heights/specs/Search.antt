@@ -1,6 +1,6 @@
 -- The search for the heights of a procedure. This stands between the definitions and the code; no public contract rests
 -- on it.
-use Rattle.std.specs.Prelude.{◌≡◌, ◌≢◌, ◌≤◌, ◌<◌, ℕ, ◌==◌, ◌&&◌, not, nat_eq, Bool, true, false, ℤ, pos, List, [], ◌∷◌, ◌++◌, length, slice_get, map, AllPairs, All, Contains, Option, Some, None}
+use Rattle.std.specs.Prelude.{◌≡◌, ◌≢◌, ◌<◌, ℕ, ◌==◌, ◌&&◌, not, nat_eq, Bool, true, false, ℤ, pos, List, [], ◌∷◌, ◌++◌, slice_get, All, Contains, Option, Some, None}
 use Rattle.std.specs.Map.{lookup}
 use Rattle.dcc_prog.specs.declared.image.Image.{Image}
 use Rattle.dcc_prog.specs.declared.procedure.Layout.{Layout}

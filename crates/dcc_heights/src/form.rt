@@ -82,5 +82,7 @@ fn is_too_far(framed: bool, op: Op, height: u16, after: i32) -> bool
 pub fn is_bad(framed: bool, op: Op, height: u16, after: i32) -> bool
     ensures { result ≡ is_bad framed op height after }
 {
-    is_too_far(framed, op, height, after) || (matches!(op, Op::Ret(_)) && height != 0) || after > GREATEST
+    is_too_far(framed, op, height, after)
+        || (matches!(op, Op::Ret(_)) && height != 0)
+        || after > GREATEST
 }

@@ -2,7 +2,6 @@
 #![tactic(auto)]
 
 mod form;
-
 mod moves;
 mod ordered;
 mod procedures;

@@ -2,9 +2,6 @@ use Rattle.std.proofs.Common.{rules}
 use Rattle.dcc_prog.specs.declared.refusal.Refusal.TheVariants.{Memory}
 use Rattle.dcc_heights.specs.Search.{HasFault}
 use Rattle.dcc_heights.specs.Search as searching
-use Rattle.dcc_heights.proofs.Moving.{form-case}
-use Rattle.dcc_heights.proofs.Removing.{call-removes}
-use Rattle.dcc_heights.proofs.Giving.{only}
 use Rattle.dcc_heights.proofs.procedures.heights_of.Goals as goal
 
 pub returns-in_err-ordered-clause-refused : goal.returns-in_err-ordered-clause-refused

@@ -1,5 +1,5 @@
-use Rattle.std.proofs.Common.{◌≡◌, ◌∷◌, [], ◌++◌, Contains, take, get_or, sym, ap, ◌∙◌, subst, rules}
-use Rattle.std.proofs.lemmas.List.{take_more, take_all}
+use Rattle.std.proofs.Common.{◌∷◌, [], ◌++◌, Contains, take, sym, ap, ◌∙◌, subst, rules}
+use Rattle.std.proofs.lemmas.List.{take_more}
 use Rattle.std.proofs.lemmas.List.Elements.{Contains-get_or}
 use Rattle.dcc_prog.specs.declared.refusal.Refusal.TheVariants.{Memory}
 use Rattle.dcc_heights.specs.Removed.{AreSizes, IsSizeFault, of_proc, no_memory}

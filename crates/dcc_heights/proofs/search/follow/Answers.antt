@@ -1,4 +1,4 @@
-use Rattle.std.proofs.Common.{◌≡◌, ◌∷◌, [], ◌++◌, Some, Contains, take, get_or, ℕ, sym, ap, ◌∙◌, subst, rules}
+use Rattle.std.proofs.Common.{◌≡◌, Some, Contains, take, get_or, ℕ, sym, ◌∙◌, subst, rules}
 use Rattle.std.proofs.lemmas.List.{take_more, take_all}
 use Rattle.std.proofs.lemmas.List.Elements.{Contains-get_or}
 use Rattle.dcc_heights.specs.Search.{scene_of, node_in, IsReachedAt, gone_on, of_step, IsGoing}

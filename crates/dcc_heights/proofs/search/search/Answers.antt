@@ -1,6 +1,5 @@
-use Rattle.std.proofs.Common.{◌≡◌, ◌<◌, ◌≤◌, length, subst, sym, ◌∙◌, rules, arith}
-use Rattle.dcc_prog.specs.declared.refusal.Refusal.TheVariants.{Memory}
-use Rattle.dcc_heights.specs.Search.{scene_of, IsArrived, IsFault, IsArrivalFault, other}
+use Rattle.std.proofs.Common.{◌<◌, ◌≤◌, length, subst, rules, arith}
+use Rattle.dcc_heights.specs.Search.{scene_of, IsArrived, IsArrivalFault}
 use Rattle.dcc_heights.proofs.Searching.{reached-start, start-fault, searched-none, searched-more, searched-all, few-reached}
 use Rattle.dcc_heights.proofs.search.search.Goals as goal
 
