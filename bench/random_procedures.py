@@ -97,6 +97,28 @@ def frame_use(code):
     code.put(*draw.choice(forms))
 
 
+def stack_use(code):
+    """Words on the stack, at times as arguments of a call, and what takes them off again; at times not all of them."""
+    draw = code.draw
+    words = draw.choice([1, 1, 2])
+    for _ in range(words):
+        code.put(*draw.choice([[0x50 + draw.choice(GENERAL)], [0x83, 0xEC, 2], [0xFF, 0x37], [0x4C, 0x4C]]))
+    for _ in range(draw.choice([0, 1, 1, 2])):
+        draw.choice([plain, jump])(code)
+    taken = 0
+    if draw.random() < 0.5:
+        code.put(0xE8, 0, 0)
+        code.calls.append(len(code.bytes))
+        taken = draw.choice([0, 0, 1])
+    if draw.random() < 0.05:
+        taken += draw.choice([-1, 1])
+    if draw.random() < 0.4:
+        code.put(0x83, 0xC4, 2 * (words - taken) & 0xFF)
+    else:
+        for _ in range(words - taken):
+            code.put(0x58 + draw.choice(GENERAL))
+
+
 def jump(code):
     """A jump, whose target is filled in later."""
     draw = code.draw
@@ -180,7 +202,7 @@ def refused(code):
                            [0xF7, 0xF0], [0x2E, 0xFF, 0x27]]))
 
 
-PIECES = [(plain, 10), (jump, 4), (dos, 2), (division, 1), (frame_use, 1), (table_jump, 2)]
+PIECES = [(plain, 10), (jump, 4), (dos, 2), (division, 1), (frame_use, 1), (stack_use, 2), (table_jump, 2)]
 
 
 def procedure(code, is_start):
@@ -208,7 +230,9 @@ def procedure(code, is_start):
         code.put(0xB4, 0x4C)
         code.put(0xCD, 0x21)
     elif draw.random() < 0.97:
-        if framed and draw.random() < 0.8:
+        if framed and draw.random() < 0.9:
+            if not enter and draw.random() < 0.7:
+                code.put(0x8B, 0xE5)
             code.put(*([0xC9] if enter else [0x5D]))
         code.put(*draw.choice([[0xC3], [0xC3], [0xC2, 2, 0]]))
 

@@ -20,9 +20,9 @@ use std::test::Fail;
 // The offset after the prelude, at which the code begins.
 const START: u16 = 5;
 
-// The image of a file of 96 bytes: the header, whose one relocation moves the word at offset 1; a prelude that sets DS
-// to the segment above the image of 64 bytes; the code; zeros.
-fn image_of(rt: &impl Abort, alloc: Global, code: &[u8]) -> Result<Image, Fail>
+/// The image of a file of 96 bytes: the header, whose one relocation moves the word at offset 1; a prelude that sets DS
+/// to the segment above the image of 64 bytes; the code; zeros.
+pub fn image_of(rt: &impl Abort, alloc: Global, code: &[u8]) -> Result<Image, Fail>
     ensures { IfOk result IsLoaded }
 {
     let mut file =
