@@ -1,6 +1,8 @@
 -- The answer: the heights of all procedures, and why a program is refused.
-use Rattle.std.proofs.Common.{◌≡◌, ℕ, zero, suc, ◌<◌, Bool, true, true≢false, pos, List, [], ◌∷◌, ◌++◌, map, length, get_or, All, Contains, Option, Some, None, is_some, refl, sym, ap, ◌∙◌, subst, arith}
+use Rattle.std.proofs.Common.{◌≡◌, ℕ, zero, suc, ◌<◌, Bool, true, true≢false, pos, List, [], ◌∷◌, ◌++◌, map, length, get_or, All, Contains, Option, Some, None, is_some, refl, sym, ap, ◌∙◌, subst, arith, ◌+◌, take}
 use Rattle.std.specs.List.{AllZip}
+use Rattle.std.proofs.lemmas.List.{take_more}
+use Rattle.std.proofs.lemmas.Slice.Zip.{all_zipped_more}
 use Rattle.std.proofs.lemmas.List.Elements.{All-contains, All-cons}
 use Rattle.dcc_prog.specs.declared.image.Image.{Image}
 use Rattle.dcc_prog.specs.declared.procedure.Layout.{Layout}
@@ -46,6 +48,16 @@ zip-left R (a ∷ xs) [] x k inside is zip = absurd zip
 zip-left R (a ∷ xs) (y ∷ ys) x zero inside is zip = (y, subst (λ z. R z y) is zip.0)
 zip-left R (a ∷ xs) (y ∷ ys) x (suc k) inside is zip = zip-left R xs ys x k (omega (arith, inside)) is zip.1
 
+-- one more of each
+pub zipped-more :
+    {A B : Type 0} (R : A → B → Type 0) (xs : List A) (ys zs : List B) (place : ℕ) (x : A) (y : B) → place < length xs
+    → x ≡ get_or xs place x → AllZip R (take place xs) ys → R x y → zs ≡ ys ++ y ∷ []
+    → AllZip R (take (place + 1) xs) zs
+zipped-more R xs ys zs place x y inside is zip holds more =
+    let taken = take_more xs place x inside ∙ ap (λ z. take place xs ++ z ∷ []) (sym is) in
+    subst (λ l. AllZip R l zs) (sym taken)
+    (subst (AllZip R (take place xs ++ x ∷ [])) (sym more) (all_zipped_more R (take place xs) ys x y zip holds))
+
 -- each node has its height
 record IsOrdered (heights : List (ℕ × ℕ)) (nodes : List (ℕ × Node)) (ordered : List (ℕ × ℕ)) : Type 0 where
   nodes_are : map (λ found. found.0) ordered ≡ map (λ node. node.0) nodes
@@ -79,8 +91,10 @@ module _ (image : Image) (layout : Layout) (procs : List Proc) (found : AreFound
   module _ (framed : Bool) (heights : List (ℕ × ℕ)) (all : AreAllHeights (scene_of proc framed removed) heights) where
     has-height : (at : ℕ) (node : Node) → Contains proc.nodes.entries (at, node) → is_some (height_in heights at) ≡ true
     has-height at node c =
-        let f = All-contains (IsNodeFound image layout proc.entry) proc.nodes.entries (at, node) (is-found image layout procs found removed by_entry proc among framed).nodes c in
-        let g = given image layout procs found removed by_entry proc among framed heights all f.node.before at f.node.trail in
+        let f = All-contains (IsNodeFound image layout proc.entry) proc.nodes.entries (at, node)
+        (is-found image layout procs found removed by_entry proc among framed).nodes c in
+        let g = given image layout procs found removed by_entry proc among framed heights all f.node.before at
+        f.node.trail in
         ap is_some g.is
 
     is-height : (at height : ℕ) → height_in heights at ≡ Some height → IsHeight image layout proc.entry at (pos height)
@@ -139,13 +153,15 @@ module _ (image : Image) (layout : Layout) (procs : List Proc) (found : AreFound
 
   module _ (removed : List (ℕ × ℕ)) (by_entry : AreByEntry procs removed) where
     accepted :
-        {M : Type 0} (entries : M → List (ℕ × ℕ)) (answers : List M) → AllZip (λ proc answer. AreHeightsBy removed proc (entries answer)) procs answers
+        {M : Type 0} (entries : M → List (ℕ × ℕ)) (answers : List M) → AllZip
+        (λ proc answer. AreHeightsBy removed proc (entries answer)) procs answers
         → IsAcceptedByHeights image layout
     accepted entries answers zip = record {
       no_construct = λ kind at stands.
           let there = found.every stands.entry stands.is_entry in
           let among = contains-listed procs there.place there.proc there.listed in
-          let by = zip-left (λ proc answer. AreHeightsBy removed proc (entries answer)) procs answers there.proc among.0 among.1 among.2 zip in
+          let by = zip-left (λ proc answer. AreHeightsBy removed proc (entries answer)) procs answers there.proc
+          among.0 among.1 among.2 zip in
           no-construct-by image layout procs found removed by_entry there.proc among (entries by.0) by.1 kind at
           (subst (λ e. IsAtHeight image layout e at kind) (sym there.entry_is) stands.stands);
       no_limit = λ what count none. none;
@@ -157,10 +173,14 @@ module _ (image : Image) (layout : Layout) (procs : List Proc) (found : AreFound
         → AreHeights image layout procs heights
     all-heights heights zip sizes = record {
       at =
-          zip-map (λ proc answer. AreHeightsBy removed proc answer.entries) (λ proc answer. AreHeightsOf image layout proc answer.entries) procs heights.at.items
-          (λ proc among answer by. heights-of image layout procs found removed by_entry proc among answer.entries by) zip;
+          zip-map (λ proc answer. AreHeightsBy removed proc answer.entries)
+          (λ proc answer. AreHeightsOf image layout proc answer.entries) procs heights.at.items
+          (λ proc among answer by. heights-of image layout procs found removed by_entry proc among answer.entries by)
+          zip;
       removed =
-          zip-map (λ proc bytes. IsSize proc.nodes.entries bytes) (λ proc bytes. IsRemoved image layout proc.entry bytes) procs heights.ret.items
-          (λ proc among bytes size. size-removed image layout proc (All-contains (IsFound image layout) procs proc found.found among) bytes size) sizes;
+          zip-map (λ proc bytes. IsSize proc.nodes.entries bytes)
+          (λ proc bytes. IsRemoved image layout proc.entry bytes) procs heights.ret.items
+          (λ proc among bytes size. size-removed image layout proc
+          (All-contains (IsFound image layout) procs proc found.found among) bytes size) sizes;
       accepted = accepted (λ answer. answer.entries) heights.at.items zip;
     }

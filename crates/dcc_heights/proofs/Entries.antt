@@ -1,8 +1,12 @@
 -- Look-ups in lists of entries whose keys are numbers.
-use Rattle.std.proofs.Common.{◌≡◌, ◌⊎◌, inl, inr, ℕ, zero, suc, ◌<◌, Bool, true, false, cond, nat_eq, List, [], ◌∷◌, ◌++◌, length, slice_get, Some, None, refl, ap, ◌∙◌}
+use Rattle.std.proofs.Common.{map, sym, ◌≡◌, ◌⊎◌, inl, inr, ℕ, zero, suc, ◌<◌, Bool, true, false, cond, nat_eq, List, [], ◌∷◌, ◌++◌, length, slice_get, Option, Some, None, refl, ap, ◌∙◌}
+use Rattle.std.specs.Borrow.{Bor}
+use Rattle.std.specs.Iterator.{Yields}
 use Rattle.std.specs.Map.{lookup}
+use Rattle.std.specs.Map.Iter.{TakesFirst, deref_pair}
 use Rattle.std.proofs.lemmas.Bool.{eq-eqb}
 use Rattle.std.proofs.lemmas.Option.{slice_get-get_or}
+use Rattle.std.proofs.lemmas.Map.Iter.{rest_so_far, rest_more}
 use Rattle.std.proofs.lemmas.Map.Views.{Contains-from_lookup, exact_unsigned_eq}
 
 -- what is found stays so as more entries are put behind
@@ -68,3 +72,14 @@ pub place-of :
 place-of es key x is =
     let there = Contains-from_lookup exact_unsigned_eq key x es is in
     (there.0, there.1, slice_get-get_or es there.0 (key, x) there.1 ∙ ap Some there.2)
+
+-- what a loop over a map has yielded, its next entry and the rest are all entries
+pub turn-split :
+    {K X : Type 0} (all : List (K × X)) (xs : List (Bor K × Bor X)) (s t u : List (K × X))
+    (r : Option (Bor K × Bor X)) (x : Bor K × Bor X) → s ≡ all → Yields (TakesFirst deref_pair) s xs t → r ≡ Some x
+    → TakesFirst deref_pair t r u
+    → all ≡ map deref_pair xs ++ deref_pair x ∷ u
+turn-split all xs s t u r x start yields is step =
+    sym start
+    ∙ rest_so_far deref_pair xs s t yields
+    ∙ ap (λ l. map deref_pair xs ++ l) (rest_more deref_pair t u r x is step)

@@ -118,27 +118,39 @@ module _ (image : Image) (layout : Layout) (procs : List Proc) (found : AreFound
           misplaced =
               elim (or-true ((height == 0) && needs_frame op) (is_pop_bp op && not (height == 2)) wrong) [
                 | inl zero ↦
-                    inl (ap pos (exact_unsigned_eq height 0 (and-left (height == 0) (needs_frame op) zero)), and-right (height == 0) (needs_frame op) zero)
+                    inl (
+                      ap pos (exact_unsigned_eq height 0 (and-left (height == 0) (needs_frame op) zero)),
+                      and-right
+                          (height == 0) (needs_frame op) zero,
+                    )
                 | inr other ↦
-                    inr (pop-is op (and-left (is_pop_bp op) (not (height == 2)) other), λ same. not-same height 2 (and-right (is_pop_bp op) (not (height == 2)) other) (same-level height 2 same))
+                    inr (
+                      pop-is op (and-left (is_pop_bp op) (not (height == 2)) other),
+                      λ same. not-same height 2
+                          (and-right (is_pop_bp op) (not (height == 2)) other) (same-level height 2 same),
+                    )
               ];
         }
 
-    below-entry : IsLeaWord node.instr.op → after_in scene node.instr.op height <ℤ pos 0 → HasBadHeight image layout proc.entry at
+    below-entry : IsLeaWord node.instr.op → after_in scene node.instr.op height <ℤ pos 0 → HasBadHeight image layout
+        proc.entry at
     below-entry word below =
         let op = node.instr.op in
         let raise =
         low-raises (removed_in removed) op height (form-case image layout proc.entry at op form) word below in
         too_far stands raise has (moves (no-ret op raise)) (omega (arith, ints, below)) (above_entry below)
 
-    into-saved : is_into_saved_bp framed node.instr.op height (after_in scene node.instr.op height) ≡ true → HasBadHeight image layout proc.entry at
+    into-saved : is_into_saved_bp framed node.instr.op height (after_in scene node.instr.op height) ≡ true →
+        HasBadHeight image layout proc.entry at
     into-saved e =
         let op = node.instr.op in
         let after = after_in scene op height in
         let low = and-right _ (int_lt after (pos 2)) e in
-        let e4 = and-left (framed && is_raise op && not (is_pop_bp op) && nat_lt 0 height && int_lt after (pos height)) (int_lt after (pos 2)) e in
+        let e4 = and-left (framed && is_raise op && not (is_pop_bp op) && nat_lt 0 height && int_lt after
+        (pos height)) (int_lt after (pos 2)) e in
         let less = and-right _ (int_lt after (pos height)) e4 in
-        let e3 = and-left (framed && is_raise op && not (is_pop_bp op) && nat_lt 0 height) (int_lt after (pos height)) e4 in
+        let e3 = and-left (framed && is_raise op && not (is_pop_bp op) && nat_lt 0 height) (int_lt after (pos height))
+        e4 in
         let up = and-right _ (nat_lt 0 height) e3 in
         let e2 = and-left (framed && is_raise op && not (is_pop_bp op)) (nat_lt 0 height) e3 in
         let no_pop = not-true (is_pop_bp op) (and-right _ (not (is_pop_bp op)) e2) in
@@ -147,7 +159,8 @@ module _ (image : Image) (layout : Layout) (procs : List Proc) (found : AreFound
         let is_so = and-left framed (is_raise op) e1 in
         let above : pos 0 <ℤ pos height = grind (arith, ints, nat_tests) in
         too_far stands raise has (moves (no-ret op raise)) (lt-of after (pos height) less)
-        (into_saved_bp (sym framed_is ∙ is_so) (λ same. true≢false (sym (ap is_pop_bp same) ∙ no_pop)) above (lt-of after (pos 2) low))
+        (into_saved_bp (sym framed_is ∙ is_so) (λ same. true≢false (sym (ap is_pop_bp same) ∙ no_pop)) above
+        (lt-of after (pos 2) low))
 
     early : (is_ret node.instr.op && not (height == 0)) ≡ true → HasBadHeight image layout proc.entry at
     unfolding stands
@@ -173,7 +186,8 @@ module _ (image : Image) (layout : Layout) (procs : List Proc) (found : AreFound
     bad-height word e =
         let op = node.instr.op in
         let after = after_in scene op height in
-        elim (or-true (is_too_far framed op height after || (is_ret op && not (height == 0))) (int_lt (pos 32766) after) e) [
+        elim (or-true (is_too_far framed op height after || (is_ret op && not (height == 0)))
+        (int_lt (pos 32766) after) e) [
           | inl rest ↦ elim (or-true (is_too_far framed op height after) (is_ret op && not (height == 0)) rest) [
             | inl far ↦ elim (or-true (int_lt after (pos 0)) (is_into_saved_bp framed op height after) far) [
               | inl below ↦ below-entry word (lt-of after (pos 0) below)
@@ -197,5 +211,7 @@ module _ (image : Image) (layout : Layout) (procs : List Proc) (found : AreFound
       step-refused at height node reached is refusal fault
   fault-refused _ (search.IsFault.two_heights {at} {height} {other} reached reached_other apart) =
       refused-at HEIGHTS at height reached
-      (bad_height (two_heights (reached-has image layout procs found removed by_entry proc among framed at height reached) (reached-has image layout procs found removed by_entry proc among framed at other reached_other) (λ same. apart (same-level height other same))))
+      (bad_height (two_heights (reached-has image layout procs found removed by_entry proc among framed at height
+      reached) (reached-has image layout procs found removed by_entry proc among framed at other reached_other)
+      (λ same. apart (same-level height other same))))
   fault-refused _ search.IsFault.no_memory = refused.no_memory

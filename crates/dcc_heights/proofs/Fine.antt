@@ -95,9 +95,11 @@ module _ (image : Image) (layout : Layout) (procs : List Proc) (found : AreFound
     (all : AreAllHeights (scene_of proc framed removed) heights) where
   level-of : (at : ℕ) (height : ℤ) → HasHeight image layout proc.entry at height
       → Only image layout procs found removed by_entry proc among framed heights all at height
-  level-of at height has = only image layout procs found removed by_entry proc among framed heights all at has.before height has.gives
+  level-of at height has = only image layout procs found removed by_entry proc among framed heights all at has.before
+      height has.gives
 
-  node-of-height : (at : ℕ) (height : ℤ) → HasHeight image layout proc.entry at height → IsNode image layout proc.entry at
+  node-of-height : (at : ℕ) (height : ℤ) → HasHeight image layout proc.entry at height → IsNode image layout
+      proc.entry at
   node-of-height at height has =
       record { before = has.before; trail = gives-trail image layout proc.entry (at ∷ has.before) height has.gives }
 
@@ -116,7 +118,8 @@ module _ (image : Image) (layout : Layout) (procs : List Proc) (found : AreFound
   standing at op height has stands =
       let o = level-of at height has in
       let node = node-of-height at height has in
-      let s = stands-at image layout procs found removed by_entry proc among framed heights all at o.level op node stands o.is in
+      let s = stands-at image layout procs found removed by_entry proc among framed heights all at o.level op node
+      stands o.is in
       record {
         level = o.level;
         same = o.same;
@@ -163,7 +166,8 @@ module _ (image : Image) (layout : Layout) (procs : List Proc) (found : AreFound
       true≢false (sym inner ∙ not-early (scene_of proc framed removed) at (Ret count) s.level s.after s.step)
   no-bad at (two_sizes {count} {other} node stands reached apart) =
       let entry = is-entry image layout procs found removed by_entry proc among framed in
-      let here = call-removes-only image layout procs found removed by_entry proc.entry count entry (by_ret (record { at = at; node = node; stands = stands })) in
+      let here = call-removes-only image layout procs found removed by_entry proc.entry count entry
+      (by_ret (record { at = at; node = node; stands = stands })) in
       let there = call-removes-only image layout procs found removed by_entry proc.entry other entry (by_ret reached) in
       apart (here ∙ sym there)
   no-bad at (too_great {height} has great) =

@@ -34,7 +34,8 @@ not-above level e = grind (arith, ints, nat_tests)
 
 -- what gives a height is a trail
 pub gives-trail :
-    (image : Image) (layout : Layout) (entry : ℕ) (trail : List ℕ) (height : ℤ) → GivesHeight image layout entry trail height
+    (image : Image) (layout : Layout) (entry : ℕ) (trail : List ℕ) (height : ℤ) → GivesHeight image layout entry trail
+    height
     → IsTrail image layout entry trail
 gives-trail image layout entry _ _ entered = refl
 gives-trail image layout entry _ _ (gone_on trail before stands moves) = trail
@@ -48,7 +49,8 @@ no-ret image layout entry to from before op count trail stands is =
     let instr = stands.0 in
     let none : successors image layout (from ∷ before) ≡ [] =
     ap (instr_successors image layout from before) stands.1
-    ∙ ap (λ o. op_successors o (next_of from instr) (known_ah image layout before) (targets_of image layout instr.op before))
+    ∙ ap (λ o. op_successors o (next_of from instr) (known_ah image layout before)
+    (targets_of image layout instr.op before))
     (stands.2 ∙ is) in
     let there = subst (λ (l : List ℕ). Contains l to) none trail.0 in
     omega (arith, there.1)
@@ -106,7 +108,8 @@ module _ (image : Image) (layout : Layout) (procs : List Proc) (found : AreFound
       let node : IsNode image layout proc.entry from = record { before = before; trail = trail.1 } in
       moves-so image layout (removed_in removed) proc.entry from op height (form-at from op node stands)
       (λ count. no-ret image layout proc.entry to from before op count trail stands)
-      (λ target is. call-removes image layout procs found removed by_entry target (callee from target op node stands is))
+      (λ target is. call-removes image layout procs found removed by_entry target
+      (callee from target op node stands is))
 
   pub moves-only :
       (at : ℕ) (op : Op) (height after : ℤ) → IsNode image layout proc.entry at → StandsAt image layout at op
@@ -114,7 +117,8 @@ module _ (image : Image) (layout : Layout) (procs : List Proc) (found : AreFound
       → after ≡ height_after (removed_in removed) op height
   moves-only at op height after node stands moves =
       moves-once image layout (removed_in removed) proc.entry at op height after moves
-      (λ target count is removes. call-removes-only image layout procs found removed by_entry target count (callee at target op node stands is) removes)
+      (λ target count is removes. call-removes-only image layout procs found removed by_entry target count
+      (callee at target op node stands is) removes)
 
   -- what is reached at a height has it by a trail
   pub reached-has :
@@ -230,7 +234,8 @@ module _ (image : Image) (layout : Layout) (procs : List Proc) (found : AreFound
         (at : ℕ) (before : List ℕ) (height : ℤ) → GivesHeight image layout proc.entry (at ∷ before) height
         → Only at height
     only _ _ _ entered = record { level = 0; is = all.start; same = refl; small = omega arith }
-    only at _ _ (gone_on {from = from} {before = before} {op = op} {height = height} {after = after} trail gives stands moves) =
+    only at _ _ (gone_on {from = from} {before = before} {op = op} {height = height} {after = after} trail gives
+        stands moves) =
         let earlier = only from before height gives in
         let on = goes-on at from earlier.level before op trail stands earlier.is in
         let node : IsNode image layout proc.entry from = record { before = before; trail = trail.1 } in

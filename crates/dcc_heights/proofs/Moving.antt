@@ -155,7 +155,8 @@ unnamed-still (Xchg a b) e s =
     ap (λ x. x || is_half_of Sp Low b) (operand-still a (or-false-left (is_sp_or_bp a) (is_sp_or_bp b) e))
     ∙ operand-still b (or-false-right (is_sp_or_bp a) (is_sp_or_bp b) e)
 unnamed-still (Lea to ea) e s = operand-still (Word to) e
-unnamed-still (Imul3 to a constant) e s = operand-still (Word to) (or-false-left (is_sp_or_bp (Word to)) (is_sp_or_bp a) e)
+unnamed-still (Imul3 to a constant) e s = operand-still (Word to)
+    (or-false-left (is_sp_or_bp (Word to)) (is_sp_or_bp a) e)
 unnamed-still (Push a) e s = absurd (true≢false s)
 unnamed-still (Pop a) e s = absurd (true≢false s)
 unnamed-still (Call target) e s = absurd (true≢false s)

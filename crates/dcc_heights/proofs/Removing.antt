@@ -51,7 +51,8 @@ module _ (image : Image) (layout : Layout) (proc : Proc) (found : IsFound image 
   reached-ret at bytes node stands =
       let there = found.every at node in
       let among = contains-listed proc.nodes.entries there.place (at, there.node) there.listed in
-      let is = All-contains (IsNodeFound image layout proc.entry) proc.nodes.entries (at, there.node) found.nodes among in
+      let is = All-contains (IsNodeFound image layout proc.entry) proc.nodes.entries (at, there.node) found.nodes
+      among in
       record {
         node = there.node;
         among = among;
@@ -64,7 +65,8 @@ module _ (image : Image) (layout : Layout) (proc : Proc) (found : IsFound image 
     | inl ret ↦ by_ret (ret-reached ret.0 bytes ret.1)
     | inr none ↦
         subst (IsRemoved image layout proc.entry) (sym none.1)
-        (without_ret (λ count reaches. none.0 reaches.at count (reached-ret reaches.at count reaches.node reaches.stands)))
+        (without_ret (λ count reaches. none.0 reaches.at count
+        (reached-ret reaches.at count reaches.node reaches.stands)))
   ]
 
   -- and no other number

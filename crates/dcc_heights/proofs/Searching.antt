@@ -1,5 +1,5 @@
 -- The search grows to all heights.
-use Rattle.std.proofs.Common.{◌≡◌, ◌≢◌, inl, inr, ℕ, ◌+◌, ◌≤◌, ◌<◌, nat_eq, List, [], ◌∷◌, ◌++◌, length, get_or, slice_get, AllPairs, Option, Some, None, is_some, true, true≢false, refl, sym, ap, ◌∙◌, subst, arith}
+use Rattle.std.proofs.Common.{◌≡◌, ◌≢◌, inl, inr, ℕ, ◌+◌, ◌≤◌, ◌<◌, nat_eq, List, [], ◌∷◌, ◌++◌, length, get_or, slice_get, AllPairs, Option, Some, None, is_some, true, true≢false, refl, sym, ap, ◌∙◌, subst, arith, Contains}
 use Rattle.std.proofs.lemmas.Bool.{cases_lt}
 use Rattle.std.proofs.lemmas.Option.{slice_get-get_or}
 use Rattle.std.specs.Map.{keys_of}
@@ -63,6 +63,16 @@ reached-more scene heights to after are reached small = record {
     | inr there ↦ (let here = there.0 in omega (arith, here, small))
   ];
 }
+
+-- so is a successor of an offset that is reached
+pub successor-reached :
+    (scene : Scene) (heights : List (ℕ × ℕ)) (at height after place : ℕ) (node : Node) (items : List ℕ)
+    → AreReached scene heights → height_in heights at ≡ Some height → node_in scene at ≡ Some node
+    → IsStep scene at node.instr.op height after → items ≡ node.succ.items → place < length items
+    → IsReachedAt scene (get_or items place 0) after
+successor-reached scene heights at height after place node items are has is step same inside =
+    gone_on (are.reached at height has) is step
+    (subst (λ (l : List ℕ). Contains l (get_or items place 0)) same (Contains-get_or items place 0 inside))
 
 extends-more :
     (old heights more : List (ℕ × ℕ)) → Extends old heights → Extends old (heights ++ more)

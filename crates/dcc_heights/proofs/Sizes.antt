@@ -108,7 +108,8 @@ size-all nodes (Some bytes) some = record { same = some.0; some = inl some.1 }
 -- All procedures.
 
 module _ (procs : List Proc) (in_order : List ℕ) (old new : List (ℕ × ℕ)) (proc : Proc) (size : ℕ)
-    (updates : (key : ℕ) → lookup (nat_eq key) new ≡ cond (nat_eq proc.entry key) (Some size) (lookup (nat_eq key) old)) where
+    (updates : (key : ℕ) → lookup (nat_eq key) new ≡ cond (nat_eq proc.entry key) (Some size)
+    (lookup (nat_eq key) old)) where
   of-entry :
       (are : AreByEntry procs old) (is : IsSize proc.nodes.entries size) (b : Bool) (entry bytes : ℕ)
       → nat_eq proc.entry entry ≡ b → cond b (Some size) (lookup (nat_eq entry) old) ≡ Some bytes
@@ -142,6 +143,7 @@ module _ (procs : List Proc) (in_order : List ℕ) (old new : List (ℕ × ℕ))
       AreSizes procs in_order old → IsSize proc.nodes.entries size
       → AreSizes (procs ++ proc ∷ []) (in_order ++ size ∷ []) new
   sizes-more are is = record {
-    each = all_zipped_more (λ (p : Proc) (bytes : ℕ). IsSize p.nodes.entries bytes) procs in_order proc size are.each is;
+    each = all_zipped_more (λ (p : Proc) (bytes : ℕ). IsSize p.nodes.entries bytes) procs in_order proc size are.each
+        is;
     are_by_entry = by-entry-more are.are_by_entry is;
   }

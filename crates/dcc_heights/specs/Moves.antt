@@ -1,5 +1,5 @@
--- The height after an operation, as it is computed. This stands between the definitions and the code; no public contract
--- rests on it.
+-- The height after an operation, as it is computed. This stands between the definitions and the code; no public
+-- contract rests on it.
 use Rattle.std.specs.Prelude.{ℕ, ◌<◌, ℤ, pos, ◌+ℤ◌, ◌-ℤ◌, nat_eq, List, Option, Some, None, unwrap_or}
 use Rattle.std.specs.Map.{lookup}
 use Rattle.dcc_prog.specs.declared.instr.Op.{Op}

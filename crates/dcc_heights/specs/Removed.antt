@@ -1,4 +1,5 @@
--- What RETs remove, as it is computed. This stands between the definitions and the code; no public contract rests on it.
+-- What RETs remove, as it is computed. This stands between the definitions and the code; no public contract rests on
+-- it.
 use Rattle.std.specs.Prelude.{◌≡◌, ◌≢◌, ◌⊎◌, ℕ, nat_eq, List, Contains, Option, Some, None, is_some, true}
 use Rattle.std.specs.List.{AllZip}
 use Rattle.std.specs.Map.{lookup}

@@ -60,7 +60,8 @@ fn follow(
     place: usize,
 ) -> Result<(), Refusal>
     requires { AreReached (scene_of proc.now framed removed.now.entries) heights.old.entries }
-    ensures followed { OnOk result (IsFollowed (scene_of proc.now framed removed.now.entries) heights.old.entries heights.new.entries place) }
+    ensures followed { OnOk result
+        (IsFollowed (scene_of proc.now framed removed.now.entries) heights.old.entries heights.new.entries place) }
     ensures refused { IfErr result (IsFault (scene_of proc.now framed removed.now.entries)) }
 {
     let Some((at, height)) = heights.get_index(place) else {
@@ -84,7 +85,8 @@ pub fn search(
     framed: bool,
     removed: &IndexMap<u16, u16>,
 ) -> Result<IndexMap<u16, u16>, Refusal>
-    ensures found { IfOk result (λ heights. AreAllHeights (scene_of proc.now framed removed.now.entries) heights.entries) }
+    ensures found { IfOk result
+        (λ heights. AreAllHeights (scene_of proc.now framed removed.now.entries) heights.entries) }
     ensures refused { IfErr result (IsFault (scene_of proc.now framed removed.now.entries)) }
 {
     let mut heights = IndexMap::new(alloc);

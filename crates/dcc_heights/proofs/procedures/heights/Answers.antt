@@ -1,14 +1,13 @@
-use Rattle.std.proofs.Common.{◌∷◌, [], ◌++◌, Contains, take, sym, ap, ◌∙◌, subst, rules}
+use Rattle.std.proofs.Common.{Contains, sym, ◌∙◌, subst, rules}
 use Rattle.std.specs.List.{AllZip}
-use Rattle.std.proofs.lemmas.List.{take_more, take_all}
+use Rattle.std.proofs.lemmas.List.{take_all}
 use Rattle.std.proofs.lemmas.List.Elements.{Contains-get_or}
-use Rattle.std.proofs.lemmas.Slice.Zip.{all_zipped_more}
 use Rattle.dcc_prog.specs.declared.refusal.Refusal.TheVariants.{Memory}
 use Rattle.dcc_prog.specs.Refused as refused
 use Rattle.dcc_heights.specs.Heights.{IsRefusalOfAll}
 use Rattle.dcc_heights.specs.Search.{AreHeightsBy}
 use Rattle.dcc_heights.specs.Removed.{AreSizes, IsSizeFault}
-use Rattle.dcc_heights.proofs.AllHeights.{size-fault-refused, fault-by, all-heights}
+use Rattle.dcc_heights.proofs.AllHeights.{zipped-more, size-fault-refused, fault-by, all-heights}
 use Rattle.dcc_heights.proofs.procedures.heights.Goals as goal
 
 pub returns-in_err-sizes-clause-refused : goal.returns-in_err-sizes-clause-refused
@@ -34,7 +33,8 @@ returns-in_err-heights_of-clause-refused c =
     subst (λ l. Contains l proc) c.deref-proc-items.ensures.value
     (subst (Contains items) (sym c.proc-item.is) (Contains-get_or items place proc c.loop-proc-test.true)) in
     let named : IsRefusalOfAll procs refusal =
-    λ image layout found. fault-by image layout procs found removed sizes.are_by_entry proc among refusal c.in_err-heights_of.ensures.refused in
+    λ image layout found. fault-by image layout procs found removed sizes.are_by_entry proc among refusal
+    c.in_err-heights_of.ensures.refused in
     search rules
 
 pub returns-in_err-push-clause-refused : goal.returns-in_err-push-clause-refused
@@ -43,17 +43,10 @@ returns-in_err-push-clause-refused c =
 
 pub loop-proc-preserved : goal.loop-proc-preserved
 loop-proc-preserved c =
-    let items = c.deref-proc-items.result.now in
-    let proc = c.proc-item.result in
-    let place = c.loop-proc.proc-index in
-    let removed = c.in_ok-sizes.sizes.by_entry.entries in
-    let answer = c.in_ok-heights_of.field-0 in
-    let more =
-    all_zipped_more (λ p found. AreHeightsBy removed p found.entries) (take place items) c.loop-proc.at.items proc answer c.loop-proc.invariant c.in_ok-heights_of.ensures.found in
-    let taken =
-    take_more items place proc c.loop-proc-test.true ∙ ap (λ p. take place items ++ p ∷ []) (sym c.proc-item.is) in
-    subst (λ l. AllZip (λ p found. AreHeightsBy removed p found.entries) l c.push.new.self.items) (sym taken)
-    (subst (AllZip (λ p found. AreHeightsBy removed p found.entries) (take place items ++ proc ∷ [])) (sym c.in_ok-push.ensures.items) more)
+    zipped-more (λ p answer. AreHeightsBy c.in_ok-sizes.sizes.by_entry.entries p answer.entries)
+    c.deref-proc-items.result.now c.loop-proc.at.items c.push.new.self.items c.loop-proc.proc-index c.proc-item.result
+    c.in_ok-heights_of.field-0 c.loop-proc-test.true c.proc-item.is c.loop-proc.invariant
+    c.in_ok-heights_of.ensures.found c.in_ok-push.ensures.items
 
 pub returns-clause-heights : goal.returns-clause-heights
 returns-clause-heights c image layout found =
@@ -68,4 +61,5 @@ returns-clause-heights c image layout found =
     let zip =
     subst (λ l. AllZip (λ p answer. AreHeightsBy removed p answer.entries) l c.loop-proc.at.items) all
     c.loop-proc.invariant in
-    all-heights image layout procs found removed sizes.are_by_entry (record { at = c.loop-proc.at; ret = c.in_ok-sizes.sizes.in_order }) zip sizes.each
+    all-heights image layout procs found removed sizes.are_by_entry
+    (record { at = c.loop-proc.at; ret = c.in_ok-sizes.sizes.in_order }) zip sizes.each

@@ -29,8 +29,10 @@ loop-proc-preserved c =
     let place = c.loop-proc.proc-index in
     let size = c.in_ok-size.size in
     let more =
-    sizes-more (take place procs) c.loop-proc.in_order.items c.loop-proc.by_entry.entries c.insert.new.self.entries proc size c.in_ok-insert.ensures.updates.0 c.loop-proc.invariant c.in_ok-size.ensures.size in
+    sizes-more (take place procs) c.loop-proc.in_order.items c.loop-proc.by_entry.entries c.insert.new.self.entries
+    proc size c.in_ok-insert.ensures.updates.0 c.loop-proc.invariant c.in_ok-size.ensures.size in
     let taken =
     take_more procs place proc c.loop-proc-test.true ∙ ap (λ p. take place procs ++ p ∷ []) (sym c.proc-item.is) in
     subst (λ l. AreSizes l c.push.new.self.items c.insert.new.self.entries) (sym taken)
-    (subst (λ l. AreSizes (take place procs ++ proc ∷ []) l c.insert.new.self.entries) (sym c.in_ok-push.ensures.items) more)
+    (subst (λ l. AreSizes (take place procs ++ proc ∷ []) l c.insert.new.self.entries)
+    (sym c.in_ok-push.ensures.items) more)
