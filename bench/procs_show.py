@@ -1,24 +1,26 @@
-"""A program that prints what `find` and `heights` answer; it is proved and built beside a copy of the crates."""
+"""A program that prints what `find`, `heights` and `cells` answer; it is proved and built beside a copy of the crates."""
 import pathlib
 import shutil
 import subprocess
 import sys
 
 ROOT = pathlib.Path(__file__).resolve().parent.parent
-CRATES = ["dcc_run", "dcc_num", "dcc_prog", "dcc_mz", "dcc_decode", "dcc_layout", "dcc_procs", "dcc_heights"]
+CRATES = ["dcc_run", "dcc_num", "dcc_prog", "dcc_mz", "dcc_decode", "dcc_layout", "dcc_procs", "dcc_heights",
+          "dcc_frames"]
 NAME = "procs_show"
-DEPENDENCIES = "dcc_num dcc_prog dcc_mz dcc_layout dcc_procs dcc_heights indexmap anyhow"
+DEPENDENCIES = "dcc_num dcc_prog dcc_mz dcc_layout dcc_procs dcc_heights dcc_frames indexmap anyhow"
 
-# Prints a line for each program: its nodes with their heights or their number, or why it is refused.
+# Prints a line for each program: its nodes with their heights and its frames, or their number, or why it is refused.
 SHOW = """\
-//! Prints what `find` and `heights` answer for each program of a folder.
+//! Prints what `find`, `heights` and `cells` answer for each program of a folder.
 #![tactic(auto)]
 
 use anyhow::Error;
+use dcc_frames::cells;
 use dcc_heights::heights;
 use dcc_layout::layout;
 use dcc_mz::load;
-use dcc_prog::{Cpu, Heights, Image, Proc, Refusal};
+use dcc_prog::{Cells, Cpu, Frame, Heights, Image, Proc, Refusal};
 use dcc_procs::find;
 use indexmap::IndexMap;
 use std::alloc::Global;
@@ -42,6 +44,17 @@ fn nodes_of(
     Ok(())
 }
 
+fn frame_of(alloc: Global, line: &mut String, frame: &Frame) -> Result<(), Error> {
+    line.push_str(&format!(in alloc; " {} {} {}", frame.framed, frame.args, frame.exposed.local)?)?;
+    if let Some(arg) = frame.exposed.arg {
+        line.push_str(&format!(in alloc; "-{arg}")?)?;
+    }
+    for cell in frame.cells.iter() {
+        line.push_str(&format!(in alloc; " {}:{}", cell.first, cell.size)?)?;
+    }
+    Ok(())
+}
+
 fn refusal_of(alloc: Global, refusal: Refusal) -> Result<String, Error> {
     Ok(match refusal {
         Refusal::Construct { kind, at } => format!(in alloc; "construct {kind} {at}")?,
@@ -55,6 +68,7 @@ fn line_of(
     alloc: Global,
     procs: &Vec<Proc>,
     heights: &Heights,
+    cells: &Cells,
     full: bool,
 ) -> Result<String, Error> {
     if !full {
@@ -64,6 +78,9 @@ fn line_of(
     for ((proc, ret), at) in procs.iter().zip(heights.ret.iter()).zip(heights.at.iter()) {
         line.push_str(&format!(in alloc; " ={}-{ret}", proc.entry)?)?;
         nodes_of(alloc, &mut line, proc, at)?;
+    }
+    for frame in cells.frames.iter() {
+        frame_of(alloc, &mut line, frame)?;
     }
     Ok(line)
 }
@@ -79,9 +96,15 @@ fn answer_of(alloc: Global, bytes: &Vec<u8>, cpu: Cpu, full: bool) -> Result<Str
         Ok(procs) => procs,
         Err(refusal) => return refusal_of(alloc, refusal),
     };
-    match heights(alloc, &procs) {
-        Ok(heights) => line_of(alloc, &procs, &heights, full),
-        Err(refusal) => Ok(format!(in alloc; "heights {}", refusal_of(alloc, refusal)?)?),
+    let heights = match heights(alloc, &procs) {
+        Ok(heights) => heights,
+        Err(refusal) => {
+            return Ok(format!(in alloc; "heights {}", refusal_of(alloc, refusal)?)?);
+        }
+    };
+    match cells(alloc, &procs, &heights, layout.delta) {
+        Ok(cells) => line_of(alloc, &procs, &heights, &cells, full),
+        Err(refusal) => Ok(format!(in alloc; "frames {}", refusal_of(alloc, refusal)?)?),
     }
 }
 
@@ -133,11 +156,13 @@ def answers(program, cpu, paths, *words):
     return lines
 
 
-def file_of(code, rest=b""):
-    """The file whose prelude of 5 bytes sets DS to the segment behind the code."""
+def file_of(code, rest=b"", apart=0):
+    """The file whose prelude of 5 bytes sets DS to the segment behind the code.
+
+    The stack's segment begins so many paragraphs above it."""
     paragraphs = -(-(5 + len(code)) // 16)
     image = bytes([0xB8]) + paragraphs.to_bytes(2, "little") + bytes([0x8E, 0xD8]) + code
     image += bytes(-len(image) % 16) + rest
     length = 32 + len(image)
-    words = [length % 512, -(-length // 512), 1, 2, 0, 0xFFFF, paragraphs, 0x0100, 0, 0, 0, 28, 0, 1, 0]
+    words = [length % 512, -(-length // 512), 1, 2, 0, 0xFFFF, paragraphs + apart, 0x0100, 0, 0, 0, 28, 0, 1, 0]
     return b"MZ" + b"".join(word.to_bytes(2, "little") for word in words) + image

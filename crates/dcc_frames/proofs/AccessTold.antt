@@ -228,7 +228,7 @@ module _ (image : Image) (layout : Layout) (body : Body) (is : IsBody image layo
       let count = passed_of counts step.op in
       let own = own_of body.framed step.height in
       let some : (count ≡ 0) → ⊥ = λ none. true≢false (sym (ap (λ b. b || int_le (pos (2 * count)) own) ((Decides-eqb count 0).1 none)) ∙ e) in
-      let more : 0 < count = elim (cases_lt 0 count) [ | inl less ↦ less | inr le ↦ absurd (some (omega (arith, le))) ] in
+      let more : 0 < count = elim (cases_lt 0 count) [ inl less ↦ less | inr le ↦ absurd (some (omega (arith, le))) ] in
       let p = is-passing counts step.op 0 more in
       let stands : StandsAt image layout step.at (Call p.target) = subst (StandsAt image layout step.at) p.call s.stands in
       let h = has p.target (called is.is_entry s.node stands) in

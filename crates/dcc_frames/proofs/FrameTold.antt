@@ -45,6 +45,7 @@ cell-bytes bytes some small = by (int_le bytes.end (bytes.first +ℤ pos 1)) ref
   where
     at-end : (n : ℕ) → (bytes.first +ℤ pos n) ≡ bytes.end → record { first = bytes.first; end = bytes.first +ℤ pos n } ≡ as_span bytes
     at-end n is = ap (λ e. let s : Span = record { first = bytes.first; end = e } in s) is
+
     by : (b : Bool) → int_le bytes.end (bytes.first +ℤ pos 1) ≡ b → bytes_of (cell_of bytes) ≡ as_span bytes
     by true e =
         ap (λ b. let s : Span = record { first = bytes.first; end = bytes.first +ℤ pos (if b then 1 else 2) } in s) e
@@ -98,6 +99,7 @@ cells-ascend (run ∷ runs) pairs =
         let h = cell-run runs cell among in
         subst (λ (c : Cell). run.bytes.first <ℤ c.first) h.cell_is
         (pairs-head (λ (a b : Piece). a.bytes.first <ℤ b.bytes.first) run runs pairs h.run h.among)
+
     by :
         AllPairs (λ (a b : Cell). a.first <ℤ b.first) (cells_from runs) → (b : Bool) → is_small run.bytes ≡ b
         → AllPairs (λ (a b : Cell). a.first <ℤ b.first) (cells_from (run ∷ runs))

@@ -150,11 +150,12 @@ module _ (image : Image) (layout : Layout) (body : Body) (is : IsBody image layo
   piece-told span (used {at} node uses) = (Some at, used-told at span node uses)
   piece-told _ (argument {count} {number} arguments less) =
       let same = one-count image layout body.entry count body.args arguments is.arguments in
-      let first : (pos 4 +ℤ pos (2 * number)) ≡ pos (4 + 2 * number) = omega (arith, ints) in
-      (None,
-      Contains-append_left (words_from (pos 4) body.args None) _ _
-      (subst (λ f. Contains (words_from (pos 4) body.args None) (record { bytes = word_at f; user = None })) first
-      (words-in (pos 4) body.args None number (omega (arith, less, same)))))
+      let first : (pos 4 +ℤ pos (2 * number)) ≡ pos (4 + 2 * number) = omega (arith, ints) in (
+        None,
+        Contains-append_left (words_from (pos 4) body.args None) _ _
+            (subst (λ f. Contains (words_from (pos 4) body.args None) (record { bytes = word_at f; user = None })) first
+            (words-in (pos 4) body.args None number (omega (arith, less, same)))),
+      )
 
   module _ (enough : All (λ (step : Step). has_words counts body.framed step ≡ true) body.steps.items) where
     fits-own :
@@ -179,15 +180,19 @@ module _ (image : Image) (layout : Layout) (body : Body) (is : IsBody image layo
     used-from step there s piece among =
         elim (Contains-append_cases (piece_of (moved_of body.framed step.op step.height) step.at) _ piece among) [
           | inl here ↦
-              (let m = in-piece (moved_of body.framed step.op step.height) step.at piece here in
-              (moved (moved-tells image layout body.entry step s piece.bytes
-              (ap (λ f. moved_of f step.op step.height) (sym is.framed) ∙ m.0)), m.1))
+              (let m = in-piece (moved_of body.framed step.op step.height) step.at piece here in (
+                moved (moved-tells image layout body.entry step s piece.bytes
+                    (ap (λ f. moved_of f step.op step.height) (sym is.framed) ∙ m.0)),
+                m.1,
+              ))
           | inr rest ↦
               elim (Contains-append_cases (piece_of (access_of body.framed step.op) step.at) _ piece rest) [
                 | inl here ↦
-                    (let m = in-piece (access_of body.framed step.op) step.at piece here in
-                    (accessed (access-tells image layout body.entry step s piece.bytes
-                    (ap (λ f. access_of f step.op) (sym is.framed) ∙ m.0)), m.1))
+                    (let m = in-piece (access_of body.framed step.op) step.at piece here in (
+                      accessed (access-tells image layout body.entry step s piece.bytes
+                          (ap (λ f. access_of f step.op) (sym is.framed) ∙ m.0)),
+                      m.1,
+                    ))
                 | inr words ↦ passed-from words
               ]
         ]
@@ -205,10 +210,11 @@ module _ (image : Image) (layout : Layout) (body : Body) (is : IsBody image layo
             let first : (pos (2 + 2 * w.0) -ℤ pos step.height) ≡ ((pos 2 -ℤ pos step.height) +ℤ pos (2 * w.0)) = omega (arith, ints) in
             let less : w.0 < h.count = (let l = w.1 in omega (arith, l, same)) in
             let word : IsPassedWord image layout body.entry step.at (span_of (pos (2 + 2 * w.0) -ℤ pos step.height) 2) =
-            passed stands s.has h.arguments less (fits-own step w.0 (All-contains (λ (t : Step). has_words counts body.framed t ≡ true) body.steps.items step enough there) w.1) in
-            (IsUsed.passed (subst (λ (b : Bytes). IsPassedWord image layout body.entry step.at (as_span b)) (ap (λ (q : Piece). q.bytes) w.2)
-            (subst (λ f. IsPassedWord image layout body.entry step.at (span_of f 2)) first word)),
-            ap (λ (q : Piece). q.user) (sym w.2))
+            passed stands s.has h.arguments less (fits-own step w.0 (All-contains (λ (t : Step). has_words counts body.framed t ≡ true) body.steps.items step enough there) w.1) in (
+              IsUsed.passed (subst (λ (b : Bytes). IsPassedWord image layout body.entry step.at (as_span b)) (ap (λ (q : Piece). q.bytes) w.2)
+                  (subst (λ f. IsPassedWord image layout body.entry step.at (span_of f 2)) first word)),
+              ap (λ (q : Piece). q.user) (sym w.2),
+            )
 
     -- a piece with a user is used by it; one without is the word of an argument
     record IsTold (piece : Piece) : Type 0 where
@@ -236,9 +242,10 @@ module _ (image : Image) (layout : Layout) (body : Body) (is : IsBody image layo
           record {
             is_piece = used s.node u.0;
             by_user = λ at user_is.
-                (let same : f.source.at ≡ at = (let a = u.1 in let e : Some f.source.at ≡ Some at = sym a ∙ user_is in cc) in
-                (subst (IsNode image layout body.entry) same s.node,
-                subst (λ a. IsUsed image layout body.entry a (as_span piece.bytes)) same u.0));
+                (let same : f.source.at ≡ at = (let a = u.1 in let e : Some f.source.at ≡ Some at = sym a ∙ user_is in cc) in (
+                  subst (IsNode image layout body.entry) same s.node,
+                  subst (λ a. IsUsed image layout body.entry a (as_span piece.bytes)) same u.0,
+                ));
           })
     ]
 

@@ -15,7 +15,11 @@ const MOST_CELLS: usize = 512;
 fn cell_of(bytes: Bytes) -> Cell
     ensures { result ≡ cell_of bytes }
 {
-    let size = if i64::from(bytes.end) <= i64::from(bytes.first) + 1 { 1 } else { 2 };
+    let size = if i64::from(bytes.end) <= i64::from(bytes.first) + 1 {
+        1
+    } else {
+        2
+    };
     Cell {
         first: bytes.first,
         size,

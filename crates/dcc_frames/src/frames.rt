@@ -40,7 +40,12 @@ fn sort(pieces: &mut Vec<Piece>) -> Result<(), AllocError>
 }
 
 // The frame of a procedure, with the numbers of arguments of all procedures by their entries.
-fn frame(alloc: Global, body: &Body, counts: &IndexMap<u16, u16>, delta: u16) -> Result<Frame, Refusal>
+fn frame(
+    alloc: Global,
+    body: &Body,
+    counts: &IndexMap<u16, u16>,
+    delta: u16,
+) -> Result<Frame, Refusal>
     ensures frame { (image : TheImage) (layout : TheLayout) → IsReady image layout body.now (λ entry. get nat_eq counts.now entry) delta
         → IfOk result (λ frame. IsFrameAt image layout body.now.entry frame) }
     ensures refused { (image : TheImage) (layout : TheLayout) → IsReady image layout body.now (λ entry. get nat_eq counts.now entry) delta
@@ -63,7 +68,12 @@ fn frame(alloc: Global, body: &Body, counts: &IndexMap<u16, u16>, delta: u16) ->
 }
 
 // The frames of all procedures, with their numbers of arguments by their entries.
-fn frames(alloc: Global, bodies: &[Body], counts: &IndexMap<u16, u16>, delta: u16) -> Result<Vec<Frame>, Refusal>
+fn frames(
+    alloc: Global,
+    bodies: &[Body],
+    counts: &IndexMap<u16, u16>,
+    delta: u16,
+) -> Result<Vec<Frame>, Refusal>
     ensures frames { (image : TheImage) (layout : TheLayout) → AreAllReady image layout bodies.now (λ entry. get nat_eq counts.now entry) delta
         → IfOk result (λ frames. AreFramesAt image layout bodies.now frames.items) }
     ensures refused { (image : TheImage) (layout : TheLayout) → AreAllReady image layout bodies.now (λ entry. get nat_eq counts.now entry) delta
@@ -83,7 +93,12 @@ fn frames(alloc: Global, bodies: &[Body], counts: &IndexMap<u16, u16>, delta: u1
 /// A program is refused for a construct of the kinds 7 and 8, which then stands at the named offset; and for more than 512
 /// cells or 32 argument words of one procedure. Where the answer is Ok, no construct that frames tell stands anywhere, and
 /// no such count is too great.
-pub fn cells(alloc: Global, procs: &Vec<Proc>, heights: &Heights, delta: u16) -> Result<Cells, Refusal>
+pub fn cells(
+    alloc: Global,
+    procs: &Vec<Proc>,
+    heights: &Heights,
+    delta: u16,
+) -> Result<Cells, Refusal>
     ensures cells { (image : TheImage) (layout : TheLayout) → AreAnalysed image layout procs.now.items heights.now delta
         → IfOk result (λ cells. AreFrames image layout procs.now.items cells) }
     ensures refused { (image : TheImage) (layout : TheLayout) → AreAnalysed image layout procs.now.items heights.now delta

@@ -37,7 +37,8 @@ fn memory_operand(op: Op) -> Option<(Width, Ea)>
 {
     match op {
         Op::Alu(_, a, b) | Op::Mov(a, b) | Op::Xchg(a, b) => memory_of_two(a, b),
-        Op::Unary(_, a) | Op::Shift(_, a, _) | Op::Imul3(_, a, _) | Op::Push(a) | Op::Pop(a) => memory_of(a),
+        Op::Unary(_, a) | Op::Shift(_, a, _) | Op::Imul3(_, a, _) | Op::Push(a) | Op::Pop(a) =>
+            memory_of(a),
         _ => None,
     }
 }
@@ -141,7 +142,10 @@ pub fn word_at(first: i32) -> Bytes
     requires high { first ≤ℤ pos 200000 }
     ensures { result ≡ word_at first }
 {
-    Bytes { first, end: first + 2 }
+    Bytes {
+        first,
+        end: first + 2,
+    }
 }
 
 /// The word that a PUSH or POP moves, but for the saved BP of a framed procedure.

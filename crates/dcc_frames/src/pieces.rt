@@ -36,7 +36,12 @@ fn word(first: i32, user: Option<u16>, number: u16) -> Piece
 }
 
 // Adds so many words from an offset on.
-fn add_words(pieces: &mut Vec<Piece>, first: i32, count: u16, user: Option<u16>) -> Result<(), AllocError>
+fn add_words(
+    pieces: &mut Vec<Piece>,
+    first: i32,
+    count: u16,
+    user: Option<u16>,
+) -> Result<(), AllocError>
     requires low { neg_ℤ (pos 65536) ≤ℤ first }
     requires high { first ≤ℤ pos 4 }
     ensures { OnOk result (pieces.new.items ≡ pieces.old.items ++ words_from first count user) }
@@ -63,7 +68,11 @@ fn add_used(
 }
 
 /// The bytes of a frame that belong together: those that an instruction uses together, and the word of each argument.
-pub fn pieces(alloc: Global, body: &Body, counts: &IndexMap<u16, u16>) -> Result<Vec<Piece>, AllocError>
+pub fn pieces(
+    alloc: Global,
+    body: &Body,
+    counts: &IndexMap<u16, u16>,
+) -> Result<Vec<Piece>, AllocError>
     ensures { IfOk result (λ pieces. pieces.items ≡ pieces_of body.now (λ entry. get nat_eq counts.now entry)) }
 {
     let mut pieces = Vec::new(alloc);

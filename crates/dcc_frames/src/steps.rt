@@ -19,14 +19,19 @@ pub struct Step {
 }
 
 /// The instructions of a procedure, each with the height that stands for it, in their order.
-pub fn steps(alloc: Global, proc: &Proc, heights: &IndexMap<u16, u16>) -> Result<Vec<Step>, AllocError>
+pub fn steps(
+    alloc: Global,
+    proc: &Proc,
+    heights: &IndexMap<u16, u16>,
+) -> Result<Vec<Step>, AllocError>
     ensures { IfOk result (λ steps. steps.items ≡ steps_of proc.now.nodes.entries heights.now.entries) }
 {
     let mut steps = Vec::new(alloc);
     for place in 0..proc.nodes.len().min(heights.len()) {
-        let (Some((at, node)), Some((_, height))) =
-            (proc.nodes.get_index(place), heights.get_index(place))
-        else {
+        let (Some((at, node)), Some((_, height))) = (
+            proc.nodes.get_index(place),
+            heights.get_index(place),
+        ) else {
             unreachable!();
         };
         steps.push(Step {
