@@ -35,4 +35,7 @@ pub record HasRoomIn (framed : Bool) (removed : ℕ) (steps : List Step) (count 
 -- the number of arguments as it is told: none for the entry procedure
 pub data IsCounted (is_start framed : Bool) (removed : ℕ) (steps : List Step) (count : ℕ) : Type 0 where
   of_entry : is_start ≡ true → count ≡ 0 → IsCounted is_start framed removed steps count
-  of_other : is_start ≡ false → IsLeast (HasRoomIn framed removed steps) count → IsCounted is_start framed removed steps count
+  of_other :
+      is_start ≡ false
+      → IsLeast (HasRoomIn framed removed steps) count
+      → IsCounted is_start framed removed steps count

@@ -5,13 +5,14 @@ use Rattle.dcc_prog.specs.declared.image.Image.{Image}
 use Rattle.dcc_prog.specs.declared.procedure.Layout.{Layout}
 use Rattle.dcc_prog.specs.declared.procedure.Proc.{Proc}
 use Rattle.dcc_prog.specs.declared.frame.Heights.{Heights}
+use Rattle.dcc_prog.specs.declared.refusal.Refusal.{Refusal}
 use Rattle.dcc_prog.specs.Trail.{StandsAt, IsNode, IsEntry}
 use Rattle.dcc_prog.specs.FrameForm.{is_framed}
 use Rattle.dcc_prog.specs.Height.{IsRemoved, HasHeight}
 use Rattle.dcc_prog.specs.Frame.{HasArguments}
 use Rattle.dcc_prog.specs.Found.{IsFound, AreFound}
 use Rattle.dcc_prog.specs.Analysed.{AreHeightsOf, AreHeights}
-use Rattle.dcc_prog.specs.Refused.{IsAcceptedByHeights}
+use Rattle.dcc_prog.specs.Refused.{IsAcceptedByHeights, IsRefusedByFrames}
 use Rattle.dcc_frames.specs.declared.steps.Step.{Step}
 use Rattle.dcc_frames.specs.declared.body.Body.{Body}
 
@@ -48,7 +49,8 @@ pub record IsBodyOf (image : Image) (layout : Layout) (proc : Proc) (body : Body
   pub is_body : IsBody image layout body
 
 -- a procedure that is reached, the heights of its nodes, what its RETs remove, and whether it is the entry procedure
-pub record IsMeasured (image : Image) (layout : Layout) (proc : Proc) (heights : List (ℕ × ℕ)) (removed : ℕ) (is_start : Bool) : Type 0 where
+pub record IsMeasured
+    (image : Image) (layout : Layout) (proc : Proc) (heights : List (ℕ × ℕ)) (removed : ℕ) (is_start : Bool) : Type 0 where
   pub is_entry : IsEntry image layout proc.entry
   pub found : IsFound image layout proc
   pub heights_are : AreHeightsOf image layout proc heights
@@ -56,6 +58,19 @@ pub record IsMeasured (image : Image) (layout : Layout) (proc : Proc) (heights :
   pub accepted : IsAcceptedByHeights image layout
   pub start : is_start ≡ true → proc.entry ≡ layout.start_ip
   pub other : is_start ≡ false → proc.entry ≢ layout.start_ip
+
+-- this is the body of the procedure in every program in which it is measured so, or such a program is refused so
+abbrev pub IsBodyOfAll : Proc → List (ℕ × ℕ) → ℕ → Bool → Body → Type 0
+IsBodyOfAll proc heights removed is_start body =
+    (image : Image) (layout : Layout)
+    → IsMeasured image layout proc heights removed is_start
+    → IsBodyOf image layout proc body
+
+abbrev pub IsBodyRefusal : Proc → List (ℕ × ℕ) → ℕ → Bool → Refusal → Type 0
+IsBodyRefusal proc heights removed is_start refusal =
+    (image : Image) (layout : Layout)
+    → IsMeasured image layout proc heights removed is_start
+    → IsRefusedByFrames image layout refusal
 
 -- procedures as they are found, with their heights
 pub record AreMeasured (image : Image) (layout : Layout) (procs : List Proc) (heights : Heights) : Type 0 where
@@ -65,6 +80,17 @@ pub record AreMeasured (image : Image) (layout : Layout) (procs : List Proc) (he
 -- the bodies of procedures in their order
 abbrev pub AreBodies : Image → Layout → List Proc → List Body → Type 0
 AreBodies image layout procs bodies = AllZip (IsBodyOf image layout) procs bodies
+
+-- these are the bodies in every such program, or it is refused so
+abbrev pub AreBodiesOfAll : List Proc → Heights → List Body → Type 0
+AreBodiesOfAll procs heights bodies =
+    (image : Image) (layout : Layout) → AreMeasured image layout procs heights → AreBodies image layout procs bodies
+
+abbrev pub IsBodiesRefusal : List Proc → Heights → Refusal → Type 0
+IsBodiesRefusal procs heights refusal =
+    (image : Image) (layout : Layout)
+    → AreMeasured image layout procs heights
+    → IsRefusedByFrames image layout refusal
 
 -- a procedure with that entry and so many arguments is among these
 pub record HasBody (bodies : List Body) (entry count : ℕ) : Type 0 where

@@ -1,5 +1,5 @@
--- Accesses and calls that a frame allows, by its instructions. This stands between the definitions and the code; no public
--- contract rests on it.
+-- Accesses and calls that a frame allows, by its instructions. This stands between the definitions and the code; no
+-- public contract rests on it.
 use Rattle.std.specs.Prelude.{◌≡◌, ℕ, ◌+◌, ◌*◌, ◌==◌, ℤ, pos, ◌+ℤ◌, ◌-ℤ◌, int_le, Bool, true, false, not, ◌&&◌, ◌||◌, if◌then◌else◌, List, Contains, Option, Some, None, unwrap_or}
 use Rattle.dcc_prog.specs.declared.instr.Op.{Op}
 use Rattle.dcc_prog.specs.declared.instr.Op.TheVariants.{Call}
@@ -24,12 +24,14 @@ abbrev pub byte_from : ℤ → Bytes
 byte_from start = record { first = start; end = start +ℤ pos 1 }
 
 abbrev pub has_access_inside : Bool → ℕ → Step → Bool
-has_access_inside framed args step = passes (λ (bytes : Bytes). is_inside args step.height bytes) (access_of framed step.op)
+has_access_inside framed args step =
+    passes (λ (bytes : Bytes). is_inside args step.height bytes) (access_of framed step.op)
 
 -- where the frame's addresses can't be told, no byte may be exposed
 abbrev pub has_start_inside : ℕ → Bool → Step → Bool
 has_start_inside args lacks_addresses step =
-    passes (λ (start : ℤ). not lacks_addresses && is_inside args step.height (byte_from start)) (start_of step.op step.height)
+    passes (λ (start : ℤ). not lacks_addresses && is_inside args step.height (byte_from start))
+    (start_of step.op step.height)
 
 abbrev pub is_allowed : Bool → ℕ → Bool → Step → Bool
 is_allowed framed args lacks_addresses step =

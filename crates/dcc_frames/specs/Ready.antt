@@ -1,21 +1,25 @@
--- What is found of one frame, and of all. This stands between the definitions and the code; no public contract rests on it.
+-- What is found of one frame, and of all. This stands between the definitions and the code; no public contract rests
+-- on it.
 use Rattle.std.specs.Prelude.{◌≡◌, ◌≤◌, ℕ, ◌<ℤ◌, Bool, true, false, not, ◌==◌, ◌||◌, List, map, All, AllPairs, Contains, Option}
 use Rattle.std.specs.List.{AllZip}
 use Rattle.dcc_prog.specs.declared.image.Image.{Image}
 use Rattle.dcc_prog.specs.declared.procedure.Layout.{Layout}
 use Rattle.dcc_prog.specs.declared.frame.Cell.{Cell}
 use Rattle.dcc_prog.specs.declared.frame.Frame.{Frame}
+use Rattle.dcc_prog.specs.declared.refusal.Refusal.{Refusal}
 use Rattle.dcc_prog.specs.Trail.{IsNode}
 use Rattle.dcc_prog.specs.FrameForm.{is_framed}
 use Rattle.dcc_prog.specs.Frame.{Span, HasArguments, IsCell, HasExposedLocal, HasExposedArguments}
 use Rattle.dcc_prog.specs.Construct.{IsAtFrame}
 use Rattle.dcc_prog.specs.Limit.{HasMany}
+use Rattle.dcc_prog.specs.Refused.{IsRefusedByFrames}
 use Rattle.dcc_prog.specs.Analysed.{bytes_of}
 use Rattle.dcc_frames.specs.declared.body.Body.{Body}
 use Rattle.dcc_frames.specs.Body.{IsBody, HasCounts}
 
 -- a procedure, the numbers of arguments of all procedures, and how far the stack segment begins above the data segment
-pub record IsReady (image : Image) (layout : Layout) (body : Body) (counts : ℕ → Option ℕ) (delta : ℕ) : Type 0 where
+pub record IsReady
+    (image : Image) (layout : Layout) (body : Body) (counts : ℕ → Option ℕ) (delta : ℕ) : Type 0 where
   pub is_body : IsBody image layout body
   pub has_counts : HasCounts image layout counts
   pub delta_is : delta ≡ layout.delta
@@ -34,7 +38,8 @@ pub record IsFrameAt (image : Image) (layout : Layout) (entry : ℕ) (frame : Fr
   pub few_arguments : (count : ℕ) → HasArguments image layout entry count → count ≤ 32
 
 -- procedures that are reached, and the same besides
-pub record AreAllReady (image : Image) (layout : Layout) (bodies : List Body) (counts : ℕ → Option ℕ) (delta : ℕ) : Type 0 where
+pub record AreAllReady
+    (image : Image) (layout : Layout) (bodies : List Body) (counts : ℕ → Option ℕ) (delta : ℕ) : Type 0 where
   pub are_bodies : All (IsBody image layout) bodies
   pub has_counts : HasCounts image layout counts
   pub delta_is : delta ≡ layout.delta
@@ -42,6 +47,32 @@ pub record AreAllReady (image : Image) (layout : Layout) (bodies : List Body) (c
 -- the frames of procedures in their order
 abbrev pub AreFramesAt : Image → Layout → List Body → List Frame → Type 0
 AreFramesAt image layout bodies frames = AllZip (λ (body : Body). IsFrameAt image layout body.entry) bodies frames
+
+-- this is the frame in every program for which the procedure is ready so, or such a program is refused so
+abbrev pub IsFrameOfAll : Body → (ℕ → Option ℕ) → ℕ → Frame → Type 0
+IsFrameOfAll body counts delta frame =
+    (image : Image) (layout : Layout)
+    → IsReady image layout body counts delta
+    → IsFrameAt image layout body.entry frame
+
+abbrev pub IsFrameRefusal : Body → (ℕ → Option ℕ) → ℕ → Refusal → Type 0
+IsFrameRefusal body counts delta refusal =
+    (image : Image) (layout : Layout)
+    → IsReady image layout body counts delta
+    → IsRefusedByFrames image layout refusal
+
+-- the same of all procedures
+abbrev pub AreFramesOfEach : List Body → (ℕ → Option ℕ) → ℕ → List Frame → Type 0
+AreFramesOfEach bodies counts delta frames =
+    (image : Image) (layout : Layout)
+    → AreAllReady image layout bodies counts delta
+    → AreFramesAt image layout bodies frames
+
+abbrev pub IsFramesRefusal : List Body → (ℕ → Option ℕ) → ℕ → Refusal → Type 0
+IsFramesRefusal bodies counts delta refusal =
+    (image : Image) (layout : Layout)
+    → AreAllReady image layout bodies counts delta
+    → IsRefusedByFrames image layout refusal
 
 -- the frame's addresses can't be told
 abbrev pub lacks_addresses : ℕ → Bool → Bool

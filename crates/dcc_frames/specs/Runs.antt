@@ -1,5 +1,5 @@
--- The runs of pieces of a frame: pieces that overlap, joined. This stands between the definitions and the code; no public
--- contract rests on it.
+-- The runs of pieces of a frame: pieces that overlap, joined. This stands between the definitions and the code; no
+-- public contract rests on it.
 use Rattle.std.specs.Prelude.{◌≡◌, ℕ, ℤ, ◌≤ℤ◌, ◌<ℤ◌, int_lt, if◌then◌else◌, List, [], ◌∷◌, ◌++◌, All, AllPairs, Contains, Option, Some, None}
 use Rattle.std.specs.Int.{int_max}
 use Rattle.dcc_frames.specs.declared.bytes.Bytes.{Bytes}
@@ -74,4 +74,5 @@ with_last runs (Some last) = runs ++ last ∷ []
 abbrev pub joined_to : List Piece → Option Piece → Piece → List Piece
 joined_to runs None piece = runs ++ piece ∷ []
 joined_to runs (Some last) piece =
-    if int_lt piece.bytes.first last.bytes.end then runs ++ run_with last piece ∷ [] else (runs ++ last ∷ []) ++ piece ∷ []
+    if int_lt piece.bytes.first last.bytes.end then runs ++ run_with last piece ∷ []
+    else (runs ++ last ∷ []) ++ piece ∷ []

@@ -1,5 +1,5 @@
--- From where bytes are exposed, as a list, and the exposed bytes by it. This stands between the definitions and the code;
--- no public contract rests on it.
+-- From where bytes are exposed, as a list, and the exposed bytes by it. This stands between the definitions and the
+-- code; no public contract rests on it.
 use Rattle.std.specs.Prelude.{◌≤◌, ◌<◌, ℕ, ℤ, pos, neg_ℤ, ◌≤ℤ◌, ◌<ℤ◌, if◌then◌else◌, List, ◌++◌, All, Contains, Option, Some, None}
 use Rattle.std.specs.List.{flat_map}
 use Rattle.std.specs.Option.{option_to_list}
@@ -12,11 +12,13 @@ use Rattle.dcc_frames.specs.Used.{start_of}
 abbrev pub long_first : Piece → Option ℤ
 long_first run = if is_small run.bytes then None else Some run.bytes.first
 
--- by instructions, and by runs
+-- by instructions
+abbrev pub starts_by : List Step → List ℤ
+starts_by steps = flat_map (λ step. option_to_list (start_of step.op step.height)) steps
+
+-- and by runs besides
 abbrev pub starts_of : List Step → List Piece → List ℤ
-starts_of steps runs =
-    flat_map (λ step. option_to_list (start_of step.op step.height)) steps
-    ++ flat_map (λ run. option_to_list (long_first run)) runs
+starts_of steps runs = starts_by steps ++ flat_map (λ run. option_to_list (long_first run)) runs
 
 -- an offset whose distance from BP a word has room for
 pub record IsNear (start : ℤ) : Type 0 where

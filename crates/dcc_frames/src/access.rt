@@ -52,9 +52,10 @@ fn is_allowed(framed: bool, args: u16, lacks_addresses: bool, step: Step) -> boo
 
 /// Refuses a procedure of which an instruction accesses or exposes bytes that its frame doesn't have.
 pub fn check_accesses(body: &Body, lacks_addresses: bool) -> Result<(), Refusal>
-    ensures allowed { OnOk result (All (λ step. is_allowed body.now.framed body.now.args lacks_addresses step ≡ true) body.now.steps.items) }
-    ensures refused { IfErr result
-        (IsToldOf body.now.steps.items (λ step. is_allowed body.now.framed body.now.args lacks_addresses step) frame_access) }
+    ensures allowed { OnOk result
+        (All (λ step. is_allowed body.now.framed body.now.args lacks_addresses step ≡ true) body.now.steps.items) }
+    ensures refused { IfErr result (IsToldOf body.now.steps.items
+        (λ step. is_allowed body.now.framed body.now.args lacks_addresses step) frame_access) }
 {
     for step in &body.steps {
         if !is_allowed(body.framed, body.args, lacks_addresses, *step) {
@@ -98,9 +99,10 @@ fn has_words(counts: &IndexMap<u16, u16>, framed: bool, step: Step) -> bool
 
 /// Refuses a procedure of which a call finds fewer bytes of its own frame than the callee's arguments take.
 pub fn check_calls(body: &Body, counts: &IndexMap<u16, u16>) -> Result<(), Refusal>
-    ensures enough { OnOk result (All (λ step. has_words (λ entry. get nat_eq counts.now entry) body.now.framed step ≡ true) body.now.steps.items) }
-    ensures refused { IfErr result
-        (IsToldOf body.now.steps.items (λ step. has_words (λ entry. get nat_eq counts.now entry) body.now.framed step) arguments_short) }
+    ensures enough { let counted = λ (entry : ℕ). get nat_eq counts.now entry in
+        OnOk result (All (λ step. has_words counted body.now.framed step ≡ true) body.now.steps.items) }
+    ensures refused { let counted = λ (entry : ℕ). get nat_eq counts.now entry in
+        IfErr result (IsToldOf body.now.steps.items (λ step. has_words counted body.now.framed step) arguments_short) }
 {
     for step in &body.steps {
         if !has_words(counts, body.framed, *step) {

@@ -3,10 +3,7 @@
 ghost use Rattle.std.specs.Prelude.{◌≡◌, ℕ, nat_eq, Some, IfOk, IfErr, OnOk};
 ghost use Rattle.std.specs.Map.{update};
 ghost use Rattle.indexmap.specs.IndexMap.{get};
-ghost use Rattle.dcc_prog.specs.declared.image.Image.{Image as TheImage};
-ghost use Rattle.dcc_prog.specs.declared.procedure.Layout.{Layout as TheLayout};
-ghost use Rattle.dcc_prog.specs.Refused.{IsRefusedByFrames};
-ghost use Rattle.dcc_frames.specs.Body.{IsBodyOf, IsMeasured, AreMeasured, AreBodies, AreCounts};
+ghost use Rattle.dcc_frames.specs.Body.{IsBodyOfAll, IsBodyRefusal, AreBodiesOfAll, IsBodiesRefusal, AreCounts};
 
 use crate::arguments::arguments;
 use crate::steps::{Step, steps};
@@ -39,10 +36,8 @@ impl Body {
         removed: u16,
         is_start: bool,
     ) -> Result<Body, Refusal>
-        ensures body { (image : TheImage) (layout : TheLayout) → IsMeasured image layout proc.now heights.now.entries removed is_start
-            → IfOk result (λ body. IsBodyOf image layout proc.now body) }
-        ensures refused { (image : TheImage) (layout : TheLayout) → IsMeasured image layout proc.now heights.now.entries removed is_start
-            → IfErr result (IsRefusedByFrames image layout) }
+        ensures body { IfOk result (IsBodyOfAll proc.now heights.now.entries removed is_start) }
+        ensures refused { IfErr result (IsBodyRefusal proc.now heights.now.entries removed is_start) }
     {
         let framed = proc.is_framed();
         let steps = steps(alloc, proc, heights)?;
@@ -64,10 +59,8 @@ impl Body {
 
 /// All procedures, of which the first is the entry procedure.
 pub fn bodies(alloc: Global, procs: &[Proc], heights: &Heights) -> Result<Vec<Body>, Refusal>
-    ensures bodies { (image : TheImage) (layout : TheLayout) → AreMeasured image layout procs.now heights.now
-        → IfOk result (λ bodies. AreBodies image layout procs.now bodies.items) }
-    ensures refused { (image : TheImage) (layout : TheLayout) → AreMeasured image layout procs.now heights.now
-        → IfErr result (IsRefusedByFrames image layout) }
+    ensures bodies { IfOk result (λ bodies. AreBodiesOfAll procs.now heights.now bodies.items) }
+    ensures refused { IfErr result (IsBodiesRefusal procs.now heights.now) }
 {
     let mut bodies = Vec::new(alloc);
     for place in 0..procs.len().min(heights.at.len()).min(heights.ret.len()) {

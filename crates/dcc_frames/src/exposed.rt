@@ -1,10 +1,8 @@
 //! The bytes of a frame whose address may be computed.
 
 ghost use Rattle.std.specs.Prelude.{◌≡◌, ◌++◌, [], ◌∷◌, List, ℤ, pos, neg_ℤ, ◌≤ℤ◌, ◌<ℤ◌, All, IfOk, OnOk};
-ghost use Rattle.std.specs.List.{flat_map};
 ghost use Rattle.std.specs.Option.{option_to_list};
-ghost use Rattle.dcc_frames.specs.Used.{start_of};
-ghost use Rattle.dcc_frames.specs.Starts.{long_first, starts_of, IsNear, IsLocalBy, IsArgumentBy};
+ghost use Rattle.dcc_frames.specs.Starts.{starts_by, long_first, starts_of, IsNear, IsLocalBy, IsArgumentBy};
 
 use crate::bytes::Piece;
 use crate::memory::start;
@@ -35,7 +33,7 @@ fn long_first(run: Piece) -> Option<i32>
 
 // From where instructions expose bytes.
 fn starts_of_steps(alloc: Global, steps: &[Step]) -> Result<Vec<i32>, AllocError>
-    ensures { IfOk result (λ starts. starts.items ≡ flat_map (λ step. option_to_list (start_of step.op step.height)) steps.now) }
+    ensures { IfOk result (λ starts. starts.items ≡ starts_by steps.now) }
 {
     let mut starts = Vec::new(alloc);
     for step in steps {
@@ -75,7 +73,8 @@ fn word(start: i32) -> u16
 
 // The exposed bytes below BP, by so many and one more start.
 fn local_with(count: u16, start: i32) -> u16
-    ensures { (starts : List ℤ) → IsNear start → IsLocalBy starts count → IsLocalBy (starts ++ start ∷ []) result }
+    ensures { (starts : List ℤ)
+        → IsNear start → IsLocalBy starts count → IsLocalBy (starts ++ start ∷ []) result }
 {
     if start < 0 && start >= -65535 {
         count.max(distance(start))
@@ -97,7 +96,8 @@ fn local(starts: &[i32]) -> u16
 
 // The lesser of two starts of 4 or more, of which there may be one.
 fn argument_with(least: Option<u16>, start: i32) -> Option<u16>
-    ensures { (starts : List ℤ) → IsNear start → IsArgumentBy starts least → IsArgumentBy (starts ++ start ∷ []) result }
+    ensures { (starts : List ℤ)
+        → IsNear start → IsArgumentBy starts least → IsArgumentBy (starts ++ start ∷ []) result }
 {
     if start < 4 || start > 65535 {
         return least;

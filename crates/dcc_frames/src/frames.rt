@@ -3,13 +3,9 @@
 ghost use Rattle.std.specs.Prelude.{◌≡◌, ℤ, ◌≤ℤ◌, nat_eq, AllPairs, IfOk, IfErr, OnOk};
 ghost use Rattle.std.specs.List.Sorted.{IsPermutation};
 ghost use Rattle.indexmap.specs.IndexMap.{get};
-ghost use Rattle.dcc_prog.specs.declared.image.Image.{Image as TheImage};
-ghost use Rattle.dcc_prog.specs.declared.procedure.Layout.{Layout as TheLayout};
-ghost use Rattle.dcc_prog.specs.Analysed.{AreFrames};
-ghost use Rattle.dcc_prog.specs.Refused.{IsRefusedByFrames};
 ghost use Rattle.dcc_frames.specs.declared.bytes.Piece.{Piece as ThePiece};
-ghost use Rattle.dcc_frames.specs.Frames.{AreAnalysed};
-ghost use Rattle.dcc_frames.specs.Ready.{IsReady, AreAllReady, IsFrameAt, AreFramesAt, lacks_addresses};
+ghost use Rattle.dcc_frames.specs.Frames.{AreFramesOfAll, IsRefusalOfAll};
+ghost use Rattle.dcc_frames.specs.Ready.{IsFrameOfAll, IsFrameRefusal, AreFramesOfEach, IsFramesRefusal, lacks_addresses};
 
 use crate::access::{check_accesses, check_calls};
 use crate::body::{Body, bodies, counts};
@@ -46,10 +42,8 @@ fn frame(
     counts: &IndexMap<u16, u16>,
     delta: u16,
 ) -> Result<Frame, Refusal>
-    ensures frame { (image : TheImage) (layout : TheLayout) → IsReady image layout body.now (λ entry. get nat_eq counts.now entry) delta
-        → IfOk result (λ frame. IsFrameAt image layout body.now.entry frame) }
-    ensures refused { (image : TheImage) (layout : TheLayout) → IsReady image layout body.now (λ entry. get nat_eq counts.now entry) delta
-        → IfErr result (IsRefusedByFrames image layout) }
+    ensures frame { IfOk result (IsFrameOfAll body.now (λ entry. get nat_eq counts.now entry) delta) }
+    ensures refused { IfErr result (IsFrameRefusal body.now (λ entry. get nat_eq counts.now entry) delta) }
 {
     let lacks = lacks_addresses(delta, body.framed);
     check_accesses(body, lacks)?;
@@ -74,10 +68,9 @@ fn frames(
     counts: &IndexMap<u16, u16>,
     delta: u16,
 ) -> Result<Vec<Frame>, Refusal>
-    ensures frames { (image : TheImage) (layout : TheLayout) → AreAllReady image layout bodies.now (λ entry. get nat_eq counts.now entry) delta
-        → IfOk result (λ frames. AreFramesAt image layout bodies.now frames.items) }
-    ensures refused { (image : TheImage) (layout : TheLayout) → AreAllReady image layout bodies.now (λ entry. get nat_eq counts.now entry) delta
-        → IfErr result (IsRefusedByFrames image layout) }
+    ensures frames { IfOk result
+        (λ frames. AreFramesOfEach bodies.now (λ entry. get nat_eq counts.now entry) delta frames.items) }
+    ensures refused { IfErr result (IsFramesRefusal bodies.now (λ entry. get nat_eq counts.now entry) delta) }
 {
     let mut frames = Vec::new(alloc);
     for body in bodies {
@@ -86,23 +79,21 @@ fn frames(
     Ok(frames)
 }
 
-/// The frames of procedures with their heights, where the stack segment begins so many bytes above the data segment: of
-/// each procedure whether it sets up BP, the number of its argument words, its cells in ascending order, and which bytes
-/// are exposed.
+/// The frames of the procedures that `find` gives, with the heights that `heights` gives, where the stack segment
+/// begins `delta` bytes above the data segment: of each procedure whether it sets up BP, the number of its argument
+/// words, its cells in ascending order, and which bytes are exposed.
 ///
-/// A program is refused for a construct of the kinds 7 and 8, which then stands at the named offset; and for more than 512
-/// cells or 32 argument words of one procedure. Where the answer is Ok, no construct that frames tell stands anywhere, and
-/// no such count is too great.
+/// A program is refused for a construct of the kinds 7 and 8, which then stands at the named offset; and for more than
+/// 512 cells or 32 argument words of one procedure. Where the answer is Ok, no construct that frames tell stands
+/// anywhere, and no such count is too great.
 pub fn cells(
     alloc: Global,
     procs: &Vec<Proc>,
     heights: &Heights,
     delta: u16,
 ) -> Result<Cells, Refusal>
-    ensures cells { (image : TheImage) (layout : TheLayout) → AreAnalysed image layout procs.now.items heights.now delta
-        → IfOk result (λ cells. AreFrames image layout procs.now.items cells) }
-    ensures refused { (image : TheImage) (layout : TheLayout) → AreAnalysed image layout procs.now.items heights.now delta
-        → IfErr result (IsRefusedByFrames image layout) }
+    ensures cells { IfOk result (AreFramesOfAll procs.now.items heights.now delta) }
+    ensures refused { IfErr result (IsRefusalOfAll procs.now.items heights.now delta) }
 {
     let bodies = bodies(alloc, procs, heights)?;
     let counts = counts(alloc, &bodies)?;

@@ -59,7 +59,8 @@ fn add_used(
     counts: &IndexMap<u16, u16>,
     step: Step,
 ) -> Result<(), AllocError>
-    ensures { OnOk result (pieces.new.items ≡ pieces.old.items ++ used_by framed (λ entry. get nat_eq counts.now entry) step) }
+    ensures { OnOk result
+        (pieces.new.items ≡ pieces.old.items ++ used_by framed (λ entry. get nat_eq counts.now entry) step) }
 {
     add(pieces, moved(framed, step.op, step.height), step.at)?;
     add(pieces, access(framed, step.op), step.at)?;

@@ -1,29 +1,34 @@
 use Rattle.std.proofs.Common.{◌≡◌, ◌+◌, ◌<◌, ◌≤◌, take, length, get_or, sym, ap, ◌∙◌, subst, refl, arith, rules}
 use Rattle.std.proofs.lemmas.List.{take_all}
 use Rattle.dcc_prog.specs.declared.refusal.Refusal.TheVariants.{Memory}
-use Rattle.dcc_prog.specs.Refused.{IsRefusedByFrames, no_memory}
-use Rattle.dcc_frames.specs.Body.{AreBodies}
+use Rattle.dcc_prog.specs.Refused.{no_memory}
+use Rattle.dcc_frames.specs.Body.{AreBodies, IsBodiesRefusal}
 use Rattle.dcc_frames.proofs.BodyLists.{measured-at, bodies-more}
 use Rattle.dcc_frames.proofs.Zipped.{zipped-read, zipped-length}
 use Rattle.dcc_frames.proofs.body.bodies.Goals as goal
 
 pub returns-in_err-new-clause-refused : goal.returns-in_err-new-clause-refused
-returns-in_err-new-clause-refused c = λ image layout m.
-    let place = c.loop-place.place in
+returns-in_err-new-clause-refused c =
+    let refusal = c.in_err-new.field-0.0 in
+    let named : IsBodiesRefusal c.args.procs.now c.args.heights.now refusal = λ image layout m.
+    (let place = c.loop-place.place in
     let procs = c.args.procs.now in
     let heights = c.args.heights.now in
     let proc = c.index-procs-place.result in
+    let read = c.index-procs-place.is in
     let inside : place < length procs = omega (arith, c.loop-place-test.true) in
-    let at = zipped-read _ procs heights.at.items place proc c.index.result.now m.heights_are.at inside c.index-procs-place.is c.index.ensures in
-    let removed = zipped-read _ procs heights.ret.items place proc _ m.heights_are.removed inside c.index-procs-place.is c.index-in-loop-place.ensures in
-    let named : IsRefusedByFrames image layout c.in_err-new.field-0.0 =
+    let at =
+    zipped-read _ procs heights.at.items place proc c.index.result.now m.heights_are.at inside read c.index.ensures in
+    let removed =
+    zipped-read _ procs heights.ret.items place proc _ m.heights_are.removed inside read c.index-in-loop-place.ensures in
     c.in_err-new.ensures.refused image layout
-    (measured-at image layout procs heights m place proc _ _ _ inside c.index-procs-place.is at removed refl) in
+    (measured-at image layout procs heights m place proc _ _ _ inside read at removed refl)) in
     search rules
 
 pub returns-in_err-push-clause-refused : goal.returns-in_err-push-clause-refused
-returns-in_err-push-clause-refused c = λ image layout m.
-    let named : IsRefusedByFrames image layout Memory = no_memory in search rules
+returns-in_err-push-clause-refused c =
+    let named : IsBodiesRefusal c.args.procs.now c.args.heights.now Memory = λ image layout m. no_memory in
+    search rules
 
 pub loop-place-preserved : goal.loop-place-preserved
 loop-place-preserved c = λ image layout m.

@@ -3,12 +3,15 @@ use Rattle.dcc_prog.specs.declared.refusal.LimitName.TheVariants.{Arguments}
 use Rattle.dcc_prog.specs.declared.refusal.Refusal.TheVariants.{Limit, Memory}
 use Rattle.dcc_prog.specs.Refused.{IsRefusedByFrames, no_memory}
 use Rattle.dcc_frames.specs.Arguments.{IsCounted}
+use Rattle.dcc_frames.specs.Body.{IsBodyRefusal}
 use Rattle.dcc_frames.proofs.BodyLaws.{too-many, is-body}
 use Rattle.dcc_frames.proofs.body.Body.new.Goals as goal
 
 pub returns-in_err-steps-clause-refused : goal.returns-in_err-steps-clause-refused
-returns-in_err-steps-clause-refused c = λ image layout m.
-    let named : IsRefusedByFrames image layout Memory = no_memory in search rules
+returns-in_err-steps-clause-refused c =
+    let named : IsBodyRefusal c.args.proc.now c.args.heights.now.entries c.args.removed c.args.is_start Memory =
+    λ image layout m. no_memory in
+    search rules
 
 pub returns-then-args-gt-MOST_ARGUMENTS-clause-refused :
     goal.returns-then-args-gt-MOST_ARGUMENTS-clause-refused
