@@ -1,18 +1,17 @@
 -- The instructions that are refused for what they access or pass, and that no others are.
-use Rattle.std.proofs.Common.{◌≡◌, ◌≢◌, ◌⊎◌, inl, inr, ◌≤◌, ◌<◌, ℕ, zero, suc, ◌+◌, ◌-◌, ◌*◌, ◌==◌, ℤ, pos, neg_ℤ, ◌+ℤ◌, ◌-ℤ◌, ◌≤ℤ◌, ◌<ℤ◌, Bool, true, false, not, cond, ◌&&◌, ◌||◌, List, All, Contains, Option, Some, None, refl, sym, ap, ◌∙◌, subst, true≢false, arith}
+use Rattle.std.proofs.Common.{◌≡◌, ◌⊎◌, inl, inr, ◌<◌, ℕ, ◌+◌, ◌-◌, ◌*◌, ◌==◌, ℤ, pos, ◌-ℤ◌, ◌≤ℤ◌, ◌<ℤ◌, Bool, true, false, not, cond, ◌&&◌, ◌||◌, All, Contains, Option, Some, None, refl, sym, ap, ◌∙◌, subst, true≢false, arith}
 use Rattle.std.specs.Prelude.{int_le}
 use Rattle.std.proofs.lemmas.Int.{ints}
-use Rattle.std.proofs.lemmas.Bool.{cases_lt, cases_eq}
+use Rattle.std.proofs.lemmas.Bool.{cases_lt}
 use Rattle.std.proofs.lemmas.Bool.Decides.{Decides-eqb}
 use Rattle.std.proofs.lemmas.List.Elements.{All-contains}
 use Rattle.dcc_prog.specs.declared.image.Image.{Image}
 use Rattle.dcc_prog.specs.declared.procedure.Layout.{Layout}
-use Rattle.dcc_prog.specs.declared.instr.Op.{Op}
 use Rattle.dcc_prog.specs.declared.instr.Op.TheVariants.{Call}
 use Rattle.dcc_prog.specs.Trail.{StandsAt, IsNode, called}
 use Rattle.dcc_prog.specs.FrameForm.{is_framed}
 use Rattle.dcc_prog.specs.Height.{HasHeight}
-use Rattle.dcc_prog.specs.Frame.{Span, span_of, own_bytes, HasArguments, IsDirectAccess, StartsExposure, IsOutsideFrame, LacksAddresses, HasBadAccess, access_outside, start_outside, no_addresses, IsShortCall}
+use Rattle.dcc_prog.specs.Frame.{Span, span_of, IsDirectAccess, StartsExposure, IsOutsideFrame, LacksAddresses, HasBadAccess, access_outside, start_outside, no_addresses, IsShortCall}
 use Rattle.dcc_frames.specs.declared.bytes.Bytes.{Bytes}
 use Rattle.dcc_frames.specs.declared.steps.Step.{Step}
 use Rattle.dcc_frames.specs.declared.body.Body.{Body}
@@ -22,7 +21,8 @@ use Rattle.dcc_frames.specs.Inside.{passes, is_inside, byte_from, has_access_ins
 use Rattle.dcc_frames.specs.Ready.{lacks_addresses}
 use Rattle.dcc_frames.specs.Body.{IsStep, IsBody, HasCounts}
 use Rattle.dcc_frames.proofs.Told.{access-told, access-tells, start-told, start-tells}
-use Rattle.dcc_frames.proofs.PieceLaws.{one-count, at-node, call-count, IsPassing, is-passing}
+use Rattle.dcc_frames.proofs.StepLists.{at-node}
+use Rattle.dcc_frames.proofs.PieceLaws.{one-count, call-count, is-passing}
 
 -- Tests.
 

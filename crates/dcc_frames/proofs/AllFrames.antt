@@ -1,8 +1,8 @@
 -- The frames of all procedures.
-use Rattle.std.proofs.Common.{◌≡◌, ◌≤◌, ◌<◌, ℕ, zero, suc, ◌+◌, List, [], ◌∷◌, ◌++◌, take, length, get_or, slice_get, All, Contains, Option, Some, refl, sym, ap, ◌∙◌, subst, arith}
+use Rattle.std.proofs.Common.{◌≡◌, ◌<◌, ℕ, zero, suc, ◌+◌, List, [], ◌∷◌, ◌++◌, take, length, get_or, slice_get, All, Option, Some, refl, sym, ap, ◌∙◌, subst, arith}
 use Rattle.std.specs.List.{AllZip}
 use Rattle.std.proofs.lemmas.List.{take_more}
-use Rattle.std.proofs.lemmas.List.Elements.{All-contains, Contains-get_or}
+use Rattle.std.proofs.lemmas.List.Elements.{All-contains}
 use Rattle.dcc_prog.specs.declared.image.Image.{Image}
 use Rattle.dcc_prog.specs.declared.procedure.Layout.{Layout}
 use Rattle.dcc_prog.specs.declared.procedure.Proc.{Proc}
@@ -10,14 +10,13 @@ use Rattle.dcc_prog.specs.declared.frame.Heights.{Heights}
 use Rattle.dcc_prog.specs.declared.frame.Frame.{Frame}
 use Rattle.dcc_prog.specs.declared.frame.Cells.{Cells}
 use Rattle.dcc_prog.specs.declared.refusal.LimitName.{LimitName}
-use Rattle.dcc_prog.specs.Trail.{IsNode, IsEntry}
-use Rattle.dcc_prog.specs.Construct.{IsAtFrame, IsOfFrames}
-use Rattle.dcc_prog.specs.Frame.{HasArguments, IsCell}
-use Rattle.dcc_prog.specs.Limit.{HasMany, IsAboveInFrames, cells, arguments}
-use Rattle.dcc_prog.specs.Found.{AreFound}
+use Rattle.dcc_prog.specs.Trail.{IsEntry}
+use Rattle.dcc_prog.specs.Construct.{IsOfFrames}
+use Rattle.dcc_prog.specs.Frame.{HasArguments}
+use Rattle.dcc_prog.specs.Limit.{IsAboveInFrames, cells, arguments}
 use Rattle.dcc_prog.specs.Analysed.{IsFrameOf, AreFrames}
 use Rattle.dcc_frames.specs.declared.body.Body.{Body}
-use Rattle.dcc_frames.specs.Body.{IsBody, IsBodyOf, AreMeasured, AreBodies, AreCounts, HasCount, HasCounts}
+use Rattle.dcc_frames.specs.Body.{IsBody, IsBodyOf, AreMeasured, AreBodies, AreCounts, HasCounts}
 use Rattle.dcc_frames.specs.Frames.{AreAnalysed}
 use Rattle.dcc_frames.specs.Ready.{IsReady, AreAllReady, IsFrameAt, AreFramesAt}
 use Rattle.dcc_frames.proofs.Zipped.{zipped-at, zipped-push, zipped-length}

@@ -1,24 +1,20 @@
 -- The answer for one procedure, and those for all.
-use Rattle.std.proofs.Common.{◌≡◌, ◌≤◌, ◌<◌, ℕ, ◌+◌, ◌≤ℤ◌, ◌<ℤ◌, map, Bool, true, false, List, [], ◌∷◌, ◌++◌, take, length, get_or, All, AllPairs, Contains, Option, Some, None, refl, sym, ap, ◌∙◌, subst, arith}
-use Rattle.std.specs.List.{AllZip}
+use Rattle.std.proofs.Common.{◌≡◌, ◌≤◌, ℕ, ◌≤ℤ◌, ◌<ℤ◌, map, Bool, true, List, length, All, AllPairs, Contains, Option, None, sym, ap, ◌∙◌, subst, arith}
 use Rattle.std.specs.List.Sorted.{IsPermutation}
 use Rattle.dcc_prog.specs.declared.image.Image.{Image}
 use Rattle.dcc_prog.specs.declared.procedure.Layout.{Layout}
-use Rattle.dcc_prog.specs.declared.procedure.Proc.{Proc}
 use Rattle.dcc_prog.specs.declared.frame.Cell.{Cell}
 use Rattle.dcc_prog.specs.declared.frame.Frame.{Frame}
 use Rattle.dcc_prog.specs.declared.refusal.construct.TheConstants.{FRAME_ACCESS, ARGUMENTS_SHORT}
-use Rattle.dcc_prog.specs.declared.refusal.LimitName.{LimitName}
 use Rattle.dcc_prog.specs.declared.refusal.LimitName.TheVariants.{Procedures, Instructions, Total, Cells, Entries, Arguments}
 use Rattle.dcc_prog.specs.declared.refusal.Refusal.{Refusal}
 use Rattle.dcc_prog.specs.declared.refusal.Refusal.TheVariants.{Construct, Limit, NotYet, Memory}
 use Rattle.dcc_prog.specs.Trail.{IsNode}
 use Rattle.dcc_prog.specs.Construct.{IsAtFrame, bad_access, short_call, IsOfFrames}
 use Rattle.dcc_prog.specs.Frame.{HasArguments, IsCell}
-use Rattle.dcc_prog.specs.Limit.{IsAboveInFrames, cells, arguments}
-use Rattle.dcc_prog.specs.Analysed.{bytes_of, IsFrameOf}
-use Rattle.dcc_prog.specs.Refused.{IsRefusedByFrames, IsAcceptedByFrames, construct, limit, no_memory}
-use Rattle.dcc_prog.specs.Found.{AreFound}
+use Rattle.dcc_prog.specs.Limit.{cells}
+use Rattle.dcc_prog.specs.Analysed.{bytes_of}
+use Rattle.dcc_prog.specs.Refused.{IsRefusedByFrames, construct, limit, no_memory}
 use Rattle.dcc_frames.specs.declared.bytes.Piece.{Piece}
 use Rattle.dcc_frames.specs.declared.steps.Step.{Step}
 use Rattle.dcc_frames.specs.declared.body.Body.{Body}
@@ -29,8 +25,8 @@ use Rattle.dcc_frames.specs.CellLists.{cells_from, long_user, IsOverfull, IsTold
 use Rattle.dcc_frames.specs.CellLists as lists
 use Rattle.dcc_frames.specs.Starts.{starts_of, IsNear, IsLocalBy, IsArgumentBy}
 use Rattle.dcc_frames.specs.Ready.{IsReady, IsFrameAt, lacks_addresses}
-use Rattle.dcc_frames.specs.Body.{IsBody, IsBodyOf, AreBodies, HasCounts}
-use Rattle.dcc_frames.proofs.PieceLaws.{one-count, is-step}
+use Rattle.dcc_frames.proofs.StepLists.{is-step}
+use Rattle.dcc_frames.proofs.PieceLaws.{one-count}
 use Rattle.dcc_frames.proofs.RunsTold.{sorted-ascend}
 use Rattle.dcc_frames.proofs.AccessTold.{access-refused, call-refused, no-short-call}
 use Rattle.dcc_frames.proofs.FrameLaws.{starts-near, cells-are, every-cell, cells-ordered, local-told, argument-told, run-refused, no-bad-access, few-cells, many-cells}

@@ -1,5 +1,5 @@
 -- One procedure with its heights.
-use Rattle.std.proofs.Common.{◌≡◌, ◌≢◌, ◌≤◌, ◌<◌, ℕ, Bool, true, false, List, refl, sym, ap, ◌∙◌, subst}
+use Rattle.std.proofs.Common.{◌≡◌, ◌≤◌, ◌<◌, ℕ, Bool, List, sym, ap, ◌∙◌, subst}
 use Rattle.dcc_prog.specs.declared.image.Image.{Image}
 use Rattle.dcc_prog.specs.declared.procedure.Layout.{Layout}
 use Rattle.dcc_prog.specs.declared.procedure.Proc.{Proc}
@@ -14,7 +14,7 @@ use Rattle.dcc_frames.specs.declared.steps.Step.{Step}
 use Rattle.dcc_frames.specs.declared.body.Body.{Body}
 use Rattle.dcc_frames.specs.Steps.{steps_of}
 use Rattle.dcc_frames.specs.Arguments.{IsLeast, HasRoomIn, IsCounted, of_entry, of_other}
-use Rattle.dcc_frames.specs.Body.{AreSteps, IsBody, IsBodyOf, IsMeasured}
+use Rattle.dcc_frames.specs.Body.{AreSteps, IsBodyOf, IsMeasured}
 use Rattle.dcc_frames.proofs.Measured.{are-steps, has-arguments}
 
 module _ (image : Image) (layout : Layout) (proc : Proc) (heights : List (ℕ × ℕ)) (removed : ℕ) (is_start : Bool)

@@ -1,23 +1,22 @@
 -- The bodies of procedures one after another, and their numbers of arguments.
-use Rattle.std.proofs.Common.{◌≡◌, ◌≢◌, ◌⊎◌, inl, inr, ◌<◌, ◌≤◌, ℕ, zero, suc, ◌+◌, ◌==◌, nat_eq, Bool, true, false, List, [], ◌∷◌, ◌++◌, take, length, get_or, All, Contains, Option, Some, None, refl, sym, ap, ◌∙◌, subst, true≢false, arith}
+use Rattle.std.proofs.Common.{◌≡◌, ◌≢◌, ◌⊎◌, inl, inr, ◌<◌, ℕ, zero, suc, ◌+◌, ◌==◌, nat_eq, Bool, List, [], ◌∷◌, ◌++◌, take, length, get_or, All, Option, Some, None, refl, sym, ap, ◌∙◌, subst, true≢false, arith}
 use Rattle.std.specs.Map.{update}
 use Rattle.std.proofs.lemmas.Bool.{cases_eq}
 use Rattle.std.proofs.lemmas.Bool.Decides.{Decides-eqb}
 use Rattle.std.proofs.lemmas.Map.{update_here, update_apart}
 use Rattle.std.proofs.lemmas.List.{take_more}
-use Rattle.std.proofs.lemmas.List.Elements.{All-nil, All-push, All-weaker, Contains-append_left, Contains-push, All-contains}
+use Rattle.std.proofs.lemmas.List.Elements.{All-nil, All-push, All-weaker, Contains-append_left, Contains-push}
 use Rattle.dcc_prog.specs.declared.image.Image.{Image}
 use Rattle.dcc_prog.specs.declared.procedure.Layout.{Layout}
 use Rattle.dcc_prog.specs.declared.procedure.Proc.{Proc}
 use Rattle.dcc_prog.specs.declared.frame.Heights.{Heights}
 use Rattle.dcc_prog.specs.Trail.{IsEntry}
 use Rattle.dcc_prog.specs.Height.{IsRemoved}
-use Rattle.dcc_prog.specs.Frame.{HasArguments}
-use Rattle.dcc_prog.specs.Found.{IsFound, AreFound}
+use Rattle.dcc_prog.specs.Found.{IsFound}
 use Rattle.dcc_prog.specs.Analysed.{AreHeightsOf}
 use Rattle.dcc_frames.specs.declared.body.Body.{Body}
-use Rattle.dcc_frames.specs.Body.{IsBody, IsBodyOf, IsMeasured, AreMeasured, AreBodies, HasBody, AreCounts, HasCount, HasCounts}
-use Rattle.dcc_frames.proofs.Zipped.{zipped-at, zipped-push}
+use Rattle.dcc_frames.specs.Body.{IsBodyOf, IsMeasured, AreMeasured, AreBodies, HasBody, AreCounts}
+use Rattle.dcc_frames.proofs.Zipped.{zipped-push}
 
 -- the procedure at a place, with its heights
 module _ (image : Image) (layout : Layout) (procs : List Proc) (heights : Heights)

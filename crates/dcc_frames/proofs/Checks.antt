@@ -1,5 +1,5 @@
 -- Instructions that are tried one after another.
-use Rattle.std.proofs.Common.{◌≡◌, ◌<◌, ◌≤◌, ℕ, ◌+◌, Bool, true, false, List, take, length, get_or, All, Contains, subst, sym, ap}
+use Rattle.std.proofs.Common.{◌≡◌, ◌<◌, ◌≤◌, ℕ, ◌+◌, Bool, true, false, List, take, length, get_or, All, Contains, subst}
 use Rattle.std.proofs.lemmas.List.{take_all}
 use Rattle.std.proofs.lemmas.List.Elements.{All-more, Contains-get_or}
 use Rattle.dcc_prog.specs.declared.refusal.Refusal.TheVariants.{Construct}

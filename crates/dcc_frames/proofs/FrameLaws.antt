@@ -1,5 +1,5 @@
 -- The frame of one procedure is that of the definitions, and no construct stands in it.
-use Rattle.std.proofs.Common.{◌≡◌, ◌≢◌, ◌⊎◌, inl, inr, ◌≤◌, ◌<◌, ℕ, ◌+◌, ◌*◌, ℤ, pos, neg_ℤ, ◌+ℤ◌, ◌-ℤ◌, ◌≤ℤ◌, ◌<ℤ◌, Bool, true, false, not, cond, ◌||◌, List, map, take, length, get_or, All, AllPairs, Contains, Option, Some, None, refl, sym, ap, ◌∙◌, subst, true≢false, arith}
+use Rattle.std.proofs.Common.{◌≡◌, ◌≤◌, ◌<◌, ℕ, ℤ, pos, neg_ℤ, ◌-ℤ◌, ◌≤ℤ◌, ◌<ℤ◌, Bool, true, false, not, cond, ◌||◌, List, map, take, length, get_or, All, AllPairs, Contains, Option, Some, None, refl, sym, ap, ◌∙◌, subst, arith}
 use Rattle.std.specs.List.Sorted.{IsPermutation}
 use Rattle.std.proofs.lemmas.Int.{ints}
 use Rattle.std.proofs.lemmas.List.{get_or-map, get_or-take, length-map, length-take-le}
@@ -28,9 +28,10 @@ use Rattle.dcc_frames.specs.Starts.{starts_of, IsNear, IsLocalBy, no_local, loca
 use Rattle.dcc_frames.specs.Ready.{lacks_addresses}
 use Rattle.dcc_frames.specs.Body.{IsStep, IsBody, HasCounts}
 use Rattle.dcc_frames.proofs.Told.{start-told, start-tells}
-use Rattle.dcc_frames.proofs.PieceLaws.{one-count, at-node, is-step, used-told, used-tells}
+use Rattle.dcc_frames.proofs.StepLists.{at-node, is-step}
+use Rattle.dcc_frames.proofs.PieceLaws.{one-count, used-told, used-tells}
 use Rattle.dcc_frames.proofs.RunLaws.{one-run}
-use Rattle.dcc_frames.proofs.RunsTold.{used-some, in-sorted, from-sorted, sorted-tells, sorted-some, run-tells, run-told}
+use Rattle.dcc_frames.proofs.RunsTold.{used-some, in-sorted, from-sorted, sorted-tells, run-tells, run-told}
 use Rattle.dcc_frames.proofs.FrameTold.{map-in, small-told, small-tells, long-told, long-tells, cell-bytes, HasRun, cell-run, run-cell, cells-ascend, IsStart, of_step, of_run, start-of-step, start-of-run}
 use Rattle.dcc_frames.proofs.FrameTold as told
 use Rattle.dcc_frames.proofs.AccessTold.{LiesInside, in_arguments, in_locals, inside-told, lacks-told, lacks-tells, access-inside, start-inside, no-access-outside, no-start-outside, no-start-lacking}

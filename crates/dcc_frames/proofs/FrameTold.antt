@@ -1,24 +1,23 @@
 -- The cells and the exposed bytes of a frame are those of the definitions.
-use Rattle.std.proofs.Common.{◌≡◌, ◌≢◌, ◌⊎◌, inl, inr, ◌≤◌, ◌<◌, ℕ, zero, suc, ◌+◌, ◌*◌, ◌==◌, ℤ, pos, neg_ℤ, ◌+ℤ◌, ◌-ℤ◌, ◌≤ℤ◌, ◌<ℤ◌, Bool, true, false, not, cond, ◌&&◌, ◌||◌, List, [], ◌∷◌, ◌++◌, map, length, get_or, All, AllPairs, Contains, Option, Some, None, refl, sym, ap, ◌∙◌, subst, true≢false, arith}
+use Rattle.std.proofs.Common.{◌≡◌, inl, inr, ℕ, suc, ℤ, pos, ◌+ℤ◌, ◌≤ℤ◌, ◌<ℤ◌, Bool, true, false, cond, List, [], ◌∷◌, ◌++◌, map, get_or, AllPairs, Contains, Some, None, refl, sym, ap, ◌∙◌, subst, arith}
 use Rattle.std.specs.Prelude.{int_le, if◌then◌else◌}
 use Rattle.std.specs.List.{flat_map}
 use Rattle.std.specs.Option.{option_to_list}
 use Rattle.std.proofs.lemmas.Int.{ints}
 use Rattle.std.proofs.lemmas.List.{get_or-map, length-map}
 use Rattle.std.proofs.lemmas.List.Kept.{AllPairs-cons}
-use Rattle.std.proofs.lemmas.List.Elements.{All-contains, Contains-append_left, Contains-append_right, Contains-append_cases, Contains-get_or}
+use Rattle.std.proofs.lemmas.List.Elements.{Contains-append_left, Contains-append_right, Contains-append_cases, Contains-get_or}
 use Rattle.dcc_prog.specs.declared.frame.Cell.{Cell}
 use Rattle.dcc_prog.specs.Frame.{Span}
 use Rattle.dcc_prog.specs.Analysed.{bytes_of}
 use Rattle.dcc_frames.specs.declared.bytes.Bytes.{Bytes}
 use Rattle.dcc_frames.specs.declared.bytes.Piece.{Piece}
 use Rattle.dcc_frames.specs.declared.steps.Step.{Step}
-use Rattle.dcc_frames.specs.Bytes.{as_span, as_bytes, is_small}
+use Rattle.dcc_frames.specs.Bytes.{as_span, is_small}
 use Rattle.dcc_frames.specs.Used.{start_of}
-use Rattle.dcc_frames.specs.Runs.{AreRuns}
 use Rattle.dcc_frames.specs.CellLists.{cell_of, small_cell, cells_from}
 use Rattle.dcc_frames.specs.Starts.{long_first, starts_of}
-use Rattle.dcc_frames.proofs.Flat.{none-in, some-in, in-some, from-flat, to-flat}
+use Rattle.dcc_frames.proofs.Flat.{some-in, in-some, from-flat, to-flat}
 
 -- an element of a mapped list
 pub map-in : {A B : Type 0} (f : A → B) (xs : List A) (x : A) → Contains xs x → Contains (map f xs) (f x)

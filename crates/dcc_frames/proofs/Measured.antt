@@ -1,25 +1,23 @@
 -- The instructions of a procedure with its heights are just those of the definitions, and by them its arguments are
 -- counted.
-use Rattle.std.proofs.Common.{◌≡◌, ◌≢◌, ◌⊎◌, inl, inr, ◌≤◌, ◌<◌, ℕ, zero, suc, ◌+◌, ◌*◌, ◌/◌, ◌==◌, ℤ, pos, ◌+ℤ◌, ◌<ℤ◌, ◌≤ℤ◌, Bool, true, false, List, [], ◌∷◌, ◌++◌, map, length, get_or, slice_get, All, Contains, Option, Some, None, refl, sym, ap, ◌∙◌, subst, arith}
+use Rattle.std.proofs.Common.{◌≡◌, ◌≢◌, inl, inr, ◌≤◌, ℕ, zero, suc, ◌+◌, ◌*◌, ◌/◌, ℤ, pos, ◌+ℤ◌, ◌<ℤ◌, ◌≤ℤ◌, Bool, true, false, List, [], ◌∷◌, map, slice_get, All, Contains, Option, Some, None, refl, sym, ap, ◌∙◌, subst, arith}
 use Rattle.std.specs.Option.{IfSome}
 use Rattle.std.specs.Ordering.{int_eq}
 use Rattle.std.proofs.lemmas.Int.{ints}
 use Rattle.std.proofs.lemmas.Bool.{cases_lt, cases_eq, false≢true}
 use Rattle.std.proofs.lemmas.Bool.Decides.{Decides-int_eq}
-use Rattle.std.proofs.lemmas.List.Elements.{All-nil, All-cons, All-head, All-tail, All-contains, All-from_get_or, Contains-get_or, Contains-append_right, All-contains_itself, All-weaker}
+use Rattle.std.proofs.lemmas.List.Elements.{All-nil, All-cons, All-head, All-tail, All-contains, Contains-append_right, All-weaker}
 use Rattle.dcc_prog.specs.declared.image.Image.{Image}
 use Rattle.dcc_prog.specs.declared.procedure.Layout.{Layout}
 use Rattle.dcc_prog.specs.declared.procedure.Node.{Node}
 use Rattle.dcc_prog.specs.declared.refusal.construct.TheConstants.{HEIGHTS}
-use Rattle.dcc_prog.specs.declared.instr.Op.{Op}
-use Rattle.dcc_prog.specs.declared.instr.Op.TheVariants.{Ret}
-use Rattle.dcc_prog.specs.Trail.{StandsAt, IsNode, IsEntry, IsTrail}
+use Rattle.dcc_prog.specs.Trail.{IsNode, IsEntry}
 use Rattle.dcc_prog.specs.FrameForm.{is_framed}
-use Rattle.dcc_prog.specs.Height.{ReachesRet, IsRemoved, by_ret, without_ret, HasHeight, IsHeight, HasBadHeight, two_heights, two_sizes, too_great, greatest_height}
+use Rattle.dcc_prog.specs.Height.{ReachesRet, IsRemoved, by_ret, without_ret, HasHeight, IsHeight, HasBadHeight, two_heights, two_sizes, too_great}
 use Rattle.dcc_prog.specs.Construct.{bad_height}
 use Rattle.dcc_prog.specs.Refused.{IsAcceptedByHeights}
 use Rattle.dcc_prog.specs.Found.{IsNodeFound, IsListed}
-use Rattle.dcc_prog.specs.Frame.{Span, IsDirectAccess, StartsExposure, HasRoom, HasArguments, of_procedure}
+use Rattle.dcc_prog.specs.Frame.{IsDirectAccess, StartsExposure, HasRoom, HasArguments, of_procedure}
 use Rattle.dcc_frames.specs.declared.bytes.Bytes.{Bytes}
 use Rattle.dcc_frames.specs.declared.steps.Step.{Step}
 use Rattle.dcc_frames.specs.Bytes.{as_span, as_bytes}
@@ -27,7 +25,7 @@ use Rattle.dcc_frames.specs.Used.{access_of, start_of}
 use Rattle.dcc_frames.specs.Steps.{steps_of}
 use Rattle.dcc_frames.specs.Arguments.{IsLeast, ReachTo, HasRoomFor, HasRoomIn}
 use Rattle.dcc_frames.specs.Body.{IsStep, HasStep, AreSteps}
-use Rattle.dcc_frames.proofs.StepLists.{step_of}
+use Rattle.dcc_frames.proofs.StepLists.{step_of, at-node}
 use Rattle.dcc_frames.proofs.Told.{access-told, access-tells, start-told, start-tells}
 
 -- where a node stands, the instruction with its height does
@@ -134,13 +132,6 @@ module _ (image : Image) (layout : Layout) (entry : ℕ) (is_entry : IsEntry ima
 
   module _ (steps : List Step) (are : AreSteps image layout entry steps) (removed : ℕ)
       (is : IsRemoved image layout entry removed) where
-    -- what a fact says of the instruction at a node
-    pub at-node : (P : ℕ → Type 0) → ((step : Step) → Contains steps step → IsStep image layout entry step → P step.at)
-        → (at : ℕ) → IsNode image layout entry at → P at
-    at-node P each at node =
-        let h = are.every at node in
-        subst P h.at_is (each h.step h.among (All-contains (IsStep image layout entry) steps h.step are.each h.among))
-
     if-some : {A : Type 0} (o : Option A) (P : A → Type 0) → ((x : A) → o ≡ Some x → P x) → IfSome o P
     if-some None P each = tt
     if-some (Some x) P each = each x refl
@@ -158,7 +149,8 @@ module _ (image : Image) (layout : Layout) (entry : ℕ) (is_entry : IsEntry ima
                 if-some (access_of (is_framed image layout entry) step.op) (λ (bytes : Bytes). ReachTo bytes.end count)
                 (λ bytes e. room.accessed step.at (as_span bytes) s.node (access-tells image layout entry step s bytes e));
             exposed =
-                if-some (start_of step.op step.height) (λ (start : ℤ). ReachTo (start +ℤ pos 1) count)
+                if-some (start_of step.op step.height)
+                (λ (start : ℤ). ReachTo (start +ℤ pos 1) count)
                 (λ start e. (let lt = room.exposed step.at start s.node (start-tells image layout entry step s start e)
                 in omega (arith, ints, lt)));
           }) steps are.each;
@@ -175,14 +167,16 @@ module _ (image : Image) (layout : Layout) (entry : ℕ) (is_entry : IsEntry ima
               (let same = one-size removed bytes is reaches in let le = room.removed_too in subst
               (λ b. b / 2 ≤ count) (sym same) le);
           accessed = λ at span node access.
-              at-node (λ at. IsDirectAccess image layout entry at span → span.end ≤ℤ pos (4 + 2 * count))
+              at-node image layout entry steps are
+              (λ at. IsDirectAccess image layout entry at span → span.end ≤ℤ pos (4 + 2 * count))
               (λ step among s a.
               some-if (access_of (is_framed image layout entry) step.op)
               (λ (bytes : Bytes). ReachTo bytes.end count) (as_bytes span)
               (access-told image layout entry step s span a) (for step among).accessed)
               at node access;
           exposed = λ at start node starts.
-              at-node (λ at. StartsExposure image layout entry at start → start <ℤ pos (4 + 2 * count))
+              at-node image layout entry steps are
+              (λ at. StartsExposure image layout entry at start → start <ℤ pos (4 + 2 * count))
               (λ step among s a.
               (let le =
               some-if (start_of step.op step.height) (λ (start : ℤ). ReachTo (start +ℤ pos 1) count) start

@@ -1,21 +1,18 @@
 -- The pieces that are listed are just those of the definitions.
-use Rattle.std.proofs.Common.{◌≡◌, ◌≢◌, ◌⊎◌, inl, inr, ◌≤◌, ◌<◌, ℕ, zero, suc, ◌+◌, ◌*◌, ◌==◌, ℤ, pos, neg_ℤ, ◌+ℤ◌, ◌-ℤ◌, ◌≤ℤ◌, ◌<ℤ◌, Bool, true, false, cond, ◌||◌, List, [], ◌∷◌, ◌++◌, map, length, get_or, All, Contains, Option, Some, None, unwrap_or, refl, sym, ap, ◌∙◌, subst, true≢false, arith}
+use Rattle.std.proofs.Common.{◌≡◌, inl, inr, ◌<◌, ℕ, ◌+◌, ◌*◌, ◌==◌, ℤ, pos, ◌+ℤ◌, ◌-ℤ◌, ◌≤ℤ◌, Bool, true, false, cond, ◌||◌, length, All, Contains, Option, Some, None, unwrap_or, refl, sym, ap, ◌∙◌, subst, arith}
 use Rattle.std.specs.Prelude.{int_le}
-use Rattle.std.specs.List.{flat_map, range_with_len}
+use Rattle.std.specs.List.{range_with_len}
 use Rattle.std.proofs.lemmas.Int.{ints}
 use Rattle.std.proofs.lemmas.Bool.Decides.{Decides-eqb}
-use Rattle.std.proofs.lemmas.List.{get_or-map, length-map}
+use Rattle.std.proofs.lemmas.List.{length-map}
 use Rattle.std.proofs.lemmas.List.FromFn.{length-range_with_len, get_or-map-range_with_len}
-use Rattle.std.proofs.lemmas.List.Elements.{All-contains, Contains-append_left, Contains-append_right, Contains-append_cases, Contains-get_or}
+use Rattle.std.proofs.lemmas.List.Elements.{All-contains, Contains-append_left, Contains-append_right, Contains-append_cases}
 use Rattle.dcc_prog.specs.declared.image.Image.{Image}
 use Rattle.dcc_prog.specs.declared.procedure.Layout.{Layout}
 use Rattle.dcc_prog.specs.declared.instr.Op.{Op}
 use Rattle.dcc_prog.specs.declared.instr.Op.TheVariants.{Call}
-use Rattle.dcc_prog.specs.Trail.{StandsAt, IsNode, IsEntry, called}
-use Rattle.dcc_prog.specs.FrameForm.{is_framed}
-use Rattle.dcc_prog.specs.Height.{HasHeight}
-use Rattle.dcc_prog.specs.Frame.{Span, span_of, HasArguments, of_start, of_procedure, argument_word, own_bytes, IsDirectAccess, IsMovedWord, IsPassedWord, passed, IsUsed, moved, accessed, IsPiece, used, argument}
-use Rattle.dcc_prog.specs.Frame as definition
+use Rattle.dcc_prog.specs.Trail.{StandsAt, IsNode, called}
+use Rattle.dcc_prog.specs.Frame.{Span, span_of, HasArguments, of_start, of_procedure, argument_word, own_bytes, IsPassedWord, passed, IsUsed, moved, accessed, IsPiece, used, argument}
 use Rattle.dcc_frames.specs.declared.bytes.Bytes.{Bytes}
 use Rattle.dcc_frames.specs.declared.bytes.Piece.{Piece}
 use Rattle.dcc_frames.specs.declared.steps.Step.{Step}
@@ -24,8 +21,9 @@ use Rattle.dcc_frames.specs.Bytes.{as_span, as_bytes}
 use Rattle.dcc_frames.specs.Used.{access_of, word_at, moved_of}
 use Rattle.dcc_frames.specs.Inside.{own_of, passed_of, has_words}
 use Rattle.dcc_frames.specs.Pieces.{piece_of, word_from, words_from, used_by, pieces_of}
-use Rattle.dcc_frames.specs.Body.{IsStep, HasStep, AreSteps, IsBody, HasCount, HasCounts}
+use Rattle.dcc_frames.specs.Body.{IsStep, IsBody, HasCounts}
 use Rattle.dcc_frames.proofs.Flat.{none-in, one-in, from-flat, to-flat}
+use Rattle.dcc_frames.proofs.StepLists.{at-node, is-step}
 use Rattle.dcc_frames.proofs.Told.{same_op, access-told, access-tells, moved-told, moved-tells}
 
 -- a procedure has one number of arguments
@@ -88,19 +86,6 @@ pub is-passing : (counts : ℕ → Option ℕ) (op : Op) (number : ℕ) → numb
 is-passing counts (Call target) number less =
     record { target = target; call = refl; found = target-found counts target number (counts target) refl less }
 is-passing counts op number less = absurd (omega (arith, less))
-
-module _ (image : Image) (layout : Layout) (entry : ℕ) (steps : List Step)
-    (are : AreSteps image layout entry steps) where
-  -- what a fact says of the instruction at a node
-  pub at-node :
-      (P : ℕ → Type 0) → ((step : Step) → Contains steps step → IsStep image layout entry step → P step.at) → (at : ℕ)
-      → IsNode image layout entry at → P at
-  at-node P each at node =
-      let h = are.every at node in
-      subst P h.at_is (each h.step h.among (All-contains (IsStep image layout entry) steps h.step are.each h.among))
-
-  pub is-step : (step : Step) → Contains steps step → IsStep image layout entry step
-  is-step step among = All-contains (IsStep image layout entry) steps step are.each among
 
 module _ (image : Image) (layout : Layout) (body : Body) (is : IsBody image layout body) (counts : ℕ → Option ℕ)
     (has : HasCounts image layout counts) where

@@ -1,6 +1,6 @@
 -- How many argument words have room for what instructions use: the least number for all is the greatest of the least
 -- numbers for each.
-use Rattle.std.proofs.Common.{◌≡◌, ◌≤◌, ◌<◌, ℕ, ◌+◌, ◌*◌, ◌/◌, ℤ, pos, ◌+ℤ◌, ◌≤ℤ◌, Bool, List, [], ◌∷◌, take, length, get_or, max, All, Option, Some, None, sym, subst, arith}
+use Rattle.std.proofs.Common.{◌≤◌, ◌<◌, ℕ, ◌+◌, ◌/◌, ℤ, pos, ◌+ℤ◌, Bool, List, [], take, length, get_or, max, All, Option, Some, None, subst, arith}
 use Rattle.std.specs.Option.{IfSome}
 use Rattle.std.proofs.lemmas.Int.{ints}
 use Rattle.std.proofs.lemmas.List.{take-take, length-take-le, get_or-take}

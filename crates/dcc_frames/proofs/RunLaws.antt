@@ -1,13 +1,14 @@
 -- Pieces that ascend, joined one after another: what is joined so far are the runs of the pieces so far.
-use Rattle.std.proofs.Common.{◌≡◌, ◌⊎◌, inl, inr, ◌<◌, ℕ, ◌+◌, ℤ, pos, ◌+ℤ◌, ◌≤ℤ◌, ◌<ℤ◌, Bool, true, false, List, [], ◌∷◌, ◌++◌, take, length, get_or, All, AllPairs, Contains, Option, Some, None, refl, sym, ap, ◌∙◌, subst, arith, length-append}
+use Rattle.std.proofs.Common.{◌≡◌, ◌⊎◌, inl, inr, ◌<◌, ℕ, ◌+◌, ℤ, pos, ◌+ℤ◌, ◌≤ℤ◌, ◌<ℤ◌, Bool, true, false, List, [], ◌∷◌, ◌++◌, take, length, get_or, AllPairs, Contains, Option, Some, None, refl, sym, ap, ◌∙◌, subst, arith}
 use Rattle.std.specs.Prelude.{int_lt, if◌then◌else◌}
 use Rattle.std.specs.Int.{int_max}
 use Rattle.std.proofs.lemmas.Int.{ints, clamps, by_lt_z}
-use Rattle.std.proofs.lemmas.List.{get_or_append_left, get_or_push, get_or_default, get_or-take, length-take-le, take_more, take_all, length_push, append_assoc}
-use Rattle.std.proofs.lemmas.List.Elements.{Contains-get_or, Contains-append_left, Contains-push, Contains-push_cases, Contains-append_cases}
+use Rattle.std.proofs.lemmas.List.{get_or_append_left, get_or_push, get_or_default, get_or-take, length-take-le, take_more, length_push}
+use Rattle.std.proofs.lemmas.List.Elements.{Contains-get_or, Contains-append_left, Contains-push, Contains-push_cases}
 use Rattle.std.proofs.lemmas.List.Quantifiers.{all_pairs_push}
 use Rattle.dcc_frames.specs.declared.bytes.Bytes.{Bytes}
 use Rattle.dcc_frames.specs.declared.bytes.Piece.{Piece}
+use Rattle.dcc_frames.proofs.Flat.{none-in}
 use Rattle.dcc_frames.specs.Runs.{IsCrossedIn, IsRunIn, LiesIn, IsHeld, HasUserIn, AreRuns, AreAscending, user_of, run_with, with_last, joined_to}
 
 -- Lists.
@@ -293,21 +294,18 @@ module _ (pieces : List Piece) (piece : Piece) (some : piece.bytes.first <ℤ pi
 
 -- One after another.
 
-none-there : {A : Type 0} (x : A) → ¬ Contains [] x
-none-there x among = absurd (omega (arith, among.1))
-
 pub runs-none : AreRuns [] []
 runs-none = record {
-  each = λ run among. absurd (none-there run among);
+  each = λ run among. absurd (none-in run among);
   ascending = λ i j d less inside. absurd (omega (arith, inside));
-  every = λ piece among. absurd (none-there piece among);
-  used = λ run among at is. absurd (none-there run among);
+  every = λ piece among. absurd (none-in piece among);
+  used = λ run among at is. absurd (none-in run among);
 }
 
 module _ (pieces : List Piece) (piece : Piece) (some : piece.bytes.first <ℤ piece.bytes.end)
     (later : (other : Piece) → Contains pieces other → other.bytes.first ≤ℤ piece.bytes.first) where
   no-pieces : AreRuns pieces [] → (other : Piece) → ¬ Contains pieces other
-  no-pieces are other among = let held = are.every other among in none-there held.run held.among
+  no-pieces are other among = let held = are.every other among in none-in held.run held.among
 
   by-overlap :
       (runs : List Piece) (last : Piece) → AreRuns pieces (runs ++ last ∷ []) → (b : Bool)
@@ -343,7 +341,7 @@ module _ (pieces : List Piece) (piece : Piece) (some : piece.bytes.first <ℤ pi
       subst (λ l. AreRuns (pieces ++ piece ∷ []) (l ++ piece ∷ [])) (sym is)
       (let empty : AreRuns pieces [] = subst (AreRuns pieces) is are in
       runs-begun pieces piece some [] empty (λ other among. absurd (no-pieces empty other among))
-      (λ run among. absurd (none-there run among)))
+      (λ run among. absurd (none-in run among)))
   runs-joined runs (Some last) none are = by-overlap runs last are (int_lt piece.bytes.first last.bytes.end) refl
 
 -- the next of pieces that ascend

@@ -1,5 +1,5 @@
 -- The runs of the pieces are just those of the definitions.
-use Rattle.std.proofs.Common.{◌≡◌, ℕ, ℤ, pos, neg_ℤ, ◌+ℤ◌, ◌-ℤ◌, ◌≤ℤ◌, ◌<ℤ◌, true, List, All, AllPairs, Contains, Option, Some, None, refl, sym, ap, subst, arith}
+use Rattle.std.proofs.Common.{◌≡◌, ℕ, ℤ, pos, ◌+ℤ◌, ◌≤ℤ◌, ◌<ℤ◌, true, List, All, AllPairs, Contains, Option, arith}
 use Rattle.std.specs.List.Sorted.{IsPermutation}
 use Rattle.std.proofs.lemmas.Int.{ints}
 use Rattle.std.proofs.lemmas.List.Elements.{Contains-get_or}
@@ -9,8 +9,7 @@ use Rattle.dcc_num.specs.declared.Width.TheVariants.{Byte, Word}
 use Rattle.dcc_prog.specs.declared.image.Image.{Image}
 use Rattle.dcc_prog.specs.declared.procedure.Layout.{Layout}
 use Rattle.dcc_prog.specs.Access.{bytes_in}
-use Rattle.dcc_prog.specs.Trail.{IsNode}
-use Rattle.dcc_prog.specs.Frame.{Span, IsDirectAccess, direct, offset_in_frame, IsMovedWord, pushed, popped, IsPassedWord, passed, IsUsed, moved, accessed, IsPiece, used, argument, IsCrossed, IsRun}
+use Rattle.dcc_prog.specs.Frame.{Span, direct, offset_in_frame, pushed, popped, passed, IsUsed, moved, accessed, IsPiece, used, argument, IsCrossed, IsRun}
 use Rattle.dcc_frames.specs.declared.bytes.Bytes.{Bytes}
 use Rattle.dcc_frames.specs.declared.bytes.Piece.{Piece}
 use Rattle.dcc_frames.specs.declared.steps.Step.{Step}

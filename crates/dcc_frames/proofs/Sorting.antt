@@ -1,12 +1,10 @@
 -- Pieces that are sorted by their first bytes.
-use Rattle.std.proofs.Common.{◌≡◌, ◌<◌, ◌≤◌, ℕ, ℤ, ◌≤ℤ◌, ◌<ℤ◌, true, false, List, length, get_or, AllPairs, arith}
-use Rattle.std.specs.Prelude.{int_lt}
+use Rattle.std.proofs.Common.{◌≡◌, ℤ, ◌≤ℤ◌, false, List, get_or, AllPairs, arith}
 use Rattle.std.specs.Ordering.{int_cmp, is_lt}
 use Rattle.std.specs.List.Sorted.{IsSortedByKey}
 use Rattle.std.proofs.lemmas.Int.{ints}
 use Rattle.std.proofs.lemmas.Cmp.{int_cmp_total}
 use Rattle.std.proofs.lemmas.List.Sorted.{ranks_by, sorted_far}
-use Rattle.std.proofs.lemmas.Bool.Decides.{nat_tests}
 use Rattle.dcc_frames.specs.declared.bytes.Piece.{Piece}
 
 not-less : (a b : ℤ) → is_lt (int_cmp a b) ≡ false → b ≤ℤ a

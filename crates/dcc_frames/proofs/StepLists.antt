@@ -1,8 +1,13 @@
--- The instructions with their heights, one after another.
-use Rattle.std.proofs.Common.{◌≡◌, ◌≤◌, ℕ, zero, suc, ◌+◌, min, List, [], ◌∷◌, ◌++◌, take, length, Some, None, slice_get, refl, sym, ap, ◌∙◌, add-one, arith}
+-- The instructions with their heights, one after another, and the one at a node.
+use Rattle.std.proofs.Common.{Contains, subst, ◌≡◌, ◌≤◌, ℕ, zero, suc, ◌+◌, min, List, [], ◌∷◌, ◌++◌, take, length, Some, slice_get, refl, ap, ◌∙◌, add-one, arith}
+use Rattle.std.proofs.lemmas.List.Elements.{All-contains}
+use Rattle.dcc_prog.specs.declared.image.Image.{Image}
+use Rattle.dcc_prog.specs.declared.procedure.Layout.{Layout}
 use Rattle.dcc_prog.specs.declared.procedure.Node.{Node}
+use Rattle.dcc_prog.specs.Trail.{IsNode}
 use Rattle.dcc_frames.specs.declared.steps.Step.{Step}
 use Rattle.dcc_frames.specs.Steps.{steps_of}
+use Rattle.dcc_frames.specs.Body.{IsStep, AreSteps}
 
 -- a node with its height
 abbrev pub step_of : ℕ × Node → ℕ × ℕ → Step
@@ -39,3 +44,16 @@ steps-all (n ∷ nodes) [] (suc i) whole = refl
 steps-all (n ∷ nodes) (h ∷ heights) zero whole = absurd (omega (arith, whole))
 steps-all (n ∷ nodes) (h ∷ heights) (suc i) whole =
     ap (λ l. step_of n h ∷ l) (steps-all nodes heights i (omega (arith, whole)))
+
+module _ (image : Image) (layout : Layout) (entry : ℕ) (steps : List Step)
+    (are : AreSteps image layout entry steps) where
+  -- what a fact says of the instruction at a node
+  pub at-node :
+      (P : ℕ → Type 0) → ((step : Step) → Contains steps step → IsStep image layout entry step → P step.at) → (at : ℕ)
+      → IsNode image layout entry at → P at
+  at-node P each at node =
+      let h = are.every at node in
+      subst P h.at_is (each h.step h.among (All-contains (IsStep image layout entry) steps h.step are.each h.among))
+
+  pub is-step : (step : Step) → Contains steps step → IsStep image layout entry step
+  is-step step among = All-contains (IsStep image layout entry) steps step are.each among

@@ -1,6 +1,5 @@
 -- What an instruction uses, as functions of its operation and height, is what the definitions say, both ways.
-use Rattle.std.proofs.Common.{◌≡◌, ◌≢◌, ℕ, ℤ, pos, neg_ℤ, ◌+ℤ◌, ◌-ℤ◌, Bool, true, false, not, ◌&&◌, cond, List, Option, Some, None, refl, sym, ap, ◌∙◌, subst, true≢false}
-use Rattle.std.specs.Prelude.{if◌then◌else◌}
+use Rattle.std.proofs.Common.{◌≡◌, ◌≢◌, ℕ, ℤ, pos, neg_ℤ, ◌-ℤ◌, Bool, true, false, not, ◌&&◌, cond, Option, Some, None, refl, sym, ap, ◌∙◌, subst, true≢false}
 use Rattle.dcc_num.specs.declared.Width.{Width}
 use Rattle.dcc_num.specs.declared.Reg.{Reg}
 use Rattle.dcc_num.specs.declared.Reg.TheVariants.{Sp, Bp}
@@ -12,11 +11,11 @@ use Rattle.dcc_prog.specs.declared.instr.Operand.{Operand}
 use Rattle.dcc_prog.specs.declared.instr.Operand.TheVariants.{Word}
 use Rattle.dcc_prog.specs.declared.instr.Op.{Op}
 use Rattle.dcc_prog.specs.declared.instr.Op.TheVariants.{Mov, Lea, Push, Pop}
-use Rattle.dcc_prog.specs.Access.{bytes_in, is_direct}
+use Rattle.dcc_prog.specs.Access.{is_direct}
 use Rattle.dcc_prog.specs.Trail.{StandsAt}
 use Rattle.dcc_prog.specs.FrameForm.{is_framed, copies_bp, address_uses_bp}
 use Rattle.dcc_prog.specs.Height.{HasHeight}
-use Rattle.dcc_prog.specs.Frame.{Span, memory_operand, offset_in_frame, top_of, below_top, is_saved_bp, IsDirectAccess, direct, StartsExposure, by_lea, by_index, by_copy, IsMovedWord, pushed, popped}
+use Rattle.dcc_prog.specs.Frame.{Span, memory_operand, offset_in_frame, is_saved_bp, IsDirectAccess, direct, StartsExposure, by_lea, by_index, by_copy, IsMovedWord, pushed, popped}
 use Rattle.dcc_frames.specs.declared.bytes.Bytes.{Bytes}
 use Rattle.dcc_frames.specs.Bytes.{as_span, as_bytes}
 use Rattle.dcc_frames.specs.declared.steps.Step.{Step}

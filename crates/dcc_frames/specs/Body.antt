@@ -50,7 +50,8 @@ pub record IsBodyOf (image : Image) (layout : Layout) (proc : Proc) (body : Body
 
 -- a procedure that is reached, the heights of its nodes, what its RETs remove, and whether it is the entry procedure
 pub record IsMeasured
-    (image : Image) (layout : Layout) (proc : Proc) (heights : List (ℕ × ℕ)) (removed : ℕ) (is_start : Bool) : Type 0 where
+    (image : Image) (layout : Layout) (proc : Proc) (heights : List (ℕ × ℕ)) (removed : ℕ)
+    (is_start : Bool) : Type 0 where
   pub is_entry : IsEntry image layout proc.entry
   pub found : IsFound image layout proc
   pub heights_are : AreHeightsOf image layout proc heights

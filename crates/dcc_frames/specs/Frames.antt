@@ -1,5 +1,6 @@
--- What `cells` tells. The frames are those of every program of which these are the procedures that are found, with these
--- heights, and whose stack segment begins so many bytes above the data segment; a refusal is one of each such program.
+-- What `cells` tells. The frames are those of every program of which these are the procedures that are found, with
+-- these heights, and whose stack segment begins so many bytes above the data segment; a refusal is one of each such
+-- program.
 use Rattle.std.specs.Prelude.{◌≡◌, ℕ, List}
 use Rattle.dcc_prog.specs.declared.image.Image.{Image}
 use Rattle.dcc_prog.specs.declared.procedure.Layout.{Layout}

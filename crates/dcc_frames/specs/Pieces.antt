@@ -1,6 +1,6 @@
 -- The bytes of a frame that belong together, as a list. This stands between the definitions and the code; no public
 -- contract rests on it.
-use Rattle.std.specs.Prelude.{ℕ, ◌+◌, ◌*◌, ℤ, pos, ◌+ℤ◌, ◌-ℤ◌, Bool, List, [], ◌∷◌, ◌++◌, map, Option, Some, None}
+use Rattle.std.specs.Prelude.{ℕ, ◌*◌, ℤ, pos, ◌+ℤ◌, ◌-ℤ◌, Bool, List, [], ◌∷◌, ◌++◌, map, Option, Some, None}
 use Rattle.std.specs.List.{flat_map, range_with_len}
 use Rattle.dcc_frames.specs.declared.bytes.Bytes.{Bytes}
 use Rattle.dcc_frames.specs.declared.bytes.Piece.{Piece}

@@ -1,6 +1,6 @@
 -- What is found of one frame, and of all. This stands between the definitions and the code; no public contract rests
 -- on it.
-use Rattle.std.specs.Prelude.{◌≡◌, ◌≤◌, ℕ, ◌<ℤ◌, Bool, true, false, not, ◌==◌, ◌||◌, List, map, All, AllPairs, Contains, Option}
+use Rattle.std.specs.Prelude.{◌≡◌, ◌≤◌, ℕ, ◌<ℤ◌, Bool, not, ◌==◌, ◌||◌, List, map, All, AllPairs, Contains, Option}
 use Rattle.std.specs.List.{AllZip}
 use Rattle.dcc_prog.specs.declared.image.Image.{Image}
 use Rattle.dcc_prog.specs.declared.procedure.Layout.{Layout}

@@ -18,8 +18,8 @@ use dcc_prog::{Cells, Frame, Heights, Proc, Refusal};
 use indexmap::IndexMap;
 use std::alloc::{AllocError, Global};
 
-// Whether the addresses of a frame can't be told in the data segment: the stack lies apart from it, or the procedure sets
-// up no BP.
+// Whether the addresses of a frame can't be told in the data segment: the stack lies apart from it, or the procedure
+// sets up no BP.
 fn lacks_addresses(delta: u16, framed: bool) -> bool
     ensures { result ≡ lacks_addresses delta framed }
 {

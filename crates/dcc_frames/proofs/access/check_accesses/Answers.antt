@@ -1,5 +1,4 @@
-use Rattle.std.proofs.Common.{◌≡◌, Bool, true, take, All, sym, subst, ap, ◌∙◌}
-use Rattle.std.proofs.lemmas.List.{take_all}
+use Rattle.std.proofs.Common.{Bool, sym, ◌∙◌}
 use Rattle.dcc_frames.specs.declared.steps.Step.{Step}
 use Rattle.dcc_frames.specs.Inside.{is_allowed}
 use Rattle.dcc_frames.proofs.Checks.{allowed-more, told-at, allowed-all}

@@ -1,4 +1,4 @@
-use Rattle.std.proofs.Common.{◌+◌, take, length, sym, subst, arith}
+use Rattle.std.proofs.Common.{◌+◌, take, sym, subst, arith}
 use Rattle.std.proofs.lemmas.List.{take_all}
 use Rattle.dcc_frames.specs.Arguments.{IsLeast, HasRoomIn}
 use Rattle.dcc_frames.proofs.Rooms.{least-none, least-more}

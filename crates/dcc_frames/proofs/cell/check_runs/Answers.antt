@@ -1,4 +1,4 @@
-use Rattle.std.proofs.Common.{◌≡◌, None, All, sym, ap, ◌∙◌, subst}
+use Rattle.std.proofs.Common.{◌≡◌, None, All, sym, ◌∙◌, subst}
 use Rattle.std.proofs.lemmas.List.{take_all}
 use Rattle.std.proofs.lemmas.List.Elements.{All-more, Contains-get_or}
 use Rattle.dcc_frames.specs.declared.bytes.Piece.{Piece}

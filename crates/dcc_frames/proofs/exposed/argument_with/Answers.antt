@@ -1,4 +1,4 @@
-use Rattle.std.proofs.Common.{◌≡◌, ◌≤◌, ◌∷◌, [], ◌++◌, ℕ, ℤ, pos, ◌≤ℤ◌, ◌<ℤ◌, Option, Some, None, w32, to_z, of_z, sym, subst, ◌∙◌, arith}
+use Rattle.std.proofs.Common.{◌≡◌, ◌∷◌, [], ◌++◌, pos, Some, w32, sym, subst, ◌∙◌, arith}
 use Rattle.std.proofs.lemmas.Int.{ints, to_z-of_z}
 use Rattle.dcc_frames.specs.Starts.{IsArgumentBy}
 use Rattle.dcc_frames.proofs.StartLaws.{argument-below, argument-first, argument-least}

@@ -1,4 +1,4 @@
-use Rattle.std.proofs.Common.{ℕ, nat_eq, take}
+use Rattle.std.proofs.Common.{nat_eq, take}
 use Rattle.indexmap.specs.IndexMap.{get}
 use Rattle.dcc_prog.specs.declared.image.Image.{Image}
 use Rattle.dcc_prog.specs.declared.procedure.Layout.{Layout}

@@ -1,6 +1,6 @@
-use Rattle.std.proofs.Common.{◌≡◌, ◌+◌, [], ◌∷◌, ◌++◌, take, Some, None, sym, ap, ◌∙◌, subst, arith}
+use Rattle.std.proofs.Common.{◌+◌, [], take, sym, subst}
 use Rattle.std.proofs.lemmas.List.{take_all}
-use Rattle.dcc_frames.specs.Runs.{AreAscending, AreRuns, with_last}
+use Rattle.dcc_frames.specs.Runs.{AreRuns, with_last}
 use Rattle.dcc_frames.proofs.RunLaws.{runs-none, runs-more}
 use Rattle.dcc_frames.proofs.joined.runs.Goals as goal
 

@@ -1,5 +1,4 @@
-use Rattle.std.proofs.Common.{◌≡◌, ◌+◌, ◌∷◌, [], ◌++◌, ℤ, w32, to_z, of_z, sym, ap, ◌∙◌, append_assoc, arith}
-use Rattle.std.proofs.lemmas.Int.{to_z-of_z}
+use Rattle.std.proofs.Common.{◌∷◌, [], ◌++◌, ℤ, w32, to_z, of_z, sym, ap, ◌∙◌, append_assoc, arith}
 use Rattle.std.proofs.lemmas.List.FromFn.{map-range_with_len_more}
 use Rattle.dcc_frames.specs.Pieces.{word_from, words_from}
 use Rattle.dcc_frames.proofs.pieces.add_words.Goals as goal
