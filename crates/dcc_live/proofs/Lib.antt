@@ -1,0 +1,7 @@
+pub mod MarkLaws
+pub mod RowLaws
+pub mod WantedLaws
+pub mod WorkLaws
+pub mod LiveLaws
+pub mod DeadLaws
+pub mod TestGraphs
