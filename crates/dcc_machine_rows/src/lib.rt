@@ -1,8 +1,10 @@
-//! Tests of what reads, analyses and runs executables: the loader, the decoder, layouts, procedures, heights of the stack, the machine, and the plain run of the inner language. Expected values come from references apart from this code.
+//! Tests of what reads, analyses and runs executables: the loader, the decoder, layouts, procedures, heights of the stack, frames, the machine, and the plain run of the inner language. Expected values come from references apart from this code.
 #![tactic(auto)]
 
 #[cfg(test)]
 mod decoding;
+#[cfg(test)]
+mod frames;
 #[cfg(test)]
 mod heights;
 #[cfg(test)]
