@@ -14,7 +14,6 @@ pub mod FoundLaws
 pub mod FoundNodes
 pub mod RefusedLaws
 pub mod MachineEnds
-pub mod WatchLaws
 pub mod OperationForms
 pub mod AccessLaws
 pub mod MemoryKept
