@@ -14,6 +14,9 @@ pub mod FoundLaws
 pub mod FoundNodes
 pub mod RefusedLaws
 pub mod MachineEnds
+pub mod WatchLaws
+pub mod StackMarks
+pub mod CleanLaws
 pub mod OperationForms
 pub mod AccessLaws
 pub mod MemoryKept

@@ -27,6 +27,7 @@ pub mod StateForm
 pub mod Access
 pub mod Clean
 pub mod Watch
+pub mod CleanLaws
 pub mod MemoryLaws
 pub mod LocationLaws
 pub mod AlikeLaws
