@@ -17,6 +17,7 @@ pub mod MachineEnds
 pub mod WatchLaws
 pub mod StackMarks
 pub mod CleanLaws
+pub mod StoredMarks
 pub mod OperationForms
 pub mod AccessLaws
 pub mod MemoryKept

@@ -20,7 +20,7 @@ marked-is [] offset = refl
 marked-is (mark ∷ rest) zero = refl
 marked-is (mark ∷ rest) (suc offset) = marked-is rest offset
 
-marked-within : (marks : List Bool) (offset : ℕ) → is_marked marks offset ≡ true → offset < length marks
+pub marked-within : (marks : List Bool) (offset : ℕ) → is_marked marks offset ≡ true → offset < length marks
 marked-within [] offset e = cc
 marked-within (mark ∷ rest) zero e = omega arith
 marked-within (mark ∷ rest) (suc offset) e = let less = marked-within rest offset e in omega (arith, less)
@@ -195,11 +195,11 @@ module _ (layout : Layout) (list : List Access) (s t : State) (written : List Bo
     from = after-from;
   }
 
--- a step that makes none
-pub marks-stay : (layout : Layout) (s : State) (written : List Bool) → MarksGo layout [] s s written written
-marks-stay layout s written = record {
+-- a step that stores nothing and leaves SP
+pub marks-stay : (layout : Layout) (s t : State) (written : List Bool) → top_in layout t ≡ top_in layout s → MarksGo layout [] s t written written
+marks-stay layout s t written same = record {
   size = refl;
-  left = λ offset within left. let low = left.0 in let high = left.1 in absurd (omega (arith, low, high));
+  left = λ offset within left. let low = left.0 in let high = left.1 in absurd (omega (arith, low, high, same));
   stored = λ offset within has stands. let inside = has.1 in absurd (omega (arith, inside));
   kept = λ offset is stands. is;
   from = λ offset is. inr is;
