@@ -36,3 +36,4 @@ mod DivisionExamples
 mod LayoutExamples
 mod FrameExamples
 mod AccessExamples
+mod CleanExamples
