@@ -1,18 +1,15 @@
 -- Laws on clean runs.
-use Rattle.std.proofs.Common.{◌≡◌, ℕ, zero, suc, ◌+◌, ◌-◌, ◌%◌, ◌<◌, ◌≤◌, ◌⊎◌, inl, inr, Bool, true, false, List, [], ◌∷◌, ◌++◌, length, replicate, filter, flat_map, take, drop, Option, Some, None, Contains, refl, sym, ap, ap₂, ◌∙◌, subst, arith}
-use Rattle.std.proofs.lemmas.Bool.{cases_lt, and_parts}
-use Rattle.std.proofs.lemmas.Bool.Decides.{nat_tests}
-use Rattle.std.proofs.lemmas.List.{append-nil, length-replicate}
+use Rattle.std.proofs.Common.{◌≡◌, ℕ, zero, suc, ◌+◌, ◌-◌, ◌<◌, ◌≤◌, inl, inr, Bool, true, false, List, [], ◌∷◌, ◌++◌, length, filter, flat_map, Option, Some, None, refl, sym, ap, ap₂, ◌∙◌, subst, arith}
+use Rattle.std.proofs.lemmas.Bool.{cases_lt}
+use Rattle.std.proofs.lemmas.List.{append-nil}
 use Rattle.std.proofs.lemmas.List.Elements.{filter_map-append}
-use Rattle.std.specs.Prelude.{◌↔◌, ◌||◌, ◌&&◌, not, nat_le, pos, ◌+ℤ◌, if◌then◌else◌}
+use Rattle.std.specs.Prelude.{◌||◌, not, pos, ◌+ℤ◌, if◌then◌else◌}
 use Rattle.std.specs.List.{range_with_len, find, filter_map}
 use Rattle.dcc_run.specs.End.{is_over}
-use Rattle.dcc_run.specs.System.{after}
 use Rattle.dcc_run.specs.Watched.{state}
 use Rattle.dcc_run.proofs.RunLaws.{after-add}
 use Rattle.dcc_num.specs.declared.Width.TheVariants.{Word as word_width}
 use Rattle.dcc_num.specs.Numbers.{wrapped_of}
-use Rattle.dcc_prog.specs.declared.cpu.Cpu.{Cpu}
 use Rattle.dcc_prog.specs.declared.image.Image.{Image}
 use Rattle.dcc_prog.specs.declared.procedure.Layout.{Layout}
 use Rattle.dcc_prog.specs.declared.frame.Program.{Program}
@@ -21,16 +18,15 @@ use Rattle.dcc_prog.specs.declared.instr.Op.{Op}
 use Rattle.dcc_prog.specs.declared.instr.Op.TheVariants.{Call, Ret}
 use Rattle.dcc_prog.specs.declared.instr.Instr.{Instr}
 use Rattle.dcc_prog.specs.MzImage.{IsLoaded}
-use Rattle.dcc_prog.specs.Machine.{State, start_state}
+use Rattle.dcc_prog.specs.Machine.{State}
 use Rattle.dcc_prog.specs.Step.{step}
 use Rattle.dcc_prog.specs.Layout.{HasLayout}
-use Rattle.dcc_prog.specs.Access.{Access, addresses_of, found_accesses, step_accesses}
-use Rattle.dcc_prog.specs.Analysed.{IsProgramOf}
-use Rattle.dcc_prog.specs.Clean.{LiveFrame, Stack, Foul, foul_as, or_else, stack_offset, stack_bytes, stored_bytes, is_other, is_reading, is_exposed_byte, top_in, sp_after, is_low, low_of, hidden_of, unwritten_of, is_marked, foul_of, frames_after, with_marks, written_after, stack_after, first_stack}
-use Rattle.dcc_prog.specs.Watch.{Stage, AtStart, InPrelude, InProcedures, Stopped, Watch, stage_after, next_instruction, next_foul, is_foul, moved, made, watch_step, watched_machine, first_watch, IsClean}
-use Rattle.dcc_prog.specs.CleanLaws.{machine_after as machine_state, stage_at, FrontsOfCleanRunsAreClean, moves_frames, UsesNoStack, NextUsesNoStack, WhatUsesNoStackIsClean, IsStoredBy, IsLeftBehind, IsStoredSince, StoredBytesAreMarked}
-use Rattle.dcc_prog.proofs.WatchLaws.{watch_moves, not_foul_before, machine_after, past_the_prelude, prelude_clean}
-use Rattle.dcc_prog.proofs.StackMarks.{head_or_rest, in_rest, at_head, none-marked, none-left, left-or_not, MarksGo, marks-go, marks-stay}
+use Rattle.dcc_prog.specs.Access.{Access, addresses_of, found_accesses}
+use Rattle.dcc_prog.specs.Clean.{LiveFrame, Stack, foul_as, or_else, stack_offset, stack_bytes, is_other, is_reading, is_exposed_byte, top_in, sp_after, hidden_of, unwritten_of, is_marked, foul_of, frames_after, with_marks, written_after, stack_after, first_stack}
+use Rattle.dcc_prog.specs.Watch.{InProcedures, Watch, next_instruction, next_foul, is_foul, made, watch_step, watched_machine, first_watch}
+use Rattle.dcc_prog.specs.CleanLaws.{machine_after as machine_state, stage_at, FrontsOfCleanRunsAreClean, moves_frames, UsesNoStack, NextUsesNoStack, WhatUsesNoStackIsClean}
+use Rattle.dcc_prog.proofs.WatchLaws.{not_foul_before, machine_after, past_the_prelude, prelude_clean}
+use Rattle.dcc_prog.proofs.StackMarks.{none-left}
 
 pub fronts-clean : FrontsOfCleanRunsAreClean
 fronts-clean cpu image input m n le clean program is = not_foul_before program m n (first_watch image input) le (clean program is)

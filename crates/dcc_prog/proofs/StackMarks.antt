@@ -1,16 +1,15 @@
 -- What a step does to the marks of the stack's bytes: those that it stores are marked, and then those that SP rises past
 -- are marked no longer.
-use Rattle.std.proofs.Common.{◌≡◌, ℕ, zero, suc, ◌+◌, ◌-◌, ◌<◌, ◌≤◌, ◌⊎◌, inl, inr, Bool, true, false, List, [], ◌∷◌, ◌++◌, length, get_or, replicate, Option, Some, None, Contains, refl, sym, ap, ◌∙◌, subst, arith}
+use Rattle.std.proofs.Common.{◌≡◌, ℕ, zero, suc, ◌+◌, ◌-◌, ◌<◌, ◌≤◌, ◌⊎◌, inl, inr, Bool, true, false, List, [], ◌∷◌, length, get_or, replicate, Contains, refl, sym, ap, ◌∙◌, subst, arith}
 use Rattle.std.proofs.lemmas.Bool.{cases_eq, cases_lt}
-use Rattle.std.proofs.lemmas.List.{get_or-set_same, get_or-set_other, length-set, length-replicate, get_or-replicate, set_past}
+use Rattle.std.proofs.lemmas.List.{get_or-set_same, get_or-set_other, length-set}
 use Rattle.std.proofs.lemmas.List.FromFn.{length-range_with_len, get_or-range_with_len}
-use Rattle.std.specs.Prelude.{◌≢◌, slice_get, slice_set}
+use Rattle.std.specs.Prelude.{◌≢◌, slice_set}
 use Rattle.std.specs.List.{range_with_len}
 use Rattle.dcc_prog.specs.declared.procedure.Layout.{Layout}
-use Rattle.dcc_prog.specs.declared.instr.Instr.{Instr}
 use Rattle.dcc_prog.specs.Machine.{State}
-use Rattle.dcc_prog.specs.Access.{Access, found_accesses}
-use Rattle.dcc_prog.specs.Clean.{Stack, stored_bytes, top_in, is_marked, with_marks, written_after}
+use Rattle.dcc_prog.specs.Access.{Access}
+use Rattle.dcc_prog.specs.Clean.{stored_bytes, top_in, is_marked, with_marks, written_after}
 use Rattle.dcc_prog.specs.CleanLaws.{IsLeftBehind}
 
 -- One mark.

@@ -1,7 +1,7 @@
 -- In every run that isn't stopped just the bytes are marked that its steps have stored since SP last left them behind.
-use Rattle.std.proofs.Common.{◌≡◌, ℕ, zero, suc, ◌+◌, ◌-◌, ◌*◌, ◌%◌, ◌<◌, ◌≤◌, ◌⊎◌, inl, inr, Bool, true, false, List, [], ◌∷◌, length, replicate, take, drop, Option, Some, None, Contains, refl, sym, ap, ap₂, ◌∙◌, subst, arith, leb-true, leb-false}
+use Rattle.std.proofs.Common.{◌≡◌, ℕ, zero, suc, ◌+◌, ◌-◌, ◌*◌, ◌%◌, ◌<◌, ◌≤◌, ◌⊎◌, inl, inr, true, false, List, [], ◌∷◌, length, take, drop, Option, Some, None, Contains, refl, sym, ap, ap₂, ◌∙◌, subst, arith, leb-true, leb-false}
 use Rattle.std.proofs.lemmas.Bool.{cases_lt}
-use Rattle.std.proofs.lemmas.List.{length-replicate, length-take-le}
+use Rattle.std.proofs.lemmas.List.{length-replicate}
 use Rattle.std.proofs.lemmas.Option.{slice_get-get_or}
 use Rattle.std.proofs.Math.Nat.{mod-eq_of_lt}
 use Rattle.std.specs.Prelude.{filter, flat_map, ◌↔◌, ◌||◌, ◌&&◌, not, nat_le, slice_get, get_or, if◌then◌else◌}
@@ -10,7 +10,6 @@ use Rattle.dcc_run.specs.End.{is_over}
 use Rattle.dcc_run.specs.System.{after}
 use Rattle.dcc_run.specs.Watched.{state}
 use Rattle.dcc_run.proofs.RunLaws.{after-add}
-use Rattle.dcc_prog.specs.declared.cpu.Cpu.{Cpu}
 use Rattle.dcc_prog.specs.declared.image.Image.{Image}
 use Rattle.dcc_prog.specs.declared.procedure.Layout.{Layout}
 use Rattle.dcc_prog.specs.declared.frame.Program.{Program}
@@ -25,11 +24,11 @@ use Rattle.dcc_prog.specs.MzImage.{IsLoaded}
 use Rattle.dcc_prog.specs.Code.{code_of}
 use Rattle.dcc_prog.specs.Table.{instruction_at}
 use Rattle.dcc_prog.specs.Machine.{State, code_segment, start_state}
-use Rattle.dcc_prog.specs.Step.{code_bytes, instruction_step, step}
+use Rattle.dcc_prog.specs.Step.{instruction_step, step}
 use Rattle.dcc_prog.specs.Layout.{is_prelude_form, HasLayout}
-use Rattle.dcc_prog.specs.Access.{Access, accesses, addresses_of, found_accesses, step_accesses}
-use Rattle.dcc_prog.specs.Clean.{Stack, Foul, stack_offset, stored_bytes, is_reading, top_in, is_marked, stack_after, first_stack}
-use Rattle.dcc_prog.specs.Watch.{Stage, AtStart, InPrelude, InProcedures, Stopped, Watch, stage_after, next_instruction, next_foul, is_foul, made, watch_step, watched_machine, first_watch}
+use Rattle.dcc_prog.specs.Access.{accesses, addresses_of, found_accesses, step_accesses}
+use Rattle.dcc_prog.specs.Clean.{Stack, Foul, stack_offset, stored_bytes, is_reading, is_marked, stack_after, first_stack}
+use Rattle.dcc_prog.specs.Watch.{Stage, InProcedures, Stopped, Watch, stage_after, next_instruction, next_foul, is_foul, made, watch_step, watched_machine, first_watch}
 use Rattle.dcc_prog.specs.CleanLaws.{machine_after as machine_state, stage_at, IsStoredBy, IsLeftBehind, IsStoredSince, StoredBytesAreMarked}
 use Rattle.dcc_prog.proofs.FetchLaws.{IsPlaced, image-placed, length-code_of, start-holds, code-kept, fetched-whole}
 use Rattle.dcc_prog.proofs.PreludeLaws.{form-inside}
@@ -286,7 +285,7 @@ module _ (program : Program) (image : Image) (input : List ℕ) (loaded : IsLoad
         size = length-replicate 65536 false;
         marks = λ offset. (
           (λ marked. let both = sym marked ∙ none-marked 65536 offset in absurd (cc)),
-          (λ x. absurd (prelude-stores_none x.at offset x.before x.stored))
+          (λ x. absurd (prelude-stores_none x.at offset x.before x.stored)),
         );
       })
 

@@ -2,7 +2,7 @@
 -- clean where it uses the stack as functions use their variables: it leaves SP in the stack, reaches the bytes of a
 -- frame by pushes, pops, calls, returns and direct accesses, or where the frame exposes them, and reads what was written.
 -- Offsets are those of the data segment.
-use Rattle.std.specs.Prelude.{ℕ, ◌+◌, ◌-◌, ◌*◌, ◌%◌, ◌==◌, nat_le, ℤ, pos, ◌+ℤ◌, ◌-ℤ◌, neg_ℤ, int_le, int_lt, Bool, true, false, not, ◌&&◌, ◌||◌, if◌then◌else◌, List, [], ◌∷◌, drop, replicate, flat_map, slice_get, slice_set, Option, Some, None, option_map}
+use Rattle.std.specs.Prelude.{ℕ, ◌+◌, ◌-◌, ◌*◌, ◌==◌, nat_le, ℤ, pos, ◌+ℤ◌, ◌-ℤ◌, neg_ℤ, int_le, int_lt, Bool, true, false, not, ◌&&◌, ◌||◌, if◌then◌else◌, List, [], ◌∷◌, drop, replicate, flat_map, slice_get, slice_set, Option, Some, None, option_map}
 use Rattle.std.specs.List.{range_with_len, find, filter, filter_map}
 use Rattle.dcc_num.specs.declared.Width.TheVariants.{Word as word_width}
 use Rattle.dcc_num.specs.declared.Reg.TheVariants.{Sp, Bp}
@@ -19,7 +19,7 @@ use Rattle.dcc_prog.specs.declared.instr.Op.TheVariants.{Mov, Lea, Push, Pop, En
 use Rattle.dcc_prog.specs.declared.instr.Instr.{Instr}
 use Rattle.dcc_prog.specs.Machine.{State, word_in}
 use Rattle.dcc_prog.specs.Height.{lowering_of}
-use Rattle.dcc_prog.specs.Access.{Direction, Reading, Writing, Kind, OfStack, OfFrame, Other, Access, addresses_of, found_accesses}
+use Rattle.dcc_prog.specs.Access.{Reading, Writing, OfStack, OfFrame, Other, Access, addresses_of, found_accesses}
 
 -- Frames that live.
 
@@ -83,7 +83,7 @@ top_in layout s = word_in s Sp + layout.delta
 abbrev pub stack_offset : Layout → ℕ → Option ℕ
 stack_offset layout address =
     if nat_le (layout.ds * 16 + layout.lo) address && not (nat_le (layout.ds * 16 + layout.hi) address) then
-      Some (address - layout.ds * 16)
+    Some (address - layout.ds * 16)
     else None
 
 -- those that accesses touch, in their order

@@ -1,6 +1,6 @@
 -- Laws on clean runs: fronts of clean runs are clean; what uses no stack is clean and leaves the stack as it is; and the
 -- marks are those of the bytes that steps have stored since SP last left them behind.
-use Rattle.std.specs.Prelude.{◌≡◌, ℕ, suc, ◌≤◌, ◌<◌, ◌⊎◌, ◌↔◌, Bool, true, false, List, [], length, Contains, Some, None}
+use Rattle.std.specs.Prelude.{◌≡◌, ℕ, suc, ◌≤◌, ◌<◌, ◌↔◌, Bool, true, false, List, [], length, Contains, Some, None}
 use Rattle.dcc_run.specs.End.{is_over}
 use Rattle.dcc_run.specs.System.{after}
 use Rattle.dcc_run.specs.Watched.{state}
@@ -16,8 +16,8 @@ use Rattle.dcc_prog.specs.Machine.{State, start_state}
 use Rattle.dcc_prog.specs.Step.{step}
 use Rattle.dcc_prog.specs.Layout.{HasLayout}
 use Rattle.dcc_prog.specs.Access.{found_accesses, step_accesses}
-use Rattle.dcc_prog.specs.Clean.{LiveFrame, Stack, stack_bytes, stored_bytes, top_in, sp_after, is_low, is_marked, foul_of, stack_after, first_stack}
-use Rattle.dcc_prog.specs.Watch.{Stage, InProcedures, Watch, next_instruction, is_foul, watch_step, watched_machine, first_watch, IsClean}
+use Rattle.dcc_prog.specs.Clean.{Stack, stack_bytes, stored_bytes, top_in, sp_after, is_low, is_marked, foul_of, stack_after, first_stack}
+use Rattle.dcc_prog.specs.Watch.{Stage, InProcedures, next_instruction, watched_machine, first_watch, IsClean}
 
 -- the state of the program's machine after so many steps from the start of the image
 abbrev pub machine_after : Program → Image → List ℕ → ℕ → State

@@ -12,7 +12,7 @@ use Rattle.dcc_prog.specs.Table.{instruction_at}
 use Rattle.dcc_prog.specs.Machine.{State, start_state}
 use Rattle.dcc_prog.specs.Step.{step, code_bytes}
 use Rattle.dcc_prog.specs.Analysed.{IsProgramOf}
-use Rattle.dcc_prog.specs.Clean.{LiveFrame, Stack, Foul, foul_of, stack_after, first_stack}
+use Rattle.dcc_prog.specs.Clean.{Stack, Foul, foul_of, stack_after, first_stack}
 
 -- where a run stands
 pub data Stage : Type 0 where
