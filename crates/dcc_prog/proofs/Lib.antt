@@ -18,6 +18,7 @@ pub mod WatchLaws
 pub mod StackMarks
 pub mod CleanLaws
 pub mod StoredMarks
+pub mod SpLaws
 pub mod OperationForms
 pub mod AccessLaws
 pub mod MemoryKept
