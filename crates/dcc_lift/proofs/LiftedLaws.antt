@@ -1,18 +1,22 @@
 -- The lifted program is to the executable what the contract says.
 use Rattle.std.proofs.Common.{All, ◌≡◌, true, List, [], sym, subst}
 use Rattle.std.specs.List.{list_all}
+use Rattle.dcc_run.specs.Shadows.{Shadows, KeepsPace, only}
 use Rattle.dcc_prog.specs.declared.image.Image.{Image}
 use Rattle.dcc_prog.specs.declared.procedure.Layout.{Layout}
 use Rattle.dcc_prog.specs.declared.procedure.Proc.{Proc}
 use Rattle.dcc_prog.specs.MzImage.{IsLoaded}
 use Rattle.dcc_prog.specs.Layout.{HasLayout}
+use Rattle.dcc_prog.specs.Watch.{watched_machine, first_watch}
 use Rattle.dcc_lift.proofs.OneProcedure.{IsOneFound}
 use Rattle.dcc_ir.specs.Tree.{Program}
 use Rattle.dcc_ir.specs.WellFormed.{is_stmt}
+use Rattle.dcc_ir.specs.Run.{watched_inner, first_state}
+use Rattle.dcc_ir.specs.Keeps.{has_block}
 use Rattle.dcc_lift.specs.Statements.{op_stmts}
 use Rattle.dcc_lift.specs.Translation.{IsTranslation}
 use Rattle.dcc_lift.specs.Lifting.{IsLiftableProcedure}
-use Rattle.dcc_lift.specs.Lifted.{ShadowsMachine, MachineKeepsPace, IsLifted, IsLiftOf}
+use Rattle.dcc_lift.specs.Lifted.{ShadowsMachine, MachineKeepsPace, steps_between, steps_at_start, IsLifted, IsLiftOf}
 use Rattle.dcc_lift.proofs.MirrorLaws.{values_fit}
 use Rattle.dcc_lift.proofs.OperationMirrors.{OthersMirror, op_mirrors, op_keeps, op_single, op_tested}
 use Rattle.dcc_lift.proofs.ShiftMirrors.{shift_op_mirrors}
@@ -57,10 +61,16 @@ operations-lifted = record {
 module _ (image : Image) (layout : Layout) (procs : List Proc) (loaded : IsLoaded image) (has : HasLayout image layout) (are : IsOneFound image layout procs)
     (p : Program) (translation : IsTranslation image layout are.start p) where
   shadows-machine : ShadowsMachine image layout p
-  shadows-machine fill input small bytes = run-shadows operations-lifted image layout procs loaded has are p translation fill input bytes
+  shadows-machine analysed fill input same small bytes =
+      subst (λ l. (x : HasLayout image l) (y : IsOneFound image l procs) → IsTranslation image l y.start p
+      → Shadows (only (has_block p) (watched_machine analysed)) (first_watch image input) (watched_inner p fill) (first_state p fill input)) same
+      (λ x y z. run-shadows operations-lifted image analysed procs loaded x y p z fill input bytes) has are translation
 
   keeps-pace : MachineKeepsPace image layout p
-  keeps-pace input bytes = machine-paced operations-lifted image layout procs loaded has are p translation 0 input bytes
+  keeps-pace analysed input same bytes =
+      subst (λ l. (x : HasLayout image l) (y : IsOneFound image l procs) → IsTranslation image l y.start p
+      → KeepsPace (only (has_block p) (watched_machine analysed)) (first_watch image input) steps_at_start steps_between) same
+      (λ x y z. machine-paced operations-lifted image analysed procs loaded x y p z 0 input bytes) has are translation
 
   liftable : IsLiftableProcedure image layout are.start
   liftable = found-liftable image layout procs loaded has are

@@ -6,6 +6,7 @@ use Rattle.dcc_prog.specs.declared.image.Image.{Image}
 use Rattle.dcc_prog.specs.declared.procedure.Node.{Node}
 use Rattle.dcc_prog.specs.declared.procedure.Proc.{Proc}
 use Rattle.dcc_prog.specs.declared.procedure.Layout.{Layout}
+use Rattle.dcc_prog.specs.declared.frame.Program.{Program as Analysed}
 use Rattle.dcc_prog.specs.declared.instr.Op.TheVariants.{Call}
 use Rattle.dcc_prog.specs.Trail.{next_of}
 use Rattle.dcc_prog.specs.Watch.{watched_machine, first_watch}
@@ -24,14 +25,15 @@ use Rattle.dcc_lift.specs.Translation.{data_image}
 
 -- Runs.
 
--- For every fill and input the program's run shadows the machine's: for each clean number of the machine's steps there
--- is a number of the program's, in which it has come to just those of its blocks at whose places the machine stood, in
--- their order and with equal events, and has ended alike where the machine has; and wherever it begins a block or ends
--- from then on, its events begin with the machine's.
+-- For every fill and input, and whatever analysed program with this layout tells which steps are clean, the program's run
+-- shadows the machine's: for each clean number of the machine's steps there is a number of the program's, in which it has
+-- come to just those of its blocks at whose places the machine stood, in their order and with equal events, and has ended
+-- alike where the machine has; and wherever it begins a block or ends from then on, its events begin with the machine's.
 abbrev pub ShadowsMachine : Image → Layout → Program → Type 0
 ShadowsMachine image layout p =
-    (fill : ℕ) (input : List ℕ) → fill < 65536 → All (λ byte. byte < 256) input
-    → Shadows (only (has_block p) (watched_machine layout)) (first_watch image input)
+    (analysed : Analysed) (fill : ℕ) (input : List ℕ) → analysed.layout ≡ layout → fill < 65536
+    → All (λ byte. byte < 256) input
+    → Shadows (only (has_block p) (watched_machine analysed)) (first_watch image input)
     (watched_inner p fill) (first_state p fill input)
 
 -- Between two places of blocks the machine runs no instruction of a procedure twice, and passes at most one call or
@@ -43,11 +45,12 @@ steps_between = 8192
 abbrev pub steps_at_start : ℕ
 steps_at_start = 65535 + steps_between
 
--- for every input the machine comes to places of blocks, to its end or to where it is foul, within such numbers of steps
+-- for every input and analysed program with this layout the machine comes to places of blocks, to its end or to where it
+-- is foul, within such numbers of steps
 abbrev pub MachineKeepsPace : Image → Layout → Program → Type 0
 MachineKeepsPace image layout p =
-    (input : List ℕ) → All (λ byte. byte < 256) input
-    → KeepsPace (only (has_block p) (watched_machine layout)) (first_watch image input) steps_at_start steps_between
+    (analysed : Analysed) (input : List ℕ) → analysed.layout ≡ layout → All (λ byte. byte < 256) input
+    → KeepsPace (only (has_block p) (watched_machine analysed)) (first_watch image input) steps_at_start steps_between
 
 -- Blocks.
 

@@ -55,7 +55,7 @@ fewer-none layout test (access ∷ rest) none =
         map-joined layout (addresses_of access) (flat_map addresses_of rest)
         ∙ ap (λ l. filter_map (stack_offset layout) l ++ stack_bytes layout rest) (sym (append-nil (addresses_of access)))
 
-no_stack-clean : (program : Program) (stack : Stack) (s : State) (instr : Instr) → UsesNoStack program.layout s instr → foul_of program stack s (Some instr) ≡ None
+pub no_stack-clean : (program : Program) (stack : Stack) (s : State) (instr : Instr) → UsesNoStack program.layout s instr → foul_of program stack s (Some instr) ≡ None
 no_stack-clean program stack s instr uses =
     let list = found_accesses (Some instr) s in
     let below : ℕ = wrapped_of word_width (sp_after instr.op s +ℤ pos program.layout.delta) in
@@ -86,14 +86,14 @@ stack-passed layout s t instr stack uses =
     (frames-stay instr.op (top_in layout s) stack.frames uses.frames)
     (marks-passed layout s t instr stack.written uses)
 
-no_stack-left : (layout : Layout) (stack : Stack) (s t : State) (instr : Instr) → UsesNoStack layout s instr → top_in layout t ≤ top_in layout s
+pub no_stack-left : (layout : Layout) (stack : Stack) (s t : State) (instr : Instr) → UsesNoStack layout s instr → top_in layout t ≤ top_in layout s
     → stack_after layout (Some instr) s t stack ≡ stack
 no_stack-left layout stack s t instr uses low =
     let none : top_in layout t - top_in layout s ≡ 0 = omega (arith, low) in
     stack-passed layout s t instr stack uses
     ∙ ap (λ n. record { frames = stack.frames; written = with_marks false (range_with_len (top_in layout s) n) stack.written }) none
 
-no_stack-unmarked : (layout : Layout) (start s t : State) (instr : Instr) → UsesNoStack layout s instr
+pub no_stack-unmarked : (layout : Layout) (start s t : State) (instr : Instr) → UsesNoStack layout s instr
     → stack_after layout (Some instr) s t (first_stack layout start) ≡ first_stack layout start
 no_stack-unmarked layout start s t instr uses =
     stack-passed layout s t instr (first_stack layout start) uses
