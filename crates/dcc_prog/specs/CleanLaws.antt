@@ -1,21 +1,32 @@
--- Laws on clean runs: fronts of clean runs are clean; what uses no stack is clean and leaves the stack as it is; and the
--- marks are those of the bytes that steps have stored since SP last left them behind.
-use Rattle.std.specs.Prelude.{◌≡◌, ℕ, suc, ◌≤◌, ◌<◌, ◌↔◌, Bool, true, false, List, [], length, Contains, Some, None}
+-- Laws on clean runs: fronts of clean runs are clean; what uses no stack is clean and leaves the stack as it is; SP is
+-- after a step what is told of it; and the marks are those of the bytes that steps have stored since SP last left them
+-- behind.
+use Rattle.std.specs.Prelude.{◌≡◌, ℕ, suc, ◌≤◌, ◌<◌, ◌↔◌, nat_lt, Bool, true, false, not, ◌&&◌, ◌||◌, List, [], length, Contains, Some, None}
 use Rattle.dcc_run.specs.End.{is_over}
 use Rattle.dcc_run.specs.System.{after}
 use Rattle.dcc_run.specs.Watched.{state}
+use Rattle.dcc_num.specs.declared.Width.TheVariants.{Word as word_width}
+use Rattle.dcc_num.specs.declared.Reg.TheVariants.{Sp, Bp}
+use Rattle.dcc_num.specs.declared.Half.TheVariants.{Low, High}
+use Rattle.dcc_num.specs.Numbers.{wrapped_of}
 use Rattle.dcc_prog.specs.declared.cpu.Cpu.{Cpu}
 use Rattle.dcc_prog.specs.declared.image.Image.{Image}
 use Rattle.dcc_prog.specs.declared.procedure.Layout.{Layout}
 use Rattle.dcc_prog.specs.declared.frame.Program.{Program}
+use Rattle.dcc_prog.specs.declared.instr.Operand.{Operand}
+use Rattle.dcc_prog.specs.declared.instr.Operand.TheVariants.{Word}
 use Rattle.dcc_prog.specs.declared.instr.Op.{Op}
-use Rattle.dcc_prog.specs.declared.instr.Op.TheVariants.{Call, Ret}
+use Rattle.dcc_prog.specs.declared.instr.Op.TheVariants.{Mov, Lea, Push, Pop, Enter, Leave, Call, Ret}
 use Rattle.dcc_prog.specs.declared.instr.Instr.{Instr}
 use Rattle.dcc_prog.specs.MzImage.{IsLoaded}
-use Rattle.dcc_prog.specs.Machine.{State, start_state}
-use Rattle.dcc_prog.specs.Step.{step}
+use Rattle.dcc_prog.specs.Machine.{State, word_in, start_state}
+use Rattle.dcc_prog.specs.Step.{op_step, step}
+use Rattle.dcc_prog.specs.WellFormed.{IsOperation}
+use Rattle.dcc_prog.specs.Writes.{is_half_of, writes_half}
+use Rattle.dcc_prog.specs.FrameForm.{is_sp_move}
+use Rattle.dcc_prog.specs.StateForm.{IsState}
 use Rattle.dcc_prog.specs.Layout.{HasLayout}
-use Rattle.dcc_prog.specs.Access.{found_accesses, step_accesses}
+use Rattle.dcc_prog.specs.Access.{is_direct, found_accesses, step_accesses}
 use Rattle.dcc_prog.specs.Clean.{Stack, stack_bytes, stored_bytes, top_in, sp_after, is_low, is_marked, foul_of, stack_after, first_stack}
 use Rattle.dcc_prog.specs.Watch.{Stage, InProcedures, next_instruction, watched_machine, first_watch, IsClean}
 
@@ -80,6 +91,31 @@ pub record WhatUsesNoStackIsClean : Type 0 where
       → (k : ℕ) → length has.prelude ≤ k → k < n
       → NextUsesNoStack program.layout (machine_after program image input k))
       → IsClean cpu image input n
+
+-- SP.
+
+-- the operation writes no half of an operand's register if that is SP
+abbrev pub spares_sp : Operand → Bool
+spares_sp a = not (is_half_of Sp Low a) && not (is_half_of Sp High a)
+
+-- What SP is after the operation is told: it doesn't write SP; or it does so as frames do, by PUSH, CALL, RET or LEAVE, a
+-- POP of something else, ENTER with a word, `mov sp,bp`, LEA of SP from BP without an index, or a move of SP.
+abbrev pub tells_sp : Op → Bool
+tells_sp (Push a) = true
+tells_sp (Pop a) = spares_sp a
+tells_sp (Call target) = true
+tells_sp (Ret count) = true
+tells_sp (Enter count) = nat_lt count 65536
+tells_sp Leave = true
+tells_sp (Mov (Word Sp) (Word Bp)) = true
+tells_sp (Lea Sp ea) = is_direct ea
+tells_sp op = is_sp_move op || (not (writes_half op Sp Low) && not (writes_half op Sp High))
+
+-- it is so, modulo 65,536
+abbrev pub SpIsAsTold : Type 0
+SpIsAsTold =
+    (cpu : Cpu) (op : Op) (at : ℕ) (s : State) → IsOperation op → IsState s → tells_sp op ≡ true
+    → word_in (op_step cpu op at s) Sp ≡ wrapped_of word_width (sp_after op s)
 
 -- Marks.
 

@@ -5,7 +5,7 @@ ghost use Rattle.dcc_prog.specs.RunLaws.{KnownAhIsHeld, PreparedUpperIsHeld};
 ghost use Rattle.dcc_prog.specs.StateForm.{StartsAreStates, StepsKeepStates};
 ghost use Rattle.dcc_prog.specs.AlikeLaws.{WhatIsMadeAlikeIsAlike, WhatIsUsedAlikeShowsAlike, OneLocationChangesWhatIsMadeOfIt};
 ghost use Rattle.dcc_prog.specs.LocationLaws.{WhatIsNotWrittenStays};
-ghost use Rattle.dcc_prog.specs.CleanLaws.{FrontsOfCleanRunsAreClean, WhatUsesNoStackIsClean, StoredBytesAreMarked};
+ghost use Rattle.dcc_prog.specs.CleanLaws.{FrontsOfCleanRunsAreClean, WhatUsesNoStackIsClean, SpIsAsTold, StoredBytesAreMarked};
 ghost use Rattle.dcc_prog.specs.MemoryLaws.{StepsActByAccesses, MemoryChangesAtWritesAlone, BytesAreAlikeOrLeft, AccessesDependOnReads};
 
 /// The accesses of an operation tell what its step takes from memory and does to it, and with the instruction's bytes
@@ -83,6 +83,11 @@ pub fn fronts_of_clean_runs_are_clean()
 /// keeps its bounds.
 pub fn what_uses_no_stack_is_clean()
     ensures { WhatUsesNoStackIsClean }
+{}
+
+/// After an operation that may stand in a frame, SP is what the definition of low steps tells, modulo 65,536.
+pub fn sp_is_as_told()
+    ensures { SpIsAsTold }
 {}
 
 /// In every run, as long as it isn't stopped, just the bytes are marked that its steps have stored since SP last left
