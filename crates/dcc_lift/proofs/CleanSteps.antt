@@ -31,7 +31,7 @@ use Rattle.dcc_prog.specs.CleanLaws.{moves_frames, UsesNoStack}
 use Rattle.dcc_prog.proofs.FetchLaws.{IsPlaced}
 use Rattle.dcc_prog.proofs.StateKept.{same-state, states-kept}
 use Rattle.dcc_prog.proofs.LocationKept.{op-half}
-use Rattle.dcc_prog.proofs.SpLaws.{unwritten-bounds}
+use Rattle.dcc_prog.proofs.SpLaws.{unwritten-bounds, by_halves}
 use Rattle.dcc_ir.specs.declared.syntax.Loc.TheVariants.{Half as HalfOf}
 use Rattle.dcc_ir.specs.Tree.{Graph}
 use Rattle.dcc_ir.specs.Run.{State as Inner}
@@ -72,11 +72,13 @@ register-apart (Byte q part) half r = refl
 register-apart a half r = refl
 
 -- and lies in no memory
-register-untouched : (direction : Direction) (a : Operand) (s : Machine) → is_register a ≡ true → operand_accesses direction a s ≡ []
+register-untouched : (direction : Direction) (a : Operand) (s : Machine) → is_register a ≡ true
+    → operand_accesses direction a s ≡ []
 register-untouched direction (Mem width ea) s r = cc
 register-untouched direction a s r = refl
 
-source-untouched : (direction : Direction) (a : Operand) (s : Machine) → is_source a ≡ true → operand_accesses direction a s ≡ []
+source-untouched : (direction : Direction) (a : Operand) (s : Machine) → is_source a ≡ true
+    → operand_accesses direction a s ≡ []
 source-untouched direction (Mem width ea) s r = cc
 source-untouched direction a s r = refl
 
@@ -89,7 +91,8 @@ pair-apart : (width : Width) → is_in_pair width Sp ≡ false
 pair-apart byte_width = refl
 pair-apart word_width = refl
 
-unary-leaves : (operation : Unary) (a : Operand) (half : Half) → is_register a ≡ true → unary_writes_half operation a Sp half ≡ false
+unary-leaves : (operation : Unary) (a : Operand) (half : Half) → is_register a ≡ true
+    → unary_writes_half operation a Sp half ≡ false
 unary-leaves Mul a half r = pair-apart (operand_width a)
 unary-leaves Imul a half r = pair-apart (operand_width a)
 unary-leaves Div a half r = pair-apart (operand_width a)
@@ -98,8 +101,11 @@ unary-leaves operation a half r = register-apart a half r
 
 -- a lifted operation doesn't write SP
 pub lifted-leaves : (op : Op) (half : Half) → is_liftable op ≡ true → writes_half op Sp half ≡ false
-lifted-leaves (AluOp operation a b) half l = ap (λ h. writes_operand operation && h) (register-apart a half (left-of (is_register a) (is_source b) l)) ∙ and-false (writes_operand operation)
-lifted-leaves (UnaryOp operation a) half l = unary-leaves operation a half (right-of (is_lifted_unary operation) (is_register a) l)
+lifted-leaves (AluOp operation a b) half l =
+    ap (λ h. writes_operand operation && h) (register-apart a half (left-of (is_register a) (is_source b) l))
+    ∙ and-false (writes_operand operation)
+lifted-leaves (UnaryOp operation a) half l =
+    unary-leaves operation a half (right-of (is_lifted_unary operation) (is_register a) l)
 lifted-leaves (ShiftOp operation a count) half l = register-apart a half l
 lifted-leaves (Mov to from) half l = register-apart to half (left-of (is_register to) (is_source from) l)
 lifted-leaves (Xchg a b) half l =
@@ -140,7 +146,8 @@ lifted-untouching (AluOp operation a b) s l other =
 lifted-untouching (UnaryOp operation a) s l other =
     let r = right-of (is_lifted_unary operation) (is_register a) l in
     two-none _ _ (register-untouched Reading a s r) (result-untouched (writes_back operation) a s r)
-lifted-untouching (ShiftOp operation a count) s l other = two-none _ _ (register-untouched Reading a s l) (register-untouched Writing a s l)
+lifted-untouching (ShiftOp operation a count) s l other =
+    two-none _ _ (register-untouched Reading a s l) (register-untouched Writing a s l)
 lifted-untouching (Mov to from) s l other =
     two-none _ _ (source-untouched Reading from s (right-of (is_register to) (is_source from) l)) (register-untouched Writing to s (left-of (is_register to) (is_source from) l))
 lifted-untouching (Xchg a b) s l other =
@@ -149,7 +156,8 @@ lifted-untouching (Xchg a b) s l other =
     two-none _ _ (register-untouched Reading a s r)
     (two-none _ _ (register-untouched Reading b s q)
     (two-none _ _ (register-untouched Writing a s r) (register-untouched Writing b (with_operand s a (operand_value s b)) q)))
-lifted-untouching (Imul3 r a constant) s l other = register-untouched Reading a s (right-of (is_general r) (is_register a) l)
+lifted-untouching (Imul3 r a constant) s l other =
+    register-untouched Reading a s (right-of (is_general r) (is_register a) l)
 lifted-untouching (PlainOp Xlat) s l other = cc
 lifted-untouching (PlainOp operation) s l other = refl
 lifted-untouching (Jump target) s l other = refl
@@ -173,10 +181,6 @@ call-untouching number s silent_key = refl
 pub record AtTop (layout : Layout) (s : Machine) : Type 0 where
   pub form : IsState s
   pub top : top_in layout s ≡ layout.hi
-
--- a word by its halves
-by-halves : (s t : Machine) (r : Reg) → half_in t r Low ≡ half_in s r Low → half_in t r High ≡ half_in s r High → word_in t r ≡ word_in s r
-by-halves s t r low high = omega (arith, low, high)
 
 module _ (image : Image) (layout : Layout) (graph : Graph) (nodes : Nodes) (placed : IsPlaced image) (has : HasLayout image layout)
     (s : Machine) (t : Inner) (at : ℕ) (before : List ℕ) (node : Node) (both : BothStand image layout graph s t at before)
@@ -218,5 +222,5 @@ module _ (image : Image) (layout : Layout) (graph : Graph) (nodes : Nodes) (plac
   pub stays_at_top : AtTop layout (step layout.cpu s)
   stays_at_top = record {
     form = states-kept.step layout.cpu s at_top.form;
-    top = ap (λ word. word + layout.delta) (by-halves s (step layout.cpu s) Sp (half-stays Low) (half-stays High)) ∙ at_top.top;
+    top = ap (λ word. word + layout.delta) (by_halves s (step layout.cpu s) Sp (half-stays Low) (half-stays High)) ∙ at_top.top;
   }

@@ -1,6 +1,6 @@
 -- The run of the lifted program shadows the machine's, which keeps pace: one step of the program, a block, stands for the
 -- machine's steps through the block's instructions, or at the start through the prelude.
-use Rattle.std.proofs.Common.{◌≡◌, ℕ, zero, suc, ◌+◌, ◌<◌, ◌≤◌, Bool, true, false, List, [], ◌∷◌, ◌++◌, length, Some, None, All, Contains, refl, sym, ap, ap₂, ◌∙◌, subst, inl, inr, arith, lit<, eqb-true}
+use Rattle.std.proofs.Common.{◌≡◌, ℕ, zero, suc, ◌+◌, ◌-◌, ◌<◌, ◌≤◌, Bool, true, false, List, [], ◌∷◌, ◌++◌, length, Some, None, All, Contains, refl, sym, ap, ap₂, ◌∙◌, subst, inl, inr, arith, lit<, eqb-true}
 use Rattle.std.specs.Prelude.{if◌then◌else◌, ◌==◌, ◌||◌, flat_map, slice_get, slice_index, replicate}
 use Rattle.std.specs.List.{list_any}
 use Rattle.std.proofs.lemmas.Bool.{cases_lt}
@@ -27,14 +27,14 @@ use Rattle.dcc_prog.specs.Layout.{HasLayout, state_after}
 use Rattle.dcc_prog.specs.StateForm.{IsState}
 use Rattle.dcc_lift.proofs.OneProcedure.{IsOneFound}
 use Rattle.dcc_prog.specs.Clean.{Stack, top_in, foul_of, stack_after, first_stack}
-use Rattle.dcc_prog.specs.Watch.{InProcedures, Watch, watch_step, place_of, watched_machine, first_watch}
+use Rattle.dcc_prog.specs.Watch.{InProcedures, Watch, is_foul, watch_step, place_of, watched_machine, first_watch}
 use Rattle.dcc_prog.proofs.FetchLaws.{IsPlaced}
 use Rattle.dcc_prog.proofs.PreludeOffsets.{offset-far, offset-end, prelude-short, prelude-some, start-below}
 use Rattle.dcc_prog.proofs.PreludeSteps.{state_after-is}
 use Rattle.dcc_prog.proofs.StateKept.{states-kept}
 use Rattle.dcc_prog.proofs.StartState.{starts-are}
 use Rattle.dcc_prog.proofs.CleanLaws.{no_stack-clean, no_stack-unmarked}
-use Rattle.dcc_prog.proofs.WatchLaws.{or-true, machine_watchable, watch_moves, prelude_clean, watch_at, machine_at, prelude_running, in_the_prelude, past_the_prelude}
+use Rattle.dcc_prog.proofs.WatchLaws.{or-true, next-watch, machine_watchable, watch_moves, prelude_clean, watch_at, machine_at, prelude_running, in_the_prelude, past_the_prelude}
 use Rattle.dcc_ir.specs.Tree.{Exit, Graph, Program}
 use Rattle.dcc_ir.specs.Run.{State as Inner, value_in, block_step, exit_step, going_to, entering, watched_inner, first_state, step as inner_step}
 use Rattle.dcc_ir.specs.Keeps.{has_block}
@@ -434,6 +434,47 @@ module _ (laws : AreLifted) (image : Image) (analysed : Analysed) (procs : List 
                 (begun-stand image layout start p fill input loaded has translation bytes (start-below image layout loaded has)) entered-top (entry_is_leader nodes entry image.ip sound));
           });
         }
+
+    -- No step is foul.
+
+    -- the machine is within the procedure beside some run of the program, or it has ended there
+    data IsWithin (v : Watch) : Type 0 where
+      beside : (s : Machine) (t : Inner) (at : ℕ) (before : List ℕ) → v ≡ within s → BothStand image layout graph s t at before → AtTop layout s → IsWithin v
+      ended : (s : Machine) → v ≡ within s → is_over s.end ≡ true → IsWithin v
+
+    steps-within : (v : Watch) → IsWithin v → IsWithin (watch_step analysed v)
+    steps-within v (ended s same over) = ended s (ap (watch_step analysed) same ∙ (machine_watchable analysed).lawful.stays (within s) over) over
+    steps-within v (beside s t at before same both top) =
+        let x = node-instruction image layout procs loaded has are at (record { before = before; trail = both.trail }) in
+        let next : watch_step analysed v ≡ within (machine_step layout.cpu s) = ap (watch_step analysed) same ∙ within-steps s t at before both x.0 x.1 top in
+        elim (instruction-done s t at before both x.0 x.1) [
+          | goes_on y ↦ beside (machine_step layout.cpu s) y.next y.to (at ∷ before) next y.stand
+              (stays_at_top image layout graph nodes placed has s t at before x.0 both x.1 top)
+          | ends y ↦ ended (machine_step layout.cpu s) next (ap is_over y.machine)
+        ]
+
+    within-by : (d : ℕ) → IsWithin (watch_at image analysed loaded has input (far + d))
+    within-by zero =
+        let e : far + 0 ≡ far = omega arith in
+        beside entered (set_up image layout start p fill input loaded has translation bytes) entry [] (ap (watch_at image analysed loaded has input) e ∙ past)
+        (begun-stand image layout start p fill input loaded has translation bytes (start-below image layout loaded has)) entered-top
+    within-by (suc d) =
+        let e : far + suc d ≡ suc (far + d) = omega arith in
+        subst IsWithin (sym (ap (watch_at image analysed loaded has input) e ∙ next-watch image analysed loaded has input (far + d)))
+        (steps-within (watch_at image analysed loaded has input (far + d)) (within-by d))
+
+    not-foul : (v : Watch) → IsWithin v → is_foul v ≡ false
+    not-foul v (beside s t at before same both top) = ap is_foul same
+    not-foul v (ended s same over) = ap is_foul same
+
+    pub always-clean : (n : ℕ) → is_foul (watch_at image analysed loaded has input n) ≡ false
+    always-clean n = elim (cases_lt n far) [
+      | inl less ↦ prelude_clean image analysed loaded has input n (omega (arith, less))
+      | inr le ↦
+          let e : far + (n - far) ≡ n = omega (arith, le) in
+          subst (λ m. is_foul (watch_at image analysed loaded has input m) ≡ false) e
+          (not-foul (watch_at image analysed loaded has input (far + (n - far))) (within-by (n - far)))
+    ]
 
     law : IsWatchable machine
     law = only_watchable (watched_machine analysed) (has_block p) (machine_watchable analysed)

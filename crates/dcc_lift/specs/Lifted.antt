@@ -1,6 +1,7 @@
 -- What the lifted program is to the executable.
-use Rattle.std.specs.Prelude.{◌≡◌, ◌≤◌, ◌<◌, ℕ, ◌+◌, ◌==◌, true, ◌&&◌, ◌||◌, List, [], ◌∷◌, All}
+use Rattle.std.specs.Prelude.{◌≡◌, ◌≤◌, ◌<◌, ℕ, ◌+◌, ◌==◌, true, false, ◌&&◌, ◌||◌, List, [], ◌∷◌, All}
 use Rattle.std.specs.List.{list_any}
+use Rattle.dcc_run.specs.Watched.{state}
 use Rattle.dcc_run.specs.Shadows.{Shadows, KeepsPace, only}
 use Rattle.dcc_prog.specs.declared.image.Image.{Image}
 use Rattle.dcc_prog.specs.declared.procedure.Node.{Node}
@@ -9,7 +10,7 @@ use Rattle.dcc_prog.specs.declared.procedure.Layout.{Layout}
 use Rattle.dcc_prog.specs.declared.frame.Program.{Program as Analysed}
 use Rattle.dcc_prog.specs.declared.instr.Op.TheVariants.{Call}
 use Rattle.dcc_prog.specs.Trail.{next_of}
-use Rattle.dcc_prog.specs.Watch.{watched_machine, first_watch}
+use Rattle.dcc_prog.specs.Watch.{is_foul, watched_machine, first_watch}
 use Rattle.dcc_ir.specs.Tree.{Graph, Program}
 use Rattle.dcc_ir.specs.Use.{graph_exprs}
 use Rattle.dcc_ir.specs.Measure.{depth_of}
@@ -35,6 +36,13 @@ ShadowsMachine image layout p =
     → All (λ byte. byte < 256) input
     → Shadows (only (has_block p) (watched_machine analysed)) (first_watch image input)
     (watched_inner p fill) (first_state p fill input)
+
+-- What is built so far uses no stack: no step of the machine is foul, on any input, whatever analysed program with this
+-- layout tells which steps are.
+abbrev pub IsAlwaysClean : Image → Layout → Type 0
+IsAlwaysClean image layout =
+    (analysed : Analysed) (input : List ℕ) (n : ℕ) → analysed.layout ≡ layout → All (λ byte. byte < 256) input
+    → is_foul (state (watched_machine analysed) n (first_watch image input)) ≡ false
 
 -- Between two places of blocks the machine runs no instruction of a procedure twice, and passes at most one call or
 -- return; a procedure has at most 4,096 instructions. So these are the most steps from the one place to the next.
@@ -114,6 +122,7 @@ pub record IsLifted (image : Image) (layout : Layout) (start : Proc) (p : Progra
   pub flags : All (HasFewFlagStmts start) p.graphs
   pub shallow : All (IsShallow 7) p.graphs
   pub runs : ShadowsMachine image layout p
+  pub clean : IsAlwaysClean image layout
   pub pace : MachineKeepsPace image layout p
   pub never_stuck : IsNeverStuck p
   pub blocks : HasBlocks image start p

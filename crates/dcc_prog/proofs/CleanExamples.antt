@@ -96,9 +96,11 @@ string_read = record { direction = Reading; kind = Other; segment = 0; offset = 
 
 string-reads : found_accesses (Some (instr_of Int21)) calling ≡ string_read ∷ []
 unfolding calling state_with instr_of string_read
-string-reads = ap (λ n. record string_read { size = n } ∷ []) (string_size-is (record calling { ip = 0x0213 }) 1 (omega arith) letters refl)
+string-reads =
+    ap (λ n. record string_read { size = n } ∷ []) (string_size-is (record calling { ip = 0x0213 }) 1 (omega arith) letters refl)
   where
-    letters : (k : ℕ) → k < 1 → is_not_dollar (byte_in calling (data_segment calling) ((word_in calling Dx + (0 + k)) % 65536)) ≡ true
+    letters : (k : ℕ) → k < 1
+        → is_not_dollar (byte_in calling (data_segment calling) ((word_in calling Dx + (0 + k)) % 65536)) ≡ true
     letters zero low = refl
     letters (suc k) low = absurd (omega arith)
 

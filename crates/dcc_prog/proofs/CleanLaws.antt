@@ -7,7 +7,6 @@ use Rattle.std.specs.Prelude.{◌||◌, not, pos, ◌+ℤ◌, if◌then◌else�
 use Rattle.std.specs.List.{range_with_len, find, filter_map}
 use Rattle.dcc_run.specs.End.{is_over}
 use Rattle.dcc_run.specs.Watched.{state}
-use Rattle.dcc_run.proofs.RunLaws.{after-add}
 use Rattle.dcc_num.specs.declared.Width.TheVariants.{Word as word_width}
 use Rattle.dcc_num.specs.Numbers.{wrapped_of}
 use Rattle.dcc_prog.specs.declared.image.Image.{Image}
@@ -25,11 +24,12 @@ use Rattle.dcc_prog.specs.Access.{Access, addresses_of, found_accesses}
 use Rattle.dcc_prog.specs.Clean.{LiveFrame, Stack, foul_as, or_else, stack_offset, stack_bytes, is_other, is_reading, is_exposed_byte, top_in, sp_after, hidden_of, unwritten_of, is_marked, foul_of, frames_after, with_marks, written_after, stack_after, first_stack}
 use Rattle.dcc_prog.specs.Watch.{InProcedures, Watch, next_instruction, next_foul, is_foul, made, watch_step, watched_machine, first_watch}
 use Rattle.dcc_prog.specs.CleanLaws.{machine_after as machine_state, stage_at, FrontsOfCleanRunsAreClean, moves_frames, UsesNoStack, NextUsesNoStack, WhatUsesNoStackIsClean}
-use Rattle.dcc_prog.proofs.WatchLaws.{not_foul_before, machine_after, past_the_prelude, prelude_clean}
+use Rattle.dcc_prog.proofs.WatchLaws.{not_foul_before, machine_after, next-watch, past_the_prelude, prelude_clean}
 use Rattle.dcc_prog.proofs.StackMarks.{none-left}
 
 pub fronts-clean : FrontsOfCleanRunsAreClean
-fronts-clean cpu image input m n le clean program is = not_foul_before program m n (first_watch image input) le (clean program is)
+fronts-clean cpu image input m n le clean program is =
+    not_foul_before program m n (first_watch image input) le (clean program is)
 
 -- What uses no stack.
 
@@ -38,10 +38,12 @@ joined-none : (front rest : List ℕ) → front ++ rest ≡ [] → (front ≡ []
 joined-none [] rest none = (refl, none)
 joined-none (x ∷ front) rest none = cc
 
-map-joined : (layout : Layout) (front rest : List ℕ) → filter_map (stack_offset layout) (front ++ rest) ≡ filter_map (stack_offset layout) front ++ filter_map (stack_offset layout) rest
+map-joined : (layout : Layout) (front rest : List ℕ)
+    → filter_map (stack_offset layout) (front ++ rest) ≡ filter_map (stack_offset layout) front ++ filter_map (stack_offset layout) rest
 map-joined layout front rest = filter_map-append (stack_offset layout) front rest
 
-fewer-none : (layout : Layout) (test : Access → Bool) (list : List Access) → stack_bytes layout list ≡ [] → stack_bytes layout (filter test list) ≡ []
+fewer-none : (layout : Layout) (test : Access → Bool) (list : List Access) → stack_bytes layout list ≡ []
+    → stack_bytes layout (filter test list) ≡ []
 fewer-none layout test [] none = refl
 fewer-none layout test (access ∷ rest) none =
     let both = joined-none (stack_bytes layout (access ∷ [])) (stack_bytes layout rest) (sym (joined access rest) ∙ none) in
@@ -50,12 +52,14 @@ fewer-none layout test (access ∷ rest) none =
       | false ↦ fewer-none layout test rest both.1
     ]
   where
-    joined : (access : Access) (rest : List Access) → stack_bytes layout (access ∷ rest) ≡ stack_bytes layout (access ∷ []) ++ stack_bytes layout rest
+    joined : (access : Access) (rest : List Access)
+        → stack_bytes layout (access ∷ rest) ≡ stack_bytes layout (access ∷ []) ++ stack_bytes layout rest
     joined access rest =
         map-joined layout (addresses_of access) (flat_map addresses_of rest)
         ∙ ap (λ l. filter_map (stack_offset layout) l ++ stack_bytes layout rest) (sym (append-nil (addresses_of access)))
 
-pub no_stack-clean : (program : Program) (stack : Stack) (s : State) (instr : Instr) → UsesNoStack program.layout s instr → foul_of program stack s (Some instr) ≡ None
+pub no_stack-clean : (program : Program) (stack : Stack) (s : State) (instr : Instr)
+    → UsesNoStack program.layout s instr → foul_of program stack s (Some instr) ≡ None
 no_stack-clean program stack s instr uses =
     let list = found_accesses (Some instr) s in
     let below : ℕ = wrapped_of word_width (sp_after instr.op s +ℤ pos program.layout.delta) in
@@ -65,7 +69,8 @@ no_stack-clean program stack s instr uses =
     (foul_as s.ip Unwritten (unwritten_of program.layout stack list))) (fewer-none program.layout is_other list uses.bytes)
     ∙ ap (λ l. foul_as s.ip Unwritten (find (λ offset. not (is_marked stack.written offset)) l)) (fewer-none program.layout is_reading list uses.bytes)
 
-frames-stay : (op : Op) (top : ℕ) (frames : List LiveFrame) → moves_frames op ≡ false → frames_after op top frames ≡ frames
+frames-stay : (op : Op) (top : ℕ) (frames : List LiveFrame) → moves_frames op ≡ false
+    → frames_after op top frames ≡ frames
 frames-stay (Call target) top frames apart = cc
 frames-stay (Ret count) top frames apart = cc
 frames-stay op top frames apart = refl
@@ -86,7 +91,8 @@ stack-passed layout s t instr stack uses =
     (frames-stay instr.op (top_in layout s) stack.frames uses.frames)
     (marks-passed layout s t instr stack.written uses)
 
-pub no_stack-left : (layout : Layout) (stack : Stack) (s t : State) (instr : Instr) → UsesNoStack layout s instr → top_in layout t ≤ top_in layout s
+pub no_stack-left : (layout : Layout) (stack : Stack) (s t : State) (instr : Instr) → UsesNoStack layout s instr
+    → top_in layout t ≤ top_in layout s
     → stack_after layout (Some instr) s t stack ≡ stack
 no_stack-left layout stack s t instr uses low =
     let none : top_in layout t - top_in layout s ≡ 0 = omega (arith, low) in
@@ -107,7 +113,8 @@ module _ (program : Program) where
   layout = program.layout
 
   -- a step of a run at whose start nothing is marked
-  next-stays : (w : Watch) (start : State) → w.stage ≡ InProcedures (first_stack layout start) → NextUsesNoStack layout w.machine
+  next-stays : (w : Watch) (start : State) → w.stage ≡ InProcedures (first_stack layout start)
+      → NextUsesNoStack layout w.machine
       → (watch_step program w).stage ≡ InProcedures (first_stack layout start)
   next-stays w start stage uses =
       elim (is_over w.machine.end) as (λ b. is_over w.machine.end ≡ b
@@ -122,7 +129,8 @@ module _ (program : Program) where
             ] refl
       ] refl
     where
-      gone : (found : Option Instr) → next_instruction layout.cpu w.machine ≡ found → foul_of program (first_stack layout start) w.machine found ≡ None
+      gone : (found : Option Instr) → next_instruction layout.cpu w.machine ≡ found
+          → foul_of program (first_stack layout start) w.machine found ≡ None
           → stack_after layout found w.machine (step layout.cpu w.machine) (first_stack layout start) ≡ first_stack layout start
           → (if is_foul w then w else made layout (next_foul program w) w).stage ≡ InProcedures (first_stack layout start)
       gone found is clean same =
@@ -142,35 +150,35 @@ module _ (program : Program) (image : Image) (input : List ℕ) (loaded : IsLoad
   abbrev began : Stack
   began = first_stack program.layout (machine_state program image input begins)
 
-  pub next-watch : (k : ℕ) → watch_at (suc k) ≡ watch_step program (watch_at k)
-  next-watch k =
-      let e : suc k ≡ k + 1 = omega arith in
-      ap watch_at e ∙ after-add (watch_step program) k 1 (first_watch image input)
-
   going : (w : Watch) (stack : Stack) → w.stage ≡ InProcedures stack → is_foul w ≡ false
   going w stack stage = ap (λ s. is_foul (record w { stage = s })) stage
 
-  stays-by : (d : ℕ) → ((k : ℕ) → begins ≤ k → k < begins + d → NextUsesNoStack program.layout (machine_state program image input k))
+  stays-by : (d : ℕ)
+      → ((k : ℕ) → begins ≤ k → k < begins + d → NextUsesNoStack program.layout (machine_state program image input k))
       → stage_at program image input (begins + d) ≡ InProcedures began
-  stays-by zero uses = let e : begins + 0 ≡ begins = omega arith in ap (stage_at program image input) e ∙ past_the_prelude image program loaded has input
+  stays-by zero uses =
+      let e : begins + 0 ≡ begins = omega arith in ap (stage_at program image input) e ∙ past_the_prelude image program loaded has input
   stays-by (suc d) uses =
       let e : begins + suc d ≡ suc (begins + d) = omega arith in
       let before = stays-by d (λ k low high. uses k low (omega (arith, high))) in
       let here : (watch_at (begins + d)).machine ≡ machine_state program image input (begins + d) =
       machine_after program (begins + d) (first_watch image input) (going (watch_at (begins + d)) began before) in
       ap (stage_at program image input) e
-      ∙ ap (λ (w : Watch). w.stage) (next-watch (begins + d))
+      ∙ ap (λ (w : Watch). w.stage) (next-watch image program loaded has input (begins + d))
       ∙ next-stays program (watch_at (begins + d)) (machine_state program image input begins) before
       (subst (NextUsesNoStack program.layout) (sym here) (uses (begins + d) (omega arith) (omega arith)))
 
-  stays-first : (n : ℕ) → begins ≤ n → ((k : ℕ) → begins ≤ k → k < n → NextUsesNoStack program.layout (machine_state program image input k))
+  stays-first : (n : ℕ) → begins ≤ n
+      → ((k : ℕ) → begins ≤ k → k < n → NextUsesNoStack program.layout (machine_state program image input k))
       → stage_at program image input n ≡ InProcedures began
   stays-first n le uses =
       let e : begins + (n - begins) ≡ n = omega (arith, le) in
       subst (λ m. stage_at program image input m ≡ InProcedures began) e
       (stays-by (n - begins) (λ k low high. uses k low (omega (arith, high, e))))
 
-  clean-first : (n : ℕ) → ((k : ℕ) → begins ≤ k → k < n → NextUsesNoStack program.layout (machine_state program image input k)) → is_foul (watch_at n) ≡ false
+  clean-first : (n : ℕ)
+      → ((k : ℕ) → begins ≤ k → k < n → NextUsesNoStack program.layout (machine_state program image input k))
+      → is_foul (watch_at n) ≡ false
   clean-first n uses = elim (cases_lt n begins) [
     | inl before ↦ prelude_clean image program loaded has input n (omega (arith, before))
     | inr le ↦ going (watch_at n) began (stays-first n le uses)

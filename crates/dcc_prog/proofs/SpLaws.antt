@@ -57,9 +57,11 @@ bounded layout sp low =
     ∙ ap₂ (λ a b. a || b) (lt-leb (suc sp) 0 (omega arith)) (lt-leb (suc (sp + layout.delta)) layout.lo above)
 
 -- so an operation that doesn't write SP leaves it in its bounds, where it lies in them
-pub unwritten-bounds : (layout : Layout) (op : Op) (s : State) → writes_half op Sp Low ≡ false → layout.lo ≤ top_in layout s
+pub unwritten-bounds : (layout : Layout) (op : Op) (s : State) → writes_half op Sp Low ≡ false
+    → layout.lo ≤ top_in layout s
     → is_low layout (sp_after op s) ≡ false
-unwritten-bounds layout op s clear low = ap (is_low layout) (sp-unwritten op s clear) ∙ bounded layout (word_in s Sp) low
+unwritten-bounds layout op s clear low =
+    ap (is_low layout) (sp-unwritten op s clear) ∙ bounded layout (word_in s Sp) low
 
 -- Numbers modulo 65,536.
 
@@ -70,7 +72,8 @@ wrapped-is (negsuc m) n e = omega (arith, ints, e)
 -- a constant, taken as a signed word, that is added or taken away
 added : (sp c : ℕ) → wrapped_of word_width (pos sp -ℤ neg_ℤ (signed_of word_width c)) ≡ (sp + c) % 65536
 unfolding signed_of
-added sp c = elim (has_sign word_width c) as (λ b. wrapped_of word_width (pos sp -ℤ neg_ℤ (if b then pos c -ℤ pos 65536 else pos c)) ≡ (sp + c) % 65536) [
+added sp c =
+    elim (has_sign word_width c) as (λ b. wrapped_of word_width (pos sp -ℤ neg_ℤ (if b then pos c -ℤ pos 65536 else pos c)) ≡ (sp + c) % 65536) [
   | true ↦
       let e : ((pos sp -ℤ neg_ℤ (pos c -ℤ pos 65536)) +ℤ pos 131072) ≡ pos (sp + c + 65536) = omega (arith, ints) in
       wrapped-is (pos sp -ℤ neg_ℤ (pos c -ℤ pos 65536)) (sp + c + 65536) e ∙ omega arith
@@ -81,7 +84,8 @@ added sp c = elim (has_sign word_width c) as (λ b. wrapped_of word_width (pos s
 
 taken : (sp c : ℕ) → c < 65536 → wrapped_of word_width (pos sp -ℤ signed_of word_width c) ≡ (sp + 65536 - c) % 65536
 unfolding signed_of
-taken sp c fits = elim (has_sign word_width c) as (λ b. wrapped_of word_width (pos sp -ℤ (if b then pos c -ℤ pos 65536 else pos c)) ≡ (sp + 65536 - c) % 65536) [
+taken sp c fits =
+    elim (has_sign word_width c) as (λ b. wrapped_of word_width (pos sp -ℤ (if b then pos c -ℤ pos 65536 else pos c)) ≡ (sp + 65536 - c) % 65536) [
   | true ↦
       let e : ((pos sp -ℤ (pos c -ℤ pos 65536)) +ℤ pos 131072) ≡ pos (sp + 65536 - c + 131072) = omega (arith, ints, fits) in
       wrapped-is (pos sp -ℤ (pos c -ℤ pos 65536)) (sp + 65536 - c + 131072) e ∙ omega arith
@@ -95,7 +99,8 @@ lowered sp bytes few =
     let e : ((pos sp -ℤ pos bytes) +ℤ pos 131072) ≡ pos (sp + (65536 - bytes) + 65536) = omega (arith, ints, few) in
     wrapped-is (pos sp -ℤ pos bytes) (sp + (65536 - bytes) + 65536) e ∙ omega arith
 
-entered : (sp count : ℕ) → count < 65536 → wrapped_of word_width (pos sp -ℤ pos (2 + count)) ≡ ((sp + 65534) % 65536 + (65536 - count)) % 65536
+entered : (sp count : ℕ) → count < 65536
+    → wrapped_of word_width (pos sp -ℤ pos (2 + count)) ≡ ((sp + 65534) % 65536 + (65536 - count)) % 65536
 entered sp count few =
     let e : ((pos sp -ℤ pos (2 + count)) +ℤ pos 131072) ≡ pos (sp + 65534 + (65536 - count)) = omega (arith, ints, few) in
     wrapped-is (pos sp -ℤ pos (2 + count)) (sp + 65534 + (65536 - count)) e ∙ omega arith
@@ -105,11 +110,13 @@ sp-taken : (s : State) (v : ℕ) → IsState s → word_in (with_word_in s Sp v)
 sp-taken s v form = word-taken s Sp Sp v form.registers.count refl
 
 -- a word is as its halves
-pub by_halves : (s t : State) (r : Reg) → half_in t r Low ≡ half_in s r Low → half_in t r High ≡ half_in s r High → word_in t r ≡ word_in s r
+pub by_halves : (s t : State) (r : Reg) → half_in t r Low ≡ half_in s r Low → half_in t r High ≡ half_in s r High
+    → word_in t r ≡ word_in s r
 by_halves s t r low high = omega (arith, low, high)
 
 -- an operation that doesn't write SP, by the table of writes
-sp-stays : (cpu : Cpu) (op : Op) (at : ℕ) (s : State) → IsOperation op → IsState s → writes_half op Sp Low ≡ false → writes_half op Sp High ≡ false
+sp-stays : (cpu : Cpu) (op : Op) (at : ℕ) (s : State) → IsOperation op → IsState s → writes_half op Sp Low ≡ false
+    → writes_half op Sp High ≡ false
     → word_in (op_step cpu op at s) Sp ≡ wrapped_of word_width (sp_after op s)
 sp-stays cpu op at s good form low high =
     let below = form.registers.words Sp in
@@ -137,7 +144,8 @@ part-none s (Some r) is = cc
 -- BP plus a displacement
 summed : (bp disp : ℕ) → wrapped_of word_width (pos bp +ℤ signed_of word_width disp) ≡ (bp + 0 + disp) % 65536
 unfolding signed_of
-summed bp disp = elim (has_sign word_width disp) as (λ b. wrapped_of word_width (pos bp +ℤ (if b then pos disp -ℤ pos 65536 else pos disp)) ≡ (bp + 0 + disp) % 65536) [
+summed bp disp =
+    elim (has_sign word_width disp) as (λ b. wrapped_of word_width (pos bp +ℤ (if b then pos disp -ℤ pos 65536 else pos disp)) ≡ (bp + 0 + disp) % 65536) [
   | true ↦
       let e : ((pos bp +ℤ (pos disp -ℤ pos 65536)) +ℤ pos 131072) ≡ pos (bp + disp + 65536) = omega (arith, ints) in
       wrapped-is (pos bp +ℤ (pos disp -ℤ pos 65536)) (bp + disp + 65536) e ∙ omega arith
@@ -146,14 +154,16 @@ summed bp disp = elim (has_sign word_width disp) as (λ b. wrapped_of word_width
       wrapped-is (pos bp +ℤ pos disp) (bp + disp + 131072) e ∙ omega arith
 ]
 
-lea-told : (s : State) (ea : Ea) → IsState s → is_direct ea ≡ true → word_in (lea_step Sp ea s) Sp ≡ wrapped_of word_width (pos (word_in s Bp) +ℤ signed_of word_width ea.disp)
+lea-told : (s : State) (ea : Ea) → IsState s → is_direct ea ≡ true
+    → word_in (lea_step Sp ea s) Sp ≡ wrapped_of word_width (pos (word_in s Bp) +ℤ signed_of word_width ea.disp)
 lea-told s ea form direct =
     let both = and_parts (is_bp ea.base) (is_none ea.index) direct in
     sp-taken s (offset_of s ea) form
     ∙ ap₂ (λ b i. (b + i + ea.disp) % 65536) (part-bp s ea.base both.0) (part-none s ea.index both.1)
     ∙ sym (summed (word_in s Bp) ea.disp)
 
-pop-told : (a : Operand) (s : State) → IsWordOperand a → IsState s → is_half_of Sp Low a ≡ false → is_half_of Sp High a ≡ false
+pop-told : (a : Operand) (s : State) → IsWordOperand a → IsState s → is_half_of Sp Low a ≡ false
+    → is_half_of Sp High a ≡ false
     → word_in (pop_step a s) Sp ≡ wrapped_of word_width (pos (word_in s Sp + 2))
 pop-told a s good form low high =
     let t = with_sp_raised 2 s in
@@ -162,7 +172,8 @@ pop-told a s good form low high =
     by_halves t (with_operand t a (top_word s)) Sp (operand-half a (top_word s) t Sp Low count fits low) (operand-half a (top_word s) t Sp High count fits high)
     ∙ sp-taken s ((word_in s Sp + 2) % 65536) form
 
-enter-told : (count : ℕ) (s : State) → IsState s → count < 65536 → word_in (enter_step count s) Sp ≡ wrapped_of word_width (pos (word_in s Sp) -ℤ pos (2 + count))
+enter-told : (count : ℕ) (s : State) → IsState s → count < 65536
+    → word_in (enter_step count s) Sp ≡ wrapped_of word_width (pos (word_in s Sp) -ℤ pos (2 + count))
 enter-told count s form few =
     let t = after_push (word_in s Bp) s in
     let u = with_word_in t Bp (word_in t Sp) in
@@ -184,10 +195,12 @@ leave-told s form =
 
 pub sp-told : SpIsAsTold
 unfolding sum_of difference_of increment_of decrement_of
-sp-told cpu (Push a) at s good form told = sp-taken s ((word_in s Sp + 65534) % 65536) form ∙ sym (lowered (word_in s Sp) 2 (omega arith))
+sp-told cpu (Push a) at s good form told =
+    sp-taken s ((word_in s Sp + 65534) % 65536) form ∙ sym (lowered (word_in s Sp) 2 (omega arith))
 sp-told cpu (Pop a) at s good form told =
     pop-told a s good form (clear-low (is_half_of Sp Low a) (is_half_of Sp High a) told) (clear-high (is_half_of Sp Low a) (is_half_of Sp High a) told)
-sp-told cpu (Call target) at s good form told = sp-taken s ((word_in s Sp + 65534) % 65536) form ∙ sym (lowered (word_in s Sp) 2 (omega arith))
+sp-told cpu (Call target) at s good form told =
+    sp-taken s ((word_in s Sp + 65534) % 65536) form ∙ sym (lowered (word_in s Sp) 2 (omega arith))
 sp-told cpu (Ret count) at s good form told = sp-taken s ((word_in s Sp + (2 + count)) % 65536) form ∙ omega arith
 sp-told cpu (Enter count) at s good form told = enter-told count s form (ltb-true count 65536 told)
 sp-told cpu Leave at s good form told = leave-told s form
@@ -199,7 +212,10 @@ sp-told cpu (AluOp Add (Word Sp) (Const width c)) at s good form told =
 sp-told cpu (AluOp Sub (Word Sp) (Const width c)) at s good form told =
     let fits : c < 65536 = subst (λ w. c < limit_of w) (sym good.widths) good.second in
     sp-taken s ((word_in s Sp + 65536 - (c + 0)) % 65536) form ∙ omega arith ∙ sym (taken (word_in s Sp) c fits)
-sp-told cpu (UnaryOp Inc (Word Sp)) at s good form told = sp-taken s ((word_in s Sp + 1 + 0) % 65536) form ∙ omega (arith, ints)
-sp-told cpu (UnaryOp Dec (Word Sp)) at s good form told = sp-taken s ((word_in s Sp + 65536 - (1 + 0)) % 65536) form ∙ omega arith ∙ sym (lowered (word_in s Sp) 1 (omega arith))
+sp-told cpu (UnaryOp Inc (Word Sp)) at s good form told =
+    sp-taken s ((word_in s Sp + 1 + 0) % 65536) form ∙ omega (arith, ints)
+sp-told cpu (UnaryOp Dec (Word Sp)) at s good form told =
+    sp-taken s ((word_in s Sp + 65536 - (1 + 0)) % 65536) form ∙ omega arith
+    ∙ sym (lowered (word_in s Sp) 1 (omega arith))
 sp-told cpu op at s good form told =
     sp-stays cpu op at s good form (clear-low (writes_half op Sp Low) (writes_half op Sp High) told) (clear-high (writes_half op Sp Low) (writes_half op Sp High) told)

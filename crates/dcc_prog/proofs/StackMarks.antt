@@ -24,15 +24,20 @@ marked-within [] offset e = cc
 marked-within (mark ∷ rest) zero e = omega arith
 marked-within (mark ∷ rest) (suc offset) e = let less = marked-within rest offset e in omega (arith, less)
 
-set-same : (marks : List Bool) (offset : ℕ) (mark : Bool) → offset < length marks → is_marked (slice_set marks offset mark) offset ≡ mark
-set-same marks offset mark within = marked-is (slice_set marks offset mark) offset ∙ get_or-set_same marks offset mark false within
+set-same : (marks : List Bool) (offset : ℕ) (mark : Bool) → offset < length marks
+    → is_marked (slice_set marks offset mark) offset ≡ mark
+set-same marks offset mark within =
+    marked-is (slice_set marks offset mark) offset ∙ get_or-set_same marks offset mark false within
 
-set-other : (marks : List Bool) (at offset : ℕ) (mark : Bool) → offset ≢ at → is_marked (slice_set marks at mark) offset ≡ is_marked marks offset
+set-other : (marks : List Bool) (at offset : ℕ) (mark : Bool) → offset ≢ at
+    → is_marked (slice_set marks at mark) offset ≡ is_marked marks offset
 set-other marks at offset mark other =
-    marked-is (slice_set marks at mark) offset ∙ get_or-set_other marks at offset mark false other ∙ sym (marked-is marks offset)
+    marked-is (slice_set marks at mark) offset ∙ get_or-set_other marks at offset mark false other
+    ∙ sym (marked-is marks offset)
 
 -- a mark of that kind stays
-set-keeps : (marks : List Bool) (at offset : ℕ) (mark : Bool) → is_marked marks offset ≡ mark → offset < length marks → is_marked (slice_set marks at mark) offset ≡ mark
+set-keeps : (marks : List Bool) (at offset : ℕ) (mark : Bool) → is_marked marks offset ≡ mark → offset < length marks
+    → is_marked (slice_set marks at mark) offset ≡ mark
 set-keeps marks at offset mark is within = elim (cases_eq offset at) [
   | inl same ↦ subst (λ n. is_marked (slice_set marks n mark) offset ≡ mark) same (set-same marks offset mark within)
   | inr other ↦ set-other marks at offset mark other ∙ is
@@ -40,12 +45,14 @@ set-keeps marks at offset mark is within = elim (cases_eq offset at) [
 
 -- Many marks.
 
-pub length-marks : (mark : Bool) (offsets : List ℕ) (marks : List Bool) → length (with_marks mark offsets marks) ≡ length marks
+pub length-marks : (mark : Bool) (offsets : List ℕ) (marks : List Bool)
+    → length (with_marks mark offsets marks) ≡ length marks
 length-marks mark [] marks = refl
 length-marks mark (at ∷ rest) marks = length-marks mark rest (slice_set marks at mark) ∙ length-set marks at mark
 
 -- those that are of that kind already stay
-marks-keep : (mark : Bool) (offsets : List ℕ) (marks : List Bool) (offset : ℕ) → offset < length marks → is_marked marks offset ≡ mark
+marks-keep : (mark : Bool) (offsets : List ℕ) (marks : List Bool) (offset : ℕ) → offset < length marks
+    → is_marked marks offset ≡ mark
     → is_marked (with_marks mark offsets marks) offset ≡ mark
 marks-keep mark [] marks offset within is = is
 marks-keep mark (at ∷ rest) marks offset within is =
@@ -66,7 +73,8 @@ pub at_head : (x y : ℕ) (xs : List ℕ) → x ≡ y → Contains (x ∷ xs) y
 at_head x y xs same = (0, omega arith, same)
 
 -- those of the list are of that kind afterwards
-marks-take : (mark : Bool) (offsets : List ℕ) (marks : List Bool) (offset : ℕ) → offset < length marks → Contains offsets offset
+marks-take : (mark : Bool) (offsets : List ℕ) (marks : List Bool) (offset : ℕ) → offset < length marks
+    → Contains offsets offset
     → is_marked (with_marks mark offsets marks) offset ≡ mark
 marks-take mark [] marks offset within (k, inside, is) = absurd (omega (arith, inside))
 marks-take mark (at ∷ rest) marks offset within has =
@@ -86,7 +94,8 @@ marks-leave mark (at ∷ rest) marks offset none =
     ∙ set-other marks at offset mark (λ same. none (at_head at offset rest (sym same)))
 
 -- what is marked was marked or is in the list
-marks-from : (offsets : List ℕ) (marks : List Bool) (offset : ℕ) → is_marked (with_marks true offsets marks) offset ≡ true
+marks-from : (offsets : List ℕ) (marks : List Bool) (offset : ℕ)
+    → is_marked (with_marks true offsets marks) offset ≡ true
     → Contains offsets offset ⊎ (is_marked marks offset ≡ true)
 marks-from [] marks offset is = inr is
 marks-from (at ∷ rest) marks offset is = elim (marks-from rest (slice_set marks at true) offset is) [
@@ -99,13 +108,15 @@ marks-from (at ∷ rest) marks offset is = elim (marks-from rest (slice_set mark
 
 -- Ranges.
 
-range-has : (from count offset : ℕ) → from ≤ offset → offset < from + count → Contains (range_with_len from count) offset
+range-has : (from count offset : ℕ) → from ≤ offset → offset < from + count
+    → Contains (range_with_len from count) offset
 range-has from count offset low high =
     let inside : offset - from < count = omega (arith, low, high) in
     let sum : from + (offset - from) ≡ offset = omega (arith, low) in
     (offset - from, omega (arith, inside, length-range_with_len from count), get_or-range_with_len from count (offset - from) offset inside ∙ sum)
 
-range-within : (from count offset : ℕ) → Contains (range_with_len from count) offset → (from ≤ offset) × (offset < from + count)
+range-within : (from count offset : ℕ) → Contains (range_with_len from count) offset
+    → (from ≤ offset) × (offset < from + count)
 range-within from count offset (k, inside, is) =
     let less : k < count = omega (arith, inside, length-range_with_len from count) in
     let sum : offset ≡ from + k = sym is ∙ get_or-range_with_len from count k offset less in
@@ -123,14 +134,16 @@ none-set zero at = refl
 none-set (suc count) zero = refl
 none-set (suc count) (suc at) = ap (λ l. false ∷ l) (none-set count at)
 
-pub none-left : (offsets : List ℕ) (count : ℕ) → with_marks false offsets (replicate count false) ≡ replicate count false
+pub none-left : (offsets : List ℕ) (count : ℕ)
+    → with_marks false offsets (replicate count false) ≡ replicate count false
 none-left [] count = refl
 none-left (at ∷ rest) count = ap (with_marks false rest) (none-set count at) ∙ none-left rest count
 
 -- A step.
 
 -- SP rises past the offset, or not
-pub left-or_not : (layout : Layout) (s t : State) (offset : ℕ) → IsLeftBehind layout s t offset ⊎ (¬ IsLeftBehind layout s t offset)
+pub left-or_not : (layout : Layout) (s t : State) (offset : ℕ)
+    → IsLeftBehind layout s t offset ⊎ (¬ IsLeftBehind layout s t offset)
 left-or_not layout s t offset = elim (cases_lt offset (top_in layout s)) [
   | inl below ↦ inr (λ left. let low = left.0 in omega (arith, below, low))
   | inr low ↦ elim (cases_lt offset (top_in layout t)) [
@@ -143,10 +156,13 @@ left-or_not layout s t offset = elim (cases_lt offset (top_in layout s)) [
 pub record MarksGo (layout : Layout) (list : List Access) (s t : State) (before after : List Bool) : Type 0 where
   pub size : length after ≡ length before
   pub left : (offset : ℕ) → offset < length before → IsLeftBehind layout s t offset → is_marked after offset ≡ false
-  pub stored : (offset : ℕ) → offset < length before → Contains (stored_bytes layout list) offset → ¬ IsLeftBehind layout s t offset
+  pub stored : (offset : ℕ) → offset < length before → Contains (stored_bytes layout list) offset
+      → ¬ IsLeftBehind layout s t offset
       → is_marked after offset ≡ true
-  pub kept : (offset : ℕ) → is_marked before offset ≡ true → ¬ IsLeftBehind layout s t offset → is_marked after offset ≡ true
-  pub from : (offset : ℕ) → is_marked after offset ≡ true → Contains (stored_bytes layout list) offset ⊎ (is_marked before offset ≡ true)
+  pub kept : (offset : ℕ) → is_marked before offset ≡ true → ¬ IsLeftBehind layout s t offset
+      → is_marked after offset ≡ true
+  pub from : (offset : ℕ) → is_marked after offset ≡ true
+      → Contains (stored_bytes layout list) offset ⊎ (is_marked before offset ≡ true)
 
 module _ (layout : Layout) (list : List Access) (s t : State) (written : List Bool) where
   abbrev with_stored : List Bool
@@ -165,14 +181,16 @@ module _ (layout : Layout) (list : List Access) (s t : State) (written : List Bo
   size-is : length (written_after layout list (top_in layout s) (top_in layout t) written) ≡ length written
   size-is = length-marks false passed with_stored ∙ length-marks true (stored_bytes layout list) written
 
-  after-left : (offset : ℕ) → offset < length written → IsLeftBehind layout s t offset → is_marked (with_marks false passed with_stored) offset ≡ false
+  after-left : (offset : ℕ) → offset < length written → IsLeftBehind layout s t offset
+      → is_marked (with_marks false passed with_stored) offset ≡ false
   after-left offset within left =
       let low = left.0 in
       let high = left.1 in
       marks-take false passed with_stored offset (omega (arith, within, length-marks true (stored_bytes layout list) written))
       (range-has (top_in layout s) (top_in layout t - top_in layout s) offset low (omega (arith, low, high)))
 
-  after-from : (offset : ℕ) → is_marked (with_marks false passed with_stored) offset ≡ true → Contains (stored_bytes layout list) offset ⊎ (is_marked written offset ≡ true)
+  after-from : (offset : ℕ) → is_marked (with_marks false passed with_stored) offset ≡ true
+      → Contains (stored_bytes layout list) offset ⊎ (is_marked written offset ≡ true)
   after-from offset is = elim (left-or_not layout s t offset) [
     | inl left ↦
         let within : offset < length written = omega (arith, marked-within (with_marks false passed with_stored) offset is, size-is) in
@@ -195,7 +213,8 @@ module _ (layout : Layout) (list : List Access) (s t : State) (written : List Bo
   }
 
 -- a step that stores nothing and leaves SP
-pub marks-stay : (layout : Layout) (s t : State) (written : List Bool) → top_in layout t ≡ top_in layout s → MarksGo layout [] s t written written
+pub marks-stay : (layout : Layout) (s t : State) (written : List Bool) → top_in layout t ≡ top_in layout s
+    → MarksGo layout [] s t written written
 marks-stay layout s t written same = record {
   size = refl;
   left = λ offset within left. let low = left.0 in let high = left.1 in absurd (omega (arith, low, high, same));

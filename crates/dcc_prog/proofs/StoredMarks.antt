@@ -34,9 +34,8 @@ use Rattle.dcc_prog.proofs.FetchLaws.{IsPlaced, image-placed, length-code_of, st
 use Rattle.dcc_prog.proofs.PreludeLaws.{form-inside}
 use Rattle.dcc_prog.proofs.PreludeSteps.{executed, executed-code, at_offset}
 use Rattle.dcc_prog.proofs.PreludeOffsets.{offset_in, run-taken, form-at}
-use Rattle.dcc_prog.proofs.WatchLaws.{IsBefore, at_start, in_prelude, machine_watchable, machine_after, prelude_state, before_its_end, past_the_prelude}
+use Rattle.dcc_prog.proofs.WatchLaws.{IsBefore, at_start, in_prelude, machine_watchable, machine_after, next-watch, prelude_state, before_its_end, past_the_prelude}
 use Rattle.dcc_prog.proofs.StackMarks.{head_or_rest, marked-within, none-marked, left-or_not, MarksGo, marks-go, marks-stay}
-use Rattle.dcc_prog.proofs.CleanLaws.{next-watch}
 
 -- Stored bytes lie in the stack.
 
@@ -60,7 +59,8 @@ offset-below layout address offset is =
     high : ℕ
     high = layout.ds * 16 + layout.hi
 
-bytes-below : (layout : Layout) (addresses : List ℕ) (offset : ℕ) → Contains (filter_map (stack_offset layout) addresses) offset → offset < layout.hi
+bytes-below : (layout : Layout) (addresses : List ℕ) (offset : ℕ)
+    → Contains (filter_map (stack_offset layout) addresses) offset → offset < layout.hi
 bytes-below layout [] offset (k, inside, is) = absurd (omega (arith, inside))
 bytes-below layout (address ∷ rest) offset has =
     elim (stack_offset layout address) as (λ o. stack_offset layout address ≡ o → Contains (cons_option o (filter_map (stack_offset layout) rest)) offset → offset < layout.hi) [
@@ -103,9 +103,11 @@ module _ (layout : Layout) where
       → MarksGo layout (found_accesses found s) s (instruction_step layout.cpu found s) stack.written
       (stack_after layout found s (instruction_step layout.cpu found s) stack).written
   found-marks None s stack = marks-stay layout s (instruction_step layout.cpu None s) stack.written refl
-  found-marks (Some instr) s stack = marks-go layout (found_accesses (Some instr) s) s (instruction_step layout.cpu (Some instr) s) stack.written
+  found-marks (Some instr) s stack =
+      marks-go layout (found_accesses (Some instr) s) s (instruction_step layout.cpu (Some instr) s) stack.written
 
-  past-after : (found : Option Instr) (s t : State) (stage : Stage) → IsPast stage → IsPast (stage_after layout found s t stage)
+  past-after : (found : Option Instr) (s t : State) (stage : Stage) → IsPast stage
+      → IsPast (stage_after layout found s t stage)
   past-after found s t stage inside = inside
   past-after found s t stage stopped = stopped
 
@@ -114,7 +116,8 @@ module _ (program : Program) where
   layout = program.layout
 
   past-made : (w : Watch) (foul : Option Foul) → IsPast w.stage → IsPast (made layout foul w).stage
-  past-made w None past = past-after layout (next_instruction layout.cpu w.machine) w.machine (step layout.cpu w.machine) w.stage past
+  past-made w None past =
+      past-after layout (next_instruction layout.cpu w.machine) w.machine (step layout.cpu w.machine) w.stage past
   past-made w (Some foul) past = stopped
 
   past-step : (w : Watch) → IsPast w.stage → IsPast (watch_step program w).stage
@@ -131,12 +134,14 @@ module _ (program : Program) where
   abbrev found_at : State → Option Instr
   found_at s = next_instruction layout.cpu s
 
-  marks-made : (s : State) (stack after : Stack) (foul : Option Foul) → is_over s.end ≡ false → (made layout foul (within s stack)).stage ≡ InProcedures after
+  marks-made : (s : State) (stack after : Stack) (foul : Option Foul) → is_over s.end ≡ false
+      → (made layout foul (within s stack)).stage ≡ InProcedures after
       → MarksGo layout (found_accesses (found_at s) s) s (instruction_step layout.cpu (found_at s) s) stack.written after.written
   marks-made s stack after (Some foul) running went = cc
   marks-made s stack after None running went =
       let made_is : InProcedures (stack_after layout (found_at s) s (instruction_step layout.cpu (found_at s) s) stack) ≡ InProcedures after =
-      ap (λ b. InProcedures (stack_after layout (found_at s) s (if b then s else instruction_step layout.cpu (found_at s) s) stack)) (sym running) ∙ went in
+      ap (λ b. InProcedures (stack_after layout (found_at s) s (if b then s else instruction_step layout.cpu (found_at s) s) stack)) (sym running)
+      ∙ went in
       let same : stack_after layout (found_at s) s (instruction_step layout.cpu (found_at s) s) stack ≡ after = cc in
       subst (λ (k : Stack). MarksGo layout (found_accesses (found_at s) s) s (instruction_step layout.cpu (found_at s) s) stack.written k.written) same
       (found-marks layout (found_at s) s stack)
@@ -173,7 +178,8 @@ module _ (program : Program) (image : Image) (input : List ℕ) (loaded : IsLoad
   placed = image-placed loaded.file image loaded.is_image
 
   -- the machine finds the prelude's instructions, one after another
-  prelude-found : (k : ℕ) (instr : Instr) → k < begins → slice_get has.prelude k ≡ Some instr → next_instruction layout_of.cpu (run k) ≡ Some instr
+  prelude-found : (k : ℕ) (instr : Instr) → k < begins → slice_get has.prelude k ≡ Some instr
+      → next_instruction layout_of.cpu (run k) ≡ Some instr
   prelude-found k instr less there =
       let le : k ≤ begins = omega (arith, less) in
       let at : ℕ = offset_in k has.prelude image.ip in
@@ -221,11 +227,13 @@ module _ (program : Program) (image : Image) (input : List ℕ) (loaded : IsLoad
     marks : (offset : ℕ) → (is_marked stack.written offset ≡ true) ↔ IsStoredSince layout_of run n offset
 
   marked-next : (n : ℕ) (stack after : Stack) → AreMarked n stack
-      → MarksGo layout_of (step_accesses layout_of.cpu (run n)) (run n) (run (suc n)) stack.written after.written → AreMarked (suc n) after
+      → MarksGo layout_of (step_accesses layout_of.cpu (run n)) (run n) (run (suc n)) stack.written after.written
+      → AreMarked (suc n) after
   marked-next n stack after are go = record { size = go.size ∙ are.size; marks = λ offset. (forth offset, back offset) }
     where
       since : (offset : ℕ) → ¬ IsLeftBehind layout_of (run n) (run (suc n)) offset
-          → IsStoredBy layout_of (run n) offset ⊎ (is_marked stack.written offset ≡ true) → IsStoredSince layout_of run (suc n) offset
+          → IsStoredBy layout_of (run n) offset ⊎ (is_marked stack.written offset ≡ true)
+          → IsStoredSince layout_of run (suc n) offset
       since offset stands (inl stored) = record {
         at = n;
         before = omega arith;
@@ -274,7 +282,7 @@ module _ (program : Program) (image : Image) (input : List ℕ) (loaded : IsLoad
       subst IsPast (sym (ap (stage_at program image input) e ∙ past_the_prelude image program loaded has input)) inside
   past-at (suc d) =
       let e : begins + suc d ≡ suc (begins + d) = omega arith in
-      subst IsPast (sym (ap (stage_at program image input) e ∙ ap (λ (w : Watch). w.stage) (next-watch program image input loaded has (begins + d))))
+      subst IsPast (sym (ap (stage_at program image input) e ∙ ap (λ (w : Watch). w.stage) (next-watch image program loaded has input (begins + d))))
       (past-step program (watch_at (begins + d)) (past-at d))
 
   marked-first : (stack : Stack) → stage_at program image input begins ≡ InProcedures stack → AreMarked begins stack
@@ -289,11 +297,13 @@ module _ (program : Program) (image : Image) (input : List ℕ) (loaded : IsLoad
         );
       })
 
-  marked-by : (d : ℕ) (stack : Stack) → stage_at program image input (begins + d) ≡ InProcedures stack → AreMarked (begins + d) stack
+  marked-by : (d : ℕ) (stack : Stack) → stage_at program image input (begins + d) ≡ InProcedures stack
+      → AreMarked (begins + d) stack
   marked-by zero stack e =
       let none : begins + 0 ≡ begins = omega arith in
       subst (λ n. AreMarked n stack) (sym none) (marked-first stack (ap (stage_at program image input) (sym none) ∙ e))
-  marked-by (suc d) stack e = go (stage_at program image input (begins + d)) refl (past-at d) (λ before here. marked-by d before here)
+  marked-by (suc d) stack e =
+      go (stage_at program image input (begins + d)) refl (past-at d) (λ before here. marked-by d before here)
     where
       n : ℕ
       n = begins + d
@@ -303,7 +313,9 @@ module _ (program : Program) (image : Image) (input : List ℕ) (loaded : IsLoad
 
       -- from where the run stands one step before
       next-stage : (watch_step program (watch_at n)).stage ≡ InProcedures stack
-      next-stage = sym (ap (stage_at program image input) more ∙ ap (λ (w : Watch). w.stage) (next-watch program image input loaded has n)) ∙ e
+      next-stage =
+          sym (ap (stage_at program image input) more ∙ ap (λ (w : Watch). w.stage) (next-watch image program loaded has input n))
+          ∙ e
 
       next-run : run (suc n) ≡ step layout_of.cpu (run n)
       next-run =
@@ -311,7 +323,8 @@ module _ (program : Program) (image : Image) (input : List ℕ) (loaded : IsLoad
           ap run one ∙ after-add (step layout_of.cpu) n 1 (start_state image input)
 
       go : (stage : Stage) → stage_at program image input n ≡ stage → IsPast stage
-          → ((before : Stack) → stage_at program image input n ≡ InProcedures before → AreMarked n before) → AreMarked (begins + suc d) stack
+          → ((before : Stack) → stage_at program image input n ≡ InProcedures before → AreMarked n before)
+          → AreMarked (begins + suc d) stack
       go stage here stopped earlier =
           let foul : is_foul (watch_at n) ≡ true = ap (λ s. is_foul (record { machine = (watch_at n).machine; stage = s })) here in
           let same = sym (ap (λ (w : Watch). w.stage) ((machine_watchable program).stays (watch_at n) foul) ∙ here) ∙ next-stage in
@@ -340,4 +353,5 @@ module _ (program : Program) (image : Image) (input : List ℕ) (loaded : IsLoad
       before-none stage in_prelude e = cc
 
 pub stored-marked : StoredBytesAreMarked
-stored-marked program image input n stack loaded has e offset = (marked-at program image input loaded has n stack e).marks offset
+stored-marked program image input n stack loaded has e offset =
+    (marked-at program image input loaded has n stack e).marks offset

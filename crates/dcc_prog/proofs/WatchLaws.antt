@@ -79,18 +79,21 @@ module _ (program : Program) where
   -- The machine's run.
 
   -- a step of a run that goes on and isn't stopped
-  pub watch_moves : (w : Watch) → is_over w.machine.end ≡ false → is_foul w ≡ false → next_foul program w ≡ None → watch_step program w ≡ moved layout w
+  pub watch_moves : (w : Watch) → is_over w.machine.end ≡ false → is_foul w ≡ false → next_foul program w ≡ None
+      → watch_step program w ≡ moved layout w
   watch_moves w running going clean =
       ap (λ b. after_step (b || is_foul w) w) running
       ∙ ap (λ b. after_step b w) going
       ∙ ap (λ foul. made layout foul w) clean
 
-  made-steps : (w : Watch) (foul : Option Foul) → is_foul (made layout foul w) ≡ false → (made layout foul w).machine ≡ step layout.cpu w.machine
+  made-steps : (w : Watch) (foul : Option Foul) → is_foul (made layout foul w) ≡ false
+      → (made layout foul w).machine ≡ step layout.cpu w.machine
   made-steps w None clean = refl
   made-steps w (Some foul) clean = cc
 
   -- the machine makes its step, where the run isn't stopped by then
-  pub machine_steps : (w : Watch) → is_foul (watch_step program w) ≡ false → (watch_step program w).machine ≡ step layout.cpu w.machine
+  pub machine_steps : (w : Watch) → is_foul (watch_step program w) ≡ false
+      → (watch_step program w).machine ≡ step layout.cpu w.machine
   machine_steps w clean =
       elim (is_over w.machine.end) as (λ b. is_over w.machine.end ≡ b → is_foul (after_step (b || is_foul w) w) ≡ false
       → (after_step (b || is_foul w) w).machine ≡ step layout.cpu w.machine) [
@@ -103,7 +106,8 @@ module _ (program : Program) where
       ] refl clean
 
   -- what isn't foul after more steps wasn't after fewer
-  pub not_foul_before : (m n : ℕ) (w : Watch) → m ≤ n → is_foul (state (watched_machine program) n w) ≡ false → is_foul (state (watched_machine program) m w) ≡ false
+  pub not_foul_before : (m n : ℕ) (w : Watch) → m ≤ n → is_foul (state (watched_machine program) n w) ≡ false
+      → is_foul (state (watched_machine program) m w) ≡ false
   not_foul_before m n w le clean = clean_before (watched_machine program) machine_watchable m n w le clean
 
   -- as long as it isn't foul the watched machine is where the machine is
@@ -128,11 +132,13 @@ module _ (program : Program) where
   abbrev entered : State → Stage
   entered t = if t.ip == layout.start_ip then InProcedures (first_stack layout t) else InPrelude
 
-  enters : (found : Option Instr) (s t : State) (stage : Stage) → IsBefore stage → stage_after layout found s t stage ≡ entered t
+  enters : (found : Option Instr) (s t : State) (stage : Stage) → IsBefore stage
+      → stage_after layout found s t stage ≡ entered t
   enters found s t stage at_start = refl
   enters found s t stage in_prelude = refl
 
-  pub prelude_goes : (w : Watch) → IsBefore w.stage → is_over w.machine.end ≡ false → (watch_step program w).stage ≡ entered (step layout.cpu w.machine)
+  pub prelude_goes : (w : Watch) → IsBefore w.stage → is_over w.machine.end ≡ false
+      → (watch_step program w).stage ≡ entered (step layout.cpu w.machine)
   prelude_goes w before running =
       ap (λ (v : Watch). v.stage) (watch_moves w running (before-going w.machine w.stage before) (before-clean w.machine w.stage before))
       ∙ enters (next_instruction layout.cpu w.machine) w.machine (step layout.cpu w.machine) w.stage before
@@ -158,9 +164,10 @@ module _ (image : Image) (program : Program) (loaded : IsLoaded image) (has : Ha
       ∙ ap (λ a. at_offset image input (executed cpu (start_state image []) (take k has.prelude)) a) (sym (offset-taken k has.prelude image.ip))
 
   machine-before : (k : ℕ) → IsBefore (watch_at k).stage → (watch_at k).machine ≡ machine_run k
-  machine-before k before = machine_after program k (first_watch image input) (before-going program (watch_at k).machine (watch_at k).stage before)
+  machine-before k before =
+      machine_after program k (first_watch image input) (before-going program (watch_at k).machine (watch_at k).stage before)
 
-  next-watch : (k : ℕ) → watch_at (suc k) ≡ watch_step program (watch_at k)
+  pub next-watch : (k : ℕ) → watch_at (suc k) ≡ watch_step program (watch_at k)
   next-watch k =
       let e : suc k ≡ k + 1 = omega arith in
       ap watch_at e ∙ after-add (watch_step program) k 1 (first_watch image input)
@@ -168,10 +175,12 @@ module _ (image : Image) (program : Program) (loaded : IsLoaded image) (has : Ha
   next-machine : (k : ℕ) → IsBefore (watch_at k).stage → step cpu (watch_at k).machine ≡ machine_run (suc k)
   next-machine k before =
       let e : k + 1 ≡ suc k = omega arith in
-      ap (step cpu) (machine-before k before) ∙ sym (after-add (step cpu) k 1 (start_state image input)) ∙ ap machine_run e
+      ap (step cpu) (machine-before k before) ∙ sym (after-add (step cpu) k 1 (start_state image input))
+      ∙ ap machine_run e
 
   -- after each further step the machine stands at that offset of the prelude, or at its end
-  goes-to : (k : ℕ) → suc k ≤ length has.prelude → IsBefore (watch_at k).stage → (watch_at (suc k)).stage ≡ entered program (machine_run (suc k))
+  goes-to : (k : ℕ) → suc k ≤ length has.prelude → IsBefore (watch_at k).stage
+      → (watch_at (suc k)).stage ≡ entered program (machine_run (suc k))
   goes-to k le before =
       let less : k ≤ length has.prelude = omega (arith, le) in
       ap (λ (v : Watch). v.stage) (next-watch k)
@@ -201,7 +210,8 @@ module _ (image : Image) (program : Program) (loaded : IsLoaded image) (has : Ha
 
   pub before_its_end : (k : ℕ) → k < length has.prelude → IsBefore (watch_at k).stage
   before_its_end zero less = at_start
-  before_its_end (suc k) less = let some : 0 < suc k = omega arith in subst IsBefore (sym (in_the_prelude (suc k) some less)) in_prelude
+  before_its_end (suc k) less =
+      let some : 0 < suc k = omega arith in subst IsBefore (sym (in_the_prelude (suc k) some less)) in_prelude
 
   -- and after it in the procedure that begins there
   pub past_the_prelude : (watch_at (length has.prelude)).stage ≡ InProcedures (first_stack program.layout (machine_run (length has.prelude)))
