@@ -26,10 +26,11 @@ use Rattle.dcc_lift.specs.Translation.{data_image}
 
 -- Runs.
 
--- For every fill and input, and whatever analysed program with this layout tells which steps are clean, the program's run
--- shadows the machine's: for each clean number of the machine's steps there is a number of the program's, in which it has
--- come to just those of its blocks at whose places the machine stood, in their order and with equal events, and has ended
--- alike where the machine has; and wherever it begins a block or ends from then on, its events begin with the machine's.
+-- For every fill and input, and whatever analysed program with this layout tells which steps are clean, the program's
+-- run shadows the machine's: for each clean number of the machine's steps there is a number of the program's, in
+-- which it has come to just those of its blocks at whose places the machine stood, in their order and with equal
+-- events, and has ended alike where the machine has; and wherever it begins a block or ends from then on, its events
+-- begin with the machine's.
 abbrev pub ShadowsMachine : Image → Layout → Program → Type 0
 ShadowsMachine image layout p =
     (analysed : Analysed) (fill : ℕ) (input : List ℕ) → analysed.layout ≡ layout → fill < 65536
@@ -53,8 +54,8 @@ steps_between = 8192
 abbrev pub steps_at_start : ℕ
 steps_at_start = 65535 + steps_between
 
--- for every input and analysed program with this layout the machine comes to places of blocks, to its end or to where it
--- is foul, within such numbers of steps
+-- for every input and analysed program with this layout the machine comes to places of blocks, to its end or to where
+-- it is foul, within such numbers of steps
 abbrev pub MachineKeepsPace : Image → Layout → Program → Type 0
 MachineKeepsPace image layout p =
     (analysed : Analysed) (input : List ℕ) → analysed.layout ≡ layout → All (λ byte. byte < 256) input

@@ -1,7 +1,7 @@
--- Which steps of a run are clean. A text's functions have variables where the machine has one stack for all; so a step is
--- clean where it uses the stack as functions use their variables: it leaves SP in the stack, reaches the bytes of a
--- frame by pushes, pops, calls, returns and direct accesses, or where the frame exposes them, and reads what was written.
--- Offsets are those of the data segment.
+-- Which steps of a run are clean. A text's functions have variables where the machine has one stack for all; so a
+-- step is clean where it uses the stack as functions use their variables: it leaves SP in the stack, reaches the
+-- bytes of a frame by pushes, pops, calls, returns and direct accesses, or where the frame exposes them, and reads
+-- what was written. Offsets are those of the data segment.
 use Rattle.std.specs.Prelude.{ℕ, ◌+◌, ◌-◌, ◌*◌, ◌==◌, nat_le, ℤ, pos, ◌+ℤ◌, ◌-ℤ◌, neg_ℤ, int_le, int_lt, Bool, true, false, not, ◌&&◌, ◌||◌, if◌then◌else◌, List, [], ◌∷◌, drop, replicate, flat_map, slice_get, slice_set, Option, Some, None, option_map}
 use Rattle.std.specs.List.{range_with_len, find, filter, filter_map}
 use Rattle.dcc_num.specs.declared.Width.TheVariants.{Word as word_width}
@@ -46,9 +46,9 @@ frame_of program live = frame_in program.procs.items program.cells.frames.items 
 abbrev pub end_of : Program → LiveFrame → ℕ
 end_of program live = elim (frame_of program live) [ None ↦ live.base | Some frame ↦ live.base + 2 * frame.args ]
 
--- The newest frame that holds an offset. A frame's part reaches from where SP stands, the first number, up to the end of
--- its arguments. For a frame that waits for a call that is where SP stood just before it: the base of the next newer
--- frame.
+-- The newest frame that holds an offset. A frame's part reaches from where SP stands, the first number, up to the end
+-- of its arguments. For a frame that waits for a call that is where SP stood just before it: the base of the next
+-- newer frame.
 abbrev pub owner : Program → ℕ → List LiveFrame → ℕ → Option LiveFrame
 owner program low [] offset = None
 owner program low (live ∷ older) offset =
@@ -180,8 +180,8 @@ with_marks mark (offset ∷ rest) marks = with_marks mark rest (slice_set marks 
 abbrev pub stored_bytes : Layout → List Access → List ℕ
 stored_bytes layout list = stack_bytes layout (filter (λ access. not (is_reading access)) list)
 
--- Those that a step stores are written; after that those that SP rises past, from the first offset up to the second, are
--- so no longer. So a word that is popped into itself is not written afterwards.
+-- Those that a step stores are written; after that those that SP rises past, from the first offset up to the second,
+-- are so no longer. So a word that is popped into itself is not written afterwards.
 abbrev pub written_after : Layout → List Access → ℕ → ℕ → List Bool → List Bool
 written_after layout list from to written =
     with_marks false (range_with_len from (to - from)) (with_marks true (stored_bytes layout list) written)

@@ -82,7 +82,8 @@ pub record WhatUsesNoStackIsClean : Type 0 where
   pub stays :
       (program : Program) (image : Image) (input : List ℕ) (n : ℕ) → IsLoaded image
       → (has : HasLayout image program.layout) → length has.prelude ≤ n
-      → ((k : ℕ) → length has.prelude ≤ k → k < n → NextUsesNoStack program.layout (machine_after program image input k))
+      → ((k : ℕ) → length has.prelude ≤ k → k < n
+      → NextUsesNoStack program.layout (machine_after program image input k))
       → stage_at program image input n
       ≡ InProcedures (first_stack program.layout (machine_after program image input (length has.prelude)))
   pub run :
@@ -98,8 +99,9 @@ pub record WhatUsesNoStackIsClean : Type 0 where
 abbrev pub spares_sp : Operand → Bool
 spares_sp a = not (is_half_of Sp Low a) && not (is_half_of Sp High a)
 
--- What SP is after the operation is told: it doesn't write SP; or it does so as frames do, by PUSH, CALL, RET or LEAVE, a
--- POP of something else, ENTER with a word, `mov sp,bp`, LEA of SP from BP without an index, or a move of SP.
+-- What SP is after the operation is told: it doesn't write SP; or it does so as frames do, by PUSH, CALL, RET or
+-- LEAVE, a POP of something else, ENTER with a word, `mov sp,bp`, LEA of SP from BP without an index, or a move of
+-- SP.
 abbrev pub tells_sp : Op → Bool
 tells_sp (Push a) = true
 tells_sp (Pop a) = spares_sp a
