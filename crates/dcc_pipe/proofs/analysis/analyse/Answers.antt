@@ -32,7 +32,7 @@ returns-in_err-cells-clause-refused c =
     let p = err_from_is_err_and c.from_residual-in_err-cells.result c.from_residual-in_err-cells.ensures.1 in
     rw (p.1, p.2) (by_frames c.in_ok-layout.ensures.processor c.in_ok-layout.ensures.layout
     (found-by_trails image layout c.in_ok-procs.procs.items found) heights.accepted
-    (c.in_err-cells.ensures.refused image layout found heights refl))
+    (c.in_err-cells.ensures.refused image layout (record { found = found; heights_are = heights; delta_is = refl })))
 
 pub returns-clause-program : goal.returns-clause-program
 returns-clause-program c =
@@ -44,7 +44,7 @@ returns-clause-program c =
       layout = c.in_ok-layout.ensures.layout;
       procs = found;
       heights = heights;
-      cells = c.in_ok-cells.ensures.cells image layout found heights refl;
+      cells = c.in_ok-cells.ensures.cells image layout (record { found = found; heights_are = heights; delta_is = refl });
     }
 
 pub returns-clause-accepted : goal.returns-clause-accepted
@@ -53,6 +53,6 @@ returns-clause-accepted c =
     let layout = c.in_ok-layout.layout in
     let found = c.in_ok-procs.ensures.found in
     let heights = c.in_ok-heights.ensures.heights image layout found in
-    let frames = c.in_ok-cells.ensures.cells image layout found heights refl in
+    let frames = c.in_ok-cells.ensures.cells image layout (record { found = found; heights_are = heights; delta_is = refl }) in
     accepted-sound c.args.cpu image layout c.in_ok-layout.ensures.processor c.in_ok-layout.ensures.layout
     (accepted-all image layout c.in_ok-procs.procs.items found heights.accepted frames.accepted)
