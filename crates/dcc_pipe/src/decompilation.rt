@@ -10,13 +10,12 @@ ghost use Rattle.dcc_c.specs.Views.{tree_of};
 ghost use Rattle.dcc_c.specs.Written.{written_form};
 ghost use Rattle.dcc_pipe.specs.Agreement.{IsTextOf};
 
+use crate::analysis::analyse;
 use crate::built::reached_unbuilt;
 use crate::goto_text::goto_text;
 use crate::number::number;
 use dcc_c::Unit;
-use dcc_layout::layout;
 use dcc_lift::lift;
-use dcc_procs::find;
 use dcc_prog::{Cpu, Image, Layout, Proc, Refusal};
 use std::alloc::{AllocError, Global};
 
@@ -44,19 +43,17 @@ fn text_of(
 /// program on the processor.
 ///
 /// A program that is accepted has no construct, passes no limit, and reaches no instruction that is not built. One that
-/// is refused is told why, in this order: that it has no layout; or, of its layout, a construct or a limit that its
-/// trails tell; or, where there is neither, an instruction that is reached and not built. Want of memory may refuse any
-/// program.
+/// is refused is told why, in this order: what `analyse` refuses; and where it refuses nothing, an instruction that is
+/// reached and not built. Want of memory may refuse any program.
 pub fn decompile(alloc: Global, image: &Image, cpu: Cpu) -> Result<Unit, Refusal>
     requires { IsLoaded image.now }
     ensures text { IfOk result (λ unit. IsTextOf cpu image.now (written_form (tree_of unit)) (tree_of unit)) }
     ensures accepted { IfOk result (λ unit. IsAcceptedProgram cpu image.now) }
     ensures refused { IfErr result (IsRefusedFor cpu image.now) }
 {
-    let layout = layout(alloc, image, cpu)?;
-    let procs = find(alloc, image, &layout)?;
-    if let Some(at) = reached_unbuilt(&procs) {
+    let program = analyse(alloc, image, cpu)?;
+    if let Some(at) = reached_unbuilt(&program.procs) {
         return Err(Refusal::NotYet { at });
     }
-    Ok(text_of(alloc, image, &layout, &procs)?)
+    Ok(text_of(alloc, image, &program.layout, &program.procs)?)
 }

@@ -1,6 +1,7 @@
 //! From an executable to its C text.
 #![tactic(auto)]
 
+mod analysis;
 mod built;
 mod decompilation;
 mod goto_expr;
@@ -8,4 +9,5 @@ mod goto_text;
 mod number;
 mod variables;
 
+pub use analysis::analyse;
 pub use decompilation::decompile;

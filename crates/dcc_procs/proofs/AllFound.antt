@@ -16,7 +16,7 @@ use Rattle.dcc_prog.specs.Construct.{HasNumber, IsAtNode, IsOfTrails}
 use Rattle.dcc_prog.specs.Limit.{HasMany, IsNodeOf, IsAbove, procedures, instructions, total, entries}
 use Rattle.dcc_prog.specs.Found.{IsFound, IsListed, HasEntry, AreInOrder, AreFound}
 use Rattle.dcc_procs.specs.Procedures.{IsProcedure, AreReached}
-use Rattle.dcc_procs.proofs.Counting.{few}
+use Rattle.dcc_prog.proofs.Counting.{few}
 use Rattle.dcc_procs.proofs.Ordered.{ascending-by}
 use Rattle.dcc_procs.proofs.Places.{places_of, length-places, contains-place, pairs-head, pairs-tail}
 

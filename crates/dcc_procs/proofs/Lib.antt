@@ -9,7 +9,6 @@ pub mod Filling
 pub mod Following
 pub mod Dividing
 pub mod Collected
-pub mod Counting
 pub mod EntryLaws
 pub mod Indirect
 pub mod Clean

@@ -17,7 +17,7 @@ use Rattle.dcc_procs.specs.Known.{told}
 use Rattle.dcc_procs.specs.Search.{Tells, seen_at, IsListing, IsOrder, AreAllSeen}
 use Rattle.dcc_procs.specs.Procedures.{IsProcedure}
 use Rattle.dcc_procs.proofs.Clean.{no-construct, small-table}
-use Rattle.dcc_procs.proofs.Counting.{no-more}
+use Rattle.dcc_prog.proofs.Counting.{no-more}
 use Rattle.dcc_procs.proofs.Ordered.{ascending-by}
 
 -- the order, sorted

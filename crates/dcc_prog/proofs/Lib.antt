@@ -11,6 +11,7 @@ pub mod LayoutLaws
 pub mod TrailLaws
 pub mod ConstructLaws
 pub mod FoundLaws
+pub mod Counting
 pub mod FoundNodes
 pub mod RefusedLaws
 pub mod MachineEnds

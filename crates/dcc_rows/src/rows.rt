@@ -5,6 +5,7 @@ mod answers;
 mod both;
 mod files;
 mod lifted;
+mod listings;
 mod processors;
 mod runs;
 mod texts;

@@ -8,8 +8,8 @@ use Rattle.dcc_prog.specs.declared.image.Image.{Image}
 use Rattle.dcc_prog.specs.Machine.{start_state}
 use Rattle.dcc_prog.specs.MzImage.{IsImageOf}
 use Rattle.dcc_top.specs.declared.reply.Reply.{Reply}
-use Rattle.dcc_top.specs.Words.{Decompile}
-use Rattle.dcc_top.specs.Answer.{Files, OfFile, IsTextOfImage, AllowsImage, image_decompiled, image_refused, Decompiles, AllowsText, decompiled, refused, Allows, for_text, IsCut, cut_text}
+use Rattle.dcc_top.specs.Words.{Decompile, ListProcedures, Product, Text, Listing, job_to_make}
+use Rattle.dcc_top.specs.Answer.{Files, OfFile, IsMadeOf, AllowsImage, image_made, image_refused, Makes, AllowsProduct, made_of_file, refused, Allows, for_text, for_listing, IsCut, cut_text, cut_listing}
 use Rattle.dcc_top.specs.Change.{Change, same}
 use Rattle.dcc_top.specs.Delivery.{Answers, CutsShort}
 
@@ -23,31 +23,45 @@ same-start file a b input p q =
     let sp : a.sp ≡ b.sp = p.sp ∙ sym q.sp in
     cc
 
--- the text of the file's image is that of the file
-decompiles-image : (cpu : Cpu) (file text : List ℕ) (image : Image) → IsImageOf file image → IsTextOfImage cpu image text → Decompiles cpu file text
-decompiles-image cpu file text image is t = record { image = image; is_image = is; is_text = t }
+-- what is made of the file's image is that of the file
+makes-image : (product : Product) (cpu : Cpu) (file made : List ℕ) (image : Image) → IsImageOf file image → IsMadeOf product cpu image made → Makes product cpu file made
+makes-image product cpu file made image is m = record { image = image; is_image = is; is_made = m }
 
 -- what is allowed for an image is allowed for the file that it is the image of
-text-of_image : (cpu : Cpu) (told : Files) (name : List ℕ) (image : Image) (reply : Reply) (output : List ℕ) → OfFile told name (λ file. IsImageOf file image) → AllowsImage cpu image reply output →
-    AllowsText cpu told name reply output
-text-of_image cpu told name image _ output f (image_decompiled t) =
-    decompiled (record { file = f.file; has = f.has; holds = decompiles-image cpu f.file output image f.holds t })
-text-of_image cpu told name image _ _ f (image_refused refusal h) =
+product-of_image : (product : Product) (cpu : Cpu) (told : Files) (name : List ℕ) (image : Image) (reply : Reply) (output : List ℕ) → OfFile told name (λ file. IsImageOf file image) → AllowsImage product cpu image reply output →
+    AllowsProduct product cpu told name reply output
+product-of_image product cpu told name image _ output f (image_made m) =
+    made_of_file (record { file = f.file; has = f.has; holds = makes-image product cpu f.file output image f.holds m })
+product-of_image product cpu told name image _ _ f (image_refused refusal h) =
     refused refusal (record { file = f.file; has = f.has; holds = record { image = image; is_image = f.holds; refused = h } })
 
--- the same for the job of `c`, of which none reads the input
-pub answer-of_image : (cpu : Cpu) (told : Files) (name : List ℕ) (left : Option (List ℕ)) (image : Image) (out now : Option (List ℕ)) (result : Result Reply Failed) → OfFile told name
-    (λ file. IsImageOf file image) → IfOk result (Answers (AllowsImage cpu image) out now) → IfOk result (Answers (Allows told left left (Some (Decompile name cpu))) out now)
-answer-of_image cpu told name left image out now (Ok reply) f a =
-    record { output = a.output; wrote = a.wrote; is_answer = for_text (text-of_image cpu told name image reply a.output f a.is_answer) refl }
-answer-of_image cpu told name left image out now (Err e) f a = a
+-- the same for the job that asks for it, by which none of the input is read
+allowed-job : (product : Product) (cpu : Cpu) (told : Files) (name : List ℕ) (left : Option (List ℕ)) (reply : Reply) (output : List ℕ) → AllowsProduct product cpu told name reply output →
+    Allows told left left (Some (job_to_make product name cpu)) reply output
+allowed-job Text cpu told name left reply output h = for_text h refl
+allowed-job Listing cpu told name left reply output h = for_listing h refl
 
-pub cut-of_image : (cpu : Cpu) (told : Files) (name : List ℕ) (left : Option (List ℕ)) (image : Image) (output : Change (Option (List ℕ))) (result : Result Reply Failed) → OfFile told name
-    (λ file. IsImageOf file image) → OnErr result (CutsShort (IsTextOfImage cpu image) output.before output.after) → OnErr result (CutsShort (IsCut told (same left) output (Some (Decompile name cpu))) output.before output.after)
-cut-of_image cpu told name left image output (Ok reply) f c = c
-cut-of_image cpu told name left image output (Err e) f c = record {
+pub answer-of_image : (product : Product) (cpu : Cpu) (told : Files) (name : List ℕ) (left : Option (List ℕ)) (image : Image) (out now : Option (List ℕ)) (result : Result Reply Failed) → OfFile told name
+    (λ file. IsImageOf file image) → IfOk result (Answers (AllowsImage product cpu image) out now) → IfOk result (Answers (Allows told left left (Some (job_to_make product name cpu))) out now)
+answer-of_image product cpu told name left image out now (Ok reply) f a = record {
+  output = a.output;
+  wrote = a.wrote;
+  is_answer = allowed-job product cpu told name left reply a.output (product-of_image product cpu told name image reply a.output f a.is_answer);
+}
+answer-of_image product cpu told name left image out now (Err e) f a = a
+
+cut-job : (product : Product) (cpu : Cpu) (told : Files) (name due : List ℕ) (left : Option (List ℕ)) (output : Change (Option (List ℕ))) → OfFile told name (λ file. Makes product cpu file due) →
+    IsCut told (same left) output (Some (job_to_make product name cpu)) due
+cut-job Text cpu told name due left output f = cut_text refl f
+cut-job Listing cpu told name due left output f = cut_listing refl f
+
+pub cut-of_image : (product : Product) (cpu : Cpu) (told : Files) (name : List ℕ) (left : Option (List ℕ)) (image : Image) (output : Change (Option (List ℕ))) (result : Result Reply Failed) → OfFile told name
+    (λ file. IsImageOf file image) → OnErr result (CutsShort (IsMadeOf product cpu image) output.before output.after) →
+    OnErr result (CutsShort (IsCut told (same left) output (Some (job_to_make product name cpu))) output.before output.after)
+cut-of_image product cpu told name left image output (Ok reply) f c = c
+cut-of_image product cpu told name left image output (Err e) f c = record {
   due = c.due;
-  is_due = cut_text refl (record { file = f.file; has = f.has; holds = decompiles-image cpu f.file c.due image f.holds c.is_due });
+  is_due = cut-job product cpu told name c.due left output (record { file = f.file; has = f.has; holds = makes-image product cpu f.file c.due image f.holds c.is_due });
   part = c.part;
 }
 

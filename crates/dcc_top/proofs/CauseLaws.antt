@@ -9,21 +9,21 @@ use Rattle.dcc_run.specs.End.{End}
 use Rattle.dcc_prog.specs.declared.cpu.Cpu.{Cpu}
 use Rattle.dcc_prog.specs.declared.refusal.Refusal.{Refusal}
 use Rattle.dcc_prog.specs.MzImage.{FormatFault, IsFirstFault}
-use Rattle.dcc_prog.specs.Refused.{IsAcceptedProgram, IsRefusedImage}
+use Rattle.dcc_prog.specs.Refused.{IsSound, IsAcceptedProgram, IsUnsound, IsRefusedImage}
 use Rattle.dcc_reader.specs.declared.offence.ParseKind.{ParseKind}
 use Rattle.dcc_parse.specs.Fault.{IsRefusal as IsTextRefusal}
 use Rattle.dcc_top.specs.declared.reply.Reply.{Reply}
 use Rattle.dcc_top.specs.declared.reply.Reply.TheVariants.{Done, Format, TextFault}
-use Rattle.dcc_top.specs.Words.{Job, Decompile, Execute, ExecuteText, name_of, file_of, IsExecution, LoadsImage}
-use Rattle.dcc_top.specs.Answer.{Files, OfFile, HasNoFile, no_file, file_fault, no_memory, HasNoImage, no_executable, misshapen, HasNoUnit, no_text, offends, AllowsText, decompiled, refused, no_image, Decompiles, IsRefusedAs, OfImages, Runs, Allows, no_job, for_text, ran_file, ran_no_file, ran_text, ran_no_text, ShelfLacks, status_of, line_of, refusal_reply}
+use Rattle.dcc_top.specs.Words.{Job, Decompile, ListProcedures, Execute, ExecuteText, Product, Text, Listing, job_to_make, name_of, file_of, IsExecution, LoadsImage}
+use Rattle.dcc_top.specs.Answer.{Files, OfFile, HasNoFile, no_file, file_fault, no_memory, HasNoImage, no_executable, misshapen, HasNoUnit, no_text, offends, AllowsProduct, made_of_file, refused, no_image, Makes, IsRefusedAs, OfImages, Runs, Allows, no_job, for_text, for_listing, ran_file, ran_no_file, ran_text, ran_no_text, ShelfLacks, status_of, line_of, refusal_reply}
 use Rattle.dcc_top.specs.Call.{Call, Rises, Appends}
 use Rattle.dcc_top.specs.Causes.{IsAnswered, answered, found_no_memory, broke_off, IsCaused, HasRunFile, IsAbsent, IsUnreadable, HasFormatFault, HasRefusal, HasTextFault, Names, IsMissing, IsNoText, EndsSo, IsOutOfMemory, IsCutOff}
-use Rattle.dcc_top.specs.Headline.{HasText}
+use Rattle.dcc_top.specs.Headline.{HasText, HasListing}
 use Rattle.dcc_top.specs.Status.{IsOneOf, end_status}
 use Rattle.dcc_top.specs.Status as exit
-use Rattle.dcc_top.proofs.HeadlineLaws.{has-text}
-use Rattle.dcc_top.proofs.StatusLaws.{apart, are_apart, image_faults, refusals, text_faults, text_statuses, text-status, status-not_six, reply-at_3, reply-at_4, reply-at_5, reply-at_7, no_file-status, no_image-status, no_unit-status, refusal-status, run_statuses, run-status, text_run-status}
-use Rattle.dcc_top.proofs.NamedLaws.{name-of, file-name, accepted-one, refused-always as always-refused, job-misshapen, job-missing, text-refused, job-ended}
+use Rattle.dcc_top.proofs.HeadlineLaws.{has-text, has-listing}
+use Rattle.dcc_top.proofs.StatusLaws.{apart, are_apart, image_faults, refusals, text_faults, product_statuses, product-status, status-not_six, reply-at_3, reply-at_4, reply-at_5, reply-at_7, no_file-status, no_image-status, no_unit-status, refusal-status, run_statuses, run-status, text_run-status}
+use Rattle.dcc_top.proofs.NamedLaws.{name-of, file-name, IsAcceptedIn, IsRefusedIn, refused_statuses, accepted-one, refused-always as always-refused, job-misshapen, job-missing, text-refused, job-ended}
 
 module _ (call : Call) where
   abbrev told : Files
@@ -88,6 +88,7 @@ module _ (call : Call) where
   -- the statuses of a run
   runs-status : (j : Job) (file : List ℕ) (reply : Reply) (output : List ℕ) → Runs j file before left reply output → IsOneOf (status_of reply) run_statuses
   runs-status (Decompile name cpu) file reply output h = absurd h
+  runs-status (ListProcedures name cpu) file reply output h = absurd h
   runs-status (Execute name steps cpu) file reply output h = run-status _ steps before left reply output h.finishes
   runs-status (ExecuteText name steps fill) file reply output h =
       text_run-status _ steps before left reply output (h.runs file h.is_read.stands)
@@ -97,7 +98,9 @@ module _ (call : Call) where
   usage-of : (j : Option Job) (reply : Reply) (output : List ℕ) → Allowed j reply output → IsOneOf (status_of reply) (2 ∷ []) → j ≡ None
   usage-of _ _ _ (no_job same) is = refl
   usage-of _ reply output (for_text {name = name} {cpu = cpu} h same) is =
-      absurd (apart (status_of reply) (2 ∷ []) text_statuses refl is (text-status cpu told name reply output h))
+      absurd (apart (status_of reply) (2 ∷ []) product_statuses refl is (product-status Text cpu told name reply output h))
+  usage-of _ reply output (for_listing {name = name} {cpu = cpu} h same) is =
+      absurd (apart (status_of reply) (2 ∷ []) product_statuses refl is (product-status Listing cpu told name reply output h))
   usage-of _ reply output (ran_file {name = name} {steps = steps} {cpu = cpu} f) is =
       absurd (apart (status_of reply) (2 ∷ []) run_statuses refl is (runs-status (Execute name steps cpu) f.file reply output f.holds))
   usage-of _ reply _ (ran_no_file {name = name} h same) is =
@@ -119,25 +122,51 @@ module _ (call : Call) where
   usage-always a none =
       one-of (2 ∷ (6 ∷ (7 ∷ []))) (inr (inl refl)) (inr (inr (inl refl))) (λ reply output h. no-words reply output (subst (λ j. Allowed j reply output) none h)) a
 
-  -- The text of `c`.
+  -- The text of `c`, and the list of `procs`.
 
-  text-of : (name : List ℕ) (cpu : Cpu) (reply : Reply) (output : List ℕ) → AllowsText cpu told name reply output → status_of reply ≡ 0 → OfFile told name (λ file. Decompiles cpu file output)
-  text-of name cpu _ output (decompiled f) is = f
-  text-of name cpu _ _ (refused refusal f) is =
+  made-of : (product : Product) (name : List ℕ) (cpu : Cpu) (reply : Reply) (output : List ℕ) → AllowsProduct product cpu told name reply output → status_of reply ≡ 0 → OfFile told name (λ file. Makes product cpu file output)
+  made-of product name cpu _ output (made_of_file f) is = f
+  made-of product name cpu _ _ (refused refusal f) is =
       absurd (apart (status_of (refusal_reply refusal)) (0 ∷ []) refusals refl (inl is) (refusal-status refusal))
-  text-of name cpu reply _ (no_image h) is =
+  made-of product name cpu reply _ (no_image h) is =
       absurd (apart (status_of reply) (0 ∷ []) image_faults refl (inl is) (no_image-status told name reply h))
 
-  -- what is allowed for the text of an executable
-  for-text : (name : List ℕ) (cpu : Cpu) (reply : Reply) (output : List ℕ) → Allowed (Some (Decompile name cpu)) reply output → AllowsText cpu told name reply output
+  -- what is allowed for the text of an executable, and for its list
+  for-text : (name : List ℕ) (cpu : Cpu) (reply : Reply) (output : List ℕ) → Allowed (Some (Decompile name cpu)) reply output → AllowsProduct Text cpu told name reply output
   for-text name cpu reply output (for_text h same) = h
+
+  for-listing : (name : List ℕ) (cpu : Cpu) (reply : Reply) (output : List ℕ) → Allowed (Some (ListProcedures name cpu)) reply output → AllowsProduct Listing cpu told name reply output
+  for-listing name cpu reply output (for_listing h same) = h
+
+  for-product : (product : Product) (name : List ℕ) (cpu : Cpu) (reply : Reply) (output : List ℕ) → Allowed (Some (job_to_make product name cpu)) reply output → AllowsProduct product cpu told name reply output
+  for-product Text name cpu reply output h = for-text name cpu reply output h
+  for-product Listing name cpu reply output h = for-listing name cpu reply output h
+
+  -- what was made of the file of the name, at status 0
+  record IsMade (product : Product) (name : List ℕ) (cpu : Cpu) : Type 0 where
+    output : List ℕ
+    of_file : OfFile told name (λ file. Makes product cpu file output)
+    out : Appends call.output output
+
+  is-made : Comes → (product : Product) (name : List ℕ) (cpu : Cpu) → call.job ≡ Some (job_to_make product name cpu) → call.status ≡ 0 → IsMade product name cpu
+  is-made a product name cpu named is =
+      let t = told-at 0 is (λ e. omega (arith, e)) (λ e. omega (arith, e)) a in
+      let h = subst (λ j. Allowed j t.reply t.output) named t.allowed in
+      record {
+        output = t.output;
+        of_file = made-of product name cpu t.reply t.output (for-product product name cpu t.reply t.output h) (sym t.status_is ∙ is);
+        out = t.out;
+      }
 
   pub text : Comes → (name : List ℕ) (cpu : Cpu) → call.job ≡ Some (Decompile name cpu) → call.status ≡ 0 → HasText cpu told name call.output.taken.before call.output.taken.after
   text a name cpu named is =
-      let t = told-at 0 is (λ e. omega (arith, e)) (λ e. omega (arith, e)) a in
-      let h = subst (λ j. Allowed j t.reply t.output) named t.allowed in
-      let f = text-of name cpu t.reply t.output (for-text name cpu t.reply t.output h) (sym t.status_is ∙ is) in
-      has-text cpu told name call.output.taken.before call.output.taken.after f.file t.output f.has t.out f.holds
+      let m = is-made a Text name cpu named is in
+      has-text cpu told name call.output.taken.before call.output.taken.after m.of_file.file m.output m.of_file.has m.out m.of_file.holds
+
+  pub listing : Comes → (name : List ℕ) (cpu : Cpu) → call.job ≡ Some (ListProcedures name cpu) → call.status ≡ 0 → HasListing cpu told name call.output.taken.before call.output.taken.after
+  listing a name cpu named is =
+      let m = is-made a Listing name cpu named is in
+      has-listing cpu told name call.output.taken.before call.output.taken.after m.of_file.file m.output m.of_file.has m.out m.of_file.holds
 
   -- Runs.
 
@@ -164,7 +193,9 @@ module _ (call : Call) where
   ended-of : (j : Option Job) (reply : Reply) (output : List ℕ) → Allowed j reply output → IsOneOf (status_of reply) exit.stops → HasRan j reply output
   ended-of _ _ _ (no_job same) is = absurd (apart 2 (2 ∷ []) exit.stops refl (inl refl) is)
   ended-of _ reply output (for_text {name = name} {cpu = cpu} h same) is =
-      absurd (apart (status_of reply) exit.stops text_statuses refl is (text-status cpu told name reply output h))
+      absurd (apart (status_of reply) exit.stops product_statuses refl is (product-status Text cpu told name reply output h))
+  ended-of _ reply output (for_listing {name = name} {cpu = cpu} h same) is =
+      absurd (apart (status_of reply) exit.stops product_statuses refl is (product-status Listing cpu told name reply output h))
   ended-of _ reply output (ran_file {name = name} {steps = steps} {cpu = cpu} f) is =
       record { asked = Execute name steps cpu; named = refl; ran = f }
   ended-of _ reply _ (ran_no_file {name = name} h same) is =
@@ -182,6 +213,7 @@ module _ (call : Call) where
   exited-of : (j : Option Job) (reply : Reply) (output : List ℕ) → Allowed j reply output → IsExecution j → IsOneOf (status_of reply) (0 ∷ []) → HasRan j reply output
   exited-of _ _ _ (no_job same) execution is = absurd execution
   exited-of _ reply output (for_text h same) execution is = absurd execution
+  exited-of _ reply output (for_listing h same) execution is = absurd execution
   exited-of _ reply output (ran_file {name = name} {steps = steps} {cpu = cpu} f) execution is =
       record { asked = Execute name steps cpu; named = refl; ran = f }
   exited-of _ reply _ (ran_no_file {name = name} h same) execution is =
@@ -222,15 +254,24 @@ module _ (call : Call) where
   misshapen-of j name _ named (misshapen {fault = fault} f) is =
       record { name = name; fault = fault; named = named; reply_is = refl; fails = f }
 
-  text-misshapen : (name : List ℕ) (cpu : Cpu) (reply : Reply) (output : List ℕ) → AllowsText cpu told name reply output → status_of reply ≡ 8 → IsMisshapen (Some (Decompile name cpu)) reply
-  text-misshapen name cpu _ output (decompiled f) is = absurd (omega (arith, is))
-  text-misshapen name cpu _ _ (refused refusal f) is =
+  -- the job names the file
+  names-file : (product : Product) (name : List ℕ) (cpu : Cpu) → file_of (Some (job_to_make product name cpu)) ≡ Some name
+  names-file Text name cpu = refl
+  names-file Listing name cpu = refl
+
+  product-misshapen : (product : Product) (name : List ℕ) (cpu : Cpu) (reply : Reply) (output : List ℕ) → AllowsProduct product cpu told name reply output → status_of reply ≡ 8 →
+      IsMisshapen (Some (job_to_make product name cpu)) reply
+  product-misshapen product name cpu _ output (made_of_file f) is = absurd (omega (arith, is))
+  product-misshapen product name cpu _ _ (refused refusal f) is =
       absurd (apart (status_of (refusal_reply refusal)) (8 ∷ []) refusals refl (inl is) (refusal-status refusal))
-  text-misshapen name cpu reply _ (no_image h) is = misshapen-of (Some (Decompile name cpu)) name reply refl h is
+  product-misshapen product name cpu reply _ (no_image h) is =
+      misshapen-of (Some (job_to_make product name cpu)) name reply (names-file product name cpu) h is
 
   format-of : (j : Option Job) (reply : Reply) (output : List ℕ) → Allowed j reply output → status_of reply ≡ 8 → IsMisshapen j reply
   format-of _ _ _ (no_job same) is = absurd (omega (arith, is))
-  format-of _ reply output (for_text {name = name} {cpu = cpu} h same) is = text-misshapen name cpu reply output h is
+  format-of _ reply output (for_text {name = name} {cpu = cpu} h same) is = product-misshapen Text name cpu reply output h is
+  format-of _ reply output (for_listing {name = name} {cpu = cpu} h same) is =
+      product-misshapen Listing name cpu reply output h is
   format-of _ reply output (ran_file {name = name} {steps = steps} {cpu = cpu} f) is =
       absurd (apart (status_of reply) (8 ∷ []) run_statuses refl (inl is) (runs-status (Execute name steps cpu) f.file reply output f.holds))
   format-of _ reply _ (ran_no_file {name = name} {steps = steps} {cpu = cpu} h same) is =
@@ -279,24 +320,28 @@ module _ (call : Call) where
 
   -- the answer names why the program is refused
   record IsTurnedDown (j : Option Job) (reply : Reply) : Type 0 where
+    product : Product
     name : List ℕ
     cpu : Cpu
     refusal : Refusal
-    named : j ≡ Some (Decompile name cpu)
+    named : j ≡ Some (job_to_make product name cpu)
     reply_is : reply ≡ refusal_reply refusal
-    is_refused : OfFile told name (IsRefusedAs cpu refusal)
+    is_refused : OfFile told name (IsRefusedAs product cpu refusal)
 
-  turned-down : (name : List ℕ) (cpu : Cpu) (reply : Reply) (output : List ℕ) → AllowsText cpu told name reply output → IsOneOf (status_of reply) exit.refusals → IsTurnedDown (Some (Decompile name cpu)) reply
-  turned-down name cpu _ output (decompiled f) is =
+  turned-down : (product : Product) (name : List ℕ) (cpu : Cpu) (reply : Reply) (output : List ℕ) → AllowsProduct product cpu told name reply output → IsOneOf (status_of reply) exit.refusals →
+      IsTurnedDown (Some (job_to_make product name cpu)) reply
+  turned-down product name cpu _ output (made_of_file f) is =
       absurd (apart 0 (0 ∷ []) exit.refusals refl (inl refl) is)
-  turned-down name cpu _ _ (refused refusal f) is =
-      record { name = name; cpu = cpu; refusal = refusal; named = refl; reply_is = refl; is_refused = f }
-  turned-down name cpu reply _ (no_image h) is =
+  turned-down product name cpu _ _ (refused refusal f) is =
+      record { product = product; name = name; cpu = cpu; refusal = refusal; named = refl; reply_is = refl; is_refused = f }
+  turned-down product name cpu reply _ (no_image h) is =
       absurd (apart (status_of reply) exit.refusals image_faults refl is (no_image-status told name reply h))
 
   refusal-of : (j : Option Job) (reply : Reply) (output : List ℕ) → Allowed j reply output → IsOneOf (status_of reply) exit.refusals → IsTurnedDown j reply
   refusal-of _ _ _ (no_job same) is = absurd (apart 2 (2 ∷ []) exit.refusals refl (inl refl) is)
-  refusal-of _ reply output (for_text {name = name} {cpu = cpu} h same) is = turned-down name cpu reply output h is
+  refusal-of _ reply output (for_text {name = name} {cpu = cpu} h same) is = turned-down Text name cpu reply output h is
+  refusal-of _ reply output (for_listing {name = name} {cpu = cpu} h same) is =
+      turned-down Listing name cpu reply output h is
   refusal-of _ reply output (ran_file {name = name} {steps = steps} {cpu = cpu} f) is =
       absurd (apart (status_of reply) exit.refusals run_statuses refl is (runs-status (Execute name steps cpu) f.file reply output f.holds))
   refusal-of _ reply _ (ran_no_file {name = name} h same) is =
@@ -311,6 +356,7 @@ module _ (call : Call) where
       let t = told-among exit.refusals refl is a in
       let r = refusal-of call.job t.reply t.output t.allowed (subst (λ n. IsOneOf n exit.refusals) t.status_is is) in
       record {
+        product = r.product;
         name = r.name;
         cpu = r.cpu;
         file = r.is_refused.file;
@@ -322,20 +368,34 @@ module _ (call : Call) where
         line = t.line ∙ ap (λ x. append_told call.errors.taken.before (line_of x)) r.reply_is;
       }
 
-  -- what holds of every answer for the text of a file that is named
-  of-text : (name file : List ℕ) (cpu : Cpu) (ns : List ℕ) → IsOneOf 6 ns → IsOneOf 7 ns → call.job ≡ Some (Decompile name cpu) → Comes →
-      ((reply : Reply) (output : List ℕ) → AllowsText cpu told name reply output → IsOneOf (status_of reply) ns) → IsOneOf call.status ns
-  of-text name file cpu ns six seven named a each =
-      one-of ns six seven (λ reply output h. each reply output (for-text name cpu reply output (subst (λ j. Allowed j reply output) named h))) a
+  -- what holds of every answer for the text or the list of a file that is named
+  of-product : (product : Product) (name : List ℕ) (cpu : Cpu) (ns : List ℕ) → IsOneOf 6 ns → IsOneOf 7 ns → call.job ≡ Some (job_to_make product name cpu) → Comes →
+      ((reply : Reply) (output : List ℕ) → AllowsProduct product cpu told name reply output → IsOneOf (status_of reply) ns) → IsOneOf call.status ns
+  of-product product name cpu ns six seven named a each =
+      one-of ns six seven (λ reply output h. each reply output (for-product product name cpu reply output (subst (λ j. Allowed j reply output) named h))) a
 
   pub refused-always : Comes → (name file : List ℕ) (cpu : Cpu) → call.job ≡ Some (Decompile name cpu) → Names call file → OfImages file (IsRefusedImage cpu) → IsOneOf call.status (9 ∷ (10 ∷ (12 ∷ exit.faults)))
   refused-always a name file cpu named n each =
-      of-text name file cpu (9 ∷ (10 ∷ (12 ∷ exit.faults))) (inr (inr (inr (inr (inl refl))))) (inr (inr (inr (inr (inr (inl refl)))))) named a
-      (always-refused told name n.files n.tells cpu file (named-file (Decompile name cpu) file named n) each)
+      of-product Text name cpu (refused_statuses Text) (inr (inr (inr (inr (inl refl))))) (inr (inr (inr (inr (inr (inl refl)))))) named a
+      (always-refused told name n.files n.tells Text cpu file (named-file (Decompile name cpu) file named n) each)
+
+  pub listing_refused-always : Comes → (name file : List ℕ) (cpu : Cpu) → call.job ≡ Some (ListProcedures name cpu) → Names call file → OfImages file (IsUnsound cpu) → IsOneOf call.status (9 ∷ (10 ∷ exit.faults))
+  listing_refused-always a name file cpu named n each =
+      of-product Listing name cpu (refused_statuses Listing) (inr (inr (inr (inl refl)))) (inr (inr (inr (inr (inl refl))))) named a
+      (always-refused told name n.files n.tells Listing cpu file (named-file (ListProcedures name cpu) file named n) each)
+
+  product-always : (product : Product) (name file : List ℕ) (cpu : Cpu) → Comes → call.job ≡ Some (job_to_make product name cpu) → (n : Names call file) → n.files name ≡ Some file → OfImages file (IsAcceptedIn product cpu) →
+      IsOneOf call.status (0 ∷ exit.faults)
+  product-always product name file cpu a named n has each =
+      of-product product name cpu (0 ∷ exit.faults) (inr (inr (inl refl))) (inr (inr (inr (inl refl)))) named a (accepted-one told name n.files n.tells product cpu file has each)
 
   pub text-always : Comes → (name file : List ℕ) (cpu : Cpu) → call.job ≡ Some (Decompile name cpu) → Names call file → OfImages file (IsAcceptedProgram cpu) → IsOneOf call.status (0 ∷ exit.faults)
   text-always a name file cpu named n each =
-      of-text name file cpu (0 ∷ exit.faults) (inr (inr (inl refl))) (inr (inr (inr (inl refl)))) named a (accepted-one told name n.files n.tells cpu file (named-file (Decompile name cpu) file named n) each)
+      product-always Text name file cpu a named n (named-file (Decompile name cpu) file named n) each
+
+  pub listing-always : Comes → (name file : List ℕ) (cpu : Cpu) → call.job ≡ Some (ListProcedures name cpu) → Names call file → OfImages file (IsSound cpu) → IsOneOf call.status (0 ∷ exit.faults)
+  listing-always a name file cpu named n each =
+      product-always Listing name file cpu a named n (named-file (ListProcedures name cpu) file named n) each
 
   -- The text is refused.
 
@@ -359,7 +419,9 @@ module _ (call : Call) where
   offended-of : (j : Option Job) (reply : Reply) (output : List ℕ) → Allowed j reply output → status_of reply ≡ 11 → IsOffended j reply
   offended-of _ _ _ (no_job same) is = absurd (omega (arith, is))
   offended-of _ reply output (for_text {name = name} {cpu = cpu} h same) is =
-      absurd (apart (status_of reply) (11 ∷ []) text_statuses refl (inl is) (text-status cpu told name reply output h))
+      absurd (apart (status_of reply) (11 ∷ []) product_statuses refl (inl is) (product-status Text cpu told name reply output h))
+  offended-of _ reply output (for_listing {name = name} {cpu = cpu} h same) is =
+      absurd (apart (status_of reply) (11 ∷ []) product_statuses refl (inl is) (product-status Listing cpu told name reply output h))
   offended-of _ reply output (ran_file {name = name} {steps = steps} {cpu = cpu} f) is =
       absurd (apart (status_of reply) (11 ∷ []) run_statuses refl (inl is) (runs-status (Execute name steps cpu) f.file reply output f.holds))
   offended-of _ reply _ (ran_no_file {name = name} h same) is =
@@ -393,13 +455,18 @@ module _ (call : Call) where
 
   -- What is written.
 
+  product-none : (product : Product) (name : List ℕ) (cpu : Cpu) (reply : Reply) (output : List ℕ) → AllowsProduct product cpu told name reply output → IsOneOf (status_of reply) exit.without_output → output ≡ []
+  product-none product name cpu _ output (made_of_file f) is =
+      absurd (apart 0 (0 ∷ []) exit.without_output refl (inl refl) is)
+  product-none product name cpu _ _ (refused refusal f) is = refl
+  product-none product name cpu _ _ (no_image h) is = refl
+
   -- no job has put anything out at a refusal
   output-none : (j : Option Job) (reply : Reply) (output : List ℕ) → Allowed j reply output → IsOneOf (status_of reply) exit.without_output → output ≡ []
   output-none _ _ _ (no_job same) is = refl
-  output-none _ _ output (for_text (decompiled f) same) is =
-      absurd (apart 0 (0 ∷ []) exit.without_output refl (inl refl) is)
-  output-none _ _ _ (for_text (refused refusal f) same) is = refl
-  output-none _ _ _ (for_text (no_image h) same) is = refl
+  output-none _ reply output (for_text {name = name} {cpu = cpu} h same) is = product-none Text name cpu reply output h is
+  output-none _ reply output (for_listing {name = name} {cpu = cpu} h same) is =
+      product-none Listing name cpu reply output h is
   output-none _ reply output (ran_file {name = name} {steps = steps} {cpu = cpu} f) is =
       absurd (apart (status_of reply) exit.without_output run_statuses refl is (runs-status (Execute name steps cpu) f.file reply output f.holds))
   output-none _ _ _ (ran_no_file h same) is = refl
@@ -454,12 +521,18 @@ module _ (call : Call) where
   lacks-of_no_image name reply (no_executable h) is = lacks-of_no_file name reply h is
   lacks-of_no_image name _ (misshapen f) is = absurd (omega (arith, is))
 
+  lacks-of_product : (product : Product) (name : List ℕ) (cpu : Cpu) (reply : Reply) (output : List ℕ) → AllowsProduct product cpu told name reply output → status_of reply ≡ 3 → ShelfLacks told name
+  lacks-of_product product name cpu _ output (made_of_file f) is = absurd (omega (arith, is))
+  lacks-of_product product name cpu _ _ (refused refusal f) is =
+      absurd (apart (status_of (refusal_reply refusal)) (3 ∷ []) refusals refl (inl is) (refusal-status refusal))
+  lacks-of_product product name cpu reply _ (no_image h) is = lacks-of_no_image name reply h is
+
   absent-of : (j : Option Job) (reply : Reply) (output : List ℕ) → Allowed j reply output → status_of reply ≡ 3 → (name : List ℕ) × (file_of j ≡ Some name) × ShelfLacks told name
   absent-of _ _ _ (no_job same) is = absurd (omega (arith, is))
-  absent-of _ _ output (for_text (decompiled f) same) is = absurd (omega (arith, is))
-  absent-of _ _ _ (for_text (refused refusal f) same) is =
-      absurd (apart (status_of (refusal_reply refusal)) (3 ∷ []) refusals refl (inl is) (refusal-status refusal))
-  absent-of _ reply _ (for_text {name = name} (no_image h) same) is = (name, refl, lacks-of_no_image name reply h is)
+  absent-of _ reply output (for_text {name = name} {cpu = cpu} h same) is =
+      (name, refl, lacks-of_product Text name cpu reply output h is)
+  absent-of _ reply output (for_listing {name = name} {cpu = cpu} h same) is =
+      (name, refl, lacks-of_product Listing name cpu reply output h is)
   absent-of _ reply output (ran_file {name = name} {steps = steps} {cpu = cpu} f) is =
       absurd (apart (status_of reply) (3 ∷ []) run_statuses refl (inl is) (runs-status (Execute name steps cpu) f.file reply output f.holds))
   absent-of _ reply _ (ran_no_file {name = name} h same) is = (name, refl, lacks-of_no_image name reply h is)

@@ -1,13 +1,14 @@
--- From the agreement of an image and a text to the headline.
-use Rattle.std.proofs.Common.{◌≡◌, ℕ, List, Option}
+-- From the agreement of an image and a text to the headline; and from the lines of an image to those of its file.
+use Rattle.std.proofs.Common.{◌≡◌, ℕ, List, Option, ap, ◌∙◌}
 use Rattle.dcc_io.specs.Told.{append_told}
 use Rattle.dcc_prog.specs.declared.cpu.Cpu.{Cpu}
 use Rattle.dcc_prog.specs.declared.image.Image.{Image}
 use Rattle.dcc_c.specs.Tree.{Tree, Function}
 use Rattle.dcc_pipe.specs.Agreement as pipe
-use Rattle.dcc_top.specs.Answer.{Files, ShelfHas, Decompiles}
+use Rattle.dcc_top.specs.Answer.{Files, ShelfHas, Makes}
 use Rattle.dcc_top.specs.Execution.{text_of}
-use Rattle.dcc_top.specs.Headline.{HasText, RunsAgree}
+use Rattle.dcc_top.specs.Headline.{HasText, HasListing, RunsAgree}
+use Rattle.dcc_top.specs.Words.{Text, Listing}
 
 runs-agree : (cpu : Cpu) (image : Image) (tree : Tree) (start : Function) (tokens : ℕ) (input : List ℕ) (fill : ℕ)
     → pipe.RunsAgree cpu image tree start tokens input fill
@@ -18,10 +19,10 @@ runs-agree cpu image tree start tokens input fill a =
 pub has-text : (cpu : Cpu) (told : Files) (name : List ℕ) (before after : Option (List ℕ)) (file text : List ℕ)
     → ShelfHas told name file
     → after ≡ append_told before text
-    → Decompiles cpu file text
+    → Makes Text cpu file text
     → HasText cpu told name before after
 has-text cpu told name before after file text has appended d =
-    let t = d.is_text in
+    let t = d.is_made in
     record {
       file = file;
       text = text;
@@ -35,4 +36,22 @@ has-text cpu told name before after file text has appended d =
       written_is = t.written_is;
       runs = λ input fill bytes small.
           runs-agree cpu d.image t.tree t.is_text.stands.allowed.start _ input fill (t.is_text.runs input fill bytes small);
+    }
+
+pub has-listing : (cpu : Cpu) (told : Files) (name : List ℕ) (before after : Option (List ℕ)) (file lines : List ℕ)
+    → ShelfHas told name file
+    → after ≡ append_told before lines
+    → Makes Listing cpu file lines
+    → HasListing cpu told name before after
+has-listing cpu told name before after file lines has appended d =
+    let l = d.is_made in
+    record {
+      file = file;
+      has = has;
+      image = d.image;
+      is_image = d.is_image;
+      sound = l.sound;
+      program = l.program;
+      is_program = l.is_program;
+      appended = appended ∙ ap (append_told before) l.listed;
     }

@@ -9,5 +9,6 @@ pub mod NamedLaws
 pub mod CauseLaws
 pub mod PromiseLaws
 pub mod HexLaws
+pub mod ListingLaws
 pub mod WordsLaws
 pub mod WordsAsked

@@ -7,17 +7,18 @@ use Rattle.dcc_run.specs.End.{End}
 use Rattle.dcc_run.specs.System.{end_after}
 use Rattle.dcc_prog.specs.declared.cpu.Cpu.{Cpu}
 use Rattle.dcc_prog.specs.declared.image.Image.{Image}
+use Rattle.dcc_prog.specs.declared.refusal.LimitName.{LimitName}
 use Rattle.dcc_prog.specs.declared.refusal.Refusal.{Refusal}
 use Rattle.dcc_prog.specs.declared.refusal.Refusal.TheVariants.{Construct as ConstructRefused, Limit as LimitRefused, NotYet as NotYetRefused, Memory as MemoryRefused}
 use Rattle.dcc_prog.specs.MzImage.{IsImageOf, FormatFault, IsFirstFault, too_large, short, not_mz, bad_pages, header_past_image, bad_relocation, entry_outside}
-use Rattle.dcc_prog.specs.Refused.{IsAcceptedProgram, IsRefusedImage}
+use Rattle.dcc_prog.specs.Refused.{IsSound, IsAcceptedProgram, IsUnsound, IsRefusedImage, IsRefusedBy, IsRefusedByAnalysis, no_layout, by_trails, by_heights, by_frames}
 use Rattle.dcc_prog.specs.Step.{machine_system}
 use Rattle.dcc_prog.proofs.MzImageLaws.{not_both}
-use Rattle.dcc_prog.proofs.RefusedLaws.{accepted-not_refused, accepted-memory}
+use Rattle.dcc_prog.proofs.RefusedLaws.{sound-not_unsound, sound-memory, accepted-not_refused, accepted-memory}
 use Rattle.dcc_top.specs.declared.reply.Reply.{Reply}
-use Rattle.dcc_top.specs.Words.{Job, Decompile, Execute, ExecuteText, name_of, file_of, LoadsImage}
+use Rattle.dcc_top.specs.Words.{Job, Decompile, ListProcedures, Execute, ExecuteText, Product, Text, Listing, name_of, file_of, LoadsImage}
 use Rattle.dcc_top.specs.Execution.{Subject, machine_of, text_of, Finishes, ended, stopped_at_read, not_begun, FinishesOrStops, finishes, found_none}
-use Rattle.dcc_top.specs.Answer.{Files, OfFile, HasNoFile, no_file, file_fault, no_memory, HasNoImage, no_executable, misshapen, HasNoUnit, no_text, offends, AllowsText, decompiled, refused, no_image, Decompiles, IsRefusedAs, OfImages, RunsFile, RunsText, RunsUnit, Allows, for_text, ran_file, ran_no_file, ran_text, ran_no_text, ShelfLacks, status_of, refusal_reply}
+use Rattle.dcc_top.specs.Answer.{Files, OfFile, HasNoFile, no_file, file_fault, no_memory, HasNoImage, no_executable, misshapen, HasNoUnit, no_text, offends, IsMadeOf, Refuses, AllowsProduct, made_of_file, refused, no_image, Makes, IsRefusedAs, OfImages, RunsFile, RunsText, RunsUnit, Allows, for_text, for_listing, ran_file, ran_no_file, ran_text, ran_no_text, ShelfLacks, status_of, refusal_reply}
 use Rattle.dcc_top.specs.Call.{Call}
 use Rattle.dcc_top.specs.Causes.{Names, IsNoText, EndsSo, file_ends, text_ends}
 use Rattle.dcc_top.specs.Status.{IsOneOf, end_status}
@@ -41,12 +42,56 @@ refusal-not_image file image EntryOutside is r = not_both file image entry_outsi
 refusal-not_image file image TooLarge is r = not_both file image too_large is r
 refusal-not_image file image NoMemory is r = r
 
+-- What is made of an executable, or refused.
+
+-- nothing refuses the image, where this is asked for; or something does
+abbrev pub IsAcceptedIn : Product → Cpu → Image → Type 0
+IsAcceptedIn Text cpu image = IsAcceptedProgram cpu image
+IsAcceptedIn Listing cpu image = IsSound cpu image
+
+abbrev pub IsRefusedIn : Product → Cpu → Image → Type 0
+IsRefusedIn Text cpu image = IsRefusedImage cpu image
+IsRefusedIn Listing cpu image = IsUnsound cpu image
+
+made-not_refused : (product : Product) (cpu : Cpu) (image : Image) (made : List ℕ) → IsMadeOf product cpu image made → ¬ IsRefusedIn product cpu image
+made-not_refused Text cpu image made m = accepted-not_refused cpu image m.accepted
+made-not_refused Listing cpu image made m = sound-not_unsound cpu image m.sound
+
+accepted-by_memory : (product : Product) (cpu : Cpu) (image : Image) (refusal : Refusal) → IsAcceptedIn product cpu image → Refuses product cpu image refusal → refusal ≡ MemoryRefused
+accepted-by_memory Text cpu image refusal a h = accepted-memory cpu image refusal a h
+accepted-by_memory Listing cpu image refusal a h = sound-memory cpu image refusal a h
+
+-- an analysis never tells that an instruction is not built
+told-not_yet : (Stands : ℕ → ℕ → Type 0) (Passes : LimitName → ℕ → Type 0) (at : ℕ) → ¬ IsRefusedBy Stands Passes (NotYetRefused at)
+told-not_yet Stands Passes at h = elim h [ ]
+
+analysis-not_yet : (cpu : Cpu) (image : Image) (at : ℕ) → ¬ IsRefusedByAnalysis cpu image (NotYetRefused at)
+analysis-not_yet cpu image at (by_trails runs_on has h) = told-not_yet _ _ at h
+analysis-not_yet cpu image at (by_heights runs_on has trails h) = told-not_yet _ _ at h
+analysis-not_yet cpu image at (by_frames runs_on has trails heights h) = told-not_yet _ _ at h
+
 -- the statuses of a refusal, before those of faults
-refused-one : (refusal : Refusal) → IsOneOf (status_of (refusal_reply refusal)) (9 ∷ (10 ∷ (12 ∷ (4 ∷ (6 ∷ (7 ∷ []))))))
-refused-one (ConstructRefused kind at) = inl refl
-refused-one (LimitRefused what count) = inr (inl refl)
-refused-one (NotYetRefused at) = inr (inr (inl refl))
-refused-one MemoryRefused = inr (inr (inr (inr (inr (inl refl)))))
+abbrev pub refused_statuses : Product → List ℕ
+refused_statuses Text = 9 ∷ (10 ∷ (12 ∷ (4 ∷ (6 ∷ (7 ∷ [])))))
+refused_statuses Listing = 9 ∷ (10 ∷ (4 ∷ (6 ∷ (7 ∷ []))))
+
+refused-one : (product : Product) (cpu : Cpu) (image : Image) (refusal : Refusal) → Refuses product cpu image refusal → IsOneOf (status_of (refusal_reply refusal)) (refused_statuses product)
+refused-one Text cpu image (ConstructRefused kind at) h = inl refl
+refused-one Text cpu image (LimitRefused what count) h = inr (inl refl)
+refused-one Text cpu image (NotYetRefused at) h = inr (inr (inl refl))
+refused-one Text cpu image MemoryRefused h = inr (inr (inr (inr (inr (inl refl)))))
+refused-one Listing cpu image (ConstructRefused kind at) h = inl refl
+refused-one Listing cpu image (LimitRefused what count) h = inr (inl refl)
+refused-one Listing cpu image (NotYetRefused at) h = absurd (analysis-not_yet cpu image at h)
+refused-one Listing cpu image MemoryRefused h = inr (inr (inr (inr (inl refl))))
+
+faulty-refused : (product : Product) (status : ℕ) → (status ≡ 4) ⊎ (status ≡ 7) → IsOneOf status (refused_statuses product)
+faulty-refused Text status (inl four) = inr (inr (inr (inl four)))
+faulty-refused Text status (inr seven) = inr (inr (inr (inr (inr (inl seven)))))
+faulty-refused Listing status (inl four) = inr (inr (inl four))
+faulty-refused Listing status (inr seven) = inr (inr (inr (inr (inl seven))))
+
+-- Runs.
 
 -- the status of a run on an input that is told
 run-ended : {S : Type 0} (subject : Subject S) (steps : ℕ) (before left : Option (List ℕ)) (reply : Reply) (output bytes : List ℕ) → before ≡ Some bytes →
@@ -117,38 +162,41 @@ module _ (told : Files) (name : List ℕ) (files : List ℕ → Option (List ℕ
 
   -- the file has no image
 
-  text-misshapen : (cpu : Cpu) (file : List ℕ) (fault : FormatFault) → files name ≡ Some file → IsFirstFault file fault → (reply : Reply) (output : List ℕ) → AllowsText cpu told name reply output → IsOneOf
-      (status_of reply) (8 ∷ (4 ∷ (6 ∷ (7 ∷ []))))
-  text-misshapen cpu file fault has first _ output (decompiled f) =
-      let d = held file (λ x. Decompiles cpu x output) has f in absurd (not_both file d.image fault d.is_image first)
-  text-misshapen cpu file fault has first _ _ (refused refusal f) =
-      let d = held file (IsRefusedAs cpu refusal) has f in absurd (not_both file d.image fault d.is_image first)
-  text-misshapen cpu file fault has first reply _ (no_image h) = misshapen-one file has reply h
+  product-misshapen : (product : Product) (cpu : Cpu) (file : List ℕ) (fault : FormatFault) → files name ≡ Some file → IsFirstFault file fault → (reply : Reply) (output : List ℕ) →
+      AllowsProduct product cpu told name reply output → IsOneOf (status_of reply) (8 ∷ (4 ∷ (6 ∷ (7 ∷ []))))
+  product-misshapen product cpu file fault has first _ output (made_of_file f) =
+      let d = held file (λ x. Makes product cpu x output) has f in absurd (not_both file d.image fault d.is_image first)
+  product-misshapen product cpu file fault has first _ _ (refused refusal f) =
+      let d = held file (IsRefusedAs product cpu refusal) has f in absurd (not_both file d.image fault d.is_image first)
+  product-misshapen product cpu file fault has first reply _ (no_image h) = misshapen-one file has reply h
 
-  text-missing : (cpu : Cpu) → files name ≡ None → (reply : Reply) (output : List ℕ) → AllowsText cpu told name reply output → IsOneOf (status_of reply) (3 ∷ (4 ∷ (6 ∷ (7 ∷ []))))
-  text-missing cpu lacks _ output (decompiled f) = absurd (not-held (λ x. Decompiles cpu x output) lacks f)
-  text-missing cpu lacks _ _ (refused refusal f) = absurd (not-held (IsRefusedAs cpu refusal) lacks f)
-  text-missing cpu lacks reply _ (no_image h) = missing-image lacks reply h
+  product-missing : (product : Product) (cpu : Cpu) → files name ≡ None → (reply : Reply) (output : List ℕ) → AllowsProduct product cpu told name reply output →
+      IsOneOf (status_of reply) (3 ∷ (4 ∷ (6 ∷ (7 ∷ []))))
+  product-missing product cpu lacks _ output (made_of_file f) = absurd (not-held (λ x. Makes product cpu x output) lacks f)
+  product-missing product cpu lacks _ _ (refused refusal f) = absurd (not-held (IsRefusedAs product cpu refusal) lacks f)
+  product-missing product cpu lacks reply _ (no_image h) = missing-image lacks reply h
 
   -- the program is accepted, or it is refused
 
-  pub accepted-one : (cpu : Cpu) (file : List ℕ) → files name ≡ Some file → OfImages file (IsAcceptedProgram cpu) → (reply : Reply) (output : List ℕ) → AllowsText cpu told name reply output → IsOneOf (status_of reply)
-      (0 ∷ (4 ∷ (6 ∷ (7 ∷ []))))
-  accepted-one cpu file has a _ output (decompiled f) = inl refl
-  accepted-one cpu file has a _ _ (refused refusal f) =
-      let d = held file (IsRefusedAs cpu refusal) has f in
-      inr (inr (inr (inl (ap (λ r. status_of (refusal_reply r)) (accepted-memory cpu d.image refusal (a.each d.image d.is_image) d.refused)))))
-  accepted-one cpu file has a reply _ (no_image h) =
+  pub accepted-one : (product : Product) (cpu : Cpu) (file : List ℕ) → files name ≡ Some file → OfImages file (IsAcceptedIn product cpu) → (reply : Reply) (output : List ℕ) →
+      AllowsProduct product cpu told name reply output → IsOneOf (status_of reply) (0 ∷ (4 ∷ (6 ∷ (7 ∷ []))))
+  accepted-one product cpu file has a _ output (made_of_file f) = inl refl
+  accepted-one product cpu file has a _ _ (refused refusal f) =
+      let d = held file (IsRefusedAs product cpu refusal) has f in
+      inr (inr (inr (inl (ap (λ r. status_of (refusal_reply r)) (accepted-by_memory product cpu d.image refusal (a.each d.image d.is_image) d.refused)))))
+  accepted-one product cpu file has a reply _ (no_image h) =
       faulty-one 0 (status_of reply) (no_image-faulty file has a.image a.is_image reply h)
 
-  pub refused-always : (cpu : Cpu) (file : List ℕ) → files name ≡ Some file → OfImages file (IsRefusedImage cpu) → (reply : Reply) (output : List ℕ) → AllowsText cpu told name reply output → IsOneOf (status_of reply)
-      (9 ∷ (10 ∷ (12 ∷ (4 ∷ (6 ∷ (7 ∷ []))))))
-  refused-always cpu file has a _ output (decompiled f) =
-      let d = held file (λ x. Decompiles cpu x output) has f in
-      absurd (accepted-not_refused cpu d.image d.is_text.accepted (a.each d.image d.is_image))
-  refused-always cpu file has a _ _ (refused refusal f) = refused-one refusal
-  refused-always cpu file has a reply _ (no_image h) =
-      inr (inr (faulty-one 12 (status_of reply) (no_image-faulty file has a.image a.is_image reply h)))
+  pub refused-always : (product : Product) (cpu : Cpu) (file : List ℕ) → files name ≡ Some file → OfImages file (IsRefusedIn product cpu) → (reply : Reply) (output : List ℕ) →
+      AllowsProduct product cpu told name reply output → IsOneOf (status_of reply) (refused_statuses product)
+  refused-always product cpu file has a _ output (made_of_file f) =
+      let d = held file (λ x. Makes product cpu x output) has f in
+      absurd (made-not_refused product cpu d.image output d.is_made (a.each d.image d.is_image))
+  refused-always product cpu file has a _ _ (refused refusal f) =
+      let d = held file (IsRefusedAs product cpu refusal) has f in
+      refused-one product cpu d.image refusal d.refused
+  refused-always product cpu file has a reply _ (no_image h) =
+      faulty-refused product (status_of reply) (no_image-faulty file has a.image a.is_image reply h)
 
   -- runs
 
@@ -171,7 +219,9 @@ module _ (told : Files) (before left : Option (List ℕ)) (files : List ℕ → 
   pub job-misshapen : (job : Job) (file : List ℕ) (fault : FormatFault) → files (name_of job) ≡ Some file → LoadsImage (Some job) → IsFirstFault file fault → (reply : Reply) (output : List ℕ) →
       Allows told before left (Some job) reply output → IsOneOf (status_of reply) (8 ∷ (4 ∷ (6 ∷ (7 ∷ []))))
   job-misshapen _ file fault has loads first reply output (for_text {name = name} {cpu = cpu} h same) =
-      text-misshapen told name files tells cpu file fault has first reply output h
+      product-misshapen told name files tells Text cpu file fault has first reply output h
+  job-misshapen _ file fault has loads first reply output (for_listing {name = name} {cpu = cpu} h same) =
+      product-misshapen told name files tells Listing cpu file fault has first reply output h
   job-misshapen _ file fault has loads first reply output (ran_file {name = name} {steps = steps} {cpu = cpu} f) =
       let r = held told name files tells file (λ x. RunsFile cpu x steps before left reply output) has f in
       absurd (not_both file r.image fault r.is_image first)
@@ -183,7 +233,9 @@ module _ (told : Files) (before left : Option (List ℕ)) (files : List ℕ → 
   pub job-missing : (job : Job) → files (name_of job) ≡ None → (reply : Reply) (output : List ℕ) → Allows told before left (Some job) reply output → IsOneOf (status_of reply)
       (3 ∷ (4 ∷ (6 ∷ (7 ∷ []))))
   job-missing _ lacks reply output (for_text {name = name} {cpu = cpu} h same) =
-      text-missing told name files tells cpu lacks reply output h
+      product-missing told name files tells Text cpu lacks reply output h
+  job-missing _ lacks reply output (for_listing {name = name} {cpu = cpu} h same) =
+      product-missing told name files tells Listing cpu lacks reply output h
   job-missing _ lacks reply output (ran_file {name = name} {steps = steps} {cpu = cpu} f) =
       absurd (not-held told name files tells (λ x. RunsFile cpu x steps before left reply output) lacks f)
   job-missing _ lacks reply _ (ran_no_file {name = name} h same) = missing-image told name files tells lacks reply h
@@ -234,11 +286,16 @@ module _ (told : Files) (before left : Option (List ℕ)) (files : List ℕ → 
   no-text_end : (name : List ℕ) (cpu : Cpu) (file bytes : List ℕ) (end : End) → EndsSo file bytes (Decompile name cpu) end → ⊥
   no-text_end name cpu file bytes end e = elim e [ ]
 
+  no-listing_end : (name : List ℕ) (cpu : Cpu) (file bytes : List ℕ) (end : End) → EndsSo file bytes (ListProcedures name cpu) end → ⊥
+  no-listing_end name cpu file bytes end e = elim e [ ]
+
   -- the run that a job asks for ends as the definition says
   pub job-ended : (job : Job) (file bytes : List ℕ) (end : End) → files (name_of job) ≡ Some file → before ≡ Some bytes → EndsSo file bytes job end → (reply : Reply) (output : List ℕ) →
       Allows told before left (Some job) reply output → IsOneOf (status_of reply) (end_status end ∷ (4 ∷ (5 ∷ (6 ∷ (7 ∷ [])))))
   job-ended _ file bytes end has told_left e reply output (for_text {name = name} {cpu = cpu} h same) =
       absurd (no-text_end name cpu file bytes end e)
+  job-ended _ file bytes end has told_left e reply output (for_listing {name = name} {cpu = cpu} h same) =
+      absurd (no-listing_end name cpu file bytes end e)
   job-ended _ file bytes end has told_left e reply output (ran_file {name = name} {steps = steps} {cpu = cpu} f) =
       run-of_file name steps cpu file bytes end has told_left e reply output f
   job-ended _ file bytes end has told_left e reply _ (ran_no_file {name = name} {steps = steps} {cpu = cpu} h same) =

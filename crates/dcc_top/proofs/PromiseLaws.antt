@@ -10,7 +10,7 @@ use Rattle.dcc_top.specs.Causes.{IsAnswered, answered, found_no_memory, broke_of
 use Rattle.dcc_top.specs.Delivery.{TellsReply}
 use Rattle.dcc_top.specs.Promises.{KeepsPromises}
 use Rattle.dcc_top.proofs.StatusLaws.{status-not_six}
-use Rattle.dcc_top.proofs.CauseLaws.{usage, usage-always, text, exited, ran, ran-always, read-failed, format, format-always, absent, absent-always, unreadable, program-refused, refused-always, text-always, text-fault, text_fault-always, nothing, out-of_memory, cut-off, write-failed}
+use Rattle.dcc_top.proofs.CauseLaws.{usage, usage-always, text, listing, exited, ran, ran-always, read-failed, format, format-always, absent, absent-always, unreadable, program-refused, refused-always, listing_refused-always, text-always, listing-always, text-fault, text_fault-always, nothing, out-of_memory, cut-off, write-failed}
 
 module _ (call : Call) where
   -- all that holds of what a call comes to, with what it has asked
@@ -18,6 +18,7 @@ module _ (call : Call) where
       (call.status ≡ 6 → AsksAll call.job call.shelf.asked ⊎ AppendsPart call.errors (line_of Memory)) → KeepsPromises call
   promises a prefix asked cut = record {
     text = record { text = text call a; text_always = text-always call a };
+    listing = record { listing = listing call a; listing_always = listing-always call a };
     runs = record {
       exited = exited call a;
       ran = ran call a;
@@ -31,6 +32,7 @@ module _ (call : Call) where
       format_always = format-always call a;
       refused = program-refused call a;
       refused_always = refused-always call a;
+      listing_refused_always = listing_refused-always call a;
       text_fault = text-fault call a;
       text_fault_always = text_fault-always call a;
       nothing = nothing call a;

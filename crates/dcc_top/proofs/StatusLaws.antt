@@ -13,8 +13,9 @@ use Rattle.dcc_prog.proofs.TableLaws.{and_right}
 use Rattle.dcc_top.specs.declared.reply.Reply.{Reply}
 use Rattle.dcc_top.specs.declared.reply.Reply.TheVariants.{Done, NoFile, FileFault, InputFault, Memory}
 use Rattle.dcc_top.specs.Execution.{Subject, end_reply, Finishes, ended, stopped_at_read, not_begun, FinishesOrStops, finishes, found_none}
-use Rattle.dcc_top.specs.Answer.{Files, HasNoFile, no_file, file_fault, no_memory, HasNoImage, no_executable, misshapen, HasNoUnit, no_text, offends, AllowsImage, image_decompiled, image_refused, AllowsText, decompiled, refused, no_image, status_of, refusal_reply}
+use Rattle.dcc_top.specs.Answer.{Files, HasNoFile, no_file, file_fault, no_memory, HasNoImage, no_executable, misshapen, HasNoUnit, no_text, offends, AllowsImage, image_made, image_refused, AllowsProduct, made_of_file, refused, no_image, status_of, refusal_reply}
 use Rattle.dcc_top.specs.Status.{IsOneOf, end_status}
+use Rattle.dcc_top.specs.Words.{Product}
 use Rattle.dcc_top.specs.Delivery.{Answers}
 
 -- Lists of statuses.
@@ -97,24 +98,25 @@ refusal-status (LimitRefused what count) = inr (inr (inl refl))
 refusal-status (NotYetRefused at) = inr (inr (inr (inl refl)))
 refusal-status MemoryRefused = inl refl
 
-pub image-status : (cpu : Cpu) (image : Image) (reply : Reply) (output : List ℕ) → AllowsImage cpu image reply output → IsOneOf (status_of reply) (0 ∷ refusals)
-image-status cpu image _ output (image_decompiled t) = inl refl
-image-status cpu image _ _ (image_refused refusal h) = inr (refusal-status refusal)
+pub image-status : (product : Product) (cpu : Cpu) (image : Image) (reply : Reply) (output : List ℕ) → AllowsImage product cpu image reply output → IsOneOf (status_of reply) (0 ∷ refusals)
+image-status product cpu image _ output (image_made m) = inl refl
+image-status product cpu image _ _ (image_refused refusal h) = inr (refusal-status refusal)
 
--- the statuses of the text of an executable
-abbrev pub text_statuses : List ℕ
-text_statuses = 0 ∷ (9 ∷ (10 ∷ (12 ∷ (8 ∷ (3 ∷ (4 ∷ (7 ∷ [])))))))
+-- the statuses of what is made of an executable
+abbrev pub product_statuses : List ℕ
+product_statuses = 0 ∷ (9 ∷ (10 ∷ (12 ∷ (8 ∷ (3 ∷ (4 ∷ (7 ∷ [])))))))
 
-among-text : (refusal : Refusal) → IsOneOf (status_of (refusal_reply refusal)) text_statuses
-among-text (ConstructRefused kind at) = inr (inl refl)
-among-text (LimitRefused what count) = inr (inr (inl refl))
-among-text (NotYetRefused at) = inr (inr (inr (inl refl)))
-among-text MemoryRefused = inr (inr (inr (inr (inr (inr (inr (inl refl)))))))
+among-product : (refusal : Refusal) → IsOneOf (status_of (refusal_reply refusal)) product_statuses
+among-product (ConstructRefused kind at) = inr (inl refl)
+among-product (LimitRefused what count) = inr (inr (inl refl))
+among-product (NotYetRefused at) = inr (inr (inr (inl refl)))
+among-product MemoryRefused = inr (inr (inr (inr (inr (inr (inr (inl refl)))))))
 
-pub text-status : (cpu : Cpu) (told : Files) (name : List ℕ) (reply : Reply) (output : List ℕ) → AllowsText cpu told name reply output → IsOneOf (status_of reply) text_statuses
-text-status cpu told name _ output (decompiled f) = inl refl
-text-status cpu told name _ _ (refused refusal f) = among-text refusal
-text-status cpu told name reply _ (no_image h) = inr (inr (inr (inr (no_image-status told name reply h))))
+pub product-status : (product : Product) (cpu : Cpu) (told : Files) (name : List ℕ) (reply : Reply) (output : List ℕ) → AllowsProduct product cpu told name reply output →
+    IsOneOf (status_of reply) product_statuses
+product-status product cpu told name _ output (made_of_file f) = inl refl
+product-status product cpu told name _ _ (refused refusal f) = among-product refusal
+product-status product cpu told name reply _ (no_image h) = inr (inr (inr (inr (no_image-status told name reply h))))
 
 -- the status of a run that has ended
 pub end-status : (steps : ℕ) (end : End) → status_of (end_reply steps end) ≡ end_status end

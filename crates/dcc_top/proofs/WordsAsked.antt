@@ -7,9 +7,9 @@ use Rattle.std.specs.Str.{bytes_eq}
 use Rattle.std.proofs.lemmas.Bool.{eqb-true, ltb-true, lt-ltb}
 use Rattle.std.proofs.lemmas.List.Sums.{split_at_first, passes_at_first}
 use Rattle.std.proofs.lemmas.Slice.Eq.{bytes_eq-Decides}
-use Rattle.dcc_top.specs.Words.{Job, Decompile, Execute, ExecuteText, Parts, only_positional, with_word, with_value, set_value, value_in, is_positional, option_word, command_word, HasParts, no_word, positional_word, option_in_two, option_in_one, end_of_options, AskFor, decompile, execute, execute_text, steps_of, fill_of, cpu_of, Kind, Positional, End, Names, Gives, Unknown, option_of, command_of, named, given, is_equals, option_kind, kind_of, parts_after, parts_of, job_for, job_with, job_of}
+use Rattle.dcc_top.specs.Words.{Job, Decompile, ListProcedures, Execute, ExecuteText, Parts, only_positional, with_word, with_value, set_value, value_in, is_positional, option_word, command_word, HasParts, no_word, positional_word, option_in_two, option_in_one, end_of_options, AskFor, decompile, list_procedures, execute, execute_text, steps_of, fill_of, cpu_of, Kind, Positional, End, Names, Gives, Unknown, option_of, command_of, named, given, is_equals, option_kind, kind_of, parts_after, parts_of, job_for, job_with, job_of}
 use Rattle.dcc_top.specs.declared.words.Command.{Command}
-use Rattle.dcc_top.specs.declared.words.Command.TheVariants.{C, Run, RunC}
+use Rattle.dcc_top.specs.declared.words.Command.TheVariants.{C, Procs, Run, RunC}
 use Rattle.dcc_top.specs.declared.words.OptionName.{OptionName}
 use Rattle.dcc_top.specs.declared.words.OptionName.TheVariants.{Steps, Fill, Cpu}
 use Rattle.dcc_prog.specs.declared.cpu.Cpu.{Cpu as Processor}
@@ -58,6 +58,8 @@ pub asked-is : (words : List (List ℕ)) (job : Job) → AskFor words job → jo
 unfolding job_of
 asked-is _ _ (decompile {words} {file} {value} {cpu} parts is) =
     ap (λ o. option_and_then (job_with C) o) (parts-is words _ parts) ∙ ap (λ o. option_map (Decompile file) o) is
+asked-is _ _ (list_procedures {words} {file} {value} {cpu} parts is) =
+    ap (λ o. option_and_then (job_with Procs) o) (parts-is words _ parts) ∙ ap (λ o. option_map (ListProcedures file) o) is
 asked-is _ _ (execute {words} {file} {value} {other} {steps} {cpu} parts is also) =
     ap (λ o. option_and_then (job_with Run) o) (parts-is words _ parts)
     ∙ ap (λ o. option_and_then (λ n. option_map (Execute file n) (cpu_of other)) o) is
@@ -72,26 +74,39 @@ asked-is _ _ (execute_text {words} {file} {value} {other} {steps} {fill} parts i
 word-same : (a b : List ℕ) → bytes_eq a b ≡ true → a ≡ b
 word-same a b h = (bytes_eq-Decides a b).0 h
 
--- one of three was chosen by the first test that holds
-chosen : {A : Type 0} (a b c : Bool) (x y z chosen_is : A) → (if a then Some x else (if b then Some y else (if c then Some z else None))) ≡ Some chosen_is →
-    ((a ≡ true) × (x ≡ chosen_is)) ⊎ (((b ≡ true) × (y ≡ chosen_is)) ⊎ ((c ≡ true) × (z ≡ chosen_is)))
-chosen true b c x y z v h = inl (refl, cc)
-chosen false true c x y z v h = inr (inl (refl, cc))
-chosen false false true x y z v h = inr (inr (refl, cc))
-chosen false false false x y z v h = absurd (let f : ⊥ = cc in f)
+-- something was chosen by a test that holds, or by those after it
+chosen : {A : Type 0} (a : Bool) (x v : A) (others : Option A) → (if a then Some x else others) ≡ Some v → ((a ≡ true) × (x ≡ v)) ⊎ (others ≡ Some v)
+chosen true x v others h = inl (refl, cc)
+chosen false x v others h = inr h
+
+nothing-chosen : {A B : Type 0} (v : A) → None ≡ Some v → B
+nothing-chosen v h = absurd (let f : ⊥ = cc in f)
 
 option-from : (word : List ℕ) (name : OptionName) → option_of word ≡ Some name → word ≡ option_word name
-option-from word name h = elim (chosen (bytes_eq word (codes "--steps")) (bytes_eq word (codes "--fill")) (bytes_eq word (codes "--cpu")) Steps Fill Cpu name h) [
+option-from word name h = elim (chosen (bytes_eq word (codes "--steps")) Steps name _ h) [
   | inl a ↦ word-same word (codes "--steps") a.0 ∙ ap option_word a.1
-  | inr (inl b) ↦ word-same word (codes "--fill") b.0 ∙ ap option_word b.1
-  | inr (inr c) ↦ word-same word (codes "--cpu") c.0 ∙ ap option_word c.1
+  | inr i ↦ elim (chosen (bytes_eq word (codes "--fill")) Fill name _ i) [
+    | inl a ↦ word-same word (codes "--fill") a.0 ∙ ap option_word a.1
+    | inr j ↦ elim (chosen (bytes_eq word (codes "--cpu")) Cpu name _ j) [
+      | inl a ↦ word-same word (codes "--cpu") a.0 ∙ ap option_word a.1
+      | inr k ↦ nothing-chosen name k
+    ]
+  ]
 ]
 
 command-from : (word : List ℕ) (c : Command) → command_of word ≡ Some c → word ≡ command_word c
-command-from word c h = elim (chosen (bytes_eq word (codes "c")) (bytes_eq word (codes "run")) (bytes_eq word (codes "runc")) C Run RunC c h) [
+command-from word c h = elim (chosen (bytes_eq word (codes "c")) C c _ h) [
   | inl a ↦ word-same word (codes "c") a.0 ∙ ap command_word a.1
-  | inr (inl b) ↦ word-same word (codes "run") b.0 ∙ ap command_word b.1
-  | inr (inr d) ↦ word-same word (codes "runc") d.0 ∙ ap command_word d.1
+  | inr i ↦ elim (chosen (bytes_eq word (codes "procs")) Procs c _ i) [
+    | inl a ↦ word-same word (codes "procs") a.0 ∙ ap command_word a.1
+    | inr j ↦ elim (chosen (bytes_eq word (codes "run")) Run c _ j) [
+      | inl a ↦ word-same word (codes "run") a.0 ∙ ap command_word a.1
+      | inr k ↦ elim (chosen (bytes_eq word (codes "runc")) RunC c _ k) [
+        | inl a ↦ word-same word (codes "runc") a.0 ∙ ap command_word a.1
+        | inr l ↦ nothing-chosen c l
+      ]
+    ]
+  ]
 ]
 
 -- what a word of the kind is
@@ -190,6 +205,14 @@ text-asked words job file value (Some cpu) is has h =
     let same : Decompile file cpu ≡ job = cc in
     subst (λ j. AskFor (command_word C ∷ words) j) same (decompile has is)
 
+listing-asked : (words : List (List ℕ)) (job : Job) (file : List ℕ) (value : Option (List ℕ)) (cpu : Option Processor) → cpu_of value ≡ cpu → HasParts words
+    (record { positional = file ∷ []; steps = None; fill = None; cpu = value }) →
+    option_map (ListProcedures file) cpu ≡ Some job → AskFor (command_word Procs ∷ words) job
+listing-asked words job file value None is has h = absurd (let f : ⊥ = cc in f)
+listing-asked words job file value (Some cpu) is has h =
+    let same : ListProcedures file cpu ≡ job = cc in
+    subst (λ j. AskFor (command_word Procs ∷ words) j) same (list_procedures has is)
+
 run-asked : (words : List (List ℕ)) (job : Job) (file : List ℕ) (value other : Option (List ℕ)) (steps : Option ℕ) (cpu : Option Processor) → steps_of value ≡ steps → cpu_of other ≡ cpu →
     HasParts words (record { positional = file ∷ []; steps = value; fill = None; cpu = other }) →
     option_and_then (λ n. option_map (Execute file n) cpu) steps ≡ Some job → AskFor (command_word Run ∷ words) job
@@ -214,6 +237,9 @@ job-asked : (words : List (List ℕ)) (job : Job) (c : Command) (positional : Li
 job-asked words job C (file ∷ []) None None cpu has h = text-asked words job file cpu (cpu_of cpu) refl has h
 job-asked words job C (file ∷ []) None (Some other) cpu has h = absurd (let f : ⊥ = cc in f)
 job-asked words job C (file ∷ []) (Some value) fill cpu has h = absurd (let f : ⊥ = cc in f)
+job-asked words job Procs (file ∷ []) None None cpu has h = listing-asked words job file cpu (cpu_of cpu) refl has h
+job-asked words job Procs (file ∷ []) None (Some other) cpu has h = absurd (let f : ⊥ = cc in f)
+job-asked words job Procs (file ∷ []) (Some value) fill cpu has h = absurd (let f : ⊥ = cc in f)
 job-asked words job Run (file ∷ []) steps None cpu has h =
     run-asked words job file steps cpu (steps_of steps) (cpu_of cpu) refl refl has h
 job-asked words job Run (file ∷ []) steps (Some other) cpu has h = absurd (let f : ⊥ = cc in f)
@@ -221,9 +247,11 @@ job-asked words job RunC (file ∷ []) steps fill None has h =
     text_run-asked words job file steps fill (steps_of steps) (fill_of fill) refl refl has h
 job-asked words job RunC (file ∷ []) steps fill (Some cpu) has h = absurd (let f : ⊥ = cc in f)
 job-asked words job C [] steps fill cpu has h = absurd (let f : ⊥ = cc in f)
+job-asked words job Procs [] steps fill cpu has h = absurd (let f : ⊥ = cc in f)
 job-asked words job Run [] steps fill cpu has h = absurd (let f : ⊥ = cc in f)
 job-asked words job RunC [] steps fill cpu has h = absurd (let f : ⊥ = cc in f)
 job-asked words job C (a ∷ (b ∷ ws)) steps fill cpu has h = absurd (let f : ⊥ = cc in f)
+job-asked words job Procs (a ∷ (b ∷ ws)) steps fill cpu has h = absurd (let f : ⊥ = cc in f)
 job-asked words job Run (a ∷ (b ∷ ws)) steps fill cpu has h = absurd (let f : ⊥ = cc in f)
 job-asked words job RunC (a ∷ (b ∷ ws)) steps fill cpu has h = absurd (let f : ⊥ = cc in f)
 

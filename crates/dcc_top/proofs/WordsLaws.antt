@@ -6,7 +6,7 @@ use Rattle.dcc_top.specs.Words.{Parts, only_positional, with_word, with_value, s
 use Rattle.dcc_top.specs.WordsRead.{HasTwoFiles, parts_read}
 use Rattle.dcc_top.specs.declared.words.Found.{Found}
 use Rattle.dcc_top.specs.declared.words.Command.{Command}
-use Rattle.dcc_top.specs.declared.words.Command.TheVariants.{C, Run, RunC}
+use Rattle.dcc_top.specs.declared.words.Command.TheVariants.{C, Procs, Run, RunC}
 use Rattle.dcc_top.specs.declared.words.OptionName.{OptionName}
 use Rattle.dcc_top.specs.declared.words.OptionName.TheVariants.{Steps, Fill, Cpu}
 
@@ -224,6 +224,7 @@ two-no_job : (command : Command) (words : List (List ℕ)) (steps fill cpu : Opt
 two-no_job command [] steps fill cpu h = absurd (omega arith)
 two-no_job command (a ∷ []) steps fill cpu h = absurd (omega arith)
 two-no_job C (a ∷ (b ∷ ws)) steps fill cpu h = refl
+two-no_job Procs (a ∷ (b ∷ ws)) steps fill cpu h = refl
 two-no_job Run (a ∷ (b ∷ ws)) steps fill cpu h = refl
 two-no_job RunC (a ∷ (b ∷ ws)) steps fill cpu h = refl
 

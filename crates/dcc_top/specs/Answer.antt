@@ -1,5 +1,5 @@
 -- The program's answers: the status, the line on the error stream, and which answers are allowed for a job.
-use Rattle.std.specs.Prelude.{◌≡◌, ◌≤◌, ℕ, ◌+◌, ◌/◌, ◌%◌, nat_lt, if◌then◌else◌, List, [], ◌∷◌, ◌++◌, length, codes}
+use Rattle.std.specs.Prelude.{◌≡◌, ◌≤◌, ℕ, List, [], ◌++◌, length, codes}
 use Rattle.std.specs.Prelude.{Option, Some, None}
 use Rattle.std.specs.Fmt.{decimal}
 use Rattle.dcc_mz.specs.Fault.{number_of, place_of, IsRefusal as IsFormatRefusal}
@@ -17,7 +17,7 @@ use Rattle.dcc_prog.specs.declared.refusal.Refusal.{Refusal}
 use Rattle.dcc_prog.specs.declared.refusal.Refusal.TheVariants.{Construct as ConstructRefused, Limit as LimitRefused}
 use Rattle.dcc_prog.specs.declared.refusal.Refusal.TheVariants.{NotYet as NotYetRefused, Memory as MemoryRefused}
 use Rattle.dcc_prog.specs.MzImage.{IsImageOf}
-use Rattle.dcc_prog.specs.Refused.{IsRefusedFor, IsAcceptedProgram}
+use Rattle.dcc_prog.specs.Refused.{IsRefusedFor, IsRefusedByAnalysis, IsAcceptedProgram}
 use Rattle.dcc_c.specs.Text.{StandsFor}
 use Rattle.dcc_c.specs.Tree.{Tree}
 use Rattle.dcc_c.specs.Written.{written_form}
@@ -33,17 +33,11 @@ use Rattle.dcc_top.specs.declared.reply.Reply.TheVariants.{Format, Construct, Li
 use Rattle.dcc_top.specs.declared.reply.Reply.TheVariants.{Divided, Outside, Stuck}
 use Rattle.dcc_top.specs.Change.{Change}
 use Rattle.dcc_top.specs.Execution.{machine_of, text_of, Finishes, FinishesOrStops, IsCutRun}
+use Rattle.dcc_top.specs.Listing.{IsListingOf}
+use Rattle.dcc_top.specs.Offset.{hex_offset}
 use Rattle.dcc_top.specs.Status as exit
-use Rattle.dcc_top.specs.Words.{Job, Decompile, Execute, ExecuteText, greatest_text}
-
--- a hexadecimal digit, in upper case
-abbrev pub hex_digit : ℕ → ℕ
-hex_digit n = if nat_lt n 10 then 48 + n else 55 + n
-
--- an offset, as four hexadecimal digits
-abbrev pub hex_offset : ℕ → List ℕ
-hex_offset at =
-    hex_digit (at / 4096) ∷ hex_digit (at / 256 % 16) ∷ hex_digit (at / 16 % 16) ∷ hex_digit (at % 16) ∷ []
+use Rattle.dcc_top.specs.Words.{Job, Decompile, ListProcedures, Execute, ExecuteText, Product, Text, Listing}
+use Rattle.dcc_top.specs.Words.{greatest_text}
 
 -- the name of a count, as it is told
 abbrev pub limit_word : LimitName → List ℕ
@@ -73,7 +67,7 @@ status_of Divided = exit.divided
 status_of (Outside at) = exit.outside
 status_of (Stuck line) = exit.stuck
 
--- the line on the error stream; none where a text is done
+-- the line on the error stream; none where the text or the list is written
 abbrev pub line_of : Reply → List ℕ
 line_of Done = []
 line_of (Exited code) = codes "exit " ++ (decimal code ++ codes "\n")
@@ -159,7 +153,7 @@ pub data HasNoUnit (told : Files) (name : List ℕ) : Reply → Type 0 where
       → OfFile told name (λ text. IsTextRefusal text line kind)
       → HasNoUnit told name (TextFault line kind)
 
--- The text of an executable.
+-- What is made of an executable.
 
 -- on this processor the image is accepted, and these bytes are the written form of a tree that is its text
 pub record IsTextOfImage (cpu : Cpu) (image : Image) (text : List ℕ) : Type 0 where
@@ -168,24 +162,34 @@ pub record IsTextOfImage (cpu : Cpu) (image : Image) (text : List ℕ) : Type 0 
   pub is_text : IsTextOf cpu image text tree
   pub written_is : text ≡ written_form tree
 
--- the answer is allowed for an image whose text for this processor is asked for, after these bytes
-pub data AllowsImage (cpu : Cpu) (image : Image) : Reply → List ℕ → Type 0 where
-  image_decompiled : {text : List ℕ} → IsTextOfImage cpu image text → AllowsImage cpu image Done text
+-- on this processor these bytes are what is asked for of the image: its text, or the lines of its procedures
+abbrev pub IsMadeOf : Product → Cpu → Image → List ℕ → Type 0
+IsMadeOf Text cpu image made = IsTextOfImage cpu image made
+IsMadeOf Listing cpu image made = IsListingOf cpu image made
+
+-- on this processor the image is refused so, where this is asked for
+abbrev pub Refuses : Product → Cpu → Image → Refusal → Type 0
+Refuses Text cpu image refusal = IsRefusedFor cpu image refusal
+Refuses Listing cpu image refusal = IsRefusedByAnalysis cpu image refusal
+
+-- the answer is allowed for an image of which this is asked for on this processor, after these bytes
+pub data AllowsImage (product : Product) (cpu : Cpu) (image : Image) : Reply → List ℕ → Type 0 where
+  image_made : {made : List ℕ} → IsMadeOf product cpu image made → AllowsImage product cpu image Done made
   image_refused : (refusal : Refusal)
-      → IsRefusedFor cpu image refusal
-      → AllowsImage cpu image (refusal_reply refusal) []
+      → Refuses product cpu image refusal
+      → AllowsImage product cpu image (refusal_reply refusal) []
 
--- on this processor the file's image is accepted, and these bytes are the written form of a tree that is its text
-pub record Decompiles (cpu : Cpu) (file text : List ℕ) : Type 0 where
+-- on this processor these bytes are what is asked for of the file's image
+pub record Makes (product : Product) (cpu : Cpu) (file made : List ℕ) : Type 0 where
   pub image : Image
   pub is_image : IsImageOf file image
-  pub is_text : IsTextOfImage cpu image text
+  pub is_made : IsMadeOf product cpu image made
 
--- on this processor the file's image is refused so
-pub record IsRefusedAs (cpu : Cpu) (refusal : Refusal) (file : List ℕ) : Type 0 where
+-- on this processor the file's image is refused so, where this is asked for
+pub record IsRefusedAs (product : Product) (cpu : Cpu) (refusal : Refusal) (file : List ℕ) : Type 0 where
   pub image : Image
   pub is_image : IsImageOf file image
-  pub refused : IsRefusedFor cpu image refusal
+  pub refused : Refuses product cpu image refusal
 
 -- The file has an image, and each of its images is as the fact says; they differ only in where their bytes are kept.
 pub record OfImages (file : List ℕ) (P : Image → Type 0) : Type 0 where
@@ -193,15 +197,15 @@ pub record OfImages (file : List ℕ) (P : Image → Type 0) : Type 0 where
   pub is_image : IsImageOf file image
   pub each : (other : Image) → IsImageOf file other → P other
 
--- The answer is allowed for the file of this name whose text for this processor is asked for, after these bytes.
-pub data AllowsText (cpu : Cpu) (told : Files) (name : List ℕ) : Reply → List ℕ → Type 0 where
-  decompiled : {text : List ℕ}
-      → OfFile told name (λ file. Decompiles cpu file text)
-      → AllowsText cpu told name Done text
+-- The answer is allowed for the file of this name, of which this is asked for on this processor, after these bytes.
+pub data AllowsProduct (product : Product) (cpu : Cpu) (told : Files) (name : List ℕ) : Reply → List ℕ → Type 0 where
+  made_of_file : {made : List ℕ}
+      → OfFile told name (λ file. Makes product cpu file made)
+      → AllowsProduct product cpu told name Done made
   refused : (refusal : Refusal)
-      → OfFile told name (IsRefusedAs cpu refusal)
-      → AllowsText cpu told name (refusal_reply refusal) []
-  no_image : {reply : Reply} → HasNoImage told name reply → AllowsText cpu told name reply []
+      → OfFile told name (IsRefusedAs product cpu refusal)
+      → AllowsProduct product cpu told name (refusal_reply refusal) []
+  no_image : {reply : Reply} → HasNoImage told name reply → AllowsProduct product cpu told name reply []
 
 -- Runs.
 
@@ -259,6 +263,7 @@ pub record IsCutText (text : List ℕ) (steps fill : ℕ) (input output : Change
 -- the answer is one for the run that the job asks for, on the file with these bytes
 abbrev pub Runs : Job → List ℕ → Option (List ℕ) → Option (List ℕ) → Reply → List ℕ → Type 0
 Runs (Decompile name cpu) file before left reply output = ⊥
+Runs (ListProcedures name cpu) file before left reply output = ⊥
 Runs (Execute name steps cpu) file before left reply output = RunsFile cpu file steps before left reply output
 Runs (ExecuteText name steps fill) file before left reply output = RunsText file steps fill before left reply output
 
@@ -268,9 +273,13 @@ Runs (ExecuteText name steps fill) file before left reply output = RunsText file
 pub data Allows (told : Files) (before left : Option (List ℕ)) : Option Job → Reply → List ℕ → Type 0 where
   no_job : left ≡ before → Allows told before left None Usage []
   for_text : {name : List ℕ} {cpu : Cpu} {reply : Reply} {output : List ℕ}
-      → AllowsText cpu told name reply output
+      → AllowsProduct Text cpu told name reply output
       → left ≡ before
       → Allows told before left (Some (Decompile name cpu)) reply output
+  for_listing : {name : List ℕ} {cpu : Cpu} {reply : Reply} {output : List ℕ}
+      → AllowsProduct Listing cpu told name reply output
+      → left ≡ before
+      → Allows told before left (Some (ListProcedures name cpu)) reply output
   ran_file : {name : List ℕ} {steps : ℕ} {cpu : Cpu} {reply : Reply} {output : List ℕ}
       → OfFile told name (λ file. RunsFile cpu file steps before left reply output)
       → Allows told before left (Some (Execute name steps cpu)) reply output
@@ -286,13 +295,18 @@ pub data Allows (told : Files) (before left : Option (List ℕ)) : Option Job �
       → left ≡ before
       → Allows told before left (Some (ExecuteText name steps fill)) reply []
 
--- The job was cut off by a failed write, where these bytes were due: the text of the file, and then nothing of the
--- input was taken; or what a run puts out, and then no more was taken than the run had come to.
+-- The job was cut off by a failed write, where these bytes were due: the text of the file or the lines of its
+-- procedures, and then nothing of the input was taken; or what a run puts out, and then no more was taken than the run
+-- had come to.
 pub data IsCut (told : Files) (input output : Change (Option (List ℕ))) : Option Job → List ℕ → Type 0 where
   cut_text : {name due : List ℕ} {cpu : Cpu}
       → input.after ≡ input.before
-      → OfFile told name (λ file. Decompiles cpu file due)
+      → OfFile told name (λ file. Makes Text cpu file due)
       → IsCut told input output (Some (Decompile name cpu)) due
+  cut_listing : {name due : List ℕ} {cpu : Cpu}
+      → input.after ≡ input.before
+      → OfFile told name (λ file. Makes Listing cpu file due)
+      → IsCut told input output (Some (ListProcedures name cpu)) due
   cut_run : {name due : List ℕ} {steps : ℕ} {cpu : Cpu}
       → OfFile told name (λ file. IsCutFile cpu file steps input output due)
       → IsCut told input output (Some (Execute name steps cpu)) due

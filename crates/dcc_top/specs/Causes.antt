@@ -17,7 +17,8 @@ use Rattle.dcc_parse.specs.Fault.{IsRefusal as IsTextRefusal}
 use Rattle.dcc_top.specs.declared.reply.Reply.{Reply}
 use Rattle.dcc_top.specs.declared.reply.Reply.TheVariants.{Done, NoFile, FileFault, InputFault, Memory, Format}
 use Rattle.dcc_top.specs.declared.reply.Reply.TheVariants.{TextFault}
-use Rattle.dcc_top.specs.Words.{Job, Decompile, Execute, ExecuteText, name_of, file_of, requests_of, greatest_text}
+use Rattle.dcc_top.specs.Words.{Job, Execute, ExecuteText, Product, job_to_make, name_of, file_of, requests_of}
+use Rattle.dcc_top.specs.Words.{greatest_text}
 use Rattle.dcc_top.specs.Execution.{machine_of, text_of, ending_after}
 use Rattle.dcc_top.specs.Answer.{Allows, IsCut, IsRefusedAs, Runs, ShelfHas, ShelfLacks, status_of, line_of}
 use Rattle.dcc_top.specs.Answer.{refusal_reply}
@@ -176,16 +177,18 @@ pub record HasFormatFault (call : Call) : Type 0 where
   pub first : IsFormatRefusal file fault
   pub line : Appends call.errors (line_of (Format fault))
 
--- The program that the words name is refused on their processor, and the line tells why: a construct stands at the
--- offset, the count passes its number, or an instruction that is reached at the offset is of a form that is not built.
+-- The program that the words name is refused on their processor, where its text or its procedures are asked for, and the
+-- line tells why: a construct stands at the offset, the count passes its number, or an instruction that is reached at the
+-- offset is of a form that is not built.
 pub record HasRefusal (call : Call) : Type 0 where
+  pub product : Product
   pub name : List ℕ
   pub cpu : Cpu
   pub file : List ℕ
   pub refusal : Refusal
-  pub named : call.job ≡ Some (Decompile name cpu)
+  pub named : call.job ≡ Some (job_to_make product name cpu)
   pub has : ShelfHas call.shelf.files name file
-  pub refused : IsRefusedAs cpu refusal file
+  pub refused : IsRefusedAs product cpu refusal file
   pub status_is : call.status ≡ status_of (refusal_reply refusal)
   pub line : Appends call.errors (line_of (refusal_reply refusal))
 

@@ -3,6 +3,8 @@ pub mod WordsRead
 pub mod Change
 pub mod Execution
 pub mod Status
+pub mod Offset
+pub mod Listing
 pub mod Answer
 pub mod Headline
 pub mod Call
@@ -10,5 +12,7 @@ pub mod Delivery
 pub mod Causes
 pub mod Promises
 pub use Rattle.dcc_prog.specs.MzImage
+pub use Rattle.dcc_prog.specs.Analysed
+pub use Rattle.dcc_prog.specs.Refused
 pub use Rattle.dcc_c.specs.Views
 pub use Rattle.dcc_io.specs.Count

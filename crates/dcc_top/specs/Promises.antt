@@ -1,14 +1,15 @@
--- What the program promises of each call: the text of `c`, runs, refusals, faults, and what is asked and told.
+-- What the program promises of each call: the text of `c`, the list of `procs`, runs, refusals, faults, and what is
+-- asked and told.
 use Rattle.std.specs.Prelude.{◌≡◌, ◌≢◌, ◌⊎◌, ℕ, List, [], ◌∷◌, Some, None}
 use Rattle.dcc_run.specs.End.{End}
 use Rattle.dcc_prog.specs.declared.cpu.Cpu.{Cpu}
 use Rattle.dcc_prog.specs.MzImage.{FormatFault, IsFirstFault}
-use Rattle.dcc_prog.specs.Refused.{IsAcceptedProgram, IsRefusedImage}
+use Rattle.dcc_prog.specs.Refused.{IsSound, IsAcceptedProgram, IsUnsound, IsRefusedImage}
 use Rattle.dcc_top.specs.declared.reply.Reply.TheVariants.{Memory}
-use Rattle.dcc_top.specs.Words.{Job, Decompile, ExecuteText, IsExecution, LoadsImage}
+use Rattle.dcc_top.specs.Words.{Job, Decompile, ListProcedures, ExecuteText, IsExecution, LoadsImage}
 use Rattle.dcc_top.specs.Answer.{OfImages, line_of}
 use Rattle.dcc_top.specs.Call.{Call, Rises, AppendsPart}
-use Rattle.dcc_top.specs.Headline.{HasText}
+use Rattle.dcc_top.specs.Headline.{HasText, HasListing}
 use Rattle.dcc_top.specs.Causes.{IsAnswered, HasRunFile, EndsSo, Names, IsMissing, IsAbsent, IsUnreadable}
 use Rattle.dcc_top.specs.Causes.{HasFormatFault, HasRefusal, HasTextFault, IsNoText, IsOutOfMemory, IsCutOff}
 use Rattle.dcc_top.specs.Causes.{AsksPrefix, AsksAll}
@@ -26,6 +27,19 @@ pub record KeepsText (call : Call) : Type 0 where
       → call.job ≡ Some (Decompile name cpu)
       → Names call file
       → OfImages file (IsAcceptedProgram cpu)
+      → IsOneOf call.status (exit.done ∷ exit.faults)
+
+-- `procs` lists the procedures of the executable on the processor of the words, and lists them wherever no construct
+-- stands in the program and no count is too great.
+pub record KeepsListing (call : Call) : Type 0 where
+  pub listing : (name : List ℕ) (cpu : Cpu)
+      → call.job ≡ Some (ListProcedures name cpu)
+      → call.status ≡ exit.done
+      → HasListing cpu call.shelf.files name call.output.taken.before call.output.taken.after
+  pub listing_always : (name file : List ℕ) (cpu : Cpu)
+      → call.job ≡ Some (ListProcedures name cpu)
+      → Names call file
+      → OfImages file (IsSound cpu)
       → IsOneOf call.status (exit.done ∷ exit.faults)
 
 -- What `run` and `runc` put out and take, and how the run has ended, are those of the file.
@@ -60,6 +74,12 @@ pub record KeepsRefusals (call : Call) : Type 0 where
       → Names call file
       → OfImages file (IsRefusedImage cpu)
       → IsOneOf call.status (exit.construct ∷ (exit.limit ∷ (exit.not_yet ∷ exit.faults)))
+  -- `procs` is refused wherever a construct stands or a count is too great, and for nothing else
+  pub listing_refused_always : (name file : List ℕ) (cpu : Cpu)
+      → call.job ≡ Some (ListProcedures name cpu)
+      → Names call file
+      → OfImages file (IsUnsound cpu)
+      → IsOneOf call.status (exit.construct ∷ (exit.limit ∷ exit.faults))
   -- the text is refused: no tree stands for it, or it is too long
   pub text_fault : call.status ≡ exit.text_fault → HasTextFault call
   pub text_fault_always : (name file : List ℕ) (steps fill : ℕ)
@@ -94,6 +114,7 @@ pub record KeepsAnswer (call : Call) : Type 0 where
 -- what the program promises of a call
 pub record KeepsPromises (call : Call) : Type 0 where
   pub text : KeepsText call
+  pub listing : KeepsListing call
   pub runs : KeepsRuns call
   pub refusals : KeepsRefusals call
   pub faults : KeepsFaults call

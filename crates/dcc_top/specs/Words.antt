@@ -10,7 +10,7 @@ use Rattle.std.specs.Str.Parse.{digits_value}
 use Rattle.dcc_prog.specs.declared.cpu.Cpu.{Cpu}
 use Rattle.dcc_prog.specs.declared.cpu.Cpu.TheVariants.{I8086, I186}
 use Rattle.dcc_top.specs.declared.words.Command.{Command}
-use Rattle.dcc_top.specs.declared.words.Command.TheVariants.{C, Run, RunC}
+use Rattle.dcc_top.specs.declared.words.Command.TheVariants.{C, Procs, Run, RunC}
 use Rattle.dcc_top.specs.declared.words.OptionName.{OptionName}
 use Rattle.dcc_top.specs.declared.words.OptionName.TheVariants.{Steps, Fill, Cpu as CpuOption}
 
@@ -18,14 +18,27 @@ use Rattle.dcc_top.specs.declared.words.OptionName.TheVariants.{Steps, Fill, Cpu
 pub data Job : Type 0 where
   -- write the text of the executable with this name, for this processor
   Decompile : List ℕ → Cpu → Job
+  -- list the procedures of the executable with this name, for this processor
+  ListProcedures : List ℕ → Cpu → Job
   -- run the executable with this name, for at most so many steps, on this processor
   Execute : List ℕ → ℕ → Cpu → Job
   -- run the text with this name, for at most so many steps, with this fill
   ExecuteText : List ℕ → ℕ → ℕ → Job
 
+-- what is made of an executable: its text, or the list of its procedures
+pub data Product : Type 0 where
+  Text : Product
+  Listing : Product
+
+-- the job that makes it of the executable with this name, for this processor
+abbrev pub job_to_make : Product → List ℕ → Cpu → Job
+job_to_make Text name cpu = Decompile name cpu
+job_to_make Listing name cpu = ListProcedures name cpu
+
 -- the first word, as a command
 abbrev pub command_word : Command → List ℕ
 command_word C = codes "c"
+command_word Procs = codes "procs"
 command_word Run = codes "run"
 command_word RunC = codes "runc"
 
@@ -124,6 +137,10 @@ pub data AskFor : List (List ℕ) → Job → Type 0 where
       → HasParts words (record { positional = file ∷ []; steps = None; fill = None; cpu = value })
       → cpu_of value ≡ Some cpu
       → AskFor (command_word C ∷ words) (Decompile file cpu)
+  list_procedures : {words : List (List ℕ)} {file : List ℕ} {value : Option (List ℕ)} {cpu : Cpu}
+      → HasParts words (record { positional = file ∷ []; steps = None; fill = None; cpu = value })
+      → cpu_of value ≡ Some cpu
+      → AskFor (command_word Procs ∷ words) (ListProcedures file cpu)
   execute : {words : List (List ℕ)} {file : List ℕ} {value other : Option (List ℕ)} {steps : ℕ} {cpu : Cpu}
       → HasParts words (record { positional = file ∷ []; steps = value; fill = None; cpu = other })
       → steps_of value ≡ Some steps
@@ -159,6 +176,7 @@ option_of word =
 abbrev pub command_of : List ℕ → Option Command
 command_of word =
     if bytes_eq word (codes "c") then Some C
+    else if bytes_eq word (codes "procs") then Some Procs
     else if bytes_eq word (codes "run") then Some Run
     else if bytes_eq word (codes "runc") then Some RunC
     else None
@@ -220,6 +238,7 @@ text_job file value other =
 -- the job of a command with these positional words, and these values of `--steps`, `--fill` and `--cpu`
 abbrev pub job_for : Command → List (List ℕ) → Option (List ℕ) → Option (List ℕ) → Option (List ℕ) → Option Job
 job_for C (file ∷ []) None None value = option_map (Decompile file) (cpu_of value)
+job_for Procs (file ∷ []) None None value = option_map (ListProcedures file) (cpu_of value)
 job_for Run (file ∷ []) value None other = run_job file value other
 job_for RunC (file ∷ []) value other None = text_job file value other
 job_for _ _ _ _ _ = None
@@ -245,6 +264,7 @@ job_in words = job_of (map string_bytes words)
 -- the file that a job names
 abbrev pub name_of : Job → List ℕ
 name_of (Decompile file cpu) = file
+name_of (ListProcedures file cpu) = file
 name_of (Execute file steps cpu) = file
 name_of (ExecuteText file steps fill) = file
 
@@ -255,6 +275,7 @@ file_of job = option_map name_of job
 abbrev pub IsExecution : Option Job → Type 0
 IsExecution None = ⊥
 IsExecution (Some (Decompile file cpu)) = ⊥
+IsExecution (Some (ListProcedures file cpu)) = ⊥
 IsExecution (Some (Execute file steps cpu)) = Unit {0}
 IsExecution (Some (ExecuteText file steps fill)) = Unit {0}
 
@@ -262,6 +283,7 @@ IsExecution (Some (ExecuteText file steps fill)) = Unit {0}
 abbrev pub LoadsImage : Option Job → Type 0
 LoadsImage None = ⊥
 LoadsImage (Some (Decompile file cpu)) = Unit {0}
+LoadsImage (Some (ListProcedures file cpu)) = Unit {0}
 LoadsImage (Some (Execute file steps cpu)) = Unit {0}
 LoadsImage (Some (ExecuteText file steps fill)) = ⊥
 
@@ -274,6 +296,7 @@ greatest_text = 67108864
 
 abbrev pub greatest_of : Job → ℕ
 greatest_of (Decompile file cpu) = greatest_file
+greatest_of (ListProcedures file cpu) = greatest_file
 greatest_of (Execute file steps cpu) = greatest_file
 greatest_of (ExecuteText file steps fill) = greatest_text
 

@@ -7,7 +7,7 @@ ghost use Rattle.dcc_top.specs.Answer.{AllowsImage, IsTextOfImage};
 ghost use Rattle.dcc_top.specs.Call.{shelf_change, sink_change, unread};
 ghost use Rattle.dcc_top.specs.Causes.{Replies};
 ghost use Rattle.dcc_top.specs.Delivery.{Answers, CutsShort};
-ghost use Rattle.dcc_top.specs.Words.{Decompile};
+ghost use Rattle.dcc_top.specs.Words.{Decompile, Text};
 
 use crate::fetch::fetch_image;
 use crate::reply::Reply;
@@ -20,7 +20,7 @@ use std::alloc::Global;
 // Writes the text of the image for the processor, or answers why there is none. The error is a failed write.
 fn write_text<O: Sink>(alloc: Global, image: &Image, cpu: Cpu, out: &mut O) -> Result<Reply, Failed>
     requires { IsLoaded image.now }
-    ensures answers { IfOk result (Answers (AllowsImage cpu image.now) (O.taken out.old) (O.taken out.new)) }
+    ensures answers { IfOk result (Answers (AllowsImage Text cpu image.now) (O.taken out.old) (O.taken out.new)) }
     ensures cut_short { OnErr result (CutsShort (IsTextOfImage cpu image.now) (O.taken out.old) (O.taken out.new)) }
     ensures output_faults { O.faults out.old ≤ O.faults out.new }
     ensures write_failed { OnErr result (Rose (O.faults out.old) (O.faults out.new)) }

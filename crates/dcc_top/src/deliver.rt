@@ -25,7 +25,8 @@ fn deliver<E: Sink>(reply: &Reply, line: &str, err: &mut E) -> u8
     reply.status()
 }
 
-/// Writes the line of the answer, or that memory ran out where there is none for it. A text that is done has no line.
+/// Writes the line of the answer, or that memory ran out where there is none for it. A text or a list that is
+/// written has no line.
 pub fn answer<E: Sink>(alloc: Global, reply: &Reply, err: &mut E) -> u8
     ensures tells { TellsReply reply.now result (sink_change E.taken E.faults err.old err.new)
         ⊎ ((reply.now ≢ Done) × TellsReply Memory result (sink_change E.taken E.faults err.old err.new)) }

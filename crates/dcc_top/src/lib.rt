@@ -5,6 +5,8 @@ pub mod decompile_job;
 pub mod deliver;
 pub mod execute;
 pub mod fetch;
+pub mod listing;
+pub mod listing_job;
 pub mod reply;
 pub mod text_job;
 pub mod top;

@@ -14,7 +14,7 @@ use std::fmt;
 /// An answer of the program.
 #[derive(Clone, Copy, PartialEq, Eq, Debug)]
 pub enum Reply {
-    /// The text of the executable is written.
+    /// The text of the executable is written, or the list of its procedures.
     Done,
     /// The run ended with this exit code.
     Exited(u8),
@@ -30,7 +30,7 @@ pub enum Reply {
     Memory,
     /// The file has no load image.
     Format(MzFault),
-    /// A construct of this kind, for which no text is written, stands at the offset in the code segment.
+    /// A construct of this kind, for which nothing is written, stands at the offset in the code segment.
     Construct { kind: u8, at: u16 },
     /// This count of the program is above its greatest number.
     Limit { what: LimitName, count: u32 },
@@ -119,7 +119,8 @@ impl Reply {
         }
     }
 
-    /// The line on the error stream. There is none where a text is done, and no memory is taken then.
+    /// The line on the error stream. There is none where the text or the list is written, and no memory is
+    /// taken then.
     pub fn line(&self, alloc: Global) -> Result<String, AllocError>
         ensures line { IfOk result (λ line. string_bytes line ≡ line_of self.now) }
         ensures done { self.now ≡ Reply.Done → IsOk result }

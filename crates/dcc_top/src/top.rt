@@ -10,6 +10,7 @@ use crate::decompile_job::text_reply;
 use crate::deliver::{WRITE_FAULT, answer};
 use crate::execute::execute;
 use crate::fetch::{fetch_image, fetch_unit};
+use crate::listing_job::listing_reply;
 use crate::reply::Reply;
 use crate::text_job::execute_unit;
 use crate::words::{Execution, Job, TextExecution, job_of};
@@ -54,7 +55,8 @@ fn runc_reply<H: Shelf, I: Source, O: Sink>(
     }
 }
 
-// The answer for the words. The error is a failed write of a text or of what is put out by what is run.
+// The answer for the words. The error is a failed write of a text, of a list or of what is put out by
+// what is run.
 fn reply_for<H: Shelf, I: Source, O: Sink>(
     alloc: Global,
     words: &Vec<String>,
@@ -71,6 +73,7 @@ fn reply_for<H: Shelf, I: Source, O: Sink>(
     match job_of(words) {
         None => Ok(Reply::Usage),
         Some(Job::Decompile { file, cpu }) => text_reply(alloc, file, cpu, shelf, out),
+        Some(Job::ListProcedures { file, cpu }) => listing_reply(alloc, file, cpu, shelf, out),
         Some(Job::Execute(run)) => run_reply(alloc, run, shelf, input, out),
         Some(Job::ExecuteText(run)) => runc_reply(alloc, run, shelf, input, out),
     }
@@ -78,11 +81,12 @@ fn reply_for<H: Shelf, I: Source, O: Sink>(
 
 /// Does what the words after the program's name say, and answers the exit status.
 ///
-/// `c FILE` writes the text of the executable FILE to `out`. `run FILE` runs it, on the input and to the output, for at
-/// most the steps of `--steps N`. Both take the program as one of the processor of `--cpu CPU`. `runc FILE` runs the
-/// text FILE so, with the fill of `--fill N`. No other words are a command.
+/// `c FILE` writes the text of the executable FILE to `out`, and `procs FILE` the list of its procedures. `run FILE` runs
+/// it, on the input and to the output, for at most the steps of `--steps N`. These take the program as one of the
+/// processor of `--cpu CPU`. `runc FILE` runs the text FILE so, with the fill of `--fill N`. No other words are a
+/// command.
 ///
-/// Statuses: 0 where the text is written or the run has ended by its exit; 2 usage, 3 no file, 4 the file could not
+/// Statuses: 0 where the text or the list is written or the run has ended by its exit; 2 usage, 3 no file, 4 the file could not
 /// be read, 5 the input could not, 6 a write failed, 7 memory ran out, 8 the file is no executable, 9 a construct
 /// stands in the program for which no text is written, 10 a count of the program is too great, 11 the file is no
 /// text, 12 an instruction that the program reaches is not built yet, 20 the run goes on after the steps that were

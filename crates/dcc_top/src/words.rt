@@ -42,6 +42,8 @@ pub struct TextExecution<'a> {
 pub enum Job<'a> {
     /// Write the text of the executable of this name, for this processor.
     Decompile { file: &'a str, cpu: Cpu },
+    /// List the procedures of the executable of this name, for this processor.
+    ListProcedures { file: &'a str, cpu: Cpu },
     /// Run an executable.
     Execute(Execution<'a>),
     /// Run a text.
@@ -53,6 +55,8 @@ pub enum Job<'a> {
 pub enum Command {
     /// `c`
     C,
+    /// `procs`
+    Procs,
     /// `run`
     Run,
     /// `runc`
@@ -120,6 +124,8 @@ fn command_of(word: &str) -> Option<Command>
 {
     if word == "c" {
         Some(Command::C)
+    } else if word == "procs" {
+        Some(Command::Procs)
     } else if word == "run" {
         Some(Command::Run)
     } else if word == "runc" {
@@ -334,10 +340,11 @@ fn found_in(words: &[String]) -> Option<Found<'_>>
 
 /// The job of the words after the program's name; none where the words are no command.
 ///
-/// `c FILE` writes a text. `run FILE` runs an executable, for at most the steps of `--steps N`: 0 to 1000000000 in
-/// at most 10 digits, and 1000000 where the option doesn't stand. Both are for the processor of `--cpu CPU`: 8086 or
-/// 186, and 8086 where the option doesn't stand. `runc FILE` runs a text, for at most the steps of `--steps N` and with
-/// the fill of `--fill N`: 0 to 65535 in at most 5 digits, and 0 where the option doesn't stand.
+/// `c FILE` writes a text, and `procs FILE` lists procedures. `run FILE` runs an executable, for at most the steps of
+/// `--steps N`: 0 to 1000000000 in at most 10 digits, and 1000000 where the option doesn't stand. The three are for the
+/// processor of `--cpu CPU`: 8086 or 186, and 8086 where the option doesn't stand. `runc FILE` runs a text, for at most
+/// the steps of `--steps N` and with the fill of `--fill N`: 0 to 65535 in at most 5 digits, and 0 where the option
+/// doesn't stand.
 #[tactic(auto, unfolding(crate::specs::Words::job_of))]
 pub fn job_of(words: &[String]) -> Option<Job<'_>>
     ensures { MatchOption result (job_of (map string_bytes words.now) ≡ None)
@@ -349,6 +356,10 @@ pub fn job_of(words: &[String]) -> Option<Job<'_>>
     let command = command_of(command.as_str())?;
     match (command, found.steps, found.fill, found.cpu) {
         (Command::C, None, None, cpu) => Some(Job::Decompile {
+            file,
+            cpu: cpu_of(cpu)?,
+        }),
+        (Command::Procs, None, None, cpu) => Some(Job::ListProcedures {
             file,
             cpu: cpu_of(cpu)?,
         }),

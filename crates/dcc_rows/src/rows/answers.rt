@@ -15,7 +15,7 @@ fn check_refused(rt: &impl Abort, given: &Answer, status: u8, line: &str) {
 // Words, the number of the fetch that fails, the status and the line.
 type WordsRow = (&'static [&'static str], u64, u8, &'static str);
 
-static WORDS: [WordsRow; 19] = [
+static WORDS: [WordsRow; 23] = [
     (&[], 0, 2, "dcc: usage\n"),
     (&["c"], 0, 2, "dcc: usage\n"),
     (&["help"], 0, 2, "dcc: usage\n"),
@@ -45,6 +45,10 @@ static WORDS: [WordsRow; 19] = [
     ),
     (&["run", "ROW1.EXE", "--cpu"], 0, 2, "dcc: usage\n"),
     (&["runc", "--cpu", "186", "ROW1.EXE"], 0, 2, "dcc: usage\n"),
+    (&["procs"], 0, 2, "dcc: usage\n"),
+    (&["procs", "ROW1.EXE", "--steps", "1"], 0, 2, "dcc: usage\n"),
+    (&["procs", "ROW2.EXE"], 0, 3, "dcc: no file\n"),
+    (&["procs", "ROW1.EXE"], 1, 4, "dcc: file fault\n"),
 ];
 
 fn words() -> &'static [WordsRow] {
@@ -68,7 +72,7 @@ fn words_and_shelves_are_refused(rt: HostRuntime) -> Result<(), Fail> {
 
 // A file of these bytes is refused with the line, and with status 8, by each command.
 fn check_format(rt: &impl Abort, alloc: Global, file: &[u8], line: &str) -> Result<(), AllocError> {
-    for command in ["c", "run"] {
+    for command in ["c", "procs", "run"] {
         let given = answered(alloc, &[command, "ROW1.EXE"], file, NO_FAULTS)?;
         check_refused(rt, &given, 8, line);
     }

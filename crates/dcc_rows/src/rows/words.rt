@@ -18,6 +18,10 @@ fn c(file: &str, cpu: Cpu) -> Option<Job<'_>> {
     Some(Job::Decompile { file, cpu })
 }
 
+fn procs(file: &str, cpu: Cpu) -> Option<Job<'_>> {
+    Some(Job::ListProcedures { file, cpu })
+}
+
 fn run_on(file: &str, steps: u64, cpu: Cpu) -> Option<Job<'_>> {
     Some(Job::Execute(Execution { file, steps, cpu }))
 }
@@ -41,6 +45,8 @@ fn commands_have_a_job(rt: HostRuntime) -> Result<(), Fail> {
         ("c a --cpu 8086", c("a", Cpu::I8086)),
         ("c --cpu 186 a", c("a", Cpu::I186)),
         ("c --cpu=186 -- --cpu", c("--cpu", Cpu::I186)),
+        ("procs F", procs("F", Cpu::I8086)),
+        ("procs --cpu=186 -- -F", procs("-F", Cpu::I186)),
         ("run F", run("F", 1_000_000)),
         ("run -", run("-", 1_000_000)),
         ("run a --", run("a", 1_000_000)),
@@ -81,6 +87,10 @@ fn other_words_are_no_command(rt: HostRuntime) -> Result<(), Fail> {
         "c -F",
         "c F --steps 1",
         "c --steps=1 F",
+        "procs",
+        "procs a b",
+        "procs F --steps 1",
+        "procs F --cpu 8088",
         "run",
         "run  ",
         "run -x",

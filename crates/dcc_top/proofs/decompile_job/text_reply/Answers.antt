@@ -1,6 +1,6 @@
 use Rattle.std.proofs.Common.{◌∷◌, refl}
 use Rattle.dcc_top.specs.declared.reply.Reply.TheVariants.{NoFile, FileFault, InputFault}
-use Rattle.dcc_top.specs.Words.{Decompile}
+use Rattle.dcc_top.specs.Words.{Decompile, Text}
 use Rattle.dcc_top.specs.Answer.{AllowsImage, for_text, no_image}
 use Rattle.dcc_top.proofs.StatusLaws.{image_faults, refusals, no_image-status, image-status, never, other-than}
 use Rattle.dcc_top.proofs.AnswerLaws.{answer-of_image, cut-of_image}
@@ -15,11 +15,11 @@ returns-in-Ok g c = λ left faults.
     let image = c.in-Ok.image in
     let w = c.write_text.ensures in
     replies-fetched (Decompile name cpu) _ _ _ c.write_text.result image c.in-Ok.ensures.asks
-    (answer-of_image cpu files name left image _ _ c.write_text.result c.in-Ok.ensures.image w.answers)
-    (cut-of_image cpu files name left image _ c.write_text.result c.in-Ok.ensures.image w.cut_short)
-    (never (AllowsImage cpu image) (0 ∷ refusals) (image-status cpu image) NoFile refl _ _ _ c.write_text.result w.answers)
-    (never (AllowsImage cpu image) (0 ∷ refusals) (image-status cpu image) FileFault refl _ _ _ c.write_text.result w.answers)
-    (never (AllowsImage cpu image) (0 ∷ refusals) (image-status cpu image) InputFault refl _ _ _ c.write_text.result w.answers)
+    (answer-of_image Text cpu files name left image _ _ c.write_text.result c.in-Ok.ensures.image w.answers)
+    (cut-of_image Text cpu files name left image _ c.write_text.result c.in-Ok.ensures.image w.cut_short)
+    (never (AllowsImage Text cpu image) (0 ∷ refusals) (image-status Text cpu image) NoFile refl _ _ _ c.write_text.result w.answers)
+    (never (AllowsImage Text cpu image) (0 ∷ refusals) (image-status Text cpu image) FileFault refl _ _ _ c.write_text.result w.answers)
+    (never (AllowsImage Text cpu image) (0 ∷ refusals) (image-status Text cpu image) InputFault refl _ _ _ c.write_text.result w.answers)
     w.output_faults w.write_failed
 
 pub returns-in-Err : goal.returns-in-Err

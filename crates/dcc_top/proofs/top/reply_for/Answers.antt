@@ -11,6 +11,11 @@ returns-in-Some-Decompile-clause-replies g c =
     let job = rw (c.deref.ensures.value, c.in-Some-Decompile.field-0-is) at c.in-Some-Decompile.ensures in
     rw job (c.text_reply.ensures (g.I.Source.left c.args.input.now) (g.I.Source.faults c.args.input.now))
 
+pub returns-in-Some-ListProcedures-clause-replies : goal.returns-in-Some-ListProcedures-clause-replies
+returns-in-Some-ListProcedures-clause-replies g c =
+    let job = rw (c.deref.ensures.value, c.in-Some-ListProcedures.field-0-is) at c.in-Some-ListProcedures.ensures in
+    rw job (c.listing_reply.ensures (g.I.Source.left c.args.input.now) (g.I.Source.faults c.args.input.now))
+
 pub returns-in-Some-Execute-clause-replies : goal.returns-in-Some-Execute-clause-replies
 returns-in-Some-Execute-clause-replies g c =
     let job = rw (c.deref.ensures.value, c.in-Some-Execute.field-0-is) at c.in-Some-Execute.ensures in

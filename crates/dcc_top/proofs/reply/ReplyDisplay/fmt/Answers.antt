@@ -1,6 +1,6 @@
 use Rattle.std.proofs.Common.{◌≡◌, ap, Some, ◌<◌, ◌^◌, arith}
 use Rattle.std.specs.Fmt.{styled_digits_output}
-use Rattle.dcc_top.specs.Answer.{hex_offset}
+use Rattle.dcc_top.specs.Offset.{hex_offset}
 use Rattle.dcc_top.proofs.HexLaws.{hex_offset-padded}
 use Rattle.dcc_top.proofs.reply.ReplyDisplay.fmt.Goals as goal
 

@@ -1,0 +1,48 @@
+-- Too many cells.
+use Rattle.std.proofs.Common.{◌≡◌, ◌<◌, ◌≤◌, ◌+◌, ℕ, Option, List, [], ◌∷◌, ◌++◌, take, length, get_or, sym, ap, ◌∙◌, subst, append-nil, arith}
+use Rattle.std.specs.List.{flat_map}
+use Rattle.std.specs.Option.{option_to_list}
+use Rattle.std.proofs.lemmas.List.{take_more}
+use Rattle.std.proofs.lemmas.List.Concat.{flat_map-append}
+use Rattle.dcc_prog.specs.declared.frame.Cell.{Cell}
+use Rattle.dcc_prog.specs.declared.refusal.LimitName.TheVariants.{Procedures, Instructions, Total, Cells, Entries, Arguments}
+use Rattle.dcc_prog.specs.declared.refusal.Refusal.{Refusal}
+use Rattle.dcc_prog.specs.declared.refusal.Refusal.TheVariants.{Construct, Limit, NotYet, Memory}
+use Rattle.dcc_frames.specs.declared.bytes.Piece.{Piece}
+use Rattle.dcc_frames.specs.CellLists.{small_cell, cells_from, IsOverfull}
+use Rattle.dcc_frames.proofs.Flat.{flat-shorter}
+
+-- where these are too many, more are
+overfull-longer : (few more : List Cell) (refusal : Refusal) → length few ≤ length more → IsOverfull few refusal → IsOverfull more refusal
+overfull-longer few more (Limit Cells count) le h = (h.0, let longer = h.1 in omega (arith, le, longer))
+overfull-longer few more (Limit Procedures count) le h = absurd h
+overfull-longer few more (Limit Instructions count) le h = absurd h
+overfull-longer few more (Limit Total count) le h = absurd h
+overfull-longer few more (Limit Entries count) le h = absurd h
+overfull-longer few more (Limit Arguments count) le h = absurd h
+overfull-longer few more Memory le h = tt
+overfull-longer few more (Construct kind at) le h = absurd h
+overfull-longer few more (NotYet at) le h = absurd h
+
+overfull-all :
+    (runs : List Piece) (i : ℕ) (d : Piece) (refusal : Refusal) → i < length runs
+    → IsOverfull (cells_from (take i runs) ++ option_to_list (small_cell (get_or runs i d))) refusal
+    → IsOverfull (cells_from runs) refusal
+overfull-all runs i d refusal inside h =
+    let f : Piece → List Cell = λ run. option_to_list (small_cell run) in
+    let one : flat_map f (get_or runs i d ∷ []) ≡ f (get_or runs i d) = append-nil (f (get_or runs i d)) in
+    let is : cells_from (take (i + 1) runs) ≡ cells_from (take i runs) ++ f (get_or runs i d) =
+    ap (flat_map f) (take_more runs i d inside)
+    ∙ flat_map-append f (take i runs) (get_or runs i d ∷ [])
+    ∙ ap (λ l. flat_map f (take i runs) ++ l) one in
+    overfull-longer (cells_from (take (i + 1) runs)) (cells_from runs) refusal (flat-shorter f (i + 1) runs)
+    (subst (λ l. IsOverfull l refusal) (sym is) h)
+
+pub overfull-read :
+    (runs : List Piece) (i : ℕ) (d : Piece) (cells : List Cell) (cell : Option Cell) (refusal : Refusal) → i < length runs
+    → cells ≡ cells_from (take i runs) → cell ≡ small_cell (get_or runs i d)
+    → IsOverfull (cells ++ option_to_list cell) refusal → IsOverfull (cells_from runs) refusal
+overfull-read runs i d cells cell refusal inside first second h =
+    overfull-all runs i d refusal inside
+    (subst (λ l. IsOverfull (l ++ option_to_list (small_cell (get_or runs i d))) refusal) first
+    (subst (λ o. IsOverfull (cells ++ option_to_list o) refusal) second h))

@@ -1,0 +1,114 @@
+use Rattle.std.proofs.Common.{◌≡◌, ℕ, Option, None, All, nat_eq, refl, sym, ap, ◌∙◌, subst, rules}
+use Rattle.indexmap.specs.IndexMap.{get}
+use Rattle.dcc_frames.specs.declared.bytes.Piece.{Piece}
+use Rattle.dcc_frames.specs.Runs.{AreRuns, AreAscending}
+use Rattle.dcc_frames.specs.CellLists.{cells_from, long_user, IsOverfull, IsToldOfRuns}
+use Rattle.dcc_frames.specs.Starts.{starts_of, IsNear, IsLocalBy, IsArgumentBy}
+use Rattle.dcc_prog.specs.declared.refusal.Refusal.TheVariants.{Memory}
+use Rattle.dcc_prog.specs.Refused.{IsRefusedByFrames, no_memory}
+use Rattle.dcc_frames.proofs.Answered.{accesses-refused, calls-refused, are-ascending, runs-refused, cells-refused, frame-told}
+use Rattle.dcc_frames.proofs.frames.frame.Goals as goal
+
+pub returns-in_err-check_accesses-clause-refused : goal.returns-in_err-check_accesses-clause-refused
+returns-in_err-check_accesses-clause-refused c = λ image layout ready.
+    let named : IsRefusedByFrames image layout c.in_err-check_accesses.field-0.0 =
+    accesses-refused image layout c.args.body.now _ c.args.delta ready c.lacks_addresses-lacks.result c.lacks_addresses-lacks.ensures
+    c.in_err-check_accesses.field-0.0 c.in_err-check_accesses.ensures.refused in
+    search rules
+
+pub returns-in_err-check_calls-clause-refused : goal.returns-in_err-check_calls-clause-refused
+returns-in_err-check_calls-clause-refused c = λ image layout ready.
+    let named : IsRefusedByFrames image layout c.in_err-check_calls.field-0.0 =
+    calls-refused image layout c.args.body.now _ c.args.delta ready c.lacks_addresses-lacks.result c.lacks_addresses-lacks.ensures
+    c.in_err-check_calls.field-0.0 c.in_err-check_calls.ensures.refused in
+    search rules
+
+pub returns-in_err-pieces-clause-refused : goal.returns-in_err-pieces-clause-refused
+returns-in_err-pieces-clause-refused c = λ image layout ready.
+    let named : IsRefusedByFrames image layout Memory = no_memory in search rules
+
+pub returns-in_err-sort-clause-refused : goal.returns-in_err-sort-clause-refused
+returns-in_err-sort-clause-refused c = λ image layout ready.
+    let named : IsRefusedByFrames image layout Memory = no_memory in search rules
+
+pub returns-in_err-runs-clause-refused : goal.returns-in_err-runs-clause-refused
+returns-in_err-runs-clause-refused c = λ image layout ready.
+    let named : IsRefusedByFrames image layout Memory = no_memory in search rules
+
+pub returns-in_err-starts-clause-refused : goal.returns-in_err-starts-clause-refused
+returns-in_err-starts-clause-refused c = λ image layout ready.
+    let named : IsRefusedByFrames image layout Memory = no_memory in search rules
+
+pub returns-in_err-check_runs-clause-refused : goal.returns-in_err-check_runs-clause-refused
+returns-in_err-check_runs-clause-refused c = λ image layout ready.
+    let body = c.args.body.now in
+    let counts : ℕ → Option ℕ = λ entry. get nat_eq c.args.counts.now entry in
+    let lacks = c.lacks_addresses-lacks.result in
+    let lacks_is = c.lacks_addresses-lacks.ensures in
+    let allowed = c.in_ok-check_accesses.ensures.allowed in
+    let enough = c.in_ok-check_calls.ensures.enough in
+    let pieces = c.in_ok-pieces.pieces.items in
+    let sorted = c.sort.new.pieces.items in
+    let runs = c.in_ok-runs.runs.items in
+    let ascend = are-ascending image layout body counts c.args.delta ready lacks lacks_is allowed enough pieces sorted
+    c.in_ok-pieces.ensures c.in_ok-sort.ensures.permutation c.in_ok-sort.ensures.order in
+    let are : AreRuns sorted runs =
+    subst (λ l. AreRuns l runs) c.deref.ensures.value
+    (c.in_ok-runs.ensures (subst AreAscending (sym c.deref.ensures.value) ascend)) in
+    let named : IsRefusedByFrames image layout c.in_err-check_runs.field-0.0 =
+    runs-refused image layout body counts c.args.delta ready lacks lacks_is allowed enough pieces sorted c.in_ok-pieces.ensures
+    c.in_ok-sort.ensures.permutation c.in_ok-sort.ensures.order runs are
+    c.in_err-check_runs.field-0.0
+    (subst (λ l. IsToldOfRuns lacks l c.in_err-check_runs.field-0.0) c.deref-2.ensures.value c.in_err-check_runs.ensures.refused) in
+    search rules
+
+pub returns-in_err-cells_of-clause-refused : goal.returns-in_err-cells_of-clause-refused
+returns-in_err-cells_of-clause-refused c = λ image layout ready.
+    let body = c.args.body.now in
+    let counts : ℕ → Option ℕ = λ entry. get nat_eq c.args.counts.now entry in
+    let lacks = c.lacks_addresses-lacks.result in
+    let lacks_is = c.lacks_addresses-lacks.ensures in
+    let allowed = c.in_ok-check_accesses.ensures.allowed in
+    let enough = c.in_ok-check_calls.ensures.enough in
+    let pieces = c.in_ok-pieces.pieces.items in
+    let sorted = c.sort.new.pieces.items in
+    let runs = c.in_ok-runs.runs.items in
+    let ascend = are-ascending image layout body counts c.args.delta ready lacks lacks_is allowed enough pieces sorted
+    c.in_ok-pieces.ensures c.in_ok-sort.ensures.permutation c.in_ok-sort.ensures.order in
+    let are : AreRuns sorted runs =
+    subst (λ l. AreRuns l runs) c.deref.ensures.value
+    (c.in_ok-runs.ensures (subst AreAscending (sym c.deref.ensures.value) ascend)) in
+    let named : IsRefusedByFrames image layout c.in_err-cells_of.field-0.0 =
+    cells-refused image layout body counts c.args.delta ready lacks lacks_is allowed enough pieces sorted c.in_ok-pieces.ensures
+    c.in_ok-sort.ensures.permutation c.in_ok-sort.ensures.order runs are
+    c.in_err-cells_of.field-0.0
+    (subst (λ l. IsOverfull (cells_from l) c.in_err-cells_of.field-0.0) c.deref-5.ensures.value c.in_err-cells_of.ensures.refused) in
+    search rules
+
+pub returns-clause-frame : goal.returns-clause-frame
+returns-clause-frame c = λ image layout ready.
+    let body = c.args.body.now in
+    let counts : ℕ → Option ℕ = λ entry. get nat_eq c.args.counts.now entry in
+    let lacks = c.lacks_addresses-lacks.result in
+    let lacks_is = c.lacks_addresses-lacks.ensures in
+    let allowed = c.in_ok-check_accesses.ensures.allowed in
+    let enough = c.in_ok-check_calls.ensures.enough in
+    let pieces = c.in_ok-pieces.pieces.items in
+    let sorted = c.sort.new.pieces.items in
+    let runs = c.in_ok-runs.runs.items in
+    let ascend = are-ascending image layout body counts c.args.delta ready lacks lacks_is allowed enough pieces sorted
+    c.in_ok-pieces.ensures c.in_ok-sort.ensures.permutation c.in_ok-sort.ensures.order in
+    let are : AreRuns sorted runs =
+    subst (λ l. AreRuns l runs) c.deref.ensures.value
+    (c.in_ok-runs.ensures (subst AreAscending (sym c.deref.ensures.value) ascend)) in
+    let none : All (λ (run : Piece). long_user lacks run ≡ None) runs =
+    subst (All (λ (run : Piece). long_user lacks run ≡ None)) c.deref-2.ensures.value c.in_ok-check_runs.ensures.none in
+    let starts : c.deref-6.result.now ≡ starts_of body.steps.items runs =
+    c.deref-6.ensures.value ∙ c.in_ok-starts.ensures ∙ ap (λ l. starts_of l c.deref-4.result.now) c.deref-3.ensures.value
+    ∙ ap (starts_of body.steps.items) c.deref-4.ensures.value in
+    frame-told image layout body counts c.args.delta ready lacks lacks_is allowed enough pieces sorted c.in_ok-pieces.ensures
+    c.in_ok-sort.ensures.permutation c.in_ok-sort.ensures.order runs are
+    none (record { framed = body.framed; args = body.args; cells = c.in_ok-cells_of.field-0; exposed = c.exposed.result }) refl refl
+    (c.in_ok-cells_of.ensures.cells ∙ ap cells_from c.deref-5.ensures.value) c.in_ok-cells_of.ensures.few
+    (subst (λ l. All IsNear l → IsLocalBy l c.exposed.result.local) starts c.exposed.ensures.local)
+    (subst (λ l. All IsNear l → IsArgumentBy l c.exposed.result.arg) starts c.exposed.ensures.argument)

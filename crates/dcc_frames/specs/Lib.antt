@@ -1,0 +1,12 @@
+pub mod Bytes
+pub mod Used
+pub mod Steps
+pub mod Arguments
+pub mod Body
+pub mod Inside
+pub mod Pieces
+pub mod Runs
+pub mod CellLists
+pub mod Starts
+pub mod Ready
+pub mod Frames

@@ -1,0 +1,16 @@
+//! The frames of procedures: their arguments, their cells, and the bytes whose address may be computed.
+#![tactic(auto)]
+
+mod access;
+mod arguments;
+mod body;
+mod bytes;
+mod cell;
+mod exposed;
+mod frames;
+mod joined;
+mod memory;
+mod pieces;
+mod steps;
+
+pub use frames::cells;
