@@ -1,5 +1,5 @@
 -- The text of a loaded program, from its parts.
-use Rattle.std.proofs.Common.{◌≡◌, [], Result, Ok, Err, IfOk, sym, subst, arith}
+use Rattle.std.proofs.Common.{◌≡◌, ℕ, ◌<◌, List, [], Result, Ok, Err, IfOk, sym, subst, arith}
 use Rattle.std.specs.Prelude.{All}
 use Rattle.std.specs.declared.alloc.AllocError.{AllocError}
 use Rattle.std.proofs.lemmas.List.Elements.{All-head}
@@ -7,6 +7,8 @@ use Rattle.dcc_prog.specs.declared.image.Image.{Image}
 use Rattle.dcc_prog.specs.declared.procedure.Layout.{Layout}
 use Rattle.dcc_prog.specs.declared.frame.Program.{Program}
 use Rattle.dcc_prog.specs.Analysed.{IsProgramOf}
+use Rattle.dcc_prog.specs.Watch.{IsClean}
+use Rattle.dcc_prog.proofs.LayoutLaws.{layout-once}
 use Rattle.dcc_ir.specs.Tree as inner
 use Rattle.dcc_ir.specs.Use.{graph_exprs}
 use Rattle.dcc_lift.specs.Lifted.{IsLifted, IsLiftOf, IsShallow}
@@ -44,10 +46,16 @@ module _ (image : Image) (program : Program) (p : inner.Program) (is : IsProgram
   lifted-stands : StandsFor (written_form (goto_tree p)) (numbered (goto_tree p))
   lifted-stands = writable_stands (goto_tree p) lifted-writable
 
+  -- each run of the image is clean, for it has one layout
+  lifted-clean : (input : List ℕ) (n : ℕ) → All (λ b. b < 256) input → IsClean layout.cpu image input n
+  lifted-clean input n bytes other is_other =
+      lifted.clean other input n (layout-once image layout other.layout is_other.runs_on is.layout is_other.layout) bytes
+
   -- and it agrees with the image
   pub lifted-text : IsTextOf layout.cpu image (written_form (goto_tree p)) (numbered (goto_tree p))
   lifted-text = record {
     stands = lifted-stands;
+    clean = lifted-clean;
     runs = λ input fill bytes fits. text-agrees image program of.start p is lifted (written_form (goto_tree p)) lifted-stands input fill bytes fits;
   }
 
