@@ -39,3 +39,4 @@ mod LayoutExamples
 mod FrameExamples
 mod AccessExamples
 mod CleanExamples
+pub mod WatchedAlike

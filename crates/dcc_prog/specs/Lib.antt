@@ -32,3 +32,4 @@ pub mod MemoryLaws
 pub mod LocationLaws
 pub mod AlikeLaws
 pub mod RunLaws
+pub mod WatchedAlike

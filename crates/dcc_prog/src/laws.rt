@@ -6,6 +6,7 @@ ghost use Rattle.dcc_prog.specs.StateForm.{StartsAreStates, StepsKeepStates};
 ghost use Rattle.dcc_prog.specs.AlikeLaws.{WhatIsMadeAlikeIsAlike, WhatIsUsedAlikeShowsAlike, OneLocationChangesWhatIsMadeOfIt};
 ghost use Rattle.dcc_prog.specs.LocationLaws.{WhatIsNotWrittenStays};
 ghost use Rattle.dcc_prog.specs.CleanLaws.{FrontsOfCleanRunsAreClean, WhatUsesNoStackIsClean, SpIsAsTold, StoredBytesAreMarked};
+ghost use Rattle.dcc_prog.specs.WatchedAlike.{ProgramsWatchAlike};
 ghost use Rattle.dcc_prog.specs.MemoryLaws.{StepsActByAccesses, MemoryChangesAtWritesAlone, BytesAreAlikeOrLeft, AccessesDependOnReads};
 
 /// The accesses of an operation tell what its step takes from memory and does to it, and with the instruction's bytes
@@ -94,4 +95,9 @@ pub fn sp_is_as_told()
 /// them behind.
 pub fn stored_bytes_are_marked()
     ensures { StoredBytesAreMarked }
+{}
+
+/// Programs of one image watch its runs alike: a run that one of them finds clean is clean.
+pub fn programs_watch_alike()
+    ensures { ProgramsWatchAlike }
 {}
