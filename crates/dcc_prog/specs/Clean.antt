@@ -143,7 +143,8 @@ or_else (Some foul) other = Some foul
 abbrev pub low_of : Layout → ℤ → Option ℕ
 low_of layout sp = if is_low layout sp then Some (wrapped_of word_width (sp +ℤ pos layout.delta)) else None
 
--- the first byte that an access touches and no frame exposes, but for accesses of the stack and of frames
+-- the first byte that an access touches and that the frame which holds it doesn't expose, or no frame holds, but for
+-- accesses of the stack and of frames
 abbrev pub hidden_of : Program → Stack → State → List Access → Option ℕ
 hidden_of program stack s list =
     find (λ offset. not (is_exposed_byte program (top_in program.layout s) stack.frames offset))
