@@ -1,5 +1,5 @@
 -- Laws of what blocks read before they write it, of the places of a list, and of loops over lists.
-use Rattle.std.proofs.Common.{◌≡◌, ◌≢◌, ℕ, zero, suc, ◌+◌, ◌<◌, ◌≤◌, Bool, true, false, cond, ◌&&◌, ◌||◌, not, ◌⊎◌, inl, inr, List, [], ◌∷◌, ◌++◌, length, get_or, slice_get, slice_set, map, take, drop, flat_map, replicate, Some, None, refl, sym, ap, ap₂, ◌∙◌, subst, true≢false, arith, Contains, append_assoc}
+use Rattle.std.proofs.Common.{◌≡◌, ◌≢◌, ℕ, zero, suc, ◌+◌, ◌-◌, ◌<◌, ◌≤◌, Bool, true, false, cond, ◌&&◌, ◌||◌, not, ◌⊎◌, inl, inr, List, [], ◌∷◌, ◌++◌, length, get_or, slice_get, slice_set, map, take, drop, flat_map, replicate, Some, None, refl, sym, ap, ap₂, ◌∙◌, subst, true≢false, arith, Contains, append_assoc}
 use Rattle.std.specs.Prelude.{if◌then◌else◌, nat_lt, filter, All}
 use Rattle.std.specs.List.{list_any}
 use Rattle.std.proofs.lemmas.Bool.{cases_eq, cases_lt}
@@ -255,3 +255,9 @@ pub rows_listed : (rows : List Row) (places : List Loc) (has : Loc → Bool) →
 rows_listed rows places has listed all =
     All-weaker (λ (r : Row). All (λ (x : Loc). has x ≡ true) r.first) (λ (r : Row). All (Contains places) r.first)
     (λ r known. All-weaker (λ x. has x ≡ true) (Contains places) listed r.first known) rows all
+
+-- the last of the first elements of a list begins the rest
+pub drop_last : {A : Type 0} (xs : List A) (at : ℕ) (a : A) → 0 < at → at ≤ length xs → a ≡ get_or xs (at - 1) a → drop (at - 1) xs ≡ a ∷ drop at xs
+drop_last xs at a some le read =
+    let more : (at - 1) + 1 ≡ at = omega (arith, some) in
+    drop_more xs (at - 1) a (omega (arith, some, le)) ∙ ap₂ (λ x k. x ∷ drop k xs) (sym read) more

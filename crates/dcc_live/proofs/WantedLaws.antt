@@ -48,7 +48,7 @@ read_tested (Ret values) l c = c
 read_tested Stop l c = c
 
 -- only other statements use
-uses_plain : (stmt : Stmt) (l : Loc) → Contains (uses_of stmt) l → is_assignment stmt ≡ false
+pub uses_plain : (stmt : Stmt) (l : Loc) → Contains (uses_of stmt) l → is_assignment stmt ≡ false
 uses_plain (Set x e) l c = absurd (Contains-none l c)
 uses_plain (Fetch x width address) l c = absurd (Contains-none l c)
 uses_plain (Store width address e) l c = refl
@@ -59,12 +59,12 @@ uses_plain (Dos number place argument) l c = refl
 -- Sets.
 
 -- an element that passes a test, and one that is wanted
-any_passes : (p : Loc → Bool) (xs : List Loc) (l : Loc) → Contains xs l → p l ≡ true → list_any p xs ≡ true
+pub any_passes : (p : Loc → Bool) (xs : List Loc) (l : Loc) → Contains xs l → p l ≡ true → list_any p xs ≡ true
 any_passes p [] l c t = absurd (Contains-none l c)
 any_passes p (x ∷ xs) l c t = Contains-cases x xs l (list_any p (x ∷ xs) ≡ true)
     (λ e. or_left (p x) (list_any p xs) (ap p e ∙ t)) (λ d. or_right (p x) (list_any p xs) (any_passes p xs l d t)) c
 
-some_passes : (p : Loc → Bool) (xs : List Loc) → list_any p xs ≡ true → (l : Loc) × Contains xs l × (p l ≡ true)
+pub some_passes : (p : Loc → Bool) (xs : List Loc) → list_any p xs ≡ true → (l : Loc) × Contains xs l × (p l ≡ true)
 some_passes p [] e = absurd (true≢false (sym e))
 some_passes p (x ∷ xs) e = elim (or_cases (p x) (list_any p xs) e) [
   | inl t ↦ (x, Contains-here x xs, t)
@@ -72,12 +72,12 @@ some_passes p (x ∷ xs) e = elim (or_cases (p x) (list_any p xs) e) [
 ]
 
 -- whether an assignment stays, by whether it is one and whether what it writes is wanted
-staying : (assigns wanted : Bool) → not (assigns && not wanted) ≡ true → (assigns ≡ false) ⊎ (wanted ≡ true)
+pub staying : (assigns wanted : Bool) → not (assigns && not wanted) ≡ true → (assigns ≡ false) ⊎ (wanted ≡ true)
 staying true true e = inr refl
 staying true false e = absurd (true≢false (sym e))
 staying false wanted e = inl refl
 
-going : (assigns wanted : Bool) → not (assigns && not wanted) ≡ false → wanted ≡ false
+pub going : (assigns wanted : Bool) → not (assigns && not wanted) ≡ false → wanted ≡ false
 going true true e = absurd (true≢false e)
 going true false e = refl
 going false wanted e = absurd (true≢false e)
@@ -179,6 +179,10 @@ module _ (graph : Graph) (block : Block) where
   sound_before has [] sound = sound
   sound_before has (stmt ∷ rest) sound = step_sound stmt rest (before_all (map access_of rest) has) (sound_before has rest sound)
 
+-- what is wanted before the last statements of a block
+abbrev before_rest : List Stmt → Exit → List Loc → List Bool → Loc → Bool
+before_rest rest exit places bits = before_all (map access_of rest) (after_stmts places bits (flat_map reads_of (exit_exprs exit)))
+
 -- what is wanted before a block is read first there, or selected after it
 pub before_known : (stmts : List Stmt) (exit : Exit) (places : List Loc) (bits : List Bool) (x : Loc) →
     before_all (map access_of stmts) (after_stmts places bits (flat_map reads_of (exit_exprs exit))) x ≡ true → (reads_first stmts exit x ≡ true) ⊎ Contains (selected places bits) x
@@ -186,7 +190,9 @@ before_known [] exit places bits x t = elim (or_cases (is_among (flat_map reads_
   | inl r ↦ inl r
   | inr s ↦ elim (or_cases (is_among (selected places bits) x) false s) [ inl c ↦ inr (among_contains (selected places bits) x c) | inr f ↦ absurd (true≢false (sym f)) ]
 ]
-before_known (stmt ∷ rest) exit places bits x t = elim (decided (stays (access_of stmt) W)) [
+before_known (stmt ∷ rest) exit places bits x t =
+    let W = before_rest rest exit places bits in
+    elim (decided (stays (access_of stmt) W)) [
   | inl e ↦ elim (or_cases (is_among (flat_map reads_of (exprs_of stmt)) x) (not (is_among (writes_of stmt) x) && W x) (sym (before_staying (access_of stmt) W x e) ∙ t)) [
     | inl r ↦ inl (or_left (is_among (flat_map reads_of (exprs_of stmt)) x) (not (is_among (writes_of stmt) x) && reads_first rest exit x) r)
     | inr on ↦ let parts = and_parts (not (is_among (writes_of stmt) x)) (W x) on in later parts.0 (before_known rest exit places bits x parts.1)
@@ -197,9 +203,6 @@ before_known (stmt ∷ rest) exit places bits x t = elim (decided (stays (access
       (before_known rest exit places bits x on)
 ]
   where
-    abbrev W : Loc → Bool
-    W = before_all (map access_of rest) (after_stmts places bits (flat_map reads_of (exit_exprs exit)))
-
     later : not (is_among (writes_of stmt) x) ≡ true → (reads_first rest exit x ≡ true) ⊎ Contains (selected places bits) x → (reads_first (stmt ∷ rest) exit x ≡ true) ⊎ Contains (selected places bits) x
     later out (inl r) = inl (or_right (is_among (flat_map reads_of (exprs_of stmt)) x) (not (is_among (writes_of stmt) x) && reads_first rest exit x) (and_from (not (is_among (writes_of stmt) x)) (reads_first rest exit x) out r))
     later out (inr s) = inr s

@@ -1,6 +1,6 @@
 //! Assignments to locations that are not wanted after them.
 
-ghost use Rattle.std.specs.Prelude.{◌≡◌, ◌<◌, [], length, get_or, map, All, IfOk, OnOk};
+ghost use Rattle.std.specs.Prelude.{◌≡◌, ◌<◌, [], ◌∷◌, ◌++◌, if◌then◌else◌, length, get_or, map, All, IfOk, OnOk};
 ghost use Rattle.dcc_ir.specs.Views.{stmt_of, block_of, graph_of, live_of};
 ghost use Rattle.dcc_ir.specs.WellFormed.{IsGraph};
 ghost use Rattle.dcc_ir.specs.Live.{IsLive};
@@ -20,6 +20,16 @@ use std::alloc::{AllocError, Global};
 use std::marker::Brand;
 use std::sync::ledger::{Blank, Ledger};
 
+// Puts a statement that stays at the end of a list.
+fn put(left: &mut Vec<Stmt>, stmt: Stmt, staying: bool) -> Result<(), AllocError>
+    ensures { OnOk result (left.new.items ≡ (if staying then left.old.items ++ stmt ∷ [] else left.old.items)) }
+{
+    if staying {
+        left.push(stmt)?;
+    }
+    Ok(())
+}
+
 // The statements without the assignments to what is not wanted after them; the set has what is wanted after the last.
 fn stmts_left(
     alloc: Global,
@@ -33,9 +43,8 @@ fn stmts_left(
     let mut rest = stmts;
     let mut left = Vec::new(alloc);
     while let Some(stmt) = rest.pop() {
-        if pass(marks, &accesses[rest.len()])? {
-            left.push(stmt)?;
-        }
+        let staying = pass(marks, &accesses[rest.len()])?;
+        put(&mut left, stmt, staying)?;
     }
     left.reverse();
     Ok(left)
@@ -88,11 +97,14 @@ fn blocks_left(
         ≡ blocks_left wanted.now.places.items wanted.now.at_end.items (map block_of blocks.items)) }
 {
     let mut marks = Marks::new(alloc);
+    let mut rest = blocks;
     let mut left = Vec::new(alloc);
-    for block in blocks {
-        let place = left.len();
-        left.push(block_left(alloc, &mut marks, wanted, place, &accesses[place], block)?)?;
+    while let Some(block) = rest.pop() {
+        let place = rest.len();
+        let staying = block_left(alloc, &mut marks, wanted, place, &accesses[place], block)?;
+        left.push(staying)?;
     }
+    left.reverse();
     Ok(left)
 }
 

@@ -81,14 +81,15 @@ fn live_bits<L: Ledger>(
     let mut steps = Steps::<L>::new(blank);
     let table = table_of(alloc, places, rows, &mut steps)?;
     let next = successors(alloc, g)?;
-    solve(
+    let answer = solve(
         alloc,
         &next,
         &table.used,
         &table.written,
         places.len(),
         &mut steps,
-    )
+    )?;
+    Ok(answer)
 }
 
 // The locations that each of these selects.
@@ -109,9 +110,11 @@ pub fn live(alloc: Global, g: &Graph, _sums: &Sums) -> Result<Live, AllocError>
     requires { IsGraph (graph_of g.now) }
     ensures { IfOk result (λ l. IsLive (graph_of g.now) (live_of l)) }
 {
-    let rows = rows(alloc, &accesses(alloc, g)?)?;
+    let blocks = accesses(alloc, g)?;
+    let rows = rows(alloc, &blocks)?;
     let places = places(alloc, &rows)?;
-    let bits = live_bits::<Brand>(alloc, Blank::new(1), g, places.as_slice(), &rows)?;
-    let at_end = all_selected(alloc, places.as_slice(), &bits)?;
+    let slice = places.as_slice();
+    let bits = live_bits::<Brand>(alloc, Blank::new(1), g, slice, &rows)?;
+    let at_end = all_selected(alloc, slice, &bits)?;
     Ok(Live { at_end })
 }

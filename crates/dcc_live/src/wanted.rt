@@ -3,14 +3,12 @@
 ghost use Rattle.std.specs.Prelude.{◌≡◌, ◌<◌, [], length, get_or, map, All, Contains, IfOk, OnOk};
 ghost use Rattle.dcc_ir.specs.Views.{graph_of};
 ghost use Rattle.dcc_ir.specs.WellFormed.{IsGraph};
-ghost use Rattle.dcc_flow.specs.Edges.{rows, successors_of, ArePredecessors};
 ghost use Rattle.dcc_live.specs.Access.{access_in, block_access_in, accesses_of};
 ghost use Rattle.dcc_live.specs.Marks.{empty, members};
-ghost use Rattle.dcc_ir.specs.Tree.{Graph as Tree};
 ghost use Rattle.dcc_live.specs.First.{row_of, Tells};
 ghost use Rattle.dcc_live.specs.Wanted.{stays, before_one, before_all, after_stmts, before_block};
 ghost use Rattle.dcc_flow.specs.Bits.{flowed};
-ghost use Rattle.dcc_flow.specs.Work.{first_work, with_answer, spread};
+ghost use Rattle.dcc_flow.specs.Work.{first_work, with_queued, with_answer, spread};
 ghost use Rattle.dcc_live.specs.Work.{work_of, AreWantedAtEnds};
 
 use crate::access::{Access, BlockAccess};
@@ -64,7 +62,9 @@ pub fn begin(
 fn pass_all(marks: &mut Marks, stmts: &[Access]) -> Result<(), AllocError>
     ensures { OnOk result (members marks.new ≡ before_all (map access_in stmts.now) (members marks.old)) }
 {
-    for at in (0..stmts.len()).rev() {
+    let mut at = stmts.len();
+    while at > 0 {
+        at -= 1;
         pass(marks, &stmts[at])?;
     }
     Ok(())
@@ -121,6 +121,18 @@ impl Work {
         })
     }
 
+    // What is known at the end of the block has to flow on.
+    fn queue(&mut self, block: usize) -> Result<(), AllocError>
+        requires { block < length self.old.queued.items }
+        ensures { OnOk result (work_of self.new ≡ with_queued (work_of self.old) block) }
+    {
+        if !self.queued[block] {
+            self.queued[block] = true;
+            self.pending.push(block)?;
+        }
+        Ok(())
+    }
+
     // These places are wanted at the end of the block.
     fn want<L: Ledger>(
         &mut self,
@@ -130,15 +142,13 @@ impl Work {
     ) -> Result<(), AllocError>
         requires block { block < length self.old.at_end.items }
         requires queued { length self.old.queued.items ≡ length self.old.at_end.items }
-        requires len { length start.now ≡ length (get_or self.old.at_end.items block []) }
+        requires len { length (get_or self.old.at_end.items block []) ≡ length start.now }
         ensures { OnOk result (work_of self.new ≡ with_answer (work_of self.old) block
             (flowed (get_or self.old.at_end.items block []) start.now start.now start.now)) }
     {
         let at_end = &mut self.at_end[block];
-        let changed = at_end.flow(start, start, start, steps);
-        if changed && !self.queued[block] {
-            self.queued[block] = true;
-            self.pending.push(block)?;
+        if at_end.flow(start, start, start, steps) {
+            self.queue(block)?;
         }
         Ok(())
     }
@@ -171,21 +181,20 @@ pub struct WantedEnds {
     pub at_end: Vec<Bits>,
 }
 
-// Which of these places are wanted at the end of each block.
+// Which of these locations are wanted at the end of each block.
 fn solved<L: Ledger>(
     alloc: Global,
+    g: &Graph,
     places: &[Loc],
-    sources: &Vec<Vec<u32>>,
     blocks: &Vec<BlockAccess>,
     steps: &mut Steps<L>,
 ) -> Result<Vec<Bits>, AllocError>
-    ghost graph: { Tree }
-    requires graph { IsGraph graph }
-    requires blocks { map block_access_in blocks.now.items ≡ accesses_of graph }
-    requires sources { ArePredecessors (successors_of graph) (rows sources.now.items) }
-    requires places { All (λ row. All (Contains places.now) row.first) (map row_of (accesses_of graph)) }
-    ensures { IfOk result (λ at_end. AreWantedAtEnds graph places.now at_end.items) }
+    requires graph { IsGraph (graph_of g.now) }
+    requires blocks { map block_access_in blocks.now.items ≡ accesses_of (graph_of g.now) }
+    requires places { All (λ row. All (Contains places.now) row.first) (map row_of (accesses_of (graph_of g.now))) }
+    ensures { IfOk result (λ at_end. AreWantedAtEnds (graph_of g.now) places.now at_end.items) }
 {
+    let sources = preds(alloc, g)?;
     let mut marks = Marks::new(alloc);
     let mut work = Work::new(alloc, blocks.len(), places.len())?;
     while let Some(block) = work.pending.pop() {
@@ -214,8 +223,8 @@ pub fn wanted_at_ends<L: Ledger>(
     requires blocks { map block_access_in blocks.now.items ≡ accesses_of (graph_of g.now) }
     ensures { IfOk result (λ w. AreWantedAtEnds (graph_of g.now) w.places.items w.at_end.items) }
 {
-    let places = places(alloc, &rows(alloc, blocks)?)?;
-    let sources = preds(alloc, g)?;
-    let at_end = solved(alloc, places.as_slice(), &sources, blocks, steps)?;
+    let rows = rows(alloc, blocks)?;
+    let places = places(alloc, &rows)?;
+    let at_end = solved(alloc, g, places.as_slice(), blocks, steps)?;
     Ok(WantedEnds { places, at_end })
 }

@@ -125,7 +125,7 @@ module _ (family : Family) (g g' : Graph) (h : IsGraphWithout family g g') where
       subst (λ bits. is_block bits count b' ≡ true) (sym h.bits)
       (ap₂ (λ x y. x && y) (passes_staying (family b) (is_stmt g.bits) b.stmts b'.stmts pair.stmts parts.0) (ap (is_exit g.bits count) pair.exit ∙ parts.1))
 
-  graph_still : IsGraph g → IsGraph g'
+  pub graph_still : IsGraph g → IsGraph g'
   graph_still is = record {
     begins = subst (λ n. 0 < n) (sym blocks_long) is.begins;
     entry = subst (λ n. n < 65536) (sym h.entry) is.entry;
