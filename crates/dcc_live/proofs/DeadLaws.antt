@@ -213,17 +213,17 @@ stmt_here all rest rest' stmt is le front =
     let on = last_of stmt_of rest' stmt all (subst (λ r. map stmt_of r ≡ take (length r) all) is front) (subst (λ r. length r ≤ length all) is le) in
     (on.0, on.1 ∙ ap (λ r. stmt_of stmt ∷ drop (length r) all) (sym is))
 
-pub stmt_step : (all : List Stmt) (m0 m : Loc → Bool) (rest rest' : List Statement) (stmt : Statement) (left left' : List Statement) (b : Bool) → rest ≡ rest' ++ stmt ∷ [] → length rest ≤ length all →
-    map stmt_of rest ≡ take (length rest) all → map stmt_of (reverse left) ≡ left_of (drop (length rest) all) m0 → m ≡ before_all (map access_of (drop (length rest) all)) m0 → b ≡ stays (access_of (stmt_of stmt)) m →
-    left' ≡ (if b then left ++ stmt ∷ [] else left) → map stmt_of (reverse left') ≡ left_of (drop (length rest') all) m0
-stmt_step all m0 m rest rest' stmt left left' b is le front so marks told put =
+pub stmt_step : (all : List Stmt) (m0 m : Loc → Bool) (rest rest' : List Statement) (stmt : Statement) (done_so done_now : List Statement) (b : Bool) → rest ≡ rest' ++ stmt ∷ [] → length rest ≤ length all →
+    map stmt_of rest ≡ take (length rest) all → map stmt_of (reverse done_so) ≡ left_of (drop (length rest) all) m0 → m ≡ before_all (map access_of (drop (length rest) all)) m0 → b ≡ stays (access_of (stmt_of stmt)) m →
+    done_now ≡ (if b then done_so ++ stmt ∷ [] else done_so) → map stmt_of (reverse done_now) ≡ left_of (drop (length rest') all) m0
+stmt_step all m0 m rest rest' stmt done_so done_now b is le front so marks told put =
     let on = stmt_here all rest rest' stmt is le front in
     let D = drop (length rest) all in
     ap (λ l. map stmt_of (reverse l)) put ∙ go b so ∙ sym (left_step D (stmt_of stmt) m0 m b marks told) ∙ sym (ap (λ l. left_of l m0) on.1)
   where
-    go : (b : Bool) → map stmt_of (reverse left) ≡ left_of (drop (length rest) all) m0 →
-        map stmt_of (reverse (if b then left ++ stmt ∷ [] else left)) ≡ (if b then stmt_of stmt ∷ left_of (drop (length rest) all) m0 else left_of (drop (length rest) all) m0)
-    go true so = reversed_push stmt_of left stmt ∙ ap (λ l. stmt_of stmt ∷ l) so
+    go : (b : Bool) → map stmt_of (reverse done_so) ≡ left_of (drop (length rest) all) m0 →
+        map stmt_of (reverse (if b then done_so ++ stmt ∷ [] else done_so)) ≡ (if b then stmt_of stmt ∷ left_of (drop (length rest) all) m0 else left_of (drop (length rest) all) m0)
+    go true so = reversed_push stmt_of done_so stmt ∙ ap (λ l. stmt_of stmt ∷ l) so
     go false so = so
 
 pub block_here : (all : List Block) (rest rest' : List BlockOf) (block : BlockOf) → rest ≡ rest' ++ block ∷ [] → length rest ≤ length all → map block_of rest ≡ take (length rest) all →
@@ -232,11 +232,11 @@ block_here all rest rest' block is le front =
     let on = last_of block_of rest' block all (subst (λ r. map block_of r ≡ take (length r) all) is front) (subst (λ r. length r ≤ length all) is le) in
     (on.0, on.1 ∙ ap (λ r. block_of block ∷ drop (length r) all) (sym is))
 
-pub block_step : (places : List Loc) (at_end : List (List Bool)) (all : List Block) (rest rest' : List BlockOf) (block : BlockOf) (left : List BlockOf) (new : BlockOf) → rest ≡ rest' ++ block ∷ [] → length rest ≤ length all →
-    length at_end ≡ length all → map block_of rest ≡ take (length rest) all → map block_of (reverse left) ≡ blocks_left places (drop (length rest) at_end) (drop (length rest) all) →
-    block_of new ≡ block_left places (get_or at_end (length rest') []) (block_of block) → map block_of (reverse (left ++ new ∷ [])) ≡ blocks_left places (drop (length rest') at_end) (drop (length rest') all)
-block_step places at_end all rest rest' block left new is le size front so made =
+pub block_step : (places : List Loc) (at_end : List (List Bool)) (all : List Block) (rest rest' : List BlockOf) (block : BlockOf) (done_so : List BlockOf) (new : BlockOf) → rest ≡ rest' ++ block ∷ [] → length rest ≤ length all →
+    length at_end ≡ length all → map block_of rest ≡ take (length rest) all → map block_of (reverse done_so) ≡ blocks_left places (drop (length rest) at_end) (drop (length rest) all) →
+    block_of new ≡ block_left places (get_or at_end (length rest') []) (block_of block) → map block_of (reverse (done_so ++ new ∷ [])) ≡ blocks_left places (drop (length rest') at_end) (drop (length rest') all)
+block_step places at_end all rest rest' block done_so new is le size front so made =
     let on = block_here all rest rest' block is le front in
     let more : length rest ≡ length rest' + 1 = ap length is ∙ length_push rest' block in
     let ends = drop_more at_end (length rest') [] (omega (arith, size, le, more)) ∙ ap (λ n. get_or at_end (length rest') [] ∷ drop n at_end) (sym more) in
-    reversed_push block_of left new ∙ ap₂ (λ b bs. b ∷ bs) made so ∙ sym (ap₂ (blocks_left places) ends on.1)
+    reversed_push block_of done_so new ∙ ap₂ (λ b bs. b ∷ bs) made so ∙ sym (ap₂ (blocks_left places) ends on.1)
