@@ -20,7 +20,7 @@ use Rattle.dcc_flow.proofs.WordLaws.{same_lists}
 
 -- Lists of truth values.
 
-flowed_at : (bits used out written : List Bool) (i : ℕ) → i < length bits → bit (flowed bits used out written) i ≡ (bit bits i || bit used i || (bit out i && not (bit written i)))
+pub flowed_at : (bits used out written : List Bool) (i : ℕ) → i < length bits → bit (flowed bits used out written) i ≡ (bit bits i || bit used i || (bit out i && not (bit written i)))
 flowed_at bits used out written i h =
     get_or-map-range_with_len (λ k. bit bits k || bit used k || (bit out k && not (bit written k))) 0 (length bits) i i false h (omega arith)
 
@@ -28,7 +28,7 @@ pub length_flowed_bits : (bits used out written : List Bool) → length (flowed 
 length_flowed_bits bits used out written = length-map-range_with_len (λ k. bit bits k || bit used k || (bit out k && not (bit written k))) 0 (length bits)
 
 -- a place that holds true is one of the list
-within : (bits : List Bool) (i : ℕ) → bit bits i ≡ true → i < length bits
+pub within : (bits : List Bool) (i : ℕ) → bit bits i ≡ true → i < length bits
 within bits i h = elim (cases_lt i (length bits)) [ inl inside ↦ inside | inr past ↦ absurd (false≢true (sym (get_or_past bits i false past) ∙ h)) ]
 
 flowed_cases : (bits used out written : List Bool) (i : ℕ) → bit (flowed bits used out written) i ≡ true
@@ -57,18 +57,18 @@ truths [] = 0
 truths (true ∷ xs) = suc (truths xs)
 truths (false ∷ xs) = truths xs
 
-truths_le_length : (xs : List Bool) → truths xs ≤ length xs
+pub truths_le_length : (xs : List Bool) → truths xs ≤ length xs
 unfolding truths
 truths_le_length [] = omega arith
 truths_le_length (true ∷ xs) = let rec = truths_le_length xs in omega (arith, rec)
 truths_le_length (false ∷ xs) = let rec = truths_le_length xs in omega (arith, rec)
 
-no_truths : (n : ℕ) → truths (replicate n false) ≡ 0
+pub no_truths : (n : ℕ) → truths (replicate n false) ≡ 0
 unfolding truths
 no_truths zero = refl
 no_truths (suc n) = no_truths n
 
-truths_grow : (xs ys : List Bool) → length xs ≡ length ys → ((i : ℕ) → bit xs i ≡ true → bit ys i ≡ true) → truths xs ≤ truths ys
+pub truths_grow : (xs ys : List Bool) → length xs ≡ length ys → ((i : ℕ) → bit xs i ≡ true → bit ys i ≡ true) → truths xs ≤ truths ys
 unfolding truths
 truths_grow [] ys e h = omega arith
 truths_grow (x ∷ xs) [] e h = absurd (omega arith)
@@ -77,7 +77,7 @@ truths_grow (true ∷ xs) (false ∷ ys) e h = absurd (false≢true (h 0 refl))
 truths_grow (false ∷ xs) (true ∷ ys) e h = let rec = truths_grow xs ys (omega arith) (λ i t. h (suc i) t) in omega (arith, rec)
 truths_grow (false ∷ xs) (false ∷ ys) e h = truths_grow xs ys (omega arith) (λ i t. h (suc i) t)
 
-truths_more : (xs ys : List Bool) → length xs ≡ length ys → ((i : ℕ) → bit xs i ≡ true → bit ys i ≡ true) → differ xs ys ≡ true → truths xs + 1 ≤ truths ys
+pub truths_more : (xs ys : List Bool) → length xs ≡ length ys → ((i : ℕ) → bit xs i ≡ true → bit ys i ≡ true) → differ xs ys ≡ true → truths xs + 1 ≤ truths ys
 unfolding truths
 truths_more [] [] e h d = absurd (false≢true d)
 truths_more [] (y ∷ ys) e h d = absurd (omega arith)

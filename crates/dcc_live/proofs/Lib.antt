@@ -1,0 +1,6 @@
+pub mod MarkLaws
+pub mod RowLaws
+pub mod WantedLaws
+pub mod WorkLaws
+pub mod LiveLaws
+pub mod DeadLaws

@@ -1,0 +1,208 @@
+-- What is wanted, as it flows backwards: through statements, through blocks, and until nothing changes.
+use Rattle.std.proofs.Common.{◌≡◌, ◌≢◌, ℕ, zero, suc, ◌+◌, ◌*◌, ◌<◌, ◌≤◌, Bool, true, false, cond, ◌&&◌, ◌||◌, not, ◌⊎◌, inl, inr, List, [], ◌∷◌, ◌++◌, length, get_or, slice_get, slice_set, map, flat_map, Some, None, refl, sym, ap, ap₂, ◌∙◌, subst, true≢false, arith, Contains}
+use Rattle.std.specs.Prelude.{if◌then◌else◌, ◌==◌, ◌↔◌, All, option_to_list}
+use Rattle.std.specs.List.{list_any}
+use Rattle.std.proofs.lemmas.Bool.{cases_eq, cases_lt, or_cases, or_left, or_right, and_parts, and_from}
+use Rattle.std.proofs.lemmas.List.Elements.{Contains-append_left, Contains-append_right, Contains-append_cases}
+use Rattle.dcc_ir.specs.declared.syntax.Loc.{Loc}
+use Rattle.dcc_ir.specs.Tree.{Expr, Stmt, Set, Fetch, Store, Div, Call, Dos, Exit, Goto, If, Switch, Ret, Stop, Block, Graph}
+use Rattle.dcc_ir.specs.Location.{same_location}
+use Rattle.dcc_ir.specs.Use.{reads_of, exprs_of, writes_of, exit_exprs}
+use Rattle.dcc_ir.specs.Demand.{is_assignment, uses_of, makes_of, tests_of, IsWantedIn, used, made_of, left, tested, goes}
+use Rattle.dcc_ir.specs.Flow.{targets}
+use Rattle.dcc_ir.specs.Live.{is_among, reads_first}
+use Rattle.dcc_ir.specs.Families.{IsClosed}
+use Rattle.dcc_ir.proofs.PathLaws.{decided}
+use Rattle.dcc_ir.proofs.LocationLaws.{location_same, location_itself, among_contains, contains_among, Contains-here, Contains-none, Contains-cases}
+use Rattle.dcc_ir.proofs.FamilyLaws.{uses-read, makes-read, tests-read}
+use Rattle.dcc_live.specs.Access.{Access, access_of, block_access_of}
+use Rattle.dcc_live.specs.Marks.{empty, with_all, without_all, selected}
+use Rattle.dcc_live.specs.Wanted.{stays, before_one, before_all, after_stmts, before_block}
+
+-- What a statement reads, it uses or makes its value of.
+
+read_used : (stmt : Stmt) (l : Loc) → is_assignment stmt ≡ false → Contains (flat_map reads_of (exprs_of stmt)) l → Contains (uses_of stmt) l
+read_used (Set x e) l is c = absurd (true≢false is)
+read_used (Fetch x width address) l is c = absurd (true≢false is)
+read_used (Store width address e) l is c = elim (Contains-append_cases (reads_of address) (reads_of e ++ []) l c) [
+  | inl a ↦ Contains-append_left (reads_of address) (reads_of e) l a
+  | inr b ↦ elim (Contains-append_cases (reads_of e) [] l b) [ inl d ↦ Contains-append_right (reads_of address) (reads_of e) l d | inr n ↦ absurd (Contains-none l n) ]
+]
+read_used (Div x e) l is c = elim (Contains-append_cases (reads_of e) [] l c) [ inl d ↦ d | inr n ↦ absurd (Contains-none l n) ]
+read_used (Call results entry arguments depth) l is c = c
+read_used (Dos number place argument) l is c = c
+
+read_made : (stmt : Stmt) (l : Loc) → is_assignment stmt ≡ true → Contains (flat_map reads_of (exprs_of stmt)) l → Contains (makes_of stmt) l
+read_made (Set x e) l is c = elim (Contains-append_cases (reads_of e) [] l c) [ inl d ↦ d | inr n ↦ absurd (Contains-none l n) ]
+read_made (Fetch x width address) l is c = elim (Contains-append_cases (reads_of address) [] l c) [ inl d ↦ d | inr n ↦ absurd (Contains-none l n) ]
+read_made (Store width address e) l is c = absurd (true≢false (sym is))
+read_made (Div x e) l is c = absurd (true≢false (sym is))
+read_made (Call results entry arguments depth) l is c = absurd (true≢false (sym is))
+read_made (Dos number place argument) l is c = absurd (true≢false (sym is))
+
+pub read_tested : (exit : Exit) (l : Loc) → Contains (flat_map reads_of (exit_exprs exit)) l → Contains (tests_of exit) l
+read_tested (Goto place) l c = c
+read_tested (If test one other) l c = elim (Contains-append_cases (reads_of test) [] l c) [ inl d ↦ d | inr n ↦ absurd (Contains-none l n) ]
+read_tested (Switch e places) l c = elim (Contains-append_cases (reads_of e) [] l c) [ inl d ↦ d | inr n ↦ absurd (Contains-none l n) ]
+read_tested (Ret values) l c = c
+read_tested Stop l c = c
+
+-- only other statements use
+pub uses_plain : (stmt : Stmt) (l : Loc) → Contains (uses_of stmt) l → is_assignment stmt ≡ false
+uses_plain (Set x e) l c = absurd (Contains-none l c)
+uses_plain (Fetch x width address) l c = absurd (Contains-none l c)
+uses_plain (Store width address e) l c = refl
+uses_plain (Div x e) l c = refl
+uses_plain (Call results entry arguments depth) l c = refl
+uses_plain (Dos number place argument) l c = refl
+
+-- Sets.
+
+-- an element that passes a test, and one that is wanted
+pub any_passes : (p : Loc → Bool) (xs : List Loc) (l : Loc) → Contains xs l → p l ≡ true → list_any p xs ≡ true
+any_passes p [] l c t = absurd (Contains-none l c)
+any_passes p (x ∷ xs) l c t = Contains-cases x xs l (list_any p (x ∷ xs) ≡ true)
+    (λ e. or_left (p x) (list_any p xs) (ap p e ∙ t)) (λ d. or_right (p x) (list_any p xs) (any_passes p xs l d t)) c
+
+pub some_passes : (p : Loc → Bool) (xs : List Loc) → list_any p xs ≡ true → (l : Loc) × Contains xs l × (p l ≡ true)
+some_passes p [] e = absurd (true≢false (sym e))
+some_passes p (x ∷ xs) e = elim (or_cases (p x) (list_any p xs) e) [
+  | inl t ↦ (x, Contains-here x xs, t)
+  | inr f ↦ let on = some_passes p xs f in (on.0, (suc on.1.0, omega (arith, on.1.1), on.1.2), on.2)
+]
+
+-- whether an assignment stays, by whether it is one and whether what it writes is wanted
+pub staying : (assigns wanted : Bool) → not (assigns && not wanted) ≡ true → (assigns ≡ false) ⊎ (wanted ≡ true)
+staying true true e = inr refl
+staying true false e = absurd (true≢false (sym e))
+staying false wanted e = inl refl
+
+pub going : (assigns wanted : Bool) → not (assigns && not wanted) ≡ false → wanted ≡ false
+going true true e = absurd (true≢false e)
+going true false e = refl
+going false wanted e = absurd (true≢false e)
+
+stay_plain : (a : Access) (wanted : Loc → Bool) → a.assigns ≡ false → stays a wanted ≡ true
+stay_plain a wanted e = ap (λ b. not (b && not (list_any wanted a.writes))) e
+
+stay_wanted : (a : Access) (wanted : Loc → Bool) → list_any wanted a.writes ≡ true → stays a wanted ≡ true
+stay_wanted a wanted e = ap (λ b. not (a.assigns && not b)) e ∙ all a.assigns
+  where
+    all : (b : Bool) → not (b && false) ≡ true
+    all true = refl
+    all false = refl
+
+-- what is before a statement that stays, and before one that goes
+before_staying : (a : Access) (wanted : Loc → Bool) (l : Loc) → stays a wanted ≡ true → before_one a wanted l ≡ with_all (without_all wanted a.writes) a.reads l
+before_staying a wanted l e = ap (λ b. (if b then with_all (without_all wanted a.writes) a.reads else wanted) l) e
+
+before_going : (a : Access) (wanted : Loc → Bool) (l : Loc) → stays a wanted ≡ false → before_one a wanted l ≡ wanted l
+before_going a wanted l e = ap (λ b. (if b then with_all (without_all wanted a.writes) a.reads else wanted) l) e
+
+reads_before : (a : Access) (wanted : Loc → Bool) (l : Loc) → stays a wanted ≡ true → Contains a.reads l → before_one a wanted l ≡ true
+reads_before a wanted l e c = before_staying a wanted l e ∙ or_left (is_among a.reads l) (not (is_among a.writes l) && wanted l) (contains_among a.reads l c)
+
+unwritten : (xs : List Loc) (l : Loc) → ¬ Contains xs l → is_among xs l ≡ false
+unwritten xs l n = elim (decided (is_among xs l)) [ inl t ↦ absurd (n (among_contains xs l t)) | inr f ↦ f ]
+
+-- what is wanted after a statement that does not write it
+pub passes_before : (a : Access) (wanted : Loc → Bool) (l : Loc) → ¬ Contains a.writes l → wanted l ≡ true → before_one a wanted l ≡ true
+passes_before a wanted l n t = elim (decided (stays a wanted)) [
+  | inl e ↦ before_staying a wanted l e ∙ or_right (is_among a.reads l) (not (is_among a.writes l) && wanted l) (and_from (not (is_among a.writes l)) (wanted l) (ap not (unwritten a.writes l n)) t)
+  | inr e ↦ before_going a wanted l e ∙ t
+]
+
+pub uses_before : (stmt : Stmt) (wanted : Loc → Bool) (l : Loc) → Contains (uses_of stmt) l → before_one (access_of stmt) wanted l ≡ true
+uses_before stmt wanted l c = reads_before (access_of stmt) wanted l (stay_plain (access_of stmt) wanted (uses_plain stmt l c)) (uses-read stmt l c)
+
+pub makes_before : (stmt : Stmt) (wanted : Loc → Bool) (l to : Loc) → Contains (writes_of stmt) to → Contains (makes_of stmt) l → wanted to ≡ true → before_one (access_of stmt) wanted l ≡ true
+makes_before stmt wanted l to w c t =
+    reads_before (access_of stmt) wanted l (stay_wanted (access_of stmt) wanted (any_passes wanted (writes_of stmt) to w t)) (makes-read stmt l c)
+
+-- In a block.
+
+module _ (graph : Graph) (block : Block) where
+  -- the set has just what is wanted before these statements
+  abbrev pub Exactly : (Loc → Bool) → List Stmt → Type 0
+  Exactly has stmts = (x : Loc) → (has x ≡ true) ↔ IsWantedIn graph block stmts x
+
+  step_sound : (stmt : Stmt) (rest : List Stmt) (wanted : Loc → Bool) → ((x : Loc) → wanted x ≡ true → IsWantedIn graph block rest x) → (x : Loc) → before_one (access_of stmt) wanted x ≡ true →
+      IsWantedIn graph block (stmt ∷ rest) x
+  step_sound stmt rest wanted sound x t = elim (decided (stays (access_of stmt) wanted)) [
+    | inl e ↦ elim (or_cases (is_among (flat_map reads_of (exprs_of stmt)) x) (not (is_among (writes_of stmt) x) && wanted x) (sym (before_staying (access_of stmt) wanted x e) ∙ t)) [
+      | inl r ↦
+          let c = among_contains (flat_map reads_of (exprs_of stmt)) x r in
+          elim (decided (is_assignment stmt)) [
+            | inr plain ↦ used (read_used stmt x plain c)
+            | inl is ↦ elim (staying (is_assignment stmt) (list_any wanted (writes_of stmt)) e) [
+              | inl plain ↦ absurd (true≢false (sym is ∙ plain))
+              | inr some ↦ let to = some_passes wanted (writes_of stmt) some in made_of to.1 (read_made stmt x is c) (sound to.0 to.2)
+            ]
+          ]
+      | inr on ↦
+          let parts = and_parts (not (is_among (writes_of stmt) x)) (wanted x) on in
+          left (λ c. true≢false (sym parts.0 ∙ ap not (contains_among (writes_of stmt) x c))) (sound x parts.1)
+    ]
+    | inr e ↦
+        let on = sym (before_going (access_of stmt) wanted x e) ∙ t in
+        left (λ c. true≢false (sym (any_passes wanted (writes_of stmt) x c on) ∙ going (is_assignment stmt) (list_any wanted (writes_of stmt)) e)) (sound x on)
+  ]
+
+  step_complete : (stmts : List Stmt) (x : Loc) → IsWantedIn graph block stmts x → (stmt : Stmt) (rest : List Stmt) → stmts ≡ stmt ∷ rest → (wanted : Loc → Bool) →
+      ((x : Loc) → IsWantedIn graph block rest x → wanted x ≡ true) → before_one (access_of stmt) wanted x ≡ true
+  step_complete stmts x d stmt rest is wanted complete = go stmts d is
+    where
+      go : (stmts : List Stmt) → IsWantedIn graph block stmts x → stmts ≡ stmt ∷ rest → before_one (access_of stmt) wanted x ≡ true
+      go stmts (used {stmt = s} {rest = r} c) is = let same : s ≡ stmt = cc in uses_before stmt wanted x (subst (λ s. Contains (uses_of s) x) same c)
+      go stmts (made_of {stmt = s} {rest = r} {to = to} w c d) is =
+          let same : s ≡ stmt = cc in
+          let also : r ≡ rest = cc in
+          makes_before stmt wanted x to (subst (λ s. Contains (writes_of s) to) same w) (subst (λ s. Contains (makes_of s) x) same c) (complete to (subst (λ r. IsWantedIn graph block r to) also d))
+      go stmts (left {stmt = s} {rest = r} n d) is =
+          let same : s ≡ stmt = cc in
+          let also : r ≡ rest = cc in
+          passes_before (access_of stmt) wanted x (subst (λ s. ¬ Contains (writes_of s) x) same n) (complete x (subst (λ r. IsWantedIn graph block r x) also d))
+      go stmts (tested c) is = absurd (cc)
+      go stmts (goes c f d) is = absurd (cc)
+
+  pub wanted_before : (has : Loc → Bool) (stmts : List Stmt) → Exactly has [] → Exactly (before_all (map access_of stmts) has) stmts
+  wanted_before has [] exact = exact
+  wanted_before has (stmt ∷ rest) exact =
+      let on = wanted_before has rest exact in
+      λ x. (
+        step_sound stmt rest (before_all (map access_of rest) has) (λ y t. (on y).0 t) x,
+        λ d. step_complete (stmt ∷ rest) x d stmt rest refl (before_all (map access_of rest) has) (λ y e. (on y).1 e),
+      )
+
+  -- soundness alone
+  pub sound_before : (has : Loc → Bool) (stmts : List Stmt) → ((x : Loc) → has x ≡ true → IsWantedIn graph block [] x) → (x : Loc) → before_all (map access_of stmts) has x ≡ true → IsWantedIn graph block stmts x
+  sound_before has [] sound = sound
+  sound_before has (stmt ∷ rest) sound = step_sound stmt rest (before_all (map access_of rest) has) (sound_before has rest sound)
+
+-- what is wanted before the last statements of a block
+abbrev before_rest : List Stmt → Exit → List Loc → List Bool → Loc → Bool
+before_rest rest exit places bits = before_all (map access_of rest) (after_stmts places bits (flat_map reads_of (exit_exprs exit)))
+
+-- what is wanted before a block is read first there, or selected after it
+pub before_known : (stmts : List Stmt) (exit : Exit) (places : List Loc) (bits : List Bool) (x : Loc) →
+    before_all (map access_of stmts) (after_stmts places bits (flat_map reads_of (exit_exprs exit))) x ≡ true → (reads_first stmts exit x ≡ true) ⊎ Contains (selected places bits) x
+before_known [] exit places bits x t = elim (or_cases (is_among (flat_map reads_of (exit_exprs exit)) x) (is_among (selected places bits) x || false) t) [
+  | inl r ↦ inl r
+  | inr s ↦ elim (or_cases (is_among (selected places bits) x) false s) [ inl c ↦ inr (among_contains (selected places bits) x c) | inr f ↦ absurd (true≢false (sym f)) ]
+]
+before_known (stmt ∷ rest) exit places bits x t =
+    let W = before_rest rest exit places bits in
+    elim (decided (stays (access_of stmt) W)) [
+  | inl e ↦ elim (or_cases (is_among (flat_map reads_of (exprs_of stmt)) x) (not (is_among (writes_of stmt) x) && W x) (sym (before_staying (access_of stmt) W x e) ∙ t)) [
+    | inl r ↦ inl (or_left (is_among (flat_map reads_of (exprs_of stmt)) x) (not (is_among (writes_of stmt) x) && reads_first rest exit x) r)
+    | inr on ↦ let parts = and_parts (not (is_among (writes_of stmt) x)) (W x) on in later parts.0 (before_known rest exit places bits x parts.1)
+  ]
+  | inr e ↦
+      let on = sym (before_going (access_of stmt) W x e) ∙ t in
+      later (ap not (unwritten (writes_of stmt) x (λ c. true≢false (sym (any_passes W (writes_of stmt) x c on) ∙ going (is_assignment stmt) (list_any W (writes_of stmt)) e))))
+      (before_known rest exit places bits x on)
+]
+  where
+    later : not (is_among (writes_of stmt) x) ≡ true → (reads_first rest exit x ≡ true) ⊎ Contains (selected places bits) x → (reads_first (stmt ∷ rest) exit x ≡ true) ⊎ Contains (selected places bits) x
+    later out (inl r) = inl (or_right (is_among (flat_map reads_of (exprs_of stmt)) x) (not (is_among (writes_of stmt) x) && reads_first rest exit x) (and_from (not (is_among (writes_of stmt) x)) (reads_first rest exit x) out r))
+    later out (inr s) = inr s

@@ -1,0 +1,6 @@
+pub mod Marks
+pub mod Access
+pub mod First
+pub mod Wanted
+pub mod Dead
+pub mod Work

@@ -1,0 +1,20 @@
+//! Which locations are live at the ends of blocks, and assignments that nothing needs.
+//!
+//! Both are solved backwards over the blocks of a graph (A. V. Aho, R. Sethi, J. D. Ullman, Compilers, 1986, 10.6).
+//! What is wanted is liveness by demand: what an assignment reads counts only where its own location is wanted
+//! (C. Cifuentes, Reverse Compilation Techniques, 1994, 5.4).
+#![tactic(auto)]
+
+mod access;
+mod dead;
+mod living;
+mod marks;
+mod places;
+mod rows;
+mod wanted;
+
+pub use dead::drop_dead;
+pub use living::live;
+
+#[cfg(test)]
+mod tests;

@@ -1,0 +1,230 @@
+//! Which locations are wanted at the ends of blocks.
+
+ghost use Rattle.std.specs.Prelude.{◌≡◌, ◌<◌, [], length, get_or, map, All, Contains, IfOk, OnOk};
+ghost use Rattle.dcc_ir.specs.Views.{graph_of};
+ghost use Rattle.dcc_ir.specs.WellFormed.{IsGraph};
+ghost use Rattle.dcc_live.specs.Access.{access_in, block_access_in, accesses_of};
+ghost use Rattle.dcc_live.specs.Marks.{empty, members};
+ghost use Rattle.dcc_live.specs.First.{row_of, Tells};
+ghost use Rattle.dcc_live.specs.Wanted.{stays, before_one, before_all, after_stmts, before_block};
+ghost use Rattle.dcc_flow.specs.Bits.{flowed};
+ghost use Rattle.dcc_flow.specs.Work.{first_work, with_queued, with_answer, spread};
+ghost use Rattle.dcc_live.specs.Work.{work_of, AreWantedAtEnds};
+
+use crate::access::{Access, BlockAccess};
+use crate::marks::Marks;
+use crate::places::{bits_of, selected};
+use crate::rows::{places, rows};
+use dcc_flow::{Bits, Steps, preds};
+use dcc_ir::{Graph, Loc};
+use std::alloc::{AllocError, Global};
+use std::sync::ledger::Ledger;
+
+// Whether a statement stays, where the set is wanted after it.
+fn stays(marks: &Marks, access: &Access) -> bool
+    ensures { result ≡ stays (access_in access.now) (members marks.now) }
+{
+    !(access.assigns && !marks.contains_any(access.writes.as_slice()))
+}
+
+/// From what is wanted after a statement to what is wanted before it. The answer is whether the statement stays: an
+/// assignment to what is not wanted goes, and leaves the set as it was.
+pub fn pass(marks: &mut Marks, access: &Access) -> Result<bool, AllocError>
+    ensures stays { IfOk result (λ b. b ≡ stays (access_in access.now) (members marks.old)) }
+    ensures marks { OnOk result (members marks.new ≡ before_one (access_in access.now) (members marks.old)) }
+{
+    let staying = stays(marks, access);
+    if staying {
+        marks.remove_all(access.writes.as_slice());
+        marks.add_all(access.reads.as_slice())?;
+    }
+    Ok(staying)
+}
+
+/// From nothing to what is wanted after the statements of a block, where these places are wanted after the block.
+pub fn begin(
+    alloc: Global,
+    marks: &mut Marks,
+    places: &[Loc],
+    bits: &Bits,
+    last: &[Loc],
+) -> Result<(), AllocError>
+    requires empty { members marks.old ≡ empty }
+    requires len { length bits.now ≡ length places.now }
+    ensures { OnOk result (members marks.new ≡ after_stmts places.now bits.now last.now) }
+{
+    let wanted = selected(alloc, places, bits)?;
+    marks.add_all(wanted.as_slice())?;
+    marks.add_all(last)
+}
+
+// From what is wanted after the statements of a block to what is wanted before them.
+fn pass_all(marks: &mut Marks, stmts: &[Access]) -> Result<(), AllocError>
+    ensures { OnOk result (members marks.new ≡ before_all (map access_in stmts.now) (members marks.old)) }
+{
+    let mut at = stmts.len();
+    while at > 0 {
+        at -= 1;
+        pass(marks, &stmts[at])?;
+    }
+    Ok(())
+}
+
+// Which places are wanted before a block, where these are wanted after it. The set is empty, before and after.
+fn wanted_before<L: Ledger>(
+    alloc: Global,
+    marks: &mut Marks,
+    places: &[Loc],
+    bits: &Bits,
+    block: &BlockAccess,
+    steps: &mut Steps<L>,
+) -> Result<Bits, AllocError>
+    requires empty { members marks.old ≡ empty }
+    requires len { length bits.now ≡ length places.now }
+    ensures len { IfOk result (λ start. length start ≡ length places.now) }
+    ensures tells { IfOk result (Tells places.now (before_block places.now bits.now (block_access_in block.now))) }
+    ensures empty { OnOk result (members marks.new ≡ empty) }
+{
+    begin(alloc, marks, places, bits, block.last.as_slice())?;
+    pass_all(marks, block.stmts.as_slice())?;
+    let start = bits_of(alloc, places, marks, steps)?;
+    marks.clear();
+    Ok(start)
+}
+
+/// What is known to be wanted, and the blocks through which it has to flow.
+#[derive(Drop)]
+pub struct Work {
+    /// The places that are known to be wanted at the end of each block.
+    pub at_end: Vec<Bits>,
+    /// The blocks through which these have to flow, the newest last.
+    pub pending: Vec<usize>,
+    /// Whether a block is one of these.
+    pub queued: Vec<bool>,
+}
+
+impl Work {
+    // Nothing is known to be wanted, and each block is pending.
+    fn new(alloc: Global, count: usize, len: usize) -> Result<Work, AllocError>
+        ensures { IfOk result (λ work. work_of work ≡ first_work count len) }
+    {
+        let mut at_end = Vec::new(alloc);
+        let mut pending = Vec::new(alloc);
+        for block in 0..count {
+            at_end.push(Bits::new(alloc, len)?)?;
+            pending.push(block)?;
+        }
+        Ok(Work {
+            at_end,
+            pending,
+            queued: vec![in alloc; true; count]?,
+        })
+    }
+
+    // What is known at the end of the block has to flow on.
+    fn queue(&mut self, block: usize) -> Result<(), AllocError>
+        requires { block < length self.old.queued.items }
+        ensures { OnOk result (work_of self.new ≡ with_queued (work_of self.old) block) }
+    {
+        if !self.queued[block] {
+            self.queued[block] = true;
+            self.pending.push(block)?;
+        }
+        Ok(())
+    }
+
+    // These places are wanted at the end of the block.
+    fn want<L: Ledger>(
+        &mut self,
+        block: usize,
+        start: &Bits,
+        steps: &mut Steps<L>,
+    ) -> Result<(), AllocError>
+        requires block { block < length self.old.at_end.items }
+        requires queued { length self.old.queued.items ≡ length self.old.at_end.items }
+        requires len { length (get_or self.old.at_end.items block []) ≡ length start.now }
+        ensures { OnOk result (work_of self.new ≡ with_answer (work_of self.old) block
+            (flowed (get_or self.old.at_end.items block []) start.now start.now start.now)) }
+    {
+        let at_end = &mut self.at_end[block];
+        if at_end.flow(start, start, start, steps) {
+            self.queue(block)?;
+        }
+        Ok(())
+    }
+
+    // These places are wanted at the end of each of these blocks.
+    fn want_all<L: Ledger>(
+        &mut self,
+        blocks: &[u32],
+        start: &Bits,
+        steps: &mut Steps<L>,
+    ) -> Result<(), AllocError>
+        requires blocks { All (λ block. block < length self.old.at_end.items) blocks.now }
+        requires queued { length self.old.queued.items ≡ length self.old.at_end.items }
+        requires lists { All (λ bits. length bits ≡ length start.now) self.old.at_end.items }
+        ensures { OnOk result (work_of self.new ≡ spread start.now start.now start.now (work_of self.old) blocks.now) }
+    {
+        for block in blocks {
+            self.want(*block as usize, start, steps)?;
+        }
+        Ok(())
+    }
+}
+
+/// Which locations are wanted at the ends of the blocks.
+#[derive(Drop)]
+pub struct WantedEnds {
+    /// Some locations, all those among them that are wanted at the end of a block.
+    pub places: Vec<Loc>,
+    /// For each block which of them are wanted at its end.
+    pub at_end: Vec<Bits>,
+}
+
+// Which of these locations are wanted at the end of each block.
+fn solved<L: Ledger>(
+    alloc: Global,
+    g: &Graph,
+    places: &[Loc],
+    blocks: &Vec<BlockAccess>,
+    steps: &mut Steps<L>,
+) -> Result<Vec<Bits>, AllocError>
+    requires graph { IsGraph (graph_of g.now) }
+    requires blocks { map block_access_in blocks.now.items ≡ accesses_of (graph_of g.now) }
+    requires places { All (λ row. All (Contains places.now) row.first) (map row_of (accesses_of (graph_of g.now))) }
+    ensures { IfOk result (λ at_end. AreWantedAtEnds (graph_of g.now) places.now at_end.items) }
+{
+    let sources = preds(alloc, g)?;
+    let mut marks = Marks::new(alloc);
+    let mut work = Work::new(alloc, blocks.len(), places.len())?;
+    while let Some(block) = work.pending.pop() {
+        work.queued[block] = false;
+        let start = wanted_before(
+            alloc,
+            &mut marks,
+            places,
+            &work.at_end[block],
+            &blocks[block],
+            steps,
+        )?;
+        work.want_all(sources[block].as_slice(), &start, steps)?;
+    }
+    Ok(work.at_end)
+}
+
+/// What is wanted at the end of each block of a graph.
+pub fn wanted_at_ends<L: Ledger>(
+    alloc: Global,
+    g: &Graph,
+    blocks: &Vec<BlockAccess>,
+    steps: &mut Steps<L>,
+) -> Result<WantedEnds, AllocError>
+    requires graph { IsGraph (graph_of g.now) }
+    requires blocks { map block_access_in blocks.now.items ≡ accesses_of (graph_of g.now) }
+    ensures { IfOk result (λ w. AreWantedAtEnds (graph_of g.now) w.places.items w.at_end.items) }
+{
+    let rows = rows(alloc, blocks)?;
+    let places = places(alloc, &rows)?;
+    let at_end = solved(alloc, g, places.as_slice(), blocks, steps)?;
+    Ok(WantedEnds { places, at_end })
+}
