@@ -251,7 +251,7 @@ module _ (laws : AreLifted) (image : Image) (analysed : Analysed) (procs : List 
               state_of = machine_step layout.cpu s;
               same = refl;
               at_block = subst (AtBlock (machine_step layout.cpu s)) (sym run) (arrived (machine_step layout.cpu s) x.next x.to (at ∷ before) x.stand
-                    (stays_at_top image layout graph nodes placed has s t at before node both is top) leader);
+                  (stays_at_top image layout graph nodes placed has s t at before node both is top) leader);
             })
         come (ends x) =
             both_over (ap is_over x.machine)

@@ -74,25 +74,25 @@ added : (sp c : ℕ) → wrapped_of word_width (pos sp -ℤ neg_ℤ (signed_of w
 unfolding signed_of
 added sp c =
     elim (has_sign word_width c) as (λ b. wrapped_of word_width (pos sp -ℤ neg_ℤ (if b then pos c -ℤ pos 65536 else pos c)) ≡ (sp + c) % 65536) [
-  | true ↦
-      let e : ((pos sp -ℤ neg_ℤ (pos c -ℤ pos 65536)) +ℤ pos 131072) ≡ pos (sp + c + 65536) = omega (arith, ints) in
-      wrapped-is (pos sp -ℤ neg_ℤ (pos c -ℤ pos 65536)) (sp + c + 65536) e ∙ omega arith
-  | false ↦
-      let e : ((pos sp -ℤ neg_ℤ (pos c)) +ℤ pos 131072) ≡ pos (sp + c + 131072) = omega (arith, ints) in
-      wrapped-is (pos sp -ℤ neg_ℤ (pos c)) (sp + c + 131072) e ∙ omega arith
-]
+      | true ↦
+          let e : ((pos sp -ℤ neg_ℤ (pos c -ℤ pos 65536)) +ℤ pos 131072) ≡ pos (sp + c + 65536) = omega (arith, ints) in
+          wrapped-is (pos sp -ℤ neg_ℤ (pos c -ℤ pos 65536)) (sp + c + 65536) e ∙ omega arith
+      | false ↦
+          let e : ((pos sp -ℤ neg_ℤ (pos c)) +ℤ pos 131072) ≡ pos (sp + c + 131072) = omega (arith, ints) in
+          wrapped-is (pos sp -ℤ neg_ℤ (pos c)) (sp + c + 131072) e ∙ omega arith
+    ]
 
 taken : (sp c : ℕ) → c < 65536 → wrapped_of word_width (pos sp -ℤ signed_of word_width c) ≡ (sp + 65536 - c) % 65536
 unfolding signed_of
 taken sp c fits =
     elim (has_sign word_width c) as (λ b. wrapped_of word_width (pos sp -ℤ (if b then pos c -ℤ pos 65536 else pos c)) ≡ (sp + 65536 - c) % 65536) [
-  | true ↦
-      let e : ((pos sp -ℤ (pos c -ℤ pos 65536)) +ℤ pos 131072) ≡ pos (sp + 65536 - c + 131072) = omega (arith, ints, fits) in
-      wrapped-is (pos sp -ℤ (pos c -ℤ pos 65536)) (sp + 65536 - c + 131072) e ∙ omega arith
-  | false ↦
-      let e : ((pos sp -ℤ pos c) +ℤ pos 131072) ≡ pos (sp + 65536 - c + 65536) = omega (arith, ints, fits) in
-      wrapped-is (pos sp -ℤ pos c) (sp + 65536 - c + 65536) e ∙ omega arith
-]
+      | true ↦
+          let e : ((pos sp -ℤ (pos c -ℤ pos 65536)) +ℤ pos 131072) ≡ pos (sp + 65536 - c + 131072) = omega (arith, ints, fits) in
+          wrapped-is (pos sp -ℤ (pos c -ℤ pos 65536)) (sp + 65536 - c + 131072) e ∙ omega arith
+      | false ↦
+          let e : ((pos sp -ℤ pos c) +ℤ pos 131072) ≡ pos (sp + 65536 - c + 65536) = omega (arith, ints, fits) in
+          wrapped-is (pos sp -ℤ pos c) (sp + 65536 - c + 65536) e ∙ omega arith
+    ]
 
 lowered : (sp bytes : ℕ) → bytes ≤ 65536 → wrapped_of word_width (pos sp -ℤ pos bytes) ≡ (sp + (65536 - bytes)) % 65536
 lowered sp bytes few =
@@ -146,13 +146,13 @@ summed : (bp disp : ℕ) → wrapped_of word_width (pos bp +ℤ signed_of word_w
 unfolding signed_of
 summed bp disp =
     elim (has_sign word_width disp) as (λ b. wrapped_of word_width (pos bp +ℤ (if b then pos disp -ℤ pos 65536 else pos disp)) ≡ (bp + 0 + disp) % 65536) [
-  | true ↦
-      let e : ((pos bp +ℤ (pos disp -ℤ pos 65536)) +ℤ pos 131072) ≡ pos (bp + disp + 65536) = omega (arith, ints) in
-      wrapped-is (pos bp +ℤ (pos disp -ℤ pos 65536)) (bp + disp + 65536) e ∙ omega arith
-  | false ↦
-      let e : ((pos bp +ℤ pos disp) +ℤ pos 131072) ≡ pos (bp + disp + 131072) = omega (arith, ints) in
-      wrapped-is (pos bp +ℤ pos disp) (bp + disp + 131072) e ∙ omega arith
-]
+      | true ↦
+          let e : ((pos bp +ℤ (pos disp -ℤ pos 65536)) +ℤ pos 131072) ≡ pos (bp + disp + 65536) = omega (arith, ints) in
+          wrapped-is (pos bp +ℤ (pos disp -ℤ pos 65536)) (bp + disp + 65536) e ∙ omega arith
+      | false ↦
+          let e : ((pos bp +ℤ pos disp) +ℤ pos 131072) ≡ pos (bp + disp + 131072) = omega (arith, ints) in
+          wrapped-is (pos bp +ℤ pos disp) (bp + disp + 131072) e ∙ omega arith
+    ]
 
 lea-told : (s : State) (ea : Ea) → IsState s → is_direct ea ≡ true
     → word_in (lea_step Sp ea s) Sp ≡ wrapped_of word_width (pos (word_in s Bp) +ℤ signed_of word_width ea.disp)
