@@ -102,11 +102,21 @@ fn procedures_are_listed_that_have_no_text_yet(rt: HostRuntime) -> Result<(), Fa
     let alloc = rt.alloc();
     for row in lists() {
         let file = program(&rt, alloc, row.code)?;
-        let given = answered(alloc, &["procs", "ROW1.EXE", "--cpu", row.cpu], &file, NO_FAULTS)?;
+        let given = answered(
+            alloc,
+            &["procs", "ROW1.EXE", "--cpu", row.cpu],
+            &file,
+            NO_FAULTS,
+        )?;
         assert_eq!(rt; given.out.as_slice(), row.lines.as_bytes(), "{}", row.lines);
         assert!(rt; given.err.is_empty(), "{}", row.lines);
         assert_eq!(rt; given.status, 0, "{}", row.lines);
-        let text = answered(alloc, &["c", "ROW1.EXE", "--cpu", row.cpu], &file, NO_FAULTS)?;
+        let text = answered(
+            alloc,
+            &["c", "ROW1.EXE", "--cpu", row.cpu],
+            &file,
+            NO_FAULTS,
+        )?;
         assert_eq!(rt; text.status, 12, "{}", row.lines);
         assert!(rt; text.out.is_empty(), "{}", row.lines);
     }
@@ -118,14 +128,30 @@ type RefusalRow = (&'static [u8], u8, &'static str);
 
 static REFUSALS: [RefusalRow; 15] = [
     // SP or BP in a form that no frame has.
-    (b"\xBD\x05\x00\xB8\x00\x4C\xCD\x21", 9, "dcc: construct 2 at 0005\n"),
+    (
+        b"\xBD\x05\x00\xB8\x00\x4C\xCD\x21",
+        9,
+        "dcc: construct 2 at 0005\n",
+    ),
     // An indirect call; INT 21h where AH is not known; a return from the entry procedure.
     (b"\xFF\x17", 9, "dcc: construct 4 at 0005\n"),
-    (b"\x8A\x26\x00\x00\xCD\x21\xB8\x00\x4C\xCD\x21", 9, "dcc: construct 5 at 0009\n"),
+    (
+        b"\x8A\x26\x00\x00\xCD\x21\xB8\x00\x4C\xCD\x21",
+        9,
+        "dcc: construct 5 at 0009\n",
+    ),
     (b"\xC3", 9, "dcc: construct 11 at 0005\n"),
     // A program that takes its own address; a push on one arm.
-    (b"\xE8\x00\x00\x58\xB8\x00\x4C\xCD\x21", 9, "dcc: construct 6 at 0008\n"),
-    (b"\x3D\x00\x00\x74\x01\x50\xEB\xFE", 9, "dcc: construct 6 at 000B\n"),
+    (
+        b"\xE8\x00\x00\x58\xB8\x00\x4C\xCD\x21",
+        9,
+        "dcc: construct 6 at 0008\n",
+    ),
+    (
+        b"\x3D\x00\x00\x74\x01\x50\xEB\xFE",
+        9,
+        "dcc: construct 6 at 000B\n",
+    ),
     // SP above its value at the entry by the difference with a number below 0, and by INC; and in the saved BP.
     (b"\x50\x83\xEC\xFC\xEB\xFE", 9, "dcc: construct 6 at 0006\n"),
     (b"\x44\xEB\xFE", 9, "dcc: construct 6 at 0005\n"),
@@ -159,7 +185,11 @@ static REFUSALS: [RefusalRow; 15] = [
         9,
         "dcc: construct 2 at 000D\n",
     ),
-    (b"\xBB\x07\x00\x6B\xC3\x06\xB4\x4C\xCD\x21", 9, "dcc: construct 2 at 0008\n"),
+    (
+        b"\xBB\x07\x00\x6B\xC3\x06\xB4\x4C\xCD\x21",
+        9,
+        "dcc: construct 2 at 0008\n",
+    ),
 ];
 
 fn refusals() -> &'static [RefusalRow] {
@@ -188,7 +218,10 @@ fn a_program_without_a_layout_has_no_list(rt: HostRuntime) -> Result<(), Fail> {
         b"MZ\x25\x00\x01\x00\x00\x00\x02\x00\x00\x00\xFF\xFF\x01\x00\x00\x01\x00\x00\x00\x00\x00\
             \x00\x1C\x00\x00\x00\x00\x00\x00\x00\xB8\x00\x4C\xCD\x21";
     let given = answered(alloc, &["procs", "ROW1.EXE"], file, NO_FAULTS)?;
-    assert_eq!(rt; given.err.as_slice(), b"dcc: construct 1 at 0000\n".as_slice());
+    assert_eq!(rt;
+        given.err.as_slice(),
+        b"dcc: construct 1 at 0000\n".as_slice()
+    );
     assert_eq!(rt; given.status, 9);
     Ok(())
 }
