@@ -8,7 +8,7 @@ use Rattle.dcc_prog.specs.declared.image.Image.{Image}
 use Rattle.dcc_prog.specs.Machine.{start_state}
 use Rattle.dcc_prog.specs.MzImage.{IsImageOf}
 use Rattle.dcc_top.specs.declared.reply.Reply.{Reply}
-use Rattle.dcc_top.specs.Words.{Decompile, ListProcedures, Product, Text, Listing, job_to_make}
+use Rattle.dcc_top.specs.Words.{Product, Text, Listing, job_to_make}
 use Rattle.dcc_top.specs.Answer.{Files, OfFile, IsMadeOf, AllowsImage, image_made, image_refused, Makes, AllowsProduct, made_of_file, refused, Allows, for_text, for_listing, IsCut, cut_text, cut_listing}
 use Rattle.dcc_top.specs.Change.{Change, same}
 use Rattle.dcc_top.specs.Delivery.{Answers, CutsShort}

@@ -23,7 +23,7 @@ use Rattle.dcc_top.specs.Status.{IsOneOf, end_status}
 use Rattle.dcc_top.specs.Status as exit
 use Rattle.dcc_top.proofs.HeadlineLaws.{has-text, has-listing}
 use Rattle.dcc_top.proofs.StatusLaws.{apart, are_apart, image_faults, refusals, text_faults, product_statuses, product-status, status-not_six, reply-at_3, reply-at_4, reply-at_5, reply-at_7, no_file-status, no_image-status, no_unit-status, refusal-status, run_statuses, run-status, text_run-status}
-use Rattle.dcc_top.proofs.NamedLaws.{name-of, file-name, IsAcceptedIn, IsRefusedIn, refused_statuses, accepted-one, refused-always as always-refused, job-misshapen, job-missing, text-refused, job-ended}
+use Rattle.dcc_top.proofs.NamedLaws.{name-of, file-name, IsAcceptedIn, refused_statuses, accepted-one, refused-always as always-refused, job-misshapen, job-missing, text-refused, job-ended}
 
 module _ (call : Call) where
   abbrev told : Files

@@ -7,7 +7,7 @@ use Rattle.dcc_run.specs.End.{End}
 use Rattle.dcc_run.specs.Event.{written_by}
 use Rattle.dcc_prog.specs.declared.cpu.Cpu.{Cpu}
 use Rattle.dcc_prog.specs.declared.image.Image.{Image}
-use Rattle.dcc_prog.specs.Machine.{State, start_state}
+use Rattle.dcc_prog.specs.Machine.{start_state}
 use Rattle.dcc_prog.specs.MzImage.{IsImageOf}
 use Rattle.dcc_console.specs.Scene.{Scene, scene}
 use Rattle.dcc_console.specs.Steps.{HasEnded, MakesSteps, StopsShort, read_failed, write_failed}

@@ -11,7 +11,7 @@ use Rattle.dcc_prog.specs.declared.refusal.LimitName.{LimitName}
 use Rattle.dcc_prog.specs.declared.refusal.Refusal.{Refusal}
 use Rattle.dcc_prog.specs.declared.refusal.Refusal.TheVariants.{Construct as ConstructRefused, Limit as LimitRefused, NotYet as NotYetRefused, Memory as MemoryRefused}
 use Rattle.dcc_prog.specs.MzImage.{IsImageOf, FormatFault, IsFirstFault, too_large, short, not_mz, bad_pages, header_past_image, bad_relocation, entry_outside}
-use Rattle.dcc_prog.specs.Refused.{IsSound, IsAcceptedProgram, IsUnsound, IsRefusedImage, IsRefusedBy, IsRefusedByAnalysis, no_layout, by_trails, by_heights, by_frames}
+use Rattle.dcc_prog.specs.Refused.{IsSound, IsAcceptedProgram, IsUnsound, IsRefusedImage, IsRefusedBy, IsRefusedByAnalysis, by_trails, by_heights, by_frames}
 use Rattle.dcc_prog.specs.Step.{machine_system}
 use Rattle.dcc_prog.proofs.MzImageLaws.{not_both}
 use Rattle.dcc_prog.proofs.RefusedLaws.{sound-not_unsound, sound-memory, accepted-not_refused, accepted-memory}

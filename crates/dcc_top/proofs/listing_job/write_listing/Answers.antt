@@ -1,10 +1,10 @@
-use Rattle.std.proofs.Common.{◌≡◌, ap, refl, subst, sym, length}
+use Rattle.std.proofs.Common.{◌∙◌, subst, sym}
 use Rattle.dcc_prog.specs.declared.refusal.Refusal.TheVariants.{Memory as MemoryRefused}
 use Rattle.dcc_prog.specs.Refused.{IsRefusedByAnalysis}
 use Rattle.dcc_top.specs.declared.reply.Reply.TheVariants.{Memory}
 use Rattle.dcc_top.specs.Answer.{AllowsImage, image_made, image_refused}
 use Rattle.dcc_top.specs.Words.{Listing}
-use Rattle.dcc_top.proofs.AnswerLaws.{answers-nothing, answers-unchanged}
+use Rattle.dcc_top.proofs.AnswerLaws.{answers-nothing}
 use Rattle.dcc_top.proofs.ListingLaws.{program-whole, listing-is}
 use Rattle.dcc_top.proofs.listing_job.write_listing.Goals as goal
 
@@ -15,3 +15,23 @@ returns-in-Err-clause-answers g c =
 
 pub listing-requires : goal.listing-requires
 listing-requires g c = program-whole c.args.cpu c.args.image.now c.in-Ok.program c.in-Ok.ensures.program
+
+pub returns-in_default-clause-answers : goal.returns-in_default-clause-answers
+returns-in_default-clause-answers g c =
+    answers-nothing (AllowsImage Listing c.args.cpu c.args.image.now) _ Memory (image_refused MemoryRefused IsRefusedByAnalysis.no_memory)
+
+pub returns-in-Ok-put_all-clause-answers : goal.returns-in-Ok-put_all-clause-answers
+returns-in-Ok-put_all-clause-answers g c = record {
+  output = c.as_bytes.result.now;
+  wrote = c.in-Ok-put_all.ensures.whole;
+  is_answer = image_made (listing-is c.args.cpu c.args.image.now c.in-Ok.program c.as_bytes.result.now c.in-Ok.ensures.accepted c.in-Ok.ensures.program
+      (c.as_bytes.ensures.value ∙ c.in-Ok-listing.ensures));
+}
+
+pub returns-clause-cut_short : goal.returns-clause-cut_short
+returns-clause-cut_short g c = record {
+  due = c.as_bytes.result.now;
+  is_due = listing-is c.args.cpu c.args.image.now c.in-Ok.program c.as_bytes.result.now c.in-Ok.ensures.accepted c.in-Ok.ensures.program
+      (c.as_bytes.ensures.value ∙ c.in-Ok-listing.ensures);
+  part = c.in-Err-put_all.ensures.part;
+}
