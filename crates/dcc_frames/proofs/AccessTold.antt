@@ -42,12 +42,14 @@ or-right : (a b : Bool) → b ≡ true → a || b ≡ true
 or-right true b e = refl
 or-right false b e = e
 
-between-told : (bytes : Bytes) (low high : ℤ) → is_between bytes low high ≡ true → (low ≤ℤ bytes.first) × (bytes.end ≤ℤ high)
+between-told : (bytes : Bytes) (low high : ℤ) → is_between bytes low high ≡ true
+    → (low ≤ℤ bytes.first) × (bytes.end ≤ℤ high)
 between-told bytes low high e =
     let both = and-both (int_le low bytes.first) (int_le bytes.end high) e in
     (let a = both.0 in grind (arith, ints, a), let b = both.1 in grind (arith, ints, b))
 
-between-tells : (bytes : Bytes) (low high : ℤ) → low ≤ℤ bytes.first → bytes.end ≤ℤ high → is_between bytes low high ≡ true
+between-tells : (bytes : Bytes) (low high : ℤ) → low ≤ℤ bytes.first → bytes.end ≤ℤ high
+    → is_between bytes low high ≡ true
 between-tells bytes low high a b =
     let first : int_le low bytes.first ≡ true = grind (arith, ints, a) in
     let second : int_le bytes.end high ≡ true = grind (arith, ints, b) in
@@ -67,7 +69,8 @@ inside-told args height bytes e =
 
 inside-tells : (args height : ℕ) (bytes : Bytes) → LiesInside args height bytes → is_inside args height bytes ≡ true
 inside-tells args height bytes (in_arguments low high) =
-    ap (λ b. b || is_between bytes (pos 2 -ℤ pos height) (pos 0)) (between-tells bytes (pos 4) (pos (4 + 2 * args)) low high)
+    ap (λ b. b || is_between bytes (pos 2 -ℤ pos height) (pos 0))
+    (between-tells bytes (pos 4) (pos (4 + 2 * args)) low high)
 inside-tells args height bytes (in_locals low high) =
     or-right (is_between bytes (pos 4) (pos (4 + 2 * args))) (is_between bytes (pos 2 -ℤ pos height) (pos 0))
     (between-tells bytes (pos 2 -ℤ pos height) (pos 0) low high)
@@ -75,11 +78,13 @@ inside-tells args height bytes (in_locals low high) =
 passing : {A : Type 0} (test : A → Bool) (o : Option A) (x : A) → o ≡ Some x → passes test o ≡ true → test x ≡ true
 passing test o x is e = sym (ap (passes test) is) ∙ e
 
-failing : {A : Type 0} (test : A → Bool) (o : Option A) → passes test o ≡ false → (x : A) × (o ≡ Some x) × (test x ≡ false)
+failing : {A : Type 0} (test : A → Bool) (o : Option A) → passes test o ≡ false
+    → (x : A) × (o ≡ Some x) × (test x ≡ false)
 failing test None e = absurd (true≢false e)
 failing test (Some x) e = (x, refl, e)
 
-module _ (image : Image) (layout : Layout) (body : Body) (is : IsBody image layout body) (delta : ℕ) (delta_is : delta ≡ layout.delta) where
+module _ (image : Image) (layout : Layout) (body : Body) (is : IsBody image layout body) (delta : ℕ)
+    (delta_is : delta ≡ layout.delta) where
   pub lacks-told : lacks_addresses delta body.framed ≡ true → LacksAddresses image layout body.entry
   lacks-told e = elim (or-cases (not (delta == 0)) (not body.framed) e) [
     | inl apart ↦
@@ -126,7 +131,8 @@ module _ (image : Image) (layout : Layout) (body : Body) (is : IsBody image layo
       → HasBadAccess image layout body.entry step.at
   access-bad step s e =
       let f = failing (λ (bytes : Bytes). is_inside body.args step.height bytes) (access_of body.framed step.op) e in
-      access_outside (access-tells image layout body.entry step s f.0 (ap (λ b. access_of b step.op) (sym is.framed) ∙ f.1)) s.has
+      access_outside (access-tells image layout body.entry step s f.0
+      (ap (λ b. access_of b step.op) (sym is.framed) ∙ f.1)) s.has
       (outside step.height f.0 f.2)
 
   start-bad :
@@ -135,7 +141,8 @@ module _ (image : Image) (layout : Layout) (body : Body) (is : IsBody image layo
       → HasBadAccess image layout body.entry step.at
   start-bad step s e =
       let lacks = lacks_addresses delta body.framed in
-      let f = failing (λ (start : ℤ). not lacks && is_inside body.args step.height (byte_from start)) (start_of step.op step.height) e in
+      let f = failing (λ (start : ℤ). not lacks && is_inside body.args step.height (byte_from start))
+      (start_of step.op step.height) e in
       let starts = start-tells image layout body.entry step s f.0 f.1 in
       elim (and-cases (not lacks) (is_inside body.args step.height (byte_from f.0)) f.2) [
         | inl without ↦ no_addresses (lacks-told (by lacks without)) starts
@@ -151,26 +158,33 @@ module _ (image : Image) (layout : Layout) (body : Body) (is : IsBody image layo
       → is_allowed body.framed body.args (lacks_addresses delta body.framed) step ≡ false
       → HasBadAccess image layout body.entry step.at
   access-refused step s e =
-      elim (and-cases (has_access_inside body.framed body.args step) (has_start_inside body.args (lacks_addresses delta body.framed) step) e) [
+      elim (and-cases (has_access_inside body.framed body.args step)
+      (has_start_inside body.args (lacks_addresses delta body.framed) step) e) [
         | inl access ↦ access-bad step s access
         | inr rest ↦ start-bad step s rest.1
       ]
 
-  module _ (allowed : All (λ (step : Step). is_allowed body.framed body.args (lacks_addresses delta body.framed) step ≡ true) body.steps.items) where
+  module _
+      (allowed :
+      All (λ (step : Step). is_allowed body.framed body.args (lacks_addresses delta body.framed) step ≡ true)
+      body.steps.items) where
     both-inside :
         (step : Step) → Contains body.steps.items step
         → (has_access_inside body.framed body.args step ≡ true)
         × (has_start_inside body.args (lacks_addresses delta body.framed) step ≡ true)
     both-inside step among =
-        and-both (has_access_inside body.framed body.args step) (has_start_inside body.args (lacks_addresses delta body.framed) step)
-        (All-contains (λ (t : Step). is_allowed body.framed body.args (lacks_addresses delta body.framed) t ≡ true) body.steps.items step allowed among)
+        and-both (has_access_inside body.framed body.args step)
+        (has_start_inside body.args (lacks_addresses delta body.framed) step)
+        (All-contains (λ (t : Step). is_allowed body.framed body.args (lacks_addresses delta body.framed) t ≡ true)
+        body.steps.items step allowed among)
 
     -- every direct access and every start lies inside
     pub access-inside :
         (step : Step) → Contains body.steps.items step → IsStep image layout body.entry step → (span : Span)
         → IsDirectAccess image layout body.entry step.at span → is_inside body.args step.height (as_bytes span) ≡ true
     access-inside step among s span access =
-        passing (λ (bytes : Bytes). is_inside body.args step.height bytes) (access_of body.framed step.op) (as_bytes span)
+        passing (λ (bytes : Bytes). is_inside body.args step.height bytes) (access_of body.framed step.op)
+        (as_bytes span)
         (ap (λ b. access_of b step.op) is.framed ∙ access-told image layout body.entry step s span access)
         (both-inside step among).0
 
@@ -179,7 +193,8 @@ module _ (image : Image) (layout : Layout) (body : Body) (is : IsBody image layo
         → (lacks_addresses delta body.framed ≡ false) × (is_inside body.args step.height (byte_from start) ≡ true)
     start-inside step among start e =
         let lacks = lacks_addresses delta body.framed in
-        let p = passing (λ (start : ℤ). not lacks && is_inside body.args step.height (byte_from start)) (start_of step.op step.height) start e
+        let p = passing (λ (start : ℤ). not lacks && is_inside body.args step.height (byte_from start))
+        (start_of step.op step.height) start e
         (both-inside step among).1 in
         let both = and-both (not lacks) (is_inside body.args step.height (byte_from start)) p in
         (by lacks both.0, both.1)
@@ -189,7 +204,8 @@ module _ (image : Image) (layout : Layout) (body : Body) (is : IsBody image layo
         by false e = refl
 
     pub no-access-outside :
-        (at : ℕ) → IsNode image layout body.entry at → (span : Span) (height : ℤ) → IsDirectAccess image layout body.entry at span
+        (at : ℕ) → IsNode image layout body.entry at → (span : Span) (height : ℤ)
+        → IsDirectAccess image layout body.entry at span
         → HasHeight image layout body.entry at height → ¬ IsOutsideFrame image layout body.entry height span
     no-access-outside at node span height access has out =
         at-node image layout body.entry body.steps.items is.steps
@@ -199,8 +215,10 @@ module _ (image : Image) (layout : Layout) (body : Body) (is : IsBody image layo
         at node access has
 
     pub no-start-outside :
-        (at : ℕ) → IsNode image layout body.entry at → (start height : ℤ) → StartsExposure image layout body.entry at start
-        → HasHeight image layout body.entry at height → ¬ IsOutsideFrame image layout body.entry height (span_of start 1)
+        (at : ℕ) → IsNode image layout body.entry at → (start height : ℤ)
+        → StartsExposure image layout body.entry at start
+        → HasHeight image layout body.entry at height
+        → ¬ IsOutsideFrame image layout body.entry height (span_of start 1)
     no-start-outside at node start height starts has out =
         at-node image layout body.entry body.steps.items is.steps
         (λ at. StartsExposure image layout body.entry at start → HasHeight image layout body.entry at height → ⊥)
@@ -213,9 +231,11 @@ module _ (image : Image) (layout : Layout) (body : Body) (is : IsBody image layo
         (at : ℕ) → IsNode image layout body.entry at → (start : ℤ) → StartsExposure image layout body.entry at start
         → ¬ LacksAddresses image layout body.entry
     no-start-lacking at node start starts lacks =
-        at-node image layout body.entry body.steps.items is.steps (λ at. StartsExposure image layout body.entry at start → ⊥)
+        at-node image layout body.entry body.steps.items is.steps
+        (λ at. StartsExposure image layout body.entry at start → ⊥)
         (λ step among s a.
-        true≢false (sym (lacks-tells lacks) ∙ (start-inside step among start (start-told image layout body.entry step s start a)).0))
+        true≢false (sym (lacks-tells lacks)
+        ∙ (start-inside step among start (start-told image layout body.entry step s start a)).0))
         at node starts
 
 module _ (image : Image) (layout : Layout) (body : Body) (is : IsBody image layout body) (counts : ℕ → Option ℕ)
@@ -227,12 +247,16 @@ module _ (image : Image) (layout : Layout) (body : Body) (is : IsBody image layo
   call-refused step s e =
       let count = passed_of counts step.op in
       let own = own_of body.framed step.height in
-      let some : (count ≡ 0) → ⊥ = λ none. true≢false (sym (ap (λ b. b || int_le (pos (2 * count)) own) ((Decides-eqb count 0).1 none)) ∙ e) in
+      let some : (count ≡ 0)
+      → ⊥ = λ none. true≢false (sym (ap (λ b. b || int_le (pos (2 * count)) own) ((Decides-eqb count 0).1 none))
+      ∙ e) in
       let more : 0 < count = elim (cases_lt 0 count) [ inl less ↦ less | inr le ↦ absurd (some (omega (arith, le))) ] in
       let p = is-passing counts step.op 0 more in
-      let stands : StandsAt image layout step.at (Call p.target) = subst (StandsAt image layout step.at) p.call s.stands in
+      let stands : StandsAt image layout step.at (Call p.target) = subst (StandsAt image layout step.at) p.call
+      s.stands in
       let h = has p.target (called is.is_entry s.node stands) in
-      let same : h.count ≡ count = (let f = p.found in let g = h.found in let e : Some h.count ≡ Some count = sym g ∙ f in cc) in
+      let same : h.count ≡ count = (let f = p.found in let g = h.found in let e : Some h.count ≡ Some count = sym g
+      ∙ f in cc) in
       let short : own <ℤ pos (2 * count) = by (int_le (pos (2 * count)) own) refl in
       record {
         target = p.target;
@@ -252,7 +276,9 @@ module _ (image : Image) (layout : Layout) (body : Body) (is : IsBody image layo
           (b : Bool) → int_le (pos (2 * passed_of counts step.op)) (own_of body.framed step.height) ≡ b
           → own_of body.framed step.height <ℤ pos (2 * passed_of counts step.op)
       by true le =
-          absurd (true≢false (sym (or-right (passed_of counts step.op == 0) (int_le (pos (2 * passed_of counts step.op)) (own_of body.framed step.height)) le) ∙ e))
+          absurd (true≢false (sym
+          (or-right (passed_of counts step.op == 0)
+          (int_le (pos (2 * passed_of counts step.op)) (own_of body.framed step.height)) le) ∙ e))
       by false lt = grind (arith, ints, lt)
 
   pub no-short-call :
@@ -262,7 +288,8 @@ module _ (image : Image) (layout : Layout) (body : Body) (is : IsBody image layo
       at-node image layout body.entry body.steps.items is.steps (λ at. IsShortCall image layout body.entry at → ⊥)
       (λ step among s c.
       let count = call-count image layout body is counts has step s c.target c.count c.stands c.arguments in
-      let words = All-contains (λ (t : Step). has_words counts body.framed t ≡ true) body.steps.items step enough among in
+      let words = All-contains (λ (t : Step). has_words counts body.framed t ≡ true) body.steps.items step enough
+      among in
       let own = own_of body.framed step.height in
       let passing = passed_of counts step.op in
       let height = s.one c.height c.has in
@@ -273,6 +300,7 @@ module _ (image : Image) (layout : Layout) (body : Body) (is : IsBody image layo
       elim (or-cases (passing == 0) (int_le (pos (2 * passing)) own) words) [
         | inl none ↦ absurd (let zero_is = (Decides-eqb passing 0).0 none in omega (arith, zero_is, count, less))
         | inr le ↦
-            absurd (let fits : pos (2 * passing) ≤ℤ own = grind (arith, ints, le) in omega (arith, ints, fits, short, count, less))
+            absurd (let fits : pos (2 * passing) ≤ℤ own = grind (arith, ints, le) in omega
+            (arith, ints, fits, short, count, less))
       ])
       at node short

@@ -34,7 +34,8 @@ frames-more image layout bodies i body frames frame inside read before one =
 
 pub ready-at :
     (image : Image) (layout : Layout) (bodies : List Body) (counts : ℕ → Option ℕ) (delta : ℕ)
-    → AreAllReady image layout bodies counts delta → (i : ℕ) (body : Body) → i < length bodies → body ≡ get_or bodies i body
+    → AreAllReady image layout bodies counts delta → (i : ℕ) (body : Body) → i < length bodies
+    → body ≡ get_or bodies i body
     → IsReady image layout body counts delta
 ready-at image layout bodies counts delta ready i body inside read = record {
   is_body = subst (IsBody image layout) (sym read) (ready.are_bodies i body inside);
@@ -61,7 +62,8 @@ module _ (image : Image) (layout : Layout) (procs : List Proc) (heights : Height
     all-bodies : All (IsBody image layout) bodies
     all-bodies k d inside =
         let long = zipped-length (IsBodyOf image layout) procs bodies are in
-        (zipped-at (IsBodyOf image layout) procs bodies k (a.found.order.start) d are (omega (arith, inside, long))).is_body
+        (zipped-at (IsBodyOf image layout) procs bodies k (a.found.order.start) d are
+        (omega (arith, inside, long))).is_body
 
     -- a procedure that is reached, and its place
     record HasPlace (entry : ℕ) : Type 0 where
@@ -144,7 +146,8 @@ module _ (image : Image) (layout : Layout) (procs : List Proc) (heights : Height
       no-limit _ count (arguments {entry} is_entry given more) =
           let few = (of-entry entry is_entry).1.few_arguments count given in absurd (omega (arith, few, more))
 
-    frame-of : (proc : Proc) (frame : Frame) → IsFrameAt image layout proc.entry frame → IsFrameOf image layout proc frame
+    frame-of : (proc : Proc) (frame : Frame) → IsFrameAt image layout proc.entry frame
+        → IsFrameOf image layout proc frame
     frame-of proc frame f = record {
       framed = f.framed;
       arguments = f.arguments;
@@ -155,17 +158,22 @@ module _ (image : Image) (layout : Layout) (procs : List Proc) (heights : Height
       argument = f.argument;
     }
 
-    zip-frames : (procs : List Proc) (bodies : List Body) (frames : List Frame) → AllZip (IsBodyOf image layout) procs bodies
+    zip-frames : (procs : List Proc) (bodies : List Body) (frames : List Frame)
+        → AllZip (IsBodyOf image layout) procs bodies
         → AreFramesAt image layout bodies frames → AllZip (IsFrameOf image layout) procs frames
     zip-frames [] [] [] are told = tt
     zip-frames [] [] (frame ∷ frames) are told = absurd told
     zip-frames [] (body ∷ bodies) frames are told = absurd are
     zip-frames (proc ∷ procs) [] frames are told = absurd are
     zip-frames (proc ∷ procs) (body ∷ bodies) [] are told = absurd told
-    zip-frames (proc ∷ procs) (body ∷ bodies) (frame ∷ frames) are told =
-        (frame-of proc frame (subst (λ e. IsFrameAt image layout e frame) are.0.entry_is told.0), zip-frames procs bodies frames are.1 told.1)
+    zip-frames (proc ∷ procs) (body ∷ bodies) (frame ∷ frames) are told = (
+      frame-of proc frame (subst (λ e. IsFrameAt image layout e frame) are.0.entry_is told.0),
+      zip-frames procs
+          bodies frames are.1 told.1,
+    )
 
-    pub all-frames : (frames : List Frame) → AreFramesAt image layout bodies frames → (found : Cells) → found.frames.items ≡ frames
+    pub all-frames : (frames : List Frame) → AreFramesAt image layout bodies frames → (found : Cells)
+        → found.frames.items ≡ frames
         → AreFrames image layout procs found
     all-frames frames told found is = record {
       frames = subst (AllZip (IsFrameOf image layout) procs) (sym is) (zip-frames procs bodies frames are told);

@@ -36,13 +36,16 @@ use Rattle.dcc_frames.proofs.AccessTold.{access-refused, call-refused, no-short-
 use Rattle.dcc_frames.proofs.FrameLaws.{starts-near, cells-are, every-cell, cells-ordered, local-told, argument-told, run-refused, no-bad-access, few-cells, many-cells}
 
 module _ (image : Image) (layout : Layout) (body : Body) (counts : ℕ → Option ℕ) (delta : ℕ)
-    (ready : IsReady image layout body counts delta) (lacks : Bool) (lacks_is : lacks ≡ lacks_addresses delta body.framed) where
-  at-frame : (kind at : ℕ) → IsNode image layout body.entry at → IsAtFrame image layout body.entry at kind → IsOfFrames kind image layout at
+    (ready : IsReady image layout body counts delta) (lacks : Bool)
+    (lacks_is : lacks ≡ lacks_addresses delta body.framed) where
+  at-frame : (kind at : ℕ) → IsNode image layout body.entry at → IsAtFrame image layout body.entry at kind
+      → IsOfFrames kind image layout at
   at-frame kind at node stands =
       record { entry = body.entry; is_entry = ready.is_body.is_entry; node = node; stands = stands }
 
   pub accesses-refused :
-      (refusal : Refusal) → IsToldOf body.steps.items (λ (step : Step). is_allowed body.framed body.args lacks step) FRAME_ACCESS refusal
+      (refusal : Refusal) → IsToldOf body.steps.items
+      (λ (step : Step). is_allowed body.framed body.args lacks step) FRAME_ACCESS refusal
       → IsRefusedByFrames image layout refusal
   accesses-refused _ (told {step} among bad) =
       let s = is-step image layout body.entry body.steps.items ready.is_body.steps step among in
@@ -51,7 +54,8 @@ module _ (image : Image) (layout : Layout) (body : Body) (counts : ℕ → Optio
       (ap (λ l. is_allowed body.framed body.args l step) (sym lacks_is) ∙ bad))))
 
   pub calls-refused :
-      (refusal : Refusal) → IsToldOf body.steps.items (λ (step : Step). has_words counts body.framed step) ARGUMENTS_SHORT refusal
+      (refusal : Refusal) → IsToldOf body.steps.items (λ (step : Step). has_words counts body.framed step)
+      ARGUMENTS_SHORT refusal
       → IsRefusedByFrames image layout refusal
   calls-refused _ (told {step} among bad) =
       let s = is-step image layout body.entry body.steps.items ready.is_body.steps step among in
@@ -60,10 +64,13 @@ module _ (image : Image) (layout : Layout) (body : Body) (counts : ℕ → Optio
 
   module _ (allowed : All (λ (step : Step). is_allowed body.framed body.args lacks step ≡ true) body.steps.items)
       (enough : All (λ (step : Step). has_words counts body.framed step ≡ true) body.steps.items)
-      (pieces sorted : List Piece) (pieces_are : pieces ≡ pieces_of body counts) (permuted : IsPermutation pieces sorted)
+      (pieces sorted : List Piece) (pieces_are : pieces ≡ pieces_of body counts)
+      (permuted : IsPermutation pieces sorted)
       (order : AllPairs (λ (a b : Piece). a.bytes.first ≤ℤ b.bytes.first) sorted) where
-    allowed' : All (λ (step : Step). is_allowed body.framed body.args (lacks_addresses delta body.framed) step ≡ true) body.steps.items
-    allowed' = subst (λ l. All (λ (step : Step). is_allowed body.framed body.args l step ≡ true) body.steps.items) lacks_is allowed
+    allowed' : All (λ (step : Step). is_allowed body.framed body.args (lacks_addresses delta body.framed) step ≡
+        true) body.steps.items
+    allowed' = subst (λ l. All (λ (step : Step). is_allowed body.framed body.args l step ≡ true) body.steps.items)
+        lacks_is allowed
 
     permuted' : IsPermutation (pieces_of body counts) sorted
     permuted' = subst (λ l. IsPermutation l sorted) pieces_are permuted
@@ -74,15 +81,18 @@ module _ (image : Image) (layout : Layout) (body : Body) (counts : ℕ → Optio
     module _ (runs : List Piece) (are : AreRuns sorted runs) where
       pub runs-refused : (refusal : Refusal) → IsToldOfRuns lacks runs refusal → IsRefusedByFrames image layout refusal
       runs-refused _ (lists.told {run} {at} among user) =
-          let r = run-refused image layout body ready.is_body counts ready.has_counts delta ready.delta_is allowed' enough sorted permuted' runs are
+          let r = run-refused image layout body ready.is_body counts ready.has_counts delta ready.delta_is allowed'
+          enough sorted permuted' runs are
           run at among (ap (λ l. long_user l run) (sym lacks_is) ∙ user) in
           construct (at-frame FRAME_ACCESS at r.0 (bad_access r.1))
 
-      pub cells-refused : (refusal : Refusal) → IsOverfull (cells_from runs) refusal → IsRefusedByFrames image layout refusal
+      pub cells-refused : (refusal : Refusal) → IsOverfull (cells_from runs) refusal
+          → IsRefusedByFrames image layout refusal
       cells-refused (Limit Cells count) h =
           subst (λ n. IsRefusedByFrames image layout (Limit Cells n)) (sym h.0)
           (limit (cells ready.is_body.is_entry
-          (many-cells image layout body ready.is_body counts ready.has_counts delta ready.delta_is allowed' enough sorted permuted' runs are h.1)))
+          (many-cells image layout body ready.is_body counts ready.has_counts delta ready.delta_is allowed' enough
+          sorted permuted' runs are h.1)))
       cells-refused (Limit Procedures count) h = absurd h
       cells-refused (Limit Instructions count) h = absurd h
       cells-refused (Limit Total count) h = absurd h
@@ -93,19 +103,24 @@ module _ (image : Image) (layout : Layout) (body : Body) (counts : ℕ → Optio
       cells-refused (NotYet at) h = absurd h
 
       module _ (none : All (λ (run : Piece). long_user lacks run ≡ None) runs) (frame : Frame)
-          (framed_is : frame.framed ≡ body.framed) (args_are : frame.args ≡ body.args) (cells_are : frame.cells.items ≡ cells_from runs)
+          (framed_is : frame.framed ≡ body.framed) (args_are : frame.args ≡ body.args)
+          (cells_are : frame.cells.items ≡ cells_from runs)
           (few : length frame.cells.items ≤ 512)
-          (starts : All IsNear (starts_of body.steps.items runs) → IsLocalBy (starts_of body.steps.items runs) frame.exposed.local)
-          (starts' : All IsNear (starts_of body.steps.items runs) → IsArgumentBy (starts_of body.steps.items runs) frame.exposed.arg) where
+          (starts : All IsNear (starts_of body.steps.items runs)
+          → IsLocalBy (starts_of body.steps.items runs) frame.exposed.local)
+          (starts' : All IsNear (starts_of body.steps.items runs)
+          → IsArgumentBy (starts_of body.steps.items runs) frame.exposed.arg) where
         none' : All (λ (run : Piece). long_user (lacks_addresses delta body.framed) run ≡ None) runs
         none' = subst (λ l. All (λ (run : Piece). long_user l run ≡ None) runs) lacks_is none
 
         near : All IsNear (starts_of body.steps.items runs)
-        near = starts-near image layout body ready.is_body counts ready.has_counts delta ready.delta_is allowed' enough sorted permuted' runs are
+        near = starts-near image layout body ready.is_body counts ready.has_counts delta ready.delta_is allowed'
+            enough sorted permuted' runs are
 
         none-at : (kind at : ℕ) → IsNode image layout body.entry at → ¬ IsAtFrame image layout body.entry at kind
         none-at _ at node (bad_access bad) =
-            no-bad-access image layout body ready.is_body counts ready.has_counts delta ready.delta_is allowed' enough sorted permuted' runs are
+            no-bad-access image layout body ready.is_body counts ready.has_counts delta ready.delta_is allowed'
+            enough sorted permuted' runs are
             none' at node bad
         none-at _ at node (short_call short) =
             no-short-call image layout body ready.is_body counts ready.has_counts enough at node short
@@ -119,22 +134,28 @@ module _ (image : Image) (layout : Layout) (body : Body) (counts : ℕ → Optio
               arguments = subst (HasArguments image layout body.entry) (sym args_are) is.arguments;
               cells =
                   subst (All (λ (cell : Cell). IsCell image layout body.entry (bytes_of cell))) (sym cells_are)
-                  (cells-are image layout body is counts has delta ready.delta_is allowed' enough sorted permuted' runs are);
+                  (cells-are image layout body is counts has delta ready.delta_is allowed' enough sorted permuted'
+                  runs are);
               ascending =
                   subst (AllPairs (λ (a b : Cell). a.first <ℤ b.first)) (sym cells_are)
-                  (cells-ordered image layout body is counts has delta ready.delta_is allowed' enough sorted permuted' runs are);
+                  (cells-ordered image layout body is counts has delta ready.delta_is allowed' enough sorted
+                  permuted' runs are);
               every = λ span c.
                   subst (λ l. Contains (map bytes_of l) span) (sym cells_are)
-                  (every-cell image layout body is counts has delta ready.delta_is allowed' enough sorted permuted' runs are span c);
+                  (every-cell image layout body is counts has delta ready.delta_is allowed' enough sorted permuted'
+                  runs are span c);
               local =
-                  local-told image layout body is counts has delta ready.delta_is allowed' enough sorted permuted' runs are
+                  local-told image layout body is counts has delta ready.delta_is allowed' enough sorted permuted'
+                  runs are
                   frame.exposed.local (starts near);
               argument =
-                  argument-told image layout body is counts has delta ready.delta_is allowed' enough sorted permuted' runs are
+                  argument-told image layout body is counts has delta ready.delta_is allowed' enough sorted
+                  permuted' runs are
                   frame.exposed.arg (starts' near);
               clean = none-at;
               few_cells =
-                  few-cells image layout body is counts has delta ready.delta_is allowed' enough sorted permuted' runs are
+                  few-cells image layout body is counts has delta ready.delta_is allowed' enough sorted permuted'
+                  runs are
                   (let same = ap length cells_are in omega (arith, same, few));
               few_arguments = λ count given.
                   (let same = one-count image layout body.entry count body.args given is.arguments in

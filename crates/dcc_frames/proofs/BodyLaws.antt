@@ -18,19 +18,22 @@ use Rattle.dcc_frames.specs.Body.{AreSteps, IsBody, IsBodyOf, IsMeasured}
 use Rattle.dcc_frames.proofs.Measured.{are-steps, has-arguments}
 
 module _ (image : Image) (layout : Layout) (proc : Proc) (heights : List (ℕ × ℕ)) (removed : ℕ) (is_start : Bool)
-    (m : IsMeasured image layout proc heights removed is_start) (framed : Bool) (framed_is : framed ≡ is_framed image layout proc.entry)
+    (m : IsMeasured image layout proc heights removed is_start) (framed : Bool)
+    (framed_is : framed ≡ is_framed image layout proc.entry)
     (steps : List Step) (steps_are : steps ≡ steps_of proc.nodes.entries heights) (count : ℕ)
     (counted : IsCounted is_start framed removed steps count) where
   pub steps-told : AreSteps image layout proc.entry steps
   steps-told =
       subst (AreSteps image layout proc.entry) (sym steps_are)
-      (are-steps image layout proc.entry m.is_entry m.accepted proc.nodes.entries heights m.heights_are.nodes m.found.nodes
+      (are-steps image layout proc.entry m.is_entry m.accepted proc.nodes.entries heights m.heights_are.nodes
+      m.found.nodes
       m.heights_are.each m.found.every)
 
   by-case : IsCounted is_start framed removed steps count → HasArguments image layout proc.entry count
   by-case (of_entry is none) = subst (HasArguments image layout proc.entry) (sym none) (of_start (m.start is))
   by-case (of_other is least) =
-      has-arguments image layout proc.entry m.is_entry m.accepted steps steps-told removed m.removed_is count (m.other is)
+      has-arguments image layout proc.entry m.is_entry m.accepted steps steps-told removed m.removed_is count
+      (m.other is)
       (subst (λ f. IsLeast (HasRoomIn f removed steps) count) framed_is least)
 
   pub arguments-counted : HasArguments image layout proc.entry count
@@ -40,7 +43,8 @@ module _ (image : Image) (layout : Layout) (proc : Proc) (heights : List (ℕ ×
   too-many more = limit (arguments m.is_entry arguments-counted more)
 
   pub is-body :
-      (body : Body) → body.entry ≡ proc.entry → body.framed ≡ framed → body.args ≡ count → body.steps.items ≡ steps → count ≤ 32
+      (body : Body) → body.entry ≡ proc.entry → body.framed ≡ framed → body.args ≡ count → body.steps.items ≡ steps
+      → count ≤ 32
       → IsBodyOf image layout proc body
   is-body body entry_is framed_same args_are items few = record {
     entry_is = entry_is;

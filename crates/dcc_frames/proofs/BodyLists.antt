@@ -20,15 +20,18 @@ use Rattle.dcc_frames.specs.Body.{IsBody, IsBodyOf, IsMeasured, AreMeasured, Are
 use Rattle.dcc_frames.proofs.Zipped.{zipped-at, zipped-push}
 
 -- the procedure at a place, with its heights
-module _ (image : Image) (layout : Layout) (procs : List Proc) (heights : Heights) (m : AreMeasured image layout procs heights) where
+module _ (image : Image) (layout : Layout) (procs : List Proc) (heights : Heights)
+    (m : AreMeasured image layout procs heights) where
   entry-is :
-      (start : Proc) (others : List Proc) → procs ≡ start ∷ others → (place : ℕ) (proc : Proc) → proc ≡ get_or procs place proc
+      (start : Proc) (others : List Proc) → procs ≡ start ∷ others → (place : ℕ) (proc : Proc)
+      → proc ≡ get_or procs place proc
       → place ≡ 0 → proc ≡ start
   entry-is start others is place proc read zero_is =
       read ∙ ap (λ l. get_or l place proc) is ∙ ap (λ i. get_or (start ∷ others) i proc) zero_is
 
   other-is :
-      (start : Proc) (others : List Proc) (P : Proc → Type 0) → procs ≡ start ∷ others → All P others → (place : ℕ) (proc : Proc)
+      (start : Proc) (others : List Proc) (P : Proc → Type 0) → procs ≡ start ∷ others → All P others
+      → (place : ℕ) (proc : Proc)
       → proc ≡ get_or procs place proc → place < length procs → place ≢ 0 → P proc
   other-is start others P is apart zero proc read inside other = absurd (other refl)
   other-is start others P is apart (suc place) proc read inside other =
@@ -37,7 +40,8 @@ module _ (image : Image) (layout : Layout) (procs : List Proc) (heights : Height
 
   pub measured-at :
       (place : ℕ) (proc : Proc) (given : List (ℕ × ℕ)) (removed : ℕ) (is_start : Bool) → place < length procs
-      → proc ≡ get_or procs place proc → AreHeightsOf image layout proc given → IsRemoved image layout proc.entry removed
+      → proc ≡ get_or procs place proc → AreHeightsOf image layout proc given
+      → IsRemoved image layout proc.entry removed
       → is_start ≡ (place == 0) → IsMeasured image layout proc given removed is_start
   measured-at place proc given removed is_start inside read heights_of removed_is start_is = record {
     is_entry =
@@ -58,7 +62,8 @@ module _ (image : Image) (layout : Layout) (procs : List Proc) (heights : Height
   }
 
   pub bodies-more :
-      (place : ℕ) (bodies : List Body) (proc : Proc) (body : Body) → place < length procs → proc ≡ get_or procs place proc
+      (place : ℕ) (bodies : List Body) (proc : Proc) (body : Body) → place < length procs
+      → proc ≡ get_or procs place proc
       → AreBodies image layout (take place procs) bodies → IsBodyOf image layout proc body
       → AreBodies image layout (take (place + 1) procs) (bodies ++ body ∷ [])
   bodies-more place bodies proc body inside read before one =
@@ -79,14 +84,17 @@ module _ (bodies : List Body) (body : Body) (counts after : ℕ → Option ℕ) 
   pushed : List Body
   pushed = bodies ++ body ∷ []
 
-  found-more : (entry count : ℕ) → after entry ≡ Some count → (entry ≡ body.entry) ⊎ (entry ≢ body.entry) → HasBody pushed entry count
+  found-more : (entry count : ℕ) → after entry ≡ Some count → (entry ≡ body.entry) ⊎ (entry ≢ body.entry)
+      → HasBody pushed entry count
   unfolding pushed
   found-more entry count found (inl same) =
-      let here : after body.entry ≡ Some body.args = updated body.entry ∙ update_here counts body.entry (Some body.args) in
+      let here : after body.entry ≡ Some body.args = updated body.entry
+      ∙ update_here counts body.entry (Some body.args) in
       let both : Some body.args ≡ Some count = sym here ∙ ap after (sym same) ∙ found in
       record { body = body; among = Contains-push bodies body; entry_is = sym same; count_is = cc }
   found-more entry count found (inr apart) =
-      let old = before.each entry count (sym (updated entry ∙ update_apart counts body.entry (Some body.args) entry apart) ∙ found) in
+      let old = before.each entry count
+      (sym (updated entry ∙ update_apart counts body.entry (Some body.args) entry apart) ∙ found) in
       record {
         body = old.body;
         among = Contains-append_left bodies (body ∷ []) old.body old.among;
@@ -108,7 +116,8 @@ module _ (bodies : List Body) (body : Body) (counts after : ℕ → Option ℕ) 
     each = λ entry count found. found-more entry count found (cases_eq entry body.entry);
     every =
         All-push (λ (b : Body). (count : ℕ) × (after b.entry ≡ Some count)) bodies body
-        (All-weaker (λ (b : Body). (count : ℕ) × (counts b.entry ≡ Some count)) (λ (b : Body). (count : ℕ) × (after b.entry ≡ Some count))
+        (All-weaker (λ (b : Body). (count : ℕ) × (counts b.entry ≡ Some count))
+        (λ (b : Body). (count : ℕ) × (after b.entry ≡ Some count))
         (λ b old. has-count b.entry old (cases_eq b.entry body.entry)) bodies before.every)
         (body.args, updated body.entry ∙ update_here counts body.entry (Some body.args));
   }

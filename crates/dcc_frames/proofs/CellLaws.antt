@@ -13,7 +13,8 @@ use Rattle.dcc_frames.specs.CellLists.{small_cell, cells_from, IsOverfull}
 use Rattle.dcc_frames.proofs.Flat.{flat-shorter}
 
 -- where these are too many, more are
-overfull-longer : (few more : List Cell) (refusal : Refusal) → length few ≤ length more → IsOverfull few refusal → IsOverfull more refusal
+overfull-longer : (few more : List Cell) (refusal : Refusal) → length few ≤ length more → IsOverfull few refusal
+    → IsOverfull more refusal
 overfull-longer few more (Limit Cells count) le h = (h.0, let longer = h.1 in omega (arith, le, longer))
 overfull-longer few more (Limit Procedures count) le h = absurd h
 overfull-longer few more (Limit Instructions count) le h = absurd h
@@ -39,7 +40,8 @@ overfull-all runs i d refusal inside h =
     (subst (λ l. IsOverfull l refusal) (sym is) h)
 
 pub overfull-read :
-    (runs : List Piece) (i : ℕ) (d : Piece) (cells : List Cell) (cell : Option Cell) (refusal : Refusal) → i < length runs
+    (runs : List Piece) (i : ℕ) (d : Piece) (cells : List Cell) (cell : Option Cell) (refusal : Refusal)
+    → i < length runs
     → cells ≡ cells_from (take i runs) → cell ≡ small_cell (get_or runs i d)
     → IsOverfull (cells ++ option_to_list cell) refusal → IsOverfull (cells_from runs) refusal
 overfull-read runs i d cells cell refusal inside first second h =

@@ -6,7 +6,8 @@ use Rattle.dcc_prog.specs.declared.refusal.Refusal.TheVariants.{Construct}
 use Rattle.dcc_frames.specs.declared.steps.Step.{Step}
 use Rattle.dcc_frames.specs.Inside.{IsToldOf, told}
 
-module _ (allowed : Step → Bool) (steps list : List Step) (same : list ≡ steps) (i : ℕ) (d : Step) (inside : i < length list) where
+module _ (allowed : Step → Bool) (steps list : List Step) (same : list ≡ steps) (i : ℕ) (d : Step)
+    (inside : i < length list) where
   pub allowed-more :
       All (λ (step : Step). allowed step ≡ true) (take i steps) → allowed (get_or list i d) ≡ true
       → All (λ (step : Step). allowed step ≡ true) (take (i + 1) steps)
@@ -14,11 +15,13 @@ module _ (allowed : Step → Bool) (steps list : List Step) (same : list ≡ ste
       All-more (λ (step : Step). allowed step ≡ true) steps i d (subst (λ l. i < length l) same inside) before
       (subst (λ l. allowed (get_or l i d) ≡ true) same here)
 
-  pub told-at : (kind : ℕ) → allowed (get_or list i d) ≡ false → IsToldOf steps allowed kind (Construct kind (get_or list i d).at)
+  pub told-at : (kind : ℕ) → allowed (get_or list i d) ≡ false
+      → IsToldOf steps allowed kind (Construct kind (get_or list i d).at)
   told-at kind bad = told (subst (λ l. Contains l (get_or list i d)) same (Contains-get_or list i d inside)) bad
 
 pub allowed-all :
     (allowed : Step → Bool) (steps list : List Step) → list ≡ steps → (i : ℕ) → length list ≤ i
     → All (λ (step : Step). allowed step ≡ true) (take i steps) → All (λ (step : Step). allowed step ≡ true) steps
 allowed-all allowed steps list same i past all =
-    subst (λ l. All (λ (step : Step). allowed step ≡ true) l) (take_all i steps (subst (λ l. length l ≤ i) same past)) all
+    subst (λ l. All (λ (step : Step). allowed step ≡ true) l)
+    (take_all i steps (subst (λ l. length l ≤ i) same past)) all

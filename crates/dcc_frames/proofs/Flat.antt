@@ -33,10 +33,16 @@ module _ {A B : Type 0} (f : A → List B) where
     | inl here ↦ record { source = x; among = (0, omega arith, refl); is_in = here }
     | inr there ↦
         (let rest = from-flat xs y there in
-        record { source = rest.source; among = Contains-append_right (x ∷ []) xs rest.source rest.among; is_in = rest.is_in })
+        record {
+          source = rest.source;
+          among = Contains-append_right (x ∷ []) xs rest.source rest.among;
+          is_in =
+              rest.is_in;
+        })
   ]
 
-  to-flat-at : (xs : List A) (k : ℕ) (x : A) (y : B) → k < length xs → get_or xs k x ≡ x → Contains (f x) y → Contains (flat_map f xs) y
+  to-flat-at : (xs : List A) (k : ℕ) (x : A) (y : B) → k < length xs → get_or xs k x ≡ x → Contains (f x) y
+      → Contains (flat_map f xs) y
   to-flat-at [] k x y inside is among = absurd (omega (arith, inside))
   to-flat-at (z ∷ xs) zero x y inside is among =
       Contains-append_left (f z) (flat_map f xs) y (subst (λ a. Contains (f a) y) (sym is) among)

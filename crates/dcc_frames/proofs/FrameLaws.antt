@@ -37,7 +37,8 @@ use Rattle.dcc_frames.proofs.AccessTold.{LiesInside, in_arguments, in_locals, in
 
 -- what lies inside a frame lies near its base
 near-inside :
-    (args height : ℕ) (bytes : Bytes) → args ≤ 32 → height ≤ 32766 → bytes.first <ℤ bytes.end → LiesInside args height bytes
+    (args height : ℕ) (bytes : Bytes) → args ≤ 32 → height ≤ 32766 → bytes.first <ℤ bytes.end
+    → LiesInside args height bytes
     → IsNear bytes.first
 near-inside args height bytes few small some (in_arguments low high) =
     record { low = omega (arith, ints, low); high = omega (arith, ints, high, some, few) }
@@ -51,17 +52,20 @@ own-bound false height = omega (arith, ints)
 
 module _ (image : Image) (layout : Layout) (body : Body) (is : IsBody image layout body) (counts : ℕ → Option ℕ)
     (has : HasCounts image layout counts) (delta : ℕ) (delta_is : delta ≡ layout.delta)
-    (allowed : All (λ (step : Step). is_allowed body.framed body.args (lacks_addresses delta body.framed) step ≡ true) body.steps.items)
+    (allowed : All (λ (step : Step). is_allowed body.framed body.args (lacks_addresses delta body.framed) step ≡
+    true) body.steps.items)
     (enough : All (λ (step : Step). has_words counts body.framed step ≡ true) body.steps.items)
     (sorted : List Piece) (permuted : IsPermutation (pieces_of body counts) sorted)
     (runs : List Piece) (are : AreRuns sorted runs) where
   -- Offsets are near.
 
-  start-near : (step : Step) → Contains body.steps.items step → (start : ℤ) → start_of step.op step.height ≡ Some start → IsNear start
+  start-near : (step : Step) → Contains body.steps.items step → (start : ℤ)
+      → start_of step.op step.height ≡ Some start → IsNear start
   start-near step among start e =
       let s = is-step image layout body.entry body.steps.items is.steps step among in
       near-inside body.args step.height (byte_from start) is.few s.small (omega (arith, ints))
-      (inside-told body.args step.height (byte_from start) (start-inside image layout body is delta delta_is allowed step among start e).1)
+      (inside-told body.args step.height (byte_from start)
+      (start-inside image layout body is delta delta_is allowed step among start e).1)
 
   used-near :
       (step : Step) → Contains body.steps.items step → IsStep image layout body.entry step → (span : Span)
@@ -72,7 +76,8 @@ module _ (image : Image) (layout : Layout) (body : Body) (is : IsBody image layo
   used-near step among s _ (moved (popped {a} {height} stands unsaved given)) =
       let same = s.one height given in let small = s.small in
       record { low = omega (arith, ints, same, small); high = omega (arith, ints, same) }
-  used-near step among s _ (IsUsed.passed (passed {target} {count} {number} {height} stands given arguments less fits)) =
+  used-near step among s _ (IsUsed.passed (passed {target} {count} {number} {height} stands given arguments less
+      fits)) =
       let same = s.one height given in let small = s.small in
       let own = own-bound (is_framed image layout body.entry) height in
       record { low = omega (arith, ints, same, small); high = omega (arith, ints, fits, own) }
@@ -96,7 +101,8 @@ module _ (image : Image) (layout : Layout) (body : Body) (is : IsBody image layo
   run-near run among =
       let r = are.each run among in
       subst IsNear r.begins
-      (piece-near (as_span r.piece.bytes) (sorted-tells image layout body is counts has enough sorted permuted r.piece r.among))
+      (piece-near (as_span r.piece.bytes) (sorted-tells image layout body is counts has enough sorted permuted
+      r.piece r.among))
 
   near-case : (start : ℤ) → IsStart body.steps.items runs start → IsNear start
   near-case start (of_step {step} among e) = start-near step among start e
@@ -105,11 +111,13 @@ module _ (image : Image) (layout : Layout) (body : Body) (is : IsBody image layo
   pub starts-near : All IsNear (starts_of body.steps.items runs)
   starts-near = λ k d inside.
       (let starts = starts_of body.steps.items runs in
-      near-case (get_or starts k d) (told.start-told body.steps.items runs (get_or starts k d) (Contains-get_or starts k d inside)))
+      near-case (get_or starts k d) (told.start-told body.steps.items runs (get_or starts k d)
+      (Contains-get_or starts k d inside)))
 
   -- Cells.
 
-  is-cell : (run : Piece) → Contains runs run → is_small run.bytes ≡ true → IsCell image layout body.entry (bytes_of (cell_of run.bytes))
+  is-cell : (run : Piece) → Contains runs run → is_small run.bytes ≡ true
+      → IsCell image layout body.entry (bytes_of (cell_of run.bytes))
   is-cell run among small =
       let r = are.each run among in
       subst (IsCell image layout body.entry) (sym (cell-bytes run.bytes r.ends small))
@@ -142,11 +150,13 @@ module _ (image : Image) (layout : Layout) (body : Body) (is : IsBody image layo
 
   -- Exposed bytes.
 
-  exposure-told : (start : ℤ) → IsExposureStart image layout body.entry start → Contains (starts_of body.steps.items runs) start
+  exposure-told : (start : ℤ) → IsExposureStart image layout body.entry start
+      → Contains (starts_of body.steps.items runs) start
   exposure-told start (by_instruction {at} node starts) =
       at-node image layout body.entry body.steps.items is.steps
       (λ at. StartsExposure image layout body.entry at start → Contains (starts_of body.steps.items runs) start)
-      (λ step among s e. start-of-step body.steps.items runs start step among (start-told image layout body.entry step s start e))
+      (λ step among s e. start-of-step body.steps.items runs start step among
+      (start-told image layout body.entry step s start e))
       at node starts
   exposure-told _ (by_run {run} long) =
       let r = run-told image layout body is counts has enough sorted permuted runs are run long.is_run in
@@ -154,7 +164,8 @@ module _ (image : Image) (layout : Layout) (body : Body) (is : IsBody image layo
       subst (Contains (starts_of body.steps.items runs)) (ap (λ (b : Bytes). b.first) r.bytes_are)
       (start-of-run body.steps.items runs r.run r.among wide)
 
-  is-long : (run : Piece) → Contains runs run → is_small run.bytes ≡ false → IsLongRun image layout body.entry (as_span run.bytes)
+  is-long : (run : Piece) → Contains runs run → is_small run.bytes ≡ false
+      → IsLongRun image layout body.entry (as_span run.bytes)
   is-long run among wide = record {
     is_run = run-tells image layout body is counts has enough sorted permuted run.bytes (are.each run among);
     long = long-told run.bytes wide;
@@ -167,18 +178,22 @@ module _ (image : Image) (layout : Layout) (body : Body) (is : IsBody image layo
   exposure-case start (of_run {run} among wide first) =
       subst (IsExposureStart image layout body.entry) first (by_run (is-long run among wide))
 
-  exposure-tells : (start : ℤ) → Contains (starts_of body.steps.items runs) start → IsExposureStart image layout body.entry start
+  exposure-tells : (start : ℤ) → Contains (starts_of body.steps.items runs) start
+      → IsExposureStart image layout body.entry start
   exposure-tells start among = exposure-case start (told.start-told body.steps.items runs start among)
 
-  of-starts : (P : ℤ → Type 0) → All P (starts_of body.steps.items runs) → (start : ℤ) → IsExposureStart image layout body.entry start → P start
+  of-starts : (P : ℤ → Type 0) → All P (starts_of body.steps.items runs) → (start : ℤ)
+      → IsExposureStart image layout body.entry start → P start
   of-starts P all start e = All-contains P (starts_of body.steps.items runs) start all (exposure-told start e)
 
-  pub local-told : (count : ℕ) → IsLocalBy (starts_of body.steps.items runs) count → HasExposedLocal image layout body.entry count
+  pub local-told : (count : ℕ) → IsLocalBy (starts_of body.steps.items runs) count
+      → HasExposedLocal image layout body.entry count
   local-told _ (no_local all) = frame.no_local (of-starts (λ s. pos 0 ≤ℤ s) all)
   local-told _ (local {count} some there all) =
       frame.local some (exposure-tells (neg_ℤ (pos count)) there) (of-starts (λ s. neg_ℤ (pos count) ≤ℤ s) all)
 
-  pub argument-told : (least : Option ℕ) → IsArgumentBy (starts_of body.steps.items runs) least → HasExposedArguments image layout body.entry least
+  pub argument-told : (least : Option ℕ) → IsArgumentBy (starts_of body.steps.items runs) least
+      → HasExposedArguments image layout body.entry least
   argument-told _ (no_argument all) = frame.no_argument (of-starts (λ s. s <ℤ pos 4) all)
   argument-told _ (from_argument {least} four there all) =
       frame.from_argument four (exposure-tells (pos least) there) (of-starts (λ s. pos 4 ≤ℤ s → pos least ≤ℤ s) all)
@@ -198,8 +213,12 @@ module _ (image : Image) (layout : Layout) (body : Body) (is : IsBody image layo
   run-refused run at among e =
       let u = user-case (lacks_addresses delta body.framed) (is_small run.bytes) run.user at e in
       let h = are.used run among at u.2 in
-      let t = used-tells image layout body is counts has enough h.piece at (from-sorted image layout body is counts has enough sorted permuted h.piece h.among) h.user_is in
-      (t.0, long_without_addresses (lacks-told image layout body is delta delta_is u.0) t.1 (is-long run among u.1) h.lies.from h.lies.to)
+      let t = used-tells image layout body is counts has enough h.piece at
+      (from-sorted image layout body is counts has enough sorted permuted h.piece h.among) h.user_is in (
+        t.0,
+        long_without_addresses (lacks-told image layout body is delta delta_is u.0) t.1 (is-long run among u.1)
+            h.lies.from h.lies.to,
+      )
 
   module _ (none : All (λ (run : Piece). long_user (lacks_addresses delta body.framed) run ≡ None) runs) where
     no-long-run :
@@ -208,21 +227,25 @@ module _ (image : Image) (layout : Layout) (body : Body) (is : IsBody image layo
         → ¬ (span.end ≤ℤ run.end)
     no-long-run at node span run lacks uses long low high =
         let piece : Piece = record { bytes = as_bytes span; user = Some at } in
-        let there = in-sorted image layout body is counts has enough sorted permuted piece (used-told image layout body is counts has at span node uses) in
+        let there = in-sorted image layout body is counts has enough sorted permuted piece
+        (used-told image layout body is counts has at span node uses) in
         let held = are.every piece there in
         let user = held.user at refl in
         let r = run-told image layout body is counts has enough sorted permuted runs are run long.is_run in
         let same : held.run.bytes ≡ r.run.bytes =
-        one-run sorted held.run.bytes r.run.bytes (as_bytes span) (are.each held.run held.among) (are.each r.run r.among)
+        one-run sorted held.run.bytes r.run.bytes (as_bytes span) (are.each held.run held.among)
+        (are.each r.run r.among)
         (used-some image layout body.entry at span uses) held.lies
         (subst (λ (b : Bytes). LiesIn (as_bytes span) b) (sym r.bytes_are) (record { from = low; to = high })) in
         let wide : is_small held.run.bytes ≡ false =
         ap is_small same ∙ ap is_small r.bytes_are ∙ long-tells (as_bytes run) long.long in
         let told : long_user (lacks_addresses delta body.framed) held.run ≡ Some user.0 =
-        ap (λ b. cond (not b || is_small held.run.bytes) None held.run.user) (lacks-tells image layout body is delta delta_is lacks)
+        ap (λ b. cond (not b || is_small held.run.bytes) None held.run.user)
+        (lacks-tells image layout body is delta delta_is lacks)
         ∙ ap (λ b. cond b None held.run.user) wide
         ∙ user.1 in
-        let untold = All-contains (λ (run : Piece). long_user (lacks_addresses delta body.framed) run ≡ None) runs held.run none held.among in
+        let untold = All-contains (λ (run : Piece). long_user (lacks_addresses delta body.framed) run ≡ None) runs
+        held.run none held.among in
         let bad : None ≡ Some user.0 = sym untold ∙ told in
         absurd (cc)
 
@@ -251,14 +274,17 @@ module _ (image : Image) (layout : Layout) (body : Body) (is : IsBody image layo
       let long = length-map cells bytes_of in
       let short : length (take 513 spans) ≡ 513 = length-take-le 513 spans (omega (arith, more, long)) in
       let none : Cell = record { first = pos 0; size = 1 } in
-      let read : (i : ℕ) (d : Span) → i < 513 → get_or (take 513 spans) i d ≡ bytes_of (get_or cells i none) = λ i d less.
+      let read : (i : ℕ) (d : Span) → i < 513 → get_or (take 513 spans) i d ≡ bytes_of (get_or cells i none) = λ i
+      d less.
       get_or-take 513 spans i d less ∙ get_or-map bytes_of cells i none d (omega (arith, less, more)) in
       record {
         values = take 513 spans;
-        hold = All-take (IsCell image layout body.entry) 513 spans (All-map (IsCell image layout body.entry) bytes_of cells cells-are);
+        hold = All-take (IsCell image layout body.entry) 513 spans
+            (All-map (IsCell image layout body.entry) bytes_of cells cells-are);
         distinct = λ i j d less inside same.
             (let first =
-            ap (λ (s : Span). s.first) (sym (read i d (omega (arith, less, inside, short))) ∙ same ∙ read j d (omega (arith, inside, short))) in
+            ap (λ (s : Span). s.first) (sym (read i d (omega (arith, less, inside, short))) ∙ same
+            ∙ read j d (omega (arith, inside, short))) in
             let apart = cells-ordered i j none less (omega (arith, inside, short, more)) in
             absurd (omega (arith, ints, first, apart)));
         count_is = short;

@@ -40,16 +40,19 @@ pub long-tells : (bytes : Bytes) → (bytes.first +ℤ pos 2) <ℤ bytes.end →
 long-tells bytes lt = grind (arith, ints, lt)
 
 -- the bytes of the cell of at most two bytes are those
-pub cell-bytes : (bytes : Bytes) → bytes.first <ℤ bytes.end → is_small bytes ≡ true → bytes_of (cell_of bytes) ≡ as_span bytes
+pub cell-bytes : (bytes : Bytes) → bytes.first <ℤ bytes.end → is_small bytes ≡ true
+    → bytes_of (cell_of bytes) ≡ as_span bytes
 cell-bytes bytes some small = by (int_le bytes.end (bytes.first +ℤ pos 1)) refl
   where
-    at-end : (n : ℕ) → (bytes.first +ℤ pos n) ≡ bytes.end → record { first = bytes.first; end = bytes.first +ℤ pos n } ≡ as_span bytes
+    at-end : (n : ℕ) → (bytes.first +ℤ pos n) ≡ bytes.end
+        → record { first = bytes.first; end = bytes.first +ℤ pos n } ≡ as_span bytes
     at-end n is = ap (λ e. let s : Span = record { first = bytes.first; end = e } in s) is
 
     by : (b : Bool) → int_le bytes.end (bytes.first +ℤ pos 1) ≡ b → bytes_of (cell_of bytes) ≡ as_span bytes
     by true e =
         ap (λ b. let s : Span = record { first = bytes.first; end = bytes.first +ℤ pos (if b then 1 else 2) } in s) e
-        ∙ at-end 1 (let le : bytes.end ≤ℤ (bytes.first +ℤ pos 1) = grind (arith, ints, e) in omega (arith, ints, le, some))
+        ∙ at-end 1 (let le : bytes.end ≤ℤ (bytes.first +ℤ pos 1) = grind (arith, ints, e) in omega
+        (arith, ints, le, some))
     by false e =
         ap (λ b. let s : Span = record { first = bytes.first; end = bytes.first +ℤ pos (if b then 1 else 2) } in s) e
         ∙ at-end 2
@@ -75,13 +78,15 @@ cell-run runs cell among =
     let s = small-case f.source cell (is_small f.source.bytes) refl (in-some (small_cell f.source) cell f.is_in) in
     record { run = f.source; among = f.among; small = s.0; cell_is = s.1 }
 
-pub run-cell : (runs : List Piece) (run : Piece) → Contains runs run → is_small run.bytes ≡ true → Contains (cells_from runs) (cell_of run.bytes)
+pub run-cell : (runs : List Piece) (run : Piece) → Contains runs run → is_small run.bytes ≡ true
+    → Contains (cells_from runs) (cell_of run.bytes)
 run-cell runs run among small =
     to-flat (λ run. option_to_list (small_cell run)) runs run (cell_of run.bytes) among
     (some-in (small_cell run) (cell_of run.bytes) (ap (λ b. cond b (Some (cell_of run.bytes)) None) small))
 
 -- the cells ascend where the runs do
-pairs-head : {A : Type 0} (R : A → A → Type 0) (x : A) (xs : List A) → AllPairs R (x ∷ xs) → (y : A) → Contains xs y → R x y
+pairs-head : {A : Type 0} (R : A → A → Type 0) (x : A) (xs : List A) → AllPairs R (x ∷ xs) → (y : A)
+    → Contains xs y → R x y
 pairs-head R x xs pairs y (k, inside, is) = subst (R x) is (pairs 0 (suc k) y (omega arith) (omega (arith, inside)))
 
 pairs-tail : {A : Type 0} (R : A → A → Type 0) (x : A) (xs : List A) → AllPairs R (x ∷ xs) → AllPairs R xs
@@ -92,7 +97,8 @@ pub cells-ascend :
     → AllPairs (λ (a b : Cell). a.first <ℤ b.first) (cells_from runs)
 cells-ascend [] pairs = λ i j d less inside. absurd (omega (arith, inside))
 cells-ascend (run ∷ runs) pairs =
-    by (cells-ascend runs (pairs-tail (λ (a b : Piece). a.bytes.first <ℤ b.bytes.first) run runs pairs)) (is_small run.bytes) refl
+    by (cells-ascend runs (pairs-tail (λ (a b : Piece). a.bytes.first <ℤ b.bytes.first) run runs pairs))
+    (is_small run.bytes) refl
   where
     first-of : (cell : Cell) → Contains (cells_from runs) cell → run.bytes.first <ℤ cell.first
     first-of cell among =
@@ -104,11 +110,13 @@ cells-ascend (run ∷ runs) pairs =
         AllPairs (λ (a b : Cell). a.first <ℤ b.first) (cells_from runs) → (b : Bool) → is_small run.bytes ≡ b
         → AllPairs (λ (a b : Cell). a.first <ℤ b.first) (cells_from (run ∷ runs))
     by rest true e =
-        subst (λ b. AllPairs (λ (a b : Cell). a.first <ℤ b.first) (option_to_list (cond b (Some (cell_of run.bytes)) None) ++ cells_from runs)) (sym e)
+        subst (λ b. AllPairs (λ (a b : Cell). a.first <ℤ b.first)
+        (option_to_list (cond b (Some (cell_of run.bytes)) None) ++ cells_from runs)) (sym e)
         (AllPairs-cons (λ (a b : Cell). a.first <ℤ b.first) (cell_of run.bytes) (cells_from runs)
         (λ k d inside. first-of (get_or (cells_from runs) k d) (Contains-get_or (cells_from runs) k d inside)) rest)
     by rest false e =
-        subst (λ b. AllPairs (λ (a b : Cell). a.first <ℤ b.first) (option_to_list (cond b (Some (cell_of run.bytes)) None) ++ cells_from runs)) (sym e) rest
+        subst (λ b. AllPairs (λ (a b : Cell). a.first <ℤ b.first)
+        (option_to_list (cond b (Some (cell_of run.bytes)) None) ++ cells_from runs)) (sym e) rest
 
 -- Starts.
 
@@ -120,17 +128,21 @@ long-case run start false is e = (is, cc)
 
 pub data IsStart (steps : List Step) (runs : List Piece) (start : ℤ) : Type 0 where
   of_step : {step : Step} → Contains steps step → start_of step.op step.height ≡ Some start → IsStart steps runs start
-  of_run : {run : Piece} → Contains runs run → is_small run.bytes ≡ false → run.bytes.first ≡ start → IsStart steps runs start
+  of_run : {run : Piece} → Contains runs run → is_small run.bytes ≡ false → run.bytes.first ≡ start
+      → IsStart steps runs start
 
-pub start-told : (steps : List Step) (runs : List Piece) (start : ℤ) → Contains (starts_of steps runs) start → IsStart steps runs start
+pub start-told : (steps : List Step) (runs : List Piece) (start : ℤ) → Contains (starts_of steps runs) start
+    → IsStart steps runs start
 start-told steps runs start among =
-    elim (Contains-append_cases (flat_map (λ (step : Step). option_to_list (start_of step.op step.height)) steps) _ start among) [
+    elim (Contains-append_cases (flat_map (λ (step : Step). option_to_list (start_of step.op step.height)) steps) _
+    start among) [
       | inl here ↦
           (let f = from-flat (λ (step : Step). option_to_list (start_of step.op step.height)) steps start here in
           of_step f.among (in-some (start_of f.source.op f.source.height) start f.is_in))
       | inr there ↦
           (let f = from-flat (λ run. option_to_list (long_first run)) runs start there in
-          let l = long-case f.source start (is_small f.source.bytes) refl (in-some (long_first f.source) start f.is_in) in
+          let l = long-case f.source start (is_small f.source.bytes) refl
+          (in-some (long_first f.source) start f.is_in) in
           of_run f.among l.0 l.1)
     ]
 
@@ -146,6 +158,7 @@ pub start-of-run :
     (steps : List Step) (runs : List Piece) (run : Piece) → Contains runs run → is_small run.bytes ≡ false
     → Contains (starts_of steps runs) run.bytes.first
 start-of-run steps runs run among long =
-    Contains-append_right (flat_map (λ (step : Step). option_to_list (start_of step.op step.height)) steps) _ run.bytes.first
+    Contains-append_right (flat_map (λ (step : Step). option_to_list (start_of step.op step.height)) steps) _
+    run.bytes.first
     (to-flat (λ run. option_to_list (long_first run)) runs run run.bytes.first among
     (some-in (long_first run) run.bytes.first (ap (λ b. cond b None (Some run.bytes.first)) long)))

@@ -54,7 +54,8 @@ module _ (image : Image) (layout : Layout) (entry : ℕ) (is_entry : IsEntry ima
     (accepted : IsAcceptedByHeights image layout) where
   no-bad-height : (at : ℕ) → IsNode image layout entry at → ¬ HasBadHeight image layout entry at
   no-bad-height at node bad =
-      accepted.no_construct HEIGHTS at (record { entry = entry; is_entry = is_entry; node = node; stands = bad_height bad })
+      accepted.no_construct HEIGHTS at
+      (record { entry = entry; is_entry = is_entry; node = node; stands = bad_height bad })
 
   -- a node has one height
   one-height :
@@ -65,7 +66,8 @@ module _ (image : Image) (layout : Layout) (entry : ℕ) (is_entry : IsEntry ima
       by : (e : Bool) → int_eq a b ≡ e → a ≡ b
       by true e = (Decides-int_eq a b).0 e
       by false e =
-          absurd (no-bad-height at node (two_heights first second (λ same. false≢true (sym e ∙ (Decides-int_eq a b).1 same))))
+          absurd (no-bad-height at node
+          (two_heights first second (λ same. false≢true (sym e ∙ (Decides-int_eq a b).1 same))))
 
   step-of-node :
       (n : ℕ × Node) (h : ℕ × ℕ) → h.0 ≡ n.0 → IsNodeFound image layout entry n
@@ -97,8 +99,10 @@ module _ (image : Image) (layout : Layout) (entry : ℕ) (is_entry : IsEntry ima
   steps-each (n ∷ nodes) (h ∷ heights) same found given =
       let H : ℕ × ℕ → Type 0 = λ h. IsHeight image layout entry h.0 (pos h.1) in
       All-cons (IsStep image layout entry) (step_of n h) (steps_of nodes heights)
-      (step-of-node n h (let e = same in cc) (All-head (IsNodeFound image layout entry) n nodes found) (All-head H h heights given))
-      (steps-each nodes heights (let e = same in cc) (All-tail (IsNodeFound image layout entry) n nodes found) (All-tail H h heights given))
+      (step-of-node n h (let e = same in cc) (All-head (IsNodeFound image layout entry) n nodes found)
+      (All-head H h heights given))
+      (steps-each nodes heights (let e = same in cc) (All-tail (IsNodeFound image layout entry) n nodes found)
+      (All-tail H h heights given))
 
   -- the instructions with their heights
   pub are-steps :
@@ -114,7 +118,8 @@ module _ (image : Image) (layout : Layout) (entry : ℕ) (is_entry : IsEntry ima
   }
 
   -- every RET of the procedure removes as much
-  one-size : (removed bytes : ℕ) → IsRemoved image layout entry removed → ReachesRet image layout entry bytes → bytes ≡ removed
+  one-size : (removed bytes : ℕ) → IsRemoved image layout entry removed → ReachesRet image layout entry bytes
+      → bytes ≡ removed
   one-size _ bytes (by_ret {count} other) reaches = elim (cases_eq bytes count) [
     | inl same ↦ same
     | inr apart ↦ absurd (no-bad-height reaches.at reaches.node (two_sizes reaches.node reaches.stands other apart))
@@ -122,11 +127,13 @@ module _ (image : Image) (layout : Layout) (entry : ℕ) (is_entry : IsEntry ima
   one-size _ bytes (without_ret none) reaches = absurd (none bytes reaches)
 
   half-removed :
-      (count removed : ℕ) → IsRemoved image layout entry removed → HasRoom image layout entry count → removed / 2 ≤ count
+      (count removed : ℕ) → IsRemoved image layout entry removed → HasRoom image layout entry count
+      → removed / 2 ≤ count
   half-removed count _ (by_ret {count = bytes} reaches) room = room.removed bytes reaches
   half-removed count _ (without_ret none) room = omega arith
 
-  module _ (steps : List Step) (are : AreSteps image layout entry steps) (removed : ℕ) (is : IsRemoved image layout entry removed) where
+  module _ (steps : List Step) (are : AreSteps image layout entry steps) (removed : ℕ)
+      (is : IsRemoved image layout entry removed) where
     -- what a fact says of the instruction at a node
     pub at-node : (P : ℕ → Type 0) → ((step : Step) → Contains steps step → IsStep image layout entry step → P step.at)
         → (at : ℕ) → IsNode image layout entry at → P at
@@ -141,30 +148,37 @@ module _ (image : Image) (layout : Layout) (entry : ℕ) (is_entry : IsEntry ima
     some-if : {A : Type 0} (o : Option A) (P : A → Type 0) (x : A) → o ≡ Some x → IfSome o P → P x
     some-if o P x e h = let at : IfSome (Some x) P = subst (λ p. IfSome p P) e h in at
 
-    room-in : (count : ℕ) → HasRoom image layout entry count → HasRoomIn (is_framed image layout entry) removed steps count
+    room-in : (count : ℕ) → HasRoom image layout entry count
+        → HasRoomIn (is_framed image layout entry) removed steps count
     room-in count room = record {
       removed_too = half-removed count removed is room;
-      used = All-weaker (IsStep image layout entry) (λ step. HasRoomFor (is_framed image layout entry) step count) (λ step s. record {
-        accessed =
-            if-some (access_of (is_framed image layout entry) step.op) (λ (bytes : Bytes). ReachTo bytes.end count)
-            (λ bytes e. room.accessed step.at (as_span bytes) s.node (access-tells image layout entry step s bytes e));
-        exposed =
-            if-some (start_of step.op step.height) (λ (start : ℤ). ReachTo (start +ℤ pos 1) count)
-            (λ start e. (let lt = room.exposed step.at start s.node (start-tells image layout entry step s start e) in omega (arith, ints, lt)));
-      }) steps are.each;
+      used = All-weaker (IsStep image layout entry) (λ step. HasRoomFor (is_framed image layout entry) step count)
+          (λ step s. record {
+            accessed =
+                if-some (access_of (is_framed image layout entry) step.op) (λ (bytes : Bytes). ReachTo bytes.end count)
+                (λ bytes e. room.accessed step.at (as_span bytes) s.node (access-tells image layout entry step s bytes e));
+            exposed =
+                if-some (start_of step.op step.height) (λ (start : ℤ). ReachTo (start +ℤ pos 1) count)
+                (λ start e. (let lt = room.exposed step.at start s.node (start-tells image layout entry step s start e)
+                in omega (arith, ints, lt)));
+          }) steps are.each;
     }
 
-    in-room : (count : ℕ) → HasRoomIn (is_framed image layout entry) removed steps count → HasRoom image layout entry count
+    in-room : (count : ℕ) → HasRoomIn (is_framed image layout entry) removed steps count
+        → HasRoom image layout entry count
     in-room count room =
         let for : (step : Step) → Contains steps step → HasRoomFor (is_framed image layout entry) step count =
-        λ step among. All-contains (λ s. HasRoomFor (is_framed image layout entry) s count) steps step room.used among in
+        λ step among. All-contains (λ s. HasRoomFor (is_framed image layout entry) s count) steps step room.used
+        among in
         record {
           removed = λ bytes reaches.
-              (let same = one-size removed bytes is reaches in let le = room.removed_too in subst (λ b. b / 2 ≤ count) (sym same) le);
+              (let same = one-size removed bytes is reaches in let le = room.removed_too in subst
+              (λ b. b / 2 ≤ count) (sym same) le);
           accessed = λ at span node access.
               at-node (λ at. IsDirectAccess image layout entry at span → span.end ≤ℤ pos (4 + 2 * count))
               (λ step among s a.
-              some-if (access_of (is_framed image layout entry) step.op) (λ (bytes : Bytes). ReachTo bytes.end count) (as_bytes span)
+              some-if (access_of (is_framed image layout entry) step.op)
+              (λ (bytes : Bytes). ReachTo bytes.end count) (as_bytes span)
               (access-told image layout entry step s span a) (for step among).accessed)
               at node access;
           exposed = λ at start node starts.

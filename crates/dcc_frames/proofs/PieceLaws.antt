@@ -30,7 +30,8 @@ use Rattle.dcc_frames.proofs.Told.{same_op, access-told, access-tells, moved-tol
 
 -- a procedure has one number of arguments
 pub one-count :
-    (image : Image) (layout : Layout) (entry a b : ℕ) → HasArguments image layout entry a → HasArguments image layout entry b → a ≡ b
+    (image : Image) (layout : Layout) (entry a b : ℕ) → HasArguments image layout entry a
+    → HasArguments image layout entry b → a ≡ b
 one-count image layout entry _ _ (of_start e) (of_start f) = refl
 one-count image layout entry _ b (of_start e) (of_procedure other room least) = absurd (other e)
 one-count image layout entry a _ (of_procedure other room least) (of_start e) = absurd (other e)
@@ -58,13 +59,15 @@ words-in first count user number less =
     length-map (range_with_len 0 count) f ∙ length-range_with_len 0 count in
     (number, omega (arith, long, less), get_or-map-range_with_len f 0 count number number (f number) less (omega arith))
 
-in-piece : (o : Option Bytes) (user : ℕ) (piece : Piece) → Contains (piece_of o user) piece → (o ≡ Some piece.bytes) × (piece.user ≡ Some user)
+in-piece : (o : Option Bytes) (user : ℕ) (piece : Piece) → Contains (piece_of o user) piece
+    → (o ≡ Some piece.bytes) × (piece.user ≡ Some user)
 in-piece None user piece among = absurd (none-in piece among)
 in-piece (Some bytes) user piece among =
     let is = one-in (record { bytes = bytes; user = Some user }) piece among in
     (ap (λ (p : Piece). Some p.bytes) is, ap (λ (p : Piece). p.user) (sym is))
 
-piece-in : (o : Option Bytes) (user : ℕ) (bytes : Bytes) → o ≡ Some bytes → Contains (piece_of o user) (record { bytes = bytes; user = Some user })
+piece-in : (o : Option Bytes) (user : ℕ) (bytes : Bytes) → o ≡ Some bytes
+    → Contains (piece_of o user) (record { bytes = bytes; user = Some user })
 piece-in o user bytes is =
     let one : Piece = record { bytes = bytes; user = Some user } in
     subst (λ (p : Option Bytes). Contains (piece_of p user) one) (sym is) (0, omega arith, refl)
@@ -80,12 +83,14 @@ target-found : (counts : ℕ → Option ℕ) (target number : ℕ) (o : Option �
 target-found counts target number None is less = absurd (omega (arith, less))
 target-found counts target number (Some count) is less = is
 
-pub is-passing : (counts : ℕ → Option ℕ) (op : Op) (number : ℕ) → number < passed_of counts op → IsPassing counts op (passed_of counts op)
+pub is-passing : (counts : ℕ → Option ℕ) (op : Op) (number : ℕ) → number < passed_of counts op
+    → IsPassing counts op (passed_of counts op)
 is-passing counts (Call target) number less =
     record { target = target; call = refl; found = target-found counts target number (counts target) refl less }
 is-passing counts op number less = absurd (omega (arith, less))
 
-module _ (image : Image) (layout : Layout) (entry : ℕ) (steps : List Step) (are : AreSteps image layout entry steps) where
+module _ (image : Image) (layout : Layout) (entry : ℕ) (steps : List Step)
+    (are : AreSteps image layout entry steps) where
   -- what a fact says of the instruction at a node
   pub at-node :
       (P : ℕ → Type 0) → ((step : Step) → Contains steps step → IsStep image layout entry step → P step.at) → (at : ℕ)
@@ -101,7 +106,8 @@ module _ (image : Image) (layout : Layout) (body : Body) (is : IsBody image layo
     (has : HasCounts image layout counts) where
   -- the number that a call passes
   pub call-count :
-      (step : Step) → IsStep image layout body.entry step → (target count : ℕ) → StandsAt image layout step.at (Call target)
+      (step : Step) → IsStep image layout body.entry step → (target count : ℕ)
+      → StandsAt image layout step.at (Call target)
       → HasArguments image layout target count → passed_of counts step.op ≡ count
   call-count step s target count stands arguments =
       let h = has target (called is.is_entry s.node stands) in
@@ -128,8 +134,10 @@ module _ (image : Image) (layout : Layout) (body : Body) (is : IsBody image layo
       let first : ((pos 2 -ℤ pos step.height) +ℤ pos (2 * number)) ≡ word.first = omega (arith, ints, same) in
       Contains-append_right (piece_of (moved_of body.framed step.op step.height) step.at) _ _
       (Contains-append_right (piece_of (access_of body.framed step.op) step.at) _ _
-      (subst (λ f. Contains (words_from (pos 2 -ℤ pos step.height) (passed_of counts step.op) (Some step.at)) (record { bytes = word_at f; user = Some step.at })) first
-      (words-in (pos 2 -ℤ pos step.height) (passed_of counts step.op) (Some step.at) number (omega (arith, less, enough)))))
+      (subst (λ f. Contains (words_from (pos 2 -ℤ pos step.height) (passed_of counts step.op) (Some step.at))
+      (record { bytes = word_at f; user = Some step.at })) first
+      (words-in (pos 2 -ℤ pos step.height) (passed_of counts step.op) (Some step.at) number
+      (omega (arith, less, enough)))))
 
   -- what an instruction uses is among the pieces, with its user
   pub used-told :
@@ -137,7 +145,8 @@ module _ (image : Image) (layout : Layout) (body : Body) (is : IsBody image layo
       → Contains (pieces_of body counts) (record { bytes = as_bytes span; user = Some at })
   used-told at span node uses =
       at-node image layout body.entry body.steps.items is.steps
-      (λ at. IsUsed image layout body.entry at span → Contains (pieces_of body counts) (record { bytes = as_bytes span; user = Some at }))
+      (λ at. IsUsed image layout body.entry at span
+      → Contains (pieces_of body counts) (record { bytes = as_bytes span; user = Some at }))
       (λ step among s uses.
       Contains-append_right (words_from (pos 4) body.args None) _ _
       (to-flat (used_by body.framed counts) body.steps.items step _ among (used-in step s span uses)))
@@ -166,10 +175,12 @@ module _ (image : Image) (layout : Layout) (body : Body) (is : IsBody image layo
         (by (passed_of counts step.op == 0) refl)
       where
         by : (b : Bool) → (passed_of counts step.op == 0) ≡ b → pos (2 * number + 2) ≤ℤ own_of body.framed step.height
-        by true none = absurd (let zero_is = (Decides-eqb (passed_of counts step.op) 0).0 none in omega (arith, zero_is, less))
+        by true none =
+            absurd (let zero_is = (Decides-eqb (passed_of counts step.op) 0).0 none in omega (arith, zero_is, less))
         by false some =
             let le : int_le (pos (2 * passed_of counts step.op)) (own_of body.framed step.height) ≡ true =
-            ap (λ b. b || int_le (pos (2 * passed_of counts step.op)) (own_of body.framed step.height)) (sym some) ∙ has_them in
+            ap (λ b. b || int_le (pos (2 * passed_of counts step.op)) (own_of body.framed step.height)) (sym some)
+            ∙ has_them in
             let le' : pos (2 * passed_of counts step.op) ≤ℤ own_of body.framed step.height = grind (arith, ints, le) in
             omega (arith, ints, le', less)
 
@@ -203,15 +214,21 @@ module _ (image : Image) (layout : Layout) (body : Body) (is : IsBody image layo
         passed-from words =
             let w = in-words (pos 2 -ℤ pos step.height) (passed_of counts step.op) (Some step.at) piece words in
             let p = is-passing counts step.op w.0 w.1 in
-            let stands : StandsAt image layout step.at (Call p.target) = subst (StandsAt image layout step.at) p.call s.stands in
+            let stands : StandsAt image layout step.at (Call p.target) = subst (StandsAt image layout step.at)
+            p.call s.stands in
             let h = has p.target (called is.is_entry s.node stands) in
-            let same : passed_of counts step.op ≡ h.count = (let f = p.found in let g = h.found in let e : Some (passed_of counts step.op) ≡ Some h.count = sym f ∙ g in cc) in
+            let same : passed_of counts step.op ≡ h.count = (let f = p.found in let g = h.found in let e : Some
+            (passed_of counts step.op) ≡ Some h.count = sym f ∙ g in cc) in
             let height : ℤ = pos step.height in
-            let first : (pos (2 + 2 * w.0) -ℤ pos step.height) ≡ ((pos 2 -ℤ pos step.height) +ℤ pos (2 * w.0)) = omega (arith, ints) in
+            let first : (pos (2 + 2 * w.0) -ℤ pos step.height) ≡ ((pos 2 -ℤ pos step.height) +ℤ pos (2 * w.0)) =
+            omega (arith, ints) in
             let less : w.0 < h.count = (let l = w.1 in omega (arith, l, same)) in
             let word : IsPassedWord image layout body.entry step.at (span_of (pos (2 + 2 * w.0) -ℤ pos step.height) 2) =
-            passed stands s.has h.arguments less (fits-own step w.0 (All-contains (λ (t : Step). has_words counts body.framed t ≡ true) body.steps.items step enough there) w.1) in (
-              IsUsed.passed (subst (λ (b : Bytes). IsPassedWord image layout body.entry step.at (as_span b)) (ap (λ (q : Piece). q.bytes) w.2)
+            passed stands s.has h.arguments less
+            (fits-own step w.0 (All-contains (λ (t : Step). has_words counts body.framed t ≡ true) body.steps.items
+            step enough there) w.1) in (
+              IsUsed.passed (subst (λ (b : Bytes). IsPassedWord image layout body.entry step.at (as_span b))
+                  (ap (λ (q : Piece). q.bytes) w.2)
                   (subst (λ f. IsPassedWord image layout body.entry step.at (span_of f 2)) first word)),
               ap (λ (q : Piece). q.user) (sym w.2),
             )
@@ -242,14 +259,16 @@ module _ (image : Image) (layout : Layout) (body : Body) (is : IsBody image layo
           record {
             is_piece = used s.node u.0;
             by_user = λ at user_is.
-                (let same : f.source.at ≡ at = (let a = u.1 in let e : Some f.source.at ≡ Some at = sym a ∙ user_is in cc) in (
+                (let same : f.source.at ≡ at = (let a = u.1 in let e : Some f.source.at ≡ Some at = sym a
+                ∙ user_is in cc) in (
                   subst (IsNode image layout body.entry) same s.node,
                   subst (λ a. IsUsed image layout body.entry a (as_span piece.bytes)) same u.0,
                 ));
           })
     ]
 
-    pub piece-tells : (piece : Piece) → Contains (pieces_of body counts) piece → IsPiece image layout body.entry (as_span piece.bytes)
+    pub piece-tells : (piece : Piece) → Contains (pieces_of body counts) piece
+        → IsPiece image layout body.entry (as_span piece.bytes)
     piece-tells piece among = (told-piece piece among).is_piece
 
     pub used-tells :

@@ -29,8 +29,10 @@ pub least-room :
     → IsLeast (HasRoomFor framed step) (max a b)
 least-room framed step a b access start = record {
   holds = record {
-    accessed = more-some (λ (bytes : Bytes). bytes.end) (access_of framed step.op) a (max a b) (omega arith) access.holds;
-    exposed = more-some (λ (start : ℤ). start +ℤ pos 1) (start_of step.op step.height) b (max a b) (omega arith) start.holds;
+    accessed = more-some (λ (bytes : Bytes). bytes.end) (access_of framed step.op) a (max a b)
+        (omega arith) access.holds;
+    exposed = more-some (λ (start : ℤ). start +ℤ pos 1) (start_of step.op step.height) b (max a b)
+        (omega arith) start.holds;
   };
   least = λ other h.
       (let one = access.least other h.accessed in let two = start.least other h.exposed in omega (arith, one, two));
@@ -53,7 +55,8 @@ least-more framed removed steps i step a b inside before here = record {
     removed_too = let le = before.holds.removed_too in omega (arith, le);
     used =
         All-more (λ s. HasRoomFor framed s (max a b)) steps i step inside
-        (λ k d less. more-room framed (get_or (take i steps) k d) a (max a b) (omega arith) (before.holds.used k d less))
+        (λ k d less. more-room framed (get_or (take i steps) k d) a (max a b) (omega arith)
+        (before.holds.used k d less))
         (more-room framed (get_or steps i step) b (max a b) (omega arith) here.holds);
   };
   least = λ other h.

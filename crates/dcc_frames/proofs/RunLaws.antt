@@ -24,7 +24,8 @@ module _ {A : Type 0} (R : A → A → Type 0) (xs : List A) (y : A) (pairs : Al
   pairs-last x among =
       let long = length_push xs y in
       subst (λ b. R x b) (get_or_push xs y x (length xs) refl)
-      (subst (λ a. R a (get_or (xs ++ y ∷ []) (length xs) x)) (get_or_append_left xs (y ∷ []) x among.0 among.1 ∙ among.2)
+      (subst (λ a. R a (get_or (xs ++ y ∷ []) (length xs) x)) (get_or_append_left xs (y ∷ []) x among.0 among.1
+      ∙ among.2)
       (pairs among.0 (length xs) x among.1 (omega (arith, long))))
 
 -- One more piece, which begins no earlier than the others.
@@ -93,7 +94,13 @@ module _ (pieces : List Piece) (piece : Piece) (some : piece.bytes.first <ℤ pi
       among = Contains-push pieces piece;
       begins = refl;
       ends = some;
-      joined = λ offset low high. record { piece = piece; among = Contains-push pieces piece; before = low; after = high };
+      joined = λ offset low high. record {
+        piece = piece;
+        among = Contains-push pieces piece;
+        before = low;
+        after =
+            high;
+      };
       apart_before =
           crossed-cases piece.bytes.first ⊥
           (λ c. let le = ended c.piece c.among in let after = c.after in absurd (omega (arith, ints, le, after)))
@@ -116,7 +123,8 @@ module _ (pieces : List Piece) (piece : Piece) (some : piece.bytes.first <ℤ pi
           (λ k d inside. apart (get_or runs k d) (Contains-get_or runs k d inside));
       every = λ other among. elim (Contains-push_cases pieces piece other among) [
         | inl old ↦
-            held-more runs (runs ++ piece ∷ []) (λ run c. Contains-append_left runs (piece ∷ []) run c) other (are.every other old)
+            held-more runs (runs ++ piece ∷ []) (λ run c. Contains-append_left runs (piece ∷ []) run c) other
+            (are.every other old)
         | inr same ↦ subst (IsHeld (runs ++ piece ∷ [])) same (record {
           run = piece;
           among = Contains-push runs piece;
@@ -129,7 +137,8 @@ module _ (pieces : List Piece) (piece : Piece) (some : piece.bytes.first <ℤ pi
         | inr same ↦ record {
           piece = piece;
           among = Contains-push pieces piece;
-          lies = subst (λ (p : Piece). LiesIn piece.bytes p.bytes) same (record { from = omega (arith, ints); to = omega (arith, ints) });
+          lies = subst (λ (p : Piece). LiesIn piece.bytes p.bytes) same
+              (record { from = omega (arith, ints); to = omega (arith, ints) });
           user_is = subst (λ (p : Piece). p.user ≡ Some at) (sym same) is;
         }
       ];
@@ -179,7 +188,8 @@ module _ (pieces : List Piece) (piece : Piece) (some : piece.bytes.first <ℤ pi
           begins = is.begins;
           ends = let ends = is.ends in omega (arith, ints, clamps, ends);
           joined = λ offset low high.
-              by_lt_z offset last.bytes.end (λ inner. crossed-more offset (is.joined offset low inner)) (λ outer. record {
+              by_lt_z offset last.bytes.end (λ inner. crossed-more offset (is.joined offset low inner))
+              (λ outer. record {
                 piece = piece;
                 among = Contains-push pieces piece;
                 before = omega (arith, ints, overlaps, outer);
@@ -190,7 +200,8 @@ module _ (pieces : List Piece) (piece : Piece) (some : piece.bytes.first <ℤ pi
               (λ low high. let le = begins-later in absurd (omega (arith, ints, low, le)));
           apart_after =
               crossed-cases reach ⊥
-              (λ c. let le = within c.piece c.among in let after = c.after in absurd (omega (arith, ints, clamps, le, after)))
+              (λ c. let le = within c.piece c.among in let after = c.after in absurd
+              (omega (arith, ints, clamps, le, after)))
               (λ low high. absurd (omega (arith, ints, clamps, high)));
         }
 
@@ -231,9 +242,15 @@ module _ (pieces : List Piece) (piece : Piece) (some : piece.bytes.first <ℤ pi
     held-wider : (other : Piece) → IsHeld (runs ++ last ∷ []) other → IsHeld (runs ++ wide ∷ []) other
     unfolding wide
     held-wider other h = elim (Contains-push_cases runs last h.run h.among) [
-      | inl old ↦ record { run = h.run; among = Contains-append_left runs (wide ∷ []) h.run old; lies = h.lies; user = h.user }
+      | inl old ↦ record {
+        run = h.run;
+        among = Contains-append_left runs (wide ∷ []) h.run old;
+        lies = h.lies;
+        user = h.user;
+      }
       | inr same ↦
-          (let lies : LiesIn other.bytes last.bytes = subst (λ (p : Piece). LiesIn other.bytes p.bytes) (sym same) h.lies in
+          (let lies : LiesIn other.bytes last.bytes = subst (λ (p : Piece). LiesIn other.bytes p.bytes)
+          (sym same) h.lies in
           record {
             run = wide;
             among = Contains-push runs wide;
@@ -297,7 +314,8 @@ module _ (pieces : List Piece) (piece : Piece) (some : piece.bytes.first <ℤ pi
       → int_lt piece.bytes.first last.bytes.end ≡ b
       → AreRuns (pieces ++ piece ∷ []) (joined_to runs (Some last) piece)
   by-overlap runs last are true is =
-      subst (λ b. AreRuns (pieces ++ piece ∷ []) (if b then runs ++ run_with last piece ∷ [] else (runs ++ last ∷ []) ++ piece ∷ [])) (sym is)
+      subst (λ b. AreRuns (pieces ++ piece ∷ [])
+      (if b then runs ++ run_with last piece ∷ [] else (runs ++ last ∷ []) ++ piece ∷ [])) (sym is)
       (runs-widened pieces piece some runs last are later (grind (arith, ints, is)))
   by-overlap runs last are false is =
       let past : last.bytes.end ≤ℤ piece.bytes.first = grind (arith, ints, is) in
@@ -309,7 +327,8 @@ module _ (pieces : List Piece) (piece : Piece) (some : piece.bytes.first <ℤ pi
             omega (arith, ints, before, wide, past))
         | inr same ↦ subst (λ (p : Piece). p.bytes.end ≤ℤ piece.bytes.first) same past
       ] in
-      subst (λ b. AreRuns (pieces ++ piece ∷ []) (if b then runs ++ run_with last piece ∷ [] else (runs ++ last ∷ []) ++ piece ∷ [])) (sym is)
+      subst (λ b. AreRuns (pieces ++ piece ∷ [])
+      (if b then runs ++ run_with last piece ∷ [] else (runs ++ last ∷ []) ++ piece ∷ [])) (sym is)
       (runs-begun pieces piece some (runs ++ last ∷ []) are (λ other among.
       (let held = are.every other among in
       let end = ends held.run held.among in
@@ -336,10 +355,12 @@ module _ (pieces : List Piece) (asc : AreAscending pieces) (i : ℕ) (d : Piece)
       let less : k < i = (let in_front = among.1 in omega (arith, short, in_front)) in
       let read : get_or pieces k other ≡ other = sym (get_or-take i pieces k other less) ∙ among.2 in
       subst (λ (p : Piece). other.bytes.first ≤ℤ p.bytes.first) (get_or_default pieces i other d inside)
-      (subst (λ (p : Piece). p.bytes.first ≤ℤ (get_or pieces i other).bytes.first) read (asc.order k i other less inside))
+      (subst (λ (p : Piece). p.bytes.first ≤ℤ (get_or pieces i other).bytes.first) read
+      (asc.order k i other less inside))
 
   pub runs-more :
-      (runs : List Piece) (last : Option Piece) → (last ≡ None → runs ≡ []) → AreRuns (take i pieces) (with_last runs last)
+      (runs : List Piece) (last : Option Piece) → (last ≡ None → runs ≡ [])
+      → AreRuns (take i pieces) (with_last runs last)
       → AreRuns (take (i + 1) pieces) (joined_to runs last (get_or pieces i d))
   runs-more runs last none are =
       subst (λ l. AreRuns l (joined_to runs last (get_or pieces i d))) (sym (take_more pieces i d inside))
@@ -366,21 +387,26 @@ one-run pieces a b common r s some in_a in_b =
     let ends_a = r.ends in
     let ends_b = s.ends in
     let no_later : a.first ≤ℤ b.first =
-    by_lt_z b.first a.first (λ less. absurd (r.apart_before (s.joined a.first less (omega (arith, ints, from_a, some, to_b)))))
+    by_lt_z b.first a.first
+    (λ less. absurd (r.apart_before (s.joined a.first less (omega (arith, ints, from_a, some, to_b)))))
     (λ le. le) in
     let no_earlier : b.first ≤ℤ a.first =
-    by_lt_z a.first b.first (λ less. absurd (s.apart_before (r.joined b.first less (omega (arith, ints, from_b, some, to_a)))))
+    by_lt_z a.first b.first
+    (λ less. absurd (s.apart_before (r.joined b.first less (omega (arith, ints, from_b, some, to_a)))))
     (λ le. le) in
     let first : a.first ≡ b.first = omega (arith, ints, no_later, no_earlier) in
     let no_shorter : b.end ≤ℤ a.end =
-    by_lt_z a.end b.end (λ less. absurd (r.apart_after (s.joined a.end (omega (arith, ints, ends_a, first)) less))) (λ le. le) in
+    by_lt_z a.end b.end (λ less. absurd (r.apart_after (s.joined a.end (omega (arith, ints, ends_a, first)) less)))
+    (λ le. le) in
     let no_longer : a.end ≤ℤ b.end =
-    by_lt_z b.end a.end (λ less. absurd (s.apart_after (r.joined b.end (omega (arith, ints, ends_b, first)) less))) (λ le. le) in
+    by_lt_z b.end a.end (λ less. absurd (s.apart_after (r.joined b.end (omega (arith, ints, ends_b, first)) less)))
+    (λ le. le) in
     same-bytes a b first (omega (arith, ints, no_shorter, no_longer))
 
 -- each run of the pieces is among those that are joined
 pub run-among :
-    (pieces runs : List Piece) → AreRuns pieces runs → ((piece : Piece) → Contains pieces piece → piece.bytes.first <ℤ piece.bytes.end)
+    (pieces runs : List Piece) → AreRuns pieces runs
+    → ((piece : Piece) → Contains pieces piece → piece.bytes.first <ℤ piece.bytes.end)
     → (bytes : Bytes) → IsRunIn pieces bytes → IsAmong runs bytes
 run-among pieces runs are some bytes is =
     let held = are.every is.piece is.among in

@@ -29,7 +29,8 @@ access-some Byte first = omega (arith, ints)
 access-some Word first = omega (arith, ints)
 
 pub used-some :
-    (image : Image) (layout : Layout) (entry at : ℕ) (span : Span) → IsUsed image layout entry at span → span.first <ℤ span.end
+    (image : Image) (layout : Layout) (entry at : ℕ) (span : Span) → IsUsed image layout entry at span
+    → span.first <ℤ span.end
 used-some image layout entry at _ (moved (pushed stands unsaved has)) = omega (arith, ints)
 used-some image layout entry at _ (moved (popped stands unsaved has)) = omega (arith, ints)
 used-some image layout entry at _ (IsUsed.passed (passed stands has arguments less fits)) = omega (arith, ints)
@@ -37,7 +38,8 @@ used-some image layout entry at _ (accessed (direct {op} {width} {ea} framed sta
     access-some width (offset_in_frame ea)
 
 pub piece-some :
-    (image : Image) (layout : Layout) (entry : ℕ) (span : Span) → IsPiece image layout entry span → span.first <ℤ span.end
+    (image : Image) (layout : Layout) (entry : ℕ) (span : Span) → IsPiece image layout entry span
+    → span.first <ℤ span.end
 piece-some image layout entry span (used {at} node uses) = used-some image layout entry at span uses
 piece-some image layout entry _ (argument arguments less) = omega (arith, ints)
 
@@ -50,7 +52,8 @@ module _ (image : Image) (layout : Layout) (body : Body) (is : IsBody image layo
 
   pub from-sorted : (piece : Piece) → Contains sorted piece → Contains (pieces_of body counts) piece
   from-sorted piece among =
-      Contains-permutation sorted (pieces_of body counts) piece (IsPermutation-sym (pieces_of body counts) sorted permuted) among
+      Contains-permutation sorted (pieces_of body counts) piece
+      (IsPermutation-sym (pieces_of body counts) sorted permuted) among
 
   pub sorted-tells : (piece : Piece) → Contains sorted piece → IsPiece image layout body.entry (as_span piece.bytes)
   sorted-tells piece among = piece-tells image layout body is counts has enough piece (from-sorted piece among)

@@ -17,4 +17,5 @@ pub by-first : (pieces : List Piece) → IsSortedByKey (λ (p : Piece). p.bytes.
 by-first pieces up i j d less inside =
     let first : Piece → ℤ = λ p. p.bytes.first in
     not-less (first (get_or pieces j d)) (first (get_or pieces i d))
-    (sorted_far (λ (x y : Piece). is_lt (int_cmp (first x) (first y))) (ranks_by int_cmp_total first) pieces up i j d (omega (arith, less)) inside)
+    (sorted_far (λ (x y : Piece). is_lt (int_cmp (first x) (first y))) (ranks_by int_cmp_total first) pieces up i j
+    d (omega (arith, less)) inside)

@@ -24,9 +24,11 @@ module _ (starts : List ℤ) (start : ℤ) where
       (count bytes : ℕ) → neg_ℤ (pos bytes) ≡ start → count < bytes → All (λ s. neg_ℤ (pos count) ≤ℤ s) starts
       → IsLocalBy (starts ++ start ∷ []) bytes
   lower count bytes is more all =
-      local (omega (arith, more)) (subst (λ s. Contains (starts ++ s ∷ []) (neg_ℤ (pos bytes))) is (Contains-push starts (neg_ℤ (pos bytes))))
+      local (omega (arith, more)) (subst (λ s. Contains (starts ++ s ∷ []) (neg_ℤ (pos bytes))) is
+      (Contains-push starts (neg_ℤ (pos bytes))))
       (All-push (λ s. neg_ℤ (pos bytes) ≤ℤ s) starts start
-      (All-weaker (λ s. neg_ℤ (pos count) ≤ℤ s) (λ s. neg_ℤ (pos bytes) ≤ℤ s) (λ s le. omega (arith, ints, le, more)) starts all)
+      (All-weaker (λ s. neg_ℤ (pos count) ≤ℤ s) (λ s. neg_ℤ (pos bytes) ≤ℤ s)
+      (λ s le. omega (arith, ints, le, more)) starts all)
       (omega (arith, ints, is)))
 
   pub local-below :
@@ -35,7 +37,8 @@ module _ (starts : List ℤ) (start : ℤ) where
   local-below _ bytes is some (no_local all) =
       let same : bytes ≡ max 0 bytes = omega arith in
       subst (IsLocalBy (starts ++ start ∷ [])) same
-      (lower 0 bytes is some (All-weaker (λ s. pos 0 ≤ℤ s) (λ s. neg_ℤ (pos 0) ≤ℤ s) (λ s le. omega (arith, ints, le)) starts all))
+      (lower 0 bytes is some (All-weaker (λ s. pos 0 ≤ℤ s) (λ s. neg_ℤ (pos 0) ≤ℤ s)
+      (λ s le. omega (arith, ints, le)) starts all))
   local-below _ bytes is some (local {count} more there all) = elim (cases_lt count bytes) [
     | inl less ↦
         (let same : bytes ≡ max count bytes = omega (arith, less) in
@@ -53,14 +56,17 @@ module _ (starts : List ℤ) (start : ℤ) where
   argument-below _ below (no_argument all) = no_argument (All-push (λ s. s <ℤ pos 4) starts start all below)
   argument-below _ below (from_argument {least} four there all) =
       from_argument four (Contains-append_left starts (start ∷ []) (pos least) there)
-      (All-push (λ s. pos 4 ≤ℤ s → pos least ≤ℤ s) starts start all (λ above. absurd (omega (arith, ints, above, below))))
+      (All-push (λ s. pos 4 ≤ℤ s → pos least ≤ℤ s) starts start all
+      (λ above. absurd (omega (arith, ints, above, below))))
 
   pub argument-first :
-      (first : ℕ) → pos first ≡ start → 4 ≤ first → IsArgumentBy starts None → IsArgumentBy (starts ++ start ∷ []) (Some first)
+      (first : ℕ) → pos first ≡ start → 4 ≤ first → IsArgumentBy starts None
+      → IsArgumentBy (starts ++ start ∷ []) (Some first)
   argument-first first is four (no_argument all) =
       from_argument four (subst (λ s. Contains (starts ++ s ∷ []) (pos first)) is (Contains-push starts (pos first)))
       (All-push (λ s. pos 4 ≤ℤ s → pos first ≤ℤ s) starts start
-      (All-weaker (λ s. s <ℤ pos 4) (λ s. pos 4 ≤ℤ s → pos first ≤ℤ s) (λ s below above. absurd (omega (arith, ints, above, below))) starts all)
+      (All-weaker (λ s. s <ℤ pos 4) (λ s. pos 4 ≤ℤ s → pos first ≤ℤ s)
+      (λ s below above. absurd (omega (arith, ints, above, below))) starts all)
       (λ above. omega (arith, ints, is)))
 
   pub argument-least :

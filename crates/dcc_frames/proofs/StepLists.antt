@@ -11,7 +11,8 @@ step_of node height = record { at = node.0; op = node.1.instr.op; height = heigh
 steps-suc :
     (nodes : List (ℕ × Node)) (heights : List (ℕ × ℕ)) (i : ℕ) (node : ℕ × Node) (height : ℕ × ℕ)
     → Some node ≡ slice_get nodes i → Some height ≡ slice_get heights i
-    → steps_of (take (suc i) nodes) (take (suc i) heights) ≡ steps_of (take i nodes) (take i heights) ++ step_of node height ∷ []
+    → steps_of (take (suc i) nodes) (take (suc i) heights) ≡ steps_of (take i nodes) (take i heights) ++ step_of
+    node height ∷ []
 steps-suc [] heights i node height first second = absurd (cc)
 steps-suc (n ∷ nodes) [] i node height first second = absurd (cc)
 steps-suc (n ∷ nodes) (h ∷ heights) zero node height first second =
@@ -22,7 +23,8 @@ steps-suc (n ∷ nodes) (h ∷ heights) (suc i) node height first second =
 pub steps-more :
     (nodes : List (ℕ × Node)) (heights : List (ℕ × ℕ)) (i : ℕ) (node : ℕ × Node) (height : ℕ × ℕ)
     → Some node ≡ slice_get nodes i → Some height ≡ slice_get heights i
-    → steps_of (take (i + 1) nodes) (take (i + 1) heights) ≡ steps_of (take i nodes) (take i heights) ++ step_of node height ∷ []
+    → steps_of (take (i + 1) nodes) (take (i + 1) heights) ≡ steps_of (take i nodes) (take i heights) ++ step_of
+    node height ∷ []
 steps-more nodes heights i node height first second =
     ap (λ n. steps_of (take n nodes) (take n heights)) (add-one i) ∙ steps-suc nodes heights i node height first second
 

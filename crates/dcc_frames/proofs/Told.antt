@@ -24,7 +24,8 @@ use Rattle.dcc_frames.specs.Body.{IsStep}
 use Rattle.dcc_frames.specs.Used.{bytes_at, access_at, access_of, start_at, start_by_lea, start_by_other, start_of, is_bp_word, word_at, moved_of}
 
 -- one operation stands at an offset
-pub same_op : (image : Image) (layout : Layout) (at : ℕ) (a b : Op) → StandsAt image layout at a → StandsAt image layout at b → a ≡ b
+pub same_op : (image : Image) (layout : Layout) (at : ℕ) (a b : Op) → StandsAt image layout at a
+    → StandsAt image layout at b → a ≡ b
 same_op image layout at a b first second =
     let same : first.0 ≡ second.0 = (let e = first.1 in let f = second.1 in cc) in
     sym first.2 ∙ ap (λ (instr : Instr). instr.op) same ∙ second.2
@@ -40,7 +41,8 @@ record IsAccess (framed : Bool) (op : Op) (bytes : Bytes) : Type 0 where
   bytes_are : bytes_at width ea ≡ bytes
 
 some-access :
-    (op : Op) (operand : Option (Width × Ea)) (bytes : Bytes) → memory_operand op ≡ operand → access_at operand ≡ Some bytes
+    (op : Op) (operand : Option (Width × Ea)) (bytes : Bytes) → memory_operand op ≡ operand
+    → access_at operand ≡ Some bytes
     → IsAccess true op bytes
 some-access op None bytes is e = absurd (cc)
 some-access op (Some (width, ea)) bytes is e = by (is_direct ea) refl e
@@ -49,7 +51,8 @@ some-access op (Some (width, ea)) bytes is e = by (is_direct ea) refl e
         (b : Bool) → is_direct ea ≡ b
         → cond b (Some (bytes_at width ea)) None ≡ Some bytes
         → IsAccess true op bytes
-    by true is_so e = record { framed_is = refl; width = width; ea = ea; operand = is; direct_is = is_so; bytes_are = cc }
+    by true is_so e =
+        record { framed_is = refl; width = width; ea = ea; operand = is; direct_is = is_so; bytes_are = cc }
     by false is_so e = absurd (cc)
 
 is-access : (framed : Bool) (op : Op) (bytes : Bytes) → access_of framed op ≡ Some bytes → IsAccess framed op bytes
@@ -157,34 +160,44 @@ module _ (image : Image) (layout : Layout) (entry at : ℕ) where
       by false e = e
 
   push-tells :
-      (a : Operand) (height : ℕ) (bytes : Bytes) → StandsAt image layout at (Push a) → HasHeight image layout entry at (pos height)
+      (a : Operand) (height : ℕ) (bytes : Bytes) → StandsAt image layout at (Push a)
+      → HasHeight image layout entry at (pos height)
       → (b : Bool) → is_framed image layout entry && is_bp_word a ≡ b
-      → cond b None (Some (word_at (neg_ℤ (pos height)))) ≡ Some bytes → IsMovedWord image layout entry at (as_span bytes)
+      → cond b None (Some (word_at (neg_ℤ (pos height)))) ≡ Some bytes
+      → IsMovedWord image layout entry at (as_span bytes)
   push-tells a height bytes stands has true saved e = absurd (cc)
   push-tells a height bytes stands has false saved e =
       let same : word_at (neg_ℤ (pos height)) ≡ bytes = cc in
       subst (λ b. IsMovedWord image layout entry at (as_span b)) same
       (pushed stands
-      (λ (s : is_saved_bp image layout entry a). true≢false (ap is_bp_word (sym s.1) ∙ ap (λ f. f && is_bp_word a) (sym s.0) ∙ saved))
+      (λ (s : is_saved_bp image layout entry a). true≢false (ap is_bp_word (sym s.1)
+      ∙ ap (λ f. f && is_bp_word a) (sym s.0) ∙ saved))
       has)
 
   pop-tells :
-      (a : Operand) (height : ℕ) (bytes : Bytes) → StandsAt image layout at (Pop a) → HasHeight image layout entry at (pos height)
+      (a : Operand) (height : ℕ) (bytes : Bytes) → StandsAt image layout at (Pop a)
+      → HasHeight image layout entry at (pos height)
       → (b : Bool) → is_framed image layout entry && is_bp_word a ≡ b
-      → cond b None (Some (word_at (pos 2 -ℤ pos height))) ≡ Some bytes → IsMovedWord image layout entry at (as_span bytes)
+      → cond b None (Some (word_at (pos 2 -ℤ pos height))) ≡ Some bytes
+      → IsMovedWord image layout entry at (as_span bytes)
   pop-tells a height bytes stands has true saved e = absurd (cc)
   pop-tells a height bytes stands has false saved e =
       let same : word_at (pos 2 -ℤ pos height) ≡ bytes = cc in
       subst (λ b. IsMovedWord image layout entry at (as_span b)) same
       (popped stands
-      (λ (s : is_saved_bp image layout entry a). true≢false (ap is_bp_word (sym s.1) ∙ ap (λ f. f && is_bp_word a) (sym s.0) ∙ saved))
+      (λ (s : is_saved_bp image layout entry a). true≢false (ap is_bp_word (sym s.1)
+      ∙ ap (λ f. f && is_bp_word a) (sym s.0) ∙ saved))
       has)
 
   some-moved :
-      (op : Op) (height : ℕ) (bytes : Bytes) → StandsAt image layout at op → HasHeight image layout entry at (pos height)
-      → moved_of (is_framed image layout entry) op height ≡ Some bytes → IsMovedWord image layout entry at (as_span bytes)
-  some-moved (Push a) height bytes stands has e = push-tells a height bytes stands has (is_framed image layout entry && is_bp_word a) refl e
-  some-moved (Pop a) height bytes stands has e = pop-tells a height bytes stands has (is_framed image layout entry && is_bp_word a) refl e
+      (op : Op) (height : ℕ) (bytes : Bytes) → StandsAt image layout at op
+      → HasHeight image layout entry at (pos height)
+      → moved_of (is_framed image layout entry) op height ≡ Some bytes
+      → IsMovedWord image layout entry at (as_span bytes)
+  some-moved (Push a) height bytes stands has e =
+      push-tells a height bytes stands has (is_framed image layout entry && is_bp_word a) refl e
+  some-moved (Pop a) height bytes stands has e =
+      pop-tells a height bytes stands has (is_framed image layout entry && is_bp_word a) refl e
   some-moved op height bytes stands has e = absurd (cc)
 
   push-told :
@@ -215,9 +228,11 @@ module _ (image : Image) (layout : Layout) (entry : ℕ) (step : Step) (is : IsS
       subst (λ b. IsDirectAccess image layout entry step.at (as_span b)) a.bytes_are
       (direct a.framed_is is.stands a.operand a.direct_is)
 
-  pub start-told : (start : ℤ) → StartsExposure image layout entry step.at start → start_of step.op step.height ≡ Some start
+  pub start-told : (start : ℤ) → StartsExposure image layout entry step.at start
+      → start_of step.op step.height ≡ Some start
   start-told _ (by_lea {r} {ea} stands other uses) =
-      ap (λ op. start_of op step.height) (same_op image layout step.at step.op (Lea r ea) is.stands stands) ∙ lea-start r ea other uses
+      ap (λ op. start_of op step.height) (same_op image layout step.at step.op (Lea r ea) is.stands stands)
+      ∙ lea-start r ea other uses
   start-told _ (by_index {op} {width} {ea} stands operand uses indexed) =
       ap (λ op. start_of op step.height) (same_op image layout step.at step.op op is.stands stands)
       ∙ index-start op step.height width ea operand uses indexed
@@ -226,18 +241,21 @@ module _ (image : Image) (layout : Layout) (entry : ℕ) (step : Step) (is : IsS
       ∙ copy-start op step.height copies
       ∙ ap (λ h. Some (pos 2 -ℤ h)) (sym (is.one height has))
 
-  pub start-tells : (start : ℤ) → start_of step.op step.height ≡ Some start → StartsExposure image layout entry step.at start
+  pub start-tells : (start : ℤ) → start_of step.op step.height ≡ Some start
+      → StartsExposure image layout entry step.at start
   start-tells start e = some-start image layout entry step.at step.op step.height start is.stands is.has e
 
   pub moved-told :
       (span : Span) → IsMovedWord image layout entry step.at span
       → moved_of (is_framed image layout entry) step.op step.height ≡ Some (as_bytes span)
   moved-told _ (pushed {a} {height} stands unsaved has) =
-      ap (λ op. moved_of (is_framed image layout entry) op step.height) (same_op image layout step.at step.op (Push a) is.stands stands)
+      ap (λ op. moved_of (is_framed image layout entry) op step.height)
+      (same_op image layout step.at step.op (Push a) is.stands stands)
       ∙ push-told image layout entry step.at a step.height unsaved
       ∙ ap (λ h. Some (word_at (neg_ℤ h))) (sym (is.one height has))
   moved-told _ (popped {a} {height} stands unsaved has) =
-      ap (λ op. moved_of (is_framed image layout entry) op step.height) (same_op image layout step.at step.op (Pop a) is.stands stands)
+      ap (λ op. moved_of (is_framed image layout entry) op step.height)
+      (same_op image layout step.at step.op (Pop a) is.stands stands)
       ∙ pop-told image layout entry step.at a step.height unsaved
       ∙ ap (λ h. Some (word_at (pos 2 -ℤ h))) (sym (is.one height has))
 

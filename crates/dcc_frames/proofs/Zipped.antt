@@ -4,7 +4,8 @@ use Rattle.std.specs.List.{AllZip}
 
 module _ {A B : Type 0} (R : A → B → Type 0) where
   pub zipped-at :
-      (xs : List A) (ys : List B) (i : ℕ) (d : A) (e : B) → AllZip R xs ys → i < length xs → R (get_or xs i d) (get_or ys i e)
+      (xs : List A) (ys : List B) (i : ℕ) (d : A) (e : B) → AllZip R xs ys → i < length xs
+      → R (get_or xs i d) (get_or ys i e)
   zipped-at [] ys i d e all inside = absurd (omega (arith, inside))
   zipped-at (x ∷ xs) [] i d e all inside = absurd all
   zipped-at (x ∷ xs) (y ∷ ys) zero d e all inside = all.0

@@ -9,7 +9,8 @@ loop-step-init c = least-none c.args.framed c.args.removed
 
 pub loop-step-preserved : goal.loop-step-preserved
 loop-step-preserved c =
-    subst (IsLeast (HasRoomIn c.args.framed c.args.removed (take (c.loop-step.step-index + 1) c.args.steps.now))) (sym c.max-count.ensures)
+    subst (IsLeast (HasRoomIn c.args.framed c.args.removed (take (c.loop-step.step-index + 1) c.args.steps.now)))
+    (sym c.max-count.ensures)
     (least-more c.args.framed c.args.removed c.args.steps.now c.loop-step.step-index _ c.loop-step.count c.room.result
     c.loop-step-test.true c.loop-step.invariant c.room.ensures)
 

@@ -20,7 +20,8 @@ returns-in_err-new-clause-refused c =
     let at =
     zipped-read _ procs heights.at.items place proc c.index.result.now m.heights_are.at inside read c.index.ensures in
     let removed =
-    zipped-read _ procs heights.ret.items place proc _ m.heights_are.removed inside read c.index-in-loop-place.ensures in
+    zipped-read _ procs heights.ret.items place proc _ m.heights_are.removed inside read
+    c.index-in-loop-place.ensures in
     c.in_err-new.ensures.refused image layout
     (measured-at image layout procs heights m place proc _ _ _ inside read at removed refl)) in
     search rules
@@ -37,10 +38,13 @@ loop-place-preserved c = λ image layout m.
     let heights = c.args.heights.now in
     let proc = c.index-procs-place.result in
     let inside : place < length procs = omega (arith, c.loop-place-test.true) in
-    let at = zipped-read _ procs heights.at.items place proc c.index.result.now m.heights_are.at inside c.index-procs-place.is c.index.ensures in
-    let removed = zipped-read _ procs heights.ret.items place proc _ m.heights_are.removed inside c.index-procs-place.is c.index-in-loop-place.ensures in
+    let at = zipped-read _ procs heights.at.items place proc c.index.result.now m.heights_are.at inside
+    c.index-procs-place.is c.index.ensures in
+    let removed = zipped-read _ procs heights.ret.items place proc _ m.heights_are.removed inside
+    c.index-procs-place.is c.index-in-loop-place.ensures in
     subst (AreBodies image layout (take (place + 1) procs)) (sym c.in_ok-push.ensures.items)
-    (bodies-more image layout procs heights m place c.loop-place.bodies.items proc c.in_ok-new.field-0 inside c.index-procs-place.is
+    (bodies-more image layout procs heights m place c.loop-place.bodies.items proc c.in_ok-new.field-0 inside
+    c.index-procs-place.is
     (c.loop-place.invariant image layout m)
     (c.in_ok-new.ensures.body image layout
     (measured-at image layout procs heights m place proc _ _ _ inside c.index-procs-place.is at removed refl)))
@@ -53,5 +57,16 @@ returns-clause-bodies c = λ image layout m.
     let b = zipped-length _ procs heights.ret.items m.heights_are.removed in
     subst (λ l. AreBodies image layout l c.loop-place.bodies.items)
     (take_all c.loop-place.place procs
-    (omega (arith, a, b, c.loop-place-test.false, c.min-place-end.ensures, c.len-2.ensures, c.min.ensures, c.len.ensures, heights.at.ok.0, heights.ret.ok.0)))
+    (omega (
+      arith,
+      a,
+      b,
+      c.loop-place-test.false,
+      c.min-place-end.ensures,
+      c.len-2.ensures,
+      c.min.ensures,
+      c.len.ensures,
+      heights.at.ok.0,
+      heights.ret.ok.0,
+    )))
     (c.loop-place.invariant image layout m)

@@ -18,9 +18,11 @@ loop-body-preserved c =
     let read : (take i bodies ++ body ∷ []) ≡ take (i + 1) bodies =
     ap (λ b. take i bodies ++ b ∷ []) c.body-item.is ∙ sym (take_more bodies i body c.loop-body-test.true) in
     subst (λ l. AreCounts l after) read
-    (counts-more (take i bodies) body (λ entry. get nat_eq c.loop-body.counts entry) after c.loop-body.invariant c.in_ok-note.ensures)
+    (counts-more (take i bodies) body (λ entry. get nat_eq c.loop-body.counts entry) after c.loop-body.invariant
+    c.in_ok-note.ensures)
 
 pub returns : goal.returns
 returns c =
     let counts : ℕ → Option ℕ = λ entry. get nat_eq c.loop-body.counts entry in
-    subst (λ l. AreCounts l counts) (take_all c.loop-body.body-index c.args.bodies.now c.loop-body-test.false) c.loop-body.invariant
+    subst (λ l. AreCounts l counts) (take_all c.loop-body.body-index c.args.bodies.now c.loop-body-test.false)
+    c.loop-body.invariant

@@ -18,11 +18,13 @@ pub returns-in-Some : goal.returns-in-Some
 returns-in-Some c = λ starts near before.
     let is : pos c.word.result ≡ c.args.start = c.word.ensures ∙ to_z-of_z w32 c.args.start c.ranges.start in
     subst (λ n. IsArgumentBy (starts ++ c.args.start ∷ []) (Some n)) (sym c.min.ensures)
-    (argument-least starts c.args.start c.in-Some.other c.word.result is (grind (arith, ints, to_z-of_z, c.if-start-lt4.false))
+    (argument-least starts c.args.start c.in-Some.other c.word.result is
+    (grind (arith, ints, to_z-of_z, c.if-start-lt4.false))
     (subst (IsArgumentBy starts) c.in-Some.is before))
 
 pub returns-in-None : goal.returns-in-None
 returns-in-None c = λ starts near before.
-    let is : pos c.word-in-None.result ≡ c.args.start = c.word-in-None.ensures ∙ to_z-of_z w32 c.args.start c.ranges.start in
+    let is : pos c.word-in-None.result ≡ c.args.start = c.word-in-None.ensures
+    ∙ to_z-of_z w32 c.args.start c.ranges.start in
     argument-first starts c.args.start c.word-in-None.result is (grind (arith, ints, to_z-of_z, c.if-start-lt4.false))
     (subst (IsArgumentBy starts) c.in-None.is before)

@@ -7,9 +7,11 @@ use Rattle.dcc_frames.proofs.exposed.local_with.Goals.{else-start-lt0-via-then-s
 
 pub returns-then-start-geminus65535 : goal.returns-then-start-geminus65535
 returns-then-start-geminus65535 c = λ starts near before.
-    let is : neg_ℤ (pos c.distance.result) ≡ c.args.start = c.distance.ensures ∙ to_z-of_z w32 c.args.start c.ranges.start in
+    let is : neg_ℤ (pos c.distance.result) ≡ c.args.start = c.distance.ensures
+    ∙ to_z-of_z w32 c.args.start c.ranges.start in
     subst (IsLocalBy (starts ++ c.args.start ∷ [])) (sym c.max.ensures)
-    (local-below starts c.args.start c.args.count c.distance.result is (grind (arith, ints, to_z-of_z, c.if-start-lt0.true)) before)
+    (local-below starts c.args.start c.args.count c.distance.result is
+    (grind (arith, ints, to_z-of_z, c.if-start-lt0.true)) before)
 
 pub returns-else-start-lt0 : goal.returns-else-start-lt0
 returns-else-start-lt0 c = λ starts near before.

@@ -15,7 +15,8 @@ returns-in_err-bodies-clause-refused c =
     let refusal = c.in_err-bodies.field-0.0 in
     let named : IsRefusalOfAll procs heights c.args.delta refusal = λ image layout a.
     (let given : AreMeasured image layout c.deref.result.now heights =
-    subst (λ l. AreMeasured image layout l heights) (sym c.deref.ensures.value) (measured image layout procs heights c.args.delta a) in
+    subst (λ l. AreMeasured image layout l heights) (sym c.deref.ensures.value)
+    (measured image layout procs heights c.args.delta a) in
     c.in_err-bodies.ensures.refused image layout given) in
     search rules
 
@@ -32,12 +33,15 @@ returns-in_err-frames-clause-refused c =
     let refusal = c.in_err-frames.field-0.0 in
     let named : IsRefusalOfAll procs heights c.args.delta refusal = λ image layout a.
     (let given : AreMeasured image layout c.deref.result.now heights =
-    subst (λ l. AreMeasured image layout l heights) (sym c.deref.ensures.value) (measured image layout procs heights c.args.delta a) in
+    subst (λ l. AreMeasured image layout l heights) (sym c.deref.ensures.value)
+    (measured image layout procs heights c.args.delta a) in
     let bodies = c.in_ok-bodies.bodies.items in
     let counts : ℕ → Option ℕ = λ entry. get nat_eq c.in_ok-counts.counts entry in
     let are : AreBodies image layout procs bodies =
-    subst (λ l. AreBodies image layout l bodies) c.deref.ensures.value (c.in_ok-bodies.ensures.bodies image layout given) in
-    let counted : AreCounts bodies counts = subst (λ l. AreCounts l counts) c.deref-2.ensures.value c.in_ok-counts.ensures in
+    subst (λ l. AreBodies image layout l bodies) c.deref.ensures.value
+    (c.in_ok-bodies.ensures.bodies image layout given) in
+    let counted : AreCounts bodies counts = subst (λ l. AreCounts l counts) c.deref-2.ensures.value
+    c.in_ok-counts.ensures in
     let ready : AreAllReady image layout c.deref-3.result.now counts c.args.delta =
     subst (λ l. AreAllReady image layout l counts c.args.delta) (sym c.deref-3.ensures.value)
     (all-ready image layout procs heights c.args.delta a bodies are counts counted) in
@@ -49,12 +53,15 @@ returns-clause-cells c = λ image layout a.
     let procs = c.args.procs.now.items in
     let heights = c.args.heights.now in
     let given : AreMeasured image layout c.deref.result.now heights =
-    subst (λ l. AreMeasured image layout l heights) (sym c.deref.ensures.value) (measured image layout procs heights c.args.delta a) in
+    subst (λ l. AreMeasured image layout l heights) (sym c.deref.ensures.value)
+    (measured image layout procs heights c.args.delta a) in
     let bodies = c.in_ok-bodies.bodies.items in
     let counts : ℕ → Option ℕ = λ entry. get nat_eq c.in_ok-counts.counts entry in
     let are : AreBodies image layout procs bodies =
-    subst (λ l. AreBodies image layout l bodies) c.deref.ensures.value (c.in_ok-bodies.ensures.bodies image layout given) in
-    let counted : AreCounts bodies counts = subst (λ l. AreCounts l counts) c.deref-2.ensures.value c.in_ok-counts.ensures in
+    subst (λ l. AreBodies image layout l bodies) c.deref.ensures.value
+    (c.in_ok-bodies.ensures.bodies image layout given) in
+    let counted : AreCounts bodies counts = subst (λ l. AreCounts l counts) c.deref-2.ensures.value
+    c.in_ok-counts.ensures in
     let ready : AreAllReady image layout c.deref-3.result.now counts c.args.delta =
     subst (λ l. AreAllReady image layout l counts c.args.delta) (sym c.deref-3.ensures.value)
     (all-ready image layout procs heights c.args.delta a bodies are counts counted) in

@@ -70,7 +70,8 @@ returns-in_err-check_runs-clause-refused c =
     let are : AreRuns sorted runs =
     subst (λ l. AreRuns l runs) c.deref.ensures.value
     (c.in_ok-runs.ensures (subst AreAscending (sym c.deref.ensures.value) ascend)) in
-    runs-refused image layout body counts c.args.delta ready lacks lacks_is allowed enough pieces sorted c.in_ok-pieces.ensures
+    runs-refused image layout body counts c.args.delta ready lacks lacks_is allowed enough pieces sorted
+    c.in_ok-pieces.ensures
     c.in_ok-sort.ensures.permutation c.in_ok-sort.ensures.order runs are
     refusal
     (subst (λ l. IsToldOfRuns lacks l refusal) c.deref-2.ensures.value c.in_err-check_runs.ensures.refused)) in
@@ -94,7 +95,8 @@ returns-in_err-cells_of-clause-refused c =
     let are : AreRuns sorted runs =
     subst (λ l. AreRuns l runs) c.deref.ensures.value
     (c.in_ok-runs.ensures (subst AreAscending (sym c.deref.ensures.value) ascend)) in
-    cells-refused image layout body counts c.args.delta ready lacks lacks_is allowed enough pieces sorted c.in_ok-pieces.ensures
+    cells-refused image layout body counts c.args.delta ready lacks lacks_is allowed enough pieces sorted
+    c.in_ok-pieces.ensures
     c.in_ok-sort.ensures.permutation c.in_ok-sort.ensures.order runs are
     refusal
     (subst (λ l. IsOverfull (cells_from l) refusal) c.deref-5.ensures.value c.in_err-cells_of.ensures.refused)) in
@@ -119,11 +121,19 @@ returns-clause-frame c = λ image layout ready.
     let none : All (λ (run : Piece). long_user lacks run ≡ None) runs =
     subst (All (λ (run : Piece). long_user lacks run ≡ None)) c.deref-2.ensures.value c.in_ok-check_runs.ensures.none in
     let starts : c.deref-6.result.now ≡ starts_of body.steps.items runs =
-    c.deref-6.ensures.value ∙ c.in_ok-starts.ensures ∙ ap (λ l. starts_of l c.deref-4.result.now) c.deref-3.ensures.value
+    c.deref-6.ensures.value ∙ c.in_ok-starts.ensures
+    ∙ ap (λ l. starts_of l c.deref-4.result.now) c.deref-3.ensures.value
     ∙ ap (starts_of body.steps.items) c.deref-4.ensures.value in
-    frame-told image layout body counts c.args.delta ready lacks lacks_is allowed enough pieces sorted c.in_ok-pieces.ensures
+    frame-told image layout body counts c.args.delta ready lacks lacks_is allowed enough pieces sorted
+    c.in_ok-pieces.ensures
     c.in_ok-sort.ensures.permutation c.in_ok-sort.ensures.order runs are
-    none (record { framed = body.framed; args = body.args; cells = c.in_ok-cells_of.field-0; exposed = c.exposed.result }) refl refl
+    none (record {
+      framed = body.framed;
+      args = body.args;
+      cells = c.in_ok-cells_of.field-0;
+      exposed =
+          c.exposed.result;
+    }) refl refl
     (c.in_ok-cells_of.ensures.cells ∙ ap cells_from c.deref-5.ensures.value) c.in_ok-cells_of.ensures.few
     (subst (λ l. All IsNear l → IsLocalBy l c.exposed.result.local) starts c.exposed.ensures.local)
     (subst (λ l. All IsNear l → IsArgumentBy l c.exposed.result.arg) starts c.exposed.ensures.argument)

@@ -30,11 +30,14 @@ loop-body-preserved c = λ image layout ready.
     let bodies = c.args.bodies.now in
     let body = c.body-item.result in
     subst (AreFramesAt image layout (take (i + 1) bodies)) (sym c.in_ok-push.ensures.items)
-    (frames-more image layout bodies i body c.loop-body.frames.items c.in_ok-frame.field-0 c.loop-body-test.true c.body-item.is
+    (frames-more image layout bodies i body c.loop-body.frames.items c.in_ok-frame.field-0 c.loop-body-test.true
+    c.body-item.is
     (c.loop-body.invariant image layout ready)
-    (c.in_ok-frame.ensures.frame image layout (ready-at image layout bodies _ c.args.delta ready i body c.loop-body-test.true c.body-item.is)))
+    (c.in_ok-frame.ensures.frame image layout
+    (ready-at image layout bodies _ c.args.delta ready i body c.loop-body-test.true c.body-item.is)))
 
 pub returns-clause-frames : goal.returns-clause-frames
 returns-clause-frames c = λ image layout ready.
-    subst (λ l. AreFramesAt image layout l c.loop-body.frames.items) (take_all c.loop-body.body-index c.args.bodies.now c.loop-body-test.false)
+    subst (λ l. AreFramesAt image layout l c.loop-body.frames.items)
+    (take_all c.loop-body.body-index c.args.bodies.now c.loop-body-test.false)
     (c.loop-body.invariant image layout ready)

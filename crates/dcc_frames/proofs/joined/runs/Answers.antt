@@ -13,7 +13,8 @@ loop-piece-preserved c = (
   λ is. absurd (cc),
   λ asc.
       subst (AreRuns (take (c.loop-piece.piece-index + 1) c.args.pieces.now)) (sym c.in_ok-join.ensures)
-      (runs-more c.args.pieces.now asc c.loop-piece.piece-index _ c.loop-piece-test.true c.loop-piece.runs.items c.loop-piece.last
+      (runs-more c.args.pieces.now asc c.loop-piece.piece-index _ c.loop-piece-test.true c.loop-piece.runs.items
+      c.loop-piece.last
       c.loop-piece.invariant.0 (c.loop-piece.invariant.1 asc)),
 )
 

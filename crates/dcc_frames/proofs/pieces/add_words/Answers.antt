@@ -12,4 +12,5 @@ loop-number-preserved c =
     ∙ ap (λ l. l ++ c.word.result ∷ []) c.loop-number.invariant
     ∙ append_assoc c.args.pieces.now.items (words_from first n c.args.user) (c.word.result ∷ [])
     ∙ ap (λ x. c.args.pieces.now.items ++ (words_from first n c.args.user ++ x ∷ [])) c.word.ensures
-    ∙ ap (λ l. c.args.pieces.now.items ++ l) (sym (map-range_with_len_more (word_from first c.args.user) 0 n n (omega arith)))
+    ∙ ap (λ l. c.args.pieces.now.items ++ l)
+    (sym (map-range_with_len_more (word_from first c.args.user) 0 n n (omega arith)))

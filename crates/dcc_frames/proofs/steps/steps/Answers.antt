@@ -11,7 +11,8 @@ loop-place-preserved c =
     c.in_ok-push.ensures.items
     ∙ ap (λ l. l ++ step_of node height ∷ []) c.loop-place.invariant
     ∙ sym
-    (steps-more c.args.proc.now.nodes.entries c.args.heights.now.entries c.loop-place.place node height s.ensures.entry s.ensures'.entry)
+    (steps-more c.args.proc.now.nodes.entries c.args.heights.now.entries c.loop-place.place node height
+    s.ensures.entry s.ensures'.entry)
 
 pub returns : goal.returns
 returns c =

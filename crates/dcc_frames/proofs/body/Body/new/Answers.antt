@@ -17,8 +17,10 @@ pub returns-then-args-gt-MOST_ARGUMENTS-clause-refused :
     goal.returns-then-args-gt-MOST_ARGUMENTS-clause-refused
 returns-then-args-gt-MOST_ARGUMENTS-clause-refused c = λ image layout m.
     subst (λ n. IsRefusedByFrames image layout (Limit Arguments n)) (sym c.from.ensures)
-    (too-many image layout c.args.proc.now c.args.heights.now.entries c.args.removed c.args.is_start m c.is_framed-framed.result
-    (c.is_framed-framed.ensures image layout m.found) c.in_ok-steps.steps.items c.in_ok-steps.ensures c.arguments-args.result
+    (too-many image layout c.args.proc.now c.args.heights.now.entries c.args.removed c.args.is_start m
+    c.is_framed-framed.result
+    (c.is_framed-framed.ensures image layout m.found) c.in_ok-steps.steps.items c.in_ok-steps.ensures
+    c.arguments-args.result
     (subst
     (λ l. IsCounted c.args.is_start c.is_framed-framed.result c.args.removed l c.arguments-args.result)
     c.deref.ensures.value c.arguments-args.ensures)
@@ -26,8 +28,10 @@ returns-then-args-gt-MOST_ARGUMENTS-clause-refused c = λ image layout m.
 
 pub returns-clause-body : goal.returns-clause-body
 returns-clause-body c = λ image layout m.
-    is-body image layout c.args.proc.now c.args.heights.now.entries c.args.removed c.args.is_start m c.is_framed-framed.result
-    (c.is_framed-framed.ensures image layout m.found) c.in_ok-steps.steps.items c.in_ok-steps.ensures c.arguments-args.result
+    is-body image layout c.args.proc.now c.args.heights.now.entries c.args.removed c.args.is_start m
+    c.is_framed-framed.result
+    (c.is_framed-framed.ensures image layout m.found) c.in_ok-steps.steps.items c.in_ok-steps.ensures
+    c.arguments-args.result
     (subst
     (λ l. IsCounted c.args.is_start c.is_framed-framed.result c.args.removed l c.arguments-args.result)
     c.deref.ensures.value c.arguments-args.ensures)
