@@ -4,3 +4,4 @@ pub mod WantedLaws
 pub mod WorkLaws
 pub mod LiveLaws
 pub mod DeadLaws
+pub mod TestGraphs
