@@ -193,15 +193,15 @@ before_known [] exit places bits x t = elim (or_cases (is_among (flat_map reads_
 before_known (stmt ∷ rest) exit places bits x t =
     let W = before_rest rest exit places bits in
     elim (decided (stays (access_of stmt) W)) [
-  | inl e ↦ elim (or_cases (is_among (flat_map reads_of (exprs_of stmt)) x) (not (is_among (writes_of stmt) x) && W x) (sym (before_staying (access_of stmt) W x e) ∙ t)) [
-    | inl r ↦ inl (or_left (is_among (flat_map reads_of (exprs_of stmt)) x) (not (is_among (writes_of stmt) x) && reads_first rest exit x) r)
-    | inr on ↦ let parts = and_parts (not (is_among (writes_of stmt) x)) (W x) on in later parts.0 (before_known rest exit places bits x parts.1)
-  ]
-  | inr e ↦
-      let on = sym (before_going (access_of stmt) W x e) ∙ t in
-      later (ap not (unwritten (writes_of stmt) x (λ c. true≢false (sym (any_passes W (writes_of stmt) x c on) ∙ going (is_assignment stmt) (list_any W (writes_of stmt)) e))))
-      (before_known rest exit places bits x on)
-]
+      | inl e ↦ elim (or_cases (is_among (flat_map reads_of (exprs_of stmt)) x) (not (is_among (writes_of stmt) x) && W x) (sym (before_staying (access_of stmt) W x e) ∙ t)) [
+        | inl r ↦ inl (or_left (is_among (flat_map reads_of (exprs_of stmt)) x) (not (is_among (writes_of stmt) x) && reads_first rest exit x) r)
+        | inr on ↦ let parts = and_parts (not (is_among (writes_of stmt) x)) (W x) on in later parts.0 (before_known rest exit places bits x parts.1)
+      ]
+      | inr e ↦
+          let on = sym (before_going (access_of stmt) W x e) ∙ t in
+          later (ap not (unwritten (writes_of stmt) x (λ c. true≢false (sym (any_passes W (writes_of stmt) x c on) ∙ going (is_assignment stmt) (list_any W (writes_of stmt)) e))))
+          (before_known rest exit places bits x on)
+    ]
   where
     later : not (is_among (writes_of stmt) x) ≡ true → (reads_first rest exit x ≡ true) ⊎ Contains (selected places bits) x → (reads_first (stmt ∷ rest) exit x ≡ true) ⊎ Contains (selected places bits) x
     later out (inl r) = inl (or_right (is_among (flat_map reads_of (exprs_of stmt)) x) (not (is_among (writes_of stmt) x) && reads_first rest exit x) (and_from (not (is_among (writes_of stmt) x)) (reads_first rest exit x) out r))

@@ -501,8 +501,7 @@ module _ (graph : Graph) (places : List Loc) (w : Work) (going : Going graph pla
       pub kept : (after : Work) → after ≡ spread start start start (taken graph places w going rest block last (block_in graph block) at_block start tells (get_or sources block []) edges_to sources_below) (get_or sources block []) →
           Going graph places after × (weight after < weight w)
       kept next is =
-          let b = block_in graph block in
-          (
+          let b = block_in graph block in (
             subst (Going graph places) (sym is) (turn_going graph places w going rest block last b at_block start tells (get_or sources block []) edges_to sources_below),
             subst (λ x. weight x < weight w) (sym is) (turn_less graph places w going rest block last b at_block start tells (get_or sources block []) edges_to sources_below),
           )

@@ -93,7 +93,11 @@ fn live_bits<L: Ledger>(
 }
 
 // The locations that each of these selects.
-fn all_selected(alloc: Global, places: &[Loc], bits: &Vec<Bits>) -> Result<Vec<Vec<Loc>>, AllocError>
+fn all_selected(
+    alloc: Global,
+    places: &[Loc],
+    bits: &Vec<Bits>,
+) -> Result<Vec<Vec<Loc>>, AllocError>
     requires { All (λ b. length b ≡ length places.now) bits.now.items }
     ensures { IfOk result (λ lists. map (λ v. v.items) lists.items ≡ map (selected places.now) bits.now.items) }
 {

@@ -220,7 +220,9 @@ fn end(rt: &impl Abort, alloc: Global, exit: Exit, count: usize) -> Result<End, 
             })
         }
         Exit::Switch(b, first, second, third) => {
-            assert!(rt; (first as usize) < count && (second as usize) < count && (third as usize) < count);
+            assert!(rt;
+                (first as usize) < count && (second as usize) < count && (third as usize) < count
+            );
             Ok(End::Switch {
                 value: wide(alloc, b)?,
                 blocks: vec![in alloc; first, second, third]?,
@@ -249,7 +251,14 @@ fn call_stmt(alloc: Global, to: Byte, argument: Byte) -> Result<Stmt, AllocError
 }
 
 // A block that ends in a call.
-fn calling(rt: &impl Abort, alloc: Global, at: u16, ops: &[Op], call: (Byte, Byte, u32), count: usize) -> Result<Block, AllocError>
+fn calling(
+    rt: &impl Abort,
+    alloc: Global,
+    at: u16,
+    ops: &[Op],
+    call: (Byte, Byte, u32),
+    count: usize,
+) -> Result<Block, AllocError>
     ensures at { IfOk result (λ b. b.at ≡ at) }
     ensures jumps { IfOk result (λ b. jumps_after_call (block_of b).stmts (block_of b).exit ≡ true) }
     ensures fine { IfOk result (λ b. is_block [] count (block_of b) ≡ true) }
@@ -267,7 +276,13 @@ fn calling(rt: &impl Abort, alloc: Global, at: u16, ops: &[Op], call: (Byte, Byt
 }
 
 // Another block.
-fn plain(rt: &impl Abort, alloc: Global, at: u16, line: &Line, count: usize) -> Result<Block, AllocError>
+fn plain(
+    rt: &impl Abort,
+    alloc: Global,
+    at: u16,
+    line: &Line,
+    count: usize,
+) -> Result<Block, AllocError>
     ensures at { IfOk result (λ b. b.at ≡ at) }
     ensures jumps { IfOk result (λ b. jumps_after_call (block_of b).stmts (block_of b).exit ≡ true) }
     ensures fine { IfOk result (λ b. is_block [] count (block_of b) ≡ true) }
@@ -277,7 +292,13 @@ fn plain(rt: &impl Abort, alloc: Global, at: u16, line: &Line, count: usize) -> 
     Ok(Block { at, stmts, end })
 }
 
-fn block(rt: &impl Abort, alloc: Global, at: u16, line: &Line, count: usize) -> Result<Block, AllocError>
+fn block(
+    rt: &impl Abort,
+    alloc: Global,
+    at: u16,
+    line: &Line,
+    count: usize,
+) -> Result<Block, AllocError>
     ensures at { IfOk result (λ b. b.at ≡ at) }
     ensures jumps { IfOk result (λ b. jumps_after_call (block_of b).stmts (block_of b).exit ≡ true) }
     ensures fine { IfOk result (λ b. is_block [] count (block_of b) ≡ true) }
@@ -431,7 +452,11 @@ const CASES: [Case; 9] = [
     Case {
         name: "keys",
         lines: &[Line {
-            ops: &[Op::Key(Reg::Ax), Op::Key(Reg::Bx), Op::Pick(Reg::Cx, FlagName::Cf, Reg::Ax, Reg::Bx)],
+            ops: &[
+                Op::Key(Reg::Ax),
+                Op::Key(Reg::Bx),
+                Op::Pick(Reg::Cx, FlagName::Cf, Reg::Ax, Reg::Bx),
+            ],
             exit: Exit::Ret(Reg::Bx),
         }],
         live: "[[]]",

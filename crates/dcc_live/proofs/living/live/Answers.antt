@@ -19,5 +19,5 @@ returns c =
     let slice = c.as_slice-slice.result.now in
     let rows = c.in_ok-rows.ensures ∙ ap (map row_of) c.in_ok-blocks.ensures in
     let tracked = subst (λ l. All (λ (row : Row). All (Contains l) row.first) (map row_of (accesses_of graph))) (sym c.as_slice-slice.ensures.value)
-        (subst (λ r. All (λ (row : Row). All (Contains c.in_ok-places.places.items) row.first) r) rows c.in_ok-places.ensures) in
+    (subst (λ r. All (λ (row : Row). All (Contains c.in_ok-places.places.items) row.first) r) rows c.in_ok-places.ensures) in
     subst (IsLive graph) (sym c.in_ok-at_end.ensures) (selected_live graph c.requires slice c.in_ok-bits.bits.items tracked c.in_ok-bits.ensures)

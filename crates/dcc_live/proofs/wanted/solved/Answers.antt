@@ -95,7 +95,7 @@ turned g c =
     let there : block < length items = omega (arith, inside, length-map items block_access_in, ap length c.requires.blocks, length-map graph.blocks block_access_of) in
     let access = block_access_in c.index-in-Some.result.now in
     let known = map_read block_access_in items block c.index-in-Some.result.now there c.index-in-Some.ensures ∙ ap (λ l. get_or l block access) c.requires.blocks
-        ∙ get_or-map block_access_of graph.blocks block no_block access inside in
+    ∙ get_or-map block_access_of graph.blocks block no_block access inside in
     let tells = subst (λ h. Tells places h start) (ap₂ (before_block places) bits known) c.in_ok-start.ensures.tells in
     let taken : Work = record { answer = w.answer; pending = rest; queued = slice_set w.queued block false } in
     kept graph places w going rest block c.in-Some.ensures.items (rows vs) c.in_ok-sources.ensures start tells (work_of c.want_all.new.self)
