@@ -3,7 +3,8 @@ use Rattle.std.proofs.Common.{◌≡◌, ℕ, zero, suc, ◌+◌, ◌<◌, ◌�
 use Rattle.std.specs.Prelude.{◌==◌, if◌then◌else◌}
 use Rattle.std.specs.List.{list_all, list_any, range_with_len}
 use Rattle.std.proofs.lemmas.Bool.{and_from, ne_eqb, or_from}
-use Rattle.std.proofs.lemmas.List.{length-map, map_push, length-range_with_len, get_or-range_with_len}
+use Rattle.std.proofs.lemmas.List.{length-map, map_push, get_or-map}
+use Rattle.std.proofs.lemmas.List.FromFn.{length-range_with_len, get_or-range_with_len}
 use Rattle.std.proofs.lemmas.List.Elements.{All-nil, All-push, All-from_get_or}
 use Rattle.std.proofs.lemmas.List.Folds.{list_all-append, list_any-append}
 use Rattle.dcc_ir.specs.declared.syntax.Block.{Block as BlockOf}
@@ -11,8 +12,6 @@ use Rattle.dcc_ir.specs.Tree.{Stmt, Exit, Stop, Block, Graph}
 use Rattle.dcc_ir.specs.Views.{block_of}
 use Rattle.dcc_ir.specs.Run.{is_call}
 use Rattle.dcc_ir.specs.WellFormed.{is_stmt, is_exit, is_jump, is_block, is_width, is_put, jumps_after_call, all_differ, IsGraph}
-use Rattle.dcc_flow.proofs.PlainGraphs.{range_differs}
-use Rattle.dcc_flow.proofs.Members.{at_map}
 use Rattle.dcc_flow.proofs.WorkLaws.{range_more}
 
 -- Statements.
@@ -42,6 +41,17 @@ jumps_call [] last exit none jump = go (is_call last)
 jumps_call (stmt ∷ stmts) last exit none jump =
     let parts = first_none (is_call stmt) (list_any is_call stmts) none in
     ap (λ b. if b then not (list_any is_call (stmts ++ last ∷ [])) && is_jump exit else jumps_after_call (stmts ++ last ∷ []) exit) parts.0 ∙ jumps_call stmts last exit parts.1 jump
+
+-- Addresses that count up.
+
+above : (a n m : ℕ) → m < a → list_any (λ k. m == k) (range_with_len a n) ≡ false
+above a zero m h = refl
+above a (suc n) m h =
+    or_from (m == a) (list_any (λ k. m == k) (range_with_len (a + 1) n)) (ne_eqb m a (omega arith)) (above (a + 1) n m (omega arith))
+
+range_differs : (a n : ℕ) → all_differ (range_with_len a n) ≡ true
+range_differs a zero = refl
+range_differs a (suc n) = and_from (not (list_any (λ k. a == k) (range_with_len (a + 1) n))) (all_differ (range_with_len (a + 1) n)) (ap not (above (a + 1) n a (omega arith))) (range_differs (a + 1) n)
 
 -- Graphs.
 
@@ -77,7 +87,7 @@ fine_graph graph count n are all begins few entry params bits =
       entry = entry;
       offsets = All-from_get_or (λ (b : Block). b.at < 65536) graph.blocks none (λ i inside.
           let below : i < n = omega (arith, size) in
-          let at = sym (at_map (λ (b : Block). b.at) graph.blocks i none) ∙ ap (λ l. get_or l i 0) are.addresses
+          let at = sym (get_or-map (λ (b : Block). b.at) graph.blocks i none 0 inside) ∙ ap (λ l. get_or l i 0) are.addresses
           ∙ get_or-range_with_len 0 n i 0 below in
           omega (arith, at, below));
       jumps = are.jumps;

@@ -86,7 +86,7 @@ fn is_zero(alloc: Global, b: Byte) -> Result<Expr, AllocError>
     Ok(Expr::Un {
         operator: UnOp::IsZero,
         width: 8,
-        operand: Box::new(alloc, get(b))?,
+        operand: Box::new(alloc, Expr::Get(Loc::Half(b, Half::Low)))?,
     })
 }
 
@@ -96,19 +96,24 @@ fn wide(alloc: Global, b: Byte) -> Result<Expr, AllocError>
     Ok(Expr::Widen {
         by_sign: false,
         width: 16,
-        operand: Box::new(alloc, get(b))?,
+        operand: Box::new(alloc, Expr::Get(Loc::Half(b, Half::Low)))?,
     })
 }
 
-// The first flag where the test is 1, else the second.
-fn choose(alloc: Global, test: Expr, one: FlagName, other: FlagName) -> Result<Expr, AllocError>
-    requires { is_expr_of [] 1 (expr_of test) ≡ true }
+// The first flag where the byte is 0, else the second.
+fn choose(alloc: Global, b: Byte, one: FlagName, other: FlagName) -> Result<Expr, AllocError>
     ensures { IfOk result (λ e. is_expr_of [] 1 (expr_of e) ≡ true) }
 {
+    let operand = Box::new(alloc, Expr::Get(Loc::Half(b, Half::Low)))?;
+    let test = Expr::Un {
+        operator: UnOp::IsZero,
+        width: 8,
+        operand,
+    };
     Ok(Expr::Choose {
         test: Box::new(alloc, test)?,
-        one: Box::new(alloc, flag(one))?,
-        other: Box::new(alloc, flag(other))?,
+        one: Box::new(alloc, Expr::Get(Loc::Flag(one)))?,
+        other: Box::new(alloc, Expr::Get(Loc::Flag(other)))?,
     })
 }
 
@@ -117,9 +122,9 @@ fn pick(alloc: Global, test: FlagName, one: Byte, other: Byte) -> Result<Expr, A
     ensures { IfOk result (λ e. is_expr_of [] 8 (expr_of e) ≡ true) }
 {
     Ok(Expr::Choose {
-        test: Box::new(alloc, flag(test))?,
-        one: Box::new(alloc, get(one))?,
-        other: Box::new(alloc, get(other))?,
+        test: Box::new(alloc, Expr::Get(Loc::Flag(test)))?,
+        one: Box::new(alloc, Expr::Get(Loc::Half(one, Half::Low)))?,
+        other: Box::new(alloc, Expr::Get(Loc::Half(other, Half::Low)))?,
     })
 }
 
@@ -130,8 +135,8 @@ fn both(alloc: Global, operator: BinOp, a: Byte, b: Byte) -> Result<Expr, AllocE
     Ok(Expr::Bin {
         operator,
         width: 8,
-        left: Box::new(alloc, get(a))?,
-        right: Box::new(alloc, get(b))?,
+        left: Box::new(alloc, Expr::Get(Loc::Half(a, Half::Low)))?,
+        right: Box::new(alloc, Expr::Get(Loc::Half(b, Half::Low)))?,
     })
 }
 
@@ -154,7 +159,7 @@ fn stmt(alloc: Global, op: Op) -> Result<Stmt, AllocError>
         }),
         Op::Keep(to, b, other) => Ok(Stmt::Set {
             place: Loc::Flag(to),
-            value: choose(alloc, is_zero(alloc, b)?, to, other)?,
+            value: choose(alloc, b, to, other)?,
         }),
         Op::Pick(to, test, one, other) => Ok(Stmt::Set {
             place: Loc::Half(to, Half::Low),
