@@ -13,7 +13,6 @@ pub mod ConstructLaws
 pub mod FoundLaws
 pub mod RefusedLaws
 pub mod MachineEnds
-pub mod WatchLaws
 pub mod OperationForms
 pub mod AccessLaws
 pub mod MemoryKept

@@ -23,9 +23,10 @@ pub mod Built
 pub mod Found
 pub mod Refused
 pub mod Analysed
-pub mod Watch
 pub mod StateForm
 pub mod Access
+pub mod Clean
+pub mod Watch
 pub mod MemoryLaws
 pub mod LocationLaws
 pub mod AlikeLaws
