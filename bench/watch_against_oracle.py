@@ -153,7 +153,7 @@ fn is_alike(alloc: Global, cpu: Cpu, file: &mut Reader) -> Result<bool, Error> {
     }
     alike = left == file.number(1) && alike;
     let wanted = file.bytes(alloc, 4)?;
-    alike = out.taken() == wanted.as_slice() && alike;
+    alike = out.taken().as_slice() == wanted.as_slice() && alike;
     Ok(alike)
 }
 
