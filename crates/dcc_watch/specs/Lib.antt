@@ -1,4 +1,5 @@
 pub mod Accesses
+pub mod Following
 pub mod Foul
 pub mod Kept
 pub mod Marks

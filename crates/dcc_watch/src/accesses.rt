@@ -295,7 +295,7 @@ fn alu_accesses(machine: &Machine, kind: Alu, a: Operand, b: Operand) -> Accesse
 }
 
 // Those of an operation.
-fn accesses(machine: &Machine, op: Op) -> Accesses
+fn operation_accesses(machine: &Machine, op: Op) -> Accesses
     requires { IsOperation op }
     ensures { result ≡ accesses op (state_of machine.now) }
 {
@@ -334,6 +334,6 @@ pub(crate) fn found_accesses(machine: &Machine, found: Option<Instr>) -> Accesse
 {
     match found {
         None => Accesses::new(),
-        Some(instr) => accesses(machine, instr.op),
+        Some(instr) => operation_accesses(machine, instr.op),
     }
 }

@@ -1,6 +1,6 @@
 //! The frames that live.
 
-ghost use Rattle.std.specs.Prelude.{◌≡◌, ◌+◌, ◌*◌, ◌<◌, [], ◌∷◌, drop, length, IfOk, nat_lt};
+ghost use Rattle.std.specs.Prelude.{◌≡◌, ◌+◌, ◌*◌, ◌<◌, [], ◌∷◌, drop, length, not, ◌&&◌, IfOk, nat_le, nat_lt};
 ghost use Rattle.dcc_watch.specs.Shapes.{end_of, exposed_in};
 
 use crate::shape::{NO_SHAPE, Shape};
@@ -19,11 +19,12 @@ pub(crate) struct Live {
 }
 
 impl Live {
-    // The offset after the arguments.
-    fn end(self) -> u64
-        ensures { result ≡ end_of self }
+    // Whether the part from the first offset up to the end of the arguments holds the second.
+    fn holds(self, low: u32, offset: u16) -> bool
+        ensures { result ≡ (nat_le low offset && not (nat_le (end_of self) offset)) }
     {
-        u64::from(self.base) + 2 * u64::from(self.shape.args)
+        let end = u64::from(self.base) + 2 * u64::from(self.shape.args);
+        low <= u32::from(offset) && u64::from(offset) < end
     }
 }
 
@@ -87,7 +88,7 @@ impl Frames {
     {
         let mut low = top;
         for live in &self.items[self.newest..] {
-            if low <= u32::from(offset) && u64::from(offset) < live.end() {
+            if live.holds(low, offset) {
                 return live.shape.exposes(live.base, offset);
             }
             low = live.base;

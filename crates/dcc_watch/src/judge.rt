@@ -26,7 +26,7 @@ pub(crate) struct Foul {
 }
 
 /// What is foul of the step of an instruction that was found, if anything is, by its accesses.
-pub(crate) fn foul(
+pub(crate) fn next_foul(
     machine: &Machine,
     layout: &Layout,
     frames: &Frames,

@@ -7,8 +7,10 @@ mod frames;
 mod judge;
 mod marks;
 mod places;
+mod progress;
 mod shape;
 mod sp;
+mod stack;
 mod watch;
 mod watched;
 

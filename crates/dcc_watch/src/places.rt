@@ -1,12 +1,12 @@
 //! The bytes of the stack that accesses touch.
 
-ghost use Rattle.std.specs.Prelude.{◌≡◌, not, true};
-ghost use Rattle.std.specs.List.{find, filter_map};
+ghost use Rattle.std.specs.Prelude.{◌≡◌, ◌∷◌, [], not, true};
+ghost use Rattle.std.specs.List.{filter_map};
 ghost use Rattle.dcc_prog.specs.Access.{addresses_of};
 ghost use Rattle.dcc_prog.specs.Clean.{stack_offset, is_marked, with_marks, stored_bytes};
 ghost use Rattle.dcc_watch.specs.Accesses.{access_of};
 ghost use Rattle.dcc_watch.specs.Shapes.{exposed_in};
-ghost use Rattle.dcc_watch.specs.Foul.{first_byte, hidden_in, unwritten_in};
+ghost use Rattle.dcc_watch.specs.Foul.{first_at, hidden_in, unwritten_in};
 
 use crate::access::{Access, Direction, Kind};
 use crate::accesses::Accesses;
@@ -26,15 +26,39 @@ fn stack_offset(layout: &Layout, address: u32) -> Option<u16>
     }
 }
 
+// The stack's byte at a physical address, if it is one and no frame exposes it.
+fn hidden_at(layout: &Layout, frames: &Frames, top: u32, address: u32) -> Option<u16>
+    ensures { result ≡ first_at layout.now (λ offset. not (exposed_in top frames.now.live offset)) (address ∷ []) }
+{
+    let offset = stack_offset(layout, address)?;
+    if frames.is_exposed(top, offset) {
+        None
+    } else {
+        Some(offset)
+    }
+}
+
+// The stack's byte at a physical address, if it is one and is not written.
+fn unwritten_at(layout: &Layout, written: &Marks, address: u32) -> Option<u16>
+    ensures { result ≡ first_at layout.now (λ offset. not (is_marked written.now offset)) (address ∷ []) }
+{
+    let offset = stack_offset(layout, address)?;
+    if written.is_marked(offset) {
+        None
+    } else {
+        Some(offset)
+    }
+}
+
 // The first byte of an access that no frame exposes.
 fn hidden_byte(layout: &Layout, frames: &Frames, top: u32, access: Access) -> Option<u16>
-    ensures { result ≡ first_byte layout.now (λ offset. not (exposed_in top frames.now.live offset)) (access_of access) }
+    ensures { result ≡ first_at layout.now (λ offset. not (exposed_in top frames.now.live offset))
+        (addresses_of (access_of access)) }
 {
     for k in 0..access.size {
-        if let Some(offset) = stack_offset(layout, access.address(k))
-            && !frames.is_exposed(top, offset)
-        {
-            return Some(offset);
+        let byte = hidden_at(layout, frames, top, access.address(k));
+        if byte.is_some() {
+            return byte;
         }
     }
     None
@@ -42,16 +66,36 @@ fn hidden_byte(layout: &Layout, frames: &Frames, top: u32, access: Access) -> Op
 
 // The first byte of an access that is not written.
 fn unwritten_byte(layout: &Layout, written: &Marks, access: Access) -> Option<u16>
-    ensures { result ≡ first_byte layout.now (λ offset. not (is_marked written.now offset)) (access_of access) }
+    ensures { result ≡ first_at layout.now (λ offset. not (is_marked written.now offset))
+        (addresses_of (access_of access)) }
 {
     for k in 0..access.size {
-        if let Some(offset) = stack_offset(layout, access.address(k))
-            && !written.is_marked(offset)
-        {
-            return Some(offset);
+        let byte = unwritten_at(layout, written, access.address(k));
+        if byte.is_some() {
+            return byte;
         }
     }
     None
+}
+
+// The first byte of an access that no frame exposes, if it is none of the stack or of a frame.
+fn hidden_of(layout: &Layout, frames: &Frames, top: u32, access: Access) -> Option<u16>
+    ensures { result ≡ hidden_in layout.now top frames.now.live (access_of access ∷ []) }
+{
+    match access.kind {
+        Kind::Other => hidden_byte(layout, frames, top, access),
+        Kind::OfStack | Kind::OfFrame => None,
+    }
+}
+
+// The first byte of an access that is not written, if it is read.
+fn unwritten_of(layout: &Layout, written: &Marks, access: Access) -> Option<u16>
+    ensures { result ≡ unwritten_in layout.now written.now (access_of access ∷ []) }
+{
+    match access.direction {
+        Direction::Reading => unwritten_byte(layout, written, access),
+        Direction::Writing => None,
+    }
 }
 
 /// The first byte that no frame exposes, of accesses other than those of the stack and of frames; SP stands at the first
@@ -60,10 +104,9 @@ pub(crate) fn hidden(layout: &Layout, frames: &Frames, top: u32, list: &Accesses
     ensures { result ≡ hidden_in layout.now top frames.now.live list.now }
 {
     for access in list.items() {
-        if let Kind::Other = access.kind
-            && let Some(offset) = hidden_byte(layout, frames, top, *access)
-        {
-            return Some(offset);
+        let byte = hidden_of(layout, frames, top, *access);
+        if byte.is_some() {
+            return byte;
         }
     }
     None
@@ -74,13 +117,21 @@ pub(crate) fn unwritten(layout: &Layout, written: &Marks, list: &Accesses) -> Op
     ensures { result ≡ unwritten_in layout.now written.now list.now }
 {
     for access in list.items() {
-        if let Direction::Reading = access.direction
-            && let Some(offset) = unwritten_byte(layout, written, *access)
-        {
-            return Some(offset);
+        let byte = unwritten_of(layout, written, *access);
+        if byte.is_some() {
+            return byte;
         }
     }
     None
+}
+
+// Marks the stack's byte at a physical address, if it is one.
+fn mark_at(layout: &Layout, address: u32, written: &mut Marks)
+    ensures { written.new ≡ with_marks true (filter_map (stack_offset layout.now) (address ∷ [])) written.old }
+{
+    if let Some(offset) = stack_offset(layout, address) {
+        written.mark(offset);
+    }
 }
 
 // Marks the bytes of an access.
@@ -88,9 +139,16 @@ fn mark_bytes(layout: &Layout, access: Access, written: &mut Marks)
     ensures { written.new ≡ with_marks true (filter_map (stack_offset layout.now) (addresses_of (access_of access))) written.old }
 {
     for k in 0..access.size {
-        if let Some(offset) = stack_offset(layout, access.address(k)) {
-            written.mark(offset);
-        }
+        mark_at(layout, access.address(k), written);
+    }
+}
+
+// Marks the bytes of an access, if it writes.
+fn mark_access(layout: &Layout, access: Access, written: &mut Marks)
+    ensures { written.new ≡ with_marks true (stored_bytes layout.now (access_of access ∷ [])) written.old }
+{
+    if let Direction::Writing = access.direction {
+        mark_bytes(layout, access, written);
     }
 }
 
@@ -99,8 +157,6 @@ pub(crate) fn mark_stored(layout: &Layout, list: &Accesses, written: &mut Marks)
     ensures { written.new ≡ with_marks true (stored_bytes layout.now list.now) written.old }
 {
     for access in list.items() {
-        if let Direction::Writing = access.direction {
-            mark_bytes(layout, *access, written);
-        }
+        mark_access(layout, *access, written);
     }
 }

@@ -2,7 +2,7 @@
 
 use crate::accesses::{Accesses, found_accesses};
 use crate::frames::{Frames, Live};
-use crate::judge::{Foul, foul};
+use crate::judge::{Foul, next_foul};
 use crate::marks::Marks;
 use crate::places::mark_stored;
 use crate::shape::{Shape, shapes};
@@ -135,7 +135,7 @@ impl Watch {
     fn step_in_procedures<I: Source, O: Sink>(&mut self, input: &mut I, out: &mut O) -> Watched {
         let found = self.machine.next_instruction();
         let list = found_accesses(&self.machine, found);
-        if let Some(foul) = foul(&self.machine, &self.layout, &self.frames, &self.written, found, &list) {
+        if let Some(foul) = next_foul(&self.machine, &self.layout, &self.frames, &self.written, found, &list) {
             self.progress = Progress::Stopped(foul);
             return foul.answer();
         }
