@@ -1,6 +1,9 @@
 pub mod Bytes
+pub mod FrameFacts
 pub mod LiveLaws
 pub mod MarkLaws
+pub mod Quiet
 pub mod ShapeLaws
+pub mod StepLaws
 pub mod Stored
 pub mod Strings

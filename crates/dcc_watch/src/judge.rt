@@ -7,10 +7,9 @@ ghost use Rattle.dcc_step.specs.Core.{state_of};
 ghost use Rattle.dcc_watch.specs.Foul.{foul_in, told_foul};
 
 use crate::accesses::Accesses;
-use crate::frames::Frames;
-use crate::marks::Marks;
 use crate::places::{hidden, unwritten};
 use crate::sp::{low, sp_after, top};
+use crate::stack::Stack;
 use dcc_prog::{FoulKind, Instr, Layout};
 use dcc_step::Machine;
 
@@ -29,13 +28,13 @@ pub(crate) struct Foul {
 pub(crate) fn next_foul(
     machine: &Machine,
     layout: &Layout,
-    frames: &Frames,
-    written: &Marks,
+    stack: &Stack,
     found: Option<Instr>,
     list: &Accesses,
 ) -> Option<Foul>
     requires { list.now ≡ found_accesses found (state_of machine.now) }
-    ensures { option_map told_foul result ≡ foul_in layout.now frames.now.live written.now (state_of machine.now) found }
+    ensures { option_map told_foul result
+        ≡ foul_in layout.now stack.now.frames.live stack.now.written (state_of machine.now) found }
 {
     let Some(instr) = found else {
         return None;
@@ -44,9 +43,9 @@ pub(crate) fn next_foul(
     if let Some(address) = low(layout, sp_after(machine, instr.op)) {
         return Some(Foul { at, kind: FoulKind::Low, address });
     }
-    if let Some(address) = hidden(layout, frames, top(machine, layout), list) {
+    if let Some(address) = hidden(layout, &stack.frames, top(machine, layout), list) {
         return Some(Foul { at, kind: FoulKind::Hidden, address });
     }
-    let address = unwritten(layout, written, list)?;
+    let address = unwritten(layout, &stack.written, list)?;
     Some(Foul { at, kind: FoulKind::Unwritten, address })
 }

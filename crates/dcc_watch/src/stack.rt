@@ -3,8 +3,9 @@
 ghost use Rattle.std.specs.Prelude.{◌≡◌, ◌+◌, ◌<◌, ◌^◌, length, true, IfSome};
 ghost use Rattle.dcc_prog.specs.Access.{found_accesses};
 ghost use Rattle.dcc_prog.specs.WellFormed.{IsOperation};
-ghost use Rattle.dcc_prog.specs.Clean.{top_in, written_after};
+ghost use Rattle.dcc_prog.specs.Clean.{top_in};
 ghost use Rattle.dcc_step.specs.Core.{state_of};
+ghost use Rattle.dcc_watch.specs.Watching.{AllHaveShapes};
 ghost use Rattle.dcc_watch.specs.Following.{is_call, live_after, written_following};
 
 use crate::accesses::{Accesses, found_accesses};
@@ -62,7 +63,8 @@ pub(crate) fn calls(found: Option<Instr>) -> bool
 fn follow_frames(frames: &mut Frames, shapes: &[Shape], found: Option<Instr>, from: u32)
     requires table { length shapes.now ≡ 2 ^ 16 }
     requires room { is_call found ≡ true → length frames.old.live < frames.old.room }
-    ensures { frames.new ≡ record { room = frames.old.room; live = live_after shapes.now found from frames.old.live } }
+    ensures follows { frames.new ≡ record { room = frames.old.room; live = live_after shapes.now found from frames.old.live } }
+    ensures known { AllHaveShapes shapes.now frames.old.live → AllHaveShapes shapes.now frames.new.live }
 {
     let Some(instr) = found else {
         return;
@@ -102,6 +104,7 @@ pub(crate) fn follow(
         live = live_after shapes.now found before.now.top stack.old.frames.live } }
     ensures written { stack.new.written ≡ written_following layout.now found before.now.list before.now.top
         (top_in layout.now (state_of machine.now)) stack.old.written }
+    ensures known { AllHaveShapes shapes.now stack.old.frames.live → AllHaveShapes shapes.now stack.new.frames.live }
 {
     follow_frames(&mut stack.frames, shapes, found, before.top);
     follow_bytes(&mut stack.written, layout, found, before, top(machine, layout));

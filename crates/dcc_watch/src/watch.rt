@@ -1,45 +1,60 @@
 //! The watch: steps and runs.
 
-use crate::accesses::{Accesses, found_accesses};
+ghost use Rattle.std.specs.Prelude.{◌≡◌, ◌≢◌, IfOk, true};
+ghost use Rattle.dcc_run.specs.End.{Running as running};
+ghost use Rattle.dcc_prog.specs.MzImage.{IsLoaded};
+ghost use Rattle.dcc_prog.specs.Analysed.{IsProgramOf};
+ghost use Rattle.dcc_console.specs.Counts.{CountsFaults};
+ghost use Rattle.dcc_console.specs.Scene.{scene};
+ghost use Rattle.dcc_console.specs.Steps.{Steps, Runs, made};
+ghost use Rattle.dcc_watch.specs.Executor.{watched, outcome_of, is_refused, foul_answer, Tells, first_watching, is_at_first, is_in_procedures};
+
 use crate::frames::{Frames, Live};
 use crate::judge::{Foul, next_foul};
 use crate::marks::Marks;
-use crate::places::mark_stored;
+use crate::progress::Progress;
 use crate::shape::{Shape, shapes};
 use crate::sp::top;
+use crate::stack::{Before, Stack, calls, follow};
 use crate::watched::Watched;
 use dcc_io::{Sink, Source};
-use dcc_prog::{Image, Instr, Layout, Op, Program};
+use dcc_prog::{Image, Layout, Program};
 use dcc_step::{Ending, Machine, Stepped};
 use std::alloc::{AllocError, Global};
+use std::marker::Model;
 
-// Where a run stands.
-#[derive(Clone, Copy)]
-enum Progress {
-    // At its first instruction.
-    AtStart,
-    // After that, and not yet past the prelude.
-    InPrelude,
-    // In procedures.
-    InProcedures,
-    // It was stopped at a step that is foul.
-    Stopped(Foul),
-}
-
-/// A machine that runs a program, the frames of its procedures that live, and the bytes of the stack that are written.
+/// A machine that runs a program, and what is kept of its stack: the frames of procedures that live, and the bytes that
+/// are written. It tests whether a step is clean before the machine makes it.
 #[derive(Drop)]
 pub struct Watch {
     machine: Machine,
     layout: Layout,
     // By the offset where a procedure begins.
     shapes: Vec<Shape>,
-    frames: Frames,
-    written: Marks,
+    stack: Stack,
     progress: Progress,
 }
 
+impl Model for Watch {
+    ghost use Rattle.dcc_watch.specs.Watching.{Watching, stage_of, IsKept};
+
+    ghost Value = { Watching };
+
+    ghost view = { λ w. record {
+      layout = w.layout;
+      shapes = w.shapes.items;
+      room = w.stack.frames.room;
+      machine = w.machine;
+      stage = stage_of w.progress w.stack.frames.live w.stack.written;
+    } };
+
+    ghost invariant = { λ w. IsKept w.shapes.items w.stack.frames.room w.stack.frames.live w.stack.written w.progress };
+}
+
 // A layout with these values.
-fn copied(layout: &Layout) -> Layout {
+fn copied(layout: &Layout) -> Layout
+    ensures { result ≡ layout.now }
+{
     Layout {
         cpu: layout.cpu,
         ds: layout.ds,
@@ -54,21 +69,17 @@ fn copied(layout: &Layout) -> Layout {
 }
 
 // Whether the step was refused.
-fn is_refused(stepped: Stepped) -> bool {
+fn is_refused(stepped: Stepped) -> bool
+    ensures { result ≡ is_refused stepped }
+{
     matches!(stepped, Stepped::InFault | Stepped::OutFault)
-}
-
-// Whether the instruction is a CALL.
-fn calls(found: Option<Instr>) -> bool {
-    match found {
-        Some(instr) => matches!(instr.op, Op::Call(_)),
-        None => false,
-    }
 }
 
 impl Foul {
     // What a step answers that is foul.
-    fn answer(self) -> Watched {
+    fn answer(self) -> Watched
+        ensures { result ≡ foul_answer self }
+    {
         Watched::Foul {
             at: self.at,
             address: self.address,
@@ -78,8 +89,13 @@ impl Foul {
 }
 
 impl Watch {
-    /// The watch at the start of a program's run.
-    pub fn new(alloc: Global, image: &Image, program: &Program) -> Result<Watch, AllocError> {
+    /// The watch at the start of a program's run. The program is the one that the analyses find in the image. All memory
+    /// that steps need is taken here.
+    pub fn new(alloc: Global, image: &Image, program: &Program) -> Result<Watch, AllocError>
+        requires loaded { IsLoaded image.now }
+        requires program { IsProgramOf program.now.layout.cpu image.now program.now }
+        ensures { IfOk result (λ watch. watch ≡ first_watching image.now program.now) }
+    {
         let layout = copied(&program.layout);
         let machine = Machine::new(alloc, image, layout.cpu)?;
         let shapes = shapes(alloc, program)?;
@@ -90,91 +106,125 @@ impl Watch {
             machine,
             layout,
             shapes,
-            frames,
-            written,
+            stack: Stack { frames, written },
             progress: Progress::AtStart,
         })
     }
 
-    // A step of the prelude.
-    fn step_in_prelude<I: Source, O: Sink>(&mut self, input: &mut I, out: &mut O) -> Stepped {
+    // A step before the first frame, of a machine that runs.
+    fn step_in_prelude<I: Source, O: Sink>(&mut self, input: &mut I, out: &mut O) -> Watched
+        requires runs { self.old.machine.end ≡ running }
+        requires first { is_at_first self.old.stage ≡ true }
+        ensures step { Steps watched (outcome_of result)
+            (scene self.old (I.left input.old) (O.taken out.old))
+            (scene self.new (I.left input.new) (O.taken out.new)) }
+        ensures tells { Tells result self.new }
+        ensures faults { CountsFaults (result ≡ Watched.Clean Stepped.InFault) (result ≡ Watched.Clean Stepped.OutFault)
+            (I.faults input.old) (I.faults input.new) (O.faults out.old) (O.faults out.new) }
+    {
         let stepped = self.machine.step(input, out);
         if is_refused(stepped) {
-            return stepped;
+            return Watched::Clean(stepped);
         }
-        if self.machine.ip() == self.layout.start_ip {
-            let base = top(&self.machine, &self.layout) + 2;
-            let entry = self.layout.start_ip;
-            let shape = self.shapes[usize::from(entry)];
-            self.frames.begin(Live { entry, base, shape });
-            self.progress = Progress::InProcedures;
-        } else {
+        if self.machine.ip() != self.layout.start_ip {
             self.progress = Progress::InPrelude;
+            return Watched::Clean(stepped);
         }
-        stepped
-    }
-
-    // Keeps up with the step of an instruction, whose accesses these are, from where SP stood.
-    fn follow(&mut self, found: Option<Instr>, list: &Accesses, from: u32) {
-        let Some(instr) = found else {
-            return;
-        };
-        mark_stored(&self.layout, list, &mut self.written);
-        self.written.unmark(from, top(&self.machine, &self.layout));
-        match instr.op {
-            Op::Call(entry) => {
-                let shape = self.shapes[usize::from(entry)];
-                self.frames.begin(Live { entry, base: from, shape });
-            }
-            Op::Ret(_) => self.frames.end(),
-            _ => {}
-        }
-    }
-
-    // A step in procedures.
-    fn step_in_procedures<I: Source, O: Sink>(&mut self, input: &mut I, out: &mut O) -> Watched {
-        let found = self.machine.next_instruction();
-        let list = found_accesses(&self.machine, found);
-        if let Some(foul) = next_foul(&self.machine, &self.layout, &self.frames, &self.written, found, &list) {
-            self.progress = Progress::Stopped(foul);
-            return foul.answer();
-        }
-        if calls(found) && !self.frames.has_room() {
-            return Watched::NoRoom;
-        }
-        let from = top(&self.machine, &self.layout);
-        let stepped = self.machine.make(found, input, out);
-        if !is_refused(stepped) {
-            self.follow(found, &list, from);
-        }
+        let entry = self.layout.start_ip;
+        let base = top(&self.machine, &self.layout) + 2;
+        let shape = self.shapes[usize::from(entry)];
+        self.stack.frames.begin(Live { entry, base, shape });
+        self.progress = Progress::InProcedures;
         Watched::Clean(stepped)
     }
 
-    /// Makes the next step, unless it is foul.
-    pub fn step<I: Source, O: Sink>(&mut self, input: &mut I, out: &mut O) -> Watched {
-        if let Progress::Stopped(foul) = self.progress {
+    // A step in procedures, of a machine that runs.
+    fn step_in_procedures<I: Source, O: Sink>(&mut self, input: &mut I, out: &mut O) -> Watched
+        requires runs { self.old.machine.end ≡ running }
+        requires inside { is_in_procedures self.old.stage ≡ true }
+        ensures step { Steps watched (outcome_of result)
+            (scene self.old (I.left input.old) (O.taken out.old))
+            (scene self.new (I.left input.new) (O.taken out.new)) }
+        ensures tells { Tells result self.new }
+        ensures faults { CountsFaults (result ≡ Watched.Clean Stepped.InFault) (result ≡ Watched.Clean Stepped.OutFault)
+            (I.faults input.old) (I.faults input.new) (O.faults out.old) (O.faults out.new) }
+    {
+        let found = self.machine.next_instruction();
+        let before = Before::of(&self.machine, &self.layout, found);
+        if let Some(foul) = next_foul(&self.machine, &self.layout, &self.stack, found, &before.list) {
+            self.progress = Progress::Stopped(foul);
             return foul.answer();
         }
-        let Ending::Running = self.machine.ending() else {
-            return Watched::Clean(self.machine.ending().answer());
-        };
+        if calls(found) && !self.stack.frames.has_room() {
+            return Watched::NoRoom;
+        }
+        let stepped = self.machine.make(found, input, out);
+        if is_refused(stepped) {
+            return Watched::Clean(stepped);
+        }
+        follow(&mut self.stack, &self.shapes, &self.layout, &self.machine, found, &before);
+        Watched::Clean(stepped)
+    }
+
+    /// Makes the next step of the machine, unless it is foul. It is foul where SP would go below 0 or below the stack's low
+    /// end; else where a byte of the stack is touched that no frame exposes, otherwise than by a push, a pop, a call, a
+    /// return or a direct access to the frame; else where a byte of the stack is read that no step has stored since SP
+    /// last left it behind. A foul step is not made, and is answered again by each later step.
+    ///
+    /// `Clean` is what the machine's step answers: Exit, Divide and Outside where the run has ended, and InFault and
+    /// OutFault where a read or a write failed, after which nothing has changed. `NoRoom` comes at a CALL where as many
+    /// frames live as return addresses fit the stack, and one more: the step was not made. No step takes memory.
+    pub fn step<I: Source, O: Sink>(&mut self, input: &mut I, out: &mut O) -> Watched
+        ensures step { Steps watched (outcome_of result)
+            (scene self.old (I.left input.old) (O.taken out.old))
+            (scene self.new (I.left input.new) (O.taken out.new)) }
+        ensures tells { Tells result self.new }
+        ensures faults { CountsFaults (result ≡ Watched.Clean Stepped.InFault) (result ≡ Watched.Clean Stepped.OutFault)
+            (I.faults input.old) (I.faults input.new) (O.faults out.old) (O.faults out.new) }
+    {
         match self.progress {
-            Progress::InProcedures => self.step_in_procedures(input, out),
-            _ => Watched::Clean(self.step_in_prelude(input, out)),
+            Progress::Stopped(foul) => foul.answer(),
+            progress => {
+                let Ending::Running = self.machine.ending() else {
+                    return Watched::Clean(self.machine.ending().answer());
+                };
+                match progress {
+                    Progress::InProcedures => self.step_in_procedures(input, out),
+                    _ => self.step_in_prelude(input, out),
+                }
+            }
         }
     }
 
-    /// Makes steps until one answers something else than `Clean(Running)`, at most so many.
-    pub fn run<I: Source, O: Sink>(&mut self, input: &mut I, out: &mut O, most: u64) -> Watched {
+    /// Makes steps until one answers something else than `Clean(Running)`, at most so many. After a fault, and where a step
+    /// is foul or has no room, the steps before it stay made.
+    pub fn run<I: Source, O: Sink>(&mut self, input: &mut I, out: &mut O, most: u64) -> Watched
+        ensures run { Runs watched most (outcome_of result)
+            (scene self.old (I.left input.old) (O.taken out.old))
+            (scene self.new (I.left input.new) (O.taken out.new)) }
+        ensures tells { Tells result self.new }
+        ensures faults { CountsFaults (result ≡ Watched.Clean Stepped.InFault) (result ≡ Watched.Clean Stepped.OutFault)
+            (I.faults input.old) (I.faults input.new) (O.faults out.old) (O.faults out.new) }
+    {
         for _count in 0..most {
             match self.step(input, out) {
                 Watched::Clean(Stepped::Running) => {}
                 answer => return answer,
             }
         }
-        if let Progress::Stopped(foul) = self.progress {
-            return foul.answer();
+        self.answer()
+    }
+
+    // What a step answers now that makes nothing.
+    fn answer(&self) -> Watched
+        ensures made { outcome_of result ≡ made }
+        ensures tells { Tells result self.now }
+        ensures read_faults { result ≢ Watched.Clean Stepped.InFault }
+        ensures write_faults { result ≢ Watched.Clean Stepped.OutFault }
+    {
+        match self.progress {
+            Progress::Stopped(foul) => foul.answer(),
+            _ => Watched::Clean(self.machine.ending().answer()),
         }
-        Watched::Clean(self.machine.ending().answer())
     }
 }

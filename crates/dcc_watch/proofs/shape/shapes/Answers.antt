@@ -1,4 +1,5 @@
-use Rattle.std.proofs.Common.{◌≡◌, ◌+◌, ◌-◌, ◌<◌, ◌≤◌, ◌⊎◌, inl, inr, length, min, ap, sym, ◌∙◌, arith, length-set, length-replicate}
+use Rattle.std.proofs.Common.{◌≡◌, ◌+◌, ◌-◌, ◌<◌, ◌≤◌, ◌⊎◌, inl, inr, length, min, ap, sym, ◌∙◌, arith, length-set}
+use Rattle.std.proofs.lemmas.List.{length-replicate}
 use Rattle.dcc_watch.specs.Shapes.{no_shapes}
 use Rattle.dcc_watch.proofs.MarkLaws.{filled}
 use Rattle.dcc_watch.proofs.ShapeLaws.{shapes-more, shapes-past}
