@@ -1,5 +1,6 @@
 pub mod Bytes
 pub mod FrameFacts
+pub mod KeptLaws
 pub mod LiveLaws
 pub mod MarkLaws
 pub mod Quiet

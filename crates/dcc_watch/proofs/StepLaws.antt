@@ -38,7 +38,7 @@ use Rattle.dcc_watch.proofs.FrameFacts.{foul-is}
 -- the machine runs, the instruction was found, and the run wasn't stopped
 pub record IsGoing (code : Watching) (found : Option Instr) : Type 0 where
   pub runs : code.machine.end ≡ running
-  pub found : found ≡ instruction_at code.machine.cpu code.machine.ip (code_bytes (state_of code.machine))
+  pub is_found : found ≡ instruction_at code.machine.cpu code.machine.ip (code_bytes (state_of code.machine))
   pub unstopped : is_stopped code.stage ≡ false
 
 -- what is foul of the next step, in each state that the code stands for
@@ -48,7 +48,7 @@ NextIs code foul = (program : Program) (w : Watch) → Stands program code w →
 found-is : (code : Watching) (found : Option Instr) (program : Program) (w : Watch) → IsGoing code found → Stands program code w
     → next_instruction program.layout.cpu w.machine ≡ found
 found-is code found program w going stands =
-    ap (λ (c : Core). instruction_at c.cpu c.ip (code_bytes (state_of c))) stands.machine ∙ sym going.found
+    ap (λ (c : Core). instruction_at c.cpu c.ip (code_bytes (state_of c))) stands.machine ∙ sym going.is_found
 
 foul-stopped : (m : State) (stage : Stage) → is_foul (record { machine = m; stage = stage }) ≡ is_stopped stage
 foul-stopped m AtStart = refl

@@ -49,7 +49,9 @@ fn lowering(op: Op) -> i64
 
 /// SP after an operation, as a number that may be below 0.
 pub(crate) fn sp_after(machine: &Machine, op: Op) -> i64
-    ensures { result ≡ sp_after op (state_of machine.now) }
+    ensures after { result ≡ sp_after op (state_of machine.now) }
+    ensures low { neg_ℤ (pos 1048576) ≤ℤ result }
+    ensures high { result ≤ℤ pos 1048576 }
 {
     let sp = i64::from(machine.reg(Reg::Sp));
     let bp = i64::from(machine.reg(Reg::Bp));

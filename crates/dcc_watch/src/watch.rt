@@ -15,7 +15,7 @@ use crate::marks::Marks;
 use crate::progress::Progress;
 use crate::shape::{Shape, shapes};
 use crate::sp::top;
-use crate::stack::{Before, Stack, calls, follow};
+use crate::stack::{Before, Stack, follow, lacks_room};
 use crate::watched::Watched;
 use dcc_io::{Sink, Source};
 use dcc_prog::{Image, Layout, Program};
@@ -91,6 +91,7 @@ impl Foul {
 impl Watch {
     /// The watch at the start of a program's run. The program is the one that the analyses find in the image. All memory
     /// that steps need is taken here.
+    #[tactic(none)]
     pub fn new(alloc: Global, image: &Image, program: &Program) -> Result<Watch, AllocError>
         requires loaded { IsLoaded image.now }
         requires program { IsProgramOf program.now.layout.cpu image.now program.now }
@@ -112,6 +113,7 @@ impl Watch {
     }
 
     // A step before the first frame, of a machine that runs.
+    #[tactic(none)]
     fn step_in_prelude<I: Source, O: Sink>(&mut self, input: &mut I, out: &mut O) -> Watched
         requires runs { self.old.machine.end ≡ running }
         requires first { is_at_first self.old.stage ≡ true }
@@ -139,6 +141,7 @@ impl Watch {
     }
 
     // A step in procedures, of a machine that runs.
+    #[tactic(none)]
     fn step_in_procedures<I: Source, O: Sink>(&mut self, input: &mut I, out: &mut O) -> Watched
         requires runs { self.old.machine.end ≡ running }
         requires inside { is_in_procedures self.old.stage ≡ true }
@@ -155,7 +158,7 @@ impl Watch {
             self.progress = Progress::Stopped(foul);
             return foul.answer();
         }
-        if calls(found) && !self.stack.frames.has_room() {
+        if lacks_room(&self.stack, found) {
             return Watched::NoRoom;
         }
         let stepped = self.machine.make(found, input, out);
@@ -174,6 +177,7 @@ impl Watch {
     /// `Clean` is what the machine's step answers: Exit, Divide and Outside where the run has ended, and InFault and
     /// OutFault where a read or a write failed, after which nothing has changed. `NoRoom` comes at a CALL where as many
     /// frames live as return addresses fit the stack, and one more: the step was not made. No step takes memory.
+    #[tactic(none)]
     pub fn step<I: Source, O: Sink>(&mut self, input: &mut I, out: &mut O) -> Watched
         ensures step { Steps watched (outcome_of result)
             (scene self.old (I.left input.old) (O.taken out.old))
@@ -198,6 +202,7 @@ impl Watch {
 
     /// Makes steps until one answers something else than `Clean(Running)`, at most so many. After a fault, and where a step
     /// is foul or has no room, the steps before it stay made.
+    #[tactic(none)]
     pub fn run<I: Source, O: Sink>(&mut self, input: &mut I, out: &mut O, most: u64) -> Watched
         ensures run { Runs watched most (outcome_of result)
             (scene self.old (I.left input.old) (O.taken out.old))
@@ -216,6 +221,7 @@ impl Watch {
     }
 
     // What a step answers now that makes nothing.
+    #[tactic(none)]
     fn answer(&self) -> Watched
         ensures made { outcome_of result ≡ made }
         ensures tells { Tells result self.now }
