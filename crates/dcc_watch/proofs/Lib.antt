@@ -4,6 +4,7 @@ pub mod KeptLaws
 pub mod LiveLaws
 pub mod MarkLaws
 pub mod Quiet
+pub mod RunProofs
 pub mod ShapeLaws
 pub mod StepLaws
 pub mod Stored

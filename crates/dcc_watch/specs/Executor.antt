@@ -1,6 +1,6 @@
 -- The watch as code that executes watched machines, and what its answers tell.
-use Rattle.std.specs.Prelude.{◌≡◌, ◌≤◌, ◌<◌, ℕ, ◌+◌, ◌-◌, ◌/◌, Bool, true, false, List, [], length}
-use Rattle.dcc_run.specs.End.{Running as running}
+use Rattle.std.specs.Prelude.{◌≡◌, ◌≤◌, ℕ, ◌+◌, ◌-◌, ◌/◌, Bool, true, false, not, ◌&&◌, List, [], length}
+use Rattle.dcc_run.specs.End.{Running as running, is_over}
 use Rattle.dcc_prog.specs.declared.image.Image.{Image}
 use Rattle.dcc_prog.specs.declared.frame.Program.{Program}
 use Rattle.dcc_prog.specs.Machine.{start_state}
@@ -9,7 +9,7 @@ use Rattle.dcc_prog.specs.Watch.{Watch, Stage, AtStart, InPrelude, InProcedures,
 use Rattle.dcc_console.specs.Console.{Console, Executor}
 use Rattle.dcc_console.specs.Steps.{Outcome, made, no_memory}
 use Rattle.dcc_step.specs.declared.ending.Stepped.{Stepped}
-use Rattle.dcc_step.specs.declared.ending.Stepped.TheVariants.{InFault, OutFault}
+use Rattle.dcc_step.specs.declared.ending.Stepped.TheVariants.{Running as StillRunning, InFault, OutFault}
 use Rattle.dcc_step.specs.Core.{core_of}
 use Rattle.dcc_step.specs.Stepped as machine
 use Rattle.dcc_watch.specs.declared.judge.Foul.{Foul as FoulStep}
@@ -57,6 +57,15 @@ is_in_procedures AtStart = false
 is_in_procedures InPrelude = false
 is_in_procedures (InProcedures stack) = true
 is_in_procedures (Stopped foul) = false
+
+-- the run has neither ended nor been stopped
+abbrev pub is_going : Watching → Bool
+is_going code = not (is_over code.machine.end) && not (is_stopped code.stage)
+
+-- a step that answers so was made, and the run goes on
+abbrev pub goes_on : Watched → Bool
+goes_on (Clean StillRunning) = true
+goes_on answer = false
 
 -- a step was refused
 abbrev pub is_refused : Stepped → Bool

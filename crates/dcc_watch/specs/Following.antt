@@ -1,14 +1,20 @@
 -- What a step does to the frames and the marks that the code keeps.
-use Rattle.std.specs.Prelude.{ℕ, ◌-◌, Bool, true, false, List, ◌∷◌, drop, slice_index_or, Option, Some, None}
+use Rattle.std.specs.Prelude.{ℕ, ◌+◌, Bool, true, false, List, ◌∷◌, drop, slice_index_or, Option, Some, None}
 use Rattle.dcc_prog.specs.declared.procedure.Layout.{Layout}
 use Rattle.dcc_prog.specs.declared.instr.Op.{Op}
 use Rattle.dcc_prog.specs.declared.instr.Op.TheVariants.{Call, Ret}
 use Rattle.dcc_prog.specs.declared.instr.Instr.{Instr}
 use Rattle.dcc_prog.specs.Access.{Access}
-use Rattle.dcc_prog.specs.Clean.{written_after}
+use Rattle.dcc_prog.specs.Machine.{State}
+use Rattle.dcc_prog.specs.Clean.{top_in, written_after}
 use Rattle.dcc_watch.specs.declared.shape.Shape.{Shape}
 use Rattle.dcc_watch.specs.declared.shape.TheConstants.{NO_SHAPE}
 use Rattle.dcc_watch.specs.declared.frames.Live.{Live}
+
+-- the frame of the entry procedure, which begins in this state
+abbrev pub first_live : List Shape → Layout → State → Live
+first_live shapes layout s =
+    record { entry = layout.start_ip; base = top_in layout s + 2; shape = slice_index_or shapes layout.start_ip NO_SHAPE }
 
 abbrev pub is_call_op : Op → Bool
 is_call_op (Call target) = true

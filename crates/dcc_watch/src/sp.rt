@@ -1,6 +1,6 @@
 //! Where SP goes.
 
-ghost use Rattle.std.specs.Prelude.{◌≡◌, ◌+◌, ◌≤ℤ◌, ◌<ℤ◌, pos, neg_ℤ};
+ghost use Rattle.std.specs.Prelude.{◌≡◌, ◌+◌, ◌<◌, ◌^◌, ◌≤ℤ◌, ◌<ℤ◌, pos, neg_ℤ};
 ghost use Rattle.dcc_num.specs.declared.Width.TheVariants.{Word as word_width};
 ghost use Rattle.dcc_num.specs.Numbers.{signed_of, wrapped_of};
 ghost use Rattle.dcc_prog.specs.Clean.{low_of, lowered_by, sp_after, top_in};
@@ -83,7 +83,8 @@ pub(crate) fn low(layout: &Layout, sp: i64) -> Option<u16>
 
 /// The offset of SP in the data segment.
 pub(crate) fn top(machine: &Machine, layout: &Layout) -> u32
-    ensures { result ≡ top_in layout.now (state_of machine.now) }
+    ensures top { result ≡ top_in layout.now (state_of machine.now) }
+    ensures within { result < 2 ^ 17 }
 {
     u32::from(machine.reg(Reg::Sp)) + u32::from(layout.delta)
 }

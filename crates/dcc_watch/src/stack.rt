@@ -1,12 +1,12 @@
 //! What is kept of the stack beside the machine.
 
-ghost use Rattle.std.specs.Prelude.{◌≡◌, ◌+◌, ◌<◌, ◌^◌, ◌&&◌, length, nat_lt, not, true, IfSome};
+ghost use Rattle.std.specs.Prelude.{◌≡◌, ◌+◌, ◌<◌, ◌^◌, ◌∷◌, ◌&&◌, length, nat_lt, not, true, IfSome};
 ghost use Rattle.dcc_prog.specs.Access.{found_accesses};
 ghost use Rattle.dcc_prog.specs.WellFormed.{IsOperation};
 ghost use Rattle.dcc_prog.specs.Clean.{top_in};
 ghost use Rattle.dcc_step.specs.Core.{state_of};
 ghost use Rattle.dcc_watch.specs.Watching.{AllHaveShapes};
-ghost use Rattle.dcc_watch.specs.Following.{is_call, live_after, written_following};
+ghost use Rattle.dcc_watch.specs.Following.{first_live, is_call, live_after, written_following};
 
 use crate::accesses::{Accesses, found_accesses};
 use crate::frames::{Frames, Live};
@@ -94,6 +94,21 @@ fn follow_bytes(written: &mut Marks, layout: &Layout, found: Option<Instr>, befo
         mark_stored(layout, &before.list, written);
         written.unmark(before.top, to);
     }
+}
+
+/// The frame of the entry procedure begins, where the machine has come to it.
+pub(crate) fn begin_first(stack: &mut Stack, shapes: &[Shape], layout: &Layout, machine: &Machine)
+    requires table { length shapes.now ≡ 2 ^ 16 }
+    requires room { length stack.old.frames.live < stack.old.frames.room }
+    ensures frames { stack.new.frames ≡ record { room = stack.old.frames.room;
+        live = first_live shapes.now layout.now (state_of machine.now) ∷ stack.old.frames.live } }
+    ensures written { stack.new.written ≡ stack.old.written }
+    ensures known { AllHaveShapes shapes.now stack.old.frames.live → AllHaveShapes shapes.now stack.new.frames.live }
+{
+    let entry = layout.start_ip;
+    let base = top(machine, layout) + 2;
+    let shape = shapes[usize::from(entry)];
+    stack.frames.begin(Live { entry, base, shape });
 }
 
 /// Follows the step of an instruction that was found, which the machine has made.

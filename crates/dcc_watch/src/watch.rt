@@ -7,15 +7,14 @@ ghost use Rattle.dcc_prog.specs.Analysed.{IsProgramOf};
 ghost use Rattle.dcc_console.specs.Counts.{CountsFaults};
 ghost use Rattle.dcc_console.specs.Scene.{scene};
 ghost use Rattle.dcc_console.specs.Steps.{Steps, Runs, made};
-ghost use Rattle.dcc_watch.specs.Executor.{watched, outcome_of, is_refused, foul_answer, Tells, first_watching, is_at_first, is_in_procedures};
+ghost use Rattle.dcc_watch.specs.Executor.{watched, outcome_of, is_refused, foul_answer, Tells, first_watching, is_at_first, is_in_procedures, is_going, goes_on};
 
-use crate::frames::{Frames, Live};
+use crate::frames::Frames;
 use crate::judge::{Foul, next_foul};
 use crate::marks::Marks;
 use crate::progress::Progress;
 use crate::shape::{Shape, shapes};
-use crate::sp::top;
-use crate::stack::{Before, Stack, follow, lacks_room};
+use crate::stack::{Before, Stack, begin_first, follow, lacks_room};
 use crate::watched::Watched;
 use dcc_io::{Sink, Source};
 use dcc_prog::{Image, Layout, Program};
@@ -75,6 +74,13 @@ fn is_refused(stepped: Stepped) -> bool
     matches!(stepped, Stepped::InFault | Stepped::OutFault)
 }
 
+// Whether a step that answers so was made, and the run goes on.
+fn goes_on(answer: Watched) -> bool
+    ensures { result ≡ goes_on answer }
+{
+    matches!(answer, Watched::Clean(Stepped::Running))
+}
+
 impl Foul {
     // What a step answers that is foul.
     fn answer(self) -> Watched
@@ -91,7 +97,6 @@ impl Foul {
 impl Watch {
     /// The watch at the start of a program's run. The program is the one that the analyses find in the image. All memory
     /// that steps need is taken here.
-    #[tactic(none)]
     pub fn new(alloc: Global, image: &Image, program: &Program) -> Result<Watch, AllocError>
         requires loaded { IsLoaded image.now }
         requires program { IsProgramOf program.now.layout.cpu image.now program.now }
@@ -113,7 +118,6 @@ impl Watch {
     }
 
     // A step before the first frame, of a machine that runs.
-    #[tactic(none)]
     fn step_in_prelude<I: Source, O: Sink>(&mut self, input: &mut I, out: &mut O) -> Watched
         requires runs { self.old.machine.end ≡ running }
         requires first { is_at_first self.old.stage ≡ true }
@@ -132,16 +136,12 @@ impl Watch {
             self.progress = Progress::InPrelude;
             return Watched::Clean(stepped);
         }
-        let entry = self.layout.start_ip;
-        let base = top(&self.machine, &self.layout) + 2;
-        let shape = self.shapes[usize::from(entry)];
-        self.stack.frames.begin(Live { entry, base, shape });
+        begin_first(&mut self.stack, &self.shapes, &self.layout, &self.machine);
         self.progress = Progress::InProcedures;
         Watched::Clean(stepped)
     }
 
     // A step in procedures, of a machine that runs.
-    #[tactic(none)]
     fn step_in_procedures<I: Source, O: Sink>(&mut self, input: &mut I, out: &mut O) -> Watched
         requires runs { self.old.machine.end ≡ running }
         requires inside { is_in_procedures self.old.stage ≡ true }
@@ -177,7 +177,6 @@ impl Watch {
     /// `Clean` is what the machine's step answers: Exit, Divide and Outside where the run has ended, and InFault and
     /// OutFault where a read or a write failed, after which nothing has changed. `NoRoom` comes at a CALL where as many
     /// frames live as return addresses fit the stack, and one more: the step was not made. No step takes memory.
-    #[tactic(none)]
     pub fn step<I: Source, O: Sink>(&mut self, input: &mut I, out: &mut O) -> Watched
         ensures step { Steps watched (outcome_of result)
             (scene self.old (I.left input.old) (O.taken out.old))
@@ -186,23 +185,18 @@ impl Watch {
         ensures faults { CountsFaults (result ≡ Watched.Clean Stepped.InFault) (result ≡ Watched.Clean Stepped.OutFault)
             (I.faults input.old) (I.faults input.new) (O.faults out.old) (O.faults out.new) }
     {
-        match self.progress {
-            Progress::Stopped(foul) => foul.answer(),
-            progress => {
-                let Ending::Running = self.machine.ending() else {
-                    return Watched::Clean(self.machine.ending().answer());
-                };
-                match progress {
-                    Progress::InProcedures => self.step_in_procedures(input, out),
-                    _ => self.step_in_prelude(input, out),
-                }
-            }
+        if !self.is_going() {
+            return self.answer();
+        }
+        if self.is_inside() {
+            self.step_in_procedures(input, out)
+        } else {
+            self.step_in_prelude(input, out)
         }
     }
 
     /// Makes steps until one answers something else than `Clean(Running)`, at most so many. After a fault, and where a step
     /// is foul or has no room, the steps before it stay made.
-    #[tactic(none)]
     pub fn run<I: Source, O: Sink>(&mut self, input: &mut I, out: &mut O, most: u64) -> Watched
         ensures run { Runs watched most (outcome_of result)
             (scene self.old (I.left input.old) (O.taken out.old))
@@ -212,16 +206,30 @@ impl Watch {
             (I.faults input.old) (I.faults input.new) (O.faults out.old) (O.faults out.new) }
     {
         for _count in 0..most {
-            match self.step(input, out) {
-                Watched::Clean(Stepped::Running) => {}
-                answer => return answer,
+            let answer = self.step(input, out);
+            if !goes_on(answer) {
+                return answer;
             }
         }
         self.answer()
     }
 
+    // Whether the run has neither ended nor been stopped.
+    fn is_going(&self) -> bool
+        ensures { result ≡ is_going self.now }
+    {
+        let running = matches!(self.machine.ending(), Ending::Running);
+        running && !matches!(self.progress, Progress::Stopped(_))
+    }
+
+    // Whether the run stands in procedures.
+    fn is_inside(&self) -> bool
+        ensures { result ≡ is_in_procedures self.now.stage }
+    {
+        matches!(self.progress, Progress::InProcedures)
+    }
+
     // What a step answers now that makes nothing.
-    #[tactic(none)]
     fn answer(&self) -> Watched
         ensures made { outcome_of result ≡ made }
         ensures tells { Tells result self.now }

@@ -1,5 +1,6 @@
 use Rattle.std.proofs.Common.{◌≡◌, ◌+◌, ◌-◌, ◌<◌, ◌≤◌, ◌⊎◌, inl, inr, length, min, ap, sym, ◌∙◌, arith, length-set}
 use Rattle.std.proofs.lemmas.List.{length-replicate}
+use Rattle.dcc_watch.specs.declared.shape.TheConstants.{NO_SHAPE}
 use Rattle.dcc_watch.specs.Shapes.{no_shapes}
 use Rattle.dcc_watch.proofs.MarkLaws.{filled}
 use Rattle.dcc_watch.proofs.ShapeLaws.{shapes-more, shapes-past}
@@ -26,6 +27,6 @@ loop-left-init c =
     record {
       procs = omega (arith, c.min-left.ensures);
       frames = omega (arith, c.min-left.ensures);
-      count = ap length none ∙ length-replicate 65536 _;
+      count = ap length none ∙ length-replicate 65536 NO_SHAPE;
       filled = none ∙ shapes-past c.as_slice-procs.result.now c.as_slice-frames.result.now c.min-left.result (past_either c.min-left.ensures);
     }
