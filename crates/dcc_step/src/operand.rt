@@ -120,7 +120,8 @@ impl Machine {
     pub fn offset_with(&self, ea: Ea, r: Reg, word: u16) -> u16
         ensures { result ≡ offset_of (with_word_in (state_of self.now) r word) ea }
     {
-        let sum = u32::from(self.part_with(ea.base, r, word)) + u32::from(self.part_with(ea.index, r, word));
+        let sum = u32::from(self.part_with(ea.base, r, word))
+            + u32::from(self.part_with(ea.index, r, word));
         ((sum + u32::from(ea.disp)) % 0x1_0000) as u16
     }
 

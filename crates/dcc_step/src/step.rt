@@ -136,7 +136,12 @@ impl Machine {
 
     /// Makes the step of the instruction that `next_instruction` answered, of a machine that runs. It answers as `step`
     /// does.
-    pub fn make<I: Source, O: Sink>(&mut self, found: Option<Instr>, input: &mut I, out: &mut O) -> Stepped
+    pub fn make<I: Source, O: Sink>(
+        &mut self,
+        found: Option<Instr>,
+        input: &mut I,
+        out: &mut O,
+    ) -> Stepped
         requires runs { self.old.end ≡ running }
         requires found { found ≡ instruction_at self.old.cpu self.old.ip (code_bytes (state_of self.old)) }
         requires operation { IfSome found (λ instr. IsOperation instr.op) }

@@ -61,11 +61,12 @@ within-split access k n lt =
     let front : take k all ≡ map (address_in access) (range_with_len 0 k) = take-map-range_with_len (address_in access) 0 n k (omega arith) in
     let count : length all ≡ n = length-map-range_with_len (address_in access) 0 n in
     let inside : k < length all = omega arith in
-    let at : get_or all k 0 ≡ address_in access k = get_or-map-range_with_len (address_in access) 0 n k k 0 lt (omega arith) in
-    (drop (k + 1) all,
-     sym (take-append-drop k all)
-     ∙ ap (λ l. l ++ drop k all) front
-     ∙ ap (λ l. map (address_in access) (range_with_len 0 k) ++ l) (drop_more all k 0 inside ∙ ap (λ a. a ∷ drop (k + 1) all) at))
+    let at : get_or all k 0 ≡ address_in access k = get_or-map-range_with_len (address_in access) 0 n k k 0 lt (omega arith) in (
+      drop (k + 1) all,
+      sym (take-append-drop k all)
+          ∙ ap (λ l. l ++ drop k all) front
+          ∙ ap (λ l. map (address_in access) (range_with_len 0 k) ++ l) (drop_more all k 0 inside ∙ ap (λ a. a ∷ drop (k + 1) all) at),
+    )
 
 -- byte by byte: none yet, none here
 pub none_here : (layout : Layout) (so : ℕ → Bool) (access : ToldAccess) (k : ℕ) (found : Option ℕ)

@@ -1,10 +1,11 @@
 -- The table of shapes, filled from the last frame to the first.
-use Rattle.std.proofs.Common.{◌≡◌, ℕ, ◌+◌, ◌<◌, ◌≤◌, ◌⊎◌, inl, inr, List, [], ◌∷◌, drop, length, get_or, set, refl, sym, ap, ◌∙◌, arith}
-use Rattle.std.proofs.lemmas.List.{drop_more}
+use Rattle.std.proofs.Common.{◌≡◌, ℕ, ◌+◌, ◌<◌, ◌≤◌, ◌⊎◌, inl, inr, List, [], ◌∷◌, drop, length, get_or, set, refl, sym, ap, ◌∙◌, arith, length-set}
+use Rattle.std.proofs.lemmas.List.{drop_more, length-replicate}
 use Rattle.std.proofs.lemmas.Grind.{common_steps}
 use Rattle.dcc_prog.specs.declared.procedure.Proc.{Proc}
 use Rattle.dcc_prog.specs.declared.frame.Frame.{Frame}
 use Rattle.dcc_watch.specs.declared.shape.Shape.{Shape}
+use Rattle.dcc_watch.specs.declared.shape.TheConstants.{NO_SHAPE}
 use Rattle.dcc_watch.specs.Shapes.{shape_of, shapes_of, no_shapes}
 
 pub shapes-more : (procs : List Proc) (frames : List Frame) (i next : ℕ) (entry : ℕ) (proc : Proc) (frame : Frame) (shapes : List Shape) (shape : Shape)
@@ -37,3 +38,12 @@ shapes-past procs frames i either = elim either [
   | inl le ↦ ap (λ l. shapes_of l (drop i frames)) (sym (past procs i le))
   | inr le ↦ sym (no_frames (drop i procs)) ∙ ap (shapes_of (drop i procs)) (sym (past frames i le))
 ]
+
+length-none : length no_shapes ≡ 65536
+unfolding no_shapes
+length-none = length-replicate 65536 NO_SHAPE
+
+pub length-shapes : (procs : List Proc) (frames : List Frame) → length (shapes_of procs frames) ≡ 65536
+length-shapes [] frames = length-none
+length-shapes (proc ∷ procs) [] = length-none
+length-shapes (proc ∷ procs) (frame ∷ frames) = length-set (shapes_of procs frames) proc.entry (shape_of frame) ∙ length-shapes procs frames

@@ -306,7 +306,9 @@ fn operation_accesses(machine: &Machine, op: Op) -> Accesses
         Op::Mov(to, from) => result_accesses(machine, from, true, to),
         Op::Xchg(a, b) => exchange_accesses(machine, a, b),
         Op::Imul3(_, a, _) => result_accesses(machine, a, false, a),
-        Op::Push(a) => with_operand(Accesses::new(), machine, Direction::Reading, a).with(push_access(machine)),
+        Op::Push(a) => with_operand(Accesses::new(), machine, Direction::Reading, a).with(
+            push_access(machine),
+        ),
         Op::Pop(a) => pop_accesses(machine, a),
         Op::Enter(_) | Op::Call(_) => Accesses::new().with(push_access(machine)),
         Op::Leave => {
@@ -321,9 +323,13 @@ fn operation_accesses(machine: &Machine, op: Op) -> Accesses
             Accesses::new().with(stack_access(machine, Direction::Reading, machine.reg(Reg::Sp)))
         }
         Op::Int21 => dos_accesses(machine),
-        Op::Lea(..) | Op::Jump(_) | Op::Branch(..) | Op::Loop(_) | Op::LoopE(_) | Op::LoopNe(_) | Op::Jcxz(_) => {
-            Accesses::new()
-        }
+        Op::Lea(..)
+        | Op::Jump(_)
+        | Op::Branch(..)
+        | Op::Loop(_)
+        | Op::LoopE(_)
+        | Op::LoopNe(_)
+        | Op::Jcxz(_) => { Accesses::new() }
     }
 }
 

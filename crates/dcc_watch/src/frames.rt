@@ -53,8 +53,18 @@ impl Frames {
         ensures { IfOk result (λ frames. frames ≡ record { room = room; live = [] }) }
     {
         let mut items = Vec::with_capacity(alloc, room)?;
-        items.resize(room, Live { entry: 0, base: 0, shape: NO_SHAPE })?;
-        Ok(Frames { items, newest: room })
+        items.resize(
+            room,
+            Live {
+                entry: 0,
+                base: 0,
+                shape: NO_SHAPE,
+            },
+        )?;
+        Ok(Frames {
+            items,
+            newest: room,
+        })
     }
 
     /// Whether there is room for another frame.

@@ -41,11 +41,23 @@ pub(crate) fn next_foul(
     };
     let at = machine.ip();
     if let Some(address) = low(layout, sp_after(machine, instr.op)) {
-        return Some(Foul { at, kind: FoulKind::Low, address });
+        return Some(Foul {
+            at,
+            kind: FoulKind::Low,
+            address,
+        });
     }
     if let Some(address) = hidden(layout, &stack.frames, top(machine, layout), list) {
-        return Some(Foul { at, kind: FoulKind::Hidden, address });
+        return Some(Foul {
+            at,
+            kind: FoulKind::Hidden,
+            address,
+        });
     }
     let address = unwritten(layout, &stack.written, list)?;
-    Some(Foul { at, kind: FoulKind::Unwritten, address })
+    Some(Foul {
+        at,
+        kind: FoulKind::Unwritten,
+        address,
+    })
 }

@@ -79,7 +79,11 @@ fn follow_frames(frames: &mut Frames, shapes: &[Shape], found: Option<Instr>, fr
     match instr.op {
         Op::Call(entry) => {
             let shape = shapes[usize::from(entry)];
-            frames.begin(Live { entry, base: from, shape });
+            frames.begin(Live {
+                entry,
+                base: from,
+                shape,
+            });
         }
         Op::Ret(_) => frames.end(),
         _ => {}
@@ -87,7 +91,13 @@ fn follow_frames(frames: &mut Frames, shapes: &[Shape], found: Option<Instr>, fr
 }
 
 // What a step stores is written, and what SP rises past is so no longer.
-fn follow_bytes(written: &mut Marks, layout: &Layout, found: Option<Instr>, before: &Before, to: u32)
+fn follow_bytes(
+    written: &mut Marks,
+    layout: &Layout,
+    found: Option<Instr>,
+    before: &Before,
+    to: u32,
+)
     ensures { written.new ≡ written_following layout.now found before.now.list before.now.top to written.old }
 {
     if found.is_some() {
@@ -100,8 +110,10 @@ fn follow_bytes(written: &mut Marks, layout: &Layout, found: Option<Instr>, befo
 pub(crate) fn begin_first(stack: &mut Stack, shapes: &[Shape], layout: &Layout, machine: &Machine)
     requires table { length shapes.now ≡ 2 ^ 16 }
     requires room { length stack.old.frames.live < stack.old.frames.room }
-    ensures frames { stack.new.frames ≡ record { room = stack.old.frames.room;
-        live = first_live shapes.now layout.now (state_of machine.now) ∷ stack.old.frames.live } }
+    ensures frames { stack.new.frames ≡ record {
+      room = stack.old.frames.room;
+      live = first_live shapes.now layout.now (state_of machine.now) ∷ stack.old.frames.live;
+    } }
     ensures written { stack.new.written ≡ stack.old.written }
     ensures known { AllHaveShapes shapes.now stack.old.frames.live → AllHaveShapes shapes.now stack.new.frames.live }
 {
@@ -122,12 +134,20 @@ pub(crate) fn follow(
 )
     requires table { length shapes.now ≡ 2 ^ 16 }
     requires room { is_call found ≡ true → length stack.old.frames.live < stack.old.frames.room }
-    ensures frames { stack.new.frames ≡ record { room = stack.old.frames.room;
-        live = live_after shapes.now found before.now.top stack.old.frames.live } }
+    ensures frames { stack.new.frames ≡ record {
+      room = stack.old.frames.room;
+      live = live_after shapes.now found before.now.top stack.old.frames.live;
+    } }
     ensures written { stack.new.written ≡ written_following layout.now found before.now.list before.now.top
         (top_in layout.now (state_of machine.now)) stack.old.written }
     ensures known { AllHaveShapes shapes.now stack.old.frames.live → AllHaveShapes shapes.now stack.new.frames.live }
 {
     follow_frames(&mut stack.frames, shapes, found, before.top);
-    follow_bytes(&mut stack.written, layout, found, before, top(machine, layout));
+    follow_bytes(
+        &mut stack.written,
+        layout,
+        found,
+        before,
+        top(machine, layout),
+    );
 }

@@ -154,7 +154,13 @@ impl Watch {
     {
         let found = self.machine.next_instruction();
         let before = Before::of(&self.machine, &self.layout, found);
-        if let Some(foul) = next_foul(&self.machine, &self.layout, &self.stack, found, &before.list) {
+        if let Some(foul) = next_foul(
+            &self.machine,
+            &self.layout,
+            &self.stack,
+            found,
+            &before.list,
+        ) {
             self.progress = Progress::Stopped(foul);
             return foul.answer();
         }
@@ -165,7 +171,14 @@ impl Watch {
         if is_refused(stepped) {
             return Watched::Clean(stepped);
         }
-        follow(&mut self.stack, &self.shapes, &self.layout, &self.machine, found, &before);
+        follow(
+            &mut self.stack,
+            &self.shapes,
+            &self.layout,
+            &self.machine,
+            found,
+            &before,
+        );
         Watched::Clean(stepped)
     }
 

@@ -21,10 +21,11 @@ returns-in_default c =
     let i = c.self.inside in
     record {
       made = ap step_told.outcome_of c.answer-in_default.ensures ∙ answer_made c.ending.result;
-      tells =
-          (sym (ap (λ (k : Watching). k.machine.end) c.self.view_is) ∙ c.ending.ensures
-          ∙ sym (ap step_told.end_told c.answer-in_default.ensures ∙ answer_tells c.ending.result),
-           sym (ap (λ (k : Watching). is_stopped k.stage) c.self.view_is) ∙ unstopped_of i.progress i.stack.frames.live i.stack.written c.in_default.not-Stopped);
+      tells = (
+        sym (ap (λ (k : Watching). k.machine.end) c.self.view_is) ∙ c.ending.ensures
+            ∙ sym (ap step_told.end_told c.answer-in_default.ensures ∙ answer_tells c.ending.result),
+        sym (ap (λ (k : Watching). is_stopped k.stage) c.self.view_is) ∙ unstopped_of i.progress i.stack.frames.live i.stack.written c.in_default.not-Stopped,
+      );
       read_faults = λ e. not_in_fault c.ending.result (sym c.answer-in_default.ensures ∙ (cc));
       write_faults = λ e. not_out_fault c.ending.result (sym c.answer-in_default.ensures ∙ (cc));
     }

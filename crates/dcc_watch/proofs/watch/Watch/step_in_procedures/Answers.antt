@@ -86,15 +86,16 @@ returns-then-lacks_room-clause-tells g c =
     ap (λ (k : Watching). is_in_procedures k.stage) c.self.view_is ∙ c.requires.inside in
     let here = in_procedures c.self.inside.progress c.self.inside.stack.frames.live c.self.inside.stack.written inside in
     let live = c.self.inside.stack.frames.live in
-    let runs = ap (λ (m : Core). m.end) c.next_instruction-found.ensures.kept ∙ ap (λ (k : Watching). k.machine.end) c.self.view_is ∙ c.requires.runs in
-    (runs,
-     record {
-       stack = record { frames = map live_frame live; written = c.self.inside.stack.written };
-       stage = ap (λ p. stage_of p live c.self.inside.stack.written) here;
-       full =
-           subst (λ n. c.self.inside.stack.frames.room ≤ n) (sym (length-map live live_frame))
-           (is_full _ (length live) c.self.inside.stack.frames.room (sym c.lacks_room.ensures ∙ c.if-lacks_room.true));
-     })
+    let runs = ap (λ (m : Core). m.end) c.next_instruction-found.ensures.kept ∙ ap (λ (k : Watching). k.machine.end) c.self.view_is ∙ c.requires.runs in (
+      runs,
+      record {
+        stack = record { frames = map live_frame live; written = c.self.inside.stack.written };
+        stage = ap (λ p. stage_of p live c.self.inside.stack.written) here;
+        full =
+            subst (λ n. c.self.inside.stack.frames.room ≤ n) (sym (length-map live live_frame))
+            (is_full _ (length live) c.self.inside.stack.frames.room (sym c.lacks_room.ensures ∙ c.if-lacks_room.true));
+      },
+    )
 
 pub returns-then-lacks_room-clause-faults : goal.returns-then-lacks_room-clause-faults
 returns-then-lacks_room-clause-faults g c = record {
@@ -213,9 +214,10 @@ pub returns-clause-tells : goal.returns-clause-tells
 returns-clause-tells g c =
     let inside : is_in_procedures (stage_of c.self.inside.progress c.self.inside.stack.frames.live c.self.inside.stack.written) ≡ true =
     ap (λ (k : Watching). is_in_procedures k.stage) c.self.view_is ∙ c.requires.inside in
-    let here = in_procedures c.self.inside.progress c.self.inside.stack.frames.live c.self.inside.stack.written inside in
-    (machine_end c.make-stepped.new.self c.make-stepped.result c.make-stepped.ensures.answer,
-     ap (λ p. is_stopped (stage_of p c.follow.new.stack.frames.live c.follow.new.stack.written)) here)
+    let here = in_procedures c.self.inside.progress c.self.inside.stack.frames.live c.self.inside.stack.written inside in (
+      machine_end c.make-stepped.new.self c.make-stepped.result c.make-stepped.ensures.answer,
+      ap (λ p. is_stopped (stage_of p c.follow.new.stack.frames.live c.follow.new.stack.written)) here,
+    )
 
 pub returns-clause-faults : goal.returns-clause-faults
 returns-clause-faults g c = record {
