@@ -10,7 +10,7 @@ use Rattle.dcc_ir.proofs.FlowLaws.{contraction_refl, contraction_trans, reached_
 use Rattle.dcc_ir.proofs.GraphLaws.{flow_of-flow}
 use Rattle.dcc_ir.proofs.StandLaws.{Holds, holds_still, first_holds, mark_known}
 
-flow_law : (p : Program) (entry : ℕ) → IsFlow (flow_at p entry)
+pub flow_law : (p : Program) (entry : ℕ) → IsFlow (flow_at p entry)
 flow_law p entry = flow_of-flow (graph_or_none (graph_at p.graphs entry))
 
 -- a program keeps itself

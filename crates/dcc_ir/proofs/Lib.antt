@@ -6,6 +6,8 @@ pub mod PathLaws
 pub mod FlowLaws
 pub mod EdgeLaws
 pub mod GraphLaws
+pub mod LocationLaws
+pub mod FamilyLaws
 pub mod StandLaws
 pub mod KeepsLaws
 pub mod ShiftLaws

@@ -1,15 +1,22 @@
--- Which locations are wanted before a statement: those whose value a test, a store, a division or a DOS call may come
--- to use (liveness by demand). So far no call takes part: a graph with calls has further rules.
-use Rattle.std.specs.Prelude.{◌≡◌, ℕ, List, [], ◌∷◌, ◌++◌, flat_map, Contains, slice_get, option_to_list, Some}
+-- Which locations are wanted before a statement: those whose value a test, a store, a division, a DOS call, an argument
+-- of a call or a value given back may come to use (liveness by demand). A call passes its arguments and results alone.
+use Rattle.std.specs.Prelude.{◌≡◌, ℕ, Bool, true, false, List, [], ◌∷◌, ◌++◌, flat_map, Contains, slice_get, option_to_list, Some}
 use Rattle.dcc_ir.specs.declared.syntax.Loc.{Loc}
-use Rattle.dcc_ir.specs.Tree.{Stmt, Set, Fetch, Store, Div, Dos, Exit, If, Switch, Block, Graph}
+use Rattle.dcc_ir.specs.Tree.{Stmt, Set, Fetch, Store, Div, Call, Dos, Exit, If, Switch, Ret, Block, Graph}
 use Rattle.dcc_ir.specs.Use.{reads_of, writes_of}
 use Rattle.dcc_ir.specs.Flow.{targets}
+
+-- the statement only makes a value for a location: it is a Set or a Load
+abbrev pub is_assignment : Stmt → Bool
+is_assignment (Set location e) = true
+is_assignment (Fetch location width address) = true
+is_assignment stmt = false
 
 -- the locations that a statement uses whatever is wanted after it
 abbrev pub uses_of : Stmt → List Loc
 uses_of (Store width address e) = reads_of address ++ reads_of e
 uses_of (Div location e) = reads_of e
+uses_of (Call results entry arguments depth) = flat_map reads_of arguments
 uses_of (Dos number place argument) = flat_map reads_of (option_to_list argument)
 uses_of stmt = []
 
@@ -19,10 +26,11 @@ makes_of (Set location e) = reads_of e
 makes_of (Fetch location width address) = reads_of address
 makes_of stmt = []
 
--- the locations that the test of a block's end uses
+-- the locations that the test of a block's end uses, or its values where it gives some back
 abbrev pub tests_of : Exit → List Loc
 tests_of (If test one other) = reads_of test
 tests_of (Switch e places) = reads_of e
+tests_of (Ret values) = flat_map reads_of values
 tests_of exit = []
 
 -- the least relation: the location is wanted in the block before these statements, which are the last ones of it

@@ -3,7 +3,8 @@ use Rattle.std.specs.Prelude.{◌≡◌, ℕ, true, false, ◌^◌, ◌<◌, Lis
 use Rattle.std.specs.List.{list_any}
 use Rattle.dcc_run.specs.End.{is_over}
 use Rattle.dcc_run.specs.Watched.{IsWatchable}
-use Rattle.dcc_ir.specs.Tree.{Expr, Stmt, Graph, Program}
+use Rattle.dcc_ir.specs.declared.syntax.Loc.{Loc}
+use Rattle.dcc_ir.specs.Tree.{Expr, Stmt, Block, Graph, Program}
 use Rattle.dcc_ir.specs.Value.{width_of, Scene, value_of, Fits}
 use Rattle.dcc_ir.specs.WellFormed.{is_expr, IsProgram}
 use Rattle.dcc_ir.specs.Fitting.{AreBytes, StateFits}
@@ -11,6 +12,8 @@ use Rattle.dcc_ir.specs.Ends.{IsNeverStuck, HasNoSwitch, HasSoundEnds, SwitchesH
 use Rattle.dcc_ir.specs.Run.{State, execute, is_call, block_step, reached, watched_inner}
 use Rattle.dcc_ir.specs.Flow.{Flow, Reached, Leads, HaveOneEdge}
 use Rattle.dcc_ir.specs.Keeps.{KeepsRuns, Keeps}
+use Rattle.dcc_ir.specs.Families.{Family, IsClosed, wanted, live, IsGraphWithout}
+use Rattle.dcc_ir.specs.Replaced.{MayReplace}
 use Rattle.dcc_ir.specs.Trimmed.{Trim, trimmed, IsTrimmable}
 
 -- a state that has ended stays, no step takes events back, and no step is foul
@@ -61,3 +64,21 @@ ProgramsKeepTheirRuns = (p : Program) → IsProgram p → KeepsRuns p p
 abbrev pub UnreadMayGo : Type 0
 UnreadMayGo = (trim : Trim) (p : Program) → IsProgram p → IsProgram (trimmed trim p) → All (IsTrimmable trim) p.graphs
     → KeepsRuns p (trimmed trim p)
+
+-- what is wanted is a closed family
+abbrev pub WantedIsClosed : Type 0
+WantedIsClosed = (graph : Graph) → IsClosed graph (wanted graph)
+
+-- what is live is one, where all reads count
+abbrev pub LiveIsClosed : Type 0
+LiveIsClosed = (graph : Graph) → IsClosed graph (live graph)
+
+-- a closed family has all that is wanted
+abbrev pub HasAllWanted : Family → Type 0
+HasAllWanted family = (graph : Graph) (block : Block) (stmts : List Stmt) (location : Loc) → IsClosed graph family
+    → wanted graph block stmts location → family block stmts location
+
+-- assignments to locations that don't matter after them may go, by any closed family
+abbrev pub AssignmentsMayGo : Family → Type 0
+AssignmentsMayGo family = (before after : Graph) → IsClosed before family → IsGraphWithout family before after
+    → MayReplace before after

@@ -9,6 +9,7 @@ pub mod Fitting
 pub mod Ends
 pub mod Flow
 pub mod Keeps
+pub mod Replaced
 pub mod Use
 pub mod Live
 pub mod Passing
@@ -23,3 +24,4 @@ pub mod Trimmed
 pub mod Laws
 pub mod Plain
 pub mod Demand
+pub mod Families

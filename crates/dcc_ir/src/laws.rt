@@ -6,6 +6,8 @@ ghost use Rattle.dcc_ir.specs.Keeps.{KeepsRuns};
 ghost use Rattle.dcc_ir.specs.Laws.{RunsAreWatchable, StatementsAreExecuted, ProgramsKeepThemselves, KeepsComposes};
 ghost use Rattle.dcc_ir.specs.Laws.{OneEdgeLiesAfterOne, ValuesFit, StatesFit, RunsAreNeverStuck, NoSwitchHasPlaces};
 ghost use Rattle.dcc_ir.specs.Laws.{ProgramsKeepTheirRuns, UnreadMayGo};
+ghost use Rattle.dcc_ir.specs.Families.{Family};
+ghost use Rattle.dcc_ir.specs.Laws.{WantedIsClosed, LiveIsClosed, HasAllWanted, AssignmentsMayGo};
 
 /// A run that has ended stays, no step takes events back, and no step is foul.
 pub fn runs_are_watchable()
@@ -76,4 +78,30 @@ pub fn programs_keep_their_runs()
 /// Arguments and values given back that nothing reads may go.
 pub fn unread_may_go()
     ensures { UnreadMayGo }
+{}
+
+/// What is wanted is a closed family.
+pub fn wanted_is_closed()
+    ensures { WantedIsClosed }
+{}
+
+/// What is live is a closed family.
+pub fn live_is_closed()
+    ensures { LiveIsClosed }
+{}
+
+/// Some family of locations at the points of blocks.
+pub trait SomeFamily {
+    ghost family: { Family };
+}
+
+/// What is wanted is the least closed family.
+pub fn closed_families_have_all_wanted<F: SomeFamily>()
+    ensures { HasAllWanted F.family }
+{}
+
+/// A graph without assignments to locations that don't matter after them, by a closed family, may stand in the place of
+/// the graph.
+pub fn assignments_may_go<F: SomeFamily>()
+    ensures { AssignmentsMayGo F.family }
 {}

@@ -1,9 +1,9 @@
 -- Laws of local runs: a step is a local run and what it leads to; what a local run leaves.
-use Rattle.std.proofs.Common.{◌≡◌, ℕ, ◌<◌, Bool, true, false, ◌&&◌, List, [], ◌∷◌, length, Option, Some, None, refl, ap, ◌∙◌, subst, map, slice_get, ltb-true}
+use Rattle.std.proofs.Common.{◌≡◌, ℕ, ◌<◌, Bool, true, false, ◌&&◌, List, [], ◌∷◌, length, Option, Some, None, refl, ap, ◌∙◌, subst, true≢false, map, slice_get, ltb-true}
 use Rattle.std.specs.Prelude.{if◌then◌else◌, ◌==◌, nat_lt, nat_le, All, Contains}
 use Rattle.std.specs.List.{list_all}
 use Rattle.std.proofs.lemmas.List.Elements.{All-head, All-contains, All-contains_itself}
-use Rattle.dcc_run.specs.End.{is_over}
+use Rattle.dcc_run.specs.End.{End, Running, Exit as ExitWith, Divide, Outside, Stuck, is_over}
 use Rattle.dcc_ir.specs.Tree.{Expr, Stmt, Call, Exit, Goto, If, Switch, Ret, Stop, Block, Graph, Program}
 use Rattle.dcc_ir.specs.Value.{width_of}
 use Rattle.dcc_ir.specs.WellFormed.{is_location, is_expr, is_expr_of, is_stmt, is_exit, ret_widths, all_ret_widths, IsCall, IsCalling, IsProgram}
@@ -15,6 +15,16 @@ use Rattle.dcc_ir.proofs.FitLaws.{both, value_fits}
 use Rattle.dcc_ir.proofs.FitStates.{IsFit, scene-fits}
 use Rattle.dcc_ir.proofs.ReachedLaws.{contained, all_at, named_again, IsWithinAt, exit_of, within-next, first-fit}
 use Rattle.dcc_ir.proofs.ListLaws.{all_parts}
+
+pub some_same : {A : Type 0} (x y : A) → Some x ≡ Some y → x ≡ y
+some_same x y e = cc
+
+pub is_running : (e : End) → is_over e ≡ false → e ≡ Running
+is_running Running on = refl
+is_running (ExitWith code) on = absurd (true≢false on)
+is_running Divide on = absurd (true≢false on)
+is_running (Outside at) on = absurd (true≢false on)
+is_running (Stuck line) on = absurd (true≢false on)
 
 -- A step is a local run, and what it leads to.
 

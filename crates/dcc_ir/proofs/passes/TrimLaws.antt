@@ -10,22 +10,22 @@ use Rattle.dcc_ir.specs.declared.syntax.Loc.{Loc}
 use Rattle.dcc_ir.specs.declared.syntax.Put.{Put}
 use Rattle.dcc_ir.specs.declared.syntax.Put.TheVariants.{Memory, One, Two}
 use Rattle.dcc_ir.specs.declared.syntax.Param.{Param}
-use Rattle.dcc_ir.specs.Tree.{Stmt, Call, Exit, Goto, If, Switch, Ret, Stop, Block, Graph, Program}
+use Rattle.dcc_ir.specs.Tree.{Expr, Stmt, Call, Exit, Goto, If, Switch, Ret, Stop, Block, Graph, Program}
 use Rattle.dcc_ir.specs.Location.{same_location, location_width, Values, with_value}
 use Rattle.dcc_ir.specs.Use.{reads_of, exprs_of, exit_exprs, block_exprs, graph_exprs}
 use Rattle.dcc_ir.specs.Joinable.{places_of}
 use Rattle.dcc_ir.specs.WellFormed.{is_memory, put_width, IsProgram}
 use Rattle.dcc_ir.specs.Flow.{graph_or_none}
 use Rattle.dcc_ir.specs.Run.{State, Activation, putting, passing, stmt_step, value_in, graph_at}
-use Rattle.dcc_ir.specs.Local.{Point, Over, Jumps, after_call, after_calls, switch_halt, exit_halt, local_run, halt_of}
+use Rattle.dcc_ir.specs.Local.{Point, Halt, Over, Jumps, after_call, after_calls, switch_halt, exit_halt, local_run, halt_of}
 use Rattle.dcc_ir.specs.Keeps.{KeepsRuns}
-use Rattle.dcc_ir.specs.Passes.{Pass, with_values, FitIn, param_widths, Meet, BlocksStay, BeginAlike, OwesBegin, OwesGo}
+use Rattle.dcc_ir.specs.Passes.{Pass, with_values, FitIn, param_widths, EndAlike, Meet, BlocksStay, BeginAlike, OwesBegin, OwesGo}
 use Rattle.dcc_ir.specs.Trimmed.{Trim, nothing_trimmed, kept, dropped, trim_stmt, trim_exit, trim_block, trim_graph, trimmed, reads_in, IsUnread, GivesRead, IsTrimmable, trimming}
 use Rattle.dcc_ir.proofs.GraphLaws.{found_entry}
 use Rattle.dcc_ir.proofs.ReachedLaws.{contained, found_contained}
 use Rattle.dcc_ir.proofs.ListLaws.{left_part, all_parts}
-use Rattle.dcc_ir.proofs.passes.LocalLaws.{Frame, stmt-frame}
-use Rattle.dcc_ir.proofs.passes.AgreeLaws.{Agree, ReadsOf, agree-value, agree-values, with_value-agrees, stuck-agrees, stmt-agrees}
+use Rattle.dcc_ir.proofs.passes.LocalLaws.{some_same, is_running, Frame, stmt-frame}
+use Rattle.dcc_ir.proofs.passes.AgreeLaws.{AgreeOn, ReadsIn, all_had, value-on, values-on, stuck-on, weaker-on, StillOn, stmt-agrees}
 use Rattle.dcc_ir.proofs.passes.Theorem.{keeps_runs}
 
 -- What stays of a list.
@@ -71,9 +71,25 @@ module _ (P : Stmt → Type 0) where
   after_calls-all zero stmts all = all
   after_calls-all (suc calls) stmts all = after_call-all (after_calls calls stmts) (after_calls-all calls stmts all)
 
+-- States that agree on the locations of a list, and expressions that read these alone.
+
+abbrev Agree : List Loc → State → State → Type 0
+Agree reads s t = AgreeOn (Contains reads) s t
+
+abbrev ReadsOf : List Loc → Expr → Type 0
+ReadsOf reads e = ReadsIn (Contains reads) e
+
 -- What is taken and given back.
 
 module _ (reads : List Loc) where
+  -- a location takes the same value
+  with_value-agrees : (v v' : Values) (location : Loc) (n : ℕ) (xs : List Loc) → All (λ l. v' l ≡ v l) xs → All (λ l. with_value v' location n l ≡ with_value v location n l) xs
+  with_value-agrees v v' location n [] all = All-nil (λ l. with_value v' location n l ≡ with_value v location n l)
+  with_value-agrees v v' location n (l ∷ xs) all =
+      All-cons (λ l. with_value v' location n l ≡ with_value v location n l) l xs
+      (ap (λ x. if same_location l location then n else x) (All-head (λ l. v' l ≡ v l) l xs all))
+      (with_value-agrees v v' location n xs (All-tail (λ l. v' l ≡ v l) l xs all))
+
   -- values agree where they are read
   abbrev Same : Values → Values → Type 0
   Same v v' = All (λ read. v' read ≡ v read) reads
@@ -99,7 +115,7 @@ module _ (reads : List Loc) where
           Same (with_values u results r) (with_values u' (kept (λ k. stays (suc k)) results) (kept (λ k. stays (suc k)) r))) →
           Same (with_values (with_value v location n) results r) (with_values v' (cond b (location ∷ kept (λ k. stays (suc k)) results) (kept (λ k. stays (suc k)) results))
           (cond b (n ∷ kept (λ k. stays (suc k)) r) (kept (λ k. stays (suc k)) r)))
-      go true none later = later (with_value v location n) (with_value v' location n) none (with_value-agrees reads v v' location n reads same)
+      go true none later = later (with_value v location n) (with_value v' location n) none (with_value-agrees v v' location n reads same)
       go false none later =
           let rest = dropped (λ k. stays (suc k)) results in
           later (with_value v location n) v' (All-tail (IsUnread reads) location rest none) (unread v v' location n reads (All-head (IsUnread reads) location rest none) same)
@@ -117,10 +133,10 @@ module _ (reads : List Loc) where
   put_both : (j j' : ℕ) (put : Put) (n : ℕ) (s t : State) → (j' ≡ j) ⊎ (is_memory put ≡ false) → Open s t → Open (putting j put n s) (putting j' put n t)
   put_both j j' Memory n s t (inl e) o = record { values = o.values; memory = let m = o.memory in let b = o.base in cc; base = o.base }
   put_both j j' Memory n s t (inr f) o = absurd (true≢false f)
-  put_both j j' (One location) n s t h o = record { values = with_value-agrees reads s.running.values t.running.values location n reads o.values; memory = o.memory; base = o.base }
+  put_both j j' (One location) n s t h o = record { values = with_value-agrees s.running.values t.running.values location n reads o.values; memory = o.memory; base = o.base }
   put_both j j' (Two low high) n s t h o = record {
-    values = with_value-agrees reads (with_value s.running.values low (n % 256)) (with_value t.running.values low (n % 256)) high (n / 256) reads
-        (with_value-agrees reads s.running.values t.running.values low (n % 256) reads o.values);
+    values = with_value-agrees (with_value s.running.values low (n % 256)) (with_value t.running.values low (n % 256)) high (n / 256) reads
+        (with_value-agrees s.running.values t.running.values low (n % 256) reads o.values);
     memory = o.memory;
     base = o.base;
   }
@@ -193,16 +209,6 @@ module _ (trim : Trim) where
   same_entries [] = refl
   same_entries (g ∷ graphs) = ap (λ l. g.entry ∷ l) (same_entries graphs)
 
-some_same : {A : Type 0} (x y : A) → Some x ≡ Some y → x ≡ y
-some_same x y e = cc
-
-is_running : (e : End) → is_over e ≡ false → e ≡ Running
-is_running Running on = refl
-is_running (ExitWith code) on = absurd (true≢false on)
-is_running Divide on = absurd (true≢false on)
-is_running (Outside at) on = absurd (true≢false on)
-is_running (Stuck line) on = absurd (true≢false on)
-
 module _ (trim : Trim) (p : Program) where
   abbrev pass : Pass
   pass = trimming trim p
@@ -216,25 +222,31 @@ module _ (trim : Trim) (p : Program) where
 
   module _ (a : List ℕ) (point : Point) where
     jump-meets : (place place' : ℕ) (s t : State) → place' ≡ place → Agree (reads_at point.entry) s t → Meet pass a point 0 (Jumps place s) (Jumps place' t)
-    jump-meets place place' s t same h = record { stands = sym same; outside = h.outside; holds = h.values }
+    jump-meets place place' s t same h = record { stands = sym same; outside = h.outside; holds = all_had (λ l. t.running.values l ≡ s.running.values l) (reads_at point.entry) h.values }
 
     exit-meets : (exit : Exit) (s t : State) → Agree (reads_at point.entry) s t → All (ReadsOf (reads_at point.entry)) (exit_exprs (trim_exit trim point.entry exit)) →
         Meet pass a point 0 (exit_halt exit s) (exit_halt (trim_exit trim point.entry exit) t)
     exit-meets (Goto place) s t h among = jump-meets place place s t refl h
     exit-meets (If test one other) s t h among =
-        jump-meets _ _ s t (ap (λ n. if n == 1 then one else other) (agree-value (reads_at point.entry) s t h test (All-head (ReadsOf (reads_at point.entry)) test [] among))) h
+        jump-meets _ _ s t (ap (λ n. if n == 1 then one else other) (value-on (Contains (reads_at point.entry)) s t h test (All-head (ReadsOf (reads_at point.entry)) test [] among))) h
     exit-meets (Switch e places) s t h among =
         subst (λ n. Meet pass a point 0 (switch_halt (slice_get places (value_in s e)) s) (switch_halt (slice_get places n) t))
-        (sym (agree-value (reads_at point.entry) s t h e (All-head (ReadsOf (reads_at point.entry)) e [] among))) (go (slice_get places (value_in s e)))
+        (sym (value-on (Contains (reads_at point.entry)) s t h e (All-head (ReadsOf (reads_at point.entry)) e [] among))) (go (slice_get places (value_in s e)))
       where
         go : (place : Option ℕ) → Meet pass a point 0 (switch_halt place s) (switch_halt place t)
         go (Some place) = jump-meets place place s t refl h
-        go None = let over = stuck-agrees (reads_at point.entry) s t h in record { end = over.end; events = over.outside.events }
+        go None = let over = stuck-on (Contains (reads_at point.entry)) s t h in record { end = over.end; events = over.outside.events }
     exit-meets (Ret values) s t h among = record {
       outside = h.outside;
-      leaves = agree-values (reads_at point.entry) s t h (kept (trim.gives point.entry) values) among ∙ kept-map (value_in s) (trim.gives point.entry) values;
+      leaves = values-on (Contains (reads_at point.entry)) s t h (kept (trim.gives point.entry) values) among ∙ kept-map (value_in s) (trim.gives point.entry) values;
     }
-    exit-meets Stop s t h among = let over = stuck-agrees (reads_at point.entry) s t h in record { end = over.end; events = over.outside.events }
+    exit-meets Stop s t h among = let over = stuck-on (Contains (reads_at point.entry)) s t h in record { end = over.end; events = over.outside.events }
+
+    -- either both are over, or what follows meets
+    both_go : (s t : State) (halt halt' : Halt) (b : Bool) → EndAlike s t → (is_over s.end ≡ false → Meet pass a point 0 halt halt') → is_over s.end ≡ b →
+        Meet pass a point 0 (if b then Over s else halt) (if b then Over t else halt')
+    both_go s t halt halt' true over on e = over
+    both_go s t halt halt' false over on e = on e
 
     -- the local runs of a block and of the trimmed block meet
     block-meets : (stmts : List Stmt) (s t : State) → Agree (reads_at point.entry) s t → t.running.block.exit ≡ trim_exit trim point.entry s.running.block.exit →
@@ -251,29 +263,28 @@ module _ (trim : Trim) (p : Program) where
           entry = refl;
           depth = refl;
           outside = record { memory = h.outside.memory; input = h.outside.input; events = h.outside.events; base = h.outside.base };
-          enters = agree-values R s t h (kept (trim.takes entry) arguments) read ∙ kept-map (value_in s) (trim.takes entry) arguments;
+          enters = values-on (Contains R) s t h (kept (trim.takes entry) arguments) read ∙ kept-map (value_in s) (trim.takes entry) arguments;
           resumes = λ r r' fit fit' leaves.
               subst (λ r'. All (λ read. with_values t.running.values (kept (trim.gives entry) results) r' read ≡ with_values s.running.values results r read) R) (sym leaves)
               (given_trimmed R (map (location_width s.running.graph.bits) results) (trim.gives entry) results r s.running.values t.running.values
               (length-map results (location_width s.running.graph.bits)) fit
-              (All-head (GivesRead trim R) (Call results entry arguments depth) rest gives) h.values);
+              (All-head (GivesRead trim R) (Call results entry arguments depth) rest gives) (all_had (λ l. t.running.values l ≡ s.running.values l) R h.values));
         }
     block-meets (stmt ∷ rest) s t h exits among gives last =
         let R = reads_at point.entry in
-        let next = stmt-agrees R stmt s t (All-head (λ stmt. All (ReadsOf R) (exprs_of (trim_stmt trim stmt))) stmt rest among) h in
+        let next = stmt-agrees (Contains R) stmt s t refl (All-head (λ stmt. All (ReadsOf R) (exprs_of (trim_stmt trim stmt))) stmt rest among) h in
         let same : (stmt_step stmt s).running.block ≡ s.running.block = ap (λ (f : Frame). f.block) (stmt-frame stmt s) in
         let other_same : (stmt_step stmt t).running.block ≡ t.running.block = ap (λ (f : Frame). f.block) (stmt-frame stmt t) in
         let exits' = ap (λ (b : Block). b.exit) other_same ∙ exits ∙ sym (ap (λ (b : Block). trim_exit trim point.entry b.exit) same) in
         let last' = subst (λ (b : Block). All (ReadsOf R) (exit_exprs (trim_exit trim point.entry b.exit))) (sym same) last in
+        let on = λ (e : is_over (stmt_step stmt s).end ≡ false). block-meets rest (stmt_step stmt s) (stmt_step stmt t)
+            (weaker-on (StillOn (Contains R) (stmt_step stmt s)) (Contains R) (stmt_step stmt s) (stmt_step stmt t) (λ l c. (e, c)) next) exits'
+            (All-tail (λ stmt. All (ReadsOf R) (exprs_of (trim_stmt trim stmt))) stmt rest among) (All-tail (GivesRead trim R) stmt rest gives) last' in
         subst (λ b. Meet pass a point 0 (if is_over (stmt_step stmt s).end then Over (stmt_step stmt s) else local_run rest (stmt_step stmt s))
         (if b then Over (stmt_step stmt t) else local_run (map (trim_stmt trim) rest) (stmt_step stmt t)))
         (sym (ap is_over next.end))
-        (elim (is_over (stmt_step stmt s).end) as (λ b. Meet pass a point 0 (if b then Over (stmt_step stmt s) else local_run rest (stmt_step stmt s))
-        (if b then Over (stmt_step stmt t) else local_run (map (trim_stmt trim) rest) (stmt_step stmt t))) [
-          | true ↦ record { end = next.end; events = next.outside.events }
-          | false ↦ block-meets rest (stmt_step stmt s) (stmt_step stmt t) next exits'
-              (All-tail (λ stmt. All (ReadsOf R) (exprs_of (trim_stmt trim stmt))) stmt rest among) (All-tail (GivesRead trim R) stmt rest gives) last'
-        ])
+        (both_go (stmt_step stmt s) (stmt_step stmt t) (local_run rest (stmt_step stmt s)) (local_run (map (trim_stmt trim) rest) (stmt_step stmt t)) (is_over (stmt_step stmt s).end)
+        (record { end = next.end; events = next.outside.events }) on refl)
 
   -- From a point both go on.
   goes : All (IsTrimmable trim) p.graphs → OwesGo p (trimmed trim p) pass
@@ -299,7 +310,7 @@ module _ (trim : Trim) (p : Program) where
 
       agree : Agree (reads_at point.entry) s t
       agree = record {
-        values = together.holds;
+        values = λ l c. All-contains (λ l. t.running.values l ≡ s.running.values l) (reads_at point.entry) l together.holds c;
         outside = together.outside;
         end = is_running t.end together.second.running ∙ sym (is_running s.end together.first.running);
         bits = ap (λ (x : Graph). x.bits) graphs;

@@ -1,0 +1,82 @@
+-- Which locations matter where, and statements that may go since what they set doesn't.
+use Rattle.std.specs.Prelude.{◌≡◌, ℕ, true, false, ◌⊎◌, List, [], ◌∷◌, Contains, slice_get, Some}
+use Rattle.std.specs.List.{AllZip}
+use Rattle.dcc_ir.specs.declared.syntax.Loc.{Loc}
+use Rattle.dcc_ir.specs.Tree.{Stmt, Block, Graph}
+use Rattle.dcc_ir.specs.Use.{writes_of}
+use Rattle.dcc_ir.specs.Demand.{is_assignment, uses_of, makes_of, tests_of, IsWantedIn}
+use Rattle.dcc_ir.specs.Flow.{targets}
+use Rattle.dcc_ir.specs.Live.{block_in, reads_first, writes, IsLiveAfter}
+
+-- for a block and the last statements of it, the locations that matter before them
+abbrev pub Family : Type 1
+Family = Block → List Stmt → Loc → Type 0
+
+-- What a statement or a block's end uses matters before it. Where a location that a statement makes matters after it,
+-- what it is made of matters before it; what matters after a statement that doesn't write it matters before it too. And
+-- what matters where a block begins matters at the end of each block that goes there.
+pub record IsClosed (graph : Graph) (family : Family) : Type 0 where
+  pub used : (block : Block) (stmt : Stmt) (rest : List Stmt) (location : Loc) → Contains (uses_of stmt) location
+      → family block (stmt ∷ rest) location
+  pub made_of : (block : Block) (stmt : Stmt) (rest : List Stmt) (location to : Loc) → Contains (writes_of stmt) to
+      → Contains (makes_of stmt) location → family block rest to → family block (stmt ∷ rest) location
+  pub left : (block : Block) (stmt : Stmt) (rest : List Stmt) (location : Loc) → ¬ Contains (writes_of stmt) location
+      → family block rest location → family block (stmt ∷ rest) location
+  pub tested : (block : Block) (location : Loc) → Contains (tests_of block.exit) location → family block [] location
+  pub goes : (block next : Block) (place : ℕ) (location : Loc) → Contains (targets block.exit) place
+      → slice_get graph.blocks place ≡ Some next → family next next.stmts location → family block [] location
+
+-- the least closed family: what is wanted
+abbrev pub wanted : Graph → Family
+wanted graph = IsWantedIn graph
+
+-- A location is live where a block begins: the block reads it first, or it doesn't write it and it is live at its end.
+abbrev pub IsLiveAtStart : Graph → ℕ → Loc → Type 0
+IsLiveAtStart graph place location =
+    let block = block_in graph place in
+    (reads_first block.stmts block.exit location ≡ true)
+    ⊎ ((writes block.stmts location ≡ false) × IsLiveAfter graph place location)
+
+-- what is live
+abbrev pub live : Graph → Family
+live graph block stmts location =
+    (reads_first stmts block.exit location ≡ true)
+    ⊎ ((place : ℕ) × (writes stmts location ≡ false) × Contains (targets block.exit) place
+    × IsLiveAtStart graph place location)
+
+-- the family that has all locations everywhere
+abbrev pub everything : Family
+everything block stmts location = Unit {0}
+
+-- none of the locations that the statement writes is one of these
+abbrev pub WritesNone : (Loc → Type 0) → Stmt → Type 0
+WritesNone Has stmt = (location : Loc) → Contains (writes_of stmt) location → ¬ Has location
+
+-- the second statements are the first without some assignments to locations that don't matter after them
+pub data IsWithout (Has : List Stmt → Loc → Type 0) : List Stmt → List Stmt → Type 0 where
+  done : IsWithout Has [] []
+  stays : {stmt : Stmt} {rest rest' : List Stmt} → IsWithout Has rest rest'
+      → IsWithout Has (stmt ∷ rest) (stmt ∷ rest')
+  goes : {stmt : Stmt} {rest rest' : List Stmt} → is_assignment stmt ≡ true → WritesNone (Has rest) stmt
+      → IsWithout Has rest rest' → IsWithout Has (stmt ∷ rest) rest'
+
+pub record IsBlockWithout (family : Family) (before after : Block) : Type 0 where
+  pub at : after.at ≡ before.at
+  pub exit : after.exit ≡ before.exit
+  pub stmts : IsWithout (family before) before.stmts after.stmts
+
+-- the second graph is the first without some assignments to locations that don't matter after them
+pub record IsGraphWithout (family : Family) (before after : Graph) : Type 0 where
+  pub entry : after.entry ≡ before.entry
+  pub params : after.params ≡ before.params
+  pub local : after.local ≡ before.local
+  pub pushed : after.pushed ≡ before.pushed
+  pub bits : after.bits ≡ before.bits
+  pub blocks : AllZip (IsBlockWithout family) before.blocks after.blocks
+
+-- Each assignment among these last statements of the block makes a location that is wanted after it.
+abbrev pub AllWanted : Graph → Block → List Stmt → Type 0
+AllWanted graph block [] = Unit {0}
+AllWanted graph block (stmt ∷ rest) =
+    (is_assignment stmt ≡ true → (location : Loc) × Contains (writes_of stmt) location × IsWantedIn graph block rest location)
+    × AllWanted graph block rest
