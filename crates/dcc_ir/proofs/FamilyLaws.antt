@@ -1,11 +1,11 @@
 -- What is wanted and what is live are closed families, and what is wanted is the least one.
-use Rattle.std.proofs.Common.{◌≡◌, ℕ, Bool, true, false, ◌&&◌, ◌||◌, not, ◌⊎◌, inl, inr, List, [], ◌∷◌, ◌++◌, Some, refl, sym, ap, ap₂, ◌∙◌, subst, true≢false, slice_get, get_or, flat_map, Contains, eq-eqb}
-use Rattle.std.specs.Prelude.{◌==◌, option_to_list}
+use Rattle.std.proofs.Common.{◌≡◌, ℕ, Bool, true, false, ◌&&◌, ◌||◌, not, inl, inr, List, [], ◌∷◌, ◌++◌, refl, sym, ap, ◌∙◌, subst, flat_map, Contains, eq-eqb}
+use Rattle.std.specs.Prelude.{◌==◌}
 use Rattle.std.specs.List.{list_any}
 use Rattle.std.proofs.lemmas.Option.{get_or_from_slice_get}
 use Rattle.std.proofs.lemmas.List.Elements.{Contains-append_left, Contains-append_right, Contains-append_cases}
 use Rattle.dcc_ir.specs.declared.syntax.Loc.{Loc}
-use Rattle.dcc_ir.specs.Tree.{Expr, Stmt, Set, Fetch, Store, Div, Call, Dos, Exit, Goto, If, Switch, Ret, Stop, Block, Graph}
+use Rattle.dcc_ir.specs.Tree.{Stmt, Set, Fetch, Store, Div, Call, Dos, Exit, Goto, If, Switch, Ret, Stop, Block, Graph}
 use Rattle.dcc_ir.specs.Use.{reads_of, exprs_of, writes_of, exit_exprs}
 use Rattle.dcc_ir.specs.Demand.{uses_of, makes_of, tests_of, IsWantedIn, used, made_of, left, tested, goes}
 use Rattle.dcc_ir.specs.Location.{same_location}

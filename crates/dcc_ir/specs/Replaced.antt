@@ -1,5 +1,5 @@
 -- A graph in the place of another.
-use Rattle.std.specs.Prelude.{ℕ, ◌==◌, if◌then◌else◌, map, Contains}
+use Rattle.std.specs.Prelude.{◌==◌, if◌then◌else◌, map, Contains}
 use Rattle.dcc_ir.specs.Tree.{Graph, Program}
 use Rattle.dcc_ir.specs.WellFormed.{IsProgram}
 use Rattle.dcc_ir.specs.Keeps.{KeepsInOne}

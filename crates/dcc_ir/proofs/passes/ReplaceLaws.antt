@@ -1,6 +1,6 @@
 -- A graph without assignments that don't matter may stand in the place of the graph: the program stays well formed, and
 -- is kept.
-use Rattle.std.proofs.Common.{◌≡◌, ◌≢◌, ℕ, zero, suc, ◌<◌, Bool, true, false, cond, ◌&&◌, ◌||◌, not, ◌⊎◌, inl, inr, List, [], ◌∷◌, ◌++◌, length, Option, Some, None, refl, sym, ap, ap₂, ◌∙◌, subst, true≢false, map, take, drop, find, slice_get, flat_map, Contains, arith, eqb-true, eq-eqb}
+use Rattle.std.proofs.Common.{◌≡◌, ℕ, zero, suc, ◌<◌, Bool, true, false, cond, ◌&&◌, ◌||◌, not, List, [], ◌∷◌, ◌++◌, length, Option, Some, None, refl, sym, ap, ap₂, ◌∙◌, subst, true≢false, map, take, drop, find, slice_get, flat_map, Contains, eqb-true, eq-eqb}
 use Rattle.std.specs.Prelude.{if◌then◌else◌, ◌==◌, option_map, All}
 use Rattle.std.specs.List.{AllZip, list_all, list_any}
 use Rattle.std.proofs.lemmas.List.{length-map, take-map, drop-map}
@@ -8,24 +8,23 @@ use Rattle.std.proofs.lemmas.List.Elements.{All-nil, All-cons, All-head, All-tai
 use Rattle.std.proofs.lemmas.Slice.Zip.{AllZip-long}
 use Rattle.dcc_ir.specs.declared.syntax.Loc.{Loc}
 use Rattle.dcc_ir.specs.declared.syntax.Param.{Param}
-use Rattle.dcc_ir.specs.Tree.{Expr, Stmt, Set, Fetch, Store, Div, Call, Dos, Exit, Goto, If, Switch, Ret, Stop, Block, Graph, Program}
+use Rattle.dcc_ir.specs.Tree.{Stmt, Call, Exit, Block, Graph, Program}
 use Rattle.dcc_ir.specs.Location.{location_width}
 use Rattle.dcc_ir.specs.Value.{width_of}
 use Rattle.dcc_ir.specs.Demand.{is_assignment}
 use Rattle.dcc_ir.specs.Families.{Family, everything, IsClosed, IsWithout, done, stays, goes, IsBlockWithout, IsGraphWithout}
-use Rattle.dcc_ir.specs.WellFormed.{put_width, is_put, is_width, is_stmt, is_exit, is_block, is_jump, is_param_list, memory_params_last, jumps_after_call, all_differ, ret_widths, all_ret_widths, IsGraph, IsCall, IsCalling, IsProgram}
-use Rattle.dcc_ir.specs.Run.{is_call, graph_at, no_block, no_graph}
-use Rattle.dcc_ir.specs.Flow.{Flow, targets, stands_at, has_edge, first_address, flow_of, graph_or_none, flow_at, IsContraction, HaveOneEdge}
-use Rattle.dcc_ir.specs.Keeps.{calls_of, block_or_none, calls_at, KeepsCalls, KeepsInOne}
-use Rattle.dcc_ir.specs.Replaced.{with_graph, IsKeptWith}
-use Rattle.dcc_ir.proofs.PathLaws.{IsFlow, reached_has, clash}
+use Rattle.dcc_ir.specs.WellFormed.{put_width, is_put, is_width, is_stmt, is_exit, is_block, is_jump, is_param_list, memory_params_last, jumps_after_call, all_differ, ret_widths, all_ret_widths, IsGraph, IsCalling, IsProgram}
+use Rattle.dcc_ir.specs.Run.{is_call, graph_at}
+use Rattle.dcc_ir.specs.Flow.{Flow, targets, stands_at, has_edge, first_address, flow_of, graph_or_none, flow_at, IsContraction}
+use Rattle.dcc_ir.specs.Keeps.{calls_of, block_or_none, calls_at, KeepsInOne}
+use Rattle.dcc_ir.specs.Replaced.{IsKeptWith}
+use Rattle.dcc_ir.proofs.PathLaws.{reached_has, clash}
 use Rattle.dcc_ir.proofs.FlowLaws.{contraction_refl}
 use Rattle.dcc_ir.proofs.KeepsLaws.{flow_law}
 use Rattle.dcc_ir.proofs.FitLaws.{both}
 use Rattle.dcc_ir.proofs.GraphLaws.{or_there}
 use Rattle.dcc_ir.proofs.LocationLaws.{Contains-here, Contains-later, Contains-none, Contains-cases}
 use Rattle.dcc_ir.proofs.ReachedLaws.{found_contained}
-use Rattle.dcc_ir.proofs.passes.LocalLaws.{some_same}
 use Rattle.dcc_ir.proofs.passes.AgreeLaws.{all_had}
 use Rattle.dcc_ir.proofs.passes.WithoutLaws.{changed, changed_at, entries_kept, runs_kept_without}
 use mathlib.Core.Path.{fun_ext}

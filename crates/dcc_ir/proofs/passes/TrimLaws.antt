@@ -4,7 +4,7 @@ use Rattle.std.specs.Prelude.{if◌then◌else◌, ◌==◌, option_map, All, Co
 use Rattle.std.proofs.lemmas.Option.{slice_get-map}
 use Rattle.std.proofs.lemmas.List.{length-map}
 use Rattle.std.proofs.lemmas.List.Elements.{All-nil, All-cons, All-head, All-tail, All-contains, All-contains_itself}
-use Rattle.dcc_run.specs.End.{End, Running, Exit as ExitWith, Divide, Outside, Stuck, is_over}
+use Rattle.dcc_run.specs.End.{is_over}
 use Rattle.dcc_run.proofs.KeptLaws.{right_part}
 use Rattle.dcc_ir.specs.declared.syntax.Loc.{Loc}
 use Rattle.dcc_ir.specs.declared.syntax.Put.{Put}
@@ -278,8 +278,8 @@ module _ (trim : Trim) (p : Program) where
         let exits' = ap (λ (b : Block). b.exit) other_same ∙ exits ∙ sym (ap (λ (b : Block). trim_exit trim point.entry b.exit) same) in
         let last' = subst (λ (b : Block). All (ReadsOf R) (exit_exprs (trim_exit trim point.entry b.exit))) (sym same) last in
         let on = λ (e : is_over (stmt_step stmt s).end ≡ false). block-meets rest (stmt_step stmt s) (stmt_step stmt t)
-            (weaker-on (StillOn (Contains R) (stmt_step stmt s)) (Contains R) (stmt_step stmt s) (stmt_step stmt t) (λ l c. (e, c)) next) exits'
-            (All-tail (λ stmt. All (ReadsOf R) (exprs_of (trim_stmt trim stmt))) stmt rest among) (All-tail (GivesRead trim R) stmt rest gives) last' in
+        (weaker-on (StillOn (Contains R) (stmt_step stmt s)) (Contains R) (stmt_step stmt s) (stmt_step stmt t) (λ l c. (e, c)) next) exits'
+        (All-tail (λ stmt. All (ReadsOf R) (exprs_of (trim_stmt trim stmt))) stmt rest among) (All-tail (GivesRead trim R) stmt rest gives) last' in
         subst (λ b. Meet pass a point 0 (if is_over (stmt_step stmt s).end then Over (stmt_step stmt s) else local_run rest (stmt_step stmt s))
         (if b then Over (stmt_step stmt t) else local_run (map (trim_stmt trim) rest) (stmt_step stmt t)))
         (sym (ap is_over next.end))

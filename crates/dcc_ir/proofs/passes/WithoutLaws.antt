@@ -1,10 +1,10 @@
 -- Assignments to locations that don't matter may go: the pass meets what it owes.
-use Rattle.std.proofs.Common.{◌≡◌, ℕ, zero, suc, ◌+◌, ◌/◌, ◌%◌, Bool, true, false, cond, ◌&&◌, ◌⊎◌, inl, inr, List, [], ◌∷◌, length, Option, Some, None, refl, sym, ap, ap₂, ◌∙◌, subst, true≢false, map, take, slice_get, flat_map, Contains}
-use Rattle.std.specs.Prelude.{if◌then◌else◌, ◌==◌, ◌^◌, ◌<◌, option_map, All}
+use Rattle.std.proofs.Common.{◌≡◌, ℕ, zero, suc, ◌+◌, ◌/◌, ◌%◌, Bool, true, false, cond, ◌⊎◌, inl, inr, List, [], ◌∷◌, length, Option, Some, None, refl, sym, ap, ap₂, ◌∙◌, subst, true≢false, map, take, slice_get, flat_map, Contains}
+use Rattle.std.specs.Prelude.{if◌then◌else◌, ◌==◌, option_map, All}
 use Rattle.std.specs.List.{AllZip, list_all}
 use Rattle.std.proofs.lemmas.List.{length-map}
-use Rattle.std.proofs.lemmas.List.Elements.{All-nil, All-cons, All-head, All-tail, All-contains}
-use Rattle.dcc_run.specs.End.{End, Divide, Stuck, is_over}
+use Rattle.std.proofs.lemmas.List.Elements.{All-contains}
+use Rattle.dcc_run.specs.End.{is_over}
 use Rattle.dcc_ir.specs.declared.syntax.Loc.{Loc}
 use Rattle.dcc_ir.specs.declared.syntax.Put.{Put}
 use Rattle.dcc_ir.specs.declared.syntax.Put.TheVariants.{Memory, One, Two}
@@ -12,22 +12,21 @@ use Rattle.dcc_ir.specs.declared.syntax.Param.{Param}
 use Rattle.dcc_ir.specs.Tree.{Expr, Stmt, Set, Fetch, Store, Div, Call, Dos, Exit, Goto, If, Switch, Ret, Stop, Block, Graph, Program}
 use Rattle.dcc_ir.specs.Location.{same_location, location_width, Values, with_value, filled}
 use Rattle.dcc_ir.specs.Use.{reads_of, writes_of}
-use Rattle.dcc_ir.specs.Demand.{is_assignment, uses_of, makes_of, tests_of}
+use Rattle.dcc_ir.specs.Demand.{is_assignment, tests_of}
 use Rattle.dcc_ir.specs.Families.{Family, IsClosed, IsWithout, done, stays, goes, WritesNone, IsBlockWithout, IsGraphWithout}
 use Rattle.dcc_ir.specs.WellFormed.{is_stmt, is_exit, is_block, IsGraph, IsProgram}
 use Rattle.dcc_ir.specs.Flow.{targets}
-use Rattle.dcc_ir.specs.Run.{State, Activation, activation, setting, putting, passing, stmt_step, value_in, graph_at}
-use Rattle.dcc_ir.specs.Local.{Point, Halt, Over, Calls, Jumps, Returns, after_call, after_calls, switch_halt, exit_halt, local_run, halt_of}
+use Rattle.dcc_ir.specs.Run.{State, Activation, setting, putting, passing, stmt_step, value_in, graph_at}
+use Rattle.dcc_ir.specs.Local.{Point, Halt, Over, Jumps, after_call, after_calls, switch_halt, exit_halt, local_run}
 use Rattle.dcc_ir.specs.Keeps.{KeepsRuns}
-use Rattle.dcc_ir.specs.Passes.{Pass, with_values, FitIn, AgreeOutside, param_widths, EndAlike, Meet, BlocksStay, BeginAlike, OwesBegin, OwesGo}
-use Rattle.dcc_ir.proofs.PathLaws.{decided}
+use Rattle.dcc_ir.specs.Passes.{Pass, with_values, FitIn, EndAlike, Meet, BlocksStay, BeginAlike, OwesBegin, OwesGo}
 use Rattle.dcc_ir.proofs.FitLaws.{both}
 use Rattle.dcc_ir.proofs.GraphLaws.{found_entry}
 use Rattle.dcc_ir.proofs.LocationLaws.{location_same, location_itself, Contains-here, Contains-later, Contains-none, Contains-cases, location_decided}
 use Rattle.dcc_ir.proofs.ReachedLaws.{contained, found_contained, all_at}
 use Rattle.dcc_ir.proofs.ListLaws.{all_parts}
 use Rattle.dcc_ir.proofs.passes.LocalLaws.{some_same, is_running, Frame, stmt-frame}
-use Rattle.dcc_ir.proofs.passes.AgreeLaws.{AgreeOn, ReadsIn, StillOn, all_had, value-on, values-on, stuck-on, weaker-on, stmt-on}
+use Rattle.dcc_ir.proofs.passes.AgreeLaws.{AgreeOn, StillOn, all_had, value-on, values-on, stuck-on, weaker-on, stmt-on}
 use Rattle.dcc_ir.proofs.passes.Theorem.{keeps_runs}
 
 -- Lists, place by place.
@@ -316,7 +315,7 @@ module _ (p : Program) (change : Graph → Graph) (family : ℕ → Family) wher
         let it = subst (λ b. IsBlockWithout F b t.running.block) (some_same back.0 block (sym back.1 ∙ placed)) back.2 in
         let all = without-after_calls (F block) point.calls block.stmts t.running.block.stmts it.stmts in
         let rests = subst (λ r. IsWithout (F block) r t.running.rest) (sym together.first.at.rest)
-            (subst (λ r. IsWithout (F block) (after_calls point.calls block.stmts) r) (sym together.second.at.rest) all) in
+        (subst (λ r. IsWithout (F block) (after_calls point.calls block.stmts) r) (sym together.second.at.rest) all) in
         let is = All-contains IsGraph p.graphs g formed.graphs (known point.entry g found) in
         let fine = all_at (is_block g.bits (length g.blocks)) g.blocks block is.blocks (contained g.blocks point.place block placed) in
         let stmts = (both (list_all (is_stmt g.bits) block.stmts) (is_exit g.bits (length g.blocks) block.exit) fine).0 in (
