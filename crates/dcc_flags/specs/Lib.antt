@@ -1,3 +1,4 @@
 pub mod Reaching
 pub mod Sources
 pub mod Folding
+pub mod Form

@@ -8,6 +8,7 @@ mod kept;
 mod reaching;
 mod sources;
 mod uses;
+mod scratch;
 mod writer;
 
 pub use fold::fold_flags;

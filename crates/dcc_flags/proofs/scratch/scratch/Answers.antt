@@ -1,0 +1,6 @@
+use Rattle.std.proofs.Common.{refl}
+use Rattle.dcc_flags.proofs.PassLaws.{may_stand}
+use Rattle.dcc_flags.proofs.scratch.scratch.Goals as goal
+
+pub returns : goal.returns
+returns c = refl
