@@ -1,2 +1,4 @@
 pub mod FormLaws
 pub mod PassLaws
+pub mod ExprLaws
+pub mod TakenLaws

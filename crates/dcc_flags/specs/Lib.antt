@@ -2,3 +2,4 @@ pub mod Reaching
 pub mod Sources
 pub mod Folding
 pub mod Form
+pub mod Fresh
