@@ -442,3 +442,219 @@ abbrev pub after_sets : List Stmt → Scene → Scene
 after_sets [] s = s
 after_sets (Set l e ∷ rest) s = after_sets rest (record s { values = with_value s.values l (value_of s e) })
 after_sets (stmt ∷ rest) s = after_sets rest s
+
+after_bits : (cs : List Stmt) (s : Scene) → (after_sets cs s).bits ≡ s.bits
+after_bits [] s = refl
+after_bits (Set l e ∷ rest) s = after_bits rest (record s { values = with_value s.values l (value_of s e) })
+after_bits (Fetch l w a ∷ rest) s = after_bits rest s
+after_bits (Store w a e ∷ rest) s = after_bits rest s
+after_bits (Div l e ∷ rest) s = after_bits rest s
+after_bits (Call r n a d ∷ rest) s = after_bits rest s
+after_bits (Dos n p a ∷ rest) s = after_bits rest s
+
+after_base : (cs : List Stmt) (s : Scene) → (after_sets cs s).base ≡ s.base
+after_base [] s = refl
+after_base (Set l e ∷ rest) s = after_base rest (record s { values = with_value s.values l (value_of s e) })
+after_base (Fetch l w a ∷ rest) s = after_base rest s
+after_base (Store w a e ∷ rest) s = after_base rest s
+after_base (Div l e ∷ rest) s = after_base rest s
+after_base (Call r n a d ∷ rest) s = after_base rest s
+after_base (Dos n p a ∷ rest) s = after_base rest s
+
+after_memory : (cs : List Stmt) (s : Scene) → (after_sets cs s).memory ≡ s.memory
+after_memory [] s = refl
+after_memory (Set l e ∷ rest) s = after_memory rest (record s { values = with_value s.values l (value_of s e) })
+after_memory (Fetch l w a ∷ rest) s = after_memory rest s
+after_memory (Store w a e ∷ rest) s = after_memory rest s
+after_memory (Div l e ∷ rest) s = after_memory rest s
+after_memory (Call r n a d ∷ rest) s = after_memory rest s
+after_memory (Dos n p a ∷ rest) s = after_memory rest s
+
+after_append : (xs ys : List Stmt) (s : Scene) → after_sets (xs ++ ys) s ≡ after_sets ys (after_sets xs s)
+after_append [] ys s = refl
+after_append (Set l e ∷ rest) ys s = after_append rest ys (record s { values = with_value s.values l (value_of s e) })
+after_append (Fetch l w a ∷ rest) ys s = after_append rest ys s
+after_append (Store w a e ∷ rest) ys s = after_append rest ys s
+after_append (Div l e ∷ rest) ys s = after_append rest ys s
+after_append (Call r n a d ∷ rest) ys s = after_append rest ys s
+after_append (Dos n p a ∷ rest) ys s = after_append rest ys s
+
+-- copies leave all else
+module _ (low : ℕ) (bits : List ℕ) where
+  not_written : (n : ℕ) (l : Loc) → is_between low (length bits) (Temp n) ≡ true → is_between low (length bits) l ≡ false → same_location l (Temp n) ≡ false
+  not_written n (Temp m) there none = elim (decided (m == n)) [
+    | inl e ↦ absurd (true≢false (sym there ∙ ap (λ k. is_between low (length bits) (Temp k)) (sym (eqb-true m n e)) ∙ none))
+    | inr f ↦ f
+  ]
+  not_written n (Half r h) there none = refl
+  not_written n (Flag f) there none = refl
+  not_written n (Cell k h) there none = refl
+
+  pub sets_same : (cs : List Stmt) → list_all (is_copy low bits) cs ≡ true → (s : Scene) (l : Loc) → is_between low (length bits) l ≡ false → (after_sets cs s).values l ≡ s.values l
+  sets_same [] ok s l none = refl
+  sets_same (Set (Temp n) e ∷ cs) ok s l none =
+      let parts = both (is_copy low bits (Set (Temp n) e)) (list_all (is_copy low bits) cs) ok in
+      let two = both (nat_le low n) (is_stmt bits (Set (Temp n) e)) parts.0 in
+      let there = both (is_location bits (Temp n)) (is_expr_of bits (location_width bits (Temp n)) e) two.1 in
+      sets_same cs parts.1 (record s { values = with_value s.values (Temp n) (value_of s e) }) l none
+      ∙ ap (λ b. if b then value_of s e else s.values l) (not_written n l (and_both (nat_le low n) (nat_lt n (length bits)) two.0 there.0) none)
+  sets_same (Set (Half r h) e ∷ cs) ok s l none = absurd (true≢false (sym ok))
+  sets_same (Set (Flag f) e ∷ cs) ok s l none = absurd (true≢false (sym ok))
+  sets_same (Set (Cell k h) e ∷ cs) ok s l none = absurd (true≢false (sym ok))
+  sets_same (Fetch x w a ∷ cs) ok s l none = absurd (true≢false (sym ok))
+  sets_same (Store w a e ∷ cs) ok s l none = absurd (true≢false (sym ok))
+  sets_same (Div x e ∷ cs) ok s l none = absurd (true≢false (sym ok))
+  sets_same (Call r n a d ∷ cs) ok s l none = absurd (true≢false (sym ok))
+  sets_same (Dos n p a ∷ cs) ok s l none = absurd (true≢false (sym ok))
+
+-- the value after the copies is that of the expression before
+abbrev HasValue : List ℕ → Expr → Taken → Type 0
+HasValue bits e t = (s : Scene) (more : List ℕ) → s.bits ≡ (bits ++ t.widths) ++ more → value_of (after_sets t.copies s) t.value ≡ value_of s e
+
+copied_value : (bits : List ℕ) (e : Expr) → HasValue bits e (copied bits e)
+copied_value bits e s more is = ap (λ b. if b then value_of s e else s.values (Temp (length bits))) (eq-eqb (length bits) (length bits) refl)
+
+value_if : (bits : List ℕ) (e : Expr) (b : Bool) (t u : Taken) → HasValue bits e t → HasValue bits e u → HasValue bits e (if b then t else u)
+value_if bits e true t u h k = h
+value_if bits e false t u h k = k
+
+-- an old location is no fresh temporary, nor is a temporary below
+old_outside : (bits more : List ℕ) (l : Loc) → is_location bits l ≡ true → is_between (length bits) (length more) l ≡ false
+old_outside bits more (Half r h) ok = refl
+old_outside bits more (Flag f) ok = refl
+old_outside bits more (Cell n h) ok = refl
+old_outside bits more (Temp n) ok = below n (length bits) (length more) (ltb-true n (length bits) ok)
+  where
+    below : (n low high : ℕ) → n < low → (nat_le low n && nat_lt n high) ≡ false
+    below n low high less = ap (λ b. b && nat_lt n high) (not_le low n less)
+      where
+        not_le : (a b : ℕ) → b < a → nat_le a b ≡ false
+        not_le a b less = grind arith
+
+temp_outside : (low high n : ℕ) → n < low → is_between low high (Temp n) ≡ false
+temp_outside low high n less = ap (λ b. b && nat_lt n high) (not_le low n less)
+  where
+    not_le : (a b : ℕ) → b < a → nat_le a b ≡ false
+    not_le a b less = grind arith
+
+-- the widths in the scene
+scene_width : (bits : List ℕ) (e : Expr) (t : Taken) (s : Scene) (more : List ℕ) → is_expr bits e ≡ true → IsTaken bits e t → s.bits ≡ (bits ++ t.widths) ++ more → width_of s.bits t.value ≡ width_of s.bits e
+scene_width bits e t s more ok h is =
+    let a = expr_more (bits ++ t.widths) more t.value h.value.formed in
+    let assoc : (bits ++ t.widths) ++ more ≡ bits ++ (t.widths ++ more) = append_assoc bits t.widths more in
+    let b = expr_more bits (t.widths ++ more) e ok in
+    ap (λ l. width_of l t.value) is ∙ a.width ∙ h.value.width ∙ sym b.width ∙ ap (λ l. width_of l e) (sym assoc) ∙ ap (λ l. width_of l e) (sym is)
+
+-- two expressions, one copied after the other
+record TwoValues (bits : List ℕ) (a b : Expr) (t u : Taken) (s : Scene) : Type 0 where
+  first : value_of (after_sets (t.copies ++ u.copies) s) t.value ≡ value_of s a
+  second : value_of (after_sets (t.copies ++ u.copies) s) u.value ≡ value_of s b
+  first_width : width_of s.bits t.value ≡ width_of s.bits a
+  second_width : width_of s.bits u.value ≡ width_of s.bits b
+
+two_values : (bits : List ℕ) (a b : Expr) (t u : Taken) → is_expr bits a ≡ true → is_expr bits b ≡ true → IsTaken bits a t → IsTaken (bits ++ t.widths) b u → HasValue bits a t → HasValue (bits ++ t.widths) b u →
+    (s : Scene) (more : List ℕ) → s.bits ≡ (bits ++ (t.widths ++ u.widths)) ++ more → TwoValues bits a b t u s
+two_values bits a b t u ok_a ok_b h k first second s more is =
+    let assoc : (bits ++ t.widths) ++ u.widths ≡ bits ++ (t.widths ++ u.widths) = append_assoc bits t.widths u.widths in
+    let s_all : s.bits ≡ ((bits ++ t.widths) ++ u.widths) ++ more = is ∙ ap (λ l. l ++ more) (sym assoc) in
+    let s_first : s.bits ≡ (bits ++ t.widths) ++ (u.widths ++ more) = s_all ∙ append_assoc (bits ++ t.widths) u.widths more in
+    let mid = after_sets t.copies s in
+    let end = after_append t.copies u.copies s in
+    let mid_bits : mid.bits ≡ ((bits ++ t.widths) ++ u.widths) ++ more = after_bits t.copies s ∙ s_all in
+    let b_more = expr_more bits t.widths b ok_b in
+    record {
+      first = ap (λ (x : Scene). value_of x t.value) end
+          ∙ over_value (length bits) mid (after_sets u.copies mid) (after_bits u.copies mid) (length (bits ++ t.widths))
+          (λ n low high. sets_same (length (bits ++ t.widths)) ((bits ++ t.widths) ++ u.widths) u.copies k.copies mid (Temp n) (temp_outside (length (bits ++ t.widths)) (length ((bits ++ t.widths) ++ u.widths)) n high))
+          t.value h.over
+          ∙ first s (u.widths ++ more) s_first;
+      second = ap (λ (x : Scene). value_of x u.value) end ∙ second mid more mid_bits
+          ∙ old_value bits s mid (after_bits t.copies s) (after_base t.copies s) (after_memory t.copies s)
+          (λ l there. sets_same (length bits) (bits ++ t.widths) t.copies h.copies s l (old_outside bits (bits ++ t.widths) l there)) b ok_b;
+      first_width = scene_width bits a t s (u.widths ++ more) ok_a h s_first;
+      second_width = scene_width (bits ++ t.widths) b u s more b_more.formed k s_all;
+    }
+
+pub taken_value : (bits : List ℕ) (e : Expr) → list_all is_width bits ≡ true → is_expr bits e ≡ true → HasValue bits e (taken bits e)
+taken_value bits (Const w n) all ok = λ s more is. refl
+taken_value bits (Get l) all ok = copied_value bits (Get l)
+taken_value bits (Load w a) all ok = copied_value bits (Load w a)
+taken_value bits (Unary o w a) all ok =
+    value_if bits (Unary o w a) (has_truth (Unary o w a)) _ _
+    (λ s more is. ap (unary_value o w) (taken_value bits a all (unary_formed bits o w a ok).inner s more is)) (copied_value bits (Unary o w a))
+taken_value bits (Binary o w a b) all ok =
+    let f = binary_formed bits o w a b ok in
+    let t = taken bits a in
+    let u = taken (bits ++ t.widths) b in
+    let h = taken_is bits a all f.left in
+    let all' = widths_more bits t.widths all h.widths in
+    let b_ok = (expr_more bits t.widths b f.right).formed in
+    value_if bits (Binary o w a b) (has_truth (Binary o w a b)) _ _
+    (λ s more is.
+    let v = two_values bits a b t u f.left f.right h (taken_is (bits ++ t.widths) b all' b_ok) (taken_value bits a all f.left) (taken_value (bits ++ t.widths) b all' b_ok) s more is in
+    ap₂ (binary_value o w) v.first v.second)
+    (copied_value bits (Binary o w a b))
+taken_value bits (Widen true w a) all ok =
+    let inner = (within_formed bits w a (λ n. nat_lt n w) ok).inner in
+    value_if bits (Widen true w a) (has_truth a) _ _
+    (λ s more is. ap₂ (λ x n. pattern_at w (signed_at x n))
+    (ap (λ l. width_of l (taken bits a).value) (after_bits (taken bits a).copies s) ∙ scene_width bits a (taken bits a) s more inner (taken_is bits a all inner) is)
+    (taken_value bits a all inner s more is))
+    (copied_value bits (Widen true w a))
+taken_value bits (Widen false w a) all ok =
+    value_if bits (Widen false w a) (has_truth a) _ _
+    (λ s more is. taken_value bits a all (within_formed bits w a (λ n. nat_lt n w) ok).inner s more is) (copied_value bits (Widen false w a))
+taken_value bits (Part w k a) all ok =
+    value_if bits (Part w k a) (has_truth a) _ _
+    (λ s more is. ap (λ n. n / 2 ^ k % 2 ^ w) (taken_value bits a all (within_formed bits w a (λ n. nat_le (k + w) n) ok).inner s more is)) (copied_value bits (Part w k a))
+taken_value bits (Join a b) all ok =
+    let f = join_formed bits a b ok in
+    let t = taken bits a in
+    let u = taken (bits ++ t.widths) b in
+    let h = taken_is bits a all f.upper in
+    let all' = widths_more bits t.widths all h.widths in
+    let b_ok = (expr_more bits t.widths b f.lower).formed in
+    value_if bits (Join a b) (has_truth (Join a b)) _ _
+    (λ s more is.
+    let v = two_values bits a b t u f.upper f.lower h (taken_is (bits ++ t.widths) b all' b_ok) (taken_value bits a all f.upper) (taken_value (bits ++ t.widths) b all' b_ok) s more is in
+    let w = ap (λ l. width_of l u.value) (after_bits (t.copies ++ u.copies) s) ∙ v.second_width in
+    let x = v.first in
+    let y = v.second in
+    ap₂ (λ m n. m + n) (ap₂ (λ m n. m * 2 ^ n) x w) y)
+    (copied_value bits (Join a b))
+taken_value bits (Choose x a b) all ok = λ s more is.
+    let f = choose_formed bits x a b ok in
+    let t = taken bits x in
+    let u = taken (bits ++ t.widths) a in
+    let v = taken (bits ++ t.widths ++ u.widths) b in
+    let h = taken_is bits x all f.tested in
+    let all' = widths_more bits t.widths all h.widths in
+    let a_ok = (expr_more bits t.widths a f.one).formed in
+    let k = taken_is (bits ++ t.widths) a all' a_ok in
+    let all'' = widths_more (bits ++ t.widths) u.widths all' k.widths in
+    let b_ok = (expr_more (bits ++ t.widths) u.widths b (expr_more bits t.widths b f.other).formed).formed in
+    let l = taken_is (bits ++ t.widths ++ u.widths) b all'' b_ok in
+    let assoc : bits ++ (t.widths ++ u.widths ++ v.widths) ≡ (bits ++ t.widths ++ u.widths) ++ v.widths = sym (append_assoc bits (t.widths ++ u.widths) v.widths) ∙ ap (λ z. z ++ v.widths) (sym (append_assoc bits t.widths u.widths)) in
+    let s_all : s.bits ≡ ((bits ++ t.widths ++ u.widths) ++ v.widths) ++ more = is ∙ ap (λ z. z ++ more) assoc in
+    let s_two : s.bits ≡ (bits ++ (t.widths ++ u.widths)) ++ (v.widths ++ more) = s_all ∙ append_assoc (bits ++ t.widths ++ u.widths) v.widths more ∙ ap (λ z. z ++ (v.widths ++ more)) (append_assoc bits t.widths u.widths) in
+    let first = two_values bits x a t u f.tested f.one h k (taken_value bits x all f.tested) (taken_value (bits ++ t.widths) a all' a_ok) s (v.widths ++ more) s_two in
+    let mid = after_sets (t.copies ++ u.copies) s in
+    let end = after_append (t.copies ++ u.copies) v.copies s in
+    let mid_bits : mid.bits ≡ ((bits ++ t.widths ++ u.widths) ++ v.widths) ++ more = after_bits (t.copies ++ u.copies) s ∙ s_all in
+    let top = length (bits ++ t.widths ++ u.widths) in
+    let one = length-append bits t.widths in
+    let two = length-append (bits ++ t.widths) u.widths in
+    let still = λ (n : ℕ) (high : n < top). sets_same top ((bits ++ t.widths ++ u.widths) ++ v.widths) v.copies l.copies mid (Temp n) (temp_outside top (length ((bits ++ t.widths ++ u.widths) ++ v.widths)) n high) in
+    let x_over = over_wider (length bits) (length (bits ++ t.widths)) 0 top (omega arith) (omega arith) t.value h.over in
+    let a_over = over_wider (length (bits ++ t.widths)) top 0 top (omega arith) (omega arith) u.value k.over in
+    let vx = ap (λ (z : Scene). value_of z t.value) end ∙ over_value 0 mid (after_sets v.copies mid) (after_bits v.copies mid) top (λ n low high. still n high) t.value x_over ∙ first.first in
+    let va = ap (λ (z : Scene). value_of z u.value) end ∙ over_value 0 mid (after_sets v.copies mid) (after_bits v.copies mid) top (λ n low high. still n high) u.value a_over ∙ first.second in
+    let copies_all = all_append (is_copy (length bits) (bits ++ t.widths ++ u.widths)) t.copies u.copies (copies_more (length bits) (bits ++ t.widths) u.widths t.copies h.copies)
+        (copies_lower (length (bits ++ t.widths)) (length bits) (bits ++ t.widths ++ u.widths) u.copies (omega arith) k.copies) in
+    let vb = ap (λ (z : Scene). value_of z v.value) end ∙ taken_value (bits ++ t.widths ++ u.widths) b all'' b_ok mid more mid_bits
+        ∙ old_value bits s mid (after_bits (t.copies ++ u.copies) s) (after_base (t.copies ++ u.copies) s) (after_memory (t.copies ++ u.copies) s)
+        (λ y there. sets_same (length bits) (bits ++ t.widths ++ u.widths) (t.copies ++ u.copies) copies_all s y (old_outside bits (bits ++ t.widths ++ u.widths) y there)) b f.other in
+    let last = after_sets (t.copies ++ u.copies ++ v.copies) s in
+    ap (λ n. if n == 1 then value_of last u.value else value_of last v.value) vx
+    ∙ ap₂ (λ y z. if value_of s x == 1 then y else z) va vb
+taken_value bits (Address d) all ok = copied_value bits (Address d)
