@@ -205,7 +205,7 @@ module _ (bits bits' : List ℕ) where
 
 -- More temporaries.
 
-location_more : (bits fresh : List ℕ) (l : Loc) → is_location bits l ≡ true → is_location (bits ++ fresh) l ≡ true
+pub location_more : (bits fresh : List ℕ) (l : Loc) → is_location bits l ≡ true → is_location (bits ++ fresh) l ≡ true
 location_more bits fresh (Half r h) ok = refl
 location_more bits fresh (Flag f) ok = refl
 location_more bits fresh (Cell n h) ok = refl

@@ -2,3 +2,4 @@ pub mod FormLaws
 pub mod PassLaws
 pub mod ExprLaws
 pub mod TakenLaws
+pub mod SpotLaws

@@ -102,7 +102,7 @@ module _ (bits : List ℕ) (all : list_all is_width bits ≡ true) where
 -- Copies.
 
 -- a statement sets a fresh temporary, from one number to below another, to a well-formed expression
-abbrev is_copy : ℕ → List ℕ → Stmt → Bool
+abbrev pub is_copy : ℕ → List ℕ → Stmt → Bool
 is_copy low bits (Set (Temp n) e) = nat_le low n && is_stmt bits (Set (Temp n) e)
 is_copy low bits stmt = false
 
@@ -127,16 +127,16 @@ copy_more low bits fresh (Div l e) ok = absurd (true≢false (sym ok))
 copy_more low bits fresh (Call r n a d) ok = absurd (true≢false (sym ok))
 copy_more low bits fresh (Dos n p a) ok = absurd (true≢false (sym ok))
 
-copies_more : (low : ℕ) (bits fresh : List ℕ) (stmts : List Stmt) → list_all (is_copy low bits) stmts ≡ true → list_all (is_copy low (bits ++ fresh)) stmts ≡ true
+pub copies_more : (low : ℕ) (bits fresh : List ℕ) (stmts : List Stmt) → list_all (is_copy low bits) stmts ≡ true → list_all (is_copy low (bits ++ fresh)) stmts ≡ true
 copies_more low bits fresh [] ok = refl
 copies_more low bits fresh (stmt ∷ stmts) ok =
     let parts = both (is_copy low bits stmt) (list_all (is_copy low bits) stmts) ok in
     and_both (is_copy low (bits ++ fresh) stmt) (list_all (is_copy low (bits ++ fresh)) stmts) (copy_more low bits fresh stmt parts.0) (copies_more low bits fresh stmts parts.1)
 
-le_true : (a b : ℕ) → a ≤ b → nat_le a b ≡ true
+pub le_true : (a b : ℕ) → a ≤ b → nat_le a b ≡ true
 le_true a b less = grind arith
 
-le_from : (a b : ℕ) → nat_le a b ≡ true → a ≤ b
+pub le_from : (a b : ℕ) → nat_le a b ≡ true → a ≤ b
 le_from a b e = grind arith
 
 copy_lower : (low lower : ℕ) (bits : List ℕ) (stmt : Stmt) → lower ≤ low → is_copy low bits stmt ≡ true → is_copy lower bits stmt ≡ true
@@ -159,7 +159,7 @@ copies_lower low lower bits (stmt ∷ stmts) less ok =
     let parts = both (is_copy low bits stmt) (list_all (is_copy low bits) stmts) ok in
     and_both (is_copy lower bits stmt) (list_all (is_copy lower bits) stmts) (copy_lower low lower bits stmt less parts.0) (copies_lower low lower bits stmts less parts.1)
 
-all_append : {A : Type 0} (f : A → Bool) (xs ys : List A) → list_all f xs ≡ true → list_all f ys ≡ true → list_all f (xs ++ ys) ≡ true
+pub all_append : {A : Type 0} (f : A → Bool) (xs ys : List A) → list_all f xs ≡ true → list_all f ys ≡ true → list_all f (xs ++ ys) ≡ true
 all_append f [] ys p q = q
 all_append f (x ∷ xs) ys p q =
     let parts = both (f x) (list_all f xs) p in
@@ -283,7 +283,7 @@ is_if : (bits : List ℕ) (e : Expr) (b : Bool) (t u : Taken) → IsTaken bits e
 is_if bits e true t u h k = h
 is_if bits e false t u h k = k
 
-widths_more : (xs ys : List ℕ) → list_all is_width xs ≡ true → list_all is_width ys ≡ true → list_all is_width (xs ++ ys) ≡ true
+pub widths_more : (xs ys : List ℕ) → list_all is_width xs ≡ true → list_all is_width ys ≡ true → list_all is_width (xs ++ ys) ≡ true
 widths_more xs ys p q = all_append is_width xs ys p q
 
 -- a choice with another last arm
@@ -443,7 +443,7 @@ after_sets [] s = s
 after_sets (Set l e ∷ rest) s = after_sets rest (record s { values = with_value s.values l (value_of s e) })
 after_sets (stmt ∷ rest) s = after_sets rest s
 
-after_bits : (cs : List Stmt) (s : Scene) → (after_sets cs s).bits ≡ s.bits
+pub after_bits : (cs : List Stmt) (s : Scene) → (after_sets cs s).bits ≡ s.bits
 after_bits [] s = refl
 after_bits (Set l e ∷ rest) s = after_bits rest (record s { values = with_value s.values l (value_of s e) })
 after_bits (Fetch l w a ∷ rest) s = after_bits rest s
@@ -452,7 +452,7 @@ after_bits (Div l e ∷ rest) s = after_bits rest s
 after_bits (Call r n a d ∷ rest) s = after_bits rest s
 after_bits (Dos n p a ∷ rest) s = after_bits rest s
 
-after_base : (cs : List Stmt) (s : Scene) → (after_sets cs s).base ≡ s.base
+pub after_base : (cs : List Stmt) (s : Scene) → (after_sets cs s).base ≡ s.base
 after_base [] s = refl
 after_base (Set l e ∷ rest) s = after_base rest (record s { values = with_value s.values l (value_of s e) })
 after_base (Fetch l w a ∷ rest) s = after_base rest s
@@ -461,7 +461,7 @@ after_base (Div l e ∷ rest) s = after_base rest s
 after_base (Call r n a d ∷ rest) s = after_base rest s
 after_base (Dos n p a ∷ rest) s = after_base rest s
 
-after_memory : (cs : List Stmt) (s : Scene) → (after_sets cs s).memory ≡ s.memory
+pub after_memory : (cs : List Stmt) (s : Scene) → (after_sets cs s).memory ≡ s.memory
 after_memory [] s = refl
 after_memory (Set l e ∷ rest) s = after_memory rest (record s { values = with_value s.values l (value_of s e) })
 after_memory (Fetch l w a ∷ rest) s = after_memory rest s
@@ -508,7 +508,7 @@ module _ (low : ℕ) (bits : List ℕ) where
   sets_same (Dos n p a ∷ cs) ok s l none = absurd (true≢false (sym ok))
 
 -- the value after the copies is that of the expression before
-abbrev HasValue : List ℕ → Expr → Taken → Type 0
+abbrev pub HasValue : List ℕ → Expr → Taken → Type 0
 HasValue bits e t = (s : Scene) (more : List ℕ) → s.bits ≡ (bits ++ t.widths) ++ more → value_of (after_sets t.copies s) t.value ≡ value_of s e
 
 copied_value : (bits : List ℕ) (e : Expr) → HasValue bits e (copied bits e)
@@ -519,7 +519,7 @@ value_if bits e true t u h k = h
 value_if bits e false t u h k = k
 
 -- an old location is no fresh temporary, nor is a temporary below
-old_outside : (bits more : List ℕ) (l : Loc) → is_location bits l ≡ true → is_between (length bits) (length more) l ≡ false
+pub old_outside : (bits more : List ℕ) (l : Loc) → is_location bits l ≡ true → is_between (length bits) (length more) l ≡ false
 old_outside bits more (Half r h) ok = refl
 old_outside bits more (Flag f) ok = refl
 old_outside bits more (Cell n h) ok = refl
@@ -531,7 +531,7 @@ old_outside bits more (Temp n) ok = below n (length bits) (length more) (ltb-tru
         not_le : (a b : ℕ) → b < a → nat_le a b ≡ false
         not_le a b less = grind arith
 
-temp_outside : (low high n : ℕ) → n < low → is_between low high (Temp n) ≡ false
+pub temp_outside : (low high n : ℕ) → n < low → is_between low high (Temp n) ≡ false
 temp_outside low high n less = ap (λ b. b && nat_lt n high) (not_le low n less)
   where
     not_le : (a b : ℕ) → b < a → nat_le a b ≡ false
