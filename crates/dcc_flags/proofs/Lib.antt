@@ -3,3 +3,4 @@ pub mod PassLaws
 pub mod ExprLaws
 pub mod TakenLaws
 pub mod SpotLaws
+pub mod PlanLaws

@@ -1,5 +1,5 @@
 use Rattle.std.proofs.Common.{refl}
-use Rattle.dcc_flags.proofs.SpotLaws.{jump_still}
+use Rattle.dcc_flags.proofs.PlanLaws.{Plan}
 use Rattle.dcc_flags.proofs.scratch.scratch.Goals as goal
 
 pub returns : goal.returns
