@@ -4,3 +4,5 @@ pub mod ExprLaws
 pub mod TakenLaws
 pub mod SpotLaws
 pub mod PlanLaws
+pub mod HoldLaws
+pub mod MeetLaws

@@ -57,19 +57,19 @@ reads_placed bits (Address d) ok = All-nil (λ l. is_location bits l ≡ true)
 
 -- Definitions.
 
-same_definition : Definition → Definition → Bool
+pub same_definition : Definition → Definition → Bool
 same_definition Start Start = true
 same_definition (At x j) (At y k) = (x == y) && (j == k)
 same_definition a b = false
 
-same_is : (a b : Definition) → same_definition a b ≡ true → a ≡ b
+pub same_is : (a b : Definition) → same_definition a b ≡ true → a ≡ b
 unfolding same_definition
 same_is Start Start e = refl
 same_is (At x j) (At y k) e = let parts = both (x == y) (j == k) e in ap₂ At (eqb-true x y parts.0) (eqb-true j k parts.1)
 same_is Start (At y k) e = absurd (true≢false (sym e))
 same_is (At x j) Start e = absurd (true≢false (sym e))
 
-other_is : (a b : Definition) → same_definition a b ≡ false → a ≢ b
+pub other_is : (a b : Definition) → same_definition a b ≡ false → a ≢ b
 unfolding same_definition
 other_is a b e same = true≢false (sym (itself b) ∙ ap (λ x. same_definition x b) (sym same) ∙ e)
   where
@@ -83,7 +83,7 @@ pub record SetsFlag (f : FlagName) (stmt : Stmt) : Type 0 where
   pub is : stmt ≡ Set (Flag f) value
 
 -- a flag has one bit, and only a Set has one
-sets_of : (bits : List ℕ) (f : FlagName) (stmt : Stmt) → is_stmt bits stmt ≡ true → has_result f stmt ≡ false → defines f stmt ≡ true → SetsFlag f stmt
+pub sets_of : (bits : List ℕ) (f : FlagName) (stmt : Stmt) → is_stmt bits stmt ≡ true → has_result f stmt ≡ false → defines f stmt ≡ true → SetsFlag f stmt
 sets_of bits f (Set (Flag g) e) ok none yes' =
     let one : f ≡ g = flag_same f g (eqb-true (flag_number f) (flag_number g) (or_nil (flag_number f == flag_number g) yes')) in
     record { value = e; is = ap (λ x. Set (Flag x) e) (sym one) }

@@ -99,6 +99,15 @@ module _ (kept : Kept) where
   walked_later (x ∷ stmts) (suc j) zero w le = absurd (omega arith)
   walked_later (x ∷ stmts) (suc j) (suc k) w le = walked_later stmts j k (past kept w x) (omega arith)
 
+  -- the temporaries of each spot are the first of those at the end
+  pub walked_front : (stmts : List Stmt) (k : ℕ) (w : Spot) → (more : List ℕ) × (w.bits ++ (stmts_folded kept w.bits w.choices stmts).widths ≡ (walked kept w stmts k).bits ++ more)
+  walked_front stmts zero w = ((stmts_folded kept w.bits w.choices stmts).widths, refl)
+  walked_front [] (suc k) w = ([], refl)
+  walked_front (x ∷ stmts) (suc k) w =
+      let later = walked_front stmts k (past kept w x) in
+      let f = stmt_folded kept w.bits w.choices x in
+      (later.0, sym (append_assoc w.bits f.widths (stmts_folded kept (w.bits ++ f.widths) f.choices stmts).widths) ∙ later.1)
+
 module _ (old : List ℕ) (kept : Kept) where
   -- what is chosen for a flag: a kept one itself, another an expression of one bit over fresh temporaries
   pub record Told (bits : List ℕ) (f : FlagName) (e : Expr) : Type 0 where
