@@ -1,5 +1,5 @@
 -- The local runs of a block and of the block in which flags are folded meet.
-use Rattle.std.proofs.Common.{◌≡◌, ◌≢◌, ℕ, zero, suc, ◌+◌, ◌/◌, ◌%◌, ◌<◌, ◌≤◌, Bool, true, false, cond, ◌&&◌, ◌||◌, not, ◌⊎◌, inl, inr, List, [], ◌∷◌, ◌++◌, length, drop, Option, Some, None, refl, sym, ap, ap₂, ◌∙◌, subst, true≢false, map, flat_map, slice_get, Contains, eqb-true, eq-eqb, ltb-true, lt-ltb, arith}
+use Rattle.std.proofs.Common.{◌≡◌, ◌≢◌, ℕ, zero, suc, ◌+◌, ◌/◌, ◌%◌, ◌<◌, ◌≤◌, Bool, true, false, cond, ◌&&◌, ◌||◌, not, ◌⊎◌, inl, inr, List, [], ◌∷◌, ◌++◌, length, drop, Option, Some, None, refl, sym, ap, ap₂, ◌∙◌, subst, true≢false, map, flat_map, slice_get, Contains, eqb-true, eq-eqb, ltb-true, lt-ltb, arith, append-nil}
 use Rattle.std.specs.Prelude.{if◌then◌else◌, ◌==◌, nat_lt, nat_le, option_map, option_to_list, All}
 use Rattle.std.specs.List.{list_all, list_any}
 use Rattle.std.proofs.lemmas.List.Elements.{All-nil, All-cons}
@@ -14,21 +14,50 @@ use Rattle.dcc_ir.specs.Location.{location_width, Values, with_value}
 use Rattle.dcc_ir.specs.Value.{Scene, value_of, division_at, division_of, bytes_at}
 use Rattle.dcc_ir.specs.Dos.{dos_string}
 use Rattle.dcc_ir.specs.WellFormed.{is_stored_width, is_location, is_expr, is_expr_of, is_dividing, is_division, is_byte_place, is_stmt, IsGraph}
-use Rattle.dcc_ir.specs.Use.{reads_of, exprs_of, writes_of}
+use Rattle.dcc_ir.specs.Use.{parts_of, got_by, reads_of, exprs_of, writes_of}
 use Rattle.dcc_ir.specs.Live.{is_among, reads, block_in, follows}
 use Rattle.dcc_ir.specs.Joinable.{next_exprs}
-use Rattle.dcc_ir.specs.Run.{State, scene_of, value_in, ended, stuck, setting, storing, dividing, happening, writing, taking, keyed, argument_in, dos_step, stmt_step}
+use Rattle.dcc_ir.specs.Run.{State, is_call, scene_of, value_in, ended, stuck, setting, storing, dividing, happening, writing, taking, keyed, argument_in, dos_step, stmt_step}
 use Rattle.dcc_ir.specs.Passes.{AgreeOutside}
 use Rattle.dcc_ir.proofs.FitLaws.{both}
+use Rattle.std.proofs.lemmas.List.Concat.{flat_map-append}
 use Rattle.dcc_ir.proofs.PathLaws.{decided}
 use Rattle.dcc_ir.proofs.FitStates.{IsFit, scene-fits}
-use Rattle.dcc_ir.proofs.LocationLaws.{Contains-here, Contains-later, contains_among}
+use Rattle.dcc_ir.proofs.LocationLaws.{Contains-here, Contains-later, Contains-none, Contains-cases, contains_among, among_contains}
 use Rattle.dcc_flags.specs.declared.kept.Kept.{Kept}
 use Rattle.dcc_flags.specs.Reaching.{Definition, defines, chooses, lets_through, rest_at, Reaches, passes, reads_at, has_result, IsKept}
 use Rattle.dcc_flags.specs.Folding.{is_kept, Choices, choice, with_choice, with_choices, stmt_with_choices, taken, Folded, stmt_folded}
 use Rattle.dcc_flags.proofs.SpotLaws.{Spot, past, walked_more}
 use Rattle.dcc_flags.proofs.PlanLaws.{SetsFlag, sets_of, Plan}
 use Rattle.dcc_flags.proofs.HoldLaws.{old, stmts, spot, plain, Holding, Moves, holding_moves, holding_set, no_result, value_holds, stmts_fine}
+
+in_append_left : (xs ys : List Loc) (l : Loc) → Contains xs l → Contains (xs ++ ys) l
+in_append_left [] ys l c = absurd (Contains-none l c)
+in_append_left (x ∷ xs) ys l c = Contains-cases x xs l (Contains (x ∷ (xs ++ ys)) l) (λ e. subst (Contains (x ∷ (xs ++ ys))) e (Contains-here x (xs ++ ys))) (λ d. Contains-later x (xs ++ ys) l (in_append_left xs ys l d)) c
+
+in_append_right : (xs ys : List Loc) (l : Loc) → Contains ys l → Contains (xs ++ ys) l
+in_append_right [] ys l c = c
+in_append_right (x ∷ xs) ys l c = Contains-later x (xs ++ ys) l (in_append_right xs ys l c)
+
+in_flat : (es : List Expr) (e : Expr) (l : Loc) → Contains es e → Contains (reads_of e) l → Contains (flat_map reads_of es) l
+in_flat [] e l c d = absurd (Contains-none e c)
+in_flat (x ∷ es) e l c d = Contains-cases x es e (Contains (flat_map reads_of (x ∷ es)) l)
+    (λ same. in_append_left (reads_of x) (flat_map reads_of es) l (subst (λ y. Contains (reads_of y) l) (sym same) d))
+    (λ further. in_append_right (reads_of x) (flat_map reads_of es) l (in_flat es e l further d)) c
+
+-- what an operand reads, the operator reads
+in_left : (x y : Expr) (l : Loc) → Contains (reads_of x) l → Contains (flat_map got_by (parts_of x ++ parts_of y)) l
+in_left x y l d = subst (λ ls. Contains ls l) (sym (flat_map-append got_by (parts_of x) (parts_of y))) (in_append_left (reads_of x) (reads_of y) l d)
+
+in_right : (x y : Expr) (l : Loc) → Contains (reads_of y) l → Contains (flat_map got_by (parts_of x ++ parts_of y)) l
+in_right x y l d = subst (λ ls. Contains ls l) (sym (flat_map-append got_by (parts_of x) (parts_of y))) (in_append_right (reads_of x) (reads_of y) l d)
+
+argued : (a c x y z : Bool) → ((a && (x && y)) || (c && (x && z))) ≡ true → x ≡ true
+argued a c true y z ok = refl
+argued true true false y z ok = absurd (true≢false (sym ok))
+argued true false false y z ok = absurd (true≢false (sym ok))
+argued false true false y z ok = absurd (true≢false (sym ok))
+argued false false false y z ok = absurd (true≢false (sym ok))
 
 -- what stands in place of a definition, where its flag is kept and where it isn't
 abbrev pub by_kept : Bool → List ℕ → Choices → FlagName → Expr → Folded
@@ -182,3 +211,92 @@ module _ (graph after : Graph) (kept : Kept) (is : IsGraph graph) (exact : (f : 
       | inl so ↦ so
       | inr none ↦ absurd (true≢false (sym among ∙ undefined g none))
     ]
+
+    -- The step of the statement, and of the statement with the choices in it.
+    module _ (s t : State) (s_graph : s.running.graph ≡ graph) (t_graph : t.running.graph ≡ after) (fits : IsFit t) (h : Both b k s t) where
+      abbrev c : Choices
+      c = (the_spot b k).choices
+
+      moved : Both b (suc k) s t
+      moved = record { outside = h.outside; end = h.end; entry = h.entry; holds = holding_moves graph after kept is exact plan b k s.running.values t.running.values moves h.holds }
+
+      read_at : (f : FlagName) → reads (exprs_of stmt) (Flag f) ≡ true → reads_at graph f b k ≡ true
+      read_at f r = ap (λ l. reads (next_exprs l (block_in graph b).exit) (Flag f)) stays.at ∙ r
+
+      pub step_value : (e : Expr) → Contains (exprs_of stmt) e → is_expr bits e ≡ true → value_in t (with_choices c e) ≡ value_in s e
+      step_value e there ok =
+          value_holds graph after kept is exact plan b k s.running.values t.running.values h.holds (exprs_of stmt) read_at (scene_of s) (scene_of t)
+          (ap (λ (g : Graph). g.bits) s_graph) (ap (λ (g : Graph). g.bits) t_graph) h.outside.base h.outside.memory (scene-fits t fits) (λ l. refl) (λ l. refl) e there ok
+
+      -- the same of a part of an expression of the statement
+      step_part : (e x : Expr) → Contains (exprs_of stmt) e → ((l : Loc) → Contains (reads_of x) l → Contains (reads_of e) l) → is_expr bits x ≡ true → value_in t (with_choices c x) ≡ value_in s x
+      step_part e x there part ok =
+          value_holds graph after kept is exact plan b k s.running.values t.running.values h.holds (x ∷ [])
+          (λ f r. read_at f (contains_among (flat_map reads_of (exprs_of stmt)) (Flag f) (in_flat (exprs_of stmt) e (Flag f) there (part (Flag f) (from_one (Flag f) (among_contains (flat_map reads_of (x ∷ [])) (Flag f) r))))))
+          (scene_of s) (scene_of t) (ap (λ (g : Graph). g.bits) s_graph) (ap (λ (g : Graph). g.bits) t_graph) h.outside.base h.outside.memory (scene-fits t fits) (λ l. refl) (λ l. refl) x (Contains-here x []) ok
+        where
+          from_one : (l : Loc) → Contains (reads_of x ++ []) l → Contains (reads_of x) l
+          from_one l d = subst (λ ls. Contains ls l) (append-nil (reads_of x)) d
+
+  -- both statements do alike
+  pub step_both : (b k : ℕ) → plan.known b ≡ true → (stmt : Stmt) (rest : List Stmt) → is_call stmt ≡ false → Stays b k stmt rest → (s t : State) → s.running.graph ≡ graph → t.running.graph ≡ after → IsFit t → Both b k s t →
+      Both b (suc k) (stmt_step stmt s) (stmt_step (stmt_with_choices (the_spot b k).choices stmt) t)
+  step_both b k known (Set l e) rest plain_stmt stays s t sg tg fits h =
+      let stmt = Set l e in
+      let parts = both (is_location (old graph after kept is exact plan) l) (is_expr_of (old graph after kept is exact plan) (location_width (old graph after kept is exact plan) l) e) stays.fine in
+      let e_ok = (both (is_expr (old graph after kept is exact plan) e) _ parts.1).0 in
+      set_both b (suc k) l _ _ s t (written_plain b k known stmt rest stays l parts.0 (contains_among (l ∷ []) l (Contains-here l [])))
+      (step_value b k known stmt rest stays s t sg tg fits h e (Contains-here e []) e_ok) (moved b k known stmt rest stays s t sg tg fits h)
+  step_both b k known (Fetch l width a) rest plain_stmt stays s t sg tg fits h =
+      let stmt = Fetch l width a in
+      let three = both (is_location (old graph after kept is exact plan) l && is_stored_width width && (location_width (old graph after kept is exact plan) l == width)) (is_expr_of (old graph after kept is exact plan) 16 a) stays.fine in
+      let two = both (is_location (old graph after kept is exact plan) l && is_stored_width width) (location_width (old graph after kept is exact plan) l == width) three.0 in
+      let one = both (is_location (old graph after kept is exact plan) l) (is_stored_width width) two.0 in
+      let a_ok = (both (is_expr (old graph after kept is exact plan) a) _ three.1).0 in
+      set_both b (suc k) l _ _ s t (written_plain b k known stmt rest stays l one.0 (contains_among (l ∷ []) l (Contains-here l [])))
+      (ap₂ (λ m n. bytes_at m (width / 8) n) h.outside.memory (step_value b k known stmt rest stays s t sg tg fits h a (Contains-here a []) a_ok)) (moved b k known stmt rest stays s t sg tg fits h)
+  step_both b k known (Store width a e) rest plain_stmt stays s t sg tg fits h =
+      let stmt = Store width a e in
+      let two = both (is_stored_width width && is_expr_of (old graph after kept is exact plan) 16 a) (is_expr_of (old graph after kept is exact plan) width e) stays.fine in
+      let one = both (is_stored_width width) (is_expr_of (old graph after kept is exact plan) 16 a) two.0 in
+      let a_ok = (both (is_expr (old graph after kept is exact plan) a) _ one.1).0 in
+      let e_ok = (both (is_expr (old graph after kept is exact plan) e) _ two.1).0 in
+      storing_both b (suc k) width _ _ _ _ s t (step_value b k known stmt rest stays s t sg tg fits h a (Contains-here a (e ∷ [])) a_ok)
+      (step_value b k known stmt rest stays s t sg tg fits h e (Contains-later a (e ∷ []) e (Contains-here e [])) e_ok) (moved b k known stmt rest stays s t sg tg fits h)
+  step_both b k known (Div l (Binary o n x y)) rest plain_stmt stays s t sg tg fits h =
+      let stmt = Div l (Binary o n x y) in
+      let parts = both (is_location (old graph after kept is exact plan) l) (is_dividing (old graph after kept is exact plan) (location_width (old graph after kept is exact plan) l) (Binary o n x y)) stays.fine in
+      let three = both (is_division o && (n == location_width (old graph after kept is exact plan) l) && is_stored_width (location_width (old graph after kept is exact plan) l) && is_expr_of (old graph after kept is exact plan) (location_width (old graph after kept is exact plan) l) x)
+          (is_expr_of (old graph after kept is exact plan) (location_width (old graph after kept is exact plan) l) y) parts.1 in
+      let two = both (is_division o && (n == location_width (old graph after kept is exact plan) l) && is_stored_width (location_width (old graph after kept is exact plan) l)) (is_expr_of (old graph after kept is exact plan) (location_width (old graph after kept is exact plan) l) x) three.0 in
+      let x_ok = (both (is_expr (old graph after kept is exact plan) x) _ two.1).0 in
+      let y_ok = (both (is_expr (old graph after kept is exact plan) y) _ three.1).0 in
+      dividing_both b (suc k) l _ _ s t (written_plain b k known stmt rest stays l parts.0 (contains_among (l ∷ []) l (Contains-here l [])))
+      (ap₂ (division_at o n)
+      (step_part b k known stmt rest stays s t sg tg fits h (Binary o n x y) x (Contains-here (Binary o n x y) []) (λ l d. in_left x y l d) x_ok)
+      (step_part b k known stmt rest stays s t sg tg fits h (Binary o n x y) y (Contains-here (Binary o n x y) []) (λ l d. in_right x y l d) y_ok))
+      (moved b k known stmt rest stays s t sg tg fits h)
+  step_both b k known (Div l (Const n m)) rest plain_stmt stays s t sg tg fits h = absurd (true≢false (sym (both (is_location (old graph after kept is exact plan) l) false stays.fine).1))
+  step_both b k known (Div l (Get x)) rest plain_stmt stays s t sg tg fits h = absurd (true≢false (sym (both (is_location (old graph after kept is exact plan) l) false stays.fine).1))
+  step_both b k known (Div l (Load n a)) rest plain_stmt stays s t sg tg fits h = absurd (true≢false (sym (both (is_location (old graph after kept is exact plan) l) false stays.fine).1))
+  step_both b k known (Div l (Unary o n a)) rest plain_stmt stays s t sg tg fits h = absurd (true≢false (sym (both (is_location (old graph after kept is exact plan) l) false stays.fine).1))
+  step_both b k known (Div l (Widen u n a)) rest plain_stmt stays s t sg tg fits h = absurd (true≢false (sym (both (is_location (old graph after kept is exact plan) l) false stays.fine).1))
+  step_both b k known (Div l (Part n j a)) rest plain_stmt stays s t sg tg fits h = absurd (true≢false (sym (both (is_location (old graph after kept is exact plan) l) false stays.fine).1))
+  step_both b k known (Div l (Join x y)) rest plain_stmt stays s t sg tg fits h = absurd (true≢false (sym (both (is_location (old graph after kept is exact plan) l) false stays.fine).1))
+  step_both b k known (Div l (Choose x y z)) rest plain_stmt stays s t sg tg fits h = absurd (true≢false (sym (both (is_location (old graph after kept is exact plan) l) false stays.fine).1))
+  step_both b k known (Div l (Address d)) rest plain_stmt stays s t sg tg fits h = absurd (true≢false (sym (both (is_location (old graph after kept is exact plan) l) false stays.fine).1))
+  step_both b k known (Call results entry arguments depth) rest plain_stmt stays s t sg tg fits h = absurd (true≢false plain_stmt)
+  step_both b k known (Dos number None None) rest plain_stmt stays s t sg tg fits h =
+      dos_both b (suc k) number None 0 0 s t tt refl (moved b k known (Dos number None None) rest stays s t sg tg fits h)
+  step_both b k known (Dos number None (Some e)) rest plain_stmt stays s t sg tg fits h =
+      let stmt = Dos number None (Some e) in
+      dos_both b (suc k) number None _ _ s t tt (step_value b k known stmt rest stays s t sg tg fits h e (Contains-here e []) (dos_argument number e stays.fine)) (moved b k known stmt rest stays s t sg tg fits h)
+    where
+      dos_argument : (number : ℕ) (e : Expr) → is_stmt (old graph after kept is exact plan) (Dos number None (Some e)) ≡ true → is_expr (old graph after kept is exact plan) e ≡ true
+      dos_argument number e ok = argued ((number == 0x02) || (number == 0x4C)) (number == 0x09) (is_expr (old graph after kept is exact plan) e) _ _ ok
+  step_both b k known (Dos number (Some l) None) rest plain_stmt stays s t sg tg fits h =
+      let stmt = Dos number (Some l) None in
+      let parts = both ((number == 0x01) || (number == 0x08)) (is_byte_place (old graph after kept is exact plan) (Some l)) stays.fine in
+      let there = both (is_location (old graph after kept is exact plan) l) (location_width (old graph after kept is exact plan) l == 8) parts.1 in
+      dos_both b (suc k) number (Some l) 0 0 s t (written_plain b k known stmt rest stays l there.0 (contains_among (l ∷ []) l (Contains-here l []))) refl (moved b k known stmt rest stays s t sg tg fits h)
+  step_both b k known (Dos number (Some l) (Some e)) rest plain_stmt stays s t sg tg fits h = absurd (true≢false (sym stays.fine))
