@@ -37,13 +37,13 @@ at_most : (low n : ℕ) → n < low ⊎ low ≤ n
 at_most low n = cases_lt n low
 
 -- an element of a list, by what is left from it on
-drop_all : {X : Type 0} (f : X → Bool) (xs : List X) (k : ℕ) (x : X) (rest : List X) → list_all f xs ≡ true → drop k xs ≡ x ∷ rest → f x ≡ true
+pub drop_all : {X : Type 0} (f : X → Bool) (xs : List X) (k : ℕ) (x : X) (rest : List X) → list_all f xs ≡ true → drop k xs ≡ x ∷ rest → f x ≡ true
 drop_all f [] zero x rest all e = absurd (cc)
 drop_all f [] (suc k) x rest all e = absurd (cc)
 drop_all f (y ∷ ys) zero x rest all e = let same : y ≡ x = cc in subst (λ z. f z ≡ true) same (both (f y) (list_all f ys) all).0
 drop_all f (y ∷ ys) (suc k) x rest all e = drop_all f ys k x rest (both (f y) (list_all f ys) all).1 e
 
-drop_contains : {X : Type 0} (xs : List X) (k : ℕ) (x : X) (rest : List X) → drop k xs ≡ x ∷ rest → Contains xs x
+pub drop_contains : {X : Type 0} (xs : List X) (k : ℕ) (x : X) (rest : List X) → drop k xs ≡ x ∷ rest → Contains xs x
 drop_contains [] zero x rest e = absurd (cc)
 drop_contains [] (suc k) x rest e = absurd (cc)
 drop_contains (y ∷ ys) zero x rest e = let same : y ≡ x = cc in subst (Contains (y ∷ ys)) same (0, omega arith, refl)
@@ -160,6 +160,11 @@ module _ (graph after : Graph) (kept : Kept) (is : IsGraph graph) (exact : (f : 
         choices_next = ap (λ (s : Spot). s.choices) next ∙ ap (λ (x : Folded). x.choices) folded;
         left_is = ap (λ (s : Spot). choice s.choices f) next ∙ ap (λ (x : Folded). choice x.choices f) folded ∙ choice_itself w.choices f t.value;
       }
+
+  pub own_bits : (f : FlagName) (none : is_kept kept f ≡ false) (x j : ℕ) (e : Expr) → plan.known x ≡ true → rest_at graph x j ≡ Set (Flag f) e ∷ drop (suc j) (stmts x) →
+      (spot x (suc j)).bits ≡ (spot x j).bits ++ (taken (spot x j).bits (with_choices (spot x j).choices e)).widths
+  unfolding own
+  own_bits f none x j e known at = (own f none x j e known at).bits_next
 
   -- The values that hold.
 

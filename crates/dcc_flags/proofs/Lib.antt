@@ -6,3 +6,4 @@ pub mod SpotLaws
 pub mod PlanLaws
 pub mod HoldLaws
 pub mod MeetLaws
+pub mod KeepLaws

@@ -1,6 +1,6 @@
 -- A graph in which flags are folded goes on as the graph before: what is chosen for a flag has its value, wherever one
 -- definition alone reaches a read.
-use Rattle.std.proofs.Common.{◌≡◌, ◌≢◌, ℕ, zero, suc, ◌+◌, ◌/◌, ◌%◌, ◌<◌, ◌≤◌, Bool, true, false, cond, ◌&&◌, ◌||◌, not, ◌⊎◌, inl, inr, List, [], ◌∷◌, ◌++◌, length, drop, Option, Some, None, refl, sym, ap, ap₂, ◌∙◌, subst, true≢false, map, flat_map, slice_get, Contains, eqb-true, eq-eqb, ltb-true, lt-ltb, arith, append_assoc, length-append, append-nil}
+use Rattle.std.proofs.Common.{◌≡◌, ◌≢◌, ℕ, zero, suc, ◌+◌, ◌/◌, ◌%◌, ◌<◌, ◌≤◌, Bool, true, false, cond, ◌&&◌, ◌||◌, not, ◌⊎◌, inl, inr, List, [], ◌∷◌, ◌++◌, length, drop, Option, Some, None, refl, sym, ap, ap₂, ◌∙◌, subst, true≢false, map, flat_map, slice_get, get_or, Contains, eqb-true, eq-eqb, ltb-true, lt-ltb, arith, append_assoc, length-append, append-nil}
 use Rattle.std.specs.Prelude.{if◌then◌else◌, ◌==◌, nat_lt, nat_le, option_map, option_to_list, All}
 use Rattle.std.specs.List.{list_all, list_any}
 use Rattle.std.proofs.lemmas.Bool.{cases_lt}
@@ -12,7 +12,7 @@ use Rattle.dcc_ir.specs.declared.syntax.Loc.TheVariants.{Half, Flag, Cell, Temp}
 use Rattle.dcc_ir.specs.Tree.{Expr, Const, Get, Load, Unary, Binary, Widen, Part, Join, Choose, Address, Stmt, Set, Fetch, Store, Div, Call, Dos, Block, Graph}
 use Rattle.dcc_ir.specs.Location.{flag_number, same_location, location_width, Values, with_value}
 use Rattle.dcc_ir.specs.Value.{Scene, value_of}
-use Rattle.dcc_ir.specs.WellFormed.{is_stored_width, is_location, is_division, is_expr, is_expr_of, is_dividing, is_byte_place, is_dos, is_stmt, is_exit, is_block, IsGraph}
+use Rattle.dcc_ir.specs.WellFormed.{is_width, is_stored_width, is_location, is_division, is_expr, is_expr_of, is_dividing, is_byte_place, is_dos, is_stmt, is_exit, is_block, IsGraph}
 use Rattle.dcc_ir.specs.Use.{parts_of, got_by, reads_of, exprs_of, writes_of}
 use Rattle.dcc_ir.specs.Live.{is_among, reads, block_in, follows}
 use Rattle.dcc_ir.specs.Joinable.{next_exprs}
@@ -159,6 +159,8 @@ module _ (graph after : Graph) (kept : Kept) where
     pub left : e ≡ left_by start f definition
 
   pub record Plan : Type 0 where
+    pub widths : list_all is_width after.bits ≡ true
+    pub fill : get_or after.bits (length old) 0 ≡ 1
     pub known : ℕ → Bool
     pub start : ℕ → Spot
     pub first : known 0 ≡ true

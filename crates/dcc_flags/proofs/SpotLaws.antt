@@ -133,6 +133,15 @@ module _ (old : List ℕ) (kept : Kept) where
         width = m.width ∙ h.width;
       }
 
+  -- with further temporaries
+  pub fine_wider : (w : Spot) (more : List ℕ) → Fine w → list_all is_width (w.bits ++ more) ≡ true → Fine (record { bits = w.bits ++ more; choices = w.choices })
+  fine_wider w more h all = record {
+    widths = all;
+    fresh = h.fresh ++ more;
+    bits = ap (λ l. l ++ more) h.bits ∙ append_assoc old h.fresh more;
+    told = λ f. told_more w.bits more f (choice w.choices f) (h.told f);
+  }
+
   -- each choice is one bit
   pub fine_bits : (w : Spot) (h : Fine w) → AreBits (old ++ h.fresh) w.choices
   fine_bits w h f = subst (λ bits. (is_expr bits (choice w.choices f) ≡ true) × (width_of bits (choice w.choices f) ≡ 1)) h.bits ((h.told f).formed, (h.told f).width)
