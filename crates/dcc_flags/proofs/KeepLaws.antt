@@ -1,5 +1,5 @@
 -- The graph in which flags are folded may stand in the place of the graph.
-use Rattle.std.proofs.Common.{◌≡◌, ◌≢◌, ℕ, zero, suc, ◌+◌, ◌%◌, ◌<◌, ◌≤◌, Bool, true, false, cond, ◌&&◌, ◌||◌, not, List, [], ◌∷◌, ◌++◌, length, drop, Option, Some, None, refl, sym, ap, ap₂, ◌∙◌, subst, true≢false, map, flat_map, slice_get, Contains, eq-eqb, eqb-true, arith}
+use Rattle.std.proofs.Common.{◌≡◌, ◌≢◌, ℕ, zero, suc, ◌+◌, ◌/◌, ◌%◌, ◌<◌, ◌≤◌, Bool, true, false, cond, ◌&&◌, ◌||◌, not, inl, inr, List, [], ◌∷◌, ◌++◌, length, drop, Option, Some, None, refl, sym, ap, ap₂, ◌∙◌, subst, true≢false, map, flat_map, slice_get, Contains, eq-eqb, eqb-true, arith, append_assoc}
 use Rattle.std.specs.Prelude.{if◌then◌else◌, ◌==◌, nat_lt, nat_le, All}
 use Rattle.std.specs.List.{list_all, list_any}
 use Rattle.std.proofs.lemmas.List.Elements.{All-nil, All-cons, All-head, All-tail}
@@ -11,7 +11,7 @@ use Rattle.dcc_ir.specs.declared.syntax.Put.{Put}
 use Rattle.dcc_ir.specs.declared.syntax.Put.TheVariants.{Memory, One, Two}
 use Rattle.dcc_ir.specs.declared.syntax.Param.{Param}
 use Rattle.dcc_ir.specs.Tree.{Expr, Get, Stmt, Set, Fetch, Store, Div, Call, Dos, Exit, Goto, If, Switch, Ret, Stop, Block, Graph, Program}
-use Rattle.dcc_ir.specs.Location.{location_width, Values, with_value, filled}
+use Rattle.dcc_ir.specs.Location.{location_width, Values, with_value, fill_at, filled}
 use Rattle.dcc_ir.specs.Value.{Scene, value_of, Fits}
 use Rattle.dcc_ir.specs.WellFormed.{is_width, is_location, is_expr, is_expr_of, is_stmt, is_exit, is_put, IsGraph, IsProgram}
 use Rattle.dcc_ir.specs.Use.{reads_of, exprs_of, writes_of, exit_exprs}
@@ -34,7 +34,11 @@ use Rattle.dcc_flags.proofs.SpotLaws.{Spot, past, walked, walked_more, walked_en
 use Rattle.dcc_flags.proofs.PlanLaws.{Plan, stmts_at}
 use Rattle.dcc_flags.proofs.HoldLaws.{old, stmts, spot, plain, Holding, holding_set, holding_moves, own, own_bits, holding_results, holding_defined, stmts_fine, spot_fine, spot_whole, value_holds, drop_next, drop_all}
 use Rattle.dcc_flags.proofs.MeetLaws.{Both, Stays, stuck_both, step_value, step_both, written_plain, moves, by_kept}
-use Rattle.dcc_flags.proofs.PassLaws.{Invariant, at_graph, one_pass, BeginsIn, GoesIn}
+use Rattle.dcc_flags.proofs.PassLaws.{Invariant, at_graph, one_pass, BeginsIn, GoesIn, may_stand}
+use Rattle.dcc_flags.proofs.FormLaws.{width_more}
+use Rattle.dcc_flags.specs.Form.{GraphStays}
+use Rattle.dcc_ir.specs.Replaced.{IsKeptWith}
+use Rattle.dcc_ir.specs.Fitting.{StateFits}
 
 -- the copies of a definition, one after another
 abbrev set_state : List Stmt → State → State
@@ -402,3 +406,121 @@ module _ (graph after : Graph) (kept : Kept) (is : IsGraph graph) (exact : (f : 
     block_meets (Div l e ∷ rest) k s t at st = plain_meets k (Div l e) rest refl (λ g v same. absurd (cc)) (λ s. refl) (λ t l. refl) (λ l. refl) (λ l. refl) refl (block_meets rest (suc k)) s t at st
     block_meets (Call r n x d ∷ rest) k s t at st = call_meets k r n x d rest s t at st
     block_meets (Dos n p x ∷ rest) k s t at st = plain_meets k (Dos n p x) rest refl (λ g v same. absurd (cc)) (λ s. refl) (λ t l. refl) (λ l. refl) (λ l. refl) refl (block_meets rest (suc k)) s t at st
+
+  fit_of : (t : State) → StateFits t → IsFit t
+  fit_of t h = record {
+    values = h.running.values;
+    memory = record { len = h.running.len; bytes = h.running.bytes };
+    console = record { left = h.input; written = h.written; taken = h.taken };
+  }
+
+  -- From each point both go on.
+  pub goes_on : GoesIn graph after inv
+  goes_on p q fp fq a point s t entry_is together sg tg h =
+      let known = h.holds.known in
+      let block : s.running.block ≡ block_in graph point.place = some_same s.running.block (block_in graph point.place)
+          (sym together.first.at.block ∙ ap (λ (g : Graph). slice_get g.blocks point.place) sg ∙ plan.within point.place known) in
+      let folded = block_folded kept (plan.start point.place).bits (plan.start point.place).choices (block_in graph point.place) in
+      let block' : t.running.block ≡ folded = some_same t.running.block folded (sym together.second.at.block ∙ ap (λ (g : Graph). slice_get g.blocks point.place) tg ∙ plan.placed point.place known) in
+      let rest : s.running.rest ≡ drop h.k (olds point.place) = together.first.at.rest ∙ ap (λ (x : Block). after_calls point.calls x.stmts) block ∙ sym h.old_rest in
+      let rest' : t.running.rest ≡ from_spot (at_spot point.place h.k) (drop h.k (olds point.place)) = together.second.at.rest ∙ ap (λ (x : Block). after_calls point.calls x.stmts) block' ∙ sym h.new_rest in
+      subst (λ l. Meet (one_pass graph.entry inv) a point 0 (local_run l s) (halt_of t)) (sym rest)
+      (subst (λ l. Meet (one_pass graph.entry inv) a point 0 (local_run (drop h.k (olds point.place)) s) (local_run l t)) (sym rest')
+      (block_meets a point entry_is (drop h.k (olds point.place)) h.k s t refl (record {
+        graph_is = sg;
+        graph'_is = tg;
+        exit = ap (λ (x : Block). x.exit) block;
+        exit' = ap (λ (x : Block). x.exit) block';
+        running = together.first.running;
+        fits = fit_of t together.second.fits;
+        alike = record {
+          outside = together.outside;
+          end = is_running t.end together.second.running ∙ sym (is_running s.end together.first.running);
+          entry = ap (λ (g : Graph). g.entry) tg ∙ same_entry ∙ ap (λ (g : Graph). g.entry) (sym sg);
+          holds = h.holds;
+        };
+        calls_old = ap after_call h.old_rest;
+        calls_new = ap after_call h.new_rest;
+      })))
+
+  -- Both begin alike.
+
+  record Open (s t : State) : Type 0 where
+    memory : t.memory ≡ s.memory
+    base : t.running.base ≡ s.running.base
+    holds : Holding graph after kept is exact plan 0 0 s.running.values t.running.values
+
+  plain_place : (l : Loc) → is_location graph.bits l ≡ true → ((f : FlagName) → l ≡ Flag f → is_kept kept f ≡ true) → plain graph after kept is exact plan l ≡ true
+  plain_place (Half r h) ok only = refl
+  plain_place (Cell n h) ok only = refl
+  plain_place (Temp n) ok only = ok
+  plain_place (Flag f) ok only = only f refl
+
+  open_set : (l : Loc) (n : ℕ) (s t : State) → plain graph after kept is exact plan l ≡ true → Open s t → Open (setting l n s) (setting l n t)
+  open_set l n s t fine o = record { memory = o.memory; base = o.base; holds = holding_set graph after kept is exact plan 0 0 l fine n s.running.values t.running.values o.holds }
+
+  put_open : (j : ℕ) (put : Put) (n : ℕ) (s t : State) → is_put graph.bits put ≡ true → ((f : FlagName) → Contains (places_of put) (Flag f) → is_kept kept f ≡ true) → Open s t → Open (putting j put n s) (putting j put n t)
+  put_open j Memory n s t ok only o = record { memory = let m = o.memory in let b = o.base in cc; base = o.base; holds = o.holds }
+  put_open j (One l) n s t ok only o = open_set l n s t (plain_place l ok (λ f e. only f (subst (λ x. Contains (l ∷ []) x) e (Contains-here l [])))) o
+  put_open j (Two low high) n s t ok only o =
+      let three = both (is_location graph.bits low && is_location graph.bits high && (location_width graph.bits low == 8)) (location_width graph.bits high == 8) ok in
+      let two = both (is_location graph.bits low && is_location graph.bits high) (location_width graph.bits low == 8) three.0 in
+      let one = both (is_location graph.bits low) (is_location graph.bits high) two.0 in
+      open_set high (n / 256) (setting low (n % 256) s) (setting low (n % 256) t) (plain_place high one.1 (λ f e. only f (subst (λ x. Contains (low ∷ high ∷ []) x) e (Contains-later low (high ∷ []) high (Contains-here high [])))))
+      (open_set low (n % 256) s t (plain_place low one.0 (λ f e. only f (subst (λ x. Contains (low ∷ high ∷ []) x) e (Contains-here low (high ∷ []))))) o)
+
+  pass_open : (j : ℕ) (params : List Param) (ns : List ℕ) (s t : State) → list_all (λ q. is_put graph.bits q.put) params ≡ true → ((f : FlagName) → Contains (flat_map (λ q. places_of q.put) params) (Flag f) → is_kept kept f ≡ true) → Open s t → Open (passing j params ns s) (passing j params ns t)
+  pass_open j [] ns s t ok only o = o
+  pass_open j (q ∷ params) [] s t ok only o = o
+  pass_open j (q ∷ params) (n ∷ ns) s t ok only o =
+      let parts = both (is_put graph.bits q.put) (list_all (λ (q : Param). is_put graph.bits q.put) params) ok in
+      pass_open (j + 1) params ns (putting j q.put n s) (putting j q.put n t) parts.1 (λ f c. only f (in_right (places_of q.put) (flat_map (λ (q : Param). places_of q.put) params) (Flag f) c))
+      (put_open j q.put n s t parts.0 (λ f c. only f (in_left (places_of q.put) (flat_map (λ (q : Param). places_of q.put) params) (Flag f) c)) o)
+    where
+      in_left : (xs ys : List Loc) (l : Loc) → Contains xs l → Contains (xs ++ ys) l
+      in_left [] ys l c = absurd (Contains-none l c)
+      in_left (x ∷ xs) ys l c = Contains-cases x xs l (Contains (x ∷ (xs ++ ys)) l) (λ e. subst (Contains (x ∷ (xs ++ ys))) e (Contains-here x (xs ++ ys))) (λ d. Contains-later x (xs ++ ys) l (in_left xs ys l d)) c
+
+      in_right : (xs ys : List Loc) (l : Loc) → Contains ys l → Contains (xs ++ ys) l
+      in_right [] ys l c = c
+      in_right (x ∷ xs) ys l c = Contains-later x (xs ++ ys) l (in_right xs ys l c)
+
+  param_kept : (f : FlagName) → Contains (flat_map (λ q. places_of q.put) graph.params) (Flag f) → is_kept kept f ≡ true
+  param_kept f c = elim (decided (is_kept kept f)) [
+    | inl so ↦ so
+    | inr none ↦ absurd (exact f none (param (contains_among (flat_map (λ (q : Param). places_of q.put) graph.params) (Flag f) c)))
+  ]
+
+  first_holds : (fill : ℕ) (v v' : Values) → ((l : Loc) → v l ≡ filled graph.bits fill l) → ((l : Loc) → v' l ≡ filled after.bits fill l) → Holding graph after kept is exact plan 0 0 v v'
+  first_holds fill v v' is_v is_v' = record {
+    known = plan.first;
+    same = λ l fine. is_v' l ∙ ap (λ w. fill_at w fill) (width l fine) ∙ sym (is_v l);
+    flags = λ f none. record { definition = Start; reaches = begins; value = is_v' (Temp (length graph.bits)) ∙ ap (λ w. fill_at w fill) plan.fill ∙ sym (is_v (Flag f)) };
+    leaves = λ f none. plan.agrees 0 plan.first f none;
+  }
+    where
+      fine : Fine graph.bits kept (plan.start 0)
+      fine = plan.fine 0 plan.first
+
+      width : (l : Loc) → plain graph after kept is exact plan l ≡ true → location_width after.bits l ≡ location_width graph.bits l
+      width (Half r h) ok = refl
+      width (Cell n h) ok = refl
+      width (Flag f) ok = refl
+      width (Temp n) ok =
+          let whole = spot_whole graph after kept is plan 0 0 plan.first in
+          let start = plan.fine 0 plan.first in
+          let all : after.bits ≡ graph.bits ++ (start.fresh ++ whole.0) = whole.1 ∙ ap (λ l. l ++ whole.0) start.bits ∙ append_assoc graph.bits start.fresh whole.0 in
+          ap (λ bits. location_width bits (Temp n)) all ∙ width_more graph.bits (start.fresh ++ whole.0) (Temp n) ok
+
+  pub begins_alike : BeginsIn graph after inv
+  begins_alike fill base a s t fit outside opened opened' =
+      let o = pass_open 0 graph.params a s t is.params param_kept (record {
+        memory = outside.memory;
+        base = outside.base;
+        holds = first_holds fill s.running.values t.running.values (λ l. ap (λ (x : Activation). x.values l) opened) (λ l. ap (λ (x : Activation). x.values l) opened');
+      }) in
+      (o.memory, record { k = 0; old_rest = refl; new_rest = refl; holds = o.holds })
+
+  -- So the folded graph may stand in the place of the graph.
+  pub folded_stands : GraphStays graph after → IsGraph after → (p : Program) → IsProgram p → Contains p.graphs graph → IsKeptWith after p
+  folded_stands stays fine p formed known = may_stand graph after inv stays fine begins_alike goes_on p formed known

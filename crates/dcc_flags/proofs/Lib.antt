@@ -7,3 +7,4 @@ pub mod PlanLaws
 pub mod HoldLaws
 pub mod MeetLaws
 pub mod KeepLaws
+pub mod GoingLaws
