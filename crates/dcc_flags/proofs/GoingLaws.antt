@@ -1,24 +1,27 @@
 -- The blocks are folded one after another, each after a block that leads to it: what then holds of all that are folded.
-use Rattle.std.proofs.Common.{◌≡◌, ◌≢◌, ℕ, zero, suc, ◌+◌, ◌<◌, ◌≤◌, Bool, true, false, cond, ◌&&◌, ◌||◌, not, ◌⊎◌, inl, inr, List, [], ◌∷◌, ◌++◌, length, drop, replicate, Option, Some, None, refl, sym, ap, ap₂, ◌∙◌, subst, true≢false, map, slice_get, slice_set, get_or, Contains, eq-eqb, eqb-true, arith, append_assoc, length-append, append-nil}
+use Rattle.std.proofs.Common.{◌≡◌, ◌≢◌, ℕ, zero, suc, ◌+◌, ◌<◌, ◌≤◌, Bool, true, false, cond, ◌&&◌, ◌||◌, not, ◌⊎◌, inl, inr, List, [], ◌∷◌, ◌++◌, length, drop, replicate, Option, Some, None, refl, sym, ap, ap₂, ◌∙◌, subst, true≢false, map, slice_get, slice_set, get_or, Contains, eq-eqb, eqb-true, ltb-true, arith, append_assoc, length-append, append-nil}
 use Rattle.std.specs.Prelude.{if◌then◌else◌, ◌==◌, nat_lt, nat_le, All}
 use Rattle.std.specs.List.{list_all, list_any}
 use Rattle.dcc_num.specs.declared.FlagName.{FlagName}
 use Rattle.dcc_ir.specs.declared.syntax.Loc.TheVariants.{Half, Flag, Cell, Temp}
-use Rattle.dcc_ir.specs.Tree.{Expr, Get, Stmt, Set, Fetch, Store, Div, Call, Dos, Exit, Block, Graph}
-use Rattle.dcc_ir.specs.WellFormed.{is_width, is_stmt, is_exit, is_block, IsGraph}
+use Rattle.dcc_ir.specs.Tree.{Expr, Get, Stmt, Set, Fetch, Store, Div, Call, Dos, Exit, Goto, If, Switch, Ret, Stop, Block, Graph}
+use Rattle.dcc_ir.specs.WellFormed.{is_width, is_expr_of, is_stmt, is_exit, is_block, IsGraph}
 use Rattle.dcc_ir.specs.Flow.{targets}
 use Rattle.dcc_ir.specs.Live.{block_in, follows}
 use Rattle.dcc_ir.proofs.FitLaws.{both}
 use Rattle.dcc_ir.proofs.PathLaws.{decided}
 use Rattle.dcc_flags.specs.declared.kept.Kept.{Kept}
-use Rattle.dcc_flags.specs.Reaching.{Definition, Start, At, defines, rest_at, Reaches, begins, goes, has_result, IsKept}
+use Rattle.dcc_flags.specs.Reaching.{Definition, Start, At, defines, chooses, rest_at, Reaches, begins, defined, passes, goes, has_result, IsKept, result}
 use Rattle.dcc_flags.specs.Folding.{is_kept, Choices, choice, with_choices, taken, first_choice, first_choices, stmt_folded, stmts_folded, bare_block, block_folded, Folding, given_to, fold_block, fold_blocks}
 use Rattle.dcc_flags.proofs.MeetLaws.{by_kept}
+use Rattle.dcc_flags.proofs.HoldLaws.{drop_next, drop_contains, drop_end}
+use Rattle.dcc_ir.proofs.ReachedLaws.{contained, all_at}
+use Rattle.std.proofs.lemmas.Option.{slice_get-get_or}
 use Rattle.std.proofs.lemmas.List.{length-set, get_or-set_same, get_or-set_other}
 use Rattle.dcc_ir.specs.Run.{no_block}
 use Rattle.dcc_ir.specs.Location.{flag_number}
 use Rattle.dcc_flags.proofs.ExprLaws.{and_both}
-use Rattle.dcc_flags.proofs.SpotLaws.{Spot, past, choice_other, walked, walked_end, Fine, fine_walked, fine_wider}
+use Rattle.dcc_flags.proofs.SpotLaws.{Spot, past, choice_other, walked, walked_more, walked_end, Fine, fine_walked, fine_wider}
 
 -- an element of a list of places
 abbrev pub is_in : List ℕ → ℕ → Bool
@@ -26,11 +29,16 @@ is_in xs n = list_any (λ m. m == n) xs
 
 -- each place but those of the first list comes after one that leads to it
 pub data Ordered (graph : Graph) : List ℕ → List ℕ → Type 0 where
-  done : {before : List ℕ} → Ordered graph before []
+  over : {before : List ℕ} → Ordered graph before []
   next_one :
-      {before rest : List ℕ} {place parent : ℕ}
+      {before rest : List ℕ} {place : ℕ} (parent : ℕ)
       → is_in before parent ≡ true → follows graph parent place ≡ true → is_in before place ≡ false → place < length graph.blocks
       → Ordered graph (place ∷ before) rest → Ordered graph before (place ∷ rest)
+
+-- all of the places, the newest first
+abbrev pub after_all : List ℕ → List ℕ → List ℕ
+after_all before [] = before
+after_all before (p ∷ rest) = after_all (p ∷ before) rest
 
 in_here : (x n : ℕ) (xs : List ℕ) → (x == n) ≡ true → is_in (x ∷ xs) n ≡ true
 in_here x n xs e = ap (λ b. b || is_in xs n) e
@@ -123,6 +131,41 @@ module _ (graph : Graph) (kept : Kept) (is : IsGraph graph) (none : Choices) whe
     pub known : KnownIn done definition
     pub left : e ≡ left_by start f definition
 
+  -- The blocks are well formed.
+
+  in_graph : (b : ℕ) → b < length graph.blocks → is_block old (length graph.blocks) (block_in graph b) ≡ true
+  in_graph b less = all_at (is_block old (length graph.blocks)) graph.blocks (block_in graph b) is.blocks (contained graph.blocks b (block_in graph b) (slice_get-get_or graph.blocks b no_block less))
+
+  pub stmts_ok : (b : ℕ) → b < length graph.blocks → list_all (is_stmt old) (stmts b) ≡ true
+  stmts_ok b less = (both (list_all (is_stmt old) (stmts b)) (is_exit old (length graph.blocks) (block_in graph b).exit) (in_graph b less)).0
+
+  pub exit_ok : (b : ℕ) → b < length graph.blocks → is_exit old (length graph.blocks) (block_in graph b).exit ≡ true
+  exit_ok b less = (both (list_all (is_stmt old) (stmts b)) (is_exit old (length graph.blocks) (block_in graph b).exit) (in_graph b less)).1
+
+  pub target_below : (p t : ℕ) → p < length graph.blocks → follows graph p t ≡ true → t < length graph.blocks
+  target_below p t less so = go (block_in graph p).exit (exit_ok p less) so
+    where
+      one : (place : ℕ) (rest : Bool) → nat_lt place (length graph.blocks) ≡ true → ((rest ≡ true) → t < length graph.blocks) → ((place == t) || rest) ≡ true → t < length graph.blocks
+      one place rest ok later e = elim (decided (place == t)) [
+        | inl same ↦ subst (λ n. n < length graph.blocks) (eqb-true place t same) (ltb-true place (length graph.blocks) ok)
+        | inr other ↦ later (ap (λ b. b || rest) (sym other) ∙ e)
+      ]
+
+      some : (places : List ℕ) → list_all (λ place. nat_lt place (length graph.blocks)) places ≡ true → list_any (λ place. place == t) places ≡ true → t < length graph.blocks
+      some [] ok e = absurd (true≢false (sym e))
+      some (x ∷ xs) ok e =
+          let parts = both (nat_lt x (length graph.blocks)) (list_all (λ place. nat_lt place (length graph.blocks)) xs) ok in
+          one x (list_any (λ place. place == t) xs) parts.0 (λ later. some xs parts.1 later) e
+
+      go : (exit : Exit) → is_exit old (length graph.blocks) exit ≡ true → list_any (λ place. place == t) (targets exit) ≡ true → t < length graph.blocks
+      go (Goto place) ok e = one place false ok (λ f. absurd (true≢false (sym f))) e
+      go (If test x y) ok e =
+          let two = both (is_expr_of old 1 test && nat_lt x (length graph.blocks)) (nat_lt y (length graph.blocks)) ok in
+          one x ((y == t) || false) (both (is_expr_of old 1 test) (nat_lt x (length graph.blocks)) two.0).1 (one y false two.1 (λ f. absurd (true≢false (sym f)))) e
+      go (Switch v places) ok e = some places (both (is_expr_of old 16 v && nat_le (length places) 65536) (list_all (λ place. nat_lt place (length graph.blocks)) places) ok).1 e
+      go (Ret values) ok e = absurd (true≢false (sym e))
+      go Stop ok e = absurd (true≢false (sym e))
+
   pub record Going (done : List ℕ) (start : ℕ → Spot) (s : Folding) : Type 0 where
     pub count : length s.blocks ≡ length graph.blocks
     pub given_count : length s.given ≡ length graph.blocks
@@ -144,7 +187,7 @@ module _ (graph : Graph) (kept : Kept) (is : IsGraph graph) (none : Choices) whe
 
   module _ (done : List ℕ) (start : ℕ → Spot) (s : Folding) (h : Going done start s) (p : ℕ) (new : is_in done p ≡ false) (less : p < length graph.blocks)
       (fine_new : Fine old kept (record { bits = s.bits; choices = get_or s.given p none }))
-      (agrees_new : (f : FlagName) → is_kept kept f ≡ false → IsLeftIn (p ∷ done) start f p 0 (choice (get_or s.given p none) f)) where
+      (agrees_new : (f : FlagName) → is_kept kept f ≡ false → IsLeftIn done start f p 0 (choice (get_or s.given p none) f)) where
     abbrev w : Spot
     w = record { bits = s.bits; choices = get_or s.given p none }
 
@@ -196,8 +239,8 @@ module _ (graph : Graph) (kept : Kept) (is : IsGraph graph) (none : Choices) whe
         wider Start known = tt
         wider (At x j) known = in_later p x done known
 
-    going_step : ((f : FlagName) (d : Definition) → KnownIn (p ∷ done) d → Reaches graph f d p 0 → left_by start f d ≡ left_by start' f d) → Fine old kept (end_of start' p) → Going (p ∷ done) start' s'
-    going_step left_same fine_end = record {
+    pub going_step : Fine old kept (end_of start' p) → Going (p ∷ done) start' s'
+    going_step fine_end = record {
       count = length-set s.blocks p _ ∙ h.count;
       given_count = given_length _ s.given (targets (block_in graph p).exit) ∙ h.given_count;
       within = each (λ b. b < length graph.blocks) less h.within;
@@ -212,7 +255,7 @@ module _ (graph : Graph) (kept : Kept) (is : IsGraph graph) (none : Choices) whe
       apart = λ b c kb kc other. two b c kb kc other;
       agrees = each (λ b. (f : FlagName) → is_kept kept f ≡ false → IsLeftIn (p ∷ done) start' f b 0 (choice (start' b).choices f))
           (λ f no_f. subst (λ (x : Spot). IsLeftIn (p ∷ done) start' f p 0 (choice x.choices f)) (sym here_is)
-          (let x = agrees_new f no_f in record { definition = x.definition; reaches = x.reaches; known = x.known; left = x.left ∙ left_same f x.definition x.known x.reaches }))
+          (left_still f p 0 (choice (get_or s.given p none) f) (agrees_new f no_f)))
           (λ b there f no_f. subst (λ (x : Spot). IsLeftIn (p ∷ done) start' f b 0 (choice x.choices f)) (sym (still b there)) (left_still f b 0 (choice (start b).choices f) (h.agrees b there f no_f)));
       given_next = λ b t kb edge out. given b t kb edge out;
       widths = subst (λ l. list_all is_width l ≡ true) end_here fine_end.widths;
@@ -248,6 +291,68 @@ module _ (graph : Graph) (kept : Kept) (is : IsGraph graph) (none : Choices) whe
                   (q.0, in_later p q.0 done q.1, q.2,
                   given_kept _ none s.given (targets (block_in graph p).exit) t not_so ∙ q.3 ∙ ap (λ (x : Spot). (stmts_folded kept x.bits x.choices (stmts q.0)).choices) (sym (still q.0 q.1)))
             ]
-          where
-            target_below : (p t : ℕ) → p < length graph.blocks → follows graph p t ≡ true → t < length graph.blocks
-            target_below p t less so = ?
+
+  module _ (exact : (f : FlagName) → is_kept kept f ≡ false → IsKept graph f → ⊥) where
+    no_result : (f : FlagName) → is_kept kept f ≡ false → (b k : ℕ) (stmt : Stmt) (rest : List Stmt) → b < length graph.blocks → rest_at graph b k ≡ stmt ∷ rest → has_result f stmt ≡ false
+    no_result f no_f b k stmt rest less at = elim (decided (has_result f stmt)) [
+      | inl so ↦ absurd (exact f no_f (result (contained graph.blocks b (block_in graph b) (slice_get-get_or graph.blocks b no_block less)) (drop_contains (stmts b) k stmt rest at) so))
+      | inr not_so ↦ not_so
+    ]
+
+    -- some definition that reaches a place has left what is chosen there
+    leaves_walked : (done : List ℕ) (start : ℕ → Spot) (b : ℕ) → is_in done b ≡ true → b < length graph.blocks → (f : FlagName) → is_kept kept f ≡ false → (rest : List Stmt) (k : ℕ) → rest_at graph b k ≡ rest
+        → IsLeftIn done start f b k (choice (walked kept (start b) (stmts b) k).choices f)
+        → (end : ℕ) × (rest_at graph b end ≡ []) × IsLeftIn done start f b end (choice (walked kept (start b) (stmts b) end).choices f)
+    leaves_walked done start b known less f no_f [] k at x = (k, at, x)
+    leaves_walked done start b known less f no_f (stmt ∷ rest) k at x =
+        leaves_walked done start b known less f no_f rest (suc k) (drop_next (stmts b) k stmt rest at) (step (defines f stmt) refl)
+      where
+        step : (z : Bool) → defines f stmt ≡ z → IsLeftIn done start f b (suc k) (choice (walked kept (start b) (stmts b) (suc k)).choices f)
+        step true so = record { definition = At b k; reaches = defined x.reaches at so; known = known; left = refl }
+        step false other = record {
+          definition = x.definition;
+          reaches = passes x.reaches at (ap (λ z. not z || chooses f stmt) other);
+          known = x.known;
+          left = ap (λ (y : Spot). choice y.choices f) (walked_more kept (stmts b) k (start b) stmt rest at)
+              ∙ choice_past kept (walked kept (start b) (stmts b) k).bits (walked kept (start b) (stmts b) k).choices f stmt other ∙ x.left;
+        }
+
+    fine_end : (start : ℕ → Spot) (b : ℕ) → b < length graph.blocks → Fine old kept (start b) → Fine old kept (end_of start b)
+    fine_end start b less fine =
+        let end = walked_end kept (stmts b) (length (stmts b)) (start b) (drop_end (stmts b)) in
+        let at = fine_walked old kept (stmts b) (length (stmts b)) (start b) (stmts_ok b less) fine in
+        subst (λ bits. Fine old kept (record { bits = bits; choices = (end_of start b).choices })) (sym end.0)
+        (subst (λ c. Fine old kept (record { bits = (walked kept (start b) (stmts b) (length (stmts b))).bits; choices = c })) (sym end.1) at)
+
+    -- a block that comes after one of those that are folded
+    one_more : (done : List ℕ) (start : ℕ → Spot) (s : Folding) → Going done start s → (p parent : ℕ) → is_in done parent ≡ true → follows graph parent p ≡ true → is_in done p ≡ false → p < length graph.blocks →
+        (start' : ℕ → Spot) × Going (p ∷ done) start' (fold_block kept graph none s p)
+    one_more done start s h p parent known edge new less =
+        let q = h.given_next parent p known edge new in
+        let q_less = h.within q.0 q.1 in
+        let fine_q = fine_end start q.0 q_less (h.fine q.0 q.1) in
+        let whole = h.prefix q.0 q.1 in
+        let wide = fine_wider old kept (end_of start q.0) whole.0 fine_q (subst (λ l. list_all is_width l ≡ true) whole.1 h.widths) in
+        let fine_new : Fine old kept (record { bits = s.bits; choices = get_or s.given p none }) =
+        subst (λ c. Fine old kept (record { bits = s.bits; choices = c })) (sym q.3) (subst (λ bits. Fine old kept (record { bits = bits; choices = (end_of start q.0).choices })) (sym whole.1) wide) in
+        let w : Spot = record { bits = s.bits; choices = get_or s.given p none } in
+        let start' = with_start start p w in
+        let here : start' p ≡ w = ap (λ z. if z then w else start p) (eq-eqb p p refl) in (
+          start',
+          going_step done start s h p new less fine_new (λ f no_f.
+          let x = leaves_walked done start q.0 q.1 q_less f no_f (stmts q.0) 0 refl (h.agrees q.0 q.1 f no_f) in
+          let end = walked_end kept (stmts q.0) x.0 (start q.0) x.1 in
+          record {
+            definition = x.2.definition;
+            reaches = goes x.2.reaches x.1 q.2;
+            known = x.2.known;
+            left = ap (λ c. choice c f) (q.3 ∙ end.1) ∙ x.2.left;
+          })
+          (fine_end start' p less (subst (Fine old kept) (sym here) fine_new)),
+        )
+
+    pub going_all : (done : List ℕ) (start : ℕ → Spot) (s : Folding) (rest : List ℕ) → Ordered graph done rest → Going done start s → (start' : ℕ → Spot) × Going (after_all done rest) start' (fold_blocks kept graph none s rest)
+    going_all done start s [] o h = (start, h)
+    going_all done start s (p ∷ rest) (next_one parent known edge new less later) h =
+        let one = one_more done start s h p parent known edge new less in
+        going_all (p ∷ done) one.0 (fold_block kept graph none s p) rest later one.1

@@ -61,7 +61,7 @@ drop_below [] (suc k) x rest e = absurd (cc)
 drop_below (y ∷ ys) zero x rest e = omega arith
 drop_below (y ∷ ys) (suc k) x rest e = let less = drop_below ys k x rest e in omega arith
 
-drop_end : {X : Type 0} (xs : List X) → drop (length xs) xs ≡ []
+pub drop_end : {X : Type 0} (xs : List X) → drop (length xs) xs ≡ []
 drop_end [] = refl
 drop_end (x ∷ xs) = drop_end xs
 
