@@ -40,24 +40,24 @@ abbrev pub after_all : List ℕ → List ℕ → List ℕ
 after_all before [] = before
 after_all before (p ∷ rest) = after_all (p ∷ before) rest
 
-in_here : (x n : ℕ) (xs : List ℕ) → (x == n) ≡ true → is_in (x ∷ xs) n ≡ true
+pub in_here : (x n : ℕ) (xs : List ℕ) → (x == n) ≡ true → is_in (x ∷ xs) n ≡ true
 in_here x n xs e = ap (λ b. b || is_in xs n) e
 
-in_later : (x n : ℕ) (xs : List ℕ) → is_in xs n ≡ true → is_in (x ∷ xs) n ≡ true
+pub in_later : (x n : ℕ) (xs : List ℕ) → is_in xs n ≡ true → is_in (x ∷ xs) n ≡ true
 in_later x n xs e = go (x == n)
   where
     go : (b : Bool) → (b || is_in xs n) ≡ true
     go true = refl
     go false = e
 
-in_cases : (x n : ℕ) (xs : List ℕ) (P : Type 0) → ((x == n) ≡ true → P) → ((x == n) ≡ false → is_in xs n ≡ true → P) → is_in (x ∷ xs) n ≡ true → P
+pub in_cases : (x n : ℕ) (xs : List ℕ) (P : Type 0) → ((x == n) ≡ true → P) → ((x == n) ≡ false → is_in xs n ≡ true → P) → is_in (x ∷ xs) n ≡ true → P
 in_cases x n xs P here later e = go (x == n) refl e
   where
     go : (b : Bool) → (x == n) ≡ b → (b || is_in xs n) ≡ true → P
     go true same e = here same
     go false other e = later other e
 
-not_in_head : (x n : ℕ) (xs : List ℕ) → is_in (x ∷ xs) n ≡ false → ((x == n) ≡ false) × (is_in xs n ≡ false)
+pub not_in_head : (x n : ℕ) (xs : List ℕ) → is_in (x ∷ xs) n ≡ false → ((x == n) ≡ false) × (is_in xs n ≡ false)
 not_in_head x n xs e = go (x == n) refl e
   where
     go : (b : Bool) → (x == n) ≡ b → (b || is_in xs n) ≡ false → ((x == n) ≡ false) × (is_in xs n ≡ false)
@@ -317,7 +317,7 @@ module _ (graph : Graph) (kept : Kept) (is : IsGraph graph) (none : Choices) whe
               ∙ choice_past kept (walked kept (start b) (stmts b) k).bits (walked kept (start b) (stmts b) k).choices f stmt other ∙ x.left;
         }
 
-    fine_end : (start : ℕ → Spot) (b : ℕ) → b < length graph.blocks → Fine old kept (start b) → Fine old kept (end_of start b)
+    pub fine_end : (start : ℕ → Spot) (b : ℕ) → b < length graph.blocks → Fine old kept (start b) → Fine old kept (end_of start b)
     fine_end start b less fine =
         let end = walked_end kept (stmts b) (length (stmts b)) (start b) (drop_end (stmts b)) in
         let at = fine_walked old kept (stmts b) (length (stmts b)) (start b) (stmts_ok b less) fine in

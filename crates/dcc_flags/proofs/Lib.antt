@@ -8,3 +8,4 @@ pub mod HoldLaws
 pub mod MeetLaws
 pub mod KeepLaws
 pub mod GoingLaws
+pub mod WholeLaws

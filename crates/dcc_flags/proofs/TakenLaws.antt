@@ -215,11 +215,11 @@ pub record IsTaken (bits : List ℕ) (e : Expr) (t : Taken) : Type 0 where
   pub widths : list_all is_width t.widths ≡ true
   pub copies : list_all (is_copy (length bits) (bits ++ t.widths)) t.copies ≡ true
 
-length_at_end : (xs : List ℕ) (n : ℕ) → length (xs ++ n ∷ []) ≡ suc (length xs)
+pub length_at_end : (xs : List ℕ) (n : ℕ) → length (xs ++ n ∷ []) ≡ suc (length xs)
 length_at_end [] n = refl
 length_at_end (x ∷ xs) n = ap suc (length_at_end xs n)
 
-get_at_end : (xs : List ℕ) (n : ℕ) → get_or (xs ++ n ∷ []) (length xs) 0 ≡ n
+pub get_at_end : (xs : List ℕ) (n : ℕ) → get_or (xs ++ n ∷ []) (length xs) 0 ≡ n
 get_at_end [] n = refl
 get_at_end (x ∷ xs) n = get_at_end xs n
 
