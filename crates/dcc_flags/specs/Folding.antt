@@ -275,3 +275,10 @@ abbrev pub fold_blocks : Kept → Graph → Choices → Folding → List ℕ →
 fold_blocks kept graph none s [] = s
 fold_blocks kept graph none s (place ∷ places) =
     fold_blocks kept graph none (fold_block kept graph none s place) places
+
+-- the graph whose blocks are folded in that order; the temporary after those of the graph holds the fill
+abbrev pub folded_graph : Kept → Graph → List ℕ → Graph
+folded_graph kept graph order =
+    let none = first_choices kept (length graph.bits) in
+    let s = fold_blocks kept graph none (first_folding kept none graph) order in
+    record graph { blocks = s.blocks; bits = s.bits }

@@ -3,3 +3,5 @@ pub mod Sources
 pub mod Folding
 pub mod Form
 pub mod Fresh
+pub mod Laws
+pub mod Folded

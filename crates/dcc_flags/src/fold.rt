@@ -4,6 +4,9 @@ ghost use Rattle.std.specs.Prelude.{◌≡◌, ◌<◌, length, map, replicate, 
 ghost use Rattle.dcc_ir.specs.Views.{stmt_of, block_of, graph_of};
 ghost use Rattle.dcc_ir.specs.WellFormed.{IsGraph};
 ghost use Rattle.dcc_flow.specs.Edges.{rows, successors_of};
+ghost use Rattle.dcc_ir.specs.Flow.{targets};
+ghost use Rattle.dcc_ir.specs.Live.{block_in};
+ghost use Rattle.dcc_flags.specs.Folded.{IsFolded};
 ghost use Rattle.dcc_flags.specs.Folding as spec;
 ghost use Rattle.dcc_flags.specs.Folding.{choices_of, folding_of};
 
@@ -111,8 +114,17 @@ impl Folding {
     }
 
     // A block is folded, and the blocks after it begin with its choices.
-    fn fold_block(self, block: &Block, place: usize, next: &[u32]) -> Result<Folding, AllocError>
+    fn fold_block(self, g: &Graph, place: usize, next: &[u32]) -> Result<Folding, AllocError>
+        requires place { place < length g.now.blocks.items }
+        requires blocks { length self.blocks.items ≡ length g.now.blocks.items }
+        requires given { length self.given.items ≡ length g.now.blocks.items }
+        requires next { next.now ≡ targets (block_in (graph_of g.now) place).exit }
+        requires targets { All (λ place. place < length g.now.blocks.items) next.now }
+        ensures folding { IfOk result (λ folding. folding_of folding ≡ spec.fold_block self.kept (graph_of g.now)
+            (spec.first_choices self.kept (length g.now.bits.items)) (folding_of self) place) }
+        ensures kept { IfOk result (λ folding. folding.kept ≡ self.kept) }
     {
+        let block = &g.blocks[place];
         let Folding {
             alloc,
             kept,
@@ -146,9 +158,15 @@ impl Folding {
     }
 }
 
-/// The graph without the flags of which one definition alone reaches each read.
+/// The graph without the flags that are not kept: a read becomes what the one definition computed that reaches it, over
+/// temporaries that took the operands there.
+///
+/// # Errors
+///
+/// Where memory runs out, or the graph would have 2^32 temporaries.
 pub fn fold_flags(alloc: Global, g: Graph) -> Result<Graph, AllocError>
     requires { IsGraph (graph_of g) }
+    ensures { IfOk result (λ after. IsFolded (graph_of g) (graph_of after)) }
 {
     let next = successors(alloc, &g)?;
     let order = order(alloc, &g)?;
@@ -157,7 +175,7 @@ pub fn fold_flags(alloc: Global, g: Graph) -> Result<Graph, AllocError>
     let mut folding = Folding::new(alloc, kept, &Choices::first(kept, fill), &g)?;
     for place in &order {
         let place = *place as usize;
-        folding = folding.fold_block(&g.blocks[place], place, next[place].as_slice())?;
+        folding = folding.fold_block(&g, place, next[place].as_slice())?;
     }
     Ok(Graph {
         entry: g.entry,

@@ -1,9 +1,12 @@
 //! Which flags are kept.
 
-ghost use Rattle.std.specs.Prelude.{◌≡◌, ◌<◌, length, map, All, IfOk};
+ghost use Rattle.std.specs.Prelude.{◌≡◌, ◌<◌, length, map, All, IfOk, MatchBool};
 ghost use Rattle.dcc_ir.specs.Views.{stmt_of, exit_of, graph_of};
 ghost use Rattle.dcc_ir.specs.WellFormed.{IsGraph};
 ghost use Rattle.dcc_flow.specs.Edges.{rows, successors_of};
+ghost use Rattle.dcc_num.specs.declared.FlagName.{FlagName};
+ghost use Rattle.dcc_flow.specs.Order.{IsReversePostOrder};
+ghost use Rattle.dcc_flags.specs.Reaching.{IsKept};
 ghost use Rattle.dcc_flags.specs.Sources as spec;
 ghost use Rattle.dcc_flags.specs.Folding as folding;
 
@@ -78,11 +81,12 @@ fn mixes(f: FlagName, source: Source, place: usize, block: &Block) -> bool {
     source.is_mixed() && end_reads(f, &block.end)
 }
 
-// Whether the flag is kept.
+// Whether the flag is kept, where `order` is the reverse post order of the blocks.
 fn is_kept(alloc: Global, f: FlagName, g: &Graph, next: &Vec<Vec<u32>>, order: &[u32]) -> Result<bool, AllocError>
     requires graph { IsGraph (graph_of g.now) }
     requires next { rows next.now.items ≡ successors_of (graph_of g.now) }
-    requires order { All (λ block. block < length g.now.blocks.items) order.now }
+    requires order { IsReversePostOrder (graph_of g.now) order.now }
+    ensures { IfOk result (λ kept. MatchBool kept (IsKept (graph_of g.now) f) (¬ IsKept (graph_of g.now) f)) }
 {
     if is_passed(f, g) {
         return Ok(true);
@@ -96,11 +100,13 @@ fn is_kept(alloc: Global, f: FlagName, g: &Graph, next: &Vec<Vec<u32>>, order: &
     Ok(false)
 }
 
-/// Which flags are kept, where these blocks are reached.
+/// Which flags are kept, where `order` is the reverse post order of the blocks.
 pub fn kept_flags(alloc: Global, g: &Graph, next: &Vec<Vec<u32>>, order: &[u32]) -> Result<Kept, AllocError>
     requires graph { IsGraph (graph_of g.now) }
     requires next { rows next.now.items ≡ successors_of (graph_of g.now) }
-    requires order { All (λ block. block < length g.now.blocks.items) order.now }
+    requires order { IsReversePostOrder (graph_of g.now) order.now }
+    ensures { IfOk result (λ kept. (f : FlagName)
+        → MatchBool (folding.is_kept kept f) (IsKept (graph_of g.now) f) (¬ IsKept (graph_of g.now) f)) }
 {
     Ok(Kept {
         cf: is_kept(alloc, FlagName::Cf, g, next, order)?,

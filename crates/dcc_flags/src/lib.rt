@@ -8,7 +8,7 @@ mod kept;
 mod reaching;
 mod sources;
 mod uses;
-mod scratch;
+pub mod laws;
 mod writer;
 
 pub use fold::fold_flags;
