@@ -12,6 +12,3 @@ pub mod laws;
 mod writer;
 
 pub use fold::fold_flags;
-
-#[cfg(test)]
-mod trial;
