@@ -154,7 +154,11 @@ module _ (bits bits' : List ℕ) where
       let f = binary_formed bits operator width a b ok in
       record {
         formed = make_binary bits' operator width a' b' (record {
-          width_ok = f.width_ok; left = h.formed; right = k.formed; left_width = same_width a a' width h f.left_width; right_width = same_width b b' width k f.right_width;
+          width_ok = f.width_ok;
+          left = h.formed;
+          right = k.formed;
+          left_width = same_width a a' width h f.left_width;
+          right_width = same_width b b' width k f.right_width;
           safe = go (not (is_division operator)) (divides_safely operator width b) f.safe safe;
         });
         width = refl;
@@ -186,7 +190,9 @@ module _ (bits bits' : List ℕ) where
       let f = join_formed bits a b ok in
       record {
         formed = make_join bits' a' b' (record {
-          upper = h.formed; lower = k.formed; same = ap₂ (λ m n. m == n) h.width k.width ∙ f.same;
+          upper = h.formed;
+          lower = k.formed;
+          same = ap₂ (λ m n. m == n) h.width k.width ∙ f.same;
           size = ap (λ n. n == 8 || n == 16) k.width ∙ f.size;
         });
         width = ap₂ (λ m n. m + n) h.width k.width;
@@ -197,7 +203,10 @@ module _ (bits bits' : List ℕ) where
       let f = choose_formed bits x a b ok in
       record {
         formed = make_choose bits' x' a' b' (record {
-          tested = g.formed; one = h.formed; other = k.formed; bit = same_width x x' 1 g f.bit;
+          tested = g.formed;
+          one = h.formed;
+          other = k.formed;
+          bit = same_width x x' 1 g f.bit;
           same = ap₂ (λ m n. m == n) h.width k.width ∙ f.same;
         });
         width = h.width;

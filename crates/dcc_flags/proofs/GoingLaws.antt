@@ -282,14 +282,21 @@ module _ (graph : Graph) (kept : Kept) (is : IsGraph graph) (none : Choices) whe
         given b t kb edge out =
             let parts = not_in_head p t done out in
             elim (decided (follows graph p t)) [
-              | inl so ↦ (p, in_here p p done (eq-eqb p p refl), so,
-                  given_new _ none s.given (targets (block_in graph p).exit) t (subst (λ n. t < n) (sym h.given_count) (target_below p t less so)) so
-                  ∙ ap (λ (x : Spot). (stmts_folded kept x.bits x.choices (stmts p)).choices) (sym here_is))
+              | inl so ↦ (
+                p,
+                in_here p p done (eq-eqb p p refl),
+                so,
+                given_new _ none s.given (targets (block_in graph p).exit) t (subst (λ n. t < n) (sym h.given_count) (target_below p t less so)) so
+                    ∙ ap (λ (x : Spot). (stmts_folded kept x.bits x.choices (stmts p)).choices) (sym here_is),
+              )
               | inr not_so ↦
                   let b_old : is_in done b ≡ true = in_cases p b done (is_in done b ≡ true) (λ same. absurd (true≢false (sym edge ∙ ap (λ y. follows graph y t) (sym (eqb-true p b same)) ∙ not_so))) (λ other later. later) kb in
-                  let q = h.given_next b t b_old edge parts.1 in
-                  (q.0, in_later p q.0 done q.1, q.2,
-                  given_kept _ none s.given (targets (block_in graph p).exit) t not_so ∙ q.3 ∙ ap (λ (x : Spot). (stmts_folded kept x.bits x.choices (stmts q.0)).choices) (sym (still q.0 q.1)))
+                  let q = h.given_next b t b_old edge parts.1 in (
+                    q.0,
+                    in_later p q.0 done q.1,
+                    q.2,
+                    given_kept _ none s.given (targets (block_in graph p).exit) t not_so ∙ q.3 ∙ ap (λ (x : Spot). (stmts_folded kept x.bits x.choices (stmts q.0)).choices) (sym (still q.0 q.1)),
+                  )
             ]
 
   module _ (exact : (f : FlagName) → is_kept kept f ≡ false → IsKept graph f → ⊥) where
@@ -340,15 +347,15 @@ module _ (graph : Graph) (kept : Kept) (is : IsGraph graph) (none : Choices) whe
         let here : start' p ≡ w = ap (λ z. if z then w else start p) (eq-eqb p p refl) in (
           start',
           going_step done start s h p new less fine_new (λ f no_f.
-          let x = leaves_walked done start q.0 q.1 q_less f no_f (stmts q.0) 0 refl (h.agrees q.0 q.1 f no_f) in
-          let end = walked_end kept (stmts q.0) x.0 (start q.0) x.1 in
-          record {
-            definition = x.2.definition;
-            reaches = goes x.2.reaches x.1 q.2;
-            known = x.2.known;
-            left = ap (λ c. choice c f) (q.3 ∙ end.1) ∙ x.2.left;
-          })
-          (fine_end start' p less (subst (Fine old kept) (sym here) fine_new)),
+              let x = leaves_walked done start q.0 q.1 q_less f no_f (stmts q.0) 0 refl (h.agrees q.0 q.1 f no_f) in
+              let end = walked_end kept (stmts q.0) x.0 (start q.0) x.1 in
+              record {
+                definition = x.2.definition;
+                reaches = goes x.2.reaches x.1 q.2;
+                known = x.2.known;
+                left = ap (λ c. choice c f) (q.3 ∙ end.1) ∙ x.2.left;
+              })
+              (fine_end start' p less (subst (Fine old kept) (sym here) fine_new)),
         )
 
     pub going_all : (done : List ℕ) (start : ℕ → Spot) (s : Folding) (rest : List ℕ) → Ordered graph done rest → Going done start s → (start' : ℕ → Spot) × Going (after_all done rest) start' (fold_blocks kept graph none s rest)

@@ -295,7 +295,7 @@ module _ (graph after : Graph) (kept : Kept) (is : IsGraph graph) (exact : (f : 
         let n = value_in s e in
         let bits = ap (λ (x : Graph). x.bits) st.graph'_is in
         let value = value_holds graph after kept is exact plan b k s.running.values t.running.values st.alike.holds (e ∷ []) (λ f r. ap (λ l. reads (next_exprs l (block_in graph b).exit) (Flag f)) at ∙ r) (scene_of s) (scene_of t)
-            (ap (λ (x : Graph). x.bits) st.graph_is) bits st.alike.outside.base st.alike.outside.memory (scene-fits t st.fits) (λ l. refl) (λ l. refl) e (Contains-here e []) e_ok in
+        (ap (λ (x : Graph). x.bits) st.graph_is) bits st.alike.outside.base st.alike.outside.memory (scene-fits t st.fits) (λ l. refl) (λ l. refl) e (Contains-here e []) e_ok in
         let next : Holding graph after kept is exact plan b (suc k) (with_value s.running.values (Flag g) n) (after_sets cs (scene_of t)).values =
         holding_defined graph after kept is exact plan b k g e none known at' s.running.values (scene_of t) n bits st.alike.holds value in
         let whole = spot_whole graph after kept is plan b (suc k) known in
@@ -419,7 +419,7 @@ module _ (graph after : Graph) (kept : Kept) (is : IsGraph graph) (exact : (f : 
   goes_on p q fp fq a point s t entry_is together sg tg h =
       let known = h.holds.known in
       let block : s.running.block ≡ block_in graph point.place = some_same s.running.block (block_in graph point.place)
-          (sym together.first.at.block ∙ ap (λ (g : Graph). slice_get g.blocks point.place) sg ∙ plan.within point.place known) in
+      (sym together.first.at.block ∙ ap (λ (g : Graph). slice_get g.blocks point.place) sg ∙ plan.within point.place known) in
       let folded = block_folded kept (plan.start point.place).bits (plan.start point.place).choices (block_in graph point.place) in
       let block' : t.running.block ≡ folded = some_same t.running.block folded (sym together.second.at.block ∙ ap (λ (g : Graph). slice_get g.blocks point.place) tg ∙ plan.placed point.place known) in
       let rest : s.running.rest ≡ drop h.k (olds point.place) = together.first.at.rest ∙ ap (λ (x : Block). after_calls point.calls x.stmts) block ∙ sym h.old_rest in

@@ -267,7 +267,7 @@ module _ (graph after : Graph) (kept : Kept) (is : IsGraph graph) (exact : (f : 
       let stmt = Div l (Binary o n x y) in
       let parts = both (is_location (old graph after kept is exact plan) l) (is_dividing (old graph after kept is exact plan) (location_width (old graph after kept is exact plan) l) (Binary o n x y)) stays.fine in
       let three = both (is_division o && (n == location_width (old graph after kept is exact plan) l) && is_stored_width (location_width (old graph after kept is exact plan) l) && is_expr_of (old graph after kept is exact plan) (location_width (old graph after kept is exact plan) l) x)
-          (is_expr_of (old graph after kept is exact plan) (location_width (old graph after kept is exact plan) l) y) parts.1 in
+      (is_expr_of (old graph after kept is exact plan) (location_width (old graph after kept is exact plan) l) y) parts.1 in
       let two = both (is_division o && (n == location_width (old graph after kept is exact plan) l) && is_stored_width (location_width (old graph after kept is exact plan) l)) (is_expr_of (old graph after kept is exact plan) (location_width (old graph after kept is exact plan) l) x) three.0 in
       let x_ok = (both (is_expr (old graph after kept is exact plan) x) _ two.1).0 in
       let y_ok = (both (is_expr (old graph after kept is exact plan) y) _ three.1).0 in

@@ -203,7 +203,7 @@ module _ (before after : Graph) (inv : Invariant) (stays : GraphStays before aft
       go entry (another e same) =
           let there : (point.entry == before.entry) ≡ false = ap (λ n. n == before.entry) (sym entry) ∙ e in
           let blocks : t.running.block ≡ s.running.block = some_same t.running.block s.running.block
-              (sym together.second.at.block ∙ ap (λ (g : Graph). slice_get g.blocks point.place) same ∙ together.first.at.block) in
+          (sym together.second.at.block ∙ ap (λ (g : Graph). slice_get g.blocks point.place) same ∙ together.first.at.block) in
           let rests : t.running.rest ≡ s.running.rest = together.second.at.rest ∙ ap (λ (b : Block). after_calls point.calls b.stmts) blocks ∙ sym together.first.at.rest in
           subst (λ rest. Meet the_pass a point 0 (halt_of s) (local_run rest t)) (sym rests)
           (same_run before.entry inv a point there s.running.rest s t (ap (λ (b : Block). b.exit) blocks) (record {
@@ -241,8 +241,11 @@ module _ (before after : Graph) (inv : Invariant) (stays : GraphStays before aft
               base = outside.base;
             }) in
             subst (λ a'. BeginAlike the_pass n a (passing 0 old.params a s) (passing 0 old.params a' t)) (sym enters)
-            (record { memory = o.memory; holds = subst (λ b. at_graph b inv (start_of n) (passing 0 old.params a s).running.values (passing 0 old.params a t).running.values)
-                (sym (ap (λ m. m == before.entry) (sym entry) ∙ e)) o.values });
+            (record {
+              memory = o.memory;
+              holds = subst (λ b. at_graph b inv (start_of n) (passing 0 old.params a s).running.values (passing 0 old.params a t).running.values)
+                  (sym (ap (λ m. m == before.entry) (sym entry) ∙ e)) o.values;
+            });
       })
 
   blocks_all : (n : ℕ) (old new : Graph) → graph_at p.graphs n ≡ Some old → graph_at next.graphs n ≡ Some new → BlocksStay old new (λ k. k)

@@ -368,11 +368,11 @@ taken_is bits (Choose x a b) all ok =
     let l = subst (λ w. IsTaken w b v) (append_assoc bits t.widths u.widths) (taken_is (bits ++ t.widths ++ u.widths) b more n.formed) in
     let once = make_choose bits x a a (record { tested = f.tested; one = f.one; other = f.one; bit = f.bit; same = eq-eqb (width_of bits a) (width_of bits a) refl }) in
     let first : IsTaken bits (Choose x a a) (two_taken (λ y z. Choose y z z) t u) = two_is bits (λ y z. Choose y z z) x a t u h k f.one
-        (λ low high y z p q. and_both (is_over low high y && is_over low high z) (is_over low high z) (and_both (is_over low high y) (is_over low high z) p q) q)
-        (λ bits' p q. choose_still bits bits' x a a t.value u.value u.value once p q q) in
+    (λ low high y z p q. and_both (is_over low high y && is_over low high z) (is_over low high z) (and_both (is_over low high y) (is_over low high z) p q) q)
+    (λ bits' p q. choose_still bits bits' x a a t.value u.value u.value once p q q) in
     let whole : IsTaken bits (Choose x a b) (two_taken with_other (two_taken (λ y z. Choose y z z) t u) v) = two_is bits with_other (Choose x a a) b (two_taken (λ y z. Choose y z z) t u) v first l f.other
-        with_other-over
-        (λ bits' p q. with_other-formed bits bits' x a b t.value u.value v.value ok p q) in
+    with_other-over
+    (λ bits' p q. with_other-formed bits bits' x a b t.value u.value v.value ok p q) in
     whole
 taken_is bits (Address d) all ok = copied_is bits (Address d) all ok
 
@@ -650,10 +650,10 @@ taken_value bits (Choose x a b) all ok = λ s more is.
     let vx = ap (λ (z : Scene). value_of z t.value) end ∙ over_value 0 mid (after_sets v.copies mid) (after_bits v.copies mid) top (λ n low high. still n high) t.value x_over ∙ first.first in
     let va = ap (λ (z : Scene). value_of z u.value) end ∙ over_value 0 mid (after_sets v.copies mid) (after_bits v.copies mid) top (λ n low high. still n high) u.value a_over ∙ first.second in
     let copies_all = all_append (is_copy (length bits) (bits ++ t.widths ++ u.widths)) t.copies u.copies (copies_more (length bits) (bits ++ t.widths) u.widths t.copies h.copies)
-        (copies_lower (length (bits ++ t.widths)) (length bits) (bits ++ t.widths ++ u.widths) u.copies (omega arith) k.copies) in
+    (copies_lower (length (bits ++ t.widths)) (length bits) (bits ++ t.widths ++ u.widths) u.copies (omega arith) k.copies) in
     let vb = ap (λ (z : Scene). value_of z v.value) end ∙ taken_value (bits ++ t.widths ++ u.widths) b all'' b_ok mid more mid_bits
-        ∙ old_value bits s mid (after_bits (t.copies ++ u.copies) s) (after_base (t.copies ++ u.copies) s) (after_memory (t.copies ++ u.copies) s)
-        (λ y there. sets_same (length bits) (bits ++ t.widths ++ u.widths) (t.copies ++ u.copies) copies_all s y (old_outside bits (bits ++ t.widths ++ u.widths) y there)) b f.other in
+    ∙ old_value bits s mid (after_bits (t.copies ++ u.copies) s) (after_base (t.copies ++ u.copies) s) (after_memory (t.copies ++ u.copies) s)
+    (λ y there. sets_same (length bits) (bits ++ t.widths ++ u.widths) (t.copies ++ u.copies) copies_all s y (old_outside bits (bits ++ t.widths ++ u.widths) y there)) b f.other in
     let last = after_sets (t.copies ++ u.copies ++ v.copies) s in
     ap (λ n. if n == 1 then value_of last u.value else value_of last v.value) vx
     ∙ ap₂ (λ y z. if value_of s x == 1 then y else z) va vb

@@ -258,7 +258,11 @@ impl Choices {
     }
 
     // The argument with the choices in it.
-    fn within_argument(&self, alloc: Global, argument: &Option<Expr>) -> Result<Option<Expr>, AllocError>
+    fn within_argument(
+        &self,
+        alloc: Global,
+        argument: &Option<Expr>,
+    ) -> Result<Option<Expr>, AllocError>
         ensures { IfOk result (λ r. option_map expr_of r ≡ option_map (spec.with_choices (spec.choices_of self.now)) (option_map expr_of argument.now)) }
     {
         match argument {

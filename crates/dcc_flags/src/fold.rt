@@ -22,13 +22,21 @@ fn goes(kept: Kept, stmt: &Stmt) -> bool
     ensures { result ≡ spec.goes_with kept (stmt_of stmt.now) }
 {
     match stmt {
-        Stmt::Set { place: Loc::Flag(f), .. } => !kept.has(*f),
+        Stmt::Set {
+            place: Loc::Flag(f),
+            ..
+        } => !kept.has(*f),
         _ => false,
     }
 }
 
 // The statements where no run comes: definitions of flags that are not kept go.
-fn bare_stmts(alloc: Global, kept: Kept, choices: &Choices, stmts: &[Stmt]) -> Result<Vec<Stmt>, AllocError>
+fn bare_stmts(
+    alloc: Global,
+    kept: Kept,
+    choices: &Choices,
+    stmts: &[Stmt],
+) -> Result<Vec<Stmt>, AllocError>
     ensures { IfOk result (λ bare. map stmt_of bare.items ≡ spec.bare_stmts kept (choices_of choices.now) (map stmt_of stmts.now)) }
 {
     let mut bare = Vec::new(alloc);
@@ -41,7 +49,12 @@ fn bare_stmts(alloc: Global, kept: Kept, choices: &Choices, stmts: &[Stmt]) -> R
 }
 
 // The blocks as if no run came there.
-fn bare_blocks(alloc: Global, kept: Kept, choices: &Choices, blocks: &Vec<Block>) -> Result<Vec<Block>, AllocError>
+fn bare_blocks(
+    alloc: Global,
+    kept: Kept,
+    choices: &Choices,
+    blocks: &Vec<Block>,
+) -> Result<Vec<Block>, AllocError>
     ensures { IfOk result (λ bare. map block_of bare.items ≡ map (spec.bare_block kept (choices_of choices.now)) (map block_of blocks.now.items)) }
 {
     let mut bare = Vec::new(alloc);

@@ -82,7 +82,13 @@ fn mixes(f: FlagName, source: Source, place: usize, block: &Block) -> bool {
 }
 
 // Whether the flag is kept, where `order` is the reverse post order of the blocks.
-fn is_kept(alloc: Global, f: FlagName, g: &Graph, next: &Vec<Vec<u32>>, order: &[u32]) -> Result<bool, AllocError>
+fn is_kept(
+    alloc: Global,
+    f: FlagName,
+    g: &Graph,
+    next: &Vec<Vec<u32>>,
+    order: &[u32],
+) -> Result<bool, AllocError>
     requires graph { IsGraph (graph_of g.now) }
     requires next { rows next.now.items ≡ successors_of (graph_of g.now) }
     requires order { IsReversePostOrder (graph_of g.now) order.now }
@@ -101,7 +107,12 @@ fn is_kept(alloc: Global, f: FlagName, g: &Graph, next: &Vec<Vec<u32>>, order: &
 }
 
 /// Which flags are kept, where `order` is the reverse post order of the blocks.
-pub fn kept_flags(alloc: Global, g: &Graph, next: &Vec<Vec<u32>>, order: &[u32]) -> Result<Kept, AllocError>
+pub fn kept_flags(
+    alloc: Global,
+    g: &Graph,
+    next: &Vec<Vec<u32>>,
+    order: &[u32],
+) -> Result<Kept, AllocError>
     requires graph { IsGraph (graph_of g.now) }
     requires next { rows next.now.items ≡ successors_of (graph_of g.now) }
     requires order { IsReversePostOrder (graph_of g.now) order.now }

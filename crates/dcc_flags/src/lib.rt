@@ -5,10 +5,10 @@
 mod choices;
 mod fold;
 mod kept;
+pub mod laws;
 mod reaching;
 mod sources;
 mod uses;
-pub mod laws;
 mod writer;
 
 pub use fold::fold_flags;

@@ -70,7 +70,13 @@ fn first_sources(alloc: Global, count: usize) -> Result<Vec<Source>, AllocError>
 
 /// Which definition of the flag reaches the begin of each block. Whatever reaches flows from each of these blocks until
 /// nothing more is known.
-pub fn sources(alloc: Global, f: FlagName, g: &Graph, next: &Vec<Vec<u32>>, order: &[u32]) -> Result<Vec<Source>, AllocError>
+pub fn sources(
+    alloc: Global,
+    f: FlagName,
+    g: &Graph,
+    next: &Vec<Vec<u32>>,
+    order: &[u32],
+) -> Result<Vec<Source>, AllocError>
     requires graph { IsGraph (graph_of g.now) }
     requires next { rows next.now.items ≡ successors_of (graph_of g.now) }
     requires order { All (λ block. block < length g.now.blocks.items) order.now }

@@ -33,7 +33,9 @@ pub fn defines(f: FlagName, stmt: &Stmt) -> bool
     ensures { result ≡ spec.defines f (stmt_of stmt.now) }
 {
     match stmt {
-        Stmt::Set { place, .. } | Stmt::Load { place, .. } | Stmt::Div { place, .. } => is_flag(f, *place),
+        Stmt::Set { place, .. } | Stmt::Load { place, .. } | Stmt::Div { place, .. } => is_flag(
+            f, *place,
+        ),
         Stmt::Call { results, .. } => is_among(f, results.as_slice()),
         Stmt::Dos { place, .. } => match place {
             Some(place) => is_flag(f, *place),
@@ -94,7 +96,12 @@ pub fn reads(f: FlagName, e: &Expr) -> bool
         | Expr::Un { operand: a, .. }
         | Expr::Widen { operand: a, .. }
         | Expr::Part { operand: a, .. } => reads(f, a),
-        Expr::Bin { left: a, right: b, .. } | Expr::Join { high: a, low: b } => reads(f, a) || reads(f, b),
+        Expr::Bin {
+            left: a,
+            right: b,
+            ..
+        }
+        | Expr::Join { high: a, low: b } => reads(f, a) || reads(f, b),
         Expr::Choose { test, one, other } => reads(f, test) || reads(f, one) || reads(f, other),
     }
 }
@@ -111,7 +118,9 @@ pub fn stmt_reads(f: FlagName, stmt: &Stmt) -> bool
     ensures { result ≡ reads (exprs_of (stmt_of stmt.now)) (Flag f) }
 {
     match stmt {
-        Stmt::Set { value: e, .. } | Stmt::Load { address: e, .. } | Stmt::Div { division: e, .. } => reads(f, e),
+        Stmt::Set { value: e, .. }
+        | Stmt::Load { address: e, .. }
+        | Stmt::Div { division: e, .. } => reads(f, e),
         Stmt::Store { address, value, .. } => reads(f, address) || reads(f, value),
         Stmt::Call { arguments, .. } => some_reads(f, arguments.as_slice()),
         Stmt::Dos { argument, .. } => match argument {

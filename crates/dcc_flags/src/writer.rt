@@ -38,9 +38,20 @@ fn has_truth(e: &Expr) -> bool
 {
     match e {
         Expr::Const { .. } | Expr::Get(_) | Expr::Address(_) => false,
-        Expr::Load { address: a, .. } | Expr::Widen { operand: a, .. } | Expr::Part { operand: a, .. } => has_truth(a),
-        Expr::Un { operator, operand, .. } => is_test(*operator) || has_truth(operand),
-        Expr::Bin { operator, left, right, .. } => is_comparison(*operator) || has_truth(left) || has_truth(right),
+        Expr::Load { address: a, .. }
+        | Expr::Widen { operand: a, .. }
+        | Expr::Part { operand: a, .. } => has_truth(a),
+        Expr::Un {
+            operator,
+            operand,
+            ..
+        } => is_test(*operator) || has_truth(operand),
+        Expr::Bin {
+            operator,
+            left,
+            right,
+            ..
+        } => is_comparison(*operator) || has_truth(left) || has_truth(right),
         Expr::Join { high, low } => has_truth(high) || has_truth(low),
         Expr::Choose { .. } => true,
     }
@@ -73,8 +84,16 @@ fn bits_in(bits: &[u8], e: &Expr) -> u8
         | Expr::Widen { width, .. }
         | Expr::Part { width, .. } => *width,
         Expr::Get(location) => location_width(bits, *location),
-        Expr::Un { operator, width, .. } => if is_test(*operator) { 1 } else { *width },
-        Expr::Bin { operator, width, .. } => if is_comparison(*operator) { 1 } else { *width },
+        Expr::Un {
+            operator,
+            width,
+            ..
+        } => if is_test(*operator) { 1 } else { *width },
+        Expr::Bin {
+            operator,
+            width,
+            ..
+        } => if is_comparison(*operator) { 1 } else { *width },
         Expr::Join { high, low } => bits_in(bits, high).saturating_add(bits_in(bits, low)),
         Expr::Choose { one, .. } => bits_in(bits, one),
         Expr::Address(_) => 16,
@@ -123,35 +142,69 @@ impl Writer {
                 number: *number,
             }),
             Expr::Get(_) | Expr::Load { .. } | Expr::Address(_) => self.copy(e),
-            Expr::Un { operator, width, operand } => {
+            Expr::Un {
+                operator,
+                width,
+                operand,
+            } => {
                 if has_truth(e) {
                     let operand = self.take(operand)?;
-                    Ok(Expr::Un { operator: *operator, width: *width, operand: Box::new(self.alloc, operand)? })
+                    Ok(Expr::Un {
+                        operator: *operator,
+                        width: *width,
+                        operand: Box::new(self.alloc, operand)?,
+                    })
                 } else {
                     self.copy(e)
                 }
             }
-            Expr::Bin { operator, width, left, right } => {
+            Expr::Bin {
+                operator,
+                width,
+                left,
+                right,
+            } => {
                 if has_truth(e) {
                     let left = self.take(left)?;
                     let right = self.take(right)?;
-                    Ok(Expr::Bin { operator: *operator, width: *width, left: Box::new(self.alloc, left)?, right: Box::new(self.alloc, right)? })
+                    Ok(Expr::Bin {
+                        operator: *operator,
+                        width: *width,
+                        left: Box::new(self.alloc, left)?,
+                        right: Box::new(self.alloc, right)?,
+                    })
                 } else {
                     self.copy(e)
                 }
             }
-            Expr::Widen { by_sign, width, operand } => {
+            Expr::Widen {
+                by_sign,
+                width,
+                operand,
+            } => {
                 if has_truth(operand) {
                     let operand = self.take(operand)?;
-                    Ok(Expr::Widen { by_sign: *by_sign, width: *width, operand: Box::new(self.alloc, operand)? })
+                    Ok(Expr::Widen {
+                        by_sign: *by_sign,
+                        width: *width,
+                        operand: Box::new(self.alloc, operand)?,
+                    })
                 } else {
                     self.copy(e)
                 }
             }
-            Expr::Part { width, first, operand } => {
+            Expr::Part {
+                width,
+                first,
+                operand,
+            } => {
                 if has_truth(operand) {
                     let operand = self.take(operand)?;
-                    Ok(Expr::Part { width: *width, first: *first, operand: Box::new(self.alloc, operand)? })
+                    Ok(Expr::Part {
+                        width: *width,
+                        first: *first,
+                        operand: Box::new(self.alloc, operand)?,
+                    })
                 } else {
                     self.copy(e)
                 }
@@ -160,7 +213,10 @@ impl Writer {
                 if has_truth(e) {
                     let high = self.take(high)?;
                     let low = self.take(low)?;
-                    Ok(Expr::Join { high: Box::new(self.alloc, high)?, low: Box::new(self.alloc, low)? })
+                    Ok(Expr::Join {
+                        high: Box::new(self.alloc, high)?,
+                        low: Box::new(self.alloc, low)?,
+                    })
                 } else {
                     self.copy(e)
                 }
@@ -169,7 +225,11 @@ impl Writer {
                 let test = self.take(test)?;
                 let one = self.take(one)?;
                 let other = self.take(other)?;
-                Ok(Expr::Choose { test: Box::new(self.alloc, test)?, one: Box::new(self.alloc, one)?, other: Box::new(self.alloc, other)? })
+                Ok(Expr::Choose {
+                    test: Box::new(self.alloc, test)?,
+                    one: Box::new(self.alloc, one)?,
+                    other: Box::new(self.alloc, other)?,
+                })
             }
         }
     }
@@ -209,7 +269,11 @@ impl Writer {
                 let e = choices.within(self.alloc, value)?;
                 self.set(choices, *place, e)
             }
-            Stmt::Load { .. } | Stmt::Store { .. } | Stmt::Div { .. } | Stmt::Call { .. } | Stmt::Dos { .. } => {
+            Stmt::Load { .. }
+            | Stmt::Store { .. }
+            | Stmt::Div { .. }
+            | Stmt::Call { .. }
+            | Stmt::Dos { .. } => {
                 self.stmts.push(choices.within_stmt(self.alloc, stmt)?)?;
                 Ok(())
             }
